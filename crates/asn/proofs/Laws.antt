@@ -1,0 +1,2 @@
+-- The laws that other crates may cite.
+pub use Rattle.asn.proofs.Walks.{bind_ok, ok_is, check_ok, Takes, required_ok, required_again, ended_ok, ended_again, AtMostOne, any_ok, any_again, each_none, each_refused, each_more}

@@ -1,0 +1,13 @@
+pub mod Part
+pub mod Place
+pub mod Members
+pub mod Shows
+pub mod Walk
+pub mod Tree
+pub use Rattle.der.specs.Value
+pub use Rattle.der.specs.Identifier
+pub use Rattle.der.specs.Length
+pub use Rattle.der.specs.Contents
+pub use Rattle.der.specs.Encoding
+pub use Rattle.der.specs.Fault
+pub use Rattle.der.specs.FirstFault

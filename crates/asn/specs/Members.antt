@@ -1,0 +1,47 @@
+-- The values inside a constructed value.
+use Rattle.std.specs.Prelude.{ℕ, ◌+◌, ◌==◌, Bool, true, false, List, [], ◌∷◌, length}
+use Rattle.asn.specs.Place.{Place, tag, remaining, inside, values}
+use Rattle.asn.specs.declared.tlv.Cursor.{Cursor}
+
+-- values in order, and the offset of the end of the value round them
+pub record Members : Type 0 where
+  pub values : List Place
+  pub end : ℕ
+
+unfoldable pub members_at : Place → Members
+members_at text = record { values = values text; end = text.at + length text.octets }
+
+-- the values that a cursor has left
+abbrev pub left : Cursor → Members
+left cursor = members_at (remaining cursor)
+
+-- the values in a constructed value
+abbrev pub members : Place → Members
+members value = members_at (inside value)
+
+-- a value, and then these
+abbrev pub with_first : Place → Members → Members
+with_first value others = record { values = value ∷ others.values; end = others.end }
+
+-- whether the next value is there and has this identifier
+abbrev pub begins_in : ℕ → List Place → Bool
+begins_in identifier [] = false
+begins_in identifier (value ∷ values) = tag value == identifier
+
+unfoldable pub begins : ℕ → Members → Bool
+begins identifier left = begins_in identifier left.values
+
+-- where the next value is, or the end where none is left
+abbrev pub next_in : ℕ → List Place → ℕ
+next_in end [] = end
+next_in end (value ∷ values) = value.at
+
+unfoldable pub next_at : Members → ℕ
+next_at left = next_in left.end left.values
+
+abbrev pub none_in : List Place → Bool
+none_in [] = true
+none_in (value ∷ values) = false
+
+unfoldable pub none_left : Members → Bool
+none_left left = none_in left.values

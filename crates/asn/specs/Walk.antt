@@ -1,0 +1,63 @@
+-- Reading values from left to right, with the first fault that is met and its place.
+use Rattle.std.specs.Prelude.{◌≡◌, ◌==◌, ℕ, Bool, List, [], ◌∷◌, Option, Some, None, Result, Ok, Err, if◌then◌else◌}
+use Rattle.asn.specs.Place.{Place, tag}
+use Rattle.asn.specs.Members.{Members, none_left, next_at}
+
+infixl 10 ◌>>=◌
+abbrev pub ◌>>=◌ : {A B E : Type 0} → Result A E → (A → Result B E) → Result B E
+(Ok x) >>= f = f x
+(Err e) >>= f = Err e
+
+-- what a function returned, seen by view, is what the walk gives
+abbrev pub Gives : {X Y E : Type 0} → (X → Y) → Result X E → Result Y E → Type 0
+Gives view (Ok x) walk = walk ≡ Ok (view x)
+Gives view (Err e) walk = walk ≡ Err e
+
+abbrev pub seen : {X Y : Type 0} → (X → Y) → Option X → Option Y
+seen view None = None
+seen view (Some x) = Some (view x)
+
+-- the check holds, or this is the fault at this place
+unfoldable pub check_that : {F : Type 0} → Bool → F → ℕ → Result (Unit {0}) (F × ℕ)
+check_that holds fault at = if holds then Ok tt else Err (fault, at)
+
+-- the value has this identifier
+unfoldable pub is_a : {F : Type 0} → ℕ → F → Place → Result (Unit {0}) (F × ℕ)
+is_a identifier fault value = if tag value == identifier then Ok tt else Err (fault, value.at)
+
+-- the next value, which has this identifier
+abbrev pub required_in : {F : Type 0} → ℕ → F → ℕ → List Place → Result (Place × Members) (F × ℕ)
+required_in identifier fault end [] = Err (fault, end)
+required_in identifier fault end (value ∷ values) = if tag value == identifier then Ok (value, record { values = values; end = end }) else Err (fault, value.at)
+
+unfoldable pub required : {F : Type 0} → ℕ → F → Members → Result (Place × Members) (F × ℕ)
+required identifier fault left = required_in identifier fault left.end left.values
+
+-- the next value where it has this identifier
+abbrev pub optional_in : ℕ → ℕ → List Place → Option Place × Members
+optional_in identifier end [] = (None, record { values = []; end = end })
+optional_in identifier end (value ∷ values) = if tag value == identifier then (Some value, record { values = values; end = end }) else (None, record { values = value ∷ values; end = end })
+
+unfoldable pub optional : ℕ → Members → Option Place × Members
+optional identifier left = optional_in identifier left.end left.values
+
+-- the next value, where there is one
+abbrev pub any_in : ℕ → List Place → Option Place × Members
+any_in end [] = (None, record { values = []; end = end })
+any_in end (value ∷ values) = (Some value, record { values = values; end = end })
+
+unfoldable pub any : Members → Option Place × Members
+any left = any_in left.end left.values
+
+-- no value is left
+unfoldable pub ended : {F : Type 0} → F → Members → Result (Unit {0}) (F × ℕ)
+ended fault left = if none_left left then Ok tt else Err (fault, next_at left)
+
+-- there is a value
+unfoldable pub some : {F : Type 0} → F → Members → Result (Unit {0}) (F × ℕ)
+some fault left = if none_left left then Err (fault, next_at left) else Ok tt
+
+-- a walk over each of the values in order, which hands on what the earlier ones gave
+abbrev pub each : {A E : Type 0} → (A → Place → Result A E) → A → List Place → Result A E
+each step so_far [] = Ok so_far
+each step so_far (value ∷ values) = step so_far value >>= λ next. each step next values

@@ -1,0 +1,114 @@
+//! The value of a text, and the values inside a value, from left to right.
+
+ghost use Rattle.std.specs.Prelude.{◌≡◌, ◌↔◌, ◌+◌, ◌<◌, ◌^◌, ◌++◌, ℕ, List, length, slice_index, [], IsTrue, IsSome, IsOk, IfOk, IfErr, IfNone, IfSome, MatchOption, true};
+ghost use Rattle.der.specs.Value.{Value, Values};
+ghost use Rattle.der.specs.Identifier.{is_constructed};
+ghost use Rattle.der.specs.Encoding.{EncodesAt, EncodesAllAt, Encodes};
+ghost use Rattle.der.specs.FirstFault.{IsFirstFault};
+ghost use Rattle.asn.specs.Part.{IsEncoded, BeginsEncoded};
+ghost use Rattle.asn.specs.Place.{part, remaining, ends, front, behind, inside, Splits};
+ghost use Rattle.asn.specs.Members.{left, members, with_first, none_left, next_at};
+ghost use Rattle.asn.specs.Shows.{Shows, ShowsInside, ShowsNext};
+
+use crate::tlv::{Cursor, Tlv};
+use der::{Fault, Header, check, is_constructed_form};
+
+/// The value that stands at the front of the octets, and the octets behind it.
+pub(crate) fn front_of<'a>(octets: &'a [u8], at: usize) -> (Tlv<'a>, &'a [u8])
+    requires encoded { ∥ BeginsEncoded octets.now ∥₁ }
+    requires fits { at + length octets.now < 2 ^ 64 }
+    ensures splits { Splits (record { octets = octets.now; at = at }) (part result.0) (record { octets = result.1.now; at = at + length result.0.whole.now }) }
+    ensures first { part result.0 ≡ front (record { octets = octets.now; at = at }) }
+    ensures others { record { octets = result.1.now; at = at + length result.0.whole.now } ≡ behind (record { octets = octets.now; at = at }) }
+    ensures value { (depth : ℕ) (value : Value) (front rest : List ℕ) → octets.now ≡ front ++ rest
+        → EncodesAt depth front value → (result.0.whole.now ≡ front) × (result.1.now ≡ rest) }
+{
+    let header = match Header::read(octets) {
+        Ok(header) => header,
+        Err(_) => unreachable!(),
+    };
+    let (whole, rest) = octets.split_at(header.len + header.contents);
+    let (_, body) = whole.split_at(header.len);
+    let tag = header.identifier;
+    (
+        Tlv {
+            tag,
+            body,
+            whole,
+            at,
+        },
+        rest,
+    )
+}
+
+/// The one value that the octets are the encoding of, or the first fault, as `check` answers it (never
+/// `Fault::Memory`). Time is linear in the octets; no memory is taken.
+pub fn whole(octets: &[u8]) -> Result<Tlv<'_>, Fault>
+    ensures accepts { IsOk result ↔ ((value : Value) × Encodes octets.now value) }
+    ensures refuses { IfErr result (λ fault. IsFirstFault octets.now fault) }
+    ensures place { IfOk result (λ tlv. part tlv ≡ record { octets = octets.now; at = 0 }) }
+    ensures shows { (value : Value) → Encodes octets.now value → IfOk result (Shows 1 value) }
+{
+    check(octets)?;
+    let (tlv, _) = front_of(octets, 0);
+    Ok(tlv)
+}
+
+impl<'a> Tlv<'a> {
+    /// The values inside this one, in order; `None` where it is primitive.
+    pub fn inside(&self) -> Option<Cursor<'a>>
+        ensures constructed { IsSome result ↔ (is_constructed self.now.tag ≡ true) }
+        ensures place { IfSome result (λ cursor. remaining cursor ≡ inside (part self.now)) }
+        ensures body { IfSome result (λ cursor. (remaining cursor).octets ≡ self.now.body.now) }
+        ensures shorter { IfSome result (λ cursor. length (remaining cursor).octets < length self.now.whole.now) }
+        ensures left { IfSome result (λ cursor. left cursor ≡ members (part self.now)) }
+        ensures shows { (depth : ℕ) (value : Value) → Shows depth value self.now → ShowsInside depth value result }
+    {
+        if is_constructed_form(self.tag) {
+            Some(Cursor {
+                octets: self.body,
+                at: self.at + (self.whole.len() - self.body.len()),
+            })
+        } else {
+            None
+        }
+    }
+}
+
+impl<'a> Cursor<'a> {
+    /// The offset of the next value in the text handed to `whole`, or of the end of the enclosing value where none is
+    /// left.
+    pub fn at(&self) -> usize
+        ensures next { result ≡ next_at (left self.now) }
+        ensures place { result ≡ (remaining self.now).at }
+    {
+        self.at
+    }
+
+    /// Whether no value is left.
+    #[tactic(auto, unfolding(crate::specs::Place::ends))]
+    pub fn end(&self) -> bool
+        ensures none { result ≡ none_left (left self.now) }
+        ensures ends { result ≡ ends (remaining self.now) }
+    {
+        self.octets.is_empty()
+    }
+
+    /// The next value; `None`, and the cursor as it was, where none is left.
+    pub fn next(&mut self) -> Option<Tlv<'a>>
+        ensures step { MatchOption result ((left self.old).values ≡ []) (λ tlv. left self.old ≡ with_first (part tlv) (left self.new)) }
+        ensures none { IfNone result (self.new ≡ self.old) }
+        ensures splits { IfSome result (λ tlv. Splits (remaining self.old) (part tlv) (remaining self.new)) }
+        ensures shows { (depth : ℕ) (values : Values) → EncodesAllAt depth (remaining self.old).octets values → ShowsNext depth values result self.new }
+    {
+        if self.end() {
+            return None;
+        }
+        let (tlv, rest) = front_of(self.octets, self.at);
+        *self = Cursor {
+            octets: rest,
+            at: self.at + tlv.whole.len(),
+        };
+        Some(tlv)
+    }
+}

@@ -1,0 +1,102 @@
+//! Reading the values of a layout from left to right.
+
+ghost use Rattle.std.specs.Prelude.{◌≡◌, true, IfOk, IfSome};
+ghost use Rattle.der.specs.Identifier.{is_constructed};
+ghost use Rattle.asn.specs.Place.{part};
+ghost use Rattle.asn.specs.Members.{left, members, begins};
+ghost use Rattle.asn.specs.Walk.{Gives, seen, is_a, required, optional, any, ended, some};
+
+use crate::tlv::{Cursor, Tlv};
+
+impl<'a> Cursor<'a> {
+    /// Whether the next value is there and has this identifier octet.
+    pub fn begins(&self, tag: u8) -> bool
+        ensures { result ≡ begins tag (left self.now) }
+    {
+        match self.octets {
+            [] => false,
+            [octet, ..] => *octet == tag,
+        }
+    }
+
+    /// Takes the next value, which must have this identifier octet; else the fault, at the next value, or at the end of
+    /// the enclosing value where none is left.
+    #[tactic(auto, unfolding(crate::specs::Walk::required, crate::specs::Members::next_at))]
+    pub fn required<F: Copy>(&mut self, tag: u8, fault: F) -> Result<Tlv<'a>, (F, usize)>
+        ensures walk { Gives (λ tlv. (part tlv, left self.new)) result (required tag fault (left self.old)) }
+        ensures tag { IfOk result (λ tlv. tlv.tag ≡ tag) }
+    {
+        let at = self.at();
+        match self.next() {
+            Some(tlv) if tlv.tag == tag => Ok(tlv),
+            _ => Err((fault, at)),
+        }
+    }
+
+    /// Takes the next value where it has this identifier octet; else the cursor stays as it was.
+    #[tactic(auto, unfolding(crate::specs::Walk::optional, crate::specs::Members::begins))]
+    pub fn optional(&mut self, tag: u8) -> Option<Tlv<'a>>
+        ensures walk { optional tag (left self.old) ≡ (seen part result, left self.new) }
+        ensures tag { IfSome result (λ tlv. tlv.tag ≡ tag) }
+    {
+        if self.begins(tag) { self.next() } else { None }
+    }
+
+    /// Takes the next value, of any kind, where there is one.
+    #[tactic(auto, unfolding(crate::specs::Walk::any))]
+    pub fn any(&mut self) -> Option<Tlv<'a>>
+        ensures { any (left self.old) ≡ (seen part result, left self.new) }
+    {
+        self.next()
+    }
+
+    /// The fault, at the end of the enclosing value, where no value is left.
+    #[tactic(auto, unfolding(crate::specs::Walk::some))]
+    pub fn some<F: Copy>(&self, fault: F) -> Result<(), (F, usize)>
+        ensures { Gives (λ _. tt) result (some fault (left self.now)) }
+    {
+        if self.end() {
+            Err((fault, self.at()))
+        } else {
+            Ok(())
+        }
+    }
+
+    /// The fault, at the next value, where one is left.
+    #[tactic(auto, unfolding(crate::specs::Walk::ended))]
+    pub fn ended<F: Copy>(&self, fault: F) -> Result<(), (F, usize)>
+        ensures { Gives (λ _. tt) result (ended fault (left self.now)) }
+    {
+        if self.end() {
+            Ok(())
+        } else {
+            Err((fault, self.at()))
+        }
+    }
+}
+
+impl<'a> Tlv<'a> {
+    /// The fault, at this value, where it has another identifier octet.
+    #[tactic(auto, unfolding(crate::specs::Walk::is_a))]
+    pub fn is_a<F: Copy>(&self, tag: u8, fault: F) -> Result<(), (F, usize)>
+        ensures walk { Gives (λ _. tt) result (is_a tag fault (part self.now)) }
+        ensures tag { IfOk result (λ _. self.now.tag ≡ tag) }
+    {
+        if self.tag == tag {
+            Ok(())
+        } else {
+            Err((fault, self.at))
+        }
+    }
+
+    /// The values inside a value whose identifier octet has the constructed flag, in order.
+    pub fn members(&self) -> Cursor<'a>
+        requires { is_constructed self.now.tag ≡ true }
+        ensures { left result ≡ members (part self.now) }
+    {
+        match self.inside() {
+            Some(members) => members,
+            None => unreachable!(),
+        }
+    }
+}

@@ -1,0 +1,40 @@
+-- What the code knows of a header that it has read.
+use Rattle.std.specs.Prelude.{◌≡◌, ℕ, ◌<◌, ◌≤◌, List, length, slice_index, take}
+use Rattle.der.specs.Value.{Value}
+use Rattle.der.specs.Encoding.{EncodesAt}
+use Rattle.der.specs.Length.{contents_limit, header_len, contents_len, end_of, IsHeaderWhole}
+use Rattle.der.specs.FirstFault.{Breaks}
+use Rattle.der.specs.Fault.{rule_number}
+use Rattle.der.specs.declared.fault.Rule.{Rule}
+use Rattle.der.specs.declared.fault.Rule.TheVariants.{LengthForm}
+use Rattle.der.specs.declared.header.Header.{Header}
+
+-- none of the rules on a header is broken, at whatever depth
+pub record IsSound (text : List ℕ) : Type 0 where
+  pub keeps : (rule : Rule) (depth : ℕ) → rule_number rule < 5 → Breaks rule depth text → ⊥
+  pub whole : IsHeaderWhole text
+  pub within : end_of text ≤ length text
+
+pub record IsHeaderOf (text : List ℕ) (header : Header) : Type 0 where
+  pub sound : IsSound text
+  pub identifier : header.identifier ≡ slice_index text 0
+  pub len : header.len ≡ header_len text
+  pub contents : header.contents ≡ contents_len text
+
+-- The length octets are these, and break no rule that a length can break by itself.
+pub record IsLengthOf (text : List ℕ) (len contents : ℕ) : Type 0 where
+  pub len_is : len ≡ header_len text
+  pub contents_is : contents ≡ contents_len text
+  pub whole : IsHeaderWhole text
+  pub form : Breaks LengthForm 1 text → ⊥
+  pub bounded : contents_len text < contents_limit
+
+-- a rule that the length octets break is the first after the identifier's
+abbrev pub KeepsLength : List ℕ → Rule → Type 0
+KeepsLength text rule = (other : Rule) → 1 < rule_number other → rule_number other < rule_number rule → Breaks other 1 text → ⊥
+
+-- the text begins with the encoding of a value, which has this many octets
+pub record BeginsWithValue (depth : ℕ) (text : List ℕ) (len : ℕ) : Type 0 where
+  pub len_is : len ≡ end_of text
+  pub sound : IsSound text
+  pub encoded : (value : Value) × EncodesAt depth (take len text) value

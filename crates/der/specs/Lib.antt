@@ -1,0 +1,9 @@
+pub mod Value
+pub mod Identifier
+pub mod Length
+pub mod Contents
+pub mod Encoding
+pub mod Fault
+pub mod FirstFault
+pub mod Header
+pub mod Laws

@@ -1,0 +1,38 @@
+//! Length octets (X.690, 8.1.3 and 10.1).
+
+ghost use Rattle.std.specs.Prelude.{◌≡◌, ◌<◌, ◌≤◌, ℕ, length, IfOk, IfErr};
+ghost use Rattle.der.specs.Fault.{rule_number};
+ghost use Rattle.der.specs.FirstFault.{Breaks};
+ghost use Rattle.der.specs.Header.{IsLengthOf, KeepsLength};
+
+use crate::fault::Rule;
+
+/// How many octets the header of the text has, and how many its contents, by the length octets behind the identifier.
+pub(crate) fn length_of(text: &[u8]) -> Result<(usize, usize), Rule>
+    requires { 2 ≤ length text.now }
+    ensures ok { IfOk result (λ found. IsLengthOf text.now found.0 found.1) }
+    ensures err { IfErr result (λ rule. (depth : ℕ) → Breaks rule depth text.now
+        × (1 < rule_number rule) × (rule_number rule < 5) × KeepsLength text.now rule) }
+{
+    let first = text[1];
+    if first < 128 {
+        return Ok((2, first as usize));
+    }
+    if first == 128 || first == 255 {
+        return Err(Rule::LengthForm);
+    }
+    let count = (first - 128) as usize;
+    if text.len() < 2 + count {
+        return Err(Rule::Truncated);
+    }
+    let high = text[2] as usize;
+    if high == 0 || (count == 1 && high < 128) {
+        return Err(Rule::LengthForm);
+    }
+    match count {
+        1 => Ok((3, high)),
+        2 => Ok((4, high * 256 + text[3] as usize)),
+        3 => Ok((5, high * 65536 + text[3] as usize * 256 + text[4] as usize)),
+        _ => Err(Rule::TooLong),
+    }
+}
