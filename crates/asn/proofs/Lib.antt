@@ -5,5 +5,8 @@ mod Shown
 mod NextShown
 mod PlaceLemmas
 mod TreeValues
+mod Judgements
+mod MemberLemmas
+mod PartLemmas
 mod Walks
 pub mod Laws

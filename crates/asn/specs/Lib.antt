@@ -3,6 +3,8 @@ pub mod Place
 pub mod Members
 pub mod Shows
 pub mod Walk
+pub mod Judgement
+pub mod Layout
 pub mod Tree
 pub use Rattle.der.specs.Value
 pub use Rattle.der.specs.Identifier

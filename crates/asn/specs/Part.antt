@@ -1,7 +1,7 @@
 -- Parts of a text, and the octets that are the encoding of some value.
 use Rattle.std.specs.Prelude.{◌≡◌, ℕ, List, ◌++◌, length}
 use Rattle.der.specs.Value.{Value, Values}
-use Rattle.der.specs.Encoding.{EncodesAt, EncodesAllAt}
+use Rattle.der.specs.Encoding.{EncodesAt, EncodesAllAt, Encodes}
 use Rattle.der.specs.Length.{contents_of}
 
 -- the part stands in the source at this offset
@@ -14,6 +14,10 @@ pub record IsPartOf (source : List ℕ) (at : ℕ) (part : List ℕ) : Type 0 wh
 -- the text is the encoding of a value, at some depth
 abbrev pub IsEncoded : List ℕ → Type 0
 IsEncoded text = (depth : ℕ) × (value : Value) × EncodesAt depth text value
+
+-- the text is the encoding of an outermost value
+abbrev pub IsWhole : List ℕ → Type 0
+IsWhole text = (value : Value) × Encodes text value
 
 -- the text is the encodings of values, one after the other
 abbrev pub AreEncoded : List ℕ → Type 0

@@ -5,7 +5,7 @@ ghost use Rattle.der.specs.Value.{Value, Values};
 ghost use Rattle.der.specs.Identifier.{is_constructed};
 ghost use Rattle.der.specs.Encoding.{EncodesAt, EncodesAllAt, Encodes};
 ghost use Rattle.der.specs.FirstFault.{IsFirstFault};
-ghost use Rattle.asn.specs.Part.{IsEncoded, BeginsEncoded};
+ghost use Rattle.asn.specs.Part.{IsWhole, BeginsEncoded};
 ghost use Rattle.asn.specs.Place.{part, remaining, ends, front, behind, inside, Splits};
 ghost use Rattle.asn.specs.Members.{left, members, with_first, none_left, next_at};
 ghost use Rattle.asn.specs.Shows.{Shows, ShowsInside, ShowsNext};
@@ -41,6 +41,17 @@ pub(crate) fn front_of<'a>(octets: &'a [u8], at: usize) -> (Tlv<'a>, &'a [u8])
     )
 }
 
+/// The value that the octets are the encoding of, all of them.
+pub(crate) fn whole_at(octets: &[u8], at: usize) -> Tlv<'_>
+    requires encoded { ∥ IsWhole octets.now ∥₁ }
+    requires fits { at + length octets.now < 2 ^ 64 }
+    ensures place { part result ≡ record { octets = octets.now; at = at } }
+    ensures shows { (value : Value) → Encodes octets.now value → Shows 1 value result }
+{
+    let (tlv, _) = front_of(octets, at);
+    tlv
+}
+
 /// The one value that the octets are the encoding of, or the first fault, as `check` answers it (never
 /// `Fault::Memory`). Time is linear in the octets; no memory is taken.
 pub fn whole(octets: &[u8]) -> Result<Tlv<'_>, Fault>
@@ -50,8 +61,7 @@ pub fn whole(octets: &[u8]) -> Result<Tlv<'_>, Fault>
     ensures shows { (value : Value) → Encodes octets.now value → IfOk result (Shows 1 value) }
 {
     check(octets)?;
-    let (tlv, _) = front_of(octets, 0);
-    Ok(tlv)
+    Ok(whole_at(octets, 0))
 }
 
 impl<'a> Tlv<'a> {

@@ -3,11 +3,14 @@
 #![tactic(auto)]
 
 mod cursor;
+mod layout;
+mod nested;
 mod tlv;
 mod tree;
 mod walk;
 
 pub use cursor::whole;
+pub use layout::member_laws;
 pub use der::{Fault, Rule, check};
 pub use tlv::{Cursor, Tlv};
 pub use tree::{Tree, parse_tree};

@@ -279,3 +279,14 @@ never_both text v rule at s (inr (e, t)) = omega (arith, t.more, t.place, whole_
 pub refused_apart : (text : List ℕ) (v : Value) (fault : Fault) → Encodes text v → IsFirstFault text fault → ⊥
 refused_apart text v (Refused rule at) s refused = never_both text v rule at s refused
 refused_apart text v Memory s refused = refused
+
+-- whether the elements of a list are octets
+all_octets : (text : List ℕ) → ((k : ℕ) → k < length text → get_or text k 0 < 256) → AreOctets text
+all_octets text h k = elim (cases_lt k (length text)) [ inl lt ↦ h k lt | inr ge ↦ rw (get_or_past text k 0 ge) (omega arith) ]
+
+octets_or_not : (text : List ℕ) → Dec ((k : ℕ) → k < length text → get_or text k 0 < 256) → AreOctets text ⊎ (AreOctets text → ⊥)
+octets_or_not text (inl below_256) = inl (all_octets text below_256)
+octets_or_not text (inr not_so) = inr (λ octets. not_so (λ k lt. octets k))
+
+pub are_octets : (text : List ℕ) → AreOctets text ⊎ (AreOctets text → ⊥)
+are_octets text = octets_or_not text (each_below (λ k. get_or text k 0 < 256) (λ k. below (get_or text k 0) 256) (length text))

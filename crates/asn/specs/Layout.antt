@@ -1,0 +1,49 @@
+-- How the members of a value, as places, are tied to the value that its octets are the encoding of.
+use Rattle.std.specs.Prelude.{◌≡◌, ℕ, ◌+◌, List, [], ◌∷◌, length, true, false}
+use Rattle.der.specs.Value.{Value, Values, primitive, constructed, none, more}
+use Rattle.der.specs.Identifier.{is_constructed}
+use Rattle.der.specs.Length.{header_len}
+use Rattle.der.specs.Encoding.{EncodesAt}
+use Rattle.asn.specs.Part.{IsPartOf}
+use Rattle.asn.specs.Place.{Place, tag, body, inside}
+use Rattle.asn.specs.Members.{members}
+
+-- each place holds the encoding of the value beside it, and the places follow one another from this offset on
+abbrev pub AreMembersAt : ℕ → ℕ → Values → List Place → Type 0
+AreMembersAt depth at none [] = Unit {0}
+AreMembersAt depth at none (place ∷ places) = ⊥
+AreMembersAt depth at (more value values) [] = ⊥
+AreMembersAt depth at (more value values) (place ∷ places) =
+    (place.at ≡ at) × EncodesAt depth place.octets value × AreMembersAt depth (at + length place.octets) values places
+
+-- what the words on a place say of the value: identifier, form, and contents or the members in order
+abbrev pub Holds : ℕ → Value → Place → Type 0
+Holds depth (primitive identifier contents) place =
+    (tag place ≡ identifier) × (is_constructed identifier ≡ false) × (body place ≡ contents)
+Holds depth (constructed identifier values) place =
+    (tag place ≡ identifier) × (is_constructed identifier ≡ true)
+    × AreMembersAt (depth + 1) (place.at + header_len place.octets) values (members place).values
+    × ((members place).end ≡ place.at + length place.octets)
+
+-- a place that holds the encoding of a value
+abbrev pub PlacesHoldValues : Type 0
+PlacesHoldValues = (depth : ℕ) (value : Value) (place : Place) → EncodesAt depth place.octets value → Holds depth value place
+
+-- the places hold parts of the source, at their offsets
+abbrev pub AreParts : List ℕ → List Place → Type 0
+AreParts source [] = Unit {0}
+AreParts source (place ∷ places) = IsPartOf source place.at place.octets × AreParts source places
+
+-- the members of a constructed value that is a part of a source are parts of the source
+abbrev pub MembersAreParts : Type 0
+MembersAreParts =
+    (source : List ℕ) (depth identifier : ℕ) (values : Values) (place : Place) →
+    IsPartOf source place.at place.octets → EncodesAt depth place.octets (constructed identifier values) →
+    AreParts source (members place).values
+
+-- and so are the contents of any value
+abbrev pub ContentsArePart : Type 0
+ContentsArePart =
+    (source : List ℕ) (depth : ℕ) (value : Value) (place : Place) →
+    IsPartOf source place.at place.octets → EncodesAt depth place.octets value →
+    IsPartOf source (inside place).at (inside place).octets

@@ -1,0 +1,39 @@
+//! Contents that are DER of their own, as those of an OCTET STRING often are.
+
+ghost use Rattle.std.specs.Prelude.{◌≤◌, length, IfErr, OnOk};
+ghost use Rattle.asn.specs.Part.{IsWhole};
+ghost use Rattle.asn.specs.Place.{part};
+ghost use Rattle.asn.specs.Walk.{Gives};
+ghost use Rattle.asn.specs.Judgement.{judgement, nested};
+
+use crate::cursor::whole_at;
+use crate::tlv::Tlv;
+use der::{Fault, Rule, check};
+
+/// What `check` answers, as the rule and the place.
+fn judge(octets: &[u8]) -> Result<(), (Rule, usize)>
+    ensures judgement { Gives (λ _. tt) result (judgement octets.now) }
+    ensures whole { OnOk result (IsWhole octets.now) }
+    ensures within { IfErr result (λ fault. fault.1 ≤ length octets.now) }
+{
+    match check(octets) {
+        Ok(()) => Ok(()),
+        Err(Fault::Refused(rule, at)) => Err((rule, at)),
+        Err(Fault::Memory) => unreachable!(),
+    }
+}
+
+impl<'a> Tlv<'a> {
+    /// The one value that the contents are the encoding of, or the first fault in them, with its offset in the text handed
+    /// to `whole`. Depth is counted anew, from 1. Time is linear in the contents; no memory is taken.
+    #[tactic(auto, unfolding(crate::specs::Judgement::nested))]
+    pub fn nested(&self) -> Result<Tlv<'a>, (Rule, usize)>
+        ensures { Gives part result (nested (part self.now)) }
+    {
+        let base = self.at + (self.whole.len() - self.body.len());
+        match judge(self.body) {
+            Ok(()) => Ok(whole_at(self.body, base)),
+            Err((rule, at)) => Err((rule, base + at)),
+        }
+    }
+}
