@@ -1,2 +1,4 @@
 -- The laws that other crates may cite.
 pub use Rattle.asn.proofs.Walks.{bind_ok, ok_is, check_ok, Takes, required_ok, required_again, ended_ok, ended_again, AtMostOne, any_ok, any_again, each_none, each_refused, each_more}
+pub use Rattle.asn.proofs.Sizes.{length-encoding, length-encodings}
+pub use Rattle.asn.proofs.MemberLemmas.{holds, are_members}

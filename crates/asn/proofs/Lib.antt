@@ -4,6 +4,7 @@ mod Inside
 mod Shown
 mod NextShown
 mod PlaceLemmas
+mod Sizes
 mod TreeValues
 mod Judgements
 mod MemberLemmas

@@ -6,10 +6,12 @@ pub mod Walk
 pub mod Judgement
 pub mod Layout
 pub mod Tree
+pub mod Size
+pub mod Fault
 pub use Rattle.der.specs.Value
 pub use Rattle.der.specs.Identifier
 pub use Rattle.der.specs.Length
 pub use Rattle.der.specs.Contents
 pub use Rattle.der.specs.Encoding
-pub use Rattle.der.specs.Fault
+pub use Rattle.der.specs.Fault as DerFault
 pub use Rattle.der.specs.FirstFault

@@ -3,6 +3,7 @@
 #![tactic(auto)]
 
 mod cursor;
+mod encoding;
 mod layout;
 mod nested;
 mod tlv;
@@ -10,6 +11,7 @@ mod tree;
 mod walk;
 
 pub use cursor::whole;
+pub use encoding::{EncodeFault, encode, size_laws};
 pub use layout::member_laws;
 pub use der::{Fault, Rule, check};
 pub use tlv::{Cursor, Tlv};
