@@ -10,4 +10,6 @@ mod Judgements
 mod MemberLemmas
 mod PartLemmas
 mod Walks
+mod IntegerLemmas
+mod TimeLemmas
 pub mod Laws

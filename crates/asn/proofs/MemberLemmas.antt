@@ -42,7 +42,7 @@ are_members (more v vs) depth text at (x, rest, e, sp, sps) =
     let long = encoded_long depth text x rest v e sp in
     let more_is = values_more text at (no_end text at (omega (arith, long.0, long.1))) in
     let parts_are = more_is ∙ ap (λ (p : Place). p ∷ values (behind (record { octets = text; at = at }))) (front_is depth text x rest at v e sp)
-      ∙ ap (λ (p : Place). record { octets = x; at = at } ∷ values p) (behind_is depth text x rest at v e sp) in
+    ∙ ap (λ (p : Place). record { octets = x; at = at } ∷ values p) (behind_is depth text x rest at v e sp) in
     subst (AreMembersAt depth at (more v vs)) (sym parts_are) (refl, sp, are_members vs depth rest (at + length x) sps)
 
 pub holds : (depth : ℕ) (v : Value) (place : Place) → EncodesAt depth place.octets v → Holds depth v place

@@ -35,7 +35,7 @@ are_parts (more v vs) depth text at source (x, rest, e, sp, sps) p =
     let long = encoded_long depth text x rest v e sp in
     let more_is = values_more text at (no_end text at (omega (arith, long.0, long.1))) in
     let parts_are = more_is ∙ ap (λ (q : Place). q ∷ values (behind (record { octets = text; at = at }))) (front_is depth text x rest at v e sp)
-      ∙ ap (λ (q : Place). record { octets = x; at = at } ∷ values q) (behind_is depth text x rest at v e sp) in
+    ∙ ap (λ (q : Place). record { octets = x; at = at } ∷ values q) (behind_is depth text x rest at v e sp) in
     subst (AreParts source) (sym parts_are) (first_part source at text x rest e p, are_parts vs depth rest (at + length x) source sps (second_part source at text x rest e p))
 
 -- the contents of an encoding, a part of it

@@ -8,6 +8,10 @@ pub mod Layout
 pub mod Tree
 pub mod Size
 pub mod Fault
+pub mod Integer
+pub mod NumberLaws
+pub mod Oid
+pub mod Time
 pub use Rattle.der.specs.Value
 pub use Rattle.der.specs.Identifier
 pub use Rattle.der.specs.Length
@@ -15,3 +19,4 @@ pub use Rattle.der.specs.Contents
 pub use Rattle.der.specs.Encoding
 pub use Rattle.der.specs.Fault as DerFault
 pub use Rattle.der.specs.FirstFault
+pub use Rattle.der.specs.Laws as DerLaws

@@ -49,6 +49,14 @@ any_in end (value ∷ values) = (Some value, record { values = values; end = end
 unfoldable pub any : Members → Option Place × Members
 any left = any_in left.end left.values
 
+-- the next value, of any kind, which has to be there
+abbrev pub next_or_in : {F : Type 0} → F → ℕ → List Place → Result (Place × Members) (F × ℕ)
+next_or_in fault end [] = Err (fault, end)
+next_or_in fault end (value ∷ values) = Ok (value, record { values = values; end = end })
+
+unfoldable pub next_or : {F : Type 0} → F → Members → Result (Place × Members) (F × ℕ)
+next_or fault left = next_or_in fault left.end left.values
+
 -- no value is left
 unfoldable pub ended : {F : Type 0} → F → Members → Result (Unit {0}) (F × ℕ)
 ended fault left = if none_left left then Ok tt else Err (fault, next_at left)

@@ -65,6 +65,19 @@ pub fn whole(octets: &[u8]) -> Result<Tlv<'_>, Fault>
 }
 
 impl<'a> Tlv<'a> {
+    /// The same value as a text of its own: its offset is 0, and those of the values inside count from it.
+    pub fn alone(&self) -> Tlv<'a>
+        ensures place { part result ≡ record { octets = self.now.whole.now; at = 0 } }
+        ensures same { (result.tag ≡ self.now.tag) × (result.body.now ≡ self.now.body.now) }
+    {
+        Tlv {
+            tag: self.tag,
+            body: self.body,
+            whole: self.whole,
+            at: 0,
+        }
+    }
+
     /// The values inside this one, in order; `None` where it is primitive.
     pub fn inside(&self) -> Option<Cursor<'a>>
         ensures constructed { IsSome result ↔ (is_constructed self.now.tag ≡ true) }

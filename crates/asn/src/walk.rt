@@ -4,7 +4,7 @@ ghost use Rattle.std.specs.Prelude.{◌≡◌, true, IfOk, IfSome};
 ghost use Rattle.der.specs.Identifier.{is_constructed};
 ghost use Rattle.asn.specs.Place.{part};
 ghost use Rattle.asn.specs.Members.{left, members, begins};
-ghost use Rattle.asn.specs.Walk.{Gives, seen, is_a, required, optional, any, ended, some};
+ghost use Rattle.asn.specs.Walk.{Gives, seen, is_a, required, optional, any, next_or, ended, some};
 
 use crate::tlv::{Cursor, Tlv};
 
@@ -50,16 +50,27 @@ impl<'a> Cursor<'a> {
         self.next()
     }
 
+    /// Takes the next value, of any kind; the fault, at the end of the enclosing value, where none is left.
+    #[tactic(auto, unfolding(crate::specs::Walk::next_or, crate::specs::Members::next_at))]
+    pub fn next_or<F: Copy>(&mut self, fault: F) -> Result<Tlv<'a>, (F, usize)>
+        ensures { Gives (λ tlv. (part tlv, left self.new)) result (next_or fault (left self.old)) }
+    {
+        let at = self.at();
+        match self.next() {
+            Some(tlv) => Ok(tlv),
+            None => Err((fault, at)),
+        }
+    }
+
     /// The fault, at the end of the enclosing value, where no value is left.
     #[tactic(auto, unfolding(crate::specs::Walk::some))]
     pub fn some<F: Copy>(&self, fault: F) -> Result<(), (F, usize)>
         ensures { Gives (λ _. tt) result (some fault (left self.now)) }
     {
         if self.end() {
-            Err((fault, self.at()))
-        } else {
-            Ok(())
+            return Err((fault, self.at()));
         }
+        Ok(())
     }
 
     /// The fault, at the next value, where one is left.

@@ -1,0 +1,6 @@
+use Rattle.std.proofs.Common.{◌∙◌}
+use Rattle.asn.proofs.IntegerLemmas.{pointwise-binary_value}
+use Rattle.asn.proofs.number.Number20PartialEq.eq.Goals as goal
+
+pub returns : goal.returns
+returns c = rw (← c.self.view_is, ← c.other.view_is) (c.eq.ensures ∙ pointwise-binary_value c.self.inside.octets c.other.inside.octets c.self.invariant c.other.invariant)
