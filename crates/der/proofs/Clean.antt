@@ -18,9 +18,13 @@ pub record Parts (depth : ℕ) (x : List ℕ) (i : ℕ) (c : List ℕ) : Type 0 
   pub text_is : x ≡ encoding_of i c
   pub allowed : is_constructed i ≡ false → IsContents i c
 
+-- a constructed identifier allows what no primitive one asks for
+pub not_primitive : (i : ℕ) (c : List ℕ) → is_constructed i ≡ true → is_constructed i ≡ false → IsContents i c
+not_primitive i c form is_off = absurd cc
+
 abbrev pub parts_of : (v : Value) (depth : ℕ) (x : List ℕ) → EncodesAt depth x v → (i : ℕ) × (c : List ℕ) × Parts depth x i c
 parts_of (primitive i c) depth x (deep, accepted, form, allowed, bounded, e) = (i, c, record { deep = deep; accepted = accepted; bounded = bounded; text_is = e; allowed = λ _. allowed })
-parts_of (constructed i vs) depth x (deep, accepted, form, (c, _, bounded, e)) = (i, c, record { deep = deep; accepted = accepted; bounded = bounded; text_is = e; allowed = λ is_off. absurd cc })
+parts_of (constructed i vs) depth x (deep, accepted, form, (c, _, bounded, e)) = (i, c, record { deep = deep; accepted = accepted; bounded = bounded; text_is = e; allowed = not_primitive i c form })
 
 pub front_of : (depth : ℕ) (text x rest : List ℕ) (i : ℕ) (c : List ℕ) → text ≡ x ++ rest → Parts depth x i c → Front text i c rest
 front_of depth text x rest i c e p = subst (λ (t : List ℕ). Front t i c rest) (sym (e ∙ ap (λ (y : List ℕ). y ++ rest) p.text_is)) (front i c rest p.bounded)

@@ -1,19 +1,19 @@
 use super::*;
+use std::alloc::{AllocError, Global};
+use std::test::Fail;
 
 fn refused(octets: &[u8], rule: Rule, at: usize) -> bool {
     check(octets) == Err(Fault::Refused(rule, at))
 }
 
-/// The nest of SEQUENCEs, one in another, the outermost at the front of the 66 octets.
-fn nest(depth: usize) -> [u8; 66] {
-    let mut octets = [0u8; 66];
-    for level in 0..33 {
-        if level < depth {
-            octets[2 * level] = 0x30;
-            octets[2 * level + 1] = ((depth - 1 - level) * 2) as u8;
-        }
+/// SEQUENCEs in one another, the innermost empty.
+fn nest(alloc: Global, depth: u8) -> Result<Vec<u8>, AllocError> {
+    let mut octets = Vec::new(alloc);
+    for inside in (0..depth).rev() {
+        octets.push(0x30)?;
+        octets.push(inside.wrapping_mul(2))?;
     }
-    octets
+    Ok(octets)
 }
 
 #[test]
@@ -80,7 +80,11 @@ fn refuses(rt: HostRuntime) {
 #[test]
 fn names_the_first_fault(rt: HostRuntime) {
     let rows: [(&[u8], Rule, usize); 4] = [
-        (&[0x30, 0x06, 0x01, 0x01, 0x02, 0x02, 0x01, 0x00], Rule::Content, 2),
+        (
+            &[0x30, 0x06, 0x01, 0x01, 0x02, 0x02, 0x01, 0x00],
+            Rule::Content,
+            2,
+        ),
         (&[0x30, 0x04, 0x05, 0x00, 0x1F, 0x80], Rule::TagForm, 4),
         (&[0x30, 0x02, 0x05, 0x00, 0x00], Rule::Trailing, 4),
         (&[0x30, 0x03, 0x1F, 0x00], Rule::Truncated, 0),
@@ -91,17 +95,22 @@ fn names_the_first_fault(rt: HostRuntime) {
 }
 
 #[test]
-fn bounds_depth(rt: HostRuntime) {
-    let deep = nest(32);
-    assert!(rt; check(&deep[..64]).is_ok());
-    assert!(rt; refused(&nest(33), Rule::TooDeep, 64));
+fn bounds_depth(rt: HostRuntime) -> Result<(), Fail> {
+    assert!(rt; check(&nest(rt.alloc(), 32)?).is_ok());
+    assert!(rt; refused(&nest(rt.alloc(), 33)?, Rule::TooDeep, 64));
+    Ok(())
 }
 
 #[test]
 fn names_faults(rt: HostRuntime) {
     let rows: [(Fault, u8, &str, Option<usize>); 8] = [
         (Fault::Refused(Rule::TagForm, 3), 1, "TagForm", Some(3)),
-        (Fault::Refused(Rule::LengthForm, 0), 2, "LengthForm", Some(0)),
+        (
+            Fault::Refused(Rule::LengthForm, 0),
+            2,
+            "LengthForm",
+            Some(0),
+        ),
         (Fault::Refused(Rule::TooLong, 1), 3, "TooLong", Some(1)),
         (Fault::Refused(Rule::Truncated, 2), 4, "Truncated", Some(2)),
         (Fault::Refused(Rule::TooDeep, 64), 5, "TooDeep", Some(64)),
