@@ -1,12 +1,13 @@
 -- Where the contents of a value stand.
-use Rattle.std.proofs.Common.{◌≡◌, ◌+◌, ◌-◌, ◌<◌, arith, ℕ, List, length, ap, ◌∙◌}
+use Rattle.std.proofs.Common.{[], sym, ◌≡◌, ◌+◌, ◌-◌, ◌<◌, arith, ℕ, List, length, ap, ◌∙◌}
 use Rattle.std.proofs.Math.Logic.{∥∥₁_elim}
 use Rattle.std.proofs.Props.{props}
-use Rattle.der.specs.Length.{header_len, contents_of}
+use Rattle.std.proofs.lemmas.List.{append-nil}
+use Rattle.der.specs.Length.{header_len, contents_of, contents_limit}
 use Rattle.asn.specs.Part.{contents}
 use Rattle.asn.specs.declared.tlv.Tlv.{Tlv}
 use Rattle.asn.specs.Place.{Place, part, inside}
-use Rattle.der.proofs.Laws.{two_octets}
+use Rattle.der.proofs.Laws.{two_octets, parts_of, front_of}
 use Rattle.asn.proofs.Views.{body_len}
 
 pub body_of : (tlv : Tlv) → tlv.body.now ≡ contents_of tlv.whole.now
@@ -33,3 +34,10 @@ body_shorter tlv =
     let l = body_len tlv.whole.now b.0 b.1 b.2 in
     let two = two_octets tlv.whole.now in
     rw (body_of tlv) (omega arith))
+
+pub body_bounded : (tlv : Tlv) → length tlv.body.now < contents_limit
+body_bounded tlv =
+    ∥∥₁_elim tlv.encoded (hlevel props) (λ b.
+        let p = parts_of b.1 b.0 tlv.whole.now b.2 in
+        let f = front_of b.0 tlv.whole.now tlv.whole.now [] p.0 p.1 (sym (append-nil tlv.whole.now)) p.2 in
+        rw (body_of tlv, f.contents_is) p.2.bounded)

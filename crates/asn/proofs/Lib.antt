@@ -9,6 +9,7 @@ mod TreeValues
 mod Judgements
 mod MemberLemmas
 mod PartLemmas
+mod PlaceSizes
 mod Walks
 mod IntegerLemmas
 mod TimeLemmas

@@ -1,11 +1,11 @@
 -- What each step of a walk says of the values, in both directions: for laws of layouts.
-use Rattle.std.specs.Prelude.{◌≡◌, ◌==◌, ℕ, Bool, true, false, refl, List, [], ◌∷◌, Result, Ok, Err, if◌then◌else◌}
-use Rattle.std.proofs.Common.{subst}
+use Rattle.std.specs.Prelude.{◌≡◌, ◌<◌, ◌==◌, ℕ, length, Bool, true, false, refl, List, [], ◌∷◌, Result, Ok, Err, if◌then◌else◌}
+use Rattle.std.proofs.Common.{subst, ap, arith}
 use Rattle.std.proofs.lemmas.Bool.{eqb-true}
 use Rattle.std.proofs.Common.{eq-eqb}
 use Rattle.asn.specs.Place.{Place, tag}
 use Rattle.asn.specs.Members.{Members, none_left, next_at, none_in}
-use Rattle.asn.specs.Walk.{◌>>=◌, each, check_that, required, required_in, any, any_in, ended}
+use Rattle.asn.specs.Walk.{◌>>=◌, each, check_that, is_a, required, required_in, any, any_in, next_or, next_or_in, some, ended}
 
 abbrev pub done : {A E : Type 0} → A → Result A E
 done x = Ok x
@@ -101,3 +101,61 @@ each_refused step so_far values value rest fault more refused = rw (more, refuse
 pub each_more : {A E : Type 0} (step : A → Place → Result A E) (so_far : A) (values : List Place) (value : Place) (rest : List Place) (next : A)
     → values ≡ value ∷ rest → step so_far value ≡ Ok next → each step so_far values ≡ each step next rest
 each_more step so_far values value rest next more ok = rw (more, ok) refl
+
+-- the next value is there
+next_in : {F : Type 0} (fault : F) (end : ℕ) (values : List Place) (x : Place × Members) → next_or_in fault end values ≡ Ok x → values ≡ x.0 ∷ x.1.values
+next_in fault end [] x e = absurd cc
+next_in fault end (value ∷ values) x e =
+    let y : Place × Members = (value, record { values = values; end = end }) in
+    let same : y ≡ x = cc in
+    ap (λ (z : Place × Members). z.0 ∷ z.1.values) same
+
+pub next_or_ok : {F : Type 0} (fault : F) (left : Members) (x : Place × Members) → next_or fault left ≡ Ok x → left.values ≡ x.0 ∷ x.1.values
+unfolding next_or
+next_or_ok fault left x e = next_in fault left.end left.values x e
+
+pub next_or_again : {F : Type 0} (fault : F) (left : Members) (value : Place) (others : List Place) → left.values ≡ value ∷ others → next_or fault left ≡ Ok (value, record { values = others; end = left.end })
+unfolding next_or
+next_or_again fault left value others e = rw e refl
+
+-- the value has the identifier
+is_a_by : {F : Type 0} (b : Bool) (fault : F) (at : ℕ) (u : Unit {0}) → (if b then done tt else refused fault at) ≡ done u → b ≡ true
+is_a_by true fault at u e = refl
+is_a_by false fault at u e = absurd cc
+
+pub is_a_ok : {F : Type 0} (identifier : ℕ) (fault : F) (value : Place) (u : Unit {0}) → is_a identifier fault value ≡ Ok u → tag value ≡ identifier
+unfolding is_a
+is_a_ok identifier fault value u e = eqb-true (tag value) identifier (is_a_by (tag value == identifier) fault value.at u e)
+
+pub is_a_again : {F : Type 0} (identifier : ℕ) (fault : F) (value : Place) → tag value ≡ identifier → is_a identifier fault value ≡ Ok tt
+unfolding is_a
+is_a_again identifier fault value e = rw (eq-eqb (tag value) identifier e) refl
+
+-- at least one value is left
+some_by : {F : Type 0} (b : Bool) (fault : F) (at : ℕ) (u : Unit {0}) → (if b then refused fault at else done tt) ≡ done u → b ≡ false
+some_by true fault at u e = absurd cc
+some_by false fault at u e = refl
+
+not_none : (values : List Place) → none_in values ≡ false → 0 < length values
+not_none [] e = absurd cc
+not_none (v ∷ vs) e = omega arith
+
+pub some_ok : {F : Type 0} (fault : F) (left : Members) (u : Unit {0}) → some fault left ≡ Ok u → 0 < length left.values
+unfolding some none_left
+some_ok fault left u e = not_none left.values (some_by (none_in left.values) fault (next_at left) u e)
+
+none_of_some : (values : List Place) → 0 < length values → none_in values ≡ false
+none_of_some [] some_left = absurd (omega arith)
+none_of_some (v ∷ vs) some_left = refl
+
+pub some_again : {F : Type 0} (fault : F) (left : Members) → 0 < length left.values → some fault left ≡ Ok tt
+unfolding some none_left
+some_again fault left some_left = rw (none_of_some left.values some_left) refl
+
+pub check_again : {F : Type 0} (b : Bool) (fault : F) (at : ℕ) → b ≡ true → check_that b fault at ≡ Ok tt
+unfolding check_that
+check_again b fault at e = rw e refl
+
+-- a walk over values succeeds where each step does
+pub each_ok : {A E : Type 0} (step : A → Place → Result A E) (so_far : A) (value : Place) (values : List Place) (x : A) → each step so_far (value ∷ values) ≡ Ok x → (next : A) × (step so_far value ≡ Ok next) × (each step next values ≡ Ok x)
+each_ok step so_far value values x e = bind_ok (step so_far value) (λ next. each step next values) x e

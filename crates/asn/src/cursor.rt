@@ -3,6 +3,7 @@
 ghost use Rattle.std.specs.Prelude.{◌≡◌, ◌↔◌, ◌+◌, ◌<◌, ◌^◌, ◌++◌, ℕ, List, length, slice_index, [], IsTrue, IsSome, IsOk, IfOk, IfErr, IfNone, IfSome, MatchOption, true};
 ghost use Rattle.der.specs.Value.{Value, Values};
 ghost use Rattle.der.specs.Identifier.{is_constructed};
+ghost use Rattle.der.specs.Length.{contents_limit};
 ghost use Rattle.der.specs.Encoding.{EncodesAt, EncodesAllAt, Encodes};
 ghost use Rattle.der.specs.FirstFault.{IsFirstFault};
 ghost use Rattle.asn.specs.Part.{IsWhole, BeginsEncoded};
@@ -84,6 +85,7 @@ impl<'a> Tlv<'a> {
         ensures place { IfSome result (λ cursor. remaining cursor ≡ inside (part self.now)) }
         ensures body { IfSome result (λ cursor. (remaining cursor).octets ≡ self.now.body.now) }
         ensures shorter { IfSome result (λ cursor. length (remaining cursor).octets < length self.now.whole.now) }
+        ensures bounded { IfSome result (λ cursor. length (remaining cursor).octets < contents_limit) }
         ensures left { IfSome result (λ cursor. left cursor ≡ members (part self.now)) }
         ensures shows { (depth : ℕ) (value : Value) → Shows depth value self.now → ShowsInside depth value result }
     {

@@ -1,8 +1,9 @@
 //! Reading the values of a layout from left to right.
 
-ghost use Rattle.std.specs.Prelude.{◌≡◌, true, IfOk, IfSome};
+ghost use Rattle.std.specs.Prelude.{◌≡◌, ◌<◌, true, length, IfOk, IfSome};
 ghost use Rattle.der.specs.Identifier.{is_constructed};
-ghost use Rattle.asn.specs.Place.{part};
+ghost use Rattle.der.specs.Length.{contents_limit};
+ghost use Rattle.asn.specs.Place.{part, remaining};
 ghost use Rattle.asn.specs.Members.{left, members, begins};
 ghost use Rattle.asn.specs.Walk.{Gives, seen, is_a, required, optional, any, next_or, ended, some};
 
@@ -103,7 +104,8 @@ impl<'a> Tlv<'a> {
     /// The values inside a value whose identifier octet has the constructed flag, in order.
     pub fn members(&self) -> Cursor<'a>
         requires { is_constructed self.now.tag ≡ true }
-        ensures { left result ≡ members (part self.now) }
+        ensures left { left result ≡ members (part self.now) }
+        ensures bounded { length (remaining result).octets < contents_limit }
     {
         match self.inside() {
             Some(members) => members,

@@ -5,7 +5,7 @@ use Rattle.der.specs.Encoding.{EncodesAllAt}
 use Rattle.asn.specs.Members.{members_at}
 use Rattle.asn.specs.declared.tlv.Tlv.{Tlv}
 use Rattle.asn.proofs.Views.{inside_constructed, contents_shorter}
-use Rattle.asn.proofs.Inside.{body_of, body_shorter, inside_is}
+use Rattle.asn.proofs.Inside.{body_of, body_shorter, body_bounded, inside_is}
 use Rattle.asn.proofs.Shown.{shows_none, shows_some}
 use Rattle.asn.proofs.tlv.Tlv.inside.Goals as goal
 
@@ -38,3 +38,6 @@ returns-else-is_constructed_form-clause-shows c = λ depth value encodes. shows_
 
 pub returns-then-is_constructed_form-clause-shorter : goal.returns-then-is_constructed_form-clause-shorter
 returns-then-is_constructed_form-clause-shorter c = body_shorter c.args.self.now
+
+pub returns-then-is_constructed_form-clause-bounded : goal.returns-then-is_constructed_form-clause-bounded
+returns-then-is_constructed_form-clause-bounded c = body_bounded c.args.self.now

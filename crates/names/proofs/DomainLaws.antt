@@ -1,0 +1,127 @@
+use Rattle.std.proofs.Common.{◌≡◌, ◌⊎◌, ℕ, ◌<◌, ◌≤◌, ◌+◌, ◌++◌, List, [], ◌∷◌, length, Bool, true, false, refl, sym, ◌∙◌, ap, inl, inr, arith, ◌==◌, ◌&&◌, nat_lt, append_assoc, length-append, IsTrue}
+use Rattle.std.specs.Prelude.{◌↔◌}
+use Rattle.std.proofs.lemmas.Bool.{and_parts, and_from, ltb-true, lt-ltb, cases_lt, cases_order}
+use Rattle.names.specs.declared.dns.Domain.{Domain}
+use Rattle.names.specs.declared.dns.Domain.TheVariants as D
+use Rattle.names.specs.Dns.{labels, EndsIn, EndsInMore, IsInDomain, ends_in_labels, ends_in_more_labels, is_in_domain, is_domain_inside}
+use Rattle.names.specs.Laws.{DomainTestIsExact, DomainInsideIsSound, SharedDomainsAreNested}
+use Rattle.names.proofs.Splitting.{same_ends}
+use Rattle.names.proofs.Labels.{ends_in_is_exact}
+use Rattle.std.proofs.lemmas.List.Prefix.{end_rest}
+use Rattle.std.proofs.lemmas.List.{take-append-drop}
+
+abbrev Ends : List ℕ → List ℕ → Type 0
+Ends x s = ends_in_labels x s ≡ true
+
+abbrev More : List ℕ → List ℕ → Type 0
+More x s = ends_in_more_labels x s ≡ true
+
+count : List ℕ → ℕ
+count x = length (labels x)
+
+ends_count : (x s : List ℕ) → Ends x s → count s ≤ count x
+unfolding count
+ends_count x s h = let e = (ends_in_is_exact x s).0 h in omega (arith, ap length e.joined, length-append e.front (labels s))
+
+more_ends : (x s : List ℕ) → More x s → Ends x s
+more_ends x s h = (and_parts (nat_lt (length (labels s)) (length (labels x))) _ h).1
+
+more_count : (x s : List ℕ) → More x s → count s < count x
+unfolding count
+more_count x s h = ltb-true (length (labels s)) (length (labels x)) (and_parts (nat_lt (length (labels s)) (length (labels x))) _ h).0
+
+more_of : (x s : List ℕ) → Ends x s → count s < count x → More x s
+unfolding count
+more_of x s h lt = and_from (nat_lt (length (labels s)) (length (labels x))) _ (lt-ltb (length (labels s)) (length (labels x)) lt) h
+
+trans : (x s t : List ℕ) → Ends s t → Ends x s → Ends x t
+trans x s t p q =
+    let a = (ends_in_is_exact s t).0 p in
+    let b = (ends_in_is_exact x s).0 q in
+    (ends_in_is_exact x t).1 (record {
+      front = b.front ++ a.front;
+      joined = b.joined ∙ (ap (λ (l : List (List ℕ)). b.front ++ l) a.joined ∙ sym (append_assoc b.front a.front (labels t)));
+    })
+
+-- of two ends of one list the shorter is an end of the other
+shorter_end : (xs f s g t : List (List ℕ)) → xs ≡ f ++ s → xs ≡ g ++ t → length t ≤ length s → EndsIn s t
+shorter_end xs [] s [] t a b le = record { front = []; joined = sym a ∙ b }
+shorter_end xs [] s (y ∷ g) t a b le = record { front = y ∷ g; joined = sym a ∙ b }
+shorter_end xs (x ∷ f) s [] t a b le = absurd (omega (arith, ap length (sym a ∙ b), length-append f s))
+shorter_end [] (x ∷ f) s (y ∷ g) t a b le = cc
+shorter_end (z ∷ xs) (x ∷ f) s (y ∷ g) t a b le =
+    let p : xs ≡ f ++ s = cc in
+    let q : xs ≡ g ++ t = cc in
+    shorter_end xs f s g t p q le
+
+both : (x s t : List ℕ) → Ends x s → Ends x t → count t ≤ count s → Ends s t
+unfolding count
+both x s t p q le =
+    let a = (ends_in_is_exact x s).0 p in
+    let b = (ends_in_is_exact x t).0 q in
+    (ends_in_is_exact s t).1 (shorter_end (labels x) a.front (labels s) b.front (labels t) a.joined b.joined le)
+
+-- to end in labels and be longer is to have a label more
+more_at : (list end front : List (List ℕ)) → list ≡ front ++ end → length end < length list → EndsInMore list end
+more_at list end [] e lt = absurd (omega (arith, ap length e))
+more_at list end (first ∷ front) e lt = record { first = first; front = front; joined = e }
+
+more_is_exact : (x s : List ℕ) → (IsTrue (ends_in_more_labels x s) ↔ EndsInMore (labels x) (labels s))
+unfolding count
+more_is_exact x s = (
+  λ t. let e = (ends_in_is_exact x s).0 (more_ends x s t) in more_at (labels x) (labels s) e.front e.joined (more_count x s t),
+  λ m. more_of x s ((ends_in_is_exact x s).1 (record { front = m.first ∷ m.front; joined = m.joined }))
+      (omega (arith, ap length m.joined, length-append (m.first ∷ m.front) (labels s))),
+)
+
+pub domain_test_is_exact : DomainTestIsExact
+unfolding is_in_domain
+domain_test_is_exact x D.Every = (λ _. tt, λ _. refl)
+domain_test_is_exact x (D.Within s) = ends_in_is_exact x s.now
+domain_test_is_exact x (D.Below s) = more_is_exact x s.now
+
+pub domain_inside_is_sound : DomainInsideIsSound
+unfolding is_in_domain is_domain_inside
+domain_inside_is_sound x s D.Every h k = refl
+domain_inside_is_sound x D.Every (D.Within t) h k = cc
+domain_inside_is_sound x D.Every (D.Below t) h k = cc
+domain_inside_is_sound x (D.Within s) (D.Within t) h k = trans x s.now t.now h k
+domain_inside_is_sound x (D.Within s) (D.Below t) h k =
+    let a = more_count s.now t.now h in
+    let b = ends_count x s.now k in
+    more_of x t.now (trans x s.now t.now (more_ends s.now t.now h) k) (omega arith)
+domain_inside_is_sound x (D.Below s) (D.Within t) h k = trans x s.now t.now h (more_ends x s.now k)
+domain_inside_is_sound x (D.Below s) (D.Below t) h k =
+    let a = ends_count s.now t.now h in
+    let b = more_count x s.now k in
+    more_of x t.now (trans x s.now t.now h (more_ends x s.now k)) (omega arith)
+
+pub shared_domains_are_nested : SharedDomainsAreNested
+unfolding is_in_domain is_domain_inside
+shared_domains_are_nested x s D.Every h k = inl refl
+shared_domains_are_nested x D.Every (D.Within t) h k = inr refl
+shared_domains_are_nested x D.Every (D.Below t) h k = inr refl
+shared_domains_are_nested x (D.Within s) (D.Within t) h k =
+    elim (cases_lt (count s.now) (count t.now)) [
+      | inl lt ↦ inr (both x t.now s.now k h (omega arith))
+      | inr le ↦ inl (both x s.now t.now h k le)
+    ]
+shared_domains_are_nested x (D.Within s) (D.Below t) h k =
+    elim (cases_lt (count t.now) (count s.now)) [
+      | inl lt ↦ inl (more_of s.now t.now (both x s.now t.now h (more_ends x t.now k) (omega arith)) lt)
+      | inr le ↦ inr (both x t.now s.now (more_ends x t.now k) h le)
+    ]
+shared_domains_are_nested x (D.Below s) (D.Within t) h k =
+    elim (cases_lt (count s.now) (count t.now)) [
+      | inl lt ↦ inr (more_of t.now s.now (both x t.now s.now k (more_ends x s.now h) (omega arith)) lt)
+      | inr le ↦ inl (both x s.now t.now (more_ends x s.now h) k le)
+    ]
+shared_domains_are_nested x (D.Below s) (D.Below t) h k =
+    elim (cases_lt (count s.now) (count t.now)) [
+      | inl lt ↦ inr (both x t.now s.now (more_ends x t.now k) (more_ends x s.now h) (omega arith))
+      | inr le ↦ inl (both x s.now t.now (more_ends x s.now h) (more_ends x t.now k) le)
+    ]
+
+-- an answer that is the test decides the relation
+pub decided : (x : List ℕ) (d : Domain) (b : Bool) → b ≡ is_in_domain x d → (IsTrue b ↔ IsInDomain x d)
+decided x d b e = let law = domain_test_is_exact x d in (λ t. law.0 (sym e ∙ t), λ h. e ∙ law.1 h)

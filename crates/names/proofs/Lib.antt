@@ -1,0 +1,17 @@
+mod Strings
+mod Reading
+mod Splitting
+mod Words
+mod PreparedText
+mod PreparationLaws
+mod DnsNames
+mod Labels
+mod DomainLaws
+mod Ranges
+mod Masks
+mod Matching
+mod Ordered
+mod Keys
+mod Fits
+mod SequenceFits
+mod Subtrees

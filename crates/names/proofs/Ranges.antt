@@ -1,0 +1,93 @@
+use Rattle.std.proofs.Common.{◌≡◌, ◌⊎◌, ℕ, ◌<◌, ◌≤◌, ◌+◌, List, [], ◌∷◌, length, Bool, true, false, refl, sym, ◌∙◌, ap, inl, inr, arith, ◌==◌, ◌&&◌, zero, suc, rules, add-zero, IsTrue}
+use Rattle.std.specs.Prelude.{nat_le, ◌↔◌}
+use Rattle.std.specs.List.{list_all, range_with_len}
+use Rattle.std.proofs.lemmas.Bool.{and_parts, and_from, eqb-true, eq-eqb, leb-true, le-leb, cases_lt}
+use Rattle.names.specs.declared.ip.IpRange.{IpRange}
+use Rattle.names.specs.Ip.{IsInRange, bit, same_bit, agree, is_in_range, is_range_inside}
+use Rattle.names.specs.Laws.{RangeTestIsExact, RangeInsideIsSound, SharedRangesAreNested}
+
+all_at : (p : ℕ → Bool) (a n i : ℕ) → list_all p (range_with_len a n) ≡ true → i < n → p (a + i) ≡ true
+all_at p a zero i h lt = absurd (omega arith)
+all_at p a (suc n) zero h lt = rw add-zero ((and_parts (p a) _ h).0)
+all_at p a (suc n) (suc i) h lt =
+    let e : a + suc i ≡ a + 1 + i = omega arith in
+    rw e (all_at p (a + 1) n i (and_parts (p a) _ h).1 (omega arith))
+
+all_from : (p : ℕ → Bool) (a n : ℕ) → ((i : ℕ) → i < n → p (a + i) ≡ true) → list_all p (range_with_len a n) ≡ true
+all_from p a zero h = refl
+all_from p a (suc n) h =
+    and_from (p a) (list_all p (range_with_len (a + 1) n))
+    (ap p (omega arith) ∙ h 0 (omega arith))
+    (all_from p (a + 1) n (λ i lt. let e : a + 1 + i ≡ a + suc i = omega arith in ap p e ∙ h (suc i) (omega arith)))
+
+-- the first bits are the same
+pub Same : ℕ → List ℕ → List ℕ → Type 0
+Same count left right = (i : ℕ) → i < count → bit left i ≡ bit right i
+
+pub same_of : (count : ℕ) (left right : List ℕ) → agree count left right ≡ true → Same count left right
+unfolding agree Same
+same_of count left right h i lt = eqb-true (bit left i) (bit right i) (ap (same_bit left right) (omega arith) ∙ all_at (same_bit left right) 0 count i h lt)
+
+pub agree_of : (count : ℕ) (left right : List ℕ) → Same count left right → agree count left right ≡ true
+unfolding agree Same
+agree_of count left right h =
+    all_from (same_bit left right) 0 count (λ i lt. ap (same_bit left right) (omega arith) ∙ eq-eqb (bit left i) (bit right i) (h i lt))
+
+-- through a third, as far as both reach
+through : (m n : ℕ) (a b x : List ℕ) → m ≤ n → Same m a b → Same n b x → Same m a x
+unfolding Same
+through m n a b x le p q i lt = p i lt ∙ q i (omega arith)
+
+shared : (m n : ℕ) (a b x : List ℕ) → m ≤ n → Same m a x → Same n b x → Same m a b
+unfolding Same
+shared m n a b x le p q i lt = p i lt ∙ sym (q i (omega arith))
+
+pub range_inside_is_sound : RangeInsideIsSound
+unfolding is_in_range is_range_inside
+range_inside_is_sound x s t h k =
+    let a = and_parts (length s.address.now == length t.address.now) _ h in
+    let b = and_parts (nat_le t.prefix s.prefix) _ a.1 in
+    let c = and_parts (length x == length s.address.now) _ k in
+    and_from (length x == length t.address.now) _
+    (eq-eqb _ _ (eqb-true (length x) (length s.address.now) c.0 ∙ eqb-true (length s.address.now) (length t.address.now) a.0))
+    (agree_of t.prefix t.address.now x
+    (through t.prefix s.prefix t.address.now s.address.now x (leb-true t.prefix s.prefix b.0)
+    (same_of t.prefix t.address.now s.address.now b.1) (same_of s.prefix s.address.now x c.1)))
+
+nested_by : (x : List ℕ) (s t : IpRange) → is_in_range x s ≡ true → is_in_range x t ≡ true → t.prefix ≤ s.prefix → is_range_inside s t ≡ true
+unfolding is_in_range is_range_inside
+nested_by x s t h k le =
+    let a = and_parts (length x == length s.address.now) _ h in
+    let b = and_parts (length x == length t.address.now) _ k in
+    and_from (length s.address.now == length t.address.now) _
+    (eq-eqb _ _ (sym (eqb-true (length x) (length s.address.now) a.0) ∙ eqb-true (length x) (length t.address.now) b.0))
+    (and_from (nat_le t.prefix s.prefix) _ (le-leb t.prefix s.prefix le)
+    (agree_of t.prefix t.address.now s.address.now
+    (shared t.prefix s.prefix t.address.now s.address.now x le (same_of t.prefix t.address.now x b.1) (same_of s.prefix s.address.now x a.1))))
+
+pub shared_ranges_are_nested : SharedRangesAreNested
+shared_ranges_are_nested x s t h k =
+    elim (cases_lt s.prefix t.prefix) [
+      | inl lt ↦ inr (nested_by x t s k h (omega arith))
+      | inr le ↦ inl (nested_by x s t h k le)
+    ]
+
+pub range_test_is_exact : RangeTestIsExact
+unfolding is_in_range Same
+range_test_is_exact x s = (
+  λ t.
+      let both = and_parts (length x == length s.address.now) _ t in
+      record {
+        same_length = eqb-true (length x) (length s.address.now) both.0;
+        agree = same_of s.prefix s.address.now x both.1;
+      },
+  λ h. and_from (length x == length s.address.now) _ (eq-eqb (length x) (length s.address.now) h.same_length) (agree_of s.prefix s.address.now x h.agree),
+)
+
+-- at addresses of one length the comparison of bits decides the relation
+pub decided : (x : List ℕ) (s : IpRange) (b : Bool) → length x ≡ length s.address.now → b ≡ agree s.prefix s.address.now x → (IsTrue b ↔ IsInRange x s)
+unfolding Same
+decided x s b n e = (
+  λ t. record { same_length = n; agree = same_of s.prefix s.address.now x (sym e ∙ t) },
+  λ h. e ∙ agree_of s.prefix s.address.now x h.agree,
+)

@@ -1,0 +1,5 @@
+use Rattle.names.proofs.Matching.{matching_is_exact, within_is_exact}
+use Rattle.names.proofs.name_reading.name_laws.Goals as goal
+
+pub returns : goal.returns
+returns c = record { matching = matching_is_exact; within = within_is_exact }

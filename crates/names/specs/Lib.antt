@@ -1,0 +1,16 @@
+pub mod Fault
+pub mod NameLayout
+pub mod AttributeView
+pub mod Preparation
+pub mod AttributeValue
+pub mod DistinguishedName
+pub mod NameParts
+pub mod NameView
+pub mod NameOctets
+pub mod NameKey
+pub mod AttributeOrder
+pub mod Dns
+pub mod Ip
+pub mod GeneralName
+pub mod GeneralSubtree
+pub mod Laws

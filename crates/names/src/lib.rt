@@ -1,0 +1,26 @@
+//! Names of certificates and the subtrees that constrain them (RFC 5280, 4.1.2.4, 4.2.1.6, 4.2.1.10 and 7.1).
+#![tactic(auto)]
+
+mod attribute;
+mod dns;
+mod fault;
+mod general;
+mod ip;
+mod name;
+mod name_key;
+mod name_reading;
+mod preparation;
+mod rdn;
+mod rdn_sequence;
+mod subtree;
+
+pub use attribute::Attribute;
+pub use dns::{Domain, domain_laws, is_dns_name};
+pub use fault::{NameFault, Refusal};
+pub use general::{Form, General};
+pub use ip::{IpFault, IpRange, is_ip_address, range_laws};
+pub use name::Name;
+pub use name_key::key_laws;
+pub use name_reading::name_laws;
+pub use preparation::{preparation_laws, prepared_text, same_prepared};
+pub use subtree::{Subtree, subtree_laws};
