@@ -59,7 +59,7 @@ pub fn whole(octets: &[u8]) -> Result<Tlv<'_>, Fault>
     ensures accepts { IsOk result ↔ ((value : Value) × Encodes octets.now value) }
     ensures refuses { IfErr result (λ fault. IsFirstFault octets.now fault) }
     ensures place { IfOk result (λ tlv. part tlv ≡ record { octets = octets.now; at = 0 }) }
-    ensures shows { (value : Value) → Encodes octets.now value → IfOk result (Shows 1 value) }
+    ensures shows { IfOk result (λ tlv. (value : Value) → Encodes octets.now value → Shows 1 value tlv) }
 {
     check(octets)?;
     Ok(whole_at(octets, 0))

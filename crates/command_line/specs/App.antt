@@ -1,0 +1,19 @@
+-- The command line of the program, in clap's terms.
+use Rattle.std.specs.Prelude.{true, codes}
+use Rattle.clap.specs.Words.{App, Rule, new_app, new_rule, with_rule, with_subcommand}
+
+-- FILE
+abbrev pub file : Rule
+file = record (new_rule (codes "file")) { required = true; value_names = 1 }
+
+-- `tree FILE`
+abbrev pub tree : App
+tree = with_rule (new_app (codes "tree")) file
+
+-- a command that wants one of its subcommands
+abbrev pub wanting_subcommand : App → App
+wanting_subcommand a = record a { top = record a.top { subcommand_required = true } }
+
+-- the program
+abbrev pub program : App
+program = with_subcommand (wanting_subcommand (new_app (codes "x509check"))) tree.top

@@ -1,0 +1,38 @@
+//! The program and its subcommands, as clap is told of them. Each subcommand is built in a function of its own.
+ghost use Rattle.std.specs.Prelude.{◌≡◌, IfOk, false};
+ghost use Rattle.clap.specs.Words.{app_of, rule_of};
+ghost use Rattle.clap.specs.declared.builder.command.Command.TheViews.{out-Command as fields_of};
+ghost use Rattle.command_line.specs.App.{file as file_rule, tree as tree_app, program as program_app};
+
+use clap::{Arg, Command};
+use std::alloc::{AllocError, Global};
+
+// FILE: it has to be there.
+fn file<'a>(alloc: Global) -> Arg<'a>
+    ensures rule { rule_of result ≡ file_rule }
+    ensures local { result.global ≡ false }
+{
+    Arg::new(alloc, "file")
+        .required(true)
+        .value_name("FILE")
+        .help("A file of one DER value")
+}
+
+fn tree<'a>(alloc: Global) -> Result<Command<'a>, AllocError>
+    ensures app { IfOk result (λ c. app_of c ≡ tree_app) }
+    ensures local { IfOk result (λ c. (fields_of c).has_globals ≡ false) }
+{
+    Command::new(alloc, "tree")
+        .about("Prints a DER value, a line for each value in it")
+        .arg(file(alloc))
+}
+
+/// The program's command. A subcommand has to be named.
+pub fn program<'a>(alloc: Global) -> Result<Command<'a>, AllocError>
+    ensures { IfOk result (λ c. app_of c ≡ program_app) }
+{
+    Command::new(alloc, "x509check")
+        .about("Looks at certificates and at what says that they are revoked")
+        .subcommand_required(true)
+        .subcommand(tree(alloc)?)
+}

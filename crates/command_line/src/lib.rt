@@ -1,0 +1,10 @@
+//! The command line of `x509check`.
+#![tactic(auto)]
+
+mod app;
+mod line;
+
+pub use line::{Line, command_of};
+
+#[cfg(test)]
+mod tests;

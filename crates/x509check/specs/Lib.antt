@@ -1,0 +1,4 @@
+pub mod Printed
+pub mod Unwritten
+pub mod Report
+pub mod Outcome
