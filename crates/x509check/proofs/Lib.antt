@@ -1,3 +1,3 @@
 pub mod Appending
 pub mod Pieces
-pub mod Sizes
+pub mod Shown
