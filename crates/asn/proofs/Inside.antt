@@ -38,6 +38,6 @@ body_shorter tlv =
 pub body_bounded : (tlv : Tlv) → length tlv.body.now < contents_limit
 body_bounded tlv =
     ∥∥₁_elim tlv.encoded (hlevel props) (λ b.
-        let p = parts_of b.1 b.0 tlv.whole.now b.2 in
-        let f = front_of b.0 tlv.whole.now tlv.whole.now [] p.0 p.1 (sym (append-nil tlv.whole.now)) p.2 in
-        rw (body_of tlv, f.contents_is) p.2.bounded)
+    let p = parts_of b.1 b.0 tlv.whole.now b.2 in
+    let f = front_of b.0 tlv.whole.now tlv.whole.now [] p.0 p.1 (sym (append-nil tlv.whole.now)) p.2 in
+    rw (body_of tlv, f.contents_is) p.2.bounded)

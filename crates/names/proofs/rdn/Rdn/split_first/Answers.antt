@@ -17,8 +17,8 @@ invariant_of-result c = record {
 pub unreachable-requires : goal.unreachable-requires
 unreachable-requires c =
     ∥∥₁_elim c.args.self.now.read (hlevel props) (λ are.
-        no_fault (part c.in_ok-attribute.attribute) c.in-Err.field-0 c.in-Err.ensures
-        (first_attribute (left c.args.self.now.attributes) (left c.next.new.self) (part c.in_ok-attribute.attribute) c.in_ok-attribute.ensures.step are).0)
+    no_fault (part c.in_ok-attribute.attribute) c.in-Err.field-0 c.in-Err.ensures
+    (first_attribute (left c.args.self.now.attributes) (left c.next.new.self) (part c.in_ok-attribute.attribute) c.in_ok-attribute.ensures.step are).0)
 
 pub returns : goal.returns
 unfolding entries_of entry_at

@@ -27,10 +27,10 @@ invariant_of-result-in-Some c = record {
 pub unreachable-requires : goal.unreachable-requires
 unreachable-requires c =
     ∥∥₁_elim c.args.self.now.read (hlevel props) (λ are.
-        let f = first_rdn (left c.args.self.now.rdns) (left c.next.new.self) (part c.in_ok-rdn.rdn) c.in_ok-rdn.ensures.step are in
-        let form : is_constructed c.in_ok-rdn.rdn.tag ≡ true = ap is_constructed c.in_ok-rdn.rdn.tag_is ∙ f.0.0 in
-        let wrong : false ≡ true = c.in-None.ensures.constructed.1 form in
-        cc)
+    let f = first_rdn (left c.args.self.now.rdns) (left c.next.new.self) (part c.in_ok-rdn.rdn) c.in_ok-rdn.ensures.step are in
+    let form : is_constructed c.in_ok-rdn.rdn.tag ≡ true = ap is_constructed c.in_ok-rdn.rdn.tag_is ∙ f.0.0 in
+    let wrong : false ≡ true = c.in-None.ensures.constructed.1 form in
+    cc)
 
 pub returns : goal.returns
 unfolding sequence_of entries_of map_at
