@@ -7,7 +7,9 @@ use Rattle.der.specs.declared.fault.Rule.{Rule}
 use Rattle.der.specs.declared.fault.Fault.TheVariants.{Refused}
 use Rattle.der.specs.Laws.{AreOctets, Decision}
 use Rattle.der.proofs.Laws.{decide, never_both, one_fault, are_octets}
-use Rattle.asn.specs.Judgement.{answer_of, judgement_of, judgement}
+use Rattle.asn.specs.Part.{IsWhole, contents}
+use Rattle.asn.specs.Place.{Place, body, inside}
+use Rattle.asn.specs.Judgement.{answer_of, judgement_of, judgement, placed, nested}
 
 answers_ok : (text : List ℕ) (d : Decision text) (v : Value) → Encodes text v → answer_of text d ≡ Ok tt
 answers_ok text (inl w) v encodes = refl
@@ -34,3 +36,26 @@ judgement_ok text v encodes = ok_of text v (are_octets text) encodes
 pub judgement_err : (text : List ℕ) (rule : Rule) (at : ℕ) → AreOctets text → IsFirstFault text (Refused rule at) → judgement text ≡ Err (rule, at)
 unfolding judgement
 judgement_err text rule at fits first = err_of text rule at (are_octets text) fits first
+
+-- the contents of a value are the encoding of a value of their own
+answers_value : (text : List ℕ) (d : Decision text) (u : Unit {0}) → answer_of text d ≡ Ok u → IsWhole text
+answers_value text (inl value) u e = value
+answers_value text (inr (rule, at, first)) u e = absurd cc
+
+value_of_judgement : (text : List ℕ) (d : AreOctets text ⊎ (AreOctets text → ⊥)) (u : Unit {0}) → AreOctets text → judgement_of text d ≡ Ok u → IsWhole text
+value_of_judgement text (inl octets) u fits e = answers_value text (decide text octets) u e
+value_of_judgement text (inr none) u fits e = absurd (none fits)
+
+placed_ok : (r : Result (Unit {0}) (Rule × ℕ)) (place inner : Place) → placed r place ≡ Ok inner → (u : Unit {0}) × (r ≡ Ok u) × (inner ≡ place)
+placed_ok (Ok u) place inner e = (u, refl, cc)
+placed_ok (Err fault) place inner e = absurd cc
+
+pub nested_ok : (value inner : Place) → AreOctets (body value) → nested value ≡ Ok inner → (inner ≡ inside value) × IsWhole (body value)
+unfolding nested judgement inside contents
+nested_ok value inner fits e =
+    let p = placed_ok (judgement (inside value).octets) (inside value) inner e in
+    (p.2, value_of_judgement (body value) (are_octets (body value)) p.0 fits p.1)
+
+pub nested_again : (value : Place) → IsWhole (body value) → nested value ≡ Ok (inside value)
+unfolding nested inside contents
+nested_again value (inner, encodes) = ap (λ (r : Result (Unit {0}) (Rule × ℕ)). placed r (inside value)) (judgement_ok (body value) inner encodes)

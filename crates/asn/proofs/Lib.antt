@@ -11,6 +11,9 @@ mod MemberLemmas
 mod PartLemmas
 mod PlaceSizes
 mod Walks
+mod TimeWalks
+mod Layouts
 mod IntegerLemmas
 mod TimeLemmas
+mod TimeReading
 pub mod Laws

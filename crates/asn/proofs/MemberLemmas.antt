@@ -1,13 +1,13 @@
 -- The members of a value, as places, are the encodings of the values inside, one for one.
-use Rattle.std.proofs.Common.{◌≡◌, ℕ, ◌+◌, ◌<◌, ◌≤◌, List, [], ◌∷◌, ◌++◌, length, drop, take, refl, sym, ap, ◌∙◌, arith, true, false, subst}
-use Rattle.std.proofs.lemmas.List.{append-nil, take_at, length-append, length-drop, length-take-le}
+use Rattle.std.proofs.Common.{◌≡◌, ℕ, ◌+◌, ◌<◌, ◌≤◌, List, [], ◌∷◌, ◌++◌, length, drop, refl, sym, ap, ◌∙◌, arith, true, false, subst}
+use Rattle.std.proofs.lemmas.List.{append-nil, take_at, length-drop, length-take-le}
 use Rattle.der.specs.Value.{Value, Values, primitive, constructed, none, more}
 use Rattle.der.specs.Length.{header_len, contents_len, contents_of, end_of}
 use Rattle.der.specs.Encoding.{EncodesAt, EncodesAllAt}
-use Rattle.der.proofs.Laws.{parts_of, front_of, read_front, encoded_long, two_octets}
+use Rattle.der.proofs.Laws.{parts_of, front_of, read_front, encoded_long}
 use Rattle.asn.specs.Part.{contents}
-use Rattle.asn.specs.Place.{Place, tag, body, inside, ends, front, behind, values}
-use Rattle.asn.specs.Members.{Members, members, members_at}
+use Rattle.asn.specs.Place.{Place, inside, ends, front, behind, values}
+use Rattle.asn.specs.Members.{members_at}
 use Rattle.asn.specs.Layout.{AreMembersAt, Holds}
 use Rattle.asn.proofs.PlaceLemmas.{values_none, values_more}
 

@@ -1,8 +1,8 @@
 -- The members of a part of a source are parts of the source.
-use Rattle.std.proofs.Common.{◌≡◌, ℕ, ◌+◌, ◌≤◌, List, [], ◌∷◌, ◌++◌, length, take, drop, refl, sym, ap, ◌∙◌, arith, append_assoc, subst}
+use Rattle.std.proofs.Common.{◌≡◌, ℕ, ◌+◌, List, [], ◌∷◌, ◌++◌, length, take, drop, sym, ap, ◌∙◌, arith, append_assoc, subst}
 use Rattle.std.proofs.lemmas.List.{append-nil, length-append, length-drop, length-take-le, take-append-drop, take_all}
-use Rattle.der.specs.Value.{Value, Values, primitive, constructed, none, more}
-use Rattle.der.specs.Length.{header_len, contents_len, contents_of, end_of}
+use Rattle.der.specs.Value.{Value, Values, constructed, none, more}
+use Rattle.der.specs.Length.{header_len, contents_len, contents_of}
 use Rattle.der.specs.Encoding.{EncodesAt, EncodesAllAt}
 use Rattle.der.proofs.Laws.{parts_of, front_of, read_front, encoded_long}
 use Rattle.asn.specs.Part.{IsPartOf}

@@ -1,8 +1,8 @@
 -- The octets of an encodable value are its encoding, and no others are.
-use Rattle.std.proofs.Common.{◌≡◌, ℕ, suc, ◌+◌, ◌<◌, List, [], ◌++◌, length, refl, sym, ap, ◌∙◌, arith}
+use Rattle.std.proofs.Common.{◌≡◌, ℕ, ◌+◌, List, ◌++◌, length, refl, ap, ◌∙◌, arith}
 use Rattle.std.proofs.lemmas.List.{length-append}
 use Rattle.der.specs.Value.{Value, primitive, constructed, Values, none, more}
-use Rattle.der.specs.Length.{contents_limit, length_octets}
+use Rattle.der.specs.Length.{length_octets}
 use Rattle.der.specs.Encoding.{encoding_of, EncodesAt, EncodesAllAt}
 use Rattle.asn.specs.Size.{size_around, size_of, size_of_all, octets_of, octets_of_all, IsEncodableAt, AreEncodableAt}
 

@@ -1,6 +1,6 @@
 -- The content of an INTEGER or an ENUMERATED (X.690 8.3 and 8.4), and its value.
 use Rattle.der.specs.Contents.{IsInteger}
-use Rattle.std.specs.Prelude.{◌≡◌, ◌<◌, ◌≤◌, ◌+◌, ◌*◌, ◌/◌, ◌%◌, ◌^◌, ℕ, List, [], ◌∷◌, length, slice_index, ℤ, pos, ◌-ℤ◌}
+use Rattle.std.specs.Prelude.{◌≡◌, ◌<◌, ◌+◌, ◌*◌, ◌/◌, ◌%◌, ◌^◌, ℕ, List, [], ◌∷◌, length, slice_index, ℤ, pos, ◌-ℤ◌}
 
 -- the number that octets spell in binary, with the most significant first
 unfoldable pub binary_value : List ℕ → ℕ

@@ -1,5 +1,5 @@
 -- Contents that are DER of their own: the value inside, or the first fault.
-use Rattle.std.specs.Prelude.{◌⊎◌, ◌≡◌, ℕ, ◌+◌, List, Result, Ok, Err}
+use Rattle.std.specs.Prelude.{◌⊎◌, ℕ, ◌+◌, List, Result, Ok, Err}
 use Rattle.std.proofs.Common.{inl, inr}
 use Rattle.der.specs.declared.fault.Rule.{Rule}
 use Rattle.der.specs.Laws.{AreOctets, Decision}

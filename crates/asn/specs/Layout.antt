@@ -29,6 +29,27 @@ Holds depth (constructed identifier values) place =
 abbrev pub PlacesHoldValues : Type 0
 PlacesHoldValues = (depth : ℕ) (value : Value) (place : Place) → EncodesAt depth place.octets value → Holds depth value place
 
+-- The same for laws of layouts, which look at no depth and no offset: the place holds the encoding of the value,
+pub record IsEncodingOf (value : Value) (place : Place) : Type 0 where
+  pub depth : ℕ
+  pub encodes : EncodesAt depth place.octets value
+
+-- and these places hold those of the values, one for one
+abbrev pub HoldEach : Values → List Place → Type 0
+HoldEach none [] = Unit {0}
+HoldEach none (place ∷ places) = ⊥
+HoldEach (more value values) [] = ⊥
+HoldEach (more value values) (place ∷ places) = IsEncodingOf value place × HoldEach values places
+
+pub record AreEncodingsOf (values : Values) (places : List Place) : Type 0 where
+  pub each : HoldEach values places
+
+-- at most one value
+abbrev pub AtMostOneValue : Values → Type 0
+AtMostOneValue none = Unit {0}
+AtMostOneValue (more value none) = Unit {0}
+AtMostOneValue (more value (more other values)) = ⊥
+
 -- the places hold parts of the source, at their offsets
 abbrev pub AreParts : List ℕ → List Place → Type 0
 AreParts source [] = Unit {0}

@@ -45,3 +45,9 @@ none_in (value ∷ values) = false
 
 unfoldable pub none_left : Members → Bool
 none_left left = none_in left.values
+
+-- at most one value
+abbrev pub AtMostOne : List Place → Type 0
+AtMostOne [] = Unit {0}
+AtMostOne (value ∷ []) = Unit {0}
+AtMostOne (value ∷ other ∷ values) = ⊥

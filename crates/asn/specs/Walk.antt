@@ -1,7 +1,10 @@
 -- Reading values from left to right, with the first fault that is met and its place.
-use Rattle.std.specs.Prelude.{◌≡◌, ◌==◌, ℕ, Bool, List, [], ◌∷◌, Option, Some, None, Result, Ok, Err, if◌then◌else◌}
-use Rattle.asn.specs.Place.{Place, tag}
+use Rattle.std.specs.Prelude.{◌≡◌, ◌==◌, ℕ, ℤ, Bool, List, [], ◌∷◌, Option, Some, None, Result, Ok, Err, if◌then◌else◌}
+use Rattle.std.specs.List.{list_any}
+use Rattle.asn.specs.Place.{Place, tag, body}
 use Rattle.asn.specs.Members.{Members, none_left, next_at}
+use Rattle.asn.specs.Time.{seconds_in}
+use Rattle.asn.specs.declared.time.TheConstants.{UTC_TIME, GENERALIZED_TIME}
 
 infixl 10 ◌>>=◌
 abbrev pub ◌>>=◌ : {A B E : Type 0} → Result A E → (A → Result B E) → Result B E
@@ -65,7 +68,38 @@ ended fault left = if none_left left then Ok tt else Err (fault, next_at left)
 unfoldable pub some : {F : Type 0} → F → Members → Result (Unit {0}) (F × ℕ)
 some fault left = if none_left left then Err (fault, next_at left) else Ok tt
 
+-- the next value, which has one of these identifiers
+abbrev pub is_one_of : List ℕ → ℕ → Bool
+is_one_of identifiers identifier = list_any (λ one. one == identifier) identifiers
+
+unfoldable pub choice : {F : Type 0} → List ℕ → F → Members → Result (Place × Members) (F × ℕ)
+choice identifiers fault left = do
+  value ← next_or fault left
+  done ← check_that (is_one_of identifiers (tag value.0)) fault value.0.at
+  Ok value
+
+-- what is there, or this is the fault at this place
+abbrev pub or_fault : {A F : Type 0} → Option A → F → ℕ → Result A (F × ℕ)
+or_fault None fault at = Err (fault, at)
+or_fault (Some x) fault at = Ok x
+
+-- the seconds of the time that the value is
+unfoldable pub seconds : {F : Type 0} → F → Place → Result ℤ (F × ℕ)
+seconds fault value = or_fault (seconds_in (tag value) (body value)) fault value.at
+
+-- Time ::= CHOICE { utcTime UTCTime, generalTime GeneralizedTime } (RFC 5280, 4.1): the next value is one, and a time
+unfoldable pub time : {F : Type 0} → F → F → Members → Result (ℤ × Members) (F × ℕ)
+time layout fault left = do
+  value ← choice (UTC_TIME ∷ GENERALIZED_TIME ∷ []) layout left
+  moment ← seconds fault value.0
+  Ok (moment, value.1)
+
 -- a walk over each of the values in order, which hands on what the earlier ones gave
 abbrev pub each : {A E : Type 0} → (A → Place → Result A E) → A → List Place → Result A E
 each step so_far [] = Ok so_far
 each step so_far (value ∷ values) = step so_far value >>= λ next. each step next values
+
+-- steps from one to the other, one for each of the values in order
+abbrev pub Leads : {A : Type 0} → (A → Place → A → Type 0) → A → List Place → A → Type 0
+Leads Step from [] to = from ≡ to
+Leads {A = A} Step from (value ∷ values) to = (next : A) × Step from value next × Leads Step next values to

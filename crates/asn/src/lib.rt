@@ -19,7 +19,7 @@ pub use encoding::{EncodeFault, encode, size_laws};
 pub use layout::member_laws;
 pub use number::Number20;
 pub use oid::Oid;
-pub use time::{GENERALIZED_TIME, UTC_TIME, seconds_of_time, times_are_unique};
+pub use time::{GENERALIZED_TIME, UTC_TIME, seconds_of_time, time_laws};
 pub use tlv::{Cursor, Tlv};
 pub use tree::{Tree, parse_tree};
 

@@ -61,6 +61,25 @@ fn walks_a_layout(rt: HostRuntime) -> Result<(), Fail> {
     Ok(())
 }
 
+/// SEQUENCE { UTCTime, GeneralizedTime, NULL }; the seconds are those that `date -u` gives.
+#[test]
+fn walks_times(rt: HostRuntime) -> Result<(), Fail> {
+    let octets = b"\x30\x22\x17\x0D250101000000Z\x18\x0F20260101000000Z\x05\x00";
+    let mut members = whole(octets)?.inside().ok_or("constructed")?;
+    let mut again = members;
+    assert!(rt; members.time('x', 'y') == Ok(1_735_689_600));
+    assert!(rt; members.time('x', 'y') == Ok(1_767_225_600));
+    assert!(rt; members.time('x', 'y') == Err(('x', 34)));
+    assert!(rt; members.time('x', 'y') == Err(('x', 36)));
+    let first = again.choice(&[0x02, 0x17], 'z').ok().ok_or("a time")?;
+    assert!(rt; first.seconds('z') == Ok(1_735_689_600));
+    assert!(rt; again.choice(&[0x02, 0x17], 'z').err() == Some(('z', 17)));
+    let last = again.next().ok_or("a NULL")?;
+    assert!(rt; last.seconds('z') == Err(('z', 34)));
+    assert!(rt; again.choice(&[0x05], 'z').err() == Some(('z', 36)));
+    Ok(())
+}
+
 #[test]
 fn reads_nested_contents(rt: HostRuntime) -> Result<(), Fail> {
     let octets = [

@@ -2,7 +2,7 @@
 
 ghost use Rattle.std.specs.Prelude.{◌≡◌, ◌<◌, ◌+◌, ◌*◌, ◌/◌, ◌%◌, ℕ, ℤ, length, slice_index};
 ghost use Rattle.std.specs.Prelude.{pos, ◌+ℤ◌, ◌*ℤ◌, IfSome, IfNone};
-ghost use Rattle.asn.specs.Time.{IsTwoDigits, IsTimeInYear, IsTime, TimesAreUnique};
+ghost use Rattle.asn.specs.Time.{IsTwoDigits, IsTimeInYear, IsTime, seconds_in, TimesAreUnique, TimeIsExact};
 ghost use Rattle.jiff_core.specs.Calendar.{IsCivilDate, IsEpochDay, days_from_civil};
 
 use jiff::civil::Date;
@@ -105,6 +105,7 @@ fn seconds_of_generalized_time(text: &[u8]) -> Option<i64>
 pub fn seconds_of_time(tag: u8, octets: &[u8]) -> Option<i64>
     ensures some { IfSome result (IsTime tag octets.now) }
     ensures none { IfNone result ((seconds : ℤ) → IsTime tag octets.now seconds → ⊥) }
+    ensures value { result ≡ seconds_in tag octets.now }
 {
     match tag {
         UTC_TIME => seconds_of_utc_time(octets),
@@ -113,9 +114,10 @@ pub fn seconds_of_time(tag: u8, octets: &[u8]) -> Option<i64>
     }
 }
 
-/// A law of the definitions: a content under a tag has at most one count of seconds.
-pub fn times_are_unique()
-    ensures { TimesAreUnique }
+/// Laws of the definitions: a content under a tag has at most one count of seconds, and `seconds_in` gives it.
+pub fn time_laws()
+    ensures unique { TimesAreUnique }
+    ensures exact { TimeIsExact }
 {}
 
 #[cfg(test)]

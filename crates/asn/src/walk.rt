@@ -5,8 +5,9 @@ ghost use Rattle.der.specs.Identifier.{is_constructed};
 ghost use Rattle.der.specs.Length.{contents_limit};
 ghost use Rattle.asn.specs.Place.{part, remaining};
 ghost use Rattle.asn.specs.Members.{left, members, begins};
-ghost use Rattle.asn.specs.Walk.{Gives, seen, is_a, required, optional, any, next_or, ended, some};
+ghost use Rattle.asn.specs.Walk.{Gives, seen, is_a, required, choice, optional, any, next_or, ended, some, seconds, time};
 
+use crate::time::{GENERALIZED_TIME, UTC_TIME, seconds_of_time};
 use crate::tlv::{Cursor, Tlv};
 
 impl<'a> Cursor<'a> {
@@ -32,6 +33,30 @@ impl<'a> Cursor<'a> {
             Some(tlv) if tlv.tag == tag => Ok(tlv),
             _ => Err((fault, at)),
         }
+    }
+
+    /// Takes the next value, which must have one of these identifier octets; else the fault, at the next value, or at the
+    /// end of the enclosing value where none is left.
+    #[tactic(auto, unfolding(crate::specs::Walk::choice, crate::specs::Walk::check_that))]
+    pub fn choice<F: Copy>(&mut self, tags: &[u8], fault: F) -> Result<Tlv<'a>, (F, usize)>
+        ensures { Gives (λ tlv. (part tlv, left self.new)) result (choice tags.now fault (left self.old)) }
+    {
+        let value = self.next_or(fault)?;
+        if tags.contains(&value.tag) {
+            Ok(value)
+        } else {
+            Err((fault, value.at))
+        }
+    }
+
+    /// Takes the next value, which must be a UTCTime or a GeneralizedTime, and gives its seconds (as `seconds_of_time`):
+    /// the fault `layout`, as of `choice`, where it is neither; else `fault`, at the value, where it is no time.
+    #[tactic(auto, unfolding(crate::specs::Walk::time))]
+    pub fn time<F: Copy>(&mut self, layout: F, fault: F) -> Result<i64, (F, usize)>
+        ensures { Gives (λ moment. (moment, left self.new)) result (time layout fault (left self.old)) }
+    {
+        let value = self.choice(&[UTC_TIME, GENERALIZED_TIME], layout)?;
+        value.seconds(fault)
     }
 
     /// Takes the next value where it has this identifier octet; else the cursor stays as it was.
@@ -98,6 +123,17 @@ impl<'a> Tlv<'a> {
             Ok(())
         } else {
             Err((fault, self.at))
+        }
+    }
+
+    /// The seconds of the time that this value is (as `seconds_of_time`); the fault, at this value, where it is none.
+    #[tactic(auto, unfolding(crate::specs::Walk::seconds))]
+    pub fn seconds<F: Copy>(&self, fault: F) -> Result<i64, (F, usize)>
+        ensures { Gives (λ moment. moment) result (seconds fault (part self.now)) }
+    {
+        match seconds_of_time(self.tag, self.body) {
+            Some(moment) => Ok(moment),
+            None => Err((fault, self.at)),
         }
     }
 

@@ -4,7 +4,7 @@ use Rattle.asn.specs.Identifier.{is_constructed}
 use Rattle.asn.specs.Place.{Place, tag, body}
 use Rattle.asn.specs.Members.{Members, members, with_first}
 use Rattle.asn.specs.Walk.{◌>>=◌, each, is_a, some, check_that}
-use Rattle.asn.proofs.Laws.{bind_ok, is_a_ok, each_ok}
+use Rattle.asn.proofs.Laws.{bind_ok, is_a_ok, each_next}
 use Rattle.names.specs.declared.fault.NameFault.{NameFault}
 use Rattle.names.specs.declared.fault.NameFault.TheVariants.{NameLayout, Text}
 use Rattle.names.specs.NameLayout.{AttributePlaces, attribute_members, attribute_order, is_string, attribute, attributes, rdn, one_more_rdn, name}
@@ -19,7 +19,7 @@ attribute_read all before place x e =
 attributes_read : (all : List Place) (places : List Place) (before : List ℕ) (x : List ℕ) → each (attribute all) before places ≡ Ok x → AreAttributes places
 attributes_read all [] before x e = tt
 attributes_read all (p ∷ ps) before x e =
-    let s = each_ok (attribute all) before p ps x e in
+    let s = each_next (attribute all) before p ps x e in
     (attribute_read all before p s.0 s.1, attributes_read all ps s.0 x s.2)
 
 rdn_read : (place : Place) (u : Unit {0}) → rdn place ≡ Ok u → IsRdn place
@@ -33,7 +33,7 @@ rdn_read place u e =
 rdns_each : (places : List Place) (before u : Unit {0}) → each one_more_rdn before places ≡ Ok u → AreRdns places
 rdns_each [] before u e = tt
 rdns_each (p ∷ ps) before u e =
-    let s = each_ok one_more_rdn before p ps u e in
+    let s = each_next one_more_rdn before p ps u e in
     (rdn_read p s.0 s.1, rdns_each ps s.0 u s.2)
 
 pub rdns_read : (place : Place) (u : Unit {0}) → name place ≡ Ok u → AreRdns (members place).values

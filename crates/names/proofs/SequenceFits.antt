@@ -37,7 +37,7 @@ parts_short place parts e =
     let made : AttributePlaces = record { kind = k.0.0; value = v.0.0 } in
     let same : made ≡ parts = ok_is {E = NameFault × ℕ} made parts d.2 in
     let takes = required_ok 6 NameLayout (members place) k.0 k.1 in
-    let h = heads (length place.octets) ((members place).values) k.0.1.values v.0.1.values k.0.0 v.0.0 takes.values (next_or_ok NameLayout k.0.1 v.0 v.1) (members_short place) in
+    let h = heads (length place.octets) ((members place).values) k.0.1.values v.0.1.values k.0.0 v.0.0 takes.values (next_or_ok NameLayout k.0.1 v.0 v.1).values (members_short place) in
     (rw (← same) h.0, rw (← same) h.1)
 
 entry_fits : (parts : AttributePlaces) → length parts.kind.octets < 2 ^ 31 → length parts.value.octets < 2 ^ 31 → EntryFits (entry_of_parts parts)

@@ -35,7 +35,7 @@ fn counts_seconds(rt: HostRuntime) {
     for (at, (tag, text, seconds)) in times.iter().enumerate() {
         assert_eq!(rt; seconds_of_time(*tag, text), Some(*seconds), "at row {at}");
     }
-    times_are_unique();
+    time_laws();
 }
 
 #[test]

@@ -1,9 +1,8 @@
-use Rattle.std.proofs.Common.{◌≡◌, ℕ, List, ◌∷◌, ◌++◌, Result, Ok, Err, OnOk, refl, sym, ap, ◌∙◌, append_assoc, length}
+use Rattle.std.proofs.Common.{◌≡◌, ℕ, List, ◌∷◌, ◌++◌, Result, Ok, Err, OnOk, sym, ap, ◌∙◌, append_assoc, length}
 use Rattle.std.specs.declared.alloc.AllocError.{AllocError}
 use Rattle.der.specs.Value.{Values, constructed}
 use Rattle.der.specs.Length.{length_octets}
 use Rattle.asn.specs.Size.{octets_of, octets_of_all, size_of_all}
-use Rattle.asn.specs.declared.tree.Tree.{Tree}
 use Rattle.asn.specs.Tree.{value_of, values_of}
 use Rattle.asn.proofs.Sizes.{length-octets_of_all}
 use Rattle.asn.proofs.TreeValues.{value_of-Constructed}

@@ -1,7 +1,6 @@
 use Rattle.std.proofs.Common.{◌≡◌, ℕ, List, Option, Some, None, IfNone, sym, ap, ◌∙◌}
 use Rattle.der.specs.Value.{Value, primitive}
 use Rattle.asn.specs.Size.{IsEncodableAt}
-use Rattle.asn.specs.declared.tree.Tree.{Tree}
 use Rattle.asn.specs.Tree.{value_of}
 use Rattle.asn.proofs.TreeValues.{value_of-Primitive}
 use Rattle.asn.proofs.encoding.+size.Goals as goal

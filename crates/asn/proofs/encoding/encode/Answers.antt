@@ -1,4 +1,4 @@
-use Rattle.std.proofs.Common.{◌≡◌, refl, sym, ◌∙◌, List, ℕ}
+use Rattle.std.proofs.Common.{refl, sym, ◌∙◌}
 use Rattle.der.specs.Encoding.{Encodes}
 use Rattle.asn.specs.Size.{octets_of}
 use Rattle.asn.specs.Tree.{value_of}

@@ -1,7 +1,6 @@
-use Rattle.std.proofs.Common.{◌≡◌, ℕ, Ok, Err, Result, sym, ap, ◌∙◌, arith}
-use Rattle.std.proofs.Math.Logic.{∥∥₁_map}
+use Rattle.std.proofs.Common.{ℕ, Ok, Result, sym, ap, ◌∙◌, arith}
 use Rattle.der.specs.declared.fault.Rule.{Rule}
-use Rattle.asn.specs.Place.{Place, inside}
+use Rattle.asn.specs.Place.{Place}
 use Rattle.asn.specs.Judgement.{judgement, placed, nested}
 use Rattle.asn.proofs.Inside.{inside_is, contents_place, body_shorter}
 use Rattle.asn.proofs.tlv.Tlv.nested.Goals as goal
