@@ -1,6 +1,7 @@
 -- The laws that other crates may cite.
 pub use Rattle.asn.proofs.Walks.{bind_ok, ok_is, check_ok, check_again, is_a_ok, is_a_again, Takes, required_ok, required_again, TakesNext, next_or_ok, next_or_again, TakesOneOf, choice_ok, choice_again, ended_ok, ended_again, any_ok, any_again, TakesOptional, optional_is, optional_there, optional_absent, some_ok, some_again, each_ok, each_again, each_none, each_refused, each_more, each_next}
-pub use Rattle.asn.proofs.TimeWalks.{seconds_ok, seconds_are, TakesTime, time_ok, time_again, time_tag}
+pub use Rattle.asn.proofs.TimeWalks.{seconds_ok, seconds_are, TakesTime, time_ok, time_again, time_tag, as_time, of_time}
+pub use Rattle.asn.proofs.FlagWalks.{TakesDefaultFalse, default_false_ok, default_false_again, as_default_false, of_default_false}
 pub use Rattle.asn.proofs.TimeReading.{time_of, seconds_again}
 pub use Rattle.asn.proofs.Layouts.{of_primitive, of_constructed, as_primitive, as_constructed, of_more, as_more, of_none, as_none, of_at_most_one, as_at_most_one}
 pub use Rattle.asn.proofs.Judgements.{nested_ok, nested_again}

@@ -12,6 +12,7 @@ mod PartLemmas
 mod PlaceSizes
 mod Walks
 mod TimeWalks
+mod FlagWalks
 mod Layouts
 mod IntegerLemmas
 mod TimeLemmas

@@ -1,12 +1,15 @@
 -- What the steps for times say of the values, in both directions: for laws of layouts.
 use Rattle.std.proofs.Common.{◌≡◌, ◌⊎◌, ℕ, ℤ, true, false, List, [], ◌∷◌, Option, Some, None, Ok, refl, ap, subst, inl, inr}
 use Rattle.der.specs.Identifier.{is_constructed}
+use Rattle.der.specs.Value.{Value}
 use Rattle.asn.specs.Place.{Place, tag, body}
 use Rattle.asn.specs.Members.{Members}
 use Rattle.asn.specs.Time.{IsTime, seconds_in}
 use Rattle.asn.specs.Walk.{◌>>=◌, choice, is_one_of, or_fault, seconds, time}
 use Rattle.asn.specs.declared.time.TheConstants.{UTC_TIME, GENERALIZED_TIME}
 use Rattle.asn.proofs.Walks.{bind_ok, ok_is, choice_ok, choice_again, TakesNext}
+use Rattle.asn.specs.Layout.{IsEncodingOf, HasTimeLayout}
+use Rattle.asn.proofs.Layouts.{as_primitive, of_primitive}
 use Rattle.asn.proofs.TimeReading.{time_of, seconds_again}
 
 some_is : {A F : Type 0} (o : Option A) (fault : F) (at : ℕ) (x : A) → or_fault o fault at ≡ Ok x → o ≡ Some x
@@ -46,3 +49,15 @@ time_tag identifier text moment is = of_spelling identifier _ _ is.spelled
 pub time_again : {F : Type 0} (layout fault : F) (left : Members) (value : Place) (others : List Place) (moment : ℤ) → left.values ≡ value ∷ others → IsTime (tag value) (body value) moment → time layout fault left ≡ Ok (moment, record { values = others; end = left.end })
 unfolding time
 time_again layout fault left value others moment e is = rw (choice_again (UTC_TIME ∷ GENERALIZED_TIME ∷ []) layout left value others e (time_tag (tag value) (body value) moment is).0, seconds_are fault value moment is) refl
+
+-- a place that holds a value shows a time exactly where the value is one
+pub as_time : {value : Value} {place : Place} {moment : ℤ} → IsEncodingOf value place → IsTime (tag place) (body place) moment → HasTimeLayout value moment
+as_time {place = place} {moment = moment} encoded is = record {
+  identifier = tag place;
+  contents = body place;
+  form = as_primitive encoded refl (time_tag (tag place) (body place) moment is).1;
+  is_time = is;
+}
+
+pub of_time : {value : Value} {place : Place} {moment : ℤ} → IsEncodingOf value place → HasTimeLayout value moment → IsTime (tag place) (body place) moment
+of_time encoded has = let shown = of_primitive encoded has.form in rw (shown.0, shown.1) has.is_time

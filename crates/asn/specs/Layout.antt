@@ -1,5 +1,5 @@
 -- How the members of a value, as places, are tied to the value that its octets are the encoding of.
-use Rattle.std.specs.Prelude.{◌≡◌, ℕ, ◌+◌, List, [], ◌∷◌, length, true, false}
+use Rattle.std.specs.Prelude.{◌≡◌, ℕ, ℤ, ◌+◌, Bool, List, [], ◌∷◌, length, true, false}
 use Rattle.der.specs.Value.{Value, Values, primitive, constructed, none, more}
 use Rattle.der.specs.Identifier.{is_constructed}
 use Rattle.der.specs.Length.{header_len}
@@ -7,6 +7,7 @@ use Rattle.der.specs.Encoding.{EncodesAt}
 use Rattle.asn.specs.Part.{IsPartOf}
 use Rattle.asn.specs.Place.{Place, tag, body, inside}
 use Rattle.asn.specs.Members.{members}
+use Rattle.asn.specs.Time.{IsTime}
 
 -- each place holds the encoding of the value beside it, and the places follow one another from this offset on
 abbrev pub AreMembersAt : ℕ → ℕ → Values → List Place → Type 0
@@ -49,6 +50,23 @@ abbrev pub AtMostOneValue : Values → Type 0
 AtMostOneValue none = Unit {0}
 AtMostOneValue (more value none) = Unit {0}
 AtMostOneValue (more value (more other values)) = ⊥
+
+-- BOOLEAN DEFAULT FALSE: nothing, or TRUE (X.690, 11.1, 11.5)
+abbrev pub IsDefaultFalse : List Place → Bool → Type 0
+IsDefaultFalse [] flag = flag ≡ false
+IsDefaultFalse (value ∷ []) flag = (tag value ≡ 0x01) × (body value ≡ 255 ∷ []) × (flag ≡ true)
+IsDefaultFalse (value ∷ other ∷ values) flag = ⊥
+
+abbrev pub with_default_false : Bool → Values → Values
+with_default_false false values = values
+with_default_false true values = more (primitive 0x01 (255 ∷ [])) values
+
+-- the value is the time of that many seconds from 1970-01-01T00:00:00Z
+pub record HasTimeLayout (value : Value) (seconds : ℤ) : Type 0 where
+  pub identifier : ℕ
+  pub contents : List ℕ
+  pub form : value ≡ primitive identifier contents
+  pub is_time : IsTime identifier contents seconds
 
 -- the places hold parts of the source, at their offsets
 abbrev pub AreParts : List ℕ → List Place → Type 0

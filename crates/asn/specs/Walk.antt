@@ -1,5 +1,5 @@
 -- Reading values from left to right, with the first fault that is met and its place.
-use Rattle.std.specs.Prelude.{◌≡◌, ◌==◌, ℕ, ℤ, Bool, List, [], ◌∷◌, Option, Some, None, Result, Ok, Err, if◌then◌else◌}
+use Rattle.std.specs.Prelude.{◌≡◌, ◌==◌, ℕ, ℤ, Bool, true, false, List, [], ◌∷◌, Option, Some, None, Result, Ok, Err, if◌then◌else◌}
 use Rattle.std.specs.List.{list_any}
 use Rattle.asn.specs.Place.{Place, tag, body}
 use Rattle.asn.specs.Members.{Members, none_left, next_at}
@@ -93,6 +93,19 @@ time layout fault left = do
   value ← choice (UTC_TIME ∷ GENERALIZED_TIME ∷ []) layout left
   moment ← seconds fault value.0
   Ok (moment, value.1)
+
+-- BOOLEAN DEFAULT FALSE: TRUE where it is there, since DER leaves the default out (X.690, 11.5)
+abbrev pub is_true : List ℕ → Bool
+is_true [] = false
+is_true (octet ∷ []) = octet == 255
+is_true (octet ∷ other ∷ octets) = false
+
+abbrev pub default_false_in : {F : Type 0} → F → Option Place → Members → Result (Bool × Members) (F × ℕ)
+default_false_in fault None left = Ok (false, left)
+default_false_in fault (Some flag) left = if is_true (body flag) then Ok (true, left) else Err (fault, flag.at)
+
+unfoldable pub default_false : {F : Type 0} → F → Members → Result (Bool × Members) (F × ℕ)
+default_false fault left = default_false_in fault (optional 0x01 left).0 (optional 0x01 left).1
 
 -- a walk over each of the values in order, which hands on what the earlier ones gave
 abbrev pub each : {A E : Type 0} → (A → Place → Result A E) → A → List Place → Result A E

@@ -80,6 +80,19 @@ fn walks_times(rt: HostRuntime) -> Result<(), Fail> {
     Ok(())
 }
 
+/// SEQUENCE { BOOLEAN TRUE, BOOLEAN FALSE, NULL }.
+#[test]
+fn walks_flags(rt: HostRuntime) -> Result<(), Fail> {
+    let octets = [0x30, 0x08, 0x01, 0x01, 0xFF, 0x01, 0x01, 0x00, 0x05, 0x00];
+    let mut members = whole(&octets)?.inside().ok_or("constructed")?;
+    assert!(rt; members.default_false('x') == Ok(true));
+    assert!(rt; members.default_false('x') == Err(('x', 5)));
+    assert!(rt; members.default_false('x') == Ok(false));
+    assert!(rt; is_value(members.next(), 0x05, &[], 8));
+    assert!(rt; members.default_false('x') == Ok(false));
+    Ok(())
+}
+
 #[test]
 fn reads_nested_contents(rt: HostRuntime) -> Result<(), Fail> {
     let octets = [

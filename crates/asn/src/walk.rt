@@ -5,7 +5,7 @@ ghost use Rattle.der.specs.Identifier.{is_constructed};
 ghost use Rattle.der.specs.Length.{contents_limit};
 ghost use Rattle.asn.specs.Place.{part, remaining};
 ghost use Rattle.asn.specs.Members.{left, members, begins};
-ghost use Rattle.asn.specs.Walk.{Gives, seen, is_a, required, choice, optional, any, next_or, ended, some, seconds, time};
+ghost use Rattle.asn.specs.Walk.{Gives, seen, is_a, required, choice, optional, any, next_or, ended, some, seconds, time, default_false};
 
 use crate::time::{GENERALIZED_TIME, UTC_TIME, seconds_of_time};
 use crate::tlv::{Cursor, Tlv};
@@ -66,6 +66,20 @@ impl<'a> Cursor<'a> {
         ensures tag { IfSome result (λ tlv. tlv.tag ≡ tag) }
     {
         if self.begins(tag) { self.next() } else { None }
+    }
+
+    /// Takes a BOOLEAN DEFAULT FALSE, which is TRUE where it is there (X.690, 11.5); else the fault, at the BOOLEAN.
+    #[tactic(auto, unfolding(crate::specs::Walk::default_false))]
+    pub fn default_false<F: Copy>(&mut self, fault: F) -> Result<bool, (F, usize)>
+        ensures { Gives (λ flag. (flag, left self.new)) result (default_false fault (left self.old)) }
+    {
+        match self.optional(0x01) {
+            None => Ok(false),
+            Some(flag) => match flag.body {
+                [0xFF] => Ok(true),
+                _ => Err((fault, flag.at)),
+            },
+        }
     }
 
     /// Takes the next value, of any kind, where there is one.

@@ -140,6 +140,16 @@ fn words_are_answered(rt: HostRuntime) {
     }
 }
 
+/// Holds whether an allocation is refused or not: `rt try --test --fail-alloc N` refuses the Nth.
+#[test]
+fn wants_memory_or_answers(rt: HostRuntime) {
+    // The test's own file may want memory too.
+    if let Ok(answer) = tree_of(&rt, "execution_memory.der", &[0x05, 0x00]) {
+        let is_answered = answer.status == 0 && answer.out.as_slice() == b"05 0\n".as_slice();
+        assert!(rt; is_answered || answer.status == 6, "{}", answer.status);
+    }
+}
+
 // A standard output that is full at once, or whose end cannot be written.
 #[derive(Drop)]
 struct Full {

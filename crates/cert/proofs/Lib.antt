@@ -1,0 +1,4 @@
+mod AlgorithmLaws
+mod ValidityLaws
+mod ExtensionLaws
+pub mod Laws

@@ -1,0 +1,12 @@
+pub mod Fault
+pub mod AlgorithmIdentifier
+pub mod Validity
+pub mod Extension
+pub use Rattle.asn.specs.Place
+pub use Rattle.asn.specs.Members
+pub use Rattle.asn.specs.Walk
+pub use Rattle.asn.specs.Layout
+pub use Rattle.asn.specs.Time
+pub use Rattle.asn.specs.Oid
+pub use Rattle.asn.specs.Value
+pub use Rattle.asn.specs.Encoding

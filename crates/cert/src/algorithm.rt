@@ -1,0 +1,34 @@
+//! Algorithm identifiers (RFC 5280, 4.1.1.2).
+
+ghost use Rattle.asn.specs.Place.{part};
+ghost use Rattle.asn.specs.Walk.{Gives};
+ghost use Rattle.cert.specs.AlgorithmIdentifier.{algorithm_identifier, seen_algorithm};
+
+use asn::{Oid, Tlv};
+
+/// AlgorithmIdentifier ::= SEQUENCE { algorithm OBJECT IDENTIFIER, parameters ANY DEFINED BY algorithm OPTIONAL }
+#[derive(Clone, Copy)]
+pub struct AlgorithmIdentifier<'a> {
+    /// The whole value, parameters and all.
+    pub whole: Tlv<'a>,
+    pub oid: Oid<'a>,
+}
+
+impl<'a> AlgorithmIdentifier<'a> {
+    /// The algorithm identifier that the value is; else the fault `layout`, at the value with a wrong identifier or left
+    /// over, or at the end of this one where the OBJECT IDENTIFIER is missing. The parameters are not looked at.
+    #[tactic(auto, unfolding(crate::specs::AlgorithmIdentifier::algorithm_identifier))]
+    pub fn read<F: Copy>(value: Tlv<'a>, layout: F) -> Result<AlgorithmIdentifier<'a>, (F, usize)>
+        ensures { Gives seen_algorithm result (algorithm_identifier layout (part value.entry)) }
+    {
+        value.is_a(0x30, layout)?;
+        let mut members = value.members();
+        let algorithm = members.required(0x06, layout)?;
+        members.any();
+        members.ended(layout)?;
+        Ok(AlgorithmIdentifier {
+            whole: value,
+            oid: Oid::new(algorithm.body),
+        })
+    }
+}

@@ -1,0 +1,93 @@
+//! Why octets are no certificate.
+
+ghost use Rattle.std.specs.Prelude.{◌≡◌};
+ghost use Rattle.cert.specs.Fault.{cert_rule_number, cert_rule_name};
+
+use asn::Rule;
+use thiserror::Error;
+
+/// What a certificate breaks.
+#[derive(Clone, Copy, Debug, PartialEq, Eq, Error)]
+pub enum CertRule {
+    /// The input, or the contents of an OCTET STRING that holds a value, are not DER.
+    #[error("not DER: {0}")]
+    Der(Rule),
+    /// A value with an identifier that the layout does not have there, a value that is missing, or one left over.
+    #[error("value that the layout does not have there")]
+    Layout,
+    /// A version that is not served, or a component that the version does not have (RFC 5280, 4.1.2.1, 4.1.2.8, 4.1.2.9).
+    #[error("version")]
+    Version,
+    /// A signatureAlgorithm other than that of the signed part (4.1.1.2).
+    #[error("algorithms that differ")]
+    AlgorithmsDiffer,
+    /// A serial number of no octets, or of more than 32.
+    #[error("serial number")]
+    Serial,
+    /// A time that is none (4.1.2.5).
+    #[error("time")]
+    Time,
+    /// An issuer with an empty name (4.1.2.4).
+    #[error("issuer without a name")]
+    EmptyIssuer,
+    /// An extension of the type of an earlier one (4.2).
+    #[error("extension repeated")]
+    ExtensionRepeated,
+    /// A value of an extension that has not the layout of its type (4.2.1).
+    #[error("value of an extension")]
+    ExtensionValue,
+    /// A subtree with a minimum or a maximum (4.2.1.10).
+    #[error("bounds of a subtree")]
+    SubtreeBounds,
+    /// A signature whose BIT STRING has unused bits.
+    #[error("unused bits in a signature")]
+    SignatureBits,
+    /// More names or subtrees than are served.
+    #[error("past a limit")]
+    Limit,
+}
+
+/// What is broken, with the offset of the value that breaks it in the text handed to `asn::whole`.
+pub type Refusal = (CertRule, usize);
+
+impl CertRule {
+    /// The number by which the product names the rule, from 21 to 32.
+    pub fn number(self) -> u8
+        ensures { result ≡ cert_rule_number self }
+    {
+        match self {
+            CertRule::Der(_) => 21,
+            CertRule::Layout => 22,
+            CertRule::Version => 23,
+            CertRule::AlgorithmsDiffer => 24,
+            CertRule::Serial => 25,
+            CertRule::Time => 26,
+            CertRule::EmptyIssuer => 27,
+            CertRule::ExtensionRepeated => 28,
+            CertRule::ExtensionValue => 29,
+            CertRule::SubtreeBounds => 30,
+            CertRule::SignatureBits => 31,
+            CertRule::Limit => 32,
+        }
+    }
+
+    /// The word that stands beside the number.
+    pub fn name(self) -> &'static str
+        ensures { result.now ≡ cert_rule_name self }
+    {
+        match self {
+            CertRule::Der(_) => "Der",
+            CertRule::Layout => "Layout",
+            CertRule::Version => "Version",
+            CertRule::AlgorithmsDiffer => "AlgorithmsDiffer",
+            CertRule::Serial => "Serial",
+            CertRule::Time => "Time",
+            CertRule::EmptyIssuer => "EmptyIssuer",
+            CertRule::ExtensionRepeated => "ExtensionRepeated",
+            CertRule::ExtensionValue => "ExtensionValue",
+            CertRule::SubtreeBounds => "SubtreeBounds",
+            CertRule::SignatureBits => "SignatureBits",
+            CertRule::Limit => "Limit",
+        }
+    }
+}

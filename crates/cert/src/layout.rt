@@ -1,0 +1,16 @@
+//! What the walks of the layouts find, in the words of the standard.
+
+ghost use Rattle.cert.specs.AlgorithmIdentifier.{AlgorithmIdentifierIsExact, AlgorithmIdentifierHasLayout};
+ghost use Rattle.cert.specs.Validity.{ValidityIsExact, ValidityHasLayout};
+ghost use Rattle.cert.specs.Extension.{ExtensionIsExact, ExtensionHasLayout};
+
+/// A place is read as a part of a certificate exactly where it is one, and the encoding of a value exactly where the value
+/// has the layout; the fields are the parts of these octets that the layout names.
+pub fn layout_laws()
+    ensures algorithm { AlgorithmIdentifierIsExact }
+    ensures algorithm_value { AlgorithmIdentifierHasLayout }
+    ensures validity { ValidityIsExact }
+    ensures validity_value { ValidityHasLayout }
+    ensures extension { ExtensionIsExact }
+    ensures extension_value { ExtensionHasLayout }
+{}
