@@ -1,14 +1,11 @@
-use Rattle.std.proofs.Common.{◌≡◌, ◌⊎◌, ℕ, ◌<◌, ◌≤◌, ◌+◌, ◌++◌, List, [], ◌∷◌, length, Bool, true, false, refl, sym, ◌∙◌, ap, inl, inr, arith, ◌==◌, ◌&&◌, nat_lt, append_assoc, length-append, IsTrue}
+use Rattle.std.proofs.Common.{◌≡◌, ℕ, ◌<◌, ◌≤◌, ◌++◌, List, [], ◌∷◌, length, Bool, true, refl, sym, ◌∙◌, ap, inl, inr, arith, nat_lt, append_assoc, length-append, IsTrue}
 use Rattle.std.specs.Prelude.{◌↔◌}
-use Rattle.std.proofs.lemmas.Bool.{and_parts, and_from, ltb-true, lt-ltb, cases_lt, cases_order}
+use Rattle.std.proofs.lemmas.Bool.{and_parts, and_from, ltb-true, lt-ltb, cases_lt}
 use Rattle.names.specs.declared.dns.Domain.{Domain}
 use Rattle.names.specs.declared.dns.Domain.TheVariants as D
 use Rattle.names.specs.Dns.{labels, EndsIn, EndsInMore, IsInDomain, ends_in_labels, ends_in_more_labels, is_in_domain, is_domain_inside}
 use Rattle.names.specs.Laws.{DomainTestIsExact, DomainInsideIsSound, SharedDomainsAreNested}
-use Rattle.names.proofs.Splitting.{same_ends}
 use Rattle.names.proofs.Labels.{ends_in_is_exact}
-use Rattle.std.proofs.lemmas.List.Prefix.{end_rest}
-use Rattle.std.proofs.lemmas.List.{take-append-drop}
 
 abbrev Ends : List ℕ → List ℕ → Type 0
 Ends x s = ends_in_labels x s ≡ true

@@ -1,6 +1,6 @@
 -- Names of few and short attributes have keys: each number in them fits.
-use Rattle.std.proofs.Common.{◌≡◌, ◌<◌, ◌≤◌, ◌+◌, ◌^◌, ℕ, List, [], ◌∷◌, ◌++◌, length, map, Bool, true, false, cond, refl, sym, ◌∙◌, ap, subst, inl, inr, arith, length-append, lit<}
-use Rattle.std.specs.List.{AllByRecursion, filter, slice_split, join_with_byte, flat_map}
+use Rattle.std.proofs.Common.{◌≡◌, ◌<◌, ◌≤◌, ◌+◌, ◌^◌, ℕ, List, [], ◌∷◌, length, Bool, true, false, cond, sym, ◌∙◌, ap, subst, arith, length-append}
+use Rattle.std.specs.List.{AllByRecursion, filter, slice_split, join_with_byte}
 use Rattle.std.specs.declared.cmp.Ordering.{Ordering}
 use Rattle.std.specs.declared.cmp.Ordering.TheVariants.{Less, Equal, Greater}
 use Rattle.std.specs.Ordering.{nat_cmp}
@@ -12,12 +12,10 @@ use Rattle.std.proofs.lemmas.Bool.{cond-true, lt-ltb}
 use Rattle.std.proofs.lemmas.Cmp.{nat_list_cmp_total}
 use Rattle.std.proofs.lemmas.List.{nil_from_length, length-map}
 use Rattle.std.proofs.lemmas.List.Splits.{join_with_byte-slice_split}
-use Rattle.names.specs.declared.attribute.Attribute.{Attribute}
 use Rattle.names.specs.Preparation.{is_space, has_octets, lowered, words, prepared}
-use Rattle.names.specs.AttributeValue.{ComparedValue, Text, Other, is_text}
-use Rattle.names.specs.DistinguishedName.{Entry, RdnMap, rdn_map}
-use Rattle.names.specs.NameView.{entry_of}
-use Rattle.names.specs.NameKey.{ValueFits, EntryFits, RdnFits, NameFits, SetFits}
+use Rattle.names.specs.AttributeValue.{ComparedValue, Text, Other}
+use Rattle.names.specs.DistinguishedName.{Entry, rdn_map}
+use Rattle.names.specs.NameKey.{ValueFits, EntryFits, RdnFits, SetFits}
 use Rattle.names.proofs.Splitting.{slice_split_nonempty}
 use Rattle.names.proofs.PreparedText.{spaced, join_first}
 

@@ -1,14 +1,14 @@
-use Rattle.std.proofs.Common.{◌≡◌, ◌⊎◌, ℕ, ◌<◌, ◌≤◌, ◌+◌, ◌-◌, List, [], ◌∷◌, ◌++◌, length, take, get_or, IsTrue, Bool, true, false, refl, sym, ◌∙◌, ap, inl, inr, arith, append_assoc, length-append, map, ◌==◌, cond, rules, ◌&&◌, nat_lt, nat_eq}
+use Rattle.std.proofs.Common.{◌≡◌, ◌⊎◌, ℕ, ◌<◌, ◌≤◌, ◌+◌, ◌-◌, List, [], ◌∷◌, ◌++◌, length, take, get_or, IsTrue, Bool, true, false, refl, sym, ◌∙◌, ap, inl, inr, arith, append_assoc, length-append, map, ◌==◌, rules, ◌&&◌, nat_lt, nat_eq}
 use Rattle.std.specs.Prelude.{◌↔◌}
 use Rattle.std.specs.List.{slice_split, join_with_byte}
 use Rattle.std.specs.Char.{to_ascii_lowercase}
-use Rattle.std.proofs.lemmas.Bool.{cases_Bool, cases_lt, ltb-true, ltb-false, eqb-true, eq-eqb, and_right, lt-ltb, le-ltb, false_from_ne_true, both_ways}
+use Rattle.std.proofs.lemmas.Bool.{cases_Bool, eqb-true, eq-eqb, and_right, lt-ltb, le-ltb, false_from_ne_true, both_ways}
 use Rattle.std.proofs.lemmas.Bool.Decides.{Decides-eqb}
 use Rattle.std.proofs.lemmas.List.{take_more, take_all, map-append, length-map, get_or_at, get_or-map, nil_from_length}
-use Rattle.std.proofs.lemmas.List.Splits.{join_with_byte-slice_split, length-slice_split}
+use Rattle.std.proofs.lemmas.List.Splits.{join_with_byte-slice_split}
 use Rattle.std.proofs.lemmas.Slice.Eq.{ends_is, slice_eq-Decides}
 use Rattle.std.specs.Bool.{Decides}
-use Rattle.names.specs.Dns.{labels, EndsIn, EndsInMore, ends_in_labels, ends_in_more_labels, same_label}
+use Rattle.names.specs.Dns.{labels, EndsIn, ends_in_labels, ends_in_more_labels, same_label}
 use Rattle.names.proofs.Splitting.{slice_split-append, slice_split_nonempty, join-append, same_ends}
 
 abbrev pub dot : ℕ → Bool

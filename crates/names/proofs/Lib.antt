@@ -9,6 +9,9 @@ mod Labels
 mod DomainLaws
 mod Ranges
 mod Masks
+mod BaseLaws
+mod GeneralLaws
+mod CoverageLaws
 mod Matching
 mod Ordered
 mod Keys

@@ -1,5 +1,5 @@
 -- A mask of ones and then zeros has no one after a zero.
-use Rattle.std.proofs.Common.{◌≡◌, ◌⊎◌, ◌<◌, ◌≤◌, ◌*◌, ◌+◌, ◌/◌, ℕ, List, ◌++◌, length, drop, sym, ◌∙◌, ap, inl, inr, subst, arith, length-append}
+use Rattle.std.proofs.Common.{◌≡◌, ◌+◌, ◌/◌, ℕ, List, length, drop, ◌∙◌, ap, inl, inr, subst, arith, length-append}
 use Rattle.std.proofs.lemmas.Bool.{cases_lt}
 use Rattle.std.proofs.lemmas.List.{drop_at}
 use Rattle.names.specs.declared.ip.IpRange.{IpRange}
@@ -8,7 +8,7 @@ use Rattle.names.specs.Ip.{bit, IsMaskOf, HasHole, IsRangeOf}
 apart : (b : ℕ) → b ≡ 1 → b ≡ 0 → ⊥
 apart b p q = omega arith
 
-no_hole : (mask : List ℕ) (prefix : ℕ) → IsMaskOf mask prefix → HasHole mask → ⊥
+pub no_hole : (mask : List ℕ) (prefix : ℕ) → IsMaskOf mask prefix → HasHole mask → ⊥
 no_hole mask prefix m h =
     elim (cases_lt h.hole prefix) [
       | inl lt ↦ apart (bit mask h.hole) (m.ones h.hole lt) h.zero_bit

@@ -1,6 +1,6 @@
 -- What preparation keeps and what it drops.
-use Rattle.std.proofs.Common.{◌≡◌, ℕ, ◌<◌, ◌+◌, List, [], ◌∷◌, ◌++◌, length, map, Bool, true, false, refl, sym, ◌∙◌, ap, inl, inr, arith, append-nil}
-use Rattle.std.specs.List.{slice_split, onto_first, filter, join_with_byte, All}
+use Rattle.std.proofs.Common.{◌≡◌, ℕ, ◌<◌, List, [], ◌∷◌, ◌++◌, length, map, refl, sym, ◌∙◌, ap, inl, inr, arith, append-nil}
+use Rattle.std.specs.List.{slice_split, onto_first, filter, join_with_byte}
 use Rattle.std.specs.Char.{to_ascii_lowercase}
 use Rattle.std.proofs.lemmas.Bool.{cases_Bool, cond-true, lt-ltb}
 use Rattle.std.proofs.lemmas.List.{map-append}

@@ -1,4 +1,4 @@
-use Rattle.std.proofs.Common.{◌≡◌, ◌⊎◌, ℕ, ◌<◌, ◌≤◌, ◌+◌, List, [], ◌∷◌, length, Bool, true, false, refl, sym, ◌∙◌, ap, inl, inr, arith, ◌==◌, ◌&&◌, zero, suc, rules, add-zero, IsTrue}
+use Rattle.std.proofs.Common.{◌≡◌, ℕ, ◌<◌, ◌≤◌, ◌+◌, List, length, Bool, true, refl, sym, ◌∙◌, ap, inl, inr, arith, ◌==◌, zero, suc, add-zero, IsTrue}
 use Rattle.std.specs.Prelude.{nat_le, ◌↔◌}
 use Rattle.std.specs.List.{list_all, range_with_len}
 use Rattle.std.proofs.lemmas.Bool.{and_parts, and_from, eqb-true, eq-eqb, leb-true, le-leb, cases_lt}
@@ -6,14 +6,14 @@ use Rattle.names.specs.declared.ip.IpRange.{IpRange}
 use Rattle.names.specs.Ip.{IsInRange, bit, same_bit, agree, is_in_range, is_range_inside}
 use Rattle.names.specs.Laws.{RangeTestIsExact, RangeInsideIsSound, SharedRangesAreNested}
 
-all_at : (p : ℕ → Bool) (a n i : ℕ) → list_all p (range_with_len a n) ≡ true → i < n → p (a + i) ≡ true
+pub all_at : (p : ℕ → Bool) (a n i : ℕ) → list_all p (range_with_len a n) ≡ true → i < n → p (a + i) ≡ true
 all_at p a zero i h lt = absurd (omega arith)
 all_at p a (suc n) zero h lt = rw add-zero ((and_parts (p a) _ h).0)
 all_at p a (suc n) (suc i) h lt =
     let e : a + suc i ≡ a + 1 + i = omega arith in
     rw e (all_at p (a + 1) n i (and_parts (p a) _ h).1 (omega arith))
 
-all_from : (p : ℕ → Bool) (a n : ℕ) → ((i : ℕ) → i < n → p (a + i) ≡ true) → list_all p (range_with_len a n) ≡ true
+pub all_from : (p : ℕ → Bool) (a n : ℕ) → ((i : ℕ) → i < n → p (a + i) ≡ true) → list_all p (range_with_len a n) ≡ true
 all_from p a zero h = refl
 all_from p a (suc n) h =
     and_from (p a) (list_all p (range_with_len (a + 1) n))

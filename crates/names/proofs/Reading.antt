@@ -1,5 +1,5 @@
 -- What a name that was read holds: attributes in sets, sets in the sequence.
-use Rattle.std.proofs.Common.{◌≡◌, ℕ, List, [], ◌∷◌, Result, Ok, Err, refl, sym, ap, ◌∙◌, true, false, not, Bool, subst}
+use Rattle.std.proofs.Common.{◌≡◌, ℕ, List, [], ◌∷◌, Ok, Err, sym, ap, ◌∙◌, subst}
 use Rattle.asn.specs.Identifier.{is_constructed}
 use Rattle.asn.specs.Place.{Place, tag, body}
 use Rattle.asn.specs.Members.{Members, members, with_first}
@@ -7,7 +7,7 @@ use Rattle.asn.specs.Walk.{◌>>=◌, each, is_a, some, check_that}
 use Rattle.asn.proofs.Laws.{bind_ok, is_a_ok, each_next}
 use Rattle.names.specs.declared.fault.NameFault.{NameFault}
 use Rattle.names.specs.declared.fault.NameFault.TheVariants.{NameLayout, Text}
-use Rattle.names.specs.NameLayout.{AttributePlaces, attribute_members, attribute_order, is_string, attribute, attributes, rdn, one_more_rdn, name}
+use Rattle.names.specs.NameLayout.{attribute_members, attribute_order, is_string, attribute, attributes, rdn, one_more_rdn, name}
 use Rattle.names.specs.NameParts.{IsAttribute, AreAttributes, IsRdn, AreRdns}
 
 attribute_read : (all : List Place) (before : List ℕ) (place : Place) (x : List ℕ) → attribute all before place ≡ Ok x → IsAttribute place

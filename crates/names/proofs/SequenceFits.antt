@@ -1,19 +1,18 @@
 -- A name of fewer than 2^31 octets has a key: each number in it fits.
-use Rattle.std.proofs.Common.{◌≡◌, ◌<◌, ◌≤◌, ◌+◌, ◌^◌, ℕ, List, [], ◌∷◌, length, map, refl, sym, ap, ◌∙◌, arith, Result, Ok, Err, lit<, subst}
+use Rattle.std.proofs.Common.{◌≡◌, ◌<◌, ◌≤◌, ◌^◌, ℕ, List, [], ◌∷◌, length, map, refl, ap, ◌∙◌, arith, Result, Ok, Err, lit<, subst}
 use Rattle.std.proofs.lemmas.List.{length-map}
 use Rattle.std.specs.List.{AllByRecursion}
 use Rattle.asn.specs.Place.{Place, tag, body, remaining, values}
-use Rattle.asn.specs.Members.{Members, members, members_at, left}
+use Rattle.asn.specs.Members.{members, members_at}
 use Rattle.asn.specs.Walk.{◌>>=◌, is_a, required, next_or, ended}
 use Rattle.asn.proofs.Laws.{bind_ok, ok_is, required_ok, next_or_ok, values_count, values_short, members_count, members_short, body_short}
 use Rattle.names.specs.declared.fault.NameFault.{NameFault}
 use Rattle.names.specs.declared.fault.NameFault.TheVariants.{NameLayout}
 use Rattle.names.specs.declared.rdn_sequence.RdnSequence.{RdnSequence}
-use Rattle.names.specs.AttributeValue.{is_text, compared}
+use Rattle.names.specs.AttributeValue.{is_text}
 use Rattle.names.specs.NameLayout.{AttributePlaces, attribute_members}
 use Rattle.names.specs.NameParts.{entry_of_parts, entry_in, entry_at, map_at}
-use Rattle.names.specs.DistinguishedName.{Entry, RdnMap, rdn_map}
-use Rattle.names.specs.NameKey.{EntryFits, RdnFits, NameFits, SetFits}
+use Rattle.names.specs.NameKey.{EntryFits, RdnFits, NameFits}
 use Rattle.names.specs.NameView.{sequence_of}
 use Rattle.names.proofs.Fits.{value_fits, prepared_short, set_fits}
 

@@ -1,5 +1,5 @@
 -- The tests of strings say what their definitions say.
-use Rattle.std.proofs.Common.{◌≡◌, ◌<◌, ℕ, suc, Bool, true, false, List, [], ◌∷◌, length, get_or, refl, sym, arith, inl, inr}
+use Rattle.std.proofs.Common.{◌≡◌, ℕ, suc, Bool, true, false, List, [], ◌∷◌, length, get_or, refl, sym, arith, inl, inr}
 use Rattle.std.specs.Bool.{MatchBool}
 use Rattle.std.specs.Str.{IsUtf8, is_utf8, IsAscii, IsNotAscii}
 use Rattle.std.specs.Char.{is_ascii}

@@ -1,18 +1,14 @@
 -- The laws of subtrees, by the laws of each form.
-use Rattle.std.proofs.Common.{◌≡◌, ◌⊎◌, ℕ, List, [], ◌∷◌, ◌++◌, Bool, true, false, refl, sym, ◌∙◌, ap, inl, inr, append_assoc, IsTrue, ◌==◌, eq-eqb}
-use Rattle.std.specs.Prelude.{◌↔◌}
+use Rattle.std.proofs.Common.{◌≡◌, ◌⊎◌, ℕ, List, [], ◌∷◌, ◌++◌, refl, sym, ◌∙◌, ap, inl, inr, append_assoc, IsTrue, eq-eqb}
 use Rattle.std.proofs.lemmas.Bool.{eqb-true}
 use Rattle.names.specs.declared.general.General.{General}
-use Rattle.names.specs.declared.general.Form.{Form}
 use Rattle.names.specs.declared.subtree.Subtree.{Subtree}
 use Rattle.names.specs.declared.general.General.TheVariants as G
 use Rattle.names.specs.declared.general.Form.TheVariants as F
 use Rattle.names.specs.declared.subtree.Subtree.TheVariants as S
 use Rattle.names.specs.DistinguishedName.{RdnMap, IsWithin, is_within}
 use Rattle.names.specs.NameOctets.{rdns_of}
-use Rattle.names.specs.Dns.{is_in_domain}
-use Rattle.names.specs.Ip.{is_in_range}
-use Rattle.names.specs.GeneralSubtree.{form_of, IsInSubtree, is_in_subtree, is_subtree_inside, has_form, SubtreeTestIsExact, InsideIsSound, SharedIsNested, FormIsKept, FormIsProcessed, FormTestIsExact}
+use Rattle.names.specs.GeneralSubtree.{is_in_subtree, is_subtree_inside, has_form, SubtreeTestIsExact, InsideIsSound, SharedIsNested, FormIsKept, FormIsProcessed, FormTestIsExact}
 use Rattle.names.proofs.Matching.{within_is_exact}
 use Rattle.names.proofs.DomainLaws.{domain_test_is_exact, domain_inside_is_sound, shared_domains_are_nested}
 use Rattle.names.proofs.Ranges.{range_test_is_exact, range_inside_is_sound, shared_ranges_are_nested}

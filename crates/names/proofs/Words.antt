@@ -1,8 +1,8 @@
-use Rattle.std.proofs.Common.{◌≡◌, ◌⊎◌, ℕ, suc, ◌<◌, ◌≤◌, ◌+◌, List, [], ◌∷◌, ◌++◌, length, take, drop, map, Bool, true, false, not, cond, refl, sym, ◌∙◌, ap, inl, inr, arith, ◌==◌, nat_lt, length-drop, rules, subst, get_or, Some, None, length-append}
-use Rattle.std.specs.List.{slice_split, onto_first, filter, join_with_byte, position_or_len, prefix_len, position, All}
+use Rattle.std.proofs.Common.{◌≡◌, ℕ, suc, ◌<◌, ◌+◌, List, [], ◌∷◌, length, take, drop, map, Bool, true, false, not, cond, refl, sym, ◌∙◌, ap, inl, inr, arith, nat_lt, length-drop, rules, subst, get_or, Some, None, length-append}
+use Rattle.std.specs.List.{slice_split, onto_first, filter, join_with_byte, position_or_len, position, All}
 use Rattle.std.specs.Char.{to_ascii_lowercase}
-use Rattle.std.proofs.lemmas.Bool.{cases_Bool, cases_eq, ne_eqb, eq-eqb, eqb-true, lt-ltb, le-ltb, cases_lt, cond-true, cond-false}
-use Rattle.std.proofs.lemmas.List.{take-map, drop-map, length-map}
+use Rattle.std.proofs.lemmas.Bool.{cases_Bool, cases_eq, ne_eqb, lt-ltb, cases_lt, cond-true}
+use Rattle.std.proofs.lemmas.List.{take-map, drop-map}
 use Rattle.std.proofs.lemmas.List.Splits.{slice_split-cons_yes, slice_split-cons_no, slice_split_none, slice_split_at}
 use Rattle.std.proofs.lemmas.List.Sums.{prefix_len-le-length}
 use Rattle.std.proofs.lemmas.List.Elements.{All-cons, All-nil}

@@ -1,5 +1,4 @@
 -- General names (RFC 5280, 4.2.1.6) and their forms.
-use Rattle.std.specs.Prelude.{ℕ}
 use Rattle.names.specs.declared.general.General.{General}
 use Rattle.names.specs.declared.general.Form.{Form}
 use Rattle.names.specs.declared.general.General.TheVariants as G

@@ -1,5 +1,5 @@
 -- IP addresses as bits (RFC 5280, 4.2.1.6), and the constraints on them (4.2.1.10; RFC 4632, 3.1).
-use Rattle.std.specs.Prelude.{◌≡◌, ◌≢◌, ◌⊎◌, ◌<◌, ◌≤◌, ◌*◌, ◌+◌, ◌++◌, ℕ, List, Bool, ◌==◌, ◌&&◌, ◌/◌, ◌%◌, ◌-◌, ◌^◌, nat_le, length, slice_index, drop}
+use Rattle.std.specs.Prelude.{◌≡◌, ◌≢◌, ◌⊎◌, ◌<◌, ◌≤◌, ◌*◌, ◌++◌, ℕ, List, Bool, ◌==◌, ◌&&◌, ◌/◌, ◌%◌, ◌-◌, ◌^◌, nat_le, length, slice_index, drop}
 use Rattle.std.specs.List.{list_all, range_with_len}
 use Rattle.names.specs.declared.ip.IpRange.{IpRange}
 use Rattle.names.specs.declared.ip.IpFault.{IpFault}

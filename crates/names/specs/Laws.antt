@@ -1,7 +1,7 @@
-use Rattle.std.specs.Prelude.{◌≡◌, ◌⊎◌, ◌↔◌, ℕ, List, IsTrue}
+use Rattle.std.specs.Prelude.{◌⊎◌, ◌↔◌, ℕ, List, IsTrue}
 use Rattle.names.specs.declared.dns.Domain.{Domain}
 use Rattle.names.specs.declared.ip.IpRange.{IpRange}
-use Rattle.names.specs.Dns.{IsInDomain, IsBaseOf, is_in_domain, is_domain_inside}
+use Rattle.names.specs.Dns.{IsInDomain, is_in_domain, is_domain_inside}
 use Rattle.names.specs.Ip.{IsInRange, is_in_range, is_range_inside}
 
 -- the test of a domain decides whether the name lies in it

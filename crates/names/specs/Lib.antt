@@ -14,3 +14,8 @@ pub mod Ip
 pub mod GeneralName
 pub mod GeneralSubtree
 pub mod Laws
+pub mod Bases
+pub mod GeneralLayout
+pub mod GeneralView
+pub mod GeneralForms
+pub mod GeneralCoverage

@@ -1,12 +1,10 @@
 -- The key of a name: octets that two names share exactly where they match.
-use Rattle.std.specs.Prelude.{◌≡◌, ◌↔◌, ◌<◌, ◌^◌, ℕ, List, ◌∷◌, ◌++◌, ◌+◌, map, length}
+use Rattle.std.specs.Prelude.{◌≡◌, ◌↔◌, ◌<◌, ◌^◌, ℕ, List, ◌∷◌, ◌++◌, length}
 use Rattle.std.specs.List.{flat_map, AllByRecursion}
 use Rattle.std.specs.Int.{to_be_bytes, w32}
 use Rattle.std.specs.FinMap.{entries}
 use Rattle.names.specs.AttributeValue.{ComparedValue, Text, Other}
-use Rattle.names.specs.declared.attribute.Attribute.{Attribute}
-use Rattle.names.specs.DistinguishedName.{Entry, RdnMap, rdn_map, NamesMatch}
-use Rattle.names.specs.NameView.{entry_of}
+use Rattle.names.specs.DistinguishedName.{Entry, RdnMap, NamesMatch}
 
 -- a number in four octets, the highest first
 abbrev pub number : ℕ → List ℕ

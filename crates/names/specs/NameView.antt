@@ -1,5 +1,5 @@
 -- What names hold, without where it lies in memory.
-use Rattle.std.specs.Prelude.{ℕ, List, map}
+use Rattle.std.specs.Prelude.{List, map}
 use Rattle.asn.specs.Members.{left}
 use Rattle.names.specs.declared.attribute.Attribute.{Attribute}
 use Rattle.names.specs.declared.rdn.Rdn.{Rdn}

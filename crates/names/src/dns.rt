@@ -3,6 +3,8 @@
 ghost use Rattle.std.specs.Prelude.{◌≡◌, ◌↔◌, IsTrue, IsSome, IfSome};
 ghost use Rattle.std.specs.List.{list_all, slice_split};
 ghost use Rattle.names.specs.Dns.{IsDnsName, IsBaseOf, IsInDomain, is_dot, is_label, is_label_octet, ends_in_labels, ends_in_more_labels, is_in_domain, is_domain_inside};
+ghost use Rattle.asn.specs.Walk.{seen};
+ghost use Rattle.names.specs.Bases.{is_dns_name, domain_names, names_of_base};
 ghost use Rattle.names.specs.Laws.{DomainTestIsExact, DomainInsideIsSound, SharedDomainsAreNested};
 
 /// The most octets of a DNS name.
@@ -45,8 +47,10 @@ fn has_labels(name: &[u8]) -> bool
 }
 
 /// Whether the octets are one label or more, joined by dots, and 253 octets at most.
+#[tactic(auto, unfolding(crate::specs::Bases::is_dns_name))]
 pub fn is_dns_name(name: &[u8]) -> bool
-    ensures { IsTrue result ↔ IsDnsName name.now }
+    ensures decides { IsTrue result ↔ IsDnsName name.now }
+    ensures test { result ≡ is_dns_name name.now }
 {
     name.len() <= MAX_NAME_LEN && has_labels(name)
 }
@@ -77,9 +81,11 @@ fn ends_in_more(name: &[u8], base: &[u8]) -> bool
 
 impl<'a> Domain<'a> {
     /// Reads the base of a constraint: nothing, a DNS name, or a dot and a DNS name.
+    #[tactic(auto, unfolding(crate::specs::Bases::names_of_base))]
     pub fn of_base(base: &'a [u8]) -> Option<Domain<'a>>
         ensures reads { IfSome result (IsBaseOf base.now) }
         ensures accepts { (domain : Domain) → IsBaseOf base.now domain → IsSome result }
+        ensures names { seen domain_names result ≡ names_of_base base.now }
     {
         match base.split_first() {
             None => Some(Domain::Every),

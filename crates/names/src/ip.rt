@@ -2,6 +2,8 @@
 
 ghost use Rattle.std.specs.Prelude.{◌≡◌, ◌≤◌, ◌<◌, ◌*◌, ◌↔◌, ℕ, IsTrue, IsOk, IfOk, IfErr, IfSome, IfNone, MatchOption, length};
 ghost use Rattle.names.specs.Ip.{IsIpAddress, IsMaskOf, HasHole, IsRangeOf, IsRefusedFor, IsInRange, bit, agree, is_in_range, is_range_inside};
+ghost use Rattle.asn.specs.Walk.{Gives};
+ghost use Rattle.names.specs.Bases.{is_ip_address, address_range, range_of_base};
 ghost use Rattle.names.specs.Laws.{RangeTestIsExact, RangeInsideIsSound, SharedRangesAreNested};
 
 /// The addresses that begin with the first `prefix` bits of `address`.
@@ -23,8 +25,10 @@ pub enum IpFault {
 }
 
 /// Whether the octets are as many as those of an address, of version 4 or 6.
+#[tactic(auto, unfolding(crate::specs::Bases::is_ip_address))]
 pub fn is_ip_address(octets: &[u8]) -> bool
-    ensures { IsTrue result ↔ IsIpAddress octets.now }
+    ensures decides { IsTrue result ↔ IsIpAddress octets.now }
+    ensures test { result ≡ is_ip_address octets.now }
 {
     matches!(octets.len(), 4 | 16)
 }
@@ -96,6 +100,7 @@ impl<'a> IpRange<'a> {
         ensures reads { IfOk result (IsRangeOf base.now) }
         ensures accepts { (range : IpRange) → IsRangeOf base.now range → IsOk result }
         ensures refuses { IfErr result (IsRefusedFor base.now) }
+        ensures range { Gives address_range result (range_of_base base.now) }
     {
         if !matches!(base.len(), 8 | 32) {
             return Err(IpFault::Length);

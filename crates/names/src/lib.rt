@@ -5,6 +5,7 @@ mod attribute;
 mod dns;
 mod fault;
 mod general;
+mod general_reading;
 mod ip;
 mod name;
 mod name_key;
@@ -18,9 +19,13 @@ pub use attribute::Attribute;
 pub use dns::{Domain, domain_laws, is_dns_name};
 pub use fault::{NameFault, Refusal};
 pub use general::{Form, General};
+pub use general_reading::{coverage_laws, general_laws};
 pub use ip::{IpFault, IpRange, is_ip_address, range_laws};
 pub use name::Name;
 pub use name_key::key_laws;
 pub use name_reading::name_laws;
 pub use preparation::{preparation_laws, prepared_text, same_prepared};
 pub use subtree::{Subtree, subtree_laws};
+
+#[cfg(test)]
+mod tests;

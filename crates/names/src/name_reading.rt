@@ -70,6 +70,19 @@ fn read_name(tlv: Tlv<'_>) -> Result<Cursor<'_>, Refusal>
 }
 
 impl<'a> Name<'a> {
+    /// The name that stands there, with faults at their offsets in the whole text.
+    pub(crate) fn at(tlv: Tlv<'a>) -> Result<Name<'a>, Refusal>
+        ensures walk { Gives (λ _. tt) result (name (part tlv.entry)) }
+        ensures raw { IfOk result (λ found. raw_of found ≡ tlv.entry.whole.now) }
+        ensures rdns { IfOk result (λ found. rdns_of found ≡ rdns_at (part tlv.entry)) }
+    {
+        let rdns = read_name(tlv)?;
+        Ok(Name {
+            raw: tlv.whole,
+            rdns: RdnSequence { rdns },
+        })
+    }
+
     /// The name that the value is, or the first fault in it, with its offset in the value. No memory is taken. Time is linear
     /// in the octets, and quadratic in the number of attributes of one RDN.
     pub fn read(value: Tlv<'a>) -> Result<Name<'a>, Refusal>
@@ -77,12 +90,7 @@ impl<'a> Name<'a> {
         ensures raw { IfOk result (λ found. raw_of found ≡ value.entry.whole.now) }
         ensures rdns { IfOk result (λ found. rdns_of found ≡ rdns_at (record { octets = value.entry.whole.now; at = 0 })) }
     {
-        let value = value.alone();
-        let rdns = read_name(value)?;
-        Ok(Name {
-            raw: value.whole,
-            rdns: RdnSequence { rdns },
-        })
+        Name::at(value.alone())
     }
 
     /// The whole encoding of the name.

@@ -1,4 +1,4 @@
-use Rattle.std.proofs.Common.{arith, rules, sym}
+use Rattle.std.proofs.Common.{arith}
 use Rattle.names.proofs.Keys.{fits_at}
 use Rattle.names.proofs.name_key.push_rdn.Goals as goal
 

@@ -1,4 +1,4 @@
-use Rattle.std.proofs.Common.{◌≡◌, ℕ, List, [], Result, Ok, Err, refl, sym, ap, ◌∙◌}
+use Rattle.std.proofs.Common.{◌≡◌, ℕ, List, [], Result, Ok, Err, sym, ap, ◌∙◌}
 use Rattle.asn.specs.Members.{Members, left}
 use Rattle.asn.specs.Walk.{◌>>=◌, each}
 use Rattle.asn.specs.Place.{part}

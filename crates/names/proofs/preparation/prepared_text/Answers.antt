@@ -1,5 +1,5 @@
 use Rattle.std.proofs.Common.{rules}
-use Rattle.names.proofs.PreparedText.{first_written, next_written, all_written}
+use Rattle.names.proofs.PreparedText.{first_written, next_written}
 use Rattle.names.proofs.preparation.prepared_text.Goals as goal
 
 pub loop-word-init : goal.loop-word-init

@@ -1,4 +1,4 @@
-use Rattle.std.proofs.Common.{◌≡◌, ℕ, List, IsTrue, subst}
+use Rattle.std.proofs.Common.{ℕ, List, IsTrue, subst}
 use Rattle.std.specs.Prelude.{◌↔◌}
 use Rattle.names.specs.DistinguishedName.{HasKind}
 use Rattle.names.specs.NameView.{sequence_of}

@@ -1,9 +1,9 @@
-use Rattle.std.proofs.Common.{◌≡◌, ◌∙◌, sym, refl, rules, IsTrue, Bool, true, false}
+use Rattle.std.proofs.Common.{◌∙◌, sym, refl, IsTrue}
 use Rattle.std.specs.FinMap.{contains_key}
 use Rattle.names.specs.AttributeValue.{compared_value}
 use Rattle.names.specs.DistinguishedName.{RdnMap}
 use Rattle.names.specs.NameView.{entries_of, map_of, sequence_of}
-use Rattle.names.proofs.Matching.{any_here, any_after, any_nowhere, set_has}
+use Rattle.names.proofs.Matching.{any_here, any_after, set_has}
 use Rattle.std.proofs.lemmas.Bool.{both_ways}
 use Rattle.names.proofs.rdn_sequence.RdnSequence.has.Goals as goal
 

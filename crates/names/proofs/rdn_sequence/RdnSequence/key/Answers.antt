@@ -1,4 +1,4 @@
-use Rattle.std.proofs.Common.{◌≡◌, ◌++◌, ◌∙◌, ap, ℕ}
+use Rattle.std.proofs.Common.{◌++◌, ◌∙◌, ap, ℕ}
 use Rattle.names.specs.NameKey.{number}
 use Rattle.names.specs.NameView.{sequence_of}
 use Rattle.names.proofs.Keys.{key_start}

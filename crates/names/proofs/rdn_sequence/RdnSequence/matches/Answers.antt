@@ -1,8 +1,6 @@
 use Rattle.names.specs.NameView.{sequence_of}
 use Rattle.names.proofs.Matching.{nothing_follows, never_match, matching_test}
-use Rattle.std.proofs.Common.{rules, IsTrue, false, ◌≡◌}
-use Rattle.std.specs.Prelude.{◌↔◌}
-use Rattle.names.specs.DistinguishedName.{NamesMatch}
+use Rattle.std.proofs.Common.{rules, false}
 use Rattle.names.proofs.rdn_sequence.RdnSequence.matches.Goals as goal
 
 pub returns-in-Some-clause-decides : goal.returns-in-Some-clause-decides

@@ -1,11 +1,11 @@
-use Rattle.std.proofs.Common.{◌≡◌, ◌<◌, List, ◌∷◌, map, length, sym, ap, ◌∙◌, subst, arith, true, false}
+use Rattle.std.proofs.Common.{◌≡◌, ◌∷◌, map, length, sym, ap, ◌∙◌, subst, arith, true, false}
 use Rattle.std.proofs.Math.Logic.{∥∥₁_elim, ∥∥₁_map}
 use Rattle.std.proofs.Props.{props}
 use Rattle.std.proofs.lemmas.List.{length-append}
 use Rattle.asn.specs.Identifier.{is_constructed}
-use Rattle.asn.specs.Members.{Members, left, members}
+use Rattle.asn.specs.Members.{Members, left}
 use Rattle.asn.specs.Place.{part}
-use Rattle.names.specs.DistinguishedName.{RdnMap, rdn_map}
+use Rattle.names.specs.DistinguishedName.{rdn_map}
 use Rattle.names.specs.NameParts.{AreAttributes, entry_at, map_at}
 use Rattle.names.specs.NameView.{entries_of, sequence_of}
 use Rattle.names.proofs.Reading.{first_rdn}
