@@ -63,7 +63,7 @@ more_at : (list end front : List (List ℕ)) → list ≡ front ++ end → lengt
 more_at list end [] e lt = absurd (omega (arith, ap length e))
 more_at list end (first ∷ front) e lt = record { first = first; front = front; joined = e }
 
-more_is_exact : (x s : List ℕ) → (IsTrue (ends_in_more_labels x s) ↔ EndsInMore (labels x) (labels s))
+pub more_is_exact : (x s : List ℕ) → (IsTrue (ends_in_more_labels x s) ↔ EndsInMore (labels x) (labels s))
 unfolding count
 more_is_exact x s = (
   λ t. let e = (ends_in_is_exact x s).0 (more_ends x s t) in more_at (labels x) (labels s) e.front e.joined (more_count x s t),

@@ -21,7 +21,7 @@ all_from p a (suc n) h =
     (all_from p (a + 1) n (λ i lt. let e : a + 1 + i ≡ a + suc i = omega arith in ap p e ∙ h (suc i) (omega arith)))
 
 -- the first bits are the same
-pub Same : ℕ → List ℕ → List ℕ → Type 0
+unfoldable pub Same : ℕ → List ℕ → List ℕ → Type 0
 Same count left right = (i : ℕ) → i < count → bit left i ≡ bit right i
 
 pub same_of : (count : ℕ) (left right : List ℕ) → agree count left right ≡ true → Same count left right

@@ -1,12 +1,12 @@
 -- Which names lie in which subtrees, by what both say (RFC 5280, 4.2.1.10).
-use Rattle.std.specs.Prelude.{◌≡◌, ◌==◌, ◌&&◌, ℕ, List, Bool, true, false, nat_le, length}
+use Rattle.std.specs.Prelude.{◌≡◌, ◌↔◌, ◌<◌, IsTrue, ◌==◌, ◌&&◌, ℕ, List, Bool, true, false, nat_le, length}
 use Rattle.names.specs.declared.general.General.{General}
 use Rattle.names.specs.declared.general.Form.{Form}
 use Rattle.names.specs.declared.general.Form.TheVariants as F
 use Rattle.names.specs.declared.subtree.Subtree.{Subtree}
-use Rattle.names.specs.DistinguishedName.{is_within}
-use Rattle.names.specs.Dns.{ends_in_labels, ends_in_more_labels}
-use Rattle.names.specs.Ip.{agree}
+use Rattle.names.specs.DistinguishedName.{IsWithin, is_within}
+use Rattle.names.specs.Dns.{EndsIn, EndsInMore, labels, ends_in_labels, ends_in_more_labels}
+use Rattle.names.specs.Ip.{bit, agree}
 use Rattle.names.specs.GeneralName.{form_of_name}
 use Rattle.names.specs.GeneralSubtree.{form_of, is_in_subtree, is_subtree_inside}
 use Rattle.names.specs.Bases.{DomainNames, every_name, names_within, names_below, AddressRange}
@@ -62,6 +62,27 @@ is_base_inside (directory_base inner) (directory_base outer) = is_within inner.r
 is_base_inside (dns_base inner) (dns_base outer) = are_among inner outer
 is_base_inside (ip_base inner) (ip_base outer) = is_range_of inner outer
 is_base_inside _ _ = false
+
+-- the same as relations
+
+abbrev pub IsAmong : List ℕ → DomainNames → Type 0
+IsAmong name every_name = Unit {0}
+IsAmong name (names_within base) = EndsIn (labels name) (labels base)
+IsAmong name (names_below base) = EndsInMore (labels name) (labels base)
+
+pub record IsAddressOf (address : List ℕ) (range : AddressRange) : Type 0 where
+  pub same_length : length address ≡ length range.address
+  pub agree : (i : ℕ) → i < range.prefix → bit range.address i ≡ bit address i
+
+-- the name and the subtree are of one processed form, and there the name lies in the subtree
+abbrev pub IsCovered : GeneralName → SubtreeBase → Type 0
+IsCovered (directory_name name) (directory_base base) = IsWithin name.rdns base.rdns
+IsCovered (dns_name name) (dns_base names) = IsAmong name names
+IsCovered (ip_address address) (ip_base range) = IsAddressOf address range
+IsCovered _ _ = ⊥
+
+abbrev pub CoverageTestIsExact : Type 0
+CoverageTestIsExact = (name : GeneralName) (base : SubtreeBase) → (IsTrue (is_covered name base) ↔ IsCovered name base)
 
 -- laws: it is what names and subtrees say that decides
 

@@ -5,7 +5,7 @@ ghost use Rattle.asn.specs.Place.{part};
 ghost use Rattle.asn.specs.Walk.{Gives};
 ghost use Rattle.names.specs.GeneralLayout.{form_of_identifier, explicit_name, general, dns_name_at, ip_address_at, base, dns_base_at, ip_base_at};
 ghost use Rattle.names.specs.Bases.{DnsNameTestIsExact, NamesOfBaseAreExact, AddressTestIsExact, RangeOfBaseIsExact, RefusedBaseIsExact};
-ghost use Rattle.names.specs.GeneralCoverage.{CoverageIsOfContents, InsideIsOfContents, NameFormIsOfContents, BaseFormIsOfContents};
+ghost use Rattle.names.specs.GeneralCoverage.{CoverageTestIsExact, CoverageIsOfContents, InsideIsOfContents, NameFormIsOfContents, BaseFormIsOfContents};
 ghost use Rattle.names.specs.GeneralForms.{GeneralNamesAreRead, SubtreeBasesAreRead};
 ghost use Rattle.names.specs.GeneralView.{name_contents, general_name, subtree_base};
 
@@ -158,8 +158,10 @@ pub fn general_laws()
     ensures refused { RefusedBaseIsExact }
 {}
 
-/// Whether a name lies in a subtree, and a subtree in another, is decided by what they say, wherever that lies in memory.
+/// Whether a name lies in a subtree, and a subtree in another, is decided by what they say, wherever that lies in memory. The
+/// test on what they say decides the relation.
 pub fn coverage_laws()
+    ensures test { CoverageTestIsExact }
     ensures covers { CoverageIsOfContents }
     ensures inside { InsideIsOfContents }
     ensures name_form { NameFormIsOfContents }
