@@ -1,5 +1,5 @@
 -- The one encoding of a value that has one, and how many octets it has.
-use Rattle.std.specs.Prelude.{◌≡◌, ℕ, suc, ◌+◌, ◌<◌, ◌≤◌, List, [], ◌++◌, length, true, false}
+use Rattle.std.specs.Prelude.{◌≡◌, ◌↔◌, ℕ, suc, ◌+◌, ◌<◌, ◌≤◌, List, [], ◌++◌, length, true, false}
 use Rattle.der.specs.Value.{Value, primitive, constructed, Values, none, more}
 use Rattle.der.specs.Identifier.{is_refused, is_constructed}
 use Rattle.der.specs.Contents.{IsContents}
@@ -53,3 +53,10 @@ EncodingHasSize = (depth : ℕ) (text : List ℕ) (value : Value) → EncodesAt 
 
 abbrev pub EncodingsHaveSize : Type 0
 EncodingsHaveSize = (depth : ℕ) (text : List ℕ) (values : Values) → EncodesAllAt depth text values → length text ≡ size_of_all values
+
+-- octets are the encoding of a value exactly where it has one and they are its octets: what is encoded is read back, and what
+-- is read is encoded to the octets it was read from
+abbrev pub EncodingIsOctets : Type 0
+EncodingIsOctets =
+    (depth : ℕ) (text : List ℕ) (value : Value) →
+    EncodesAt depth text value ↔ (IsEncodableAt depth value × (text ≡ octets_of value))

@@ -5,7 +5,7 @@ ghost use Rattle.der.specs.Value.{primitive};
 ghost use Rattle.der.specs.Encoding.{Encodes};
 ghost use Rattle.der.specs.Length.{contents_limit, length_octets};
 ghost use Rattle.asn.specs.Size.{size_around, size_of, size_of_all, IsHolder, octets_of, octets_of_all, IsEncodableAt, AreEncodableAt};
-ghost use Rattle.asn.specs.Size.{EncodingHasSize, EncodingsHaveSize};
+ghost use Rattle.asn.specs.Size.{EncodingHasSize, EncodingsHaveSize, EncodingIsOctets};
 ghost use Rattle.asn.specs.Fault.{encode_fault_number, encode_fault_name};
 ghost use Rattle.asn.specs.Tree.{value_of, values_of};
 ghost use Rattle.asn.specs.declared.encoding.EncodeFault.TheVariants.{Memory as memory};
@@ -48,10 +48,12 @@ impl EncodeFault {
     }
 }
 
-/// An encoding has as many octets as its value asks for.
+/// An encoding has as many octets as its value asks for, and is the one that the value asks for. So `parse_tree` of what
+/// `encode` answers is the value encoded, and `encode` of what `parse_tree` answers are the octets parsed.
 pub fn size_laws()
     ensures value { EncodingHasSize }
     ensures values { EncodingsHaveSize }
+    ensures octets { EncodingIsOctets }
 {}
 
 /// Contents have fewer octets than this.
