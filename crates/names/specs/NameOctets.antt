@@ -1,8 +1,9 @@
 -- What a name that was read holds.
-use Rattle.std.specs.Prelude.{ℕ, List}
+use Rattle.std.specs.Prelude.{◌≡◌, ◌↔◌, ℕ, List}
 use Rattle.names.specs.declared.name.Name.{Name}
-use Rattle.names.specs.DistinguishedName.{RdnMap}
+use Rattle.names.specs.DistinguishedName.{RdnMap, NamesMatch}
 use Rattle.names.specs.NameView.{sequence_of}
+use Rattle.names.specs.NameKey.{name_key}
 
 -- its whole encoding
 unfoldable pub raw_of : Name → List ℕ
@@ -11,3 +12,8 @@ raw_of name = name.raw.now
 -- its sets of attributes, as they are compared
 unfoldable pub rdns_of : Name → List RdnMap
 rdns_of name = sequence_of name.rdns
+
+-- two names have one key exactly where they match
+abbrev pub KeysDecideMatching : Type 0
+KeysDecideMatching =
+    (left right : Name) → (name_key (rdns_of left) ≡ name_key (rdns_of right) ↔ NamesMatch (rdns_of left) (rdns_of right))

@@ -5,6 +5,7 @@ ghost use Rattle.std.specs.FinMap.{entries};
 ghost use Rattle.names.specs.AttributeOrder.{AscendsByKind, HasSameValues, EndsInKind};
 ghost use Rattle.names.specs.DistinguishedName.{rdn_map};
 ghost use Rattle.names.specs.NameKey.{number, counted, entry_key, rdn_key, name_key, EntryFits, RdnFits, NameFits, KeyIsExact};
+ghost use Rattle.names.specs.NameOctets.{KeysDecideMatching};
 ghost use Rattle.names.specs.NameView.{entry_of, entries_of, map_of, sequence_of};
 
 use crate::attribute::{Attribute, is_text};
@@ -161,7 +162,9 @@ impl RdnSequence<'_> {
     }
 }
 
-/// Two names whose numbers fit in four octets, as those of all names that are read do, have one key exactly where they match.
+/// Two names have one key exactly where they match: any two that were read, and all lists of sets whose numbers fit in four
+/// octets.
 pub fn key_laws()
-    ensures { KeyIsExact }
+    ensures names { KeysDecideMatching }
+    ensures lists { KeyIsExact }
 {}
