@@ -20,3 +20,4 @@ pub use Rattle.der.specs.Encoding
 pub use Rattle.der.specs.Fault as DerFault
 pub use Rattle.der.specs.FirstFault
 pub use Rattle.der.specs.Laws as DerLaws
+pub use Rattle.der.specs.declared.fault.Rule

@@ -1,10 +1,16 @@
--- The numbers and names of the rules.
-use Rattle.std.specs.Prelude.{ℕ, List, codes}
+-- The numbers and names of the rules, and how faults of the layers below are passed on.
+use Rattle.std.specs.Prelude.{◌≡◌, ℕ, List, codes, Option, Some, None, Result, Ok, Err}
+use Rattle.asn.specs.Rule.{Rule}
+use Rattle.names.specs.declared.fault.NameFault.{NameFault}
+use Rattle.names.specs.Fault.{fault_number, fault_name}
+use Rattle.cert.specs.declared.fault.CertFault.{CertFault}
+use Rattle.cert.specs.declared.fault.CertFault.TheVariants.{Refused, Memory}
 use Rattle.cert.specs.declared.fault.CertRule.{CertRule}
-use Rattle.cert.specs.declared.fault.CertRule.TheVariants.{Der, Layout, Version, AlgorithmsDiffer, Serial, Time, EmptyIssuer, ExtensionRepeated, ExtensionValue, SubtreeBounds, SignatureBits, Limit}
+use Rattle.cert.specs.declared.fault.CertRule.TheVariants.{Der, Name, Layout, Version, AlgorithmsDiffer, Serial, Time, EmptyIssuer, ExtensionRepeated, ExtensionValue, SubtreeBounds, SignatureBits, Limit}
 
 abbrev pub cert_rule_number : CertRule → ℕ
 cert_rule_number (Der rule) = 21
+cert_rule_number (Name fault) = fault_number fault
 cert_rule_number Layout = 22
 cert_rule_number Version = 23
 cert_rule_number AlgorithmsDiffer = 24
@@ -19,6 +25,7 @@ cert_rule_number Limit = 32
 
 abbrev pub cert_rule_name : CertRule → List ℕ
 cert_rule_name (Der rule) = codes "Der"
+cert_rule_name (Name fault) = fault_name fault
 cert_rule_name Layout = codes "Layout"
 cert_rule_name Version = codes "Version"
 cert_rule_name AlgorithmsDiffer = codes "AlgorithmsDiffer"
@@ -30,3 +37,33 @@ cert_rule_name ExtensionValue = codes "ExtensionValue"
 cert_rule_name SubtreeBounds = codes "SubtreeBounds"
 cert_rule_name SignatureBits = codes "SignatureBits"
 cert_rule_name Limit = codes "Limit"
+
+abbrev pub cert_fault_number : CertFault → ℕ
+cert_fault_number (Refused rule at) = cert_rule_number rule
+cert_fault_number Memory = 33
+
+abbrev pub cert_fault_name : CertFault → List ℕ
+cert_fault_name (Refused rule at) = cert_rule_name rule
+cert_fault_name Memory = codes "Memory"
+
+abbrev pub cert_fault_place : CertFault → Option ℕ
+cert_fault_place (Refused rule at) = Some at
+cert_fault_place Memory = None
+
+-- a fault in the contents of an OCTET STRING, and one in a name, as faults of the certificate
+abbrev pub as_der : {A : Type 0} → Result A (Rule × ℕ) → Result A (CertRule × ℕ)
+as_der (Ok x) = Ok x
+as_der (Err fault) = Err (Der fault.0, fault.1)
+
+abbrev pub as_name : {A : Type 0} → Result A (NameFault × ℕ) → Result A (CertRule × ℕ)
+as_name (Ok x) = Ok x
+as_name (Err fault) = Err (Name fault.0, fault.1)
+
+-- What a function that takes memory returned, seen by view, is what the walk gives, unless memory was refused.
+abbrev pub FailsUnlessFull : {Y : Type 0} → CertFault → Result Y (CertRule × ℕ) → Type 0
+FailsUnlessFull Memory walk = Unit {0}
+FailsUnlessFull (Refused rule at) walk = walk ≡ Err (rule, at)
+
+abbrev pub GivesUnlessFull : {X Y : Type 0} → (X → Y) → Result X CertFault → Result Y (CertRule × ℕ) → Type 0
+GivesUnlessFull view (Ok x) walk = walk ≡ Ok (view x)
+GivesUnlessFull view (Err fault) walk = FailsUnlessFull fault walk

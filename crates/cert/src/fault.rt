@@ -1,9 +1,12 @@
 //! Why octets are no certificate.
 
 ghost use Rattle.std.specs.Prelude.{◌≡◌};
-ghost use Rattle.cert.specs.Fault.{cert_rule_number, cert_rule_name};
+ghost use Rattle.cert.specs.Fault.{cert_rule_number, cert_rule_name, cert_fault_number, cert_fault_name, cert_fault_place};
+ghost use Rattle.cert.specs.declared.fault.CertFault.TheVariants.{Memory, Refused};
 
 use asn::Rule;
+use names::NameFault;
+use std::alloc::{AllocError, AllocFailed};
 use thiserror::Error;
 
 /// What a certificate breaks.
@@ -12,6 +15,9 @@ pub enum CertRule {
     /// The input, or the contents of an OCTET STRING that holds a value, are not DER.
     #[error("not DER: {0}")]
     Der(Rule),
+    /// A name, a general name or the base of a subtree is none.
+    #[error("{0}")]
+    Name(NameFault),
     /// A value with an identifier that the layout does not have there, a value that is missing, or one left over.
     #[error("value that the layout does not have there")]
     Layout,
@@ -50,13 +56,24 @@ pub enum CertRule {
 /// What is broken, with the offset of the value that breaks it in the text handed to `asn::whole`.
 pub type Refusal = (CertRule, usize);
 
+/// Why octets were not read as a certificate: the first rule that is broken, with the offset of the value that breaks it, or
+/// want of memory.
+#[derive(Clone, Copy, Debug, PartialEq, Eq, Error)]
+pub enum CertFault {
+    #[error("{0} at offset {1}")]
+    Refused(CertRule, usize),
+    #[error("no memory")]
+    Memory,
+}
+
 impl CertRule {
-    /// The number by which the product names the rule, from 21 to 32.
+    /// The number by which the product names the rule, from 21 to 32, or from 11 to 17 for what is wrong in a name.
     pub fn number(self) -> u8
         ensures { result ≡ cert_rule_number self }
     {
         match self {
             CertRule::Der(_) => 21,
+            CertRule::Name(fault) => fault.number(),
             CertRule::Layout => 22,
             CertRule::Version => 23,
             CertRule::AlgorithmsDiffer => 24,
@@ -77,6 +94,7 @@ impl CertRule {
     {
         match self {
             CertRule::Der(_) => "Der",
+            CertRule::Name(fault) => fault.name(),
             CertRule::Layout => "Layout",
             CertRule::Version => "Version",
             CertRule::AlgorithmsDiffer => "AlgorithmsDiffer",
@@ -89,5 +107,61 @@ impl CertRule {
             CertRule::SignatureBits => "SignatureBits",
             CertRule::Limit => "Limit",
         }
+    }
+}
+
+impl CertFault {
+    /// The number by which the product names the fault: that of the rule, or 33 for want of memory.
+    pub fn number(self) -> u8
+        ensures { result ≡ cert_fault_number self }
+    {
+        match self {
+            CertFault::Refused(rule, _) => rule.number(),
+            CertFault::Memory => 33,
+        }
+    }
+
+    /// The word that stands beside the number.
+    pub fn name(self) -> &'static str
+        ensures { result.now ≡ cert_fault_name self }
+    {
+        match self {
+            CertFault::Refused(rule, _) => rule.name(),
+            CertFault::Memory => "Memory",
+        }
+    }
+
+    /// The offset of the value that is refused; `None` for want of memory.
+    pub fn place(self) -> Option<usize>
+        ensures { result ≡ cert_fault_place self }
+    {
+        match self {
+            CertFault::Refused(_, at) => Some(at),
+            CertFault::Memory => None,
+        }
+    }
+}
+
+impl From<Refusal> for CertFault {
+    ghost from_gives = { λ refusal fault. fault ≡ Refused refusal.0 refusal.1 };
+
+    fn from(refusal: Refusal) -> CertFault {
+        CertFault::Refused(refusal.0, refusal.1)
+    }
+}
+
+impl From<AllocError> for CertFault {
+    ghost from_gives = { λ _ fault. fault ≡ Memory };
+
+    fn from(_: AllocError) -> CertFault {
+        CertFault::Memory
+    }
+}
+
+impl<T: Drop> From<AllocFailed<T>> for CertFault {
+    ghost from_gives = { λ _ fault. fault ≡ Memory };
+
+    fn from(_: AllocFailed<T>) -> CertFault {
+        CertFault::Memory
     }
 }

@@ -9,7 +9,7 @@ mod validity;
 
 pub use algorithm::AlgorithmIdentifier;
 pub use extension::Extension;
-pub use fault::{CertRule, Refusal};
+pub use fault::{CertFault, CertRule, Refusal};
 pub use layout::layout_laws;
 pub use validity::Validity;
 

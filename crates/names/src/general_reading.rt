@@ -22,7 +22,7 @@ const DIRECTORY_NAME: u8 = 0xA4;
 /// The form of general names that have the identifier octet: a tag of the context, and the constructed flag in the forms 0, 3,
 /// 4 and 5.
 #[tactic(auto, unfolding(crate::specs::GeneralLayout::form_of_identifier))]
-fn form_of_tag(tag: u8) -> Option<Form>
+pub fn form_of_tag(tag: u8) -> Option<Form>
     ensures form { result ≡ form_of_identifier tag }
     ensures directory { result ≡ Some Form.Directory → tag ≡ DIRECTORY_NAME }
 {
@@ -77,26 +77,27 @@ fn read_ip_address(value: Tlv<'_>) -> Result<General<'_>, Refusal>
     }
 }
 
-#[tactic(auto, unfolding(crate::specs::GeneralLayout::general))]
-fn read_general(value: Tlv<'_>) -> Result<General<'_>, Refusal>
-    ensures { Gives general_name result (general (part value.entry)) }
-{
-    match form_of_tag(value.tag) {
-        Some(Form::Directory) => Ok(General::Directory(read_explicit_name(value)?)),
-        Some(Form::Dns) => read_dns_name(value),
-        Some(Form::Ip) => read_ip_address(value),
-        Some(Form::Other(number)) => Ok(General::Other(number, value.body)),
-        None => Err((NameFault::NameLayout, value.at)),
-    }
-}
-
 impl<'a> General<'a> {
+    /// As `read`, with faults at their offsets in the text handed to `asn::whole`.
+    #[tactic(auto, unfolding(crate::specs::GeneralLayout::general))]
+    pub fn at(value: Tlv<'a>) -> Result<General<'a>, Refusal>
+        ensures { Gives general_name result (general (part value.entry)) }
+    {
+        match form_of_tag(value.tag) {
+            Some(Form::Directory) => Ok(General::Directory(read_explicit_name(value)?)),
+            Some(Form::Dns) => read_dns_name(value),
+            Some(Form::Ip) => read_ip_address(value),
+            Some(Form::Other(number)) => Ok(General::Other(number, value.body)),
+            None => Err((NameFault::NameLayout, value.at)),
+        }
+    }
+
     /// The general name that the value is, or the first fault in it, with its offset in the value. The contents of forms other
     /// than directoryName, dNSName and iPAddress are free. No memory is taken.
     pub fn read(value: Tlv<'a>) -> Result<General<'a>, Refusal>
         ensures { Gives general_name result (general (record { octets = value.entry.whole.now; at = 0 })) }
     {
-        read_general(value.alone())
+        General::at(value.alone())
     }
 }
 
@@ -123,26 +124,27 @@ fn read_ip_base(value: Tlv<'_>) -> Result<Subtree<'_>, Refusal>
     }
 }
 
-#[tactic(auto, unfolding(crate::specs::GeneralLayout::base))]
-fn read_base(value: Tlv<'_>) -> Result<Subtree<'_>, Refusal>
-    ensures { Gives subtree_base result (base (part value.entry)) }
-{
-    match form_of_tag(value.tag) {
-        Some(Form::Directory) => Ok(Subtree::Directory(read_explicit_name(value)?)),
-        Some(Form::Dns) => read_dns_base(value),
-        Some(Form::Ip) => read_ip_base(value),
-        Some(Form::Other(number)) => Ok(Subtree::Other(number, value.body)),
-        None => Err((NameFault::NameLayout, value.at)),
-    }
-}
-
 impl<'a> Subtree<'a> {
+    /// As `read_base`, with faults at their offsets in the text handed to `asn::whole`.
+    #[tactic(auto, unfolding(crate::specs::GeneralLayout::base))]
+    pub fn base_at(value: Tlv<'a>) -> Result<Subtree<'a>, Refusal>
+        ensures { Gives subtree_base result (base (part value.entry)) }
+    {
+        match form_of_tag(value.tag) {
+            Some(Form::Directory) => Ok(Subtree::Directory(read_explicit_name(value)?)),
+            Some(Form::Dns) => read_dns_base(value),
+            Some(Form::Ip) => read_ip_base(value),
+            Some(Form::Other(number)) => Ok(Subtree::Other(number, value.body)),
+            None => Err((NameFault::NameLayout, value.at)),
+        }
+    }
+
     /// The base of a subtree that the value is, or the first fault in it, with its offset in the value. The contents of forms
     /// other than directoryName, dNSName and iPAddress are free. No memory is taken.
     pub fn read_base(value: Tlv<'a>) -> Result<Subtree<'a>, Refusal>
         ensures { Gives subtree_base result (base (record { octets = value.entry.whole.now; at = 0 })) }
     {
-        read_base(value.alone())
+        Subtree::base_at(value.alone())
     }
 }
 

@@ -19,7 +19,7 @@ pub use attribute::Attribute;
 pub use dns::{Domain, domain_laws, is_dns_name};
 pub use fault::{NameFault, Refusal};
 pub use general::{Form, General};
-pub use general_reading::{coverage_laws, general_laws};
+pub use general_reading::{coverage_laws, form_of_tag, general_laws};
 pub use ip::{IpFault, IpRange, is_ip_address, range_laws};
 pub use name::Name;
 pub use name_key::key_laws;

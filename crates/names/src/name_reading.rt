@@ -70,8 +70,8 @@ fn read_name(tlv: Tlv<'_>) -> Result<Cursor<'_>, Refusal>
 }
 
 impl<'a> Name<'a> {
-    /// The name that stands there, with faults at their offsets in the whole text.
-    pub(crate) fn at(tlv: Tlv<'a>) -> Result<Name<'a>, Refusal>
+    /// As `read`, with faults at their offsets in the text handed to `asn::whole`.
+    pub fn at(tlv: Tlv<'a>) -> Result<Name<'a>, Refusal>
         ensures walk { Gives (λ _. tt) result (name (part tlv.entry)) }
         ensures raw { IfOk result (λ found. raw_of found ≡ tlv.entry.whole.now) }
         ensures rdns { IfOk result (λ found. rdns_of found ≡ rdns_at (part tlv.entry)) }
