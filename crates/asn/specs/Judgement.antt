@@ -24,6 +24,10 @@ abbrev pub placed : Result (Unit {0}) (Rule × ℕ) → Place → Result Place (
 placed (Ok done) place = Ok place
 placed (Err fault) place = Err (fault.0, place.at + fault.1)
 
+-- the value that the whole input is
+unfoldable pub outermost : List ℕ → Result Place (Rule × ℕ)
+outermost text = placed (judgement text) (record { octets = text; at = 0 })
+
 -- the value that the contents of a value are, which is at depth 1 again
 unfoldable pub nested : Place → Result Place (Rule × ℕ)
 nested value = placed (judgement (inside value).octets) (inside value)

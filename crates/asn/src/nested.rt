@@ -1,10 +1,10 @@
-//! Contents that are DER of their own, as those of an OCTET STRING often are.
+//! Whole texts of DER, and contents that are DER of their own, as those of an OCTET STRING often are, as steps of a walk.
 
 ghost use Rattle.std.specs.Prelude.{◌≤◌, length, IfErr, OnOk};
 ghost use Rattle.asn.specs.Part.{IsWhole};
 ghost use Rattle.asn.specs.Place.{part};
 ghost use Rattle.asn.specs.Walk.{Gives};
-ghost use Rattle.asn.specs.Judgement.{judgement, nested};
+ghost use Rattle.asn.specs.Judgement.{judgement, nested, outermost};
 
 use crate::cursor::whole_at;
 use crate::tlv::Tlv;
@@ -24,6 +24,18 @@ fn judge(octets: &[u8]) -> Result<(), (Rule, usize)>
 }
 
 impl<'a> Tlv<'a> {
+    /// The one value that the octets are the encoding of, or the first fault in them, as a step of a walk: the rule and its
+    /// place. See `whole`.
+    #[tactic(auto, unfolding(crate::specs::Judgement::outermost))]
+    pub fn outermost(octets: &'a [u8]) -> Result<Tlv<'a>, (Rule, usize)>
+        ensures { Gives part result (outermost octets.now) }
+    {
+        match judge(octets) {
+            Ok(()) => Ok(whole_at(octets, 0)),
+            Err(fault) => Err(fault),
+        }
+    }
+
     /// The one value that the contents are the encoding of, or the first fault in them, with its offset in the text handed
     /// to `whole`. Depth is counted anew, from 1. Time is linear in the contents; no memory is taken.
     #[tactic(auto, unfolding(crate::specs::Judgement::nested))]

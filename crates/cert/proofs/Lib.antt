@@ -1,3 +1,5 @@
+mod Saturation
+mod OidSets
 mod AlgorithmLaws
 mod ValidityLaws
 mod ExtensionLaws

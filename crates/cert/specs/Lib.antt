@@ -2,6 +2,18 @@ pub mod Fault
 pub mod AlgorithmIdentifier
 pub mod Validity
 pub mod Extension
+pub mod KeyUsage
+pub mod BasicConstraints
+pub mod Purposes
+pub mod Limit
+pub mod AlternativeNames
+pub mod NameConstraints
+pub mod Extensions
+pub mod Version
+pub mod SubjectPublicKeyInfo
+pub mod OidSet
+pub mod TbsCertificate
+pub mod Certificate
 pub use Rattle.asn.specs.Place
 pub use Rattle.asn.specs.Members
 pub use Rattle.asn.specs.Walk
@@ -10,3 +22,8 @@ pub use Rattle.asn.specs.Time
 pub use Rattle.asn.specs.Oid
 pub use Rattle.asn.specs.Value
 pub use Rattle.asn.specs.Encoding
+pub use Rattle.asn.specs.Judgement
+pub use Rattle.names.specs.Ip
+pub use Rattle.asn.specs.Integer
+pub use Rattle.names.specs.GeneralLayout
+pub use Rattle.names.specs.GeneralView

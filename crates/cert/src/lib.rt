@@ -2,16 +2,40 @@
 #![tactic(auto)]
 
 mod algorithm;
+mod alternative_names;
+mod basic_constraints;
+mod certificate;
+mod contained;
 mod extension;
+mod extension_kind;
+mod extensions;
 mod fault;
+mod key_info;
+mod key_usage;
 mod layout;
+mod limit;
+mod name_constraints;
+mod oid_set;
+mod purposes;
+mod subtrees;
+mod tbs;
 mod validity;
+mod version;
 
 pub use algorithm::AlgorithmIdentifier;
+pub use basic_constraints::BasicConstraints;
+pub use certificate::Certificate;
 pub use extension::Extension;
+pub use extension_kind::ExtensionKind;
+pub use extensions::Extensions;
 pub use fault::{CertFault, CertRule, Refusal};
+pub use key_info::SubjectPublicKeyInfo;
+pub use key_usage::KeyUsage;
 pub use layout::layout_laws;
+pub use limit::MOST_NAMES;
+pub use name_constraints::NameConstraints;
 pub use validity::Validity;
+pub use version::Version;
 
 #[cfg(test)]
 mod tests;

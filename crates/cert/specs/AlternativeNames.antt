@@ -1,0 +1,33 @@
+-- subjectAltName (RFC 5280, 4.2.1.6): SEQUENCE SIZE (1..MAX) OF GeneralName
+use Rattle.std.specs.Prelude.{ℕ, List, [], ◌∷◌, ◌++◌, length, is_some, Result, Ok}
+use Rattle.asn.specs.Place.{Place, tag}
+use Rattle.asn.specs.Members.{members}
+use Rattle.asn.specs.Walk.{◌>>=◌, check_that, is_a, some, each}
+use Rattle.asn.specs.Judgement.{nested}
+use Rattle.names.specs.declared.fault.NameFault.TheVariants.{NameLayout}
+use Rattle.names.specs.GeneralLayout.{GeneralName, form_of_identifier, general}
+use Rattle.cert.specs.Fault.{as_der, as_name}
+use Rattle.cert.specs.Limit.{has_room}
+use Rattle.cert.specs.declared.fault.CertRule.{CertRule}
+use Rattle.cert.specs.declared.fault.CertRule.TheVariants.{Name, ExtensionValue}
+use Rattle.cert.specs.declared.limit.TheConstants.{MOST_NAMES}
+
+-- the value has the identifier of a general name
+unfoldable pub has_form : Place → Result (Unit {0}) (CertRule × ℕ)
+has_form value = check_that (is_some (form_of_identifier (tag value))) (Name NameLayout) value.at
+
+-- the names, with one more
+unfoldable pub one_more_name : List GeneralName → Place → Result (List GeneralName) (CertRule × ℕ)
+one_more_name earlier value = do
+  form ← has_form value
+  room ← has_room MOST_NAMES (length earlier) value.at
+  name ← as_name (general value)
+  Ok (earlier ++ name ∷ [])
+
+-- The checks in their order.
+unfoldable pub alternative_names : Place → Result (List GeneralName) (CertRule × ℕ)
+alternative_names octet_string = do
+  value ← as_der (nested octet_string)
+  sequence ← is_a 0x30 ExtensionValue value
+  one ← some ExtensionValue (members value)
+  each one_more_name [] ((members value).values)

@@ -1,0 +1,133 @@
+-- Certificates (RFC 5280, 4.1): SEQUENCE { tbsCertificate, signatureAlgorithm, signatureValue BIT STRING }
+use Rattle.std.specs.Prelude.{◌≡◌, ℕ, ◌==◌, Bool, false, List, [], ◌∷◌, Option, Some, None, Result, Ok}
+use Rattle.std.specs.Str.{bytes_eq}
+use Rattle.asn.specs.Place.{Place, body}
+use Rattle.asn.specs.Members.{Members, members}
+use Rattle.asn.specs.Walk.{◌>>=◌, is_a, required, optional, ended, check_that}
+use Rattle.asn.specs.Judgement.{outermost}
+use Rattle.names.specs.DistinguishedName.{matching}
+use Rattle.names.specs.GeneralLayout.{NameContents}
+use Rattle.names.specs.GeneralView.{name_contents}
+use Rattle.cert.specs.declared.fault.CertRule.{CertRule}
+use Rattle.cert.specs.declared.fault.CertRule.TheVariants as R
+use Rattle.cert.specs.declared.version.Version.{Version}
+use Rattle.cert.specs.declared.certificate.Certificate as code
+use Rattle.cert.specs.declared.certificate.TbsCertificate as signed_part
+use Rattle.cert.specs.Fault.{as_der}
+use Rattle.cert.specs.AlgorithmIdentifier.{AlgorithmIdentifier}
+use Rattle.cert.specs.Validity.{Validity, seen_validity}
+use Rattle.cert.specs.SubjectPublicKeyInfo.{SubjectPublicKeyInfo, bits_in, seen_key_info}
+use Rattle.cert.specs.Version.{is_v3}
+use Rattle.cert.specs.Extensions.{Extensions, no_extensions, extensions, seen_extensions}
+use Rattle.cert.specs.TbsCertificate.{TbsHead, Subject, tbs_head, tbs_subject, seen_head, seen_subject}
+
+-- extensions [3] EXPLICIT Extensions OPTIONAL (4.1.2.9): in v3 alone
+abbrev pub extensions_in : Version → Option Place → Members → Result (Extensions × Members) (CertRule × ℕ)
+extensions_in version None left = Ok (no_extensions, left)
+extensions_in version (Some explicit) left = do
+  served ← check_that (is_v3 version) R.Version explicit.at
+  list ← required 0x30 R.Layout (members explicit)
+  read ← extensions list.0
+  done ← ended R.Layout list.1
+  Ok (read, left)
+
+unfoldable pub optional_extensions : Version → Members → Result (Extensions × Members) (CertRule × ℕ)
+optional_extensions version left = extensions_in version (optional 0xA3 left).0 (optional 0xA3 left).1
+
+-- TBSCertificate ::= SEQUENCE { version [0], serialNumber, signature, issuer, validity, subject, subjectPublicKeyInfo,
+-- issuerUniqueID [1], subjectUniqueID [2], extensions [3] }
+pub record TbsCertificate : Type 0 where
+  pub head : TbsHead
+  pub subject : Subject
+  pub extensions : Extensions
+
+abbrev pub seen_tbs : signed_part.TbsCertificate → TbsCertificate
+seen_tbs read = record { head = seen_head read.head; subject = seen_subject read.subject; extensions = seen_extensions read.extensions }
+
+unfoldable pub tbs_certificate : Place → Result TbsCertificate (CertRule × ℕ)
+tbs_certificate value = do
+  head ← tbs_head (members value)
+  subject ← tbs_subject head.0.version head.1
+  extensions ← optional_extensions head.0.version subject.1
+  done ← ended R.Layout extensions.1
+  Ok (record { head = head.0; subject = subject.0; extensions = extensions.0 })
+
+-- signatureAlgorithm (4.1.1.2): the same octets as the algorithm identifier in the signed part
+unfoldable pub same_algorithm : AlgorithmIdentifier → Members → Result Members (CertRule × ℕ)
+same_algorithm inner left = do
+  value ← required 0x30 R.Layout left
+  same ← check_that (bytes_eq value.0.octets inner.whole.octets) R.AlgorithmsDiffer value.0.at
+  Ok value.1
+
+-- signatureValue (4.1.1.3): a BIT STRING of octets, with no bit unused
+abbrev pub has_no_unused_bits : List ℕ → Bool
+has_no_unused_bits [] = false
+has_no_unused_bits (unused ∷ octets) = unused == 0
+
+unfoldable pub signature_value : Members → Result (List ℕ × Members) (CertRule × ℕ)
+signature_value left = do
+  value ← required 0x03 R.Layout left
+  octets ← check_that (has_no_unused_bits (body value.0)) R.SignatureBits value.0.at
+  Ok (bits_in (body value.0), value.1)
+
+-- The fields of a certificate.
+pub record Certificate : Type 0 where
+  pub octets : List ℕ
+  pub tbs : List ℕ
+  pub version : Version
+  pub serial : List ℕ
+  pub algorithm : List ℕ
+  pub issuer : NameContents
+  pub validity : Validity
+  pub subject : NameContents
+  pub key_info : SubjectPublicKeyInfo
+  pub extensions : Extensions
+  pub signature : List ℕ
+
+abbrev pub seen_certificate : code.Certificate → Certificate
+seen_certificate read = record {
+  octets = read.octets.now;
+  tbs = read.tbs.now;
+  version = read.version;
+  serial = read.serial.now;
+  algorithm = read.algorithm.now;
+  issuer = name_contents read.issuer;
+  validity = seen_validity read.validity;
+  subject = name_contents read.subject;
+  key_info = seen_key_info read.subject_public_key_info;
+  extensions = seen_extensions read.extensions;
+  signature = read.signature.now;
+}
+
+abbrev pub certificate_with : List ℕ → Place → TbsCertificate → List ℕ → Certificate
+certificate_with octets signed tbs signature = record {
+  octets = octets;
+  tbs = signed.octets;
+  version = tbs.head.version;
+  serial = tbs.head.serial;
+  algorithm = tbs.head.signature.whole.octets;
+  issuer = tbs.head.issuer;
+  validity = tbs.head.validity;
+  subject = tbs.subject.name;
+  key_info = tbs.subject.key_info;
+  extensions = tbs.extensions;
+  signature = signature;
+}
+
+-- The checks in their order.
+unfoldable pub certificate_at : Place → Result Certificate (CertRule × ℕ)
+certificate_at value = do
+  sequence ← is_a 0x30 R.Layout value
+  signed ← required 0x30 R.Layout (members value)
+  tbs ← tbs_certificate signed.0
+  algorithm ← same_algorithm tbs.head.signature signed.1
+  signature ← signature_value algorithm
+  done ← ended R.Layout signature.1
+  Ok (certificate_with value.octets signed.0 tbs signature.0)
+
+unfoldable pub certificate : List ℕ → Result Certificate (CertRule × ℕ)
+certificate octets = as_der (outermost octets) >>= λ value. certificate_at value
+
+-- subject and issuer match (6.1)
+unfoldable pub is_self_issued : Certificate → Bool
+is_self_issued certificate = matching certificate.subject.rdns certificate.issuer.rdns

@@ -1,0 +1,30 @@
+-- keyUsage (RFC 5280, 4.2.1.3): a BIT STRING, whose contents are the count of unused bits and the octets of the bits (X.690, 8.6.2)
+use Rattle.std.specs.Prelude.{◌==◌, ℕ, Bool, List, [], ◌∷◌, Result, Ok}
+use Rattle.asn.specs.Place.{Place, body}
+use Rattle.asn.specs.Walk.{◌>>=◌, is_a}
+use Rattle.asn.specs.Judgement.{nested}
+use Rattle.names.specs.Ip.{bit}
+use Rattle.cert.specs.Fault.{as_der}
+use Rattle.cert.specs.declared.fault.CertRule.{CertRule}
+use Rattle.cert.specs.declared.fault.CertRule.TheVariants.{ExtensionValue}
+use Rattle.cert.specs.declared.key_usage.KeyUsage as code
+
+-- the octets of the bits
+abbrev pub seen_key_usage : code.KeyUsage → List ℕ
+seen_key_usage read = read.bits.now
+
+-- whether the bit is set, where the highest of the first octet is bit 0; past the end none is
+abbrev pub has_bit : List ℕ → ℕ → Bool
+has_bit bits index = bit bits index == 1
+
+-- the octets behind the count of unused bits
+abbrev pub bits_of : List ℕ → List ℕ
+bits_of [] = []
+bits_of (unused ∷ bits) = bits
+
+-- The checks in their order.
+unfoldable pub key_usage : Place → Result (List ℕ) (CertRule × ℕ)
+key_usage octet_string = do
+  value ← as_der (nested octet_string)
+  string ← is_a 0x03 ExtensionValue value
+  Ok (bits_of (body value))

@@ -1,0 +1,71 @@
+-- nameConstraints (RFC 5280, 4.2.1.10):
+-- SEQUENCE { permittedSubtrees [0] GeneralSubtrees OPTIONAL, excludedSubtrees [1] GeneralSubtrees OPTIONAL }
+use Rattle.std.specs.Prelude.{ℕ, ◌-◌, ◌||◌, not, List, [], ◌∷◌, ◌++◌, length, map, Option, Some, None, Result, Ok}
+use Rattle.asn.specs.Place.{Place}
+use Rattle.asn.specs.Members.{Members, members, begins, next_at}
+use Rattle.asn.specs.Walk.{◌>>=◌, check_that, is_a, optional, next_or, some, ended, each}
+use Rattle.asn.specs.Judgement.{nested}
+use Rattle.names.specs.GeneralLayout.{SubtreeBase, base}
+use Rattle.names.specs.GeneralView.{subtree_base}
+use Rattle.cert.specs.Fault.{as_der, as_name}
+use Rattle.cert.specs.Limit.{has_room}
+use Rattle.cert.specs.declared.fault.CertRule.{CertRule}
+use Rattle.cert.specs.declared.fault.CertRule.TheVariants.{ExtensionValue, SubtreeBounds}
+use Rattle.cert.specs.declared.limit.TheConstants.{MOST_NAMES}
+use Rattle.cert.specs.declared.name_constraints.NameConstraints as code
+
+-- the bases of the subtrees, which are all that is served of them
+pub record NameConstraints : Type 0 where
+  pub permitted : List SubtreeBase
+  pub excluded : List SubtreeBase
+
+abbrev pub seen_name_constraints : code.NameConstraints → NameConstraints
+seen_name_constraints read = record { permitted = map subtree_base read.permitted.items; excluded = map subtree_base read.excluded.items }
+
+-- neither minimum [0] nor maximum [1], and nothing else
+unfoldable pub no_bounds : Members → Result (Unit {0}) (CertRule × ℕ)
+no_bounds left = do
+  bounds ← check_that (not (begins 0x80 left || begins 0x81 left)) SubtreeBounds (next_at left)
+  ended ExtensionValue left
+
+-- the members of a GeneralSubtree: SEQUENCE { base GeneralName, minimum [0] DEFAULT 0, maximum [1] OPTIONAL }
+unfoldable pub subtree : Members → Result SubtreeBase (CertRule × ℕ)
+subtree left = do
+  first ← next_or ExtensionValue left
+  base ← as_name (base first.0)
+  done ← no_bounds first.1
+  Ok base
+
+-- the bases of subtrees, with one more of at most so many
+unfoldable pub one_more_subtree : ℕ → List SubtreeBase → Place → Result (List SubtreeBase) (CertRule × ℕ)
+one_more_subtree most earlier value = do
+  sequence ← is_a 0x30 ExtensionValue value
+  room ← has_room most (length earlier) value.at
+  base ← subtree (members value)
+  Ok (earlier ++ base ∷ [])
+
+-- GeneralSubtrees: SEQUENCE SIZE (1..MAX) OF GeneralSubtree
+unfoldable pub some_subtrees : ℕ → Members → Result (List SubtreeBase) (CertRule × ℕ)
+some_subtrees most left = do
+  one ← some ExtensionValue left
+  each (one_more_subtree most) [] left.values
+
+-- GeneralSubtrees OPTIONAL under a tag
+abbrev pub subtrees_in : ℕ → Option Place → Members → Result (List SubtreeBase × Members) (CertRule × ℕ)
+subtrees_in most None left = Ok ([], left)
+subtrees_in most (Some list) left = do
+  found ← some_subtrees most (members list)
+  Ok (found, left)
+
+unfoldable pub subtrees : ℕ → ℕ → Members → Result (List SubtreeBase × Members) (CertRule × ℕ)
+subtrees most identifier left = subtrees_in most (optional identifier left).0 (optional identifier left).1
+
+-- The checks in their order.
+unfoldable pub name_constraints : Place → Result NameConstraints (CertRule × ℕ)
+name_constraints octet_string = do
+  value ← as_der (nested octet_string)
+  sequence ← is_a 0x30 ExtensionValue value
+  permitted ← subtrees MOST_NAMES 0xA0 (members value)
+  excluded ← subtrees (MOST_NAMES - length permitted.0) 0xA1 permitted.1
+  done ← ended ExtensionValue excluded.1
+  Ok (record { permitted = permitted.0; excluded = excluded.0 })

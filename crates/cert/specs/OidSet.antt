@@ -1,0 +1,12 @@
+-- Sets of OBJECT IDENTIFIERs by their contents.
+use Rattle.std.specs.Prelude.{ℕ, List, map}
+use Rattle.std.specs.Ordering.{nat_cmp}
+use Rattle.std.specs.Cmp.Lexicographic.{slice_cmp}
+use Rattle.std.specs.FinSet.{FinSet, from_list}
+use Rattle.cert.specs.declared.oid_set.OidSet.{OidSet}
+
+abbrev pub Oids : Type 0
+Oids = FinSet {K = List ℕ} (slice_cmp nat_cmp)
+
+unfoldable pub oids_in : OidSet → Oids
+oids_in set = from_list (map (λ oid. oid.now) set.oids.keys)

@@ -1,0 +1,48 @@
+-- Public keys of subjects (RFC 5280, 4.1.2.7):
+-- SEQUENCE { algorithm AlgorithmIdentifier, subjectPublicKey BIT STRING }
+use Rattle.std.specs.Prelude.{◌≡◌, ◌↔◌, ℕ, List, [], ◌∷◌, Result, Ok, drop}
+use Rattle.asn.specs.Place.{Place, tag, body}
+use Rattle.asn.specs.Members.{members}
+use Rattle.asn.specs.Walk.{◌>>=◌, is_a, required, ended}
+use Rattle.cert.specs.declared.fault.CertRule.{CertRule}
+use Rattle.cert.specs.declared.fault.CertRule.TheVariants.{Layout}
+use Rattle.cert.specs.declared.key_info.SubjectPublicKeyInfo as code
+use Rattle.cert.specs.AlgorithmIdentifier.{AlgorithmIdentifier, algorithm_identifier, IsAlgorithmIdentifier}
+
+-- the octets of a BIT STRING: its contents behind the count of unused bits
+abbrev pub bits_in : List ℕ → List ℕ
+bits_in contents = drop 1 contents
+
+-- the whole encoding, and the octets of the key
+pub record SubjectPublicKeyInfo : Type 0 where
+  pub whole : List ℕ
+  pub key : List ℕ
+
+abbrev pub seen_key_info : code.SubjectPublicKeyInfo → SubjectPublicKeyInfo
+seen_key_info read = record { whole = read.whole.now; key = read.key.now }
+
+-- The checks in their order. The count of unused bits is free.
+unfoldable pub key_info : Place → Result SubjectPublicKeyInfo (CertRule × ℕ)
+key_info value = do
+  sequence ← is_a 0x30 Layout value
+  algorithm ← required 0x30 Layout (members value)
+  read ← algorithm_identifier Layout algorithm.0
+  key ← required 0x03 Layout algorithm.1
+  done ← ended Layout key.1
+  Ok (record { whole = value.octets; key = bits_in (body key.0) })
+
+-- The place is a SEQUENCE of an algorithm identifier and a BIT STRING.
+pub record IsSubjectPublicKeyInfo (value : Place) (fields : SubjectPublicKeyInfo) : Type 0 where
+  pub algorithm : Place
+  pub key : Place
+  pub identified : AlgorithmIdentifier
+  pub sequence : tag value ≡ 0x30
+  pub members_are : (members value).values ≡ algorithm ∷ key ∷ []
+  pub algorithm_is : IsAlgorithmIdentifier algorithm identified
+  pub bit_string : tag key ≡ 0x03
+  pub whole : fields.whole ≡ value.octets
+  pub bits : fields.key ≡ bits_in (body key)
+
+abbrev pub SubjectPublicKeyInfoIsExact : Type 0
+SubjectPublicKeyInfoIsExact =
+    (value : Place) (fields : SubjectPublicKeyInfo) → (key_info value ≡ Ok fields) ↔ IsSubjectPublicKeyInfo value fields

@@ -1,0 +1,85 @@
+//! subjectAltName: further names of a certificate's subject (RFC 5280, 4.2.1.6).
+
+ghost use Rattle.std.specs.Prelude.{[], map};
+ghost use Rattle.asn.specs.Place.{part};
+ghost use Rattle.asn.specs.Members.{left};
+ghost use Rattle.asn.specs.Walk.{Gives, each};
+ghost use Rattle.names.specs.GeneralLayout.{general};
+ghost use Rattle.names.specs.GeneralView.{general_name};
+ghost use Rattle.cert.specs.Fault.{as_name, GivesUnlessFull};
+ghost use Rattle.cert.specs.AlternativeNames.{has_form, one_more_name, alternative_names};
+
+use crate::contained::contained_value;
+use crate::fault::{CertFault, CertRule, Refusal};
+use crate::limit::{MOST_NAMES, check_room};
+use asn::{Cursor, Tlv};
+use names::{General, NameFault, form_of_tag};
+use std::alloc::Global;
+
+/// The fault `NameLayout`, at the value, where it has the identifier of no general name.
+#[tactic(auto, unfolding(crate::specs::AlternativeNames::has_form, asn::specs::Walk::check_that))]
+fn check_form(value: Tlv<'_>) -> Result<(), Refusal>
+    ensures { Gives (λ _. tt) result (has_form (part value.entry)) }
+{
+    match form_of_tag(value.tag) {
+        Some(_) => Ok(()),
+        None => Err((CertRule::Name(NameFault::NameLayout), value.at)),
+    }
+}
+
+/// The general name that the value is.
+fn read_name(value: Tlv<'_>) -> Result<General<'_>, Refusal>
+    ensures { Gives general_name result (as_name (general (part value.entry))) }
+{
+    match General::at(value) {
+        Ok(name) => Ok(name),
+        Err((fault, at)) => Err((CertRule::Name(fault), at)),
+    }
+}
+
+/// Adds the name that the value is.
+#[tactic(auto, unfolding(crate::specs::AlternativeNames::one_more_name))]
+fn push_name<'a>(all: &mut Vec<General<'a>>, value: Tlv<'a>) -> Result<(), CertFault>
+    ensures { GivesUnlessFull (λ _. map general_name all.new.items) result (one_more_name (map general_name all.old.items) (part value.entry)) }
+{
+    check_form(value)?;
+    check_room(MOST_NAMES, all.len(), value.at)?;
+    let name = read_name(value)?;
+    all.push(name)?;
+    Ok(())
+}
+
+/// The names that the values are.
+fn name_list<'a>(alloc: Global, members: Cursor<'a>) -> Result<Vec<General<'a>>, CertFault>
+    ensures { GivesUnlessFull (λ all. map general_name all.items) result (each one_more_name [] ((left members.entry).values)) }
+{
+    let mut members = members;
+    let mut all = Vec::new(alloc);
+    while let Some(value) = members.next() {
+        match push_name(&mut all, value) {
+            Ok(()) => {}
+            Err(fault) => return Err(fault),
+        }
+    }
+    Ok(all)
+}
+
+/// SubjectAltName ::= GeneralNames
+///
+/// GeneralNames ::= SEQUENCE SIZE (1..MAX) OF GeneralName
+///
+/// The names that the OCTET STRING holds, in order; else the first fault: `Der` in its contents, `ExtensionValue` at a value
+/// that is no SEQUENCE, or at the end of one that is empty, `Name` in a general name, or `Limit` at the 4,097th.
+#[tactic(auto, unfolding(crate::specs::AlternativeNames::alternative_names))]
+pub(crate) fn read_alternative_names<'a>(
+    alloc: Global,
+    octet_string: Tlv<'a>,
+) -> Result<Vec<General<'a>>, CertFault>
+    ensures { GivesUnlessFull (λ all. map general_name all.items) result (alternative_names (part octet_string.entry)) }
+{
+    let value = contained_value(octet_string)?;
+    value.is_a(0x30, CertRule::ExtensionValue)?;
+    let members = value.members();
+    members.some(CertRule::ExtensionValue)?;
+    name_list(alloc, members)
+}

@@ -1,0 +1,75 @@
+//! basicConstraints: whether a certificate is that of an authority, and how long a path from it may be (RFC 5280, 4.2.1.9).
+
+ghost use Rattle.std.specs.Prelude.{◌≡◌};
+ghost use Rattle.asn.specs.Place.{part};
+ghost use Rattle.asn.specs.Members.{left};
+ghost use Rattle.asn.specs.Walk.{Gives};
+ghost use Rattle.cert.specs.BasicConstraints.{is_negative, saturated, path_length, basic_constraints, seen_basic_constraints};
+
+use crate::contained::contained_value;
+use crate::fault::{CertRule, Refusal};
+use asn::{Cursor, Tlv};
+
+/// BasicConstraints ::= SEQUENCE { cA BOOLEAN DEFAULT FALSE, pathLenConstraint INTEGER (0..MAX) OPTIONAL }
+#[derive(Clone, Copy, Debug, PartialEq, Eq)]
+pub struct BasicConstraints {
+    pub ca: bool,
+    /// The number, or the greatest `u32` where it is greater.
+    pub path_length: Option<u32>,
+}
+
+/// Whether the contents of an INTEGER are those of a negative number.
+fn is_negative_number(contents: &[u8]) -> bool
+    ensures { result ≡ is_negative contents.now }
+{
+    match contents {
+        [] => false,
+        [first, ..] => *first >= 128,
+    }
+}
+
+/// The number that the octets spell in binary, or the greatest `u32` where it is greater.
+fn saturated_number(octets: &[u8]) -> u32
+    ensures { result ≡ saturated octets.now }
+{
+    let mut number: u32 = 0;
+    for octet in octets {
+        number = number.saturating_mul(256).saturating_add(u32::from(*octet));
+    }
+    number
+}
+
+/// The path length, where it is there; else the fault, at it, where it is negative.
+#[tactic(auto, unfolding(crate::specs::BasicConstraints::path_length))]
+fn take_path_length(members: &mut Cursor<'_>) -> Result<Option<u32>, Refusal>
+    ensures { Gives (λ number. (number, left members.new)) result (path_length (left members.old)) }
+{
+    match members.optional(0x02) {
+        None => Ok(None),
+        Some(number) => {
+            if is_negative_number(number.body) {
+                Err((CertRule::ExtensionValue, number.at))
+            } else {
+                Ok(Some(saturated_number(number.body)))
+            }
+        }
+    }
+}
+
+impl BasicConstraints {
+    /// The basic constraints that the OCTET STRING holds; else the first fault: `Der` in its contents, or `ExtensionValue` at
+    /// a value with a wrong identifier or left over, at a BOOLEAN that is not TRUE, or at a negative path length. A path
+    /// length without `ca` is accepted.
+    #[tactic(auto, unfolding(crate::specs::BasicConstraints::basic_constraints))]
+    pub fn read(octet_string: Tlv<'_>) -> Result<BasicConstraints, Refusal>
+        ensures { Gives seen_basic_constraints result (basic_constraints (part octet_string.entry)) }
+    {
+        let value = contained_value(octet_string)?;
+        value.is_a(0x30, CertRule::ExtensionValue)?;
+        let mut members = value.members();
+        let ca = members.default_false(CertRule::ExtensionValue)?;
+        let path_length = take_path_length(&mut members)?;
+        members.ended(CertRule::ExtensionValue)?;
+        Ok(BasicConstraints { ca, path_length })
+    }
+}

@@ -1,0 +1,195 @@
+//! Certificates (RFC 5280, 4.1).
+
+ghost use Rattle.std.specs.Prelude.{◌≡◌, IsTrue, ◌↔◌};
+ghost use Rattle.asn.specs.Place.{part};
+ghost use Rattle.asn.specs.Members.{left};
+ghost use Rattle.asn.specs.Walk.{Gives};
+ghost use Rattle.asn.specs.Judgement.{outermost as asn_outermost};
+ghost use Rattle.names.specs.DistinguishedName.{NamesMatch};
+ghost use Rattle.cert.specs.AlgorithmIdentifier.{seen_algorithm};
+ghost use Rattle.cert.specs.Certificate.{has_no_unused_bits, optional_extensions, tbs_certificate, seen_tbs, same_algorithm, signature_value, certificate_at, certificate, seen_certificate, is_self_issued};
+ghost use Rattle.cert.specs.Extensions.{seen_extensions};
+ghost use Rattle.cert.specs.Fault.{GivesUnlessFull, as_der};
+
+use crate::algorithm::AlgorithmIdentifier;
+use crate::extensions::Extensions;
+use crate::fault::{CertFault, CertRule, Refusal};
+use crate::key_info::{SubjectPublicKeyInfo, bits_of};
+use crate::tbs::{Subject, TbsHead};
+use crate::validity::Validity;
+use crate::version::Version;
+use asn::{Cursor, Tlv};
+use names::Name;
+use std::alloc::Global;
+
+/// A certificate, read. Its parts are borrowed from the octets that were read; the lists in `extensions` take memory.
+#[derive(Drop)]
+pub struct Certificate<'a> {
+    /// The whole certificate.
+    pub octets: &'a [u8],
+    /// tbsCertificate: the whole encoding of the signed part.
+    pub tbs: &'a [u8],
+    pub version: Version,
+    /// The contents of serialNumber: 1 to 32 octets, of any sign.
+    pub serial: &'a [u8],
+    /// The whole algorithm identifier of the signature, which stands in the signed part and behind it.
+    pub algorithm: &'a [u8],
+    /// A name that is not empty.
+    pub issuer: Name<'a>,
+    pub validity: Validity,
+    pub subject: Name<'a>,
+    pub subject_public_key_info: SubjectPublicKeyInfo<'a>,
+    /// What the extensions say; where there are none, what no extensions say.
+    pub extensions: Extensions<'a>,
+    /// The octets of signatureValue.
+    pub signature: &'a [u8],
+}
+
+/// extensions [3] EXPLICIT Extensions OPTIONAL, in v3 alone
+#[tactic(auto, unfolding(crate::specs::Certificate::optional_extensions, asn::specs::Walk::check_that))]
+fn take_extensions<'a>(
+    alloc: Global,
+    version: Version,
+    members: &mut Cursor<'a>,
+) -> Result<Extensions<'a>, CertFault>
+    ensures { GivesUnlessFull (λ read. (seen_extensions read, left members.new)) result (optional_extensions version (left members.old)) }
+{
+    let Some(explicit) = members.optional(0xA3) else {
+        return Ok(Extensions::none(alloc));
+    };
+    if !version.is_v3() {
+        return Err(CertFault::Refused(CertRule::Version, explicit.at));
+    }
+    let mut inside = explicit.members();
+    let list = inside.required(0x30, CertRule::Layout)?;
+    let extensions = Extensions::read(alloc, list)?;
+    inside.ended(CertRule::Layout)?;
+    Ok(extensions)
+}
+
+/// The signed part, read.
+#[derive(Drop)]
+pub(crate) struct TbsCertificate<'a> {
+    head: TbsHead<'a>,
+    subject: Subject<'a>,
+    extensions: Extensions<'a>,
+}
+
+impl<'a> TbsCertificate<'a> {
+    /// TBSCertificate ::= SEQUENCE { version [0], serialNumber, signature, issuer, validity, subject, subjectPublicKeyInfo,
+    /// issuerUniqueID [1], subjectUniqueID [2], extensions [3] }
+    #[tactic(auto, unfolding(crate::specs::Certificate::tbs_certificate))]
+    fn read(alloc: Global, value: Tlv<'a>) -> Result<TbsCertificate<'a>, CertFault>
+        requires { value.tag ≡ 48 }
+        ensures { GivesUnlessFull seen_tbs result (tbs_certificate (part value.entry)) }
+    {
+        let mut members = value.members();
+        let head = TbsHead::take(&mut members)?;
+        let subject = Subject::take(head.version, &mut members)?;
+        let extensions = take_extensions(alloc, head.version, &mut members)?;
+        members.ended(CertRule::Layout)?;
+        Ok(TbsCertificate {
+            head,
+            subject,
+            extensions,
+        })
+    }
+}
+
+/// Takes signatureAlgorithm, which has the octets of the algorithm identifier in the signed part.
+#[tactic(auto, unfolding(crate::specs::Certificate::same_algorithm, asn::specs::Walk::check_that))]
+fn take_same_algorithm(
+    inner: AlgorithmIdentifier<'_>,
+    members: &mut Cursor<'_>,
+) -> Result<(), Refusal>
+    ensures { Gives (λ _. left members.new) result (same_algorithm (seen_algorithm inner.entry) (left members.old)) }
+{
+    let value = members.required(0x30, CertRule::Layout)?;
+    if value.whole == inner.whole.whole {
+        Ok(())
+    } else {
+        Err((CertRule::AlgorithmsDiffer, value.at))
+    }
+}
+
+fn is_of_whole_octets(contents: &[u8]) -> bool
+    ensures { result ≡ has_no_unused_bits contents.now }
+{
+    match contents {
+        [] => false,
+        [unused, ..] => *unused == 0,
+    }
+}
+
+/// Takes signatureValue BIT STRING, whose bits must be whole octets.
+#[tactic(auto, unfolding(crate::specs::Certificate::signature_value, asn::specs::Walk::check_that))]
+fn take_signature<'a>(members: &mut Cursor<'a>) -> Result<&'a [u8], Refusal>
+    ensures { Gives (λ octets. (octets.now, left members.new)) result (signature_value (left members.old)) }
+{
+    let value = members.required(0x03, CertRule::Layout)?;
+    if is_of_whole_octets(value.body) {
+        Ok(bits_of(value.body))
+    } else {
+        Err((CertRule::SignatureBits, value.at))
+    }
+}
+
+/// Certificate ::= SEQUENCE { tbsCertificate TBSCertificate, signatureAlgorithm AlgorithmIdentifier, signatureValue BIT STRING }
+#[tactic(auto, unfolding(crate::specs::Certificate::certificate_at))]
+fn read_certificate<'a>(alloc: Global, value: Tlv<'a>) -> Result<Certificate<'a>, CertFault>
+    ensures { GivesUnlessFull seen_certificate result (certificate_at (part value.entry)) }
+{
+    value.is_a(0x30, CertRule::Layout)?;
+    let mut members = value.members();
+    let signed = members.required(0x30, CertRule::Layout)?;
+    let tbs = TbsCertificate::read(alloc, signed)?;
+    take_same_algorithm(tbs.head.signature, &mut members)?;
+    let signature = take_signature(&mut members)?;
+    members.ended(CertRule::Layout)?;
+    Ok(Certificate {
+        octets: value.whole,
+        tbs: signed.whole,
+        version: tbs.head.version,
+        serial: tbs.head.serial,
+        algorithm: tbs.head.signature.whole.whole,
+        issuer: tbs.head.issuer,
+        validity: tbs.head.validity,
+        subject: tbs.subject.name,
+        subject_public_key_info: tbs.subject.key_info,
+        extensions: tbs.extensions,
+        signature,
+    })
+}
+
+/// The one value that the octets are the encoding of, with its fault as one of a certificate.
+fn outermost(octets: &[u8]) -> Result<Tlv<'_>, Refusal>
+    ensures { Gives part result (as_der (asn_outermost octets.now)) }
+{
+    match Tlv::outermost(octets) {
+        Ok(value) => Ok(value),
+        Err((rule, at)) => Err((CertRule::Der(rule), at)),
+    }
+}
+
+impl<'a> Certificate<'a> {
+    /// The certificate that the octets are, or the first fault in them.
+    ///
+    /// Time is that of n log n for n octets. Memory is taken for the lists in `extensions`, and, while it reads, for the
+    /// types of the extensions; `CertFault::Memory` is answered only where that was refused.
+    #[tactic(auto, unfolding(crate::specs::Certificate::certificate))]
+    pub fn read(alloc: Global, octets: &'a [u8]) -> Result<Certificate<'a>, CertFault>
+        ensures { GivesUnlessFull seen_certificate result (certificate octets.now) }
+    {
+        let value = outermost(octets)?;
+        read_certificate(alloc, value)
+    }
+
+    /// Whether subject and issuer match (RFC 5280, 6.1).
+    #[tactic(auto, unfolding(crate::specs::Certificate::is_self_issued))]
+    pub fn self_issued(&self) -> bool
+        ensures decides { IsTrue result ↔ NamesMatch (seen_certificate self.now).subject.rdns (seen_certificate self.now).issuer.rdns }
+        ensures test { result ≡ is_self_issued (seen_certificate self.now) }
+    {
+        self.subject.matches(&self.issuer)
+    }
+}

@@ -1,0 +1,69 @@
+//! Which extensions are known, by the contents of their OBJECT IDENTIFIERs.
+
+ghost use Rattle.std.specs.Prelude.{◌≡◌};
+ghost use Rattle.cert.specs.Extensions.{certificate_extension, is_recognised, kind_of};
+
+/// What an extension is about.
+#[derive(Clone, Copy, Debug, PartialEq, Eq)]
+pub enum ExtensionKind {
+    /// keyUsage (RFC 5280, 4.2.1.3).
+    KeyUsage,
+    /// subjectAltName (4.2.1.6).
+    AlternativeNames,
+    /// basicConstraints (4.2.1.9).
+    BasicConstraints,
+    /// nameConstraints (4.2.1.10).
+    NameConstraints,
+    /// extKeyUsage (4.2.1.12).
+    Purposes,
+    /// certificatePolicies (4.2.1.4), whose value decides nothing here.
+    Policies,
+    /// policyMappings, policyConstraints or inhibitAnyPolicy (4.2.1.5, 4.2.1.11, 4.2.1.14), which want a policy tree.
+    PolicyProcessing,
+    /// id-pkix-ocsp-nocheck (RFC 6960, 4.2.2.2.1).
+    NoCheck,
+    /// Another.
+    Other,
+}
+
+/// id-pkix-ocsp-nocheck: 1.3.6.1.5.5.7.48.1.5
+const NO_CHECK: &[u8] = &[0x2B, 0x06, 0x01, 0x05, 0x05, 0x07, 0x30, 0x01, 0x05];
+
+/// The number behind id-ce, which is 2.5.29.
+#[tactic(auto, unfolding(crate::specs::Extensions::certificate_extension))]
+fn certificate_extension_number(oid: &[u8]) -> Option<u8>
+    ensures { result ≡ certificate_extension oid.now }
+{
+    match oid {
+        [0x55, 0x1D, number] => Some(*number),
+        _ => None,
+    }
+}
+
+impl ExtensionKind {
+    /// The kind of the extensions whose type has these contents.
+    #[tactic(auto, unfolding(crate::specs::Extensions::kind_of))]
+    pub fn of(oid: &[u8]) -> ExtensionKind
+        ensures { result ≡ kind_of oid.now }
+    {
+        match certificate_extension_number(oid) {
+            Some(15) => ExtensionKind::KeyUsage,
+            Some(17) => ExtensionKind::AlternativeNames,
+            Some(19) => ExtensionKind::BasicConstraints,
+            Some(30) => ExtensionKind::NameConstraints,
+            Some(32) => ExtensionKind::Policies,
+            Some(33 | 36 | 54) => ExtensionKind::PolicyProcessing,
+            Some(37) => ExtensionKind::Purposes,
+            Some(_) => ExtensionKind::Other,
+            None if oid == NO_CHECK => ExtensionKind::NoCheck,
+            None => ExtensionKind::Other,
+        }
+    }
+
+    /// Whether a path is validated by such extensions; others are refused on a path where they are critical.
+    pub fn is_recognised(self) -> bool
+        ensures { result ≡ is_recognised self }
+    {
+        !matches!(self, ExtensionKind::NoCheck | ExtensionKind::Other)
+    }
+}

@@ -1,0 +1,161 @@
+//! The extensions of a certificate (RFC 5280, 4.2).
+
+ghost use Rattle.std.specs.Prelude.{◌≡◌, OnErr, OnOk, Err};
+ghost use Rattle.cert.specs.declared.fault.CertFault.TheVariants.{Memory};
+ghost use Rattle.asn.specs.Place.{part};
+ghost use Rattle.asn.specs.Members.{left};
+ghost use Rattle.asn.specs.Walk.{each};
+ghost use Rattle.cert.specs.Extension.{seen_extension};
+ghost use Rattle.cert.specs.Extensions.{seen_extensions, no_extensions, kind_of, listed, noted, told_by, one_extension, nothing_taken, seen_taken, extensions};
+ghost use Rattle.cert.specs.Fault.{GivesUnlessFull};
+
+use crate::alternative_names::read_alternative_names;
+use crate::basic_constraints::BasicConstraints;
+use crate::extension::Extension;
+use crate::extension_kind::ExtensionKind;
+use crate::fault::{CertFault, CertRule};
+use crate::key_usage::KeyUsage;
+use crate::name_constraints::NameConstraints;
+use crate::oid_set::OidSet;
+use crate::purposes::read_purposes;
+use asn::{Cursor, Oid, Tlv};
+use names::General;
+use std::alloc::Global;
+
+/// What the extensions of a certificate say. Lists are empty where the extension is not there.
+#[derive(Drop)]
+pub struct Extensions<'a> {
+    pub key_usage: Option<KeyUsage<'a>>,
+    /// subjectAltName.
+    pub alternative_names: Vec<General<'a>>,
+    pub basic_constraints: Option<BasicConstraints>,
+    pub name_constraints: NameConstraints<'a>,
+    /// extKeyUsage.
+    pub purposes: Vec<Oid<'a>>,
+    /// Whether there is policyMappings, policyConstraints or inhibitAnyPolicy.
+    pub needs_policy_processing: bool,
+    /// Whether there is id-pkix-ocsp-nocheck.
+    pub no_check: bool,
+    /// The types of those that are critical and not recognised, in order.
+    pub unrecognised: Vec<Oid<'a>>,
+}
+
+impl<'a> Extensions<'a> {
+    /// What no extensions say.
+    pub(crate) fn none(alloc: Global) -> Extensions<'a>
+        ensures { seen_extensions result ≡ no_extensions }
+    {
+        Extensions {
+            key_usage: None,
+            alternative_names: Vec::new(alloc),
+            basic_constraints: None,
+            name_constraints: NameConstraints {
+                permitted: Vec::new(alloc),
+                excluded: Vec::new(alloc),
+            },
+            purposes: Vec::new(alloc),
+            needs_policy_processing: false,
+            no_check: false,
+            unrecognised: Vec::new(alloc),
+        }
+    }
+
+    /// Reads the OCTET STRING of an extension of that kind.
+    #[tactic(auto, unfolding(crate::specs::Extensions::told_by))]
+    fn tell(
+        &mut self,
+        alloc: Global,
+        kind: ExtensionKind,
+        octet_string: Tlv<'a>,
+    ) -> Result<(), CertFault>
+        ensures { GivesUnlessFull (λ _. seen_extensions self.new) result (told_by kind (part octet_string.entry) (seen_extensions self.old)) }
+    {
+        match kind {
+            ExtensionKind::KeyUsage => self.key_usage = Some(KeyUsage::read(octet_string)?),
+            ExtensionKind::AlternativeNames => {
+                self.alternative_names = read_alternative_names(alloc, octet_string)?;
+            }
+            ExtensionKind::BasicConstraints => {
+                self.basic_constraints = Some(BasicConstraints::read(octet_string)?);
+            }
+            ExtensionKind::NameConstraints => {
+                self.name_constraints = NameConstraints::read(alloc, octet_string)?;
+            }
+            ExtensionKind::Purposes => self.purposes = read_purposes(alloc, octet_string)?,
+            ExtensionKind::PolicyProcessing => self.needs_policy_processing = true,
+            ExtensionKind::NoCheck => self.no_check = true,
+            ExtensionKind::Policies | ExtensionKind::Other => {}
+        }
+        Ok(())
+    }
+
+    /// Lists the type of an extension that is critical and not recognised.
+    fn note(&mut self, extension: Extension<'a>) -> Result<(), CertFault>
+        ensures full { OnErr result (result ≡ Err Memory) }
+        ensures noted { OnOk result (seen_extensions self.new ≡ noted (seen_extension extension.entry) (seen_extensions self.old)) }
+    {
+        let kind = ExtensionKind::of(extension.oid.contents());
+        if extension.critical && !kind.is_recognised() {
+            self.unrecognised.push(extension.oid)?;
+        }
+        Ok(())
+    }
+}
+
+/// The types of the extensions that were taken, and what these say.
+#[derive(Drop)]
+pub(crate) struct Taken<'a> {
+    types: OidSet<'a>,
+    told: Extensions<'a>,
+}
+
+impl<'a> Taken<'a> {
+    /// Takes one more extension, which must be of a type that none of the earlier ones has.
+    #[tactic(auto, unfolding(crate::specs::Extensions::one_extension, asn::specs::Walk::check_that))]
+    fn take(&mut self, alloc: Global, value: Tlv<'a>) -> Result<(), CertFault>
+        ensures { GivesUnlessFull (λ _. seen_taken self.new) result (one_extension (seen_taken self.old) (part value.entry)) }
+    {
+        let extension = Extension::read(value, CertRule::Layout)?;
+        if !self.types.insert(extension.oid.contents())? {
+            return Err(CertFault::Refused(CertRule::ExtensionRepeated, value.at));
+        }
+        let kind = ExtensionKind::of(extension.oid.contents());
+        self.told.tell(alloc, kind, extension.value)?;
+        self.told.note(extension)
+    }
+}
+
+/// Takes the extensions that the values are.
+fn take_all<'a>(alloc: Global, members: Cursor<'a>) -> Result<Taken<'a>, CertFault>
+    ensures { GivesUnlessFull seen_taken result (each one_extension nothing_taken ((left members.entry).values)) }
+{
+    let mut members = members;
+    let mut taken = Taken {
+        types: OidSet::new(alloc),
+        told: Extensions::none(alloc),
+    };
+    while let Some(value) = members.next() {
+        match taken.take(alloc, value) {
+            Ok(()) => {}
+            Err(fault) => return Err(fault),
+        }
+    }
+    Ok(taken)
+}
+
+impl<'a> Extensions<'a> {
+    /// Extensions ::= SEQUENCE SIZE (1..MAX) OF Extension
+    ///
+    /// What the extensions in the SEQUENCE say, or the first fault. Time is that of n log n for n octets; memory is taken
+    /// for the lists, and for the types while they are read.
+    #[tactic(auto, unfolding(crate::specs::Extensions::extensions))]
+    pub(crate) fn read(alloc: Global, value: Tlv<'a>) -> Result<Extensions<'a>, CertFault>
+        requires { value.tag ≡ 48 }
+        ensures { GivesUnlessFull seen_extensions result (extensions (part value.entry)) }
+    {
+        let members = value.members();
+        members.some(CertRule::Layout)?;
+        let taken = take_all(alloc, members)?;
+        Ok(taken.told)
+    }
+}

@@ -1,0 +1,49 @@
+//! Public keys of subjects (RFC 5280, 4.1.2.7).
+
+ghost use Rattle.std.specs.Prelude.{◌≡◌};
+ghost use Rattle.asn.specs.Place.{part};
+ghost use Rattle.asn.specs.Walk.{Gives};
+ghost use Rattle.cert.specs.SubjectPublicKeyInfo.{bits_in, key_info, seen_key_info};
+
+use crate::algorithm::AlgorithmIdentifier;
+use crate::fault::{CertRule, Refusal};
+use asn::Tlv;
+
+/// SubjectPublicKeyInfo ::= SEQUENCE { algorithm AlgorithmIdentifier, subjectPublicKey BIT STRING }
+#[derive(Clone, Copy)]
+pub struct SubjectPublicKeyInfo<'a> {
+    /// The whole encoding.
+    pub whole: &'a [u8],
+    /// The octets of subjectPublicKey, without the count of unused bits.
+    pub key: &'a [u8],
+}
+
+/// The octets of a BIT STRING, behind the count of unused bits with which its contents begin.
+pub(crate) fn bits_of(contents: &[u8]) -> &[u8]
+    ensures { result.now ≡ bits_in contents.now }
+{
+    match contents {
+        [] => &[],
+        [_, bits @ ..] => bits,
+    }
+}
+
+impl<'a> SubjectPublicKeyInfo<'a> {
+    /// The key that the value is; else the fault `Layout`, at a value with a wrong identifier or left over, or at the end of
+    /// the value where one is missing. How many bits are unused is not looked at.
+    #[tactic(auto, unfolding(crate::specs::SubjectPublicKeyInfo::key_info))]
+    pub fn read(value: Tlv<'a>) -> Result<SubjectPublicKeyInfo<'a>, Refusal>
+        ensures { Gives seen_key_info result (key_info (part value.entry)) }
+    {
+        value.is_a(0x30, CertRule::Layout)?;
+        let mut members = value.members();
+        let algorithm = members.required(0x30, CertRule::Layout)?;
+        AlgorithmIdentifier::read(algorithm, CertRule::Layout)?;
+        let key = members.required(0x03, CertRule::Layout)?;
+        members.ended(CertRule::Layout)?;
+        Ok(SubjectPublicKeyInfo {
+            whole: value.whole,
+            key: bits_of(key.body),
+        })
+    }
+}

@@ -1,0 +1,158 @@
+//! The signed part of a certificate (RFC 5280, 4.1.2).
+
+ghost use Rattle.std.specs.Prelude.{◌≡◌};
+ghost use Rattle.asn.specs.Place.{part};
+ghost use Rattle.asn.specs.Members.{left};
+ghost use Rattle.asn.specs.Walk.{Gives};
+ghost use Rattle.names.specs.GeneralView.{name_contents};
+ghost use Rattle.cert.specs.AlgorithmIdentifier.{seen_algorithm};
+ghost use Rattle.cert.specs.Fault.{as_name};
+ghost use Rattle.cert.specs.SubjectPublicKeyInfo.{seen_key_info};
+ghost use Rattle.cert.specs.TbsCertificate.{is_serial, serial_number, signature_algorithm, distinguished_name, issuer, validity_in, key_info_in, unique_id, tbs_head, seen_head, tbs_subject, seen_subject, certificate_name};
+ghost use Rattle.cert.specs.Validity.{seen_validity};
+
+use crate::algorithm::AlgorithmIdentifier;
+use crate::fault::{CertRule, Refusal};
+use crate::key_info::SubjectPublicKeyInfo;
+use crate::validity::Validity;
+use crate::version::Version;
+use asn::{Cursor, Tlv};
+use names::Name;
+
+/// The components up to the validity.
+#[derive(Clone, Copy)]
+pub(crate) struct TbsHead<'a> {
+    pub(crate) version: Version,
+    pub(crate) serial: &'a [u8],
+    pub(crate) signature: AlgorithmIdentifier<'a>,
+    pub(crate) issuer: Name<'a>,
+    pub(crate) validity: Validity,
+}
+
+/// The components from the subject to the extensions.
+#[derive(Clone, Copy)]
+pub(crate) struct Subject<'a> {
+    pub(crate) name: Name<'a>,
+    pub(crate) key_info: SubjectPublicKeyInfo<'a>,
+}
+
+fn is_serial_number(contents: &[u8]) -> bool
+    ensures { result ≡ is_serial contents.now }
+{
+    !contents.is_empty() && contents.len() <= 32
+}
+
+/// CertificateSerialNumber ::= INTEGER, here of 1 to 32 octets and of any sign
+#[tactic(auto, unfolding(crate::specs::TbsCertificate::serial_number, asn::specs::Walk::check_that))]
+fn take_serial<'a>(members: &mut Cursor<'a>) -> Result<&'a [u8], Refusal>
+    ensures { Gives (λ contents. (contents.now, left members.new)) result (serial_number (left members.old)) }
+{
+    let value = members.required(0x02, CertRule::Layout)?;
+    if is_serial_number(value.body) {
+        Ok(value.body)
+    } else {
+        Err((CertRule::Serial, value.at))
+    }
+}
+
+#[tactic(auto, unfolding(crate::specs::TbsCertificate::signature_algorithm))]
+fn take_algorithm<'a>(members: &mut Cursor<'a>) -> Result<AlgorithmIdentifier<'a>, Refusal>
+    ensures { Gives (λ read. (seen_algorithm read, left members.new)) result (signature_algorithm (left members.old)) }
+{
+    let value = members.required(0x30, CertRule::Layout)?;
+    AlgorithmIdentifier::read(value, CertRule::Layout)
+}
+
+/// The name that stands there, with its fault as one of a certificate.
+#[tactic(auto, unfolding(crate::specs::TbsCertificate::certificate_name))]
+fn name_at(value: Tlv<'_>) -> Result<Name<'_>, Refusal>
+    ensures { Gives name_contents result (certificate_name (part value.entry)) }
+{
+    match Name::at(value) {
+        Ok(name) => Ok(name),
+        Err((fault, at)) => Err((CertRule::Name(fault), at)),
+    }
+}
+
+#[tactic(auto, unfolding(crate::specs::TbsCertificate::distinguished_name))]
+fn take_name<'a>(members: &mut Cursor<'a>) -> Result<Name<'a>, Refusal>
+    ensures { Gives (λ read. (name_contents read, left members.new)) result (distinguished_name (left members.old)) }
+{
+    let value = members.required(0x30, CertRule::Layout)?;
+    name_at(value)
+}
+
+/// The issuer, whose name is not empty.
+#[tactic(auto, unfolding(crate::specs::TbsCertificate::issuer, asn::specs::Walk::check_that))]
+fn take_issuer<'a>(members: &mut Cursor<'a>) -> Result<Name<'a>, Refusal>
+    ensures { Gives (λ read. (name_contents read, left members.new)) result (issuer (left members.old)) }
+{
+    let value = members.required(0x30, CertRule::Layout)?;
+    let issuer = name_at(value)?;
+    if issuer.is_empty() {
+        return Err((CertRule::EmptyIssuer, value.at));
+    }
+    Ok(issuer)
+}
+
+#[tactic(auto, unfolding(crate::specs::TbsCertificate::validity_in))]
+fn take_validity(members: &mut Cursor<'_>) -> Result<Validity, Refusal>
+    ensures { Gives (λ read. (seen_validity read, left members.new)) result (validity_in (left members.old)) }
+{
+    let value = members.required(0x30, CertRule::Layout)?;
+    Validity::read(value)
+}
+
+#[tactic(auto, unfolding(crate::specs::TbsCertificate::key_info_in))]
+fn take_key_info<'a>(members: &mut Cursor<'a>) -> Result<SubjectPublicKeyInfo<'a>, Refusal>
+    ensures { Gives (λ read. (seen_key_info read, left members.new)) result (key_info_in (left members.old)) }
+{
+    let value = members.required(0x30, CertRule::Layout)?;
+    SubjectPublicKeyInfo::read(value)
+}
+
+/// Passes over UniqueIdentifier ::= BIT STRING under the tag, which is there from v2 on; the fault, at it, in v1.
+#[tactic(auto, unfolding(crate::specs::TbsCertificate::unique_id, asn::specs::Walk::check_that))]
+fn skip_unique_id(tag: u8, version: Version, members: &mut Cursor<'_>) -> Result<(), Refusal>
+    ensures { Gives (λ _. left members.new) result (unique_id tag version (left members.old)) }
+{
+    match members.optional(tag) {
+        Some(id) if version.is_v1() => Err((CertRule::Version, id.at)),
+        _ => Ok(()),
+    }
+}
+
+impl<'a> TbsHead<'a> {
+    /// version [0], serialNumber, signature, issuer, validity
+    #[tactic(auto, unfolding(crate::specs::TbsCertificate::tbs_head))]
+    pub(crate) fn take(members: &mut Cursor<'a>) -> Result<TbsHead<'a>, Refusal>
+        ensures { Gives (λ read. (seen_head read, left members.new)) result (tbs_head (left members.old)) }
+    {
+        let version = Version::take(members)?;
+        let serial = take_serial(members)?;
+        let signature = take_algorithm(members)?;
+        let issuer = take_issuer(members)?;
+        let validity = take_validity(members)?;
+        Ok(TbsHead {
+            version,
+            serial,
+            signature,
+            issuer,
+            validity,
+        })
+    }
+}
+
+impl<'a> Subject<'a> {
+    /// subject, subjectPublicKeyInfo, issuerUniqueID [1], subjectUniqueID [2]
+    #[tactic(auto, unfolding(crate::specs::TbsCertificate::tbs_subject))]
+    pub(crate) fn take(version: Version, members: &mut Cursor<'a>) -> Result<Subject<'a>, Refusal>
+        ensures { Gives (λ read. (seen_subject read, left members.new)) result (tbs_subject version (left members.old)) }
+    {
+        let name = take_name(members)?;
+        let key_info = take_key_info(members)?;
+        skip_unique_id(0x81, version, members)?;
+        skip_unique_id(0x82, version, members)?;
+        Ok(Subject { name, key_info })
+    }
+}
