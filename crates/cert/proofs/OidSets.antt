@@ -50,4 +50,4 @@ pub with_inserted : (keys : List (Bor (List ℕ))) (key : Bor (List ℕ)) → oc
 with_inserted keys key =
     same_set nat_list_cmp_total (slice_cmp-IsAntisymmetric nat_cmp-IsAntisymmetric) _ _
     (λ octets. contained octets (insert_key by_octets keys key) ∙ any_inserted octets keys key
-      ∙ sym (contains-insert nat_list_cmp_total (octets_in keys) key.now octets ∙ ap (λ b. has_octets octets key || b) (contained octets keys)))
+    ∙ sym (contains-insert nat_list_cmp_total (octets_in keys) key.now octets ∙ ap (λ b. has_octets octets key || b) (contained octets keys)))

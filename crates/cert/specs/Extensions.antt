@@ -101,7 +101,6 @@ saying_of Kind.PolicyProcessing value = Ok policies_are_processed
 saying_of Kind.NoCheck value = Ok need_not_be_checked
 saying_of Kind.Other value = Ok says_nothing
 
-
 -- What is known once one more extension was read, of what was known before: each extension settles what it speaks of.
 abbrev pub told_key_usage : Saying → Option (List ℕ) → Option (List ℕ)
 told_key_usage (key_usage_is bits) before = Some bits

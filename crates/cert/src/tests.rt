@@ -1,6 +1,9 @@
 use super::*;
 use asn::{Rule, whole};
+use std::alloc::Global;
 use std::test::Fail;
+
+mod certificates;
 
 #[test]
 fn reads_algorithm_identifiers(rt: HostRuntime) -> Result<(), Fail> {

@@ -1,0 +1,747 @@
+//! Whole certificates: what is read of them, and the first fault with its place.
+
+use super::*;
+use asn::Rule;
+use names::{Form, NameFault, Subtree};
+use std::alloc::AllocError;
+
+/// The components of a certificate in order: the places of a table of them.
+const VERSION: usize = 0;
+
+const SERIAL: usize = 1;
+
+const ALGORITHM: usize = 2;
+
+const ISSUER: usize = 3;
+
+const VALIDITY: usize = 4;
+
+const SUBJECT: usize = 5;
+
+const KEY: usize = 6;
+/// Unique identifiers and extensions.
+const TAIL: usize = 7;
+
+const OUTER: usize = 8;
+
+const SIGNATURE: usize = 9;
+/// What is left over.
+const REST: usize = 10;
+
+/// A certificate of 100 octets, where the signed part stands at 2, the version at 4, the serial number at 9, the algorithm at
+/// 12, the issuer at 18, the validity at 32, the subject at 64, the key at 78, the outer algorithm at 90 and the signature at
+/// 96.
+const PLAIN: [&[u8]; 11] = [
+    b"\xA0\x03\x02\x01\x02",
+    b"\x02\x01\x05",
+    b"\x30\x04\x06\x02\x2A\x03",
+    b"\x30\x0C\x31\x0A\x30\x08\x06\x03\x55\x04\x03\x13\x01A",
+    b"\x30\x1E\x17\x0D250101000000Z\x17\x0D260101000000Z",
+    b"\x30\x0C\x31\x0A\x30\x08\x06\x03\x55\x04\x03\x13\x01T",
+    b"\x30\x0A\x30\x04\x06\x02\x2A\x03\x03\x02\x00K",
+    b"",
+    b"\x30\x04\x06\x02\x2A\x03",
+    b"\x03\x02\x00\xEE",
+    b"",
+];
+
+/// Pushes the value with this identifier octet and these contents, of which there are at most 65,535.
+fn push_value(all: &mut Vec<u8>, tag: u8, contents: &[u8]) -> Result<(), AllocError> {
+    let length = contents.len().to_be_bytes();
+    all.push(tag)?;
+    match contents.len() {
+        0..128 => all.extend_from_slice(&length[7..])?,
+        128..256 => {
+            all.push(0x81)?;
+            all.extend_from_slice(&length[7..])?;
+        }
+        _ => {
+            all.push(0x82)?;
+            all.extend_from_slice(&length[6..])?;
+        }
+    }
+    all.extend_from_slice(contents)
+}
+
+/// The certificate of these components.
+fn certificate_of(alloc: Global, components: &[&[u8]; 11]) -> Result<Vec<u8>, AllocError> {
+    let mut signed = Vec::new(alloc);
+    for component in &components[..OUTER] {
+        signed.extend_from_slice(component)?;
+    }
+    let mut inside = Vec::new(alloc);
+    push_value(&mut inside, 0x30, &signed)?;
+    for component in &components[OUTER..] {
+        inside.extend_from_slice(component)?;
+    }
+    let mut whole = Vec::new(alloc);
+    push_value(&mut whole, 0x30, &inside)?;
+    Ok(whole)
+}
+
+/// The plain certificate with another component.
+fn plain_but(alloc: Global, at: usize, octets: &[u8]) -> Result<Vec<u8>, AllocError> {
+    let mut components = PLAIN;
+    if let Some(component) = components.get_mut(at) {
+        *component = octets;
+    }
+    certificate_of(alloc, &components)
+}
+
+/// What is another, its octets, what is refused, and where.
+const REFUSED: [(&str, usize, &[u8], CertRule, usize); 63] = [
+    (
+        "a version that is v1",
+        VERSION,
+        b"\xA0\x03\x02\x01\x00",
+        CertRule::Version,
+        6,
+    ),
+    (
+        "a version that is v4",
+        VERSION,
+        b"\xA0\x03\x02\x01\x03",
+        CertRule::Version,
+        6,
+    ),
+    (
+        "a negative version",
+        VERSION,
+        b"\xA0\x03\x02\x01\xFF",
+        CertRule::Version,
+        6,
+    ),
+    (
+        "a version of two octets",
+        VERSION,
+        b"\xA0\x04\x02\x02\x01\x00",
+        CertRule::Version,
+        6,
+    ),
+    (
+        "a version that is no INTEGER",
+        VERSION,
+        b"\xA0\x02\x05\x00",
+        CertRule::Layout,
+        6,
+    ),
+    (
+        "nothing in the tag of the version",
+        VERSION,
+        b"\xA0\x00",
+        CertRule::Layout,
+        6,
+    ),
+    (
+        "a value behind the version",
+        VERSION,
+        b"\xA0\x05\x02\x01\x02\x05\x00",
+        CertRule::Layout,
+        9,
+    ),
+    (
+        "a version that is refused, and a value behind it",
+        VERSION,
+        b"\xA0\x05\x02\x01\x00\x05\x00",
+        CertRule::Version,
+        6,
+    ),
+    (
+        "a NULL for the serial number",
+        SERIAL,
+        b"\x05\x00",
+        CertRule::Layout,
+        9,
+    ),
+    (
+        "a serial number of 33 octets",
+        SERIAL,
+        b"\x02\x21\x01\x00\x00\x00\x00\x00\x00\x00\x00\x00\x00\x00\x00\x00\x00\x00\x00\x00\x00\x00\x00\x00\x00\x00\x00\x00\x00\x00\x00\x00\x00\x00\x00",
+        CertRule::Serial,
+        10,
+    ),
+    (
+        "a NULL for the algorithm",
+        ALGORITHM,
+        b"\x05\x00",
+        CertRule::Layout,
+        12,
+    ),
+    (
+        "an algorithm of no value",
+        ALGORITHM,
+        b"\x30\x00",
+        CertRule::Layout,
+        14,
+    ),
+    (
+        "an algorithm of three values",
+        ALGORITHM,
+        b"\x30\x08\x06\x02\x2A\x03\x05\x00\x05\x00",
+        CertRule::Layout,
+        20,
+    ),
+    (
+        "an algorithm whose type is a NULL",
+        ALGORITHM,
+        b"\x30\x02\x05\x00",
+        CertRule::Layout,
+        14,
+    ),
+    (
+        "a NULL for the issuer",
+        ISSUER,
+        b"\x05\x00",
+        CertRule::Layout,
+        18,
+    ),
+    (
+        "an empty issuer",
+        ISSUER,
+        b"\x30\x00",
+        CertRule::EmptyIssuer,
+        18,
+    ),
+    (
+        "an RDN that is a SEQUENCE",
+        ISSUER,
+        b"\x30\x02\x30\x00",
+        CertRule::Name(NameFault::NameLayout),
+        20,
+    ),
+    (
+        "an RDN with two common names",
+        ISSUER,
+        b"\x30\x14\x31\x12\x30\x07\x06\x03\x55\x04\x03\x0C\x00\x30\x07\x06\x03\x55\x04\x03\x13\x00",
+        CertRule::Name(NameFault::RdnRepeat),
+        31,
+    ),
+    (
+        "an RDN out of order",
+        ISSUER,
+        b"\x30\x14\x31\x12\x30\x07\x06\x03\x55\x04\x06\x13\x00\x30\x07\x06\x03\x55\x04\x03\x13\x00",
+        CertRule::Name(NameFault::SetOrder),
+        31,
+    ),
+    (
+        "a PrintableString with an octet above 127",
+        ISSUER,
+        b"\x30\x0C\x31\x0A\x30\x08\x06\x03\x55\x04\x03\x13\x01\x80",
+        CertRule::Name(NameFault::Text),
+        29,
+    ),
+    (
+        "a NULL for the validity",
+        VALIDITY,
+        b"\x05\x00",
+        CertRule::Layout,
+        32,
+    ),
+    (
+        "a validity without a time",
+        VALIDITY,
+        b"\x30\x00",
+        CertRule::Layout,
+        34,
+    ),
+    (
+        "a month 13",
+        VALIDITY,
+        b"\x30\x1E\x17\x0D\x32\x36\x30\x31\x30\x31\x30\x30\x30\x30\x30\x30\x5A\x17\x0D\x32\x35\x31\x33\x30\x31\x30\x30\x30\x30\x30\x30\x5A",
+        CertRule::Time,
+        49,
+    ),
+    (
+        "a NULL for the subject",
+        SUBJECT,
+        b"\x05\x00",
+        CertRule::Layout,
+        64,
+    ),
+    (
+        "a subject with an RDN that is a SEQUENCE",
+        SUBJECT,
+        b"\x30\x02\x30\x00",
+        CertRule::Name(NameFault::NameLayout),
+        66,
+    ),
+    ("a NULL for the key", KEY, b"\x05\x00", CertRule::Layout, 78),
+    (
+        "a key without an algorithm",
+        KEY,
+        b"\x30\x06\x03\x02\x00\x4B\x05\x00",
+        CertRule::Layout,
+        80,
+    ),
+    (
+        "a key without a BIT STRING",
+        KEY,
+        b"\x30\x06\x30\x04\x06\x02\x2A\x03",
+        CertRule::Layout,
+        86,
+    ),
+    (
+        "a key that is an OCTET STRING",
+        KEY,
+        b"\x30\x09\x30\x04\x06\x02\x2A\x03\x04\x01\x4B",
+        CertRule::Layout,
+        86,
+    ),
+    (
+        "a value behind the key",
+        KEY,
+        b"\x30\x0C\x30\x04\x06\x02\x2A\x03\x03\x02\x00\x4B\x05\x00",
+        CertRule::Layout,
+        90,
+    ),
+    (
+        "a key whose algorithm is a NULL",
+        KEY,
+        b"\x30\x06\x05\x00\x03\x02\x00\x4B",
+        CertRule::Layout,
+        80,
+    ),
+    (
+        "unique identifiers out of order",
+        TAIL,
+        b"\x82\x01\x00\x81\x01\x00",
+        CertRule::Layout,
+        93,
+    ),
+    (
+        "a NULL behind the key",
+        TAIL,
+        b"\x05\x00",
+        CertRule::Layout,
+        90,
+    ),
+    (
+        "nothing in the tag of the extensions",
+        TAIL,
+        b"\xA3\x00",
+        CertRule::Layout,
+        92,
+    ),
+    (
+        "a SET of extensions",
+        TAIL,
+        b"\xA3\x02\x31\x00",
+        CertRule::Layout,
+        92,
+    ),
+    (
+        "no extension",
+        TAIL,
+        b"\xA3\x02\x30\x00",
+        CertRule::Layout,
+        94,
+    ),
+    (
+        "a value behind the extensions",
+        TAIL,
+        b"\xA3\x0F\x30\x0B\x30\x09\x06\x03\x55\x1D\x23\x04\x02\x05\x00\x05\x00",
+        CertRule::Layout,
+        105,
+    ),
+    (
+        "a value behind the tag of the extensions",
+        TAIL,
+        b"\xA3\x0B\x30\x09\x30\x07\x06\x03\x55\x1D\x23\x04\x00\x05\x00",
+        CertRule::Layout,
+        103,
+    ),
+    (
+        "an extension that is a NULL",
+        TAIL,
+        b"\xA3\x04\x30\x02\x05\x00",
+        CertRule::Layout,
+        94,
+    ),
+    (
+        "an extension that is not critical, and says so",
+        TAIL,
+        b"\xA3\x0E\x30\x0C\x30\x0A\x06\x03\x55\x1D\x23\x01\x01\x00\x04\x00",
+        CertRule::Layout,
+        101,
+    ),
+    (
+        "an extension without a value",
+        TAIL,
+        b"\xA3\x09\x30\x07\x30\x05\x06\x03\x55\x1D\x23",
+        CertRule::Layout,
+        101,
+    ),
+    (
+        "a repeated type",
+        TAIL,
+        b"\xA3\x14\x30\x12\x30\x07\x06\x03\x55\x1D\x23\x04\x00\x30\x07\x06\x03\x55\x1D\x23\x04\x00",
+        CertRule::ExtensionRepeated,
+        103,
+    ),
+    (
+        "a repeated type with a value that is refused",
+        TAIL,
+        b"\xA3\x18\x30\x16\x30\x09\x06\x03\x55\x1D\x13\x04\x02\x30\x00\x30\x09\x06\x03\x55\x1D\x13\x04\x02\x05\x00",
+        CertRule::ExtensionRepeated,
+        105,
+    ),
+    (
+        "an extension that is refused before one of a repeated type",
+        TAIL,
+        b"\xA3\x18\x30\x16\x30\x09\x06\x03\x55\x1D\x13\x04\x02\x05\x00\x30\x09\x06\x03\x55\x1D\x13\x04\x02\x30\x00",
+        CertRule::ExtensionValue,
+        103,
+    ),
+    (
+        "basicConstraints that are not DER",
+        TAIL,
+        b"\xA3\x0D\x30\x0B\x30\x09\x06\x03\x55\x1D\x13\x04\x02\x30\x01",
+        CertRule::Der(Rule::Truncated),
+        103,
+    ),
+    (
+        "basicConstraints with an explicit FALSE",
+        TAIL,
+        b"\xA3\x10\x30\x0E\x30\x0C\x06\x03\x55\x1D\x13\x04\x05\x30\x03\x01\x01\x00",
+        CertRule::ExtensionValue,
+        105,
+    ),
+    (
+        "keyUsage that is a NULL",
+        TAIL,
+        b"\xA3\x0D\x30\x0B\x30\x09\x06\x03\x55\x1D\x0F\x04\x02\x05\x00",
+        CertRule::ExtensionValue,
+        103,
+    ),
+    (
+        "keyUsage without a count of unused bits",
+        TAIL,
+        b"\xA3\x0D\x30\x0B\x30\x09\x06\x03\x55\x1D\x0F\x04\x02\x03\x00",
+        CertRule::Der(Rule::Content),
+        103,
+    ),
+    (
+        "subjectAltName with an empty label",
+        TAIL,
+        b"\xA3\x13\x30\x11\x30\x0F\x06\x03\x55\x1D\x11\x04\x08\x30\x06\x82\x04\x61\x2E\x2E\x62",
+        CertRule::Name(NameFault::DnsForm),
+        105,
+    ),
+    (
+        "subjectAltName with an address of 5 octets",
+        TAIL,
+        b"\xA3\x14\x30\x12\x30\x10\x06\x03\x55\x1D\x11\x04\x09\x30\x07\x87\x05\x0A\x00\x00\x00\x01",
+        CertRule::Name(NameFault::IpForm),
+        105,
+    ),
+    (
+        "subjectAltName without a name",
+        TAIL,
+        b"\xA3\x0D\x30\x0B\x30\x09\x06\x03\x55\x1D\x11\x04\x02\x30\x00",
+        CertRule::ExtensionValue,
+        105,
+    ),
+    (
+        "nameConstraints with a minimum",
+        TAIL,
+        b"\xA3\x16\x30\x14\x30\x12\x06\x03\x55\x1D\x1E\x04\x0B\x30\x09\xA0\x07\x30\x05\x82\x00\x80\x01\x00",
+        CertRule::SubtreeBounds,
+        111,
+    ),
+    (
+        "nameConstraints with a mask of 255.0.255.0",
+        TAIL,
+        b"\xA3\x1B\x30\x19\x30\x17\x06\x03\x55\x1D\x1E\x04\x10\x30\x0E\xA0\x0C\x30\x0A\x87\x08\x0A\x00\x00\x00\xFF\x00\xFF\x00",
+        CertRule::Name(NameFault::MaskForm),
+        109,
+    ),
+    (
+        "extKeyUsage without a purpose",
+        TAIL,
+        b"\xA3\x0D\x30\x0B\x30\x09\x06\x03\x55\x1D\x25\x04\x02\x30\x00",
+        CertRule::ExtensionValue,
+        105,
+    ),
+    (
+        "a NULL for the outer algorithm",
+        OUTER,
+        b"\x05\x00",
+        CertRule::Layout,
+        90,
+    ),
+    (
+        "an outer algorithm with parameters",
+        OUTER,
+        b"\x30\x06\x06\x02\x2A\x03\x05\x00",
+        CertRule::AlgorithmsDiffer,
+        90,
+    ),
+    (
+        "an outer algorithm of no value",
+        OUTER,
+        b"\x30\x00",
+        CertRule::AlgorithmsDiffer,
+        90,
+    ),
+    ("no outer algorithm", OUTER, b"", CertRule::Layout, 90),
+    (
+        "a signature that is an OCTET STRING",
+        SIGNATURE,
+        b"\x04\x01\x00",
+        CertRule::Layout,
+        96,
+    ),
+    ("no signature", SIGNATURE, b"", CertRule::Layout, 96),
+    (
+        "a signature with an unused bit",
+        SIGNATURE,
+        b"\x03\x02\x01\xEE",
+        CertRule::SignatureBits,
+        96,
+    ),
+    (
+        "a signature without a count of unused bits",
+        SIGNATURE,
+        b"\x03\x00",
+        CertRule::Der(Rule::Content),
+        96,
+    ),
+    (
+        "a value behind the signature",
+        REST,
+        b"\x05\x00",
+        CertRule::Layout,
+        100,
+    ),
+];
+
+#[test]
+fn refuses_certificates(rt: HostRuntime) -> Result<(), Fail> {
+    let alloc = rt.alloc();
+    for (what, component, octets, rule, at) in REFUSED {
+        let certificate = plain_but(alloc, component, octets)?;
+        let answer = Certificate::read(alloc, &certificate).err();
+        assert_eq!(rt; answer, Some(CertFault::Refused(rule, at)), "{what}");
+    }
+    Ok(())
+}
+
+/// The same without the checks of components: texts cut short, with octets behind, or of another form.
+#[test]
+fn refuses_other_texts(rt: HostRuntime) -> Result<(), Fail> {
+    let alloc = rt.alloc();
+    let plain = certificate_of(alloc, &PLAIN)?;
+    let (_, shorter) = plain.split_last().ok_or("octets")?;
+    let mut longer = certificate_of(alloc, &PLAIN)?;
+    longer.push(0)?;
+    let rows: [(&[u8], CertRule, usize, &str); 8] = [
+        (&[], CertRule::Der(Rule::Truncated), 0, "no octets"),
+        (
+            shorter,
+            CertRule::Der(Rule::Truncated),
+            0,
+            "the last octet missing",
+        ),
+        (
+            &longer,
+            CertRule::Der(Rule::Trailing),
+            100,
+            "an octet behind",
+        ),
+        (b"\x05\x00", CertRule::Layout, 0, "a NULL"),
+        (b"\x31\x00", CertRule::Layout, 0, "a SET"),
+        (b"\x30\x00", CertRule::Layout, 2, "nothing inside"),
+        (
+            b"\x30\x02\x31\x00",
+            CertRule::Layout,
+            2,
+            "a signed part that is a SET",
+        ),
+        (
+            b"\x30\x02\x30\x00",
+            CertRule::Layout,
+            4,
+            "nothing in the signed part",
+        ),
+    ];
+    for (octets, rule, at, what) in rows {
+        let answer = Certificate::read(alloc, octets).err();
+        assert_eq!(rt; answer, Some(CertFault::Refused(rule, at)), "{what}");
+    }
+    Ok(())
+}
+
+#[test]
+fn reads_a_plain_certificate(rt: HostRuntime) -> Result<(), Fail> {
+    let alloc = rt.alloc();
+    let octets = certificate_of(alloc, &PLAIN)?;
+    let read = Certificate::read(alloc, &octets).map_err(|_| "a certificate")?;
+    assert_eq!(rt; octets.len(), 100);
+    assert!(rt; read.octets == octets.as_slice());
+    assert!(rt; read.tbs == &octets[2..90]);
+    assert_eq!(rt; read.version, Version::V3);
+    assert!(rt; read.serial == b"\x05".as_slice());
+    assert!(rt; read.algorithm == PLAIN[ALGORITHM]);
+    assert!(rt; read.issuer.raw() == PLAIN[ISSUER]);
+    assert_eq!(rt; read.validity.not_before, 1_735_689_600);
+    assert_eq!(rt; read.validity.not_after, 1_767_225_600);
+    assert!(rt; read.subject.raw() == PLAIN[SUBJECT]);
+    assert!(rt; read.subject_public_key_info.whole == PLAIN[KEY]);
+    assert!(rt; read.subject_public_key_info.key == b"K".as_slice());
+    assert!(rt; read.signature == b"\xEE".as_slice());
+    assert!(rt; !read.self_issued());
+    let said = &read.extensions;
+    assert!(rt; said.key_usage.is_none() && said.basic_constraints.is_none());
+    assert!(rt; said.alternative_names.is_empty() && said.purposes.is_empty());
+    assert!(rt;
+        said.name_constraints.permitted.is_empty() && said.name_constraints.excluded.is_empty()
+    );
+    assert!(rt; !said.needs_policy_processing && !said.no_check && said.unrecognised.is_empty());
+    Ok(())
+}
+
+/// Other components with which a certificate is read.
+const ACCEPTED: [(&str, usize, &[u8]); 9] = [
+    ("version 1", VERSION, b""),
+    ("version 2", VERSION, b"\xA0\x03\x02\x01\x01"),
+    ("a negative serial number", SERIAL, b"\x02\x01\xFF"),
+    ("an empty subject", SUBJECT, b"\x30\x00"),
+    (
+        "a key with unused bits",
+        KEY,
+        b"\x30\x0A\x30\x04\x06\x02\x2A\x03\x03\x02\x07\x80",
+    ),
+    (
+        "a key of no bits",
+        KEY,
+        b"\x30\x09\x30\x04\x06\x02\x2A\x03\x03\x01\x00",
+    ),
+    ("unique identifiers", TAIL, b"\x81\x01\x00\x82\x02\xFF\xFF"),
+    ("a signature of no bits", SIGNATURE, b"\x03\x01\x00"),
+    (
+        "notAfter before notBefore",
+        VALIDITY,
+        b"\x30\x1E\x17\x0D260101000000Z\x17\x0D250101000000Z",
+    ),
+];
+
+#[test]
+fn reads_other_certificates(rt: HostRuntime) -> Result<(), Fail> {
+    let alloc = rt.alloc();
+    for (what, component, octets) in ACCEPTED {
+        let certificate = plain_but(alloc, component, octets)?;
+        assert!(rt; Certificate::read(alloc, &certificate).is_ok(), "{what}");
+    }
+    let mut components = PLAIN;
+    components[SUBJECT] = b"\x30\x0C\x31\x0A\x30\x08\x06\x03\x55\x04\x03\x0C\x01a";
+    let certificate = certificate_of(alloc, &components)?;
+    let read = Certificate::read(alloc, &certificate).map_err(|_| "a certificate")?;
+    assert!(rt; read.self_issued(), "names that match, in other octets");
+    Ok(())
+}
+
+/// Components that a version does not have: unique identifiers in v1, extensions in v1 and v2.
+#[test]
+fn refuses_components_of_later_versions(rt: HostRuntime) -> Result<(), Fail> {
+    let alloc = rt.alloc();
+    let rows: [(&[u8], &[u8], usize, &str); 4] = [
+        (b"", b"\x81\x01\x00", 85, "issuerUniqueID in v1"),
+        (b"", b"\x82\x01\x00", 85, "subjectUniqueID in v1"),
+        (b"", b"\xA3\x02\x05\x00", 85, "extensions in v1"),
+        (
+            b"\xA0\x03\x02\x01\x01",
+            b"\xA3\x02\x05\x00",
+            90,
+            "extensions in v2",
+        ),
+    ];
+    for (version, tail, at, what) in rows {
+        let mut components = PLAIN;
+        components[VERSION] = version;
+        components[TAIL] = tail;
+        let certificate = certificate_of(alloc, &components)?;
+        let answer = Certificate::read(alloc, &certificate).err();
+        assert_eq!(rt;
+            answer,
+            Some(CertFault::Refused(CertRule::Version, at)),
+            "{what}"
+        );
+    }
+    Ok(())
+}
+
+/// Extensions of each kind, one a line.
+const EXTENSIONS: [&[u8]; 10] = [
+    // keyUsage, critical: bits 5 and 6
+    b"\x30\x0E\x06\x03\x55\x1D\x0F\x01\x01\xFF\x04\x04\x03\x02\x01\x06",
+    // subjectAltName: a DNS name and an address
+    b"\x30\x13\x06\x03\x55\x1D\x11\x04\x0C\x30\x0A\x82\x02ab\x87\x04\x0A\x00\x00\x01",
+    // basicConstraints, critical: cA, path length 0
+    b"\x30\x12\x06\x03\x55\x1D\x13\x01\x01\xFF\x04\x08\x30\x06\x01\x01\xFF\x02\x01\x00",
+    // nameConstraints, critical: permits example, excludes x.example
+    b"\x30\x28\x06\x03\x55\x1D\x1E\x01\x01\xFF\x04\x1E\x30\x1C\xA0\x0B\x30\x09\x82\x07example\xA1\x0D\x30\x0B\x82\x09x.example",
+    // certificatePolicies, critical
+    b"\x30\x0C\x06\x03\x55\x1D\x20\x01\x01\xFF\x04\x02\x05\x00",
+    // extKeyUsage: id-kp-OCSPSigning
+    b"\x30\x13\x06\x03\x55\x1D\x25\x04\x0C\x30\x0A\x06\x08\x2B\x06\x01\x05\x05\x07\x03\x09",
+    // policyConstraints, critical, with a value that is not looked at
+    b"\x30\x0B\x06\x03\x55\x1D\x24\x01\x01\xFF\x04\x01\xFF",
+    // id-pkix-ocsp-nocheck, critical
+    b"\x30\x12\x06\x09\x2B\x06\x01\x05\x05\x07\x30\x01\x05\x01\x01\xFF\x04\x02\x05\x00",
+    // 1.2.3, critical
+    b"\x30\x09\x06\x02\x2A\x03\x01\x01\xFF\x04\x00",
+    // 1.2.4
+    b"\x30\x06\x06\x02\x2A\x04\x04\x00",
+];
+
+/// The plain certificate with these extensions.
+fn with_extensions(alloc: Global, extensions: &[&[u8]]) -> Result<Vec<u8>, AllocError> {
+    let mut list = Vec::new(alloc);
+    for extension in extensions {
+        list.extend_from_slice(extension)?;
+    }
+    let mut sequence = Vec::new(alloc);
+    push_value(&mut sequence, 0x30, &list)?;
+    let mut tail = Vec::new(alloc);
+    push_value(&mut tail, 0xA3, &sequence)?;
+    plain_but(alloc, TAIL, &tail)
+}
+
+#[test]
+fn reads_extensions_of_each_kind(rt: HostRuntime) -> Result<(), Fail> {
+    let alloc = rt.alloc();
+    let octets = with_extensions(alloc, &EXTENSIONS)?;
+    let read = Certificate::read(alloc, &octets).map_err(|_| "a certificate")?;
+    let said = &read.extensions;
+    let usage = said.key_usage.ok_or("keyUsage")?;
+    assert!(rt; usage.bits == b"\x06".as_slice() && usage.has(5) && usage.has(6) && !usage.has(0));
+    assert_eq!(rt; said.alternative_names.len(), 2);
+    assert!(rt; said.alternative_names[0].form() == Form::Dns);
+    assert!(rt; said.alternative_names[1].form() == Form::Ip);
+    let basic = said.basic_constraints.ok_or("basicConstraints")?;
+    assert!(rt; basic.ca && basic.path_length == Some(0));
+    assert_eq!(rt; said.name_constraints.permitted.len(), 1);
+    assert_eq!(rt; said.name_constraints.excluded.len(), 1);
+    assert!(rt; said.name_constraints.excluded[0].inside(&said.name_constraints.permitted[0]));
+    assert_eq!(rt; said.purposes.len(), 1);
+    assert!(rt; said.purposes[0].is(b"\x2B\x06\x01\x05\x05\x07\x03\x09"));
+    assert!(rt; said.needs_policy_processing && said.no_check);
+    assert_eq!(rt; said.unrecognised.len(), 2);
+    assert!(rt; said.unrecognised[0].is(b"\x2B\x06\x01\x05\x05\x07\x30\x01\x05"));
+    assert!(rt; said.unrecognised[1].is(b"\x2A\x03"));
+    Ok(())
+}
+
+/// For every refused allocation: the answer is that of ample memory, or want of memory.
+#[test]
+fn wants_memory_or_answers(rt: HostRuntime) -> Result<(), Fail> {
+    let alloc = rt.alloc();
+    let Ok(octets) = with_extensions(alloc, &EXTENSIONS) else {
+        return Ok(());
+    };
+    match Certificate::read(alloc, &octets) {
+        Ok(read) => assert_eq!(rt; read.extensions.unrecognised.len(), 2),
+        Err(fault) => assert_eq!(rt; fault, CertFault::Memory),
+    }
+    Ok(())
+}
