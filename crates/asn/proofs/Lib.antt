@@ -10,10 +10,12 @@ mod Judgements
 mod MemberLemmas
 mod PartLemmas
 mod PlaceSizes
+mod PlaceOrder
 mod Walks
 mod TimeWalks
 mod FlagWalks
 mod Layouts
+mod ListWalks
 mod IntegerLemmas
 mod TimeLemmas
 mod TimeReading

@@ -5,6 +5,7 @@ pub mod Shows
 pub mod Walk
 pub mod Judgement
 pub mod Layout
+pub mod ListLayout
 pub mod Tree
 pub mod Size
 pub mod Fault

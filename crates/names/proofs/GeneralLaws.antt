@@ -18,6 +18,7 @@ use Rattle.names.specs.NameLayout.{name}
 use Rattle.names.specs.Bases.{DomainNames, every_name, names_within, names_below, AddressRange, is_dns_name, is_ip_address, names_of_base, range_of_base, AreNamesOf, DnsNameTestIsExact, NamesOfBaseAreExact}
 use Rattle.names.specs.GeneralLayout.{NameContents, contents_at, GeneralName, SubtreeBase, directory_name, dns_name, ip_address, other_name, directory_base, dns_base, ip_base, other_base, form_of_identifier, explicit_name, dns_name_at, ip_address_at, general_of, general, dns_base_of, dns_base_at, ip_base_of, ip_base_at, base_of, base}
 use Rattle.names.specs.GeneralForms.{HoldsName, IsGeneralName, IsSubtreeBase, GeneralNamesAreRead, SubtreeBasesAreRead}
+use Rattle.names.proofs.NameLaws.{is_name, name_is}
 use Rattle.names.proofs.DnsNames.{by_labels, no_leading_dot}
 use Rattle.names.proofs.BaseLaws.{address_test_is_exact, range_of_base_is_exact}
 
@@ -86,7 +87,7 @@ explicit_from value contents e =
     record {
       place = a.0.0;
       alone = (next_or_ok NameLayout (members value) a.0 a.1).values ∙ ap (λ (l : List Place). a.0.0 ∷ l) (ended_ok NameLayout a.0.1 d.0 d.1);
-      is_name = b.1;
+      is_name = is_name a.0.0 b.0 b.1;
       read = sym (ok_is (contents_at a.0.0) contents d.2);
     }
 
@@ -94,7 +95,7 @@ explicit_again : (value : Place) (contents : NameContents) → HoldsName value c
 unfolding explicit_name
 explicit_again value contents h =
     let a = next_or_again NameLayout (members value) h.place [] h.alone in
-    let n = h.is_name in
+    let n = name_is h.place h.is_name in
     let d = ended_again NameLayout (record { values = []; end = (members value).end }) refl in
     let r = h.read in
     rw (a, n, d, r) refl

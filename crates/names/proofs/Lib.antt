@@ -1,5 +1,9 @@
 mod Strings
 mod Reading
+mod Pairs
+mod Zipped
+mod NameLaws
+mod NameValues
 mod Splitting
 mod Words
 mod PreparedText
@@ -18,3 +22,4 @@ mod Keys
 mod Fits
 mod SequenceFits
 mod Subtrees
+pub mod Laws

@@ -5,7 +5,8 @@ use Rattle.std.specs.Str.{IsUtf8, is_utf8, IsAscii, IsNotAscii}
 use Rattle.std.specs.Char.{is_ascii}
 use Rattle.std.specs.List.{list_all}
 use Rattle.std.proofs.lemmas.Str.{IsUtf8-from_is_utf8}
-use Rattle.std.proofs.lemmas.Bool.{lt-ltb, le-ltb, cases_lt}
+use Rattle.std.proofs.lemmas.Bool.{lt-ltb, ltb-true, le-ltb, cases_lt, and_parts}
+use Rattle.std.proofs.lemmas.Str.Ascii.{IsAscii-cons}
 use Rattle.std.proofs.lemmas.List.{get_or_past}
 use Rattle.std.proofs.lemmas.List.Folds.{list_all_at}
 
@@ -16,9 +17,13 @@ not_true false never = refl
 pub no_utf8 : (xs : List ℕ) → (IsUtf8 xs → ⊥) → is_utf8 xs ≡ false
 no_utf8 xs never = not_true (is_utf8 xs) (λ e. never (IsUtf8-from_is_utf8 xs e))
 
-all_ascii : (xs : List ℕ) → IsAscii xs → list_all is_ascii xs ≡ true
+pub all_ascii : (xs : List ℕ) → IsAscii xs → list_all is_ascii xs ≡ true
 all_ascii [] is = refl
 all_ascii (x ∷ xs) is = rw (lt-ltb x 128 (is 0)) (all_ascii xs (λ i. is (suc i)))
+
+pub ascii_all : (xs : List ℕ) → list_all is_ascii xs ≡ true → IsAscii xs
+ascii_all [] e = λ i. omega arith
+ascii_all (x ∷ xs) e = let both = and_parts (is_ascii x) (list_all is_ascii xs) e in IsAscii-cons x xs (ltb-true x 128 both.0) (ascii_all xs both.1)
 
 not_all : (xs : List ℕ) → IsNotAscii xs → list_all is_ascii xs ≡ false
 not_all xs (i, high) =

@@ -1,5 +1,6 @@
 pub mod Fault
 pub mod NameLayout
+pub mod NameForms
 pub mod AttributeView
 pub mod Preparation
 pub mod AttributeValue

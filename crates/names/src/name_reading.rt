@@ -11,6 +11,7 @@ ghost use Rattle.names.specs.NameKey.{name_key};
 ghost use Rattle.names.specs.NameParts.{rdns_at};
 ghost use Rattle.names.specs.NameOctets.{raw_of, rdns_of};
 ghost use Rattle.names.specs.NameLayout.{name, rdn, attributes, one_more_rdn};
+ghost use Rattle.names.specs.NameForms.{NameIsExact, NameHasLayout};
 
 use crate::attribute::read_attribute;
 use crate::fault::{NameFault, Refusal};
@@ -144,8 +145,11 @@ impl<'a> Name<'a> {
     }
 }
 
-/// The tests of `matches` and `within` decide the relations.
+/// The tests of `matches` and `within` decide the relations. A place is read as a name exactly where it is one, and the
+/// encoding of a value exactly where the value has the layout of one.
 pub fn name_laws()
     ensures matching { MatchingIsExact }
     ensures within { WithinIsExact }
+    ensures layout { NameIsExact }
+    ensures value { NameHasLayout }
 {}

@@ -210,6 +210,31 @@ fn places_count_from_the_value(rt: HostRuntime) -> Result<(), Fail> {
     Ok(())
 }
 
+#[test]
+fn places_count_from_the_whole_text(rt: HostRuntime) -> Result<(), Fail> {
+    let octets = [0x30, 0x08, 0x86, 0x00, 0xA4, 0x04, 0x30, 0x00, 0x31, 0x00];
+    let mut names = whole(&octets)?.inside().ok_or("constructed")?;
+    let uri = names.next().ok_or("a first name")?;
+    let directory = names.next().ok_or("a second name")?;
+    assert!(rt;
+        General::at(uri).map(|name| said_by(name)) == Ok((Form::Other(6), &[])),
+        "a name that is read"
+    );
+    assert!(rt;
+        General::at(directory).map(|name| said_by(name)) == Err((LAYOUT, 8)),
+        "a name"
+    );
+    assert!(rt;
+        Subtree::base_at(uri).map(|base| said_by_base(base)) == Ok(Base::Other(6, &[])),
+        "a base that is read"
+    );
+    assert!(rt;
+        Subtree::base_at(directory).map(|base| said_by_base(base)) == Err((LAYOUT, 8)),
+        "a base"
+    );
+    Ok(())
+}
+
 /// What a base says; of a directory name its octets.
 #[derive(Clone, Copy, PartialEq)]
 enum Base<'a> {

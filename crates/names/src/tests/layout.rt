@@ -332,3 +332,22 @@ fn places_count_from_the_name(rt: HostRuntime) -> Result<(), Fail> {
     }
     Ok(())
 }
+
+#[test]
+fn places_count_from_the_whole_text(rt: HostRuntime) -> Result<(), Fail> {
+    let octets = [0x30, 0x06, 0x30, 0x00, 0x30, 0x02, 0x05, 0x00];
+    let mut names = whole(&octets)?.inside().ok_or("a constructed value")?;
+    let empty = names.next().ok_or("a first name")?;
+    assert!(rt;
+        Name::at(empty)?.raw() == &octets[2..4],
+        "a name that is read"
+    );
+    let other = names.next().ok_or("a second name")?;
+    let refusal = Name::at(other).err();
+    assert_eq!(rt;
+        refusal,
+        Some((NameFault::NameLayout, 6)),
+        "a NULL in a name"
+    );
+    Ok(())
+}
