@@ -10,3 +10,4 @@ pub use Rattle.asn.proofs.MemberLemmas.{holds, are_members}
 pub use Rattle.asn.proofs.PlaceSizes.{values_count, values_short, members_count, members_short, body_short}
 pub use Rattle.asn.proofs.PlaceOrder.{values_before, members_before}
 pub use Rattle.asn.proofs.ListWalks.{as_each, of_each, as_list, of_list, octets_are}
+pub use Rattle.asn.proofs.OctetParts.{members_octets, body_octets, inside_octets}

@@ -11,6 +11,7 @@ mod MemberLemmas
 mod PartLemmas
 mod PlaceSizes
 mod PlaceOrder
+mod OctetParts
 mod Walks
 mod TimeWalks
 mod FlagWalks

@@ -3,4 +3,6 @@ mod OidSets
 mod AlgorithmLaws
 mod ValidityLaws
 mod ExtensionLaws
+mod VersionLaws
+mod KeyInfoLaws
 pub mod Laws

@@ -19,7 +19,7 @@ use Rattle.cert.specs.Validity.{Validity, seen_validity}
 use Rattle.cert.specs.SubjectPublicKeyInfo.{SubjectPublicKeyInfo, bits_in, seen_key_info}
 use Rattle.cert.specs.Version.{is_v3}
 use Rattle.cert.specs.Extensions.{Extensions, no_extensions, extensions, seen_extensions}
-use Rattle.cert.specs.TbsCertificate.{TbsHead, Subject, tbs_head, tbs_subject, seen_head, seen_subject}
+use Rattle.cert.specs.TbsCertificate.{TbsHead, Subject, component, tbs_head, tbs_subject, seen_head, seen_subject}
 
 -- extensions [3] EXPLICIT Extensions OPTIONAL (4.1.2.9): in v3 alone
 abbrev pub extensions_in : Version → Option Place → Members → Result (Extensions × Members) (CertRule × ℕ)
@@ -53,22 +53,16 @@ tbs_certificate value = do
   Ok (record { head = head.0; subject = subject.0; extensions = extensions.0 })
 
 -- signatureAlgorithm (4.1.1.2): the same octets as the algorithm identifier in the signed part
-unfoldable pub same_algorithm : AlgorithmIdentifier → Members → Result Members (CertRule × ℕ)
-same_algorithm inner left = do
-  value ← required 0x30 R.Layout left
-  same ← check_that (bytes_eq value.0.octets inner.whole.octets) R.AlgorithmsDiffer value.0.at
-  Ok value.1
+unfoldable pub same_algorithm : AlgorithmIdentifier → Place → Result (Unit {0}) (CertRule × ℕ)
+same_algorithm inner value = check_that (bytes_eq value.octets inner.whole.octets) R.AlgorithmsDiffer value.at
 
 -- signatureValue (4.1.1.3): a BIT STRING of octets, with no bit unused
 abbrev pub has_no_unused_bits : List ℕ → Bool
 has_no_unused_bits [] = false
 has_no_unused_bits (unused ∷ octets) = unused == 0
 
-unfoldable pub signature_value : Members → Result (List ℕ × Members) (CertRule × ℕ)
-signature_value left = do
-  value ← required 0x03 R.Layout left
-  octets ← check_that (has_no_unused_bits (body value.0)) R.SignatureBits value.0.at
-  Ok (bits_in (body value.0), value.1)
+unfoldable pub signature_value : Place → Result (List ℕ) (CertRule × ℕ)
+signature_value value = check_that (has_no_unused_bits (body value)) R.SignatureBits value.at >>= λ whole. Ok (bits_in (body value))
 
 -- The fields of a certificate.
 pub record Certificate : Type 0 where
@@ -120,8 +114,8 @@ certificate_at value = do
   sequence ← is_a 0x30 R.Layout value
   signed ← required 0x30 R.Layout (members value)
   tbs ← tbs_certificate signed.0
-  algorithm ← same_algorithm tbs.head.signature signed.1
-  signature ← signature_value algorithm
+  algorithm ← component 0x30 (same_algorithm tbs.head.signature) signed.1
+  signature ← component 0x03 signature_value algorithm.1
   done ← ended R.Layout signature.1
   Ok (certificate_with value.octets signed.0 tbs signature.0)
 

@@ -18,58 +18,34 @@ use Rattle.cert.specs.Validity.{Validity, validity, seen_validity}
 use Rattle.cert.specs.SubjectPublicKeyInfo.{SubjectPublicKeyInfo, key_info, seen_key_info}
 use Rattle.cert.specs.Version.{is_v1, version}
 
+-- the next value, which has this identifier and is read so
+unfoldable pub component : {A : Type 0} → ℕ → (Place → Result A (CertRule × ℕ)) → Members → Result (A × Members) (CertRule × ℕ)
+component identifier read left = do
+  value ← required identifier R.Layout left
+  found ← read value.0
+  Ok (found, value.1)
+
 -- serialNumber (4.1.2.2): 1 to 32 octets, of any sign
 abbrev pub is_serial : List ℕ → Bool
 is_serial contents = nat_lt 0 (length contents) && nat_lt (length contents) 33
 
-unfoldable pub serial_number : Members → Result (List ℕ × Members) (CertRule × ℕ)
-serial_number left = do
-  value ← required 0x02 R.Layout left
-  short ← check_that (is_serial (body value.0)) R.Serial value.0.at
-  Ok (body value.0, value.1)
-
--- signature (4.1.2.3)
-unfoldable pub signature_algorithm : Members → Result (AlgorithmIdentifier × Members) (CertRule × ℕ)
-signature_algorithm left = do
-  value ← required 0x30 R.Layout left
-  read ← algorithm_identifier R.Layout value.0
-  Ok (read, value.1)
+unfoldable pub serial_number : Place → Result (List ℕ) (CertRule × ℕ)
+serial_number value = check_that (is_serial (body value)) R.Serial value.at >>= λ short. Ok (body value)
 
 -- a name (4.1.2.4, 4.1.2.6)
-unfoldable pub certificate_name : Place → Result NameContents (CertRule × ℕ)
-certificate_name value = as_name (name value) >>= λ done. Ok (contents_at value)
-
-unfoldable pub distinguished_name : Members → Result (NameContents × Members) (CertRule × ℕ)
-distinguished_name left = do
-  value ← required 0x30 R.Layout left
-  read ← certificate_name value.0
-  Ok (read, value.1)
+unfoldable pub distinguished_name : Place → Result NameContents (CertRule × ℕ)
+distinguished_name value = as_name (name value) >>= λ done. Ok (contents_at value)
 
 -- issuer (4.1.2.4): a name that is not empty
 abbrev pub is_empty_name : List RdnMap → Bool
 is_empty_name [] = true
 is_empty_name (rdn ∷ rdns) = false
 
-unfoldable pub issuer : Members → Result (NameContents × Members) (CertRule × ℕ)
-issuer left = do
-  value ← required 0x30 R.Layout left
-  read ← certificate_name value.0
-  named ← check_that (not (is_empty_name read.rdns)) R.EmptyIssuer value.0.at
-  Ok (read, value.1)
-
--- validity (4.1.2.5)
-unfoldable pub validity_in : Members → Result (Validity × Members) (CertRule × ℕ)
-validity_in left = do
-  value ← required 0x30 R.Layout left
-  read ← validity value.0
-  Ok (read, value.1)
-
--- subjectPublicKeyInfo (4.1.2.7)
-unfoldable pub key_info_in : Members → Result (SubjectPublicKeyInfo × Members) (CertRule × ℕ)
-key_info_in left = do
-  value ← required 0x30 R.Layout left
-  read ← key_info value.0
-  Ok (read, value.1)
+unfoldable pub issuer : Place → Result NameContents (CertRule × ℕ)
+issuer value = do
+  read ← distinguished_name value
+  named ← check_that (not (is_empty_name read.rdns)) R.EmptyIssuer value.at
+  Ok read
 
 -- issuerUniqueID [1] and subjectUniqueID [2] IMPLICIT BIT STRING OPTIONAL (4.1.2.8): from v2 on; their contents are free
 abbrev pub unique_id_in : Version → Option Place → Members → Result Members (CertRule × ℕ)
@@ -93,10 +69,10 @@ seen_head read = record { version = read.version; serial = read.serial.now; sign
 unfoldable pub tbs_head : Members → Result (TbsHead × Members) (CertRule × ℕ)
 tbs_head left = do
   version ← version left
-  serial ← serial_number version.1
-  signature ← signature_algorithm serial.1
-  issuer ← issuer signature.1
-  validity ← validity_in issuer.1
+  serial ← component 0x02 serial_number version.1
+  signature ← component 0x30 (algorithm_identifier R.Layout) serial.1
+  issuer ← component 0x30 issuer signature.1
+  validity ← component 0x30 validity issuer.1
   Ok (record { version = version.0; serial = serial.0; signature = signature.0; issuer = issuer.0; validity = validity.0 }, validity.1)
 
 -- The components from the subject to the extensions.
@@ -109,8 +85,8 @@ seen_subject read = record { name = name_contents read.name; key_info = seen_key
 
 unfoldable pub tbs_subject : Version → Members → Result (Subject × Members) (CertRule × ℕ)
 tbs_subject version left = do
-  name ← distinguished_name left
-  key_info ← key_info_in name.1
+  name ← component 0x30 distinguished_name left
+  key_info ← component 0x30 key_info name.1
   issuer_id ← unique_id 0x81 version key_info.1
   subject_id ← unique_id 0x82 version issuer_id
   Ok (record { name = name.0; key_info = key_info.0 }, subject_id)

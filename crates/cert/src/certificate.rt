@@ -10,6 +10,7 @@ ghost use Rattle.cert.specs.AlgorithmIdentifier.{seen_algorithm};
 ghost use Rattle.cert.specs.Certificate.{has_no_unused_bits, optional_extensions, tbs_certificate, seen_tbs, same_algorithm, signature_value, certificate_at, certificate, seen_certificate, is_self_issued};
 ghost use Rattle.cert.specs.Extensions.{seen_extensions};
 ghost use Rattle.cert.specs.Fault.{GivesUnlessFull, as_der};
+ghost use Rattle.cert.specs.TbsCertificate.{component};
 
 use crate::algorithm::AlgorithmIdentifier;
 use crate::extensions::Extensions;
@@ -97,12 +98,12 @@ impl<'a> TbsCertificate<'a> {
 }
 
 /// Takes signatureAlgorithm, which has the octets of the algorithm identifier in the signed part.
-#[tactic(auto, unfolding(crate::specs::Certificate::same_algorithm, asn::specs::Walk::check_that))]
+#[tactic(auto, unfolding(crate::specs::TbsCertificate::component, crate::specs::Certificate::same_algorithm, asn::specs::Walk::check_that))]
 fn take_same_algorithm(
     inner: AlgorithmIdentifier<'_>,
     members: &mut Cursor<'_>,
 ) -> Result<(), Refusal>
-    ensures { Gives (λ _. left members.new) result (same_algorithm (seen_algorithm inner.entry) (left members.old)) }
+    ensures { Gives (λ _. (tt, left members.new)) result (component 0x30 (same_algorithm (seen_algorithm inner.entry)) (left members.old)) }
 {
     let value = members.required(0x30, CertRule::Layout)?;
     if value.whole == inner.whole.whole {
@@ -121,17 +122,23 @@ fn is_of_whole_octets(contents: &[u8]) -> bool
     }
 }
 
-/// Takes signatureValue BIT STRING, whose bits must be whole octets.
+/// signatureValue BIT STRING, whose bits must be whole octets
 #[tactic(auto, unfolding(crate::specs::Certificate::signature_value, asn::specs::Walk::check_that))]
-fn take_signature<'a>(members: &mut Cursor<'a>) -> Result<&'a [u8], Refusal>
-    ensures { Gives (λ octets. (octets.now, left members.new)) result (signature_value (left members.old)) }
+fn signature_at(value: Tlv<'_>) -> Result<&[u8], Refusal>
+    ensures { Gives (λ octets. octets.now) result (signature_value (part value.entry)) }
 {
-    let value = members.required(0x03, CertRule::Layout)?;
     if is_of_whole_octets(value.body) {
         Ok(bits_of(value.body))
     } else {
         Err((CertRule::SignatureBits, value.at))
     }
+}
+
+#[tactic(auto, unfolding(crate::specs::TbsCertificate::component))]
+fn take_signature<'a>(members: &mut Cursor<'a>) -> Result<&'a [u8], Refusal>
+    ensures { Gives (λ octets. (octets.now, left members.new)) result (component 0x03 signature_value (left members.old)) }
+{
+    signature_at(members.required(0x03, CertRule::Layout)?)
 }
 
 /// Certificate ::= SEQUENCE { tbsCertificate TBSCertificate, signatureAlgorithm AlgorithmIdentifier, signatureValue BIT STRING }

@@ -5,11 +5,11 @@ ghost use Rattle.asn.specs.Place.{part};
 ghost use Rattle.asn.specs.Members.{left};
 ghost use Rattle.asn.specs.Walk.{Gives};
 ghost use Rattle.names.specs.GeneralView.{name_contents};
-ghost use Rattle.cert.specs.AlgorithmIdentifier.{seen_algorithm};
-ghost use Rattle.cert.specs.Fault.{as_name};
-ghost use Rattle.cert.specs.SubjectPublicKeyInfo.{seen_key_info};
-ghost use Rattle.cert.specs.TbsCertificate.{is_serial, serial_number, signature_algorithm, distinguished_name, issuer, validity_in, key_info_in, unique_id, tbs_head, seen_head, tbs_subject, seen_subject, certificate_name};
-ghost use Rattle.cert.specs.Validity.{seen_validity};
+ghost use Rattle.cert.specs.AlgorithmIdentifier.{algorithm_identifier, seen_algorithm};
+ghost use Rattle.cert.specs.declared.fault.CertRule.TheVariants.{Layout};
+ghost use Rattle.cert.specs.SubjectPublicKeyInfo.{key_info, seen_key_info};
+ghost use Rattle.cert.specs.TbsCertificate.{component, is_serial, serial_number, distinguished_name, issuer, unique_id, tbs_head, seen_head, tbs_subject, seen_subject};
+ghost use Rattle.cert.specs.Validity.{validity, seen_validity};
 
 use crate::algorithm::AlgorithmIdentifier;
 use crate::fault::{CertRule, Refusal};
@@ -44,10 +44,9 @@ fn is_serial_number(contents: &[u8]) -> bool
 
 /// CertificateSerialNumber ::= INTEGER, here of 1 to 32 octets and of any sign
 #[tactic(auto, unfolding(crate::specs::TbsCertificate::serial_number, asn::specs::Walk::check_that))]
-fn take_serial<'a>(members: &mut Cursor<'a>) -> Result<&'a [u8], Refusal>
-    ensures { Gives (λ contents. (contents.now, left members.new)) result (serial_number (left members.old)) }
+fn serial_at(value: Tlv<'_>) -> Result<&[u8], Refusal>
+    ensures { Gives (λ contents. contents.now) result (serial_number (part value.entry)) }
 {
-    let value = members.required(0x02, CertRule::Layout)?;
     if is_serial_number(value.body) {
         Ok(value.body)
     } else {
@@ -55,18 +54,10 @@ fn take_serial<'a>(members: &mut Cursor<'a>) -> Result<&'a [u8], Refusal>
     }
 }
 
-#[tactic(auto, unfolding(crate::specs::TbsCertificate::signature_algorithm))]
-fn take_algorithm<'a>(members: &mut Cursor<'a>) -> Result<AlgorithmIdentifier<'a>, Refusal>
-    ensures { Gives (λ read. (seen_algorithm read, left members.new)) result (signature_algorithm (left members.old)) }
-{
-    let value = members.required(0x30, CertRule::Layout)?;
-    AlgorithmIdentifier::read(value, CertRule::Layout)
-}
-
 /// The name that stands there, with its fault as one of a certificate.
-#[tactic(auto, unfolding(crate::specs::TbsCertificate::certificate_name))]
+#[tactic(auto, unfolding(crate::specs::TbsCertificate::distinguished_name))]
 fn name_at(value: Tlv<'_>) -> Result<Name<'_>, Refusal>
-    ensures { Gives name_contents result (certificate_name (part value.entry)) }
+    ensures { Gives name_contents result (distinguished_name (part value.entry)) }
 {
     match Name::at(value) {
         Ok(name) => Ok(name),
@@ -74,20 +65,11 @@ fn name_at(value: Tlv<'_>) -> Result<Name<'_>, Refusal>
     }
 }
 
-#[tactic(auto, unfolding(crate::specs::TbsCertificate::distinguished_name))]
-fn take_name<'a>(members: &mut Cursor<'a>) -> Result<Name<'a>, Refusal>
-    ensures { Gives (λ read. (name_contents read, left members.new)) result (distinguished_name (left members.old)) }
-{
-    let value = members.required(0x30, CertRule::Layout)?;
-    name_at(value)
-}
-
 /// The issuer, whose name is not empty.
 #[tactic(auto, unfolding(crate::specs::TbsCertificate::issuer, asn::specs::Walk::check_that))]
-fn take_issuer<'a>(members: &mut Cursor<'a>) -> Result<Name<'a>, Refusal>
-    ensures { Gives (λ read. (name_contents read, left members.new)) result (issuer (left members.old)) }
+fn issuer_at(value: Tlv<'_>) -> Result<Name<'_>, Refusal>
+    ensures { Gives name_contents result (issuer (part value.entry)) }
 {
-    let value = members.required(0x30, CertRule::Layout)?;
     let issuer = name_at(value)?;
     if issuer.is_empty() {
         return Err((CertRule::EmptyIssuer, value.at));
@@ -95,20 +77,46 @@ fn take_issuer<'a>(members: &mut Cursor<'a>) -> Result<Name<'a>, Refusal>
     Ok(issuer)
 }
 
-#[tactic(auto, unfolding(crate::specs::TbsCertificate::validity_in))]
-fn take_validity(members: &mut Cursor<'_>) -> Result<Validity, Refusal>
-    ensures { Gives (λ read. (seen_validity read, left members.new)) result (validity_in (left members.old)) }
+#[tactic(auto, unfolding(crate::specs::TbsCertificate::component))]
+fn take_serial<'a>(members: &mut Cursor<'a>) -> Result<&'a [u8], Refusal>
+    ensures { Gives (λ contents. (contents.now, left members.new)) result (component 0x02 serial_number (left members.old)) }
 {
-    let value = members.required(0x30, CertRule::Layout)?;
-    Validity::read(value)
+    serial_at(members.required(0x02, CertRule::Layout)?)
 }
 
-#[tactic(auto, unfolding(crate::specs::TbsCertificate::key_info_in))]
-fn take_key_info<'a>(members: &mut Cursor<'a>) -> Result<SubjectPublicKeyInfo<'a>, Refusal>
-    ensures { Gives (λ read. (seen_key_info read, left members.new)) result (key_info_in (left members.old)) }
+#[tactic(auto, unfolding(crate::specs::TbsCertificate::component))]
+fn take_algorithm<'a>(members: &mut Cursor<'a>) -> Result<AlgorithmIdentifier<'a>, Refusal>
+    ensures { Gives (λ read. (seen_algorithm read, left members.new)) result (component 0x30 (algorithm_identifier Layout) (left members.old)) }
 {
-    let value = members.required(0x30, CertRule::Layout)?;
-    SubjectPublicKeyInfo::read(value)
+    AlgorithmIdentifier::read(members.required(0x30, CertRule::Layout)?, CertRule::Layout)
+}
+
+#[tactic(auto, unfolding(crate::specs::TbsCertificate::component))]
+fn take_name<'a>(members: &mut Cursor<'a>) -> Result<Name<'a>, Refusal>
+    ensures { Gives (λ read. (name_contents read, left members.new)) result (component 0x30 distinguished_name (left members.old)) }
+{
+    name_at(members.required(0x30, CertRule::Layout)?)
+}
+
+#[tactic(auto, unfolding(crate::specs::TbsCertificate::component))]
+fn take_issuer<'a>(members: &mut Cursor<'a>) -> Result<Name<'a>, Refusal>
+    ensures { Gives (λ read. (name_contents read, left members.new)) result (component 0x30 issuer (left members.old)) }
+{
+    issuer_at(members.required(0x30, CertRule::Layout)?)
+}
+
+#[tactic(auto, unfolding(crate::specs::TbsCertificate::component))]
+fn take_validity(members: &mut Cursor<'_>) -> Result<Validity, Refusal>
+    ensures { Gives (λ read. (seen_validity read, left members.new)) result (component 0x30 validity (left members.old)) }
+{
+    Validity::read(members.required(0x30, CertRule::Layout)?)
+}
+
+#[tactic(auto, unfolding(crate::specs::TbsCertificate::component))]
+fn take_key_info<'a>(members: &mut Cursor<'a>) -> Result<SubjectPublicKeyInfo<'a>, Refusal>
+    ensures { Gives (λ read. (seen_key_info read, left members.new)) result (component 0x30 key_info (left members.old)) }
+{
+    SubjectPublicKeyInfo::read(members.required(0x30, CertRule::Layout)?)
 }
 
 /// Passes over UniqueIdentifier ::= BIT STRING under the tag, which is there from v2 on; the fault, at it, in v1.
