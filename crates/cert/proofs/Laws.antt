@@ -2,3 +2,8 @@
 pub use Rattle.cert.proofs.AlgorithmLaws.{is_algorithm, algorithm_is, has_algorithm, algorithm_has}
 pub use Rattle.cert.proofs.ValidityLaws.{is_validity, validity_is, has_validity, validity_has}
 pub use Rattle.cert.proofs.ExtensionLaws.{is_extension, extension_is, as_extension, of_extension}
+pub use Rattle.cert.proofs.KeyUsageLaws.{is_key_usage, key_usage_is}
+pub use Rattle.cert.proofs.BasicConstraintsLaws.{are_basic_constraints, basic_constraints_are}
+pub use Rattle.cert.proofs.PurposesLaws.{are_purposes, purposes_are}
+pub use Rattle.cert.proofs.AlternativeNamesLaws.{are_alternative_names, alternative_names_are}
+pub use Rattle.cert.proofs.NameConstraintsLaws.{are_name_constraints, name_constraints_are}

@@ -5,4 +5,16 @@ mod ValidityLaws
 mod ExtensionLaws
 mod VersionLaws
 mod KeyInfoLaws
+mod ContainedValues
+mod AddedItems
+mod Rooms
+mod KeyUsageLaws
+mod PathLengths
+mod BasicConstraintsLaws
+mod PurposesLaws
+mod AlternativeNamesLaws
+mod NameConstraintsLaws
+mod Sayings
+mod NewTypes
+mod ExtensionListLaws
 pub mod Laws

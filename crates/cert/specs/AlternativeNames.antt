@@ -1,11 +1,15 @@
 -- subjectAltName (RFC 5280, 4.2.1.6): SEQUENCE SIZE (1..MAX) OF GeneralName
-use Rattle.std.specs.Prelude.{ℕ, List, [], ◌∷◌, ◌++◌, length, is_some, Result, Ok}
-use Rattle.asn.specs.Place.{Place, tag}
+use Rattle.std.specs.Prelude.{◌≡◌, ◌<◌, ◌≤◌, ◌↔◌, ℕ, List, [], ◌∷◌, ◌++◌, length, is_some, Result, Ok}
+use Rattle.std.specs.List.{AllZip}
+use Rattle.asn.specs.DerLaws.{AreOctets}
+use Rattle.asn.specs.Part.{IsWhole}
+use Rattle.asn.specs.Place.{Place, tag, body, inside}
 use Rattle.asn.specs.Members.{members}
 use Rattle.asn.specs.Walk.{◌>>=◌, check_that, is_a, some, each}
 use Rattle.asn.specs.Judgement.{nested}
 use Rattle.names.specs.declared.fault.NameFault.TheVariants.{NameLayout}
 use Rattle.names.specs.GeneralLayout.{GeneralName, form_of_identifier, general}
+use Rattle.names.specs.GeneralForms.{IsGeneralName}
 use Rattle.cert.specs.Fault.{as_der, as_name}
 use Rattle.cert.specs.Limit.{has_room}
 use Rattle.cert.specs.declared.fault.CertRule.{CertRule}
@@ -31,3 +35,17 @@ alternative_names octet_string = do
   sequence ← is_a 0x30 ExtensionValue value
   one ← some ExtensionValue (members value)
   each one_more_name [] ((members value).values)
+
+-- The contents of the OCTET STRING are a SEQUENCE of these general names, one for one; there is one, and no more than are
+-- served.
+pub record AreAlternativeNames (octet_string : Place) (names : List GeneralName) : Type 0 where
+  pub whole : IsWhole (body octet_string)
+  pub sequence : tag (inside octet_string) ≡ 0x30
+  pub some : 0 < length names
+  pub served : length names ≤ MOST_NAMES
+  pub each : AllZip IsGeneralName (members (inside octet_string)).values names
+
+abbrev pub AlternativeNamesAreExact : Type 0
+AlternativeNamesAreExact =
+    (octet_string : Place) (names : List GeneralName) → AreOctets (body octet_string) →
+    (alternative_names octet_string ≡ Ok names) ↔ AreAlternativeNames octet_string names

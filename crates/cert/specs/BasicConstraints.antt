@@ -1,11 +1,14 @@
 -- basicConstraints (RFC 5280, 4.2.1.9):
 -- SEQUENCE { cA BOOLEAN DEFAULT FALSE, pathLenConstraint INTEGER (0..MAX) OPTIONAL }
-use Rattle.std.specs.Prelude.{ℕ, Bool, false, nat_le, min, List, [], ◌∷◌, Option, Some, None, Result, Ok, Err, if◌then◌else◌}
-use Rattle.asn.specs.Place.{Place, body}
+use Rattle.std.specs.Prelude.{◌≡◌, ◌↔◌, ℕ, Bool, false, nat_le, min, pos, List, [], ◌∷◌, ◌++◌, Option, Some, None, Result, Ok, Err, if◌then◌else◌}
+use Rattle.asn.specs.DerLaws.{AreOctets}
+use Rattle.asn.specs.Part.{IsWhole}
+use Rattle.asn.specs.Place.{Place, tag, body, inside}
 use Rattle.asn.specs.Members.{Members, members}
 use Rattle.asn.specs.Walk.{◌>>=◌, is_a, optional, default_false, ended}
 use Rattle.asn.specs.Judgement.{nested}
-use Rattle.asn.specs.Integer.{binary_value}
+use Rattle.asn.specs.Layout.{IsDefaultFalse}
+use Rattle.asn.specs.Integer.{binary_value, integer_value}
 use Rattle.cert.specs.Fault.{as_der}
 use Rattle.cert.specs.declared.fault.CertRule.{CertRule}
 use Rattle.cert.specs.declared.fault.CertRule.TheVariants.{ExtensionValue}
@@ -45,3 +48,30 @@ basic_constraints octet_string = do
   path_length ← path_length ca.1
   done ← ended ExtensionValue path_length.1
   Ok (record { ca = ca.0; path_length = path_length.0 })
+
+-- INTEGER (0..MAX) OPTIONAL: nothing, or the number of an INTEGER, or the greatest of 32 bits where that is greater
+pub record IsNumber (value : Place) (length : Option ℕ) : Type 0 where
+  pub number : ℕ
+  pub integer : tag value ≡ 0x02
+  pub value_is : integer_value (body value) ≡ pos number
+  pub length_is : length ≡ Some (min number 4294967295)
+
+abbrev pub IsPathLength : List Place → Option ℕ → Type 0
+IsPathLength [] length = length ≡ None
+IsPathLength (value ∷ []) length = IsNumber value length
+IsPathLength (value ∷ other ∷ values) length = ⊥
+
+-- The contents of the OCTET STRING are a SEQUENCE of TRUE or nothing, and of a path length or nothing.
+pub record IsBasicConstraints (octet_string : Place) (fields : BasicConstraints) : Type 0 where
+  pub whole : IsWhole (body octet_string)
+  pub flags : List Place
+  pub numbers : List Place
+  pub sequence : tag (inside octet_string) ≡ 0x30
+  pub members_are : (members (inside octet_string)).values ≡ flags ++ numbers
+  pub ca : IsDefaultFalse flags fields.ca
+  pub path_length : IsPathLength numbers fields.path_length
+
+abbrev pub BasicConstraintsAreExact : Type 0
+BasicConstraintsAreExact =
+    (octet_string : Place) (fields : BasicConstraints) → AreOctets (body octet_string) →
+    (basic_constraints octet_string ≡ Ok fields) ↔ IsBasicConstraints octet_string fields

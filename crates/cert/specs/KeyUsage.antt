@@ -1,6 +1,8 @@
 -- keyUsage (RFC 5280, 4.2.1.3): a BIT STRING, whose contents are the count of unused bits and the octets of the bits (X.690, 8.6.2)
-use Rattle.std.specs.Prelude.{◌==◌, ℕ, Bool, List, [], ◌∷◌, Result, Ok}
-use Rattle.asn.specs.Place.{Place, body}
+use Rattle.std.specs.Prelude.{◌≡◌, ◌↔◌, ◌==◌, ℕ, Bool, List, [], ◌∷◌, Result, Ok}
+use Rattle.asn.specs.DerLaws.{AreOctets}
+use Rattle.asn.specs.Part.{IsWhole}
+use Rattle.asn.specs.Place.{Place, tag, body, inside}
 use Rattle.asn.specs.Walk.{◌>>=◌, is_a}
 use Rattle.asn.specs.Judgement.{nested}
 use Rattle.names.specs.Ip.{bit}
@@ -28,3 +30,15 @@ key_usage octet_string = do
   value ← as_der (nested octet_string)
   string ← is_a 0x03 ExtensionValue value
   Ok (bits_of (body value))
+
+-- The contents of the OCTET STRING are a BIT STRING, and these are the octets of its bits.
+pub record IsKeyUsage (octet_string : Place) (bits : List ℕ) : Type 0 where
+  pub whole : IsWhole (body octet_string)
+  pub unused : ℕ
+  pub bit_string : tag (inside octet_string) ≡ 0x03
+  pub contents : body (inside octet_string) ≡ unused ∷ bits
+
+abbrev pub KeyUsageIsExact : Type 0
+KeyUsageIsExact =
+    (octet_string : Place) (bits : List ℕ) → AreOctets (body octet_string) →
+    (key_usage octet_string ≡ Ok bits) ↔ IsKeyUsage octet_string bits

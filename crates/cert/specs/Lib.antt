@@ -14,6 +14,8 @@ pub mod SubjectPublicKeyInfo
 pub mod OidSet
 pub mod TbsCertificate
 pub mod Certificate
+pub mod ExtensionForms
+pub mod CertificateForms
 pub use Rattle.asn.specs.Place
 pub use Rattle.asn.specs.Members
 pub use Rattle.asn.specs.Walk
@@ -27,3 +29,7 @@ pub use Rattle.names.specs.Ip
 pub use Rattle.asn.specs.Integer
 pub use Rattle.names.specs.GeneralLayout
 pub use Rattle.names.specs.GeneralView
+pub use Rattle.names.specs.GeneralForms
+pub use Rattle.names.specs.NameForms
+pub use Rattle.asn.specs.Part
+pub use Rattle.asn.specs.DerLaws

@@ -1,12 +1,16 @@
 -- nameConstraints (RFC 5280, 4.2.1.10):
 -- SEQUENCE { permittedSubtrees [0] GeneralSubtrees OPTIONAL, excludedSubtrees [1] GeneralSubtrees OPTIONAL }
-use Rattle.std.specs.Prelude.{ℕ, ◌-◌, ◌||◌, not, List, [], ◌∷◌, ◌++◌, length, map, Option, Some, None, Result, Ok}
-use Rattle.asn.specs.Place.{Place}
+use Rattle.std.specs.Prelude.{◌≡◌, ◌+◌, ◌<◌, ◌≤◌, ◌↔◌, ℕ, ◌-◌, ◌||◌, not, List, [], ◌∷◌, ◌++◌, length, map, Option, Some, None, Result, Ok}
+use Rattle.std.specs.List.{AllZip}
+use Rattle.asn.specs.DerLaws.{AreOctets}
+use Rattle.asn.specs.Part.{IsWhole}
+use Rattle.asn.specs.Place.{Place, tag, body, inside}
 use Rattle.asn.specs.Members.{Members, members, begins, next_at}
 use Rattle.asn.specs.Walk.{◌>>=◌, check_that, is_a, optional, next_or, some, ended, each}
 use Rattle.asn.specs.Judgement.{nested}
 use Rattle.names.specs.GeneralLayout.{SubtreeBase, base}
 use Rattle.names.specs.GeneralView.{subtree_base}
+use Rattle.names.specs.GeneralForms.{IsSubtreeBase}
 use Rattle.cert.specs.Fault.{as_der, as_name}
 use Rattle.cert.specs.Limit.{has_room}
 use Rattle.cert.specs.declared.fault.CertRule.{CertRule}
@@ -69,3 +73,34 @@ name_constraints octet_string = do
   excluded ← subtrees (MOST_NAMES - length permitted.0) 0xA1 permitted.1
   done ← ended ExtensionValue excluded.1
   Ok (record { permitted = permitted.0; excluded = excluded.0 })
+
+-- the value is a SEQUENCE of a base that says this, and nothing else
+pub record IsSubtree (value : Place) (said : SubtreeBase) : Type 0 where
+  pub base : Place
+  pub sequence : tag value ≡ 0x30
+  pub alone : (members value).values ≡ base ∷ []
+  pub says : IsSubtreeBase base said
+
+-- GeneralSubtrees OPTIONAL: nothing, or a value with this identifier that holds these subtrees, one for one, and one at least
+abbrev pub AreSubtrees : ℕ → List Place → List SubtreeBase → Type 0
+AreSubtrees identifier [] bases = bases ≡ []
+AreSubtrees identifier (list ∷ []) bases =
+    (tag list ≡ identifier) × (0 < length bases) × AllZip IsSubtree (members list).values bases
+AreSubtrees identifier (list ∷ other ∷ lists) bases = ⊥
+
+-- The contents of the OCTET STRING are a SEQUENCE of those permitted or nothing, and of those excluded or nothing; of both
+-- together there are no more than are served.
+pub record IsNameConstraints (octet_string : Place) (fields : NameConstraints) : Type 0 where
+  pub whole : IsWhole (body octet_string)
+  pub permitted_lists : List Place
+  pub excluded_lists : List Place
+  pub sequence : tag (inside octet_string) ≡ 0x30
+  pub members_are : (members (inside octet_string)).values ≡ permitted_lists ++ excluded_lists
+  pub permitted : AreSubtrees 0xA0 permitted_lists fields.permitted
+  pub excluded : AreSubtrees 0xA1 excluded_lists fields.excluded
+  pub served : length fields.permitted + length fields.excluded ≤ MOST_NAMES
+
+abbrev pub NameConstraintsAreExact : Type 0
+NameConstraintsAreExact =
+    (octet_string : Place) (fields : NameConstraints) → AreOctets (body octet_string) →
+    (name_constraints octet_string ≡ Ok fields) ↔ IsNameConstraints octet_string fields

@@ -3,6 +3,11 @@
 ghost use Rattle.cert.specs.AlgorithmIdentifier.{AlgorithmIdentifierIsExact, AlgorithmIdentifierHasLayout};
 ghost use Rattle.cert.specs.Validity.{ValidityIsExact, ValidityHasLayout};
 ghost use Rattle.cert.specs.Extension.{ExtensionIsExact, ExtensionHasLayout};
+ghost use Rattle.cert.specs.KeyUsage.{KeyUsageIsExact};
+ghost use Rattle.cert.specs.BasicConstraints.{BasicConstraintsAreExact};
+ghost use Rattle.cert.specs.Purposes.{PurposesAreExact};
+ghost use Rattle.cert.specs.AlternativeNames.{AlternativeNamesAreExact};
+ghost use Rattle.cert.specs.NameConstraints.{NameConstraintsAreExact};
 
 /// A place is read as a part of a certificate exactly where it is one, and the encoding of a value exactly where the value
 /// has the layout; the fields are the parts of these octets that the layout names.
@@ -13,4 +18,9 @@ pub fn layout_laws()
     ensures validity_value { ValidityHasLayout }
     ensures extension { ExtensionIsExact }
     ensures extension_value { ExtensionHasLayout }
+    ensures key_usage { KeyUsageIsExact }
+    ensures basic_constraints { BasicConstraintsAreExact }
+    ensures purposes { PurposesAreExact }
+    ensures alternative_names { AlternativeNamesAreExact }
+    ensures name_constraints { NameConstraintsAreExact }
 {}

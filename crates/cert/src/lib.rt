@@ -39,3 +39,9 @@ pub use version::Version;
 
 #[cfg(test)]
 mod tests;
+
+#[cfg(test)]
+mod name_value_tests;
+
+#[cfg(test)]
+mod value_tests;

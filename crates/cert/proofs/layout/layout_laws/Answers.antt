@@ -4,6 +4,11 @@ use Rattle.cert.proofs.ValidityLaws.{is_validity, validity_is, has_validity, val
 use Rattle.std.proofs.Common.{◌∙◌}
 use Rattle.asn.specs.Layout.{IsEncodingOf}
 use Rattle.cert.proofs.ExtensionLaws.{is_extension, extension_is, as_extension, of_extension, shown}
+use Rattle.cert.proofs.KeyUsageLaws.{is_key_usage, key_usage_is}
+use Rattle.cert.proofs.BasicConstraintsLaws.{are_basic_constraints, basic_constraints_are}
+use Rattle.cert.proofs.PurposesLaws.{are_purposes, purposes_are}
+use Rattle.cert.proofs.AlternativeNamesLaws.{are_alternative_names, alternative_names_are}
+use Rattle.cert.proofs.NameConstraintsLaws.{are_name_constraints, name_constraints_are}
 use Rattle.cert.proofs.layout.layout_laws.Goals as goal
 
 pub returns-clause-algorithm : goal.returns-clause-algorithm
@@ -33,3 +38,18 @@ returns-clause-extension_value c = λ depth value place oid critical contents en
       λ (fields, e, shows). as_extension encoded (is_extension Layout place fields e) ∙ shown fields oid critical contents shows,
       λ e. let found = of_extension oid critical contents encoded e in (found.0, extension_is Layout place found.0 found.1, found.2),
     )
+
+pub returns-clause-key_usage : goal.returns-clause-key_usage
+returns-clause-key_usage c = λ octet_string found fits. (is_key_usage octet_string found fits, key_usage_is octet_string found)
+
+pub returns-clause-basic_constraints : goal.returns-clause-basic_constraints
+returns-clause-basic_constraints c = λ octet_string found fits. (are_basic_constraints octet_string found fits, basic_constraints_are octet_string found fits)
+
+pub returns-clause-purposes : goal.returns-clause-purposes
+returns-clause-purposes c = λ octet_string found fits. (are_purposes octet_string found fits, purposes_are octet_string found)
+
+pub returns-clause-alternative_names : goal.returns-clause-alternative_names
+returns-clause-alternative_names c = λ octet_string found fits. (are_alternative_names octet_string found fits, alternative_names_are octet_string found)
+
+pub returns-clause-name_constraints : goal.returns-clause-name_constraints
+returns-clause-name_constraints c = λ octet_string found fits. (are_name_constraints octet_string found fits, name_constraints_are octet_string found)
