@@ -9,7 +9,7 @@ use Rattle.der.specs.Laws.{AreOctets, Decision}
 use Rattle.der.proofs.Laws.{decide, never_both, one_fault, are_octets}
 use Rattle.asn.specs.Part.{IsWhole, contents}
 use Rattle.asn.specs.Place.{Place, body, inside}
-use Rattle.asn.specs.Judgement.{answer_of, judgement_of, judgement, placed, nested}
+use Rattle.asn.specs.Judgement.{answer_of, judgement_of, judgement, placed, nested, outermost}
 
 answers_ok : (text : List ℕ) (d : Decision text) (v : Value) → Encodes text v → answer_of text d ≡ Ok tt
 answers_ok text (inl w) v encodes = refl
@@ -59,3 +59,15 @@ nested_ok value inner fits e =
 pub nested_again : (value : Place) → IsWhole (body value) → nested value ≡ Ok (inside value)
 unfolding nested inside contents
 nested_again value (inner, encodes) = ap (λ (r : Result (Unit {0}) (Rule × ℕ)). placed r (inside value)) (judgement_ok (body value) inner encodes)
+
+-- the same of the whole input
+pub outermost_ok : (text : List ℕ) (value : Place) → AreOctets text → outermost text ≡ Ok value → (value ≡ record { octets = text; at = 0 }) × IsWhole text
+unfolding outermost judgement
+outermost_ok text value fits e =
+    let p = placed_ok (judgement text) (record { octets = text; at = 0 }) value e in
+    (p.2, value_of_judgement text (are_octets text) p.0 fits p.1)
+
+pub outermost_again : (text : List ℕ) → IsWhole text → outermost text ≡ Ok (record { octets = text; at = 0 })
+unfolding outermost
+outermost_again text (value, encodes) =
+    ap (λ (r : Result (Unit {0}) (Rule × ℕ)). placed r (record { octets = text; at = 0 })) (judgement_ok text value encodes)

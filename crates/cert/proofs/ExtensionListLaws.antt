@@ -16,11 +16,12 @@ use Rattle.cert.proofs.ExtensionLaws.{is_extension, extension_is}
 use Rattle.cert.proofs.Sayings.{saying_ok, saying_again}
 use Rattle.cert.proofs.NewTypes.{AreNew, new_pairs, pairs_are_new}
 
--- octets of an extension's value are octets
-all_behind : (P : Place → Type 0) (front : List Place) (behind : List Place) → AllByRecursion P (front ++ behind) → AllByRecursion P behind
+-- what holds of all of a list holds of those at its end
+pub all_behind : (P : Place → Type 0) (front : List Place) (behind : List Place) → AllByRecursion P (front ++ behind) → AllByRecursion P behind
 all_behind P [] behind all = all
 all_behind P (place ∷ front) behind all = all_behind P front behind all.1
 
+-- octets of an extension's value are octets
 value_octets : (value : Place) (e : Extension) → AreOctets value.octets → IsExtension value e → AreOctets (body e.value)
 value_octets value e fits is =
     let P : Place → Type 0 = λ member. AreOctets member.octets in

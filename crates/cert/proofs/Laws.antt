@@ -7,3 +7,6 @@ pub use Rattle.cert.proofs.BasicConstraintsLaws.{are_basic_constraints, basic_co
 pub use Rattle.cert.proofs.PurposesLaws.{are_purposes, purposes_are}
 pub use Rattle.cert.proofs.AlternativeNamesLaws.{are_alternative_names, alternative_names_are}
 pub use Rattle.cert.proofs.NameConstraintsLaws.{are_name_constraints, name_constraints_are}
+pub use Rattle.cert.proofs.KeyInfoLaws.{is_key_info, key_info_is}
+pub use Rattle.cert.proofs.ExtensionListLaws.{are_extensions, extensions_are}
+pub use Rattle.cert.proofs.CertificateLaws.{is_tbs, tbs_is, is_certificate_at, certificate_at_is, certificate_is_exact, certificate_is_unique}

@@ -17,4 +17,6 @@ mod NameConstraintsLaws
 mod Sayings
 mod NewTypes
 mod ExtensionListLaws
+mod TbsLaws
+mod CertificateLaws
 pub mod Laws

@@ -63,8 +63,8 @@ pub record IsTbsCertificate (value : Place) (fields : TbsCertificate) : Type 0 w
   pub subject_ids : List Place
   pub extensions : List Place
   pub members_are :
-    (members value).values
-    ≡ versions ++ serial ∷ signature ∷ issuer ∷ validity ∷ subject ∷ key_info ∷ issuer_ids ++ subject_ids ++ extensions
+      (members value).values
+      ≡ versions ++ (serial ∷ signature ∷ issuer ∷ validity ∷ subject ∷ key_info ∷ issuer_ids ++ (subject_ids ++ extensions))
   pub version_is : IsVersion versions fields.head.version
   pub serial_is : IsSerialNumber serial fields.head.serial
   pub signature_is : IsAlgorithmIdentifier signature fields.head.signature

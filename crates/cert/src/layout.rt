@@ -8,6 +8,8 @@ ghost use Rattle.cert.specs.BasicConstraints.{BasicConstraintsAreExact};
 ghost use Rattle.cert.specs.Purposes.{PurposesAreExact};
 ghost use Rattle.cert.specs.AlternativeNames.{AlternativeNamesAreExact};
 ghost use Rattle.cert.specs.NameConstraints.{NameConstraintsAreExact};
+ghost use Rattle.cert.specs.SubjectPublicKeyInfo.{SubjectPublicKeyInfoIsExact};
+ghost use Rattle.cert.specs.CertificateForms.{CertificateIsExact, CertificateIsUnique};
 
 /// A place is read as a part of a certificate exactly where it is one, and the encoding of a value exactly where the value
 /// has the layout; the fields are the parts of these octets that the layout names.
@@ -23,4 +25,12 @@ pub fn layout_laws()
     ensures purposes { PurposesAreExact }
     ensures alternative_names { AlternativeNamesAreExact }
     ensures name_constraints { NameConstraintsAreExact }
+    ensures key_info { SubjectPublicKeyInfoIsExact }
+{}
+
+/// Octets are read as a certificate exactly where they are one: DER with the layout of RFC 5280, 4.1, and these fields, which
+/// are the only ones.
+pub fn certificate_laws()
+    ensures exact { CertificateIsExact }
+    ensures unique { CertificateIsUnique }
 {}

@@ -31,17 +31,15 @@ pub use extensions::Extensions;
 pub use fault::{CertFault, CertRule, Refusal};
 pub use key_info::SubjectPublicKeyInfo;
 pub use key_usage::KeyUsage;
-pub use layout::layout_laws;
+pub use layout::{certificate_laws, layout_laws};
 pub use limit::MOST_NAMES;
 pub use name_constraints::NameConstraints;
 pub use validity::Validity;
 pub use version::Version;
 
 #[cfg(test)]
-mod tests;
-
-#[cfg(test)]
 mod name_value_tests;
-
+#[cfg(test)]
+mod tests;
 #[cfg(test)]
 mod value_tests;

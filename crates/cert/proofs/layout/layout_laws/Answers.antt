@@ -9,6 +9,7 @@ use Rattle.cert.proofs.BasicConstraintsLaws.{are_basic_constraints, basic_constr
 use Rattle.cert.proofs.PurposesLaws.{are_purposes, purposes_are}
 use Rattle.cert.proofs.AlternativeNamesLaws.{are_alternative_names, alternative_names_are}
 use Rattle.cert.proofs.NameConstraintsLaws.{are_name_constraints, name_constraints_are}
+use Rattle.cert.proofs.KeyInfoLaws.{is_key_info, key_info_is}
 use Rattle.cert.proofs.layout.layout_laws.Goals as goal
 
 pub returns-clause-algorithm : goal.returns-clause-algorithm
@@ -53,3 +54,6 @@ returns-clause-alternative_names c = λ octet_string found fits. (are_alternativ
 
 pub returns-clause-name_constraints : goal.returns-clause-name_constraints
 returns-clause-name_constraints c = λ octet_string found fits. (are_name_constraints octet_string found fits, name_constraints_are octet_string found)
+
+pub returns-clause-key_info : goal.returns-clause-key_info
+returns-clause-key_info c = λ value fields. (is_key_info value fields, key_info_is value fields)
