@@ -91,3 +91,7 @@ RoomBelow most k = k < most
 
 pub at_most : (count most : ℕ) → ((k : ℕ) → k < count → k < most) → count ≤ most
 at_most count most room = elim (cases_lt most count) [ inl more ↦ absurd (let never = room most more in omega arith) | inr less ↦ less ]
+
+-- lists of places where the last is empty
+pub none_behind : (xs ys : List Place) → ys ≡ [] → xs ++ ys ≡ xs
+none_behind xs ys e = rw e (append-nil xs)

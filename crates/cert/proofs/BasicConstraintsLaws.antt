@@ -1,5 +1,5 @@
 -- The walk of basic constraints finds what the standard calls them, and nothing else.
-use Rattle.std.proofs.Common.{◌≡◌, min, pos, ℕ, Bool, true, false, List, [], ◌∷◌, ◌++◌, Option, Some, None, Ok, append-nil, refl, sym, ap, ◌∙◌, subst}
+use Rattle.std.proofs.Common.{◌≡◌, min, pos, ℕ, Bool, true, false, List, [], ◌∷◌, ◌++◌, Option, Some, None, Ok, refl, sym, ap, ◌∙◌, subst}
 use Rattle.asn.specs.DerLaws.{AreOctets}
 use Rattle.asn.specs.Place.{Place, tag, body, inside}
 use Rattle.asn.specs.Members.{Members, members, begins, begins_in}
@@ -10,13 +10,14 @@ use Rattle.cert.specs.declared.fault.CertRule.{CertRule}
 use Rattle.cert.specs.declared.fault.CertRule.TheVariants.{ExtensionValue}
 use Rattle.cert.specs.BasicConstraints.{BasicConstraints, is_negative, saturated, path_length_in, path_length, basic_constraints, IsPathLength, IsBasicConstraints}
 use Rattle.cert.proofs.ContainedValues.{contained_ok, contained_again}
+use Rattle.cert.proofs.AddedItems.{none_behind}
 use Rattle.cert.proofs.PathLengths.{value_of_clear, clear_of_value, AllOctets, contents_octets, members_octets, last_octets}
 
--- a path length is the next value, or nothing
 saturated_is : (octets : List ℕ) → Some (saturated octets) ≡ Some (min (binary_value octets) 4294967295)
 unfolding saturated
 saturated_is octets = refl
 
+-- a path length is the next value, or nothing
 pub record TakesPathLength (left : Members) (number : Option ℕ) (others : Members) : Type 0 where
   pub numbers : List Place
   pub values : left.values ≡ numbers ++ others.values
@@ -60,9 +61,6 @@ no_flag : (numbers : List Place) (number : Option ℕ) → IsPathLength numbers 
 no_flag [] number is = refl
 no_flag (value ∷ []) number is = rw is.integer refl
 no_flag (value ∷ other ∷ values) number is = absurd is
-
-none_behind : (xs ys : List Place) → ys ≡ [] → xs ++ ys ≡ xs
-none_behind xs ys e = rw e (append-nil xs)
 
 pub are_basic_constraints : (octet_string : Place) (fields : BasicConstraints) → AreOctets (body octet_string) → basic_constraints octet_string ≡ Ok fields → IsBasicConstraints octet_string fields
 unfolding basic_constraints

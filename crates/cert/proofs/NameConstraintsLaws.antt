@@ -12,7 +12,7 @@ use Rattle.cert.specs.declared.fault.CertRule.TheVariants.{ExtensionValue, Subtr
 use Rattle.cert.specs.declared.limit.TheConstants.{MOST_NAMES}
 use Rattle.cert.specs.NameConstraints.{NameConstraints, no_bounds, subtree, one_more_subtree, some_subtrees, subtrees_in, subtrees, name_constraints, IsSubtree, AreSubtrees, IsNameConstraints}
 use Rattle.cert.proofs.ContainedValues.{contained_ok, contained_again}
-use Rattle.cert.proofs.AddedItems.{Adds, RoomBelow, SomeItems, at_most, some_items_ok, some_items_again}
+use Rattle.cert.proofs.AddedItems.{Adds, RoomBelow, SomeItems, at_most, none_behind, some_items_ok, some_items_again}
 use Rattle.cert.proofs.Rooms.{as_name_ok, room_ok, room_again}
 
 no_bounds_ok : (left : Members) (u : Unit {0}) → no_bounds left ≡ Ok u → left.values ≡ []
@@ -107,9 +107,6 @@ not_permitted : (lists : List Place) (bases : List SubtreeBase) → AreSubtrees 
 not_permitted [] bases are = refl
 not_permitted (list ∷ []) bases are = rw are.0 refl
 not_permitted (list ∷ other ∷ lists) bases are = absurd are
-
-none_behind : (xs ys : List Place) → ys ≡ [] → xs ++ ys ≡ xs
-none_behind xs ys e = rw e (append-nil xs)
 
 both_served : (one two most : ℕ) → one ≤ most → two ≤ most - one → one + two ≤ most
 both_served one two most first second = omega arith

@@ -1,4 +1,5 @@
--- keyUsage (RFC 5280, 4.2.1.3): a BIT STRING, whose contents are the count of unused bits and the octets of the bits (X.690, 8.6.2)
+-- keyUsage (RFC 5280, 4.2.1.3): a BIT STRING, whose contents are the count of unused bits and the octets of the bits
+-- (X.690, 8.6.2)
 use Rattle.std.specs.Prelude.{◌≡◌, ◌↔◌, ◌==◌, ℕ, Bool, List, [], ◌∷◌, Result, Ok}
 use Rattle.asn.specs.DerLaws.{AreOctets}
 use Rattle.asn.specs.Part.{IsWhole}

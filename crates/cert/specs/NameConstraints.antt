@@ -24,7 +24,8 @@ pub record NameConstraints : Type 0 where
   pub excluded : List SubtreeBase
 
 abbrev pub seen_name_constraints : code.NameConstraints → NameConstraints
-seen_name_constraints read = record { permitted = map subtree_base read.permitted.items; excluded = map subtree_base read.excluded.items }
+seen_name_constraints read =
+    record { permitted = map subtree_base read.permitted.items; excluded = map subtree_base read.excluded.items }
 
 -- neither minimum [0] nor maximum [1], and nothing else
 unfoldable pub no_bounds : Members → Result (Unit {0}) (CertRule × ℕ)

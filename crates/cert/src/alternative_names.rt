@@ -40,7 +40,8 @@ fn read_name(value: Tlv<'_>) -> Result<General<'_>, Refusal>
 /// Adds the name that the value is.
 #[tactic(auto, unfolding(crate::specs::AlternativeNames::one_more_name))]
 fn push_name<'a>(all: &mut Vec<General<'a>>, value: Tlv<'a>) -> Result<(), CertFault>
-    ensures { GivesUnlessFull (λ _. map general_name all.new.items) result (one_more_name (map general_name all.old.items) (part value.entry)) }
+    ensures { GivesUnlessFull (λ _. map general_name all.new.items) result
+        (one_more_name (map general_name all.old.items) (part value.entry)) }
 {
     check_form(value)?;
     check_room(MOST_NAMES, all.len(), value.at)?;
@@ -51,7 +52,8 @@ fn push_name<'a>(all: &mut Vec<General<'a>>, value: Tlv<'a>) -> Result<(), CertF
 
 /// The names that the values are.
 fn name_list<'a>(alloc: Global, members: Cursor<'a>) -> Result<Vec<General<'a>>, CertFault>
-    ensures { GivesUnlessFull (λ all. map general_name all.items) result (each one_more_name [] ((left members.entry).values)) }
+    ensures { GivesUnlessFull (λ all. map general_name all.items) result
+        (each one_more_name [] ((left members.entry).values)) }
 {
     let mut members = members;
     let mut all = Vec::new(alloc);

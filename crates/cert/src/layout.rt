@@ -12,7 +12,8 @@ ghost use Rattle.cert.specs.SubjectPublicKeyInfo.{SubjectPublicKeyInfoIsExact};
 ghost use Rattle.cert.specs.CertificateForms.{CertificateIsExact, CertificateIsUnique};
 
 /// A place is read as a part of a certificate exactly where it is one, and the encoding of a value exactly where the value
-/// has the layout; the fields are the parts of these octets that the layout names.
+/// has the layout; the fields are the parts of these octets that the layout names. What an OCTET STRING holds is read as the
+/// value of an extension exactly where it is one.
 pub fn layout_laws()
     ensures algorithm { AlgorithmIdentifierIsExact }
     ensures algorithm_value { AlgorithmIdentifierHasLayout }

@@ -11,7 +11,8 @@ use asn::Tlv;
 use names::Subtree;
 use std::alloc::Global;
 
-/// NameConstraints ::= SEQUENCE { permittedSubtrees [0] GeneralSubtrees OPTIONAL, excludedSubtrees [1] GeneralSubtrees OPTIONAL }
+/// NameConstraints ::= SEQUENCE { permittedSubtrees [0] GeneralSubtrees OPTIONAL, excludedSubtrees [1] GeneralSubtrees
+/// OPTIONAL }
 #[derive(Drop)]
 pub struct NameConstraints<'a> {
     /// Empty where they are not there.
@@ -29,7 +30,8 @@ impl<'a> NameConstraints<'a> {
     /// The name constraints that the OCTET STRING holds; else the first fault: `Der` in its contents, `ExtensionValue` at a
     /// value with a wrong identifier or left over, or at the end of the enclosing value where a base or every subtree is
     /// missing, `Limit` at the 4,097th subtree, of those permitted and then those excluded, `Name` in a base, or
-    /// `SubtreeBounds` at a minimum, which is 0 and so left out, or a maximum, which may not be there. Both lists may be missing.
+    /// `SubtreeBounds` at a minimum, which is 0 and so left out, or a maximum, which may not be there. Both lists may be
+    /// missing.
     #[tactic(auto, unfolding(crate::specs::NameConstraints::name_constraints))]
     pub fn read(alloc: Global, octet_string: Tlv<'a>) -> Result<NameConstraints<'a>, CertFault>
         ensures { GivesUnlessFull seen_name_constraints result (name_constraints (part octet_string.entry)) }

@@ -16,7 +16,8 @@ use std::alloc::Global;
 /// Adds the purpose that the value is.
 #[tactic(auto, unfolding(crate::specs::Purposes::one_more_purpose))]
 fn push_purpose<'a>(all: &mut Vec<Oid<'a>>, value: Tlv<'a>) -> Result<(), CertFault>
-    ensures { GivesUnlessFull (λ _. map oid_contents all.new.items) result (one_more_purpose (map oid_contents all.old.items) (part value.entry)) }
+    ensures { GivesUnlessFull (λ _. map oid_contents all.new.items) result
+        (one_more_purpose (map oid_contents all.old.items) (part value.entry)) }
 {
     value.is_a(0x06, CertRule::ExtensionValue)?;
     all.push(Oid::new(value.body))?;
@@ -25,7 +26,8 @@ fn push_purpose<'a>(all: &mut Vec<Oid<'a>>, value: Tlv<'a>) -> Result<(), CertFa
 
 /// The purposes that the values are.
 fn purpose_list<'a>(alloc: Global, members: Cursor<'a>) -> Result<Vec<Oid<'a>>, CertFault>
-    ensures { GivesUnlessFull (λ all. map oid_contents all.items) result (each one_more_purpose [] ((left members.entry).values)) }
+    ensures { GivesUnlessFull (λ all. map oid_contents all.items) result
+        (each one_more_purpose [] ((left members.entry).values)) }
 {
     let mut members = members;
     let mut all = Vec::new(alloc);

@@ -57,7 +57,8 @@ fn push_subtree<'a>(
     most: usize,
     value: Tlv<'a>,
 ) -> Result<(), CertFault>
-    ensures walk { GivesUnlessFull (λ _. map subtree_base all.new.items) result (one_more_subtree most (map subtree_base all.old.items) (part value.entry)) }
+    ensures walk { GivesUnlessFull (λ _. map subtree_base all.new.items) result
+        (one_more_subtree most (map subtree_base all.old.items) (part value.entry)) }
     ensures served { vec_len all.old ≤ most → vec_len all.new ≤ most }
 {
     value.is_a(0x30, CertRule::ExtensionValue)?;
@@ -73,7 +74,8 @@ fn subtree_list<'a>(
     most: usize,
     members: Cursor<'a>,
 ) -> Result<Vec<Subtree<'a>>, CertFault>
-    ensures walk { GivesUnlessFull (λ all. map subtree_base all.items) result (each (one_more_subtree most) [] ((left members.entry).values)) }
+    ensures walk { GivesUnlessFull (λ all. map subtree_base all.items) result
+        (each (one_more_subtree most) [] ((left members.entry).values)) }
     ensures served { IfOk result (λ all. vec_len all ≤ most) }
 {
     let mut members = members;
@@ -109,7 +111,8 @@ pub(crate) fn take_permitted<'a>(
     alloc: Global,
     members: &mut Cursor<'a>,
 ) -> Result<Vec<Subtree<'a>>, CertFault>
-    ensures walk { GivesUnlessFull (λ all. (map subtree_base all.items, left members.new)) result (subtrees MOST_NAMES 0xA0 (left members.old)) }
+    ensures walk { GivesUnlessFull (λ all. (map subtree_base all.items, left members.new)) result
+        (subtrees MOST_NAMES 0xA0 (left members.old)) }
     ensures served { IfOk result (λ all. vec_len all ≤ MOST_NAMES) }
 {
     match members.optional(0xA0) {
@@ -125,7 +128,8 @@ pub(crate) fn take_excluded<'a>(
     most: usize,
     members: &mut Cursor<'a>,
 ) -> Result<Vec<Subtree<'a>>, CertFault>
-    ensures walk { GivesUnlessFull (λ all. (map subtree_base all.items, left members.new)) result (subtrees most 0xA1 (left members.old)) }
+    ensures walk { GivesUnlessFull (λ all. (map subtree_base all.items, left members.new)) result
+        (subtrees most 0xA1 (left members.old)) }
     ensures served { IfOk result (λ all. vec_len all ≤ most) }
 {
     match members.optional(0xA1) {

@@ -1,0 +1,17 @@
+-- The fingerprint of what a verifier is asked: whether it accepts a signature of a message under a key, by an algorithm.
+use Rattle.std.specs.Prelude.{ℕ, List, ◌++◌, length}
+use Rattle.std.specs.Int.{w64, to_be_bytes}
+use Rattle.sha2.specs.Sha256.{sha256}
+
+-- a text behind its length in 8 octets, the highest first
+abbrev pub framed : List ℕ → List ℕ
+framed text = to_be_bytes w64 (length text) ++ text
+
+-- the four texts, one after the other, each behind its length
+abbrev pub judgement : List ℕ → List ℕ → List ℕ → List ℕ → List ℕ
+judgement algorithm key_info message signature =
+    framed algorithm ++ framed key_info ++ framed message ++ framed signature
+
+-- their digest by SHA-256 (FIPS 180-4)
+unfoldable pub fingerprint_of : List ℕ → List ℕ → List ℕ → List ℕ → List ℕ
+fingerprint_of algorithm key_info message signature = sha256 (judgement algorithm key_info message signature)
