@@ -73,10 +73,28 @@ pub record Extensions : Type 0 where
   pub unrecognised : List (List ℕ)
 
 abbrev pub seen_extensions : code.Extensions → Extensions
-seen_extensions read = record { key_usage = seen seen_key_usage read.key_usage; alternative_names = map general_name read.alternative_names.items; basic_constraints = seen seen_basic_constraints read.basic_constraints; name_constraints = seen_name_constraints read.name_constraints; purposes = map oid_contents read.purposes.items; needs_policy_processing = read.needs_policy_processing; no_check = read.no_check; unrecognised = map oid_contents read.unrecognised.items }
+seen_extensions read = record {
+  key_usage = seen seen_key_usage read.key_usage;
+  alternative_names = map general_name read.alternative_names.items;
+  basic_constraints = seen seen_basic_constraints read.basic_constraints;
+  name_constraints = seen_name_constraints read.name_constraints;
+  purposes = map oid_contents read.purposes.items;
+  needs_policy_processing = read.needs_policy_processing;
+  no_check = read.no_check;
+  unrecognised = map oid_contents read.unrecognised.items;
+}
 
 abbrev pub no_extensions : Extensions
-no_extensions = record { key_usage = None; alternative_names = []; basic_constraints = None; name_constraints = record { permitted = []; excluded = [] }; purposes = []; needs_policy_processing = false; no_check = false; unrecognised = [] }
+no_extensions = record {
+  key_usage = None;
+  alternative_names = [];
+  basic_constraints = None;
+  name_constraints = record { permitted = []; excluded = [] };
+  purposes = [];
+  needs_policy_processing = false;
+  no_check = false;
+  unrecognised = [];
+}
 
 -- What one extension says.
 pub data Saying : Type 0 where
