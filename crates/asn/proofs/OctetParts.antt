@@ -1,5 +1,5 @@
 -- Parts of a text of octets are octets.
-use Rattle.std.proofs.Common.{◌≡◌, ℕ, zero, suc, ◌+◌, ◌<◌, List, [], ◌∷◌, get_or, take, drop, refl, arith, true, false, Bool}
+use Rattle.std.proofs.Common.{◌≡◌, ℕ, zero, suc, ◌+◌, List, [], ◌∷◌, take, drop, refl, arith, true, false, Bool}
 use Rattle.std.specs.List.{AllByRecursion}
 use Rattle.std.proofs.lemmas.List.{get_or-drop}
 use Rattle.der.specs.Laws.{AreOctets}

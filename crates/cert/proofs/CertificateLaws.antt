@@ -1,5 +1,5 @@
 -- The walk of a certificate finds what the standard calls one, and nothing else.
-use Rattle.std.proofs.Common.{◌≡◌, ◌≢◌, ◌==◌, ℕ, Bool, true, false, List, [], ◌∷◌, ◌++◌, append-nil, Option, Some, None, Result, Ok, Err, refl, sym, ap, ◌∙◌, subst}
+use Rattle.std.proofs.Common.{◌≡◌, ◌≢◌, ◌==◌, ℕ, true, false, List, [], ◌∷◌, ◌++◌, append-nil, Option, Some, None, Result, Ok, Err, refl, sym, ap, ◌∙◌, subst}
 use Rattle.std.specs.Str.{bytes_eq}
 use Rattle.std.specs.List.{AllByRecursion}
 use Rattle.std.proofs.lemmas.Bool.{eqb-true}
@@ -20,16 +20,16 @@ use Rattle.cert.specs.AlgorithmIdentifier.{AlgorithmIdentifier, algorithm_identi
 use Rattle.cert.specs.Validity.{validity, IsValidity}
 use Rattle.cert.specs.SubjectPublicKeyInfo.{bits_in, key_info, IsSubjectPublicKeyInfo}
 use Rattle.cert.specs.Version.{is_v3, IsVersion}
-use Rattle.cert.specs.Extensions.{Extensions, no_extensions, extensions}
+use Rattle.cert.specs.Extensions.{Extensions, no_extensions}
 use Rattle.cert.specs.TbsCertificate.{TbsHead, Subject, component, serial_number, distinguished_name, issuer, unique_id, tbs_head, tbs_subject}
-use Rattle.cert.specs.Certificate.{TbsCertificate, Certificate, extensions_in, optional_extensions, tbs_certificate, same_algorithm, has_no_unused_bits, signature_value, certificate_with, certificate_at, certificate}
-use Rattle.cert.specs.CertificateForms.{IsSerialNumber, IsNameOf, IsUniqueId, AreTaggedExtensions, AreOptionalExtensions, IsTbsCertificate, IsSignature, IsCertificateAt, IsCertificate, CertificateIsExact, CertificateIsUnique}
+use Rattle.cert.specs.Certificate.{TbsCertificate, Certificate, extensions_in, optional_extensions, tbs_certificate, same_algorithm, has_no_unused_bits, signature_value, certificate_at, certificate}
+use Rattle.cert.specs.CertificateForms.{IsSerialNumber, IsNameOf, IsUniqueId, AreTaggedExtensions, AreOptionalExtensions, IsTbsCertificate, IsSignature, IsCertificateAt, CertificateIsExact, CertificateIsUnique}
 use Rattle.cert.proofs.AlgorithmLaws.{is_algorithm, algorithm_is}
 use Rattle.cert.proofs.ValidityLaws.{is_validity, validity_is}
 use Rattle.cert.proofs.KeyInfoLaws.{is_key_info, key_info_is}
-use Rattle.cert.proofs.VersionLaws.{TakesVersion, version_ok, version_again}
+use Rattle.cert.proofs.VersionLaws.{version_ok, version_again}
 use Rattle.cert.proofs.ExtensionListLaws.{all_behind, are_extensions, extensions_are}
-use Rattle.cert.proofs.TbsLaws.{component_ok, component_again, serial_ok, serial_again, name_ok, name_again, issuer_ok, issuer_again, TakesUniqueId, unique_id_ok, unique_id_again}
+use Rattle.cert.proofs.TbsLaws.{component_ok, component_again, serial_ok, serial_again, name_ok, name_again, issuer_ok, issuer_again, unique_id_ok, unique_id_again}
 
 -- extensions
 v3_ok : (version : Version) → is_v3 version ≡ true → version ≡ V3

@@ -1,16 +1,16 @@
 -- The walk of a list of extensions finds what the standard calls one, and nothing else.
-use Rattle.std.proofs.Common.{◌≡◌, ◌≢◌, ℕ, Bool, true, false, not, List, [], ◌∷◌, ◌++◌, AllPairs, Ok, refl, sym, ap, ◌∙◌, subst}
+use Rattle.std.proofs.Common.{◌≡◌, ◌≢◌, ℕ, Bool, true, false, not, List, [], ◌∷◌, ◌++◌, Ok, refl, sym, ap, ◌∙◌, subst}
 use Rattle.std.specs.List.{AllByRecursion, AllZip}
 use Rattle.std.specs.FinSet.{empty, contains, insert}
 use Rattle.asn.specs.DerLaws.{AreOctets}
 use Rattle.asn.specs.Place.{Place, body}
 use Rattle.asn.specs.Members.{members}
 use Rattle.asn.specs.Walk.{each, Leads}
-use Rattle.asn.proofs.Laws.{bind_ok, ok_is, check_ok, check_again, some_ok, some_again, each_ok, each_again, members_octets, body_octets}
+use Rattle.asn.proofs.Laws.{bind_ok, ok_is, check_ok, check_again, some_ok, some_again, each_ok, members_octets, body_octets}
 use Rattle.cert.specs.declared.fault.CertRule.{CertRule}
 use Rattle.cert.specs.declared.fault.CertRule.TheVariants.{Layout, ExtensionRepeated}
-use Rattle.cert.specs.Extension.{Extension, extension, IsExtension}
-use Rattle.cert.specs.Extensions.{Extensions, Taken, no_extensions, nothing_taken, told, noted, kind_of, saying_of, told_by, one_extension, extensions}
+use Rattle.cert.specs.Extension.{Extension, IsExtension}
+use Rattle.cert.specs.Extensions.{Extensions, Taken, nothing_taken, told, noted, kind_of, saying_of, told_by, one_extension, extensions}
 use Rattle.cert.specs.ExtensionForms.{Told, Tells, all_told, AreExtensions}
 use Rattle.cert.proofs.ExtensionLaws.{is_extension, extension_is}
 use Rattle.cert.proofs.Sayings.{saying_ok, saying_again}

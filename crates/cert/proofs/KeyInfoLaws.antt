@@ -1,5 +1,5 @@
 -- The walk of a public key finds what the standard calls one, and nothing else.
-use Rattle.std.proofs.Common.{◌≡◌, ℕ, List, [], ◌∷◌, Ok, refl, sym, ap, ◌∙◌, subst}
+use Rattle.std.proofs.Common.{◌≡◌, ℕ, List, [], ◌∷◌, Ok, refl, ap, ◌∙◌, subst}
 use Rattle.asn.specs.Place.{Place}
 use Rattle.asn.specs.Members.{Members, members}
 use Rattle.asn.proofs.Laws.{bind_ok, ok_is, is_a_ok, is_a_again, required_ok, required_again, ended_ok, ended_again}

@@ -1,11 +1,10 @@
 -- The walk of the signed part finds what the standard calls one, and nothing else.
-use Rattle.std.proofs.Common.{◌≡◌, ◌≢◌, ◌<◌, ◌≤◌, ◌&&◌, ℕ, Bool, true, false, not, List, [], ◌∷◌, ◌++◌, length, nat_lt, Option, Some, None, Result, Ok, Err, append_assoc, arith, refl, sym, ap, ◌∙◌, subst}
+use Rattle.std.proofs.Common.{◌≡◌, ◌≢◌, ℕ, true, false, not, List, [], ◌∷◌, ◌++◌, length, nat_lt, Option, Some, None, Result, Ok, Err, arith, refl, sym, ap, ◌∙◌, subst}
 use Rattle.std.proofs.lemmas.Bool.{and_parts, and_from, ltb-true, lt-ltb}
-use Rattle.asn.specs.DerLaws.{AreOctets}
 use Rattle.asn.specs.Place.{Place, tag, body}
-use Rattle.asn.specs.Members.{Members, members, begins, begins_in}
-use Rattle.asn.specs.Walk.{optional, check_that}
-use Rattle.asn.proofs.Laws.{bind_ok, ok_is, check_ok, check_again, Takes, required_ok, required_again, TakesOptional, optional_is, optional_there, optional_absent, ended_ok, ended_again}
+use Rattle.asn.specs.Members.{Members, begins, begins_in}
+use Rattle.asn.specs.Walk.{optional}
+use Rattle.asn.proofs.Laws.{bind_ok, ok_is, check_ok, check_again, Takes, required_ok, required_again, TakesOptional, optional_is, optional_there, optional_absent}
 use Rattle.names.specs.declared.fault.NameFault.{NameFault}
 use Rattle.names.specs.DistinguishedName.{RdnMap}
 use Rattle.names.specs.NameLayout.{name}

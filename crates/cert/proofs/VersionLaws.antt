@@ -1,14 +1,13 @@
 -- What the step for the version says of the values, in both directions.
 use Rattle.std.proofs.Common.{◌≡◌, ℕ, false, List, [], ◌∷◌, ◌++◌, Option, Some, None, Ok, refl, sym, ap, ◌∙◌, subst}
-use Rattle.asn.specs.Place.{Place, tag, body}
+use Rattle.asn.specs.Place.{Place}
 use Rattle.asn.specs.Members.{Members, members, begins, begins_in}
 use Rattle.asn.specs.Walk.{optional, or_fault}
 use Rattle.asn.proofs.Laws.{bind_ok, ok_is, required_ok, required_again, TakesOptional, optional_is, optional_there, optional_absent, ended_ok, ended_again}
-use Rattle.cert.specs.declared.fault.CertRule.{CertRule}
 use Rattle.cert.specs.declared.fault.CertRule.TheVariants as R
 use Rattle.cert.specs.declared.version.Version.{Version}
 use Rattle.cert.specs.declared.version.Version.TheVariants.{V1}
-use Rattle.cert.specs.Version.{version_of, version_in, version, IsExplicitVersion, IsVersion}
+use Rattle.cert.specs.Version.{version_in, version, IsExplicitVersion, IsVersion}
 
 -- the version is there or not, and then the others
 pub record TakesVersion (left : Members) (version : Version) (others : Members) : Type 0 where

@@ -1,5 +1,5 @@
 -- Certificates (RFC 5280, 4.1): SEQUENCE { tbsCertificate, signatureAlgorithm, signatureValue BIT STRING }
-use Rattle.std.specs.Prelude.{◌≡◌, ℕ, ◌==◌, Bool, false, List, [], ◌∷◌, Option, Some, None, Result, Ok}
+use Rattle.std.specs.Prelude.{ℕ, ◌==◌, Bool, false, List, [], ◌∷◌, Option, Some, None, Result, Ok}
 use Rattle.std.specs.Str.{bytes_eq}
 use Rattle.asn.specs.Place.{Place, body}
 use Rattle.asn.specs.Members.{Members, members}

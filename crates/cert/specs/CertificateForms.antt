@@ -1,5 +1,5 @@
 -- Certificates by their layout, in the words of the standard (RFC 5280, 4.1 and 4.2).
-use Rattle.std.specs.Prelude.{◌≡◌, ◌≢◌, ◌↔◌, ◌<◌, ◌≤◌, ◌++◌, ℕ, List, [], ◌∷◌, false, length, Ok}
+use Rattle.std.specs.Prelude.{◌≡◌, ◌≢◌, ◌↔◌, ◌<◌, ◌≤◌, ◌++◌, ℕ, List, [], ◌∷◌, length, Ok}
 use Rattle.asn.specs.Value.{Value}
 use Rattle.asn.specs.Encoding.{Encodes}
 use Rattle.asn.specs.DerLaws.{AreOctets}
@@ -11,7 +11,7 @@ use Rattle.cert.specs.declared.version.Version.{Version}
 use Rattle.cert.specs.declared.version.Version.TheVariants.{V1, V3}
 use Rattle.cert.specs.AlgorithmIdentifier.{IsAlgorithmIdentifier}
 use Rattle.cert.specs.Validity.{IsValidity}
-use Rattle.cert.specs.SubjectPublicKeyInfo.{IsSubjectPublicKeyInfo, bits_in}
+use Rattle.cert.specs.SubjectPublicKeyInfo.{IsSubjectPublicKeyInfo}
 use Rattle.cert.specs.Version.{IsVersion}
 use Rattle.cert.specs.Extensions.{Extensions, no_extensions}
 use Rattle.cert.specs.ExtensionForms.{AreExtensions}

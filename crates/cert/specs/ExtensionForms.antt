@@ -1,7 +1,7 @@
 -- The extensions of a certificate by their layout, in the words of the standard (RFC 5280, 4.2).
-use Rattle.std.specs.Prelude.{◌≡◌, ◌≢◌, ◌⊎◌, ℕ, List, [], ◌∷◌, AllPairs}
+use Rattle.std.specs.Prelude.{◌≡◌, ◌≢◌, ◌⊎◌, List, [], ◌∷◌, AllPairs}
 use Rattle.std.specs.List.{AllZip}
-use Rattle.asn.specs.Place.{Place, tag}
+use Rattle.asn.specs.Place.{Place}
 use Rattle.asn.specs.Members.{members}
 use Rattle.cert.specs.declared.extension_kind.ExtensionKind.TheVariants as Kind
 use Rattle.cert.specs.Extension.{Extension, IsExtension}

@@ -1,7 +1,7 @@
 -- The signed part of a certificate, without its extensions (RFC 5280, 4.1.2).
-use Rattle.std.specs.Prelude.{◌≡◌, ℕ, ◌&&◌, nat_lt, Bool, true, false, not, List, [], ◌∷◌, length, Option, Some, None, Result, Ok}
-use Rattle.asn.specs.Place.{Place, tag, body}
-use Rattle.asn.specs.Members.{Members, members}
+use Rattle.std.specs.Prelude.{ℕ, ◌&&◌, nat_lt, Bool, true, false, not, List, [], ◌∷◌, length, Option, Some, None, Result, Ok}
+use Rattle.asn.specs.Place.{Place, body}
+use Rattle.asn.specs.Members.{Members}
 use Rattle.asn.specs.Walk.{◌>>=◌, required, optional, check_that}
 use Rattle.names.specs.DistinguishedName.{RdnMap}
 use Rattle.names.specs.NameLayout.{name}

@@ -1,5 +1,3 @@
-use Rattle.std.proofs.Common.{subst, sym}
-use Rattle.der.specs.Encoding.{EncodesAt}
 use Rattle.asn.proofs.Sizes.{encodes, encodable, length-encoding, length-encodings}
 use Rattle.asn.proofs.encoding.size_laws.Goals as goal
 
