@@ -1,8 +1,8 @@
 -- Values as parts of a text.
-use Rattle.std.proofs.Common.{◌≡◌, ℕ, ◌+◌, ◌-◌, ◌<◌, ◌≤◌, List, [], ◌++◌, length, get_or, take, drop, refl, sym, ap, ◌∙◌, arith, true, false}
+use Rattle.std.proofs.Common.{◌≡◌, ℕ, ◌+◌, ◌-◌, ◌<◌, ◌≤◌, List, [], ◌++◌, length, get_or, take, drop, refl, sym, ap, ◌∙◌, arith, true}
 use Rattle.std.proofs.lemmas.List.{length-drop, append-nil, take_at, drop_at, take_all, length-take}
 use Rattle.der.specs.declared.header.Header.{Header}
-use Rattle.der.specs.Value.{Value, Values, primitive, constructed, none, more}
+use Rattle.der.specs.Value.{Value, Values, constructed, none, more}
 use Rattle.der.specs.Identifier.{is_constructed}
 use Rattle.der.specs.Length.{header_len, contents_len, contents_of}
 use Rattle.der.specs.Encoding.{EncodesAt, EncodesAllAt}
@@ -13,7 +13,7 @@ use Rattle.der.specs.Fault.{rule_number}
 use Rattle.der.specs.declared.fault.Rule.{Rule}
 use Rattle.der.proofs.Laws.{parts_of, front_of, clean_in}
 use Rattle.asn.proofs.Splits.{end_is}
-use Rattle.der.proofs.Laws.{read_front, rest_encoded, inner_encoded, built_primitive}
+use Rattle.der.proofs.Laws.{read_front, rest_encoded, inner_encoded}
 
 -- no rule on a header is broken where an encoding stands
 pub never_broken : (text : List ℕ) (rule : Rule) → BeginsEncoded text → ((depth : ℕ) → (rule_number rule < 5) × BreaksFirst rule depth text) → ⊥
@@ -46,9 +46,6 @@ same_words text x rest depth v e sp =
 
 pub inside_constructed : (depth : ℕ) (x : List ℕ) (v : Value) → EncodesAt depth x v → is_constructed (get_or x 0 0) ≡ true → (vs : Values) × ((i : ℕ) × (v ≡ constructed (get_or x 0 0) vs)) × EncodesAllAt (depth + 1) (contents_of x) vs
 inside_constructed depth x v sp form = let i = inner_encoded depth x x [] v (sym (append-nil x)) sp form in (i.0, (get_or x 0 0, sym i.2), i.1)
-
-pub inside_primitive : (depth : ℕ) (x : List ℕ) (v : Value) → EncodesAt depth x v → is_constructed (get_or x 0 0) ≡ false → (i : ℕ) × (c : List ℕ) × ((v ≡ primitive (get_or x 0 0) c) × (c ≡ contents_of x))
-inside_primitive depth x v sp form = (get_or x 0 0, contents_of x, (sym (built_primitive depth x x [] v (sym (append-nil x)) sp form), refl))
 
 pub body_len : (x : List ℕ) (depth : ℕ) (v : Value) → EncodesAt depth x v → length x - length (contents_of x) ≡ header_len x
 body_len x depth v sp =

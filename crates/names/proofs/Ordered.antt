@@ -77,9 +77,6 @@ pub record IsFirstOfEach (done taken : List Entry) : Type 0 where
   pub values : (kind : List ℕ) → value_at kind taken ≡ value_at kind done
   pub below : (kind : List ℕ) → AllBelow done kind → AllBelow taken kind
 
-pub none_taken : IsFirstOfEach [] []
-none_taken = record { ascends = tt; values = λ kind. refl; below = λ kind h. h }
-
 both : (a b : Bool) → T a → T b → T (a && b)
 both true b p q = q
 both false b p q = p

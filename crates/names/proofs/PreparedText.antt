@@ -34,7 +34,3 @@ next_written text out rest word after next up b e =
           ∙ (append_assoc (lowered out) (32 ∷ lowered word) (spaced (words after))
           ∙ (ap (λ (ws : List (List ℕ)). lowered out ++ spaced ws) (sym b.first) ∙ up.joined));
     }
-
-pub all_written : (text out rest last : List ℕ) → IsWrittenUpTo text out rest → words rest ≡ [] → last ≡ lowered out → last ≡ prepared text
-all_written text out rest last up none e =
-    e ∙ (sym (append-nil (lowered out)) ∙ (ap (λ (ws : List (List ℕ)). lowered out ++ spaced ws) (sym none) ∙ up.joined))

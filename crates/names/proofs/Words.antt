@@ -212,6 +212,3 @@ apart_ends a b c d w f h q x k =
     let y = q.first in
     let z = h.onward (same_words a b k) in
     cc
-
-pub ends_both : (a b c d : List ℕ) → SameFrom a b c d → words c ≡ [] → words d ≡ [] → prepared a ≡ prepared b
-ends_both a b c d h x y = ap (join_with_byte 32) (h.back (x ∙ sym y))
