@@ -1,4 +1,5 @@
 mod Strings
+mod Distinct
 mod Reading
 mod Pairs
 mod Zipped
@@ -22,4 +23,11 @@ mod Keys
 mod Fits
 mod SequenceFits
 mod Subtrees
+mod Runs
+mod InOrder
+mod Counting
+mod RunParts
+mod Agreement
+mod NewKinds
+mod Pointers
 pub mod Laws

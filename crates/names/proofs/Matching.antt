@@ -41,23 +41,6 @@ later_value kind whole rest after e up is other = up ∙ (ap (value_at kind) is 
 pub no_value : (kind : List ℕ) (whole rest : List Entry) → value_at kind whole ≡ value_at kind rest → rest ≡ [] → None ≡ value_at kind whole
 no_value kind whole rest up is = sym (up ∙ (ap (value_at kind) is ∙ value_none kind))
 
--- what the code finds in both sets
-pub agree_both : (l r : List Entry) (kind : List ℕ) (v w : ComparedValue) (b : Bool) → Some v ≡ value_at kind l → Some w ≡ value_at kind r
-    → (IsTrue b ↔ (v ≡ w)) → (IsTrue b ↔ AgreeAt l r kind)
-agree_both l r kind v w b p q h = (
-  λ t. let z = h.0 t in record { same = cc },
-  λ g. h.1 (let z = g.same in cc),
-)
-
-pub agree_neither : (l r : List Entry) (kind : List ℕ) → None ≡ value_at kind l → None ≡ value_at kind r → AgreeAt l r kind
-agree_neither l r kind p q = record { same = sym p ∙ q }
-
-pub agree_left : (l r : List Entry) (kind : List ℕ) (v : ComparedValue) → Some v ≡ value_at kind l → None ≡ value_at kind r → AgreeAt l r kind → ⊥
-agree_left l r kind v p q g = let z = g.same in cc
-
-pub agree_right : (l r : List Entry) (kind : List ℕ) (v : ComparedValue) → None ≡ value_at kind l → Some v ≡ value_at kind r → AgreeAt l r kind → ⊥
-agree_right l r kind v p q g = let z = g.same in cc
-
 -- at a type that stands in the list, or nowhere
 pub at_or_none : (P : List ℕ → Type 0) (es : List Entry) → AllByRecursion (λ e. P e.0) es → (kind : List ℕ) → (value_at kind es ≡ None) ⊎ P kind
 at_or_none P [] h kind = inl (value_none kind)
@@ -88,7 +71,7 @@ same_by_values m es h =
 pub same_sets : (l r : List Entry) → AgreeOn l r l → AgreeOn r l r → rdn_map l ≡ rdn_map r
 same_sets l r p s = same_by_values (rdn_map l) r (λ kind. get_rdn l kind ∙ agree_everywhere l r p s kind)
 
-agree_of_same : (l r : List Entry) → rdn_map l ≡ rdn_map r → (kind : List ℕ) → AgreeAt l r kind
+pub agree_of_same : (l r : List Entry) → rdn_map l ≡ rdn_map r → (kind : List ℕ) → AgreeAt l r kind
 agree_of_same l r e kind = record { same = sym (get_rdn l kind) ∙ (ap (λ (m : RdnMap). get m kind) e ∙ get_rdn r kind) }
 
 all_of : (P : List ℕ → Type 0) → ((kind : List ℕ) → P kind) → (es : List Entry) → AllByRecursion (λ e. P e.0) es
@@ -97,23 +80,6 @@ all_of P h (e ∷ es) = (h e.0, all_of P h es)
 
 pub sets_agree : (l r : List Entry) → rdn_map l ≡ rdn_map r → AgreeOn l r l
 sets_agree l r e = all_of (AgreeAt l r) (agree_of_same l r e) l
-
--- what is left to look at decides the whole
-pub record IsLeft (P : Entry → Type 0) (whole rest : List Entry) : Type 0 where
-  pub onward : AllByRecursion P whole → AllByRecursion P rest
-  pub back : AllByRecursion P rest → AllByRecursion P whole
-
-pub left_more : (P : Entry → Type 0) (whole rest after : List Entry) (e : Entry) → IsLeft P whole rest → rest ≡ e ∷ after → P e → IsLeft P whole after
-left_more P whole rest after e h is p = record {
-  onward = λ a. (subst (AllByRecursion P) is (h.onward a)).1;
-  back = λ a. h.back (subst (AllByRecursion P) (sym is) (p, a));
-}
-
-pub left_fails : (P : Entry → Type 0) (whole rest after : List Entry) (e : Entry) → IsLeft P whole rest → rest ≡ e ∷ after → (P e → ⊥) → AllByRecursion P whole → ⊥
-left_fails P whole rest after e h is n a = n (subst (AllByRecursion P) is (h.onward a)).0
-
-pub left_none : (P : Entry → Type 0) (whole rest : List Entry) → IsLeft P whole rest → rest ≡ [] → AllByRecursion P whole
-left_none P whole rest h is = h.back (subst (AllByRecursion P) (sym is) tt)
 
 -- names, set by set: what is left of both decides whether the first begins with the second
 pub record IsLevel (n m inner outer : List RdnMap) : Type 0 where

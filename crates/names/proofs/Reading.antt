@@ -9,6 +9,7 @@ use Rattle.names.specs.declared.fault.NameFault.{NameFault}
 use Rattle.names.specs.declared.fault.NameFault.TheVariants.{NameLayout, Text}
 use Rattle.names.specs.NameLayout.{attribute_members, attribute_order, is_string, attribute, attributes, rdn, one_more_rdn, name}
 use Rattle.names.specs.NameParts.{IsAttribute, AreAttributes, IsRdn, AreRdns}
+use Rattle.names.proofs.Distinct.{set_distinct}
 
 attribute_read : (all : List Place) (before : List ℕ) (place : Place) (x : List ℕ) → attribute all before place ≡ Ok x → IsAttribute place
 unfolding attribute
@@ -28,7 +29,7 @@ rdn_read place u e =
     let b = bind_ok (is_a 0x31 NameLayout place) (λ set. some NameLayout (members place) >>= λ one. attributes ((members place).values)) u e in
     let c = bind_ok (some NameLayout (members place)) (λ one. attributes ((members place).values)) u b.2 in
     let d = bind_ok (each (attribute ((members place).values)) [] ((members place).values)) (λ last. Ok tt) u c.2 in
-    (ap is_constructed (is_a_ok 0x31 NameLayout place b.0 b.1), attributes_read ((members place).values) ((members place).values) [] d.0 d.1)
+    (ap is_constructed (is_a_ok 0x31 NameLayout place b.0 b.1), attributes_read ((members place).values) ((members place).values) [] d.0 d.1, set_distinct place d.0 d.1)
 
 rdns_each : (places : List Place) (before u : Unit {0}) → each one_more_rdn before places ≡ Ok u → AreRdns places
 rdns_each [] before u e = tt

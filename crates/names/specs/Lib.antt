@@ -8,6 +8,8 @@ pub mod DistinguishedName
 pub mod NameParts
 pub mod NameView
 pub mod NameOctets
+pub mod Repetition
+pub mod Agreement
 pub mod NameKey
 pub mod AttributeOrder
 pub mod Dns

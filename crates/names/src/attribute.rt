@@ -1,6 +1,6 @@
 //! Attributes of names (X.501, AttributeTypeAndValue; RFC 5280, 4.1.2.4).
 
-ghost use Rattle.std.specs.Prelude.{◌≡◌, ◌↔◌, ℕ, List, IsTrue};
+ghost use Rattle.std.specs.Prelude.{◌≡◌, ◌↔◌, ◌<◌, ℕ, List, IsTrue, false};
 ghost use Rattle.std.specs.List.{list_all};
 ghost use Rattle.std.specs.Str.{is_utf8};
 ghost use Rattle.std.specs.Char.{is_ascii};
@@ -12,6 +12,7 @@ ghost use Rattle.names.specs.NameLayout.{attribute_members, attribute, attribute
 ghost use Rattle.names.specs.AttributeView.{seen_members};
 ghost use Rattle.names.specs.NameParts.{entry_of_parts};
 ghost use Rattle.names.specs.NameView.{entry_of};
+ghost use Rattle.names.specs.Repetition.{kind_at};
 
 use crate::fault::{NameFault, Refusal};
 use crate::preparation::same_prepared;
@@ -78,8 +79,7 @@ fn is_of_kind(attribute: Tlv<'_>, kind: &[u8]) -> bool
     }
 }
 
-/// Whether an attribute that stands before the offset has the type. It walks over these attributes, so that the test of all
-/// attributes of an RDN takes time quadratic in their number, and no memory.
+/// Whether an attribute that stands before the offset has the type. It walks over these attributes.
 fn repeats_kind(all: Cursor<'_>, at: usize, kind: &[u8]) -> bool
     ensures { result ≡ has_kind_before kind.now at (left all.entry).values }
 {
@@ -93,6 +93,17 @@ fn repeats_kind(all: Cursor<'_>, at: usize, kind: &[u8]) -> bool
         }
     }
     false
+}
+
+/// The same, where attributes before `clear` are known to have new types.
+fn repeats_unless_clear(all: Cursor<'_>, clear: usize, at: usize, kind: &[u8]) -> bool
+    requires { at < clear → has_kind_before kind.now at (left all).values ≡ false }
+    ensures { result ≡ has_kind_before kind.now at (left all.entry).values }
+{
+    if at < clear {
+        return false;
+    }
+    repeats_kind(all, at, kind)
 }
 
 fn is_utf8_text(contents: &[u8]) -> bool
@@ -125,10 +136,17 @@ pub(crate) fn is_well_formed_text(tag: u8, contents: &[u8]) -> bool
 
 /// Looks at the place of an attribute among all of its RDN, behind one with the octets before.
 #[tactic(auto, unfolding(crate::specs::NameLayout::attribute_order, asn::specs::Walk::check_that))]
-fn check_order(all: Cursor<'_>, before: &[u8], kind: &[u8], tlv: Tlv<'_>) -> Result<(), Refusal>
+fn check_order(
+    all: Cursor<'_>,
+    clear: usize,
+    before: &[u8],
+    kind: &[u8],
+    tlv: Tlv<'_>,
+) -> Result<(), Refusal>
+    requires { tlv.at < clear → has_kind_before kind.now tlv.at (left all).values ≡ false }
     ensures { Gives (λ _. tt) result (attribute_order ((left all.entry).values) before.now kind.now (part tlv.entry)) }
 {
-    if repeats_kind(all, tlv.at, kind) {
+    if repeats_unless_clear(all, clear, tlv.at, kind) {
         return Err((NameFault::RdnRepeat, tlv.at));
     }
     if is_before(tlv.whole, before) {
@@ -145,17 +163,19 @@ fn is_before(octets: &[u8], other: &[u8]) -> bool
 }
 
 /// Reads an attribute of an RDN, whose attributes are all of those, behind one with the octets before, which are none for
-/// the first; answers its own octets.
+/// the first; answers its own octets. Attributes before `clear` are known to have new types.
 #[tactic(auto, unfolding(crate::specs::NameLayout::attribute, asn::specs::Walk::check_that))]
 pub(crate) fn read_attribute<'a>(
     all: Cursor<'_>,
+    clear: usize,
     before: &[u8],
     tlv: Tlv<'a>,
 ) -> Result<&'a [u8], Refusal>
+    requires { tlv.at < clear → has_kind_before (kind_at (part tlv)) tlv.at (left all).values ≡ false }
     ensures { Gives (λ octets. octets.now) result (attribute ((left all.entry).values) before.now (part tlv.entry)) }
 {
     let members = AttributeMembers::read(tlv)?;
-    check_order(all, before, members.kind.body, tlv)?;
+    check_order(all, clear, before, members.kind.body, tlv)?;
     if is_well_formed_text(members.value.tag, members.value.body) {
         Ok(tlv.whole)
     } else {

@@ -7,12 +7,15 @@ mod fault;
 mod general;
 mod general_reading;
 mod ip;
+mod kinds;
 mod name;
 mod name_key;
 mod name_reading;
 mod preparation;
 mod rdn;
 mod rdn_sequence;
+mod repetition;
+mod run;
 mod subtree;
 
 pub use attribute::Attribute;

@@ -12,13 +12,30 @@ ghost use Rattle.names.specs.NameParts.{rdns_at};
 ghost use Rattle.names.specs.NameOctets.{raw_of, rdns_of};
 ghost use Rattle.names.specs.NameLayout.{name, rdn, attributes, one_more_rdn};
 ghost use Rattle.names.specs.NameForms.{NameIsExact, NameHasLayout};
+ghost use Rattle.names.specs.Repetition.{kinds_left, AreNew, IsRest};
 
 use crate::attribute::read_attribute;
 use crate::fault::{NameFault, Refusal};
+use crate::kinds::Kinds;
 use crate::name::Name;
 use crate::rdn_sequence::RdnSequence;
+use crate::repetition::new_until;
 use asn::{Cursor, Oid, Tlv};
 use std::alloc::{AllocError, Global};
+
+/// How far the attributes are known to have new types, once the one at the offset was read. A run is looked at when its first
+/// attribute is the next.
+fn clear_after(all: Cursor<'_>, clear: usize, at: usize, rest: Cursor<'_>) -> usize
+    requires rest { IsRest (kinds_left all) (kinds_left rest) (remaining rest).at }
+    requires new { at < clear → AreNew (kinds_left all) clear (kinds_left rest) }
+    ensures { AreNew (kinds_left all.entry) result (kinds_left rest.entry) }
+{
+    let next = rest.at();
+    if at < clear && next < clear {
+        return clear;
+    }
+    new_until(Kinds { attributes: all }, Kinds { attributes: rest }, next)
+}
 
 /// Reads the attributes of an RDN.
 fn read_attributes(all: Cursor<'_>) -> Result<(), Refusal>
@@ -26,11 +43,13 @@ fn read_attributes(all: Cursor<'_>) -> Result<(), Refusal>
 {
     let mut rest = all;
     let mut before: &[u8] = &[];
+    let mut clear = 0;
     while let Some(tlv) = rest.next() {
-        match read_attribute(all, before, tlv) {
+        match read_attribute(all, clear, before, tlv) {
             Ok(octets) => before = octets,
             Err(refusal) => return Err(refusal),
         }
+        clear = clear_after(all, clear, tlv.at, rest);
     }
     Ok(())
 }
@@ -85,7 +104,7 @@ impl<'a> Name<'a> {
     }
 
     /// The name that the value is, or the first fault in it, with its offset in the value. No memory is taken. Time is linear
-    /// in the octets, and quadratic in the number of attributes of one RDN.
+    /// in the octets where the attributes of an RDN have one size; each further size costs a walk over those before.
     pub fn read(value: Tlv<'a>) -> Result<Name<'a>, Refusal>
         ensures walk { Gives (λ _. tt) result (name (record { octets = value.entry.whole.now; at = 0 })) }
         ensures raw { IfOk result (λ found. raw_of found ≡ value.entry.whole.now) }

@@ -1,13 +1,15 @@
 //! Relative distinguished names (X.501, 9.3): sets of attributes.
 
-ghost use Rattle.std.specs.Prelude.{◌≡◌, ◌↔◌, ◌∷◌, [], IsTrue, MatchOption, option_map};
+ghost use Rattle.std.specs.Prelude.{◌≡◌, ◌↔◌, ◌∷◌, ◌++◌, [], IsTrue, IfSome, MatchOption, length, map, option_map};
 ghost use Rattle.std.specs.List.{AllByRecursion};
 ghost use Rattle.names.specs.AttributeValue.{compared_value};
 ghost use Rattle.names.specs.DistinguishedName.{AgreeAt, value_at};
 ghost use Rattle.asn.specs.Members.{left};
-ghost use Rattle.names.specs.NameParts.{AreAttributes};
+ghost use Rattle.names.specs.NameParts.{AreAttributes, are_distinct, entry_at};
 
 use crate::attribute::{Attribute, AttributeMembers};
+use crate::kinds::is_kind_before;
+use crate::run::Run;
 use asn::Cursor;
 
 /// A set of attributes, or those of it that have not been looked at yet.
@@ -15,10 +17,12 @@ use asn::Cursor;
 pub(crate) struct Rdn<'a> {
     pub(crate) attributes: Cursor<'a>,
     pub ghost read: { ∥ AreAttributes (left attributes).values ∥₁ },
+    pub ghost distinct: { IsTrue (are_distinct (map entry_at (left attributes).values)) },
 }
 
 impl<'a> Rdn<'a> {
     ghost use Rattle.names.specs.NameView.{entry_of, entries_of, map_of};
+    ghost use Rattle.names.specs.Agreement.{run_of};
 
     /// The first attribute, and those after it.
     #[tactic(auto, unfolding(crate::specs::NameView::entries_of))]
@@ -48,37 +52,90 @@ impl<'a> Rdn<'a> {
         None
     }
 
-    /// Whether two sets have the same value of the type, or both none.
-    fn agrees_at(&self, other: &Rdn<'_>, kind: &[u8]) -> bool
-        ensures { IsTrue result ↔ AgreeAt (entries_of self.now) (entries_of other.now) kind.now }
+    /// How many attributes the set has.
+    fn count(&self) -> usize
+        ensures { result ≡ length (entries_of self.now) }
     {
-        match (self.of_kind(kind), other.of_kind(kind)) {
-            (Some(one), Some(two)) => one.same_value(&two),
-            (None, None) => true,
-            _ => false,
+        let mut count = 0;
+        let mut rest = *self;
+        while let Some((_, after)) = rest.split_first() {
+            count += 1;
+            rest = after;
         }
+        count
     }
 
-    /// Whether they do so for each type that this set has.
+    /// What is behind the run that the set begins with.
+    fn behind_run(&self) -> Rdn<'a>
+        ensures { entries_of self.now ≡ run_of (entries_of self.now) ++ entries_of result }
+    {
+        let Some((first, others)) = self.split_first() else {
+            return *self;
+        };
+        let mut last = first.kind;
+        let mut rest = others;
+        while let Some((next, after)) = rest.split_first() {
+            if !is_kind_before(last, next.kind) {
+                return rest;
+            }
+            last = next.kind;
+            rest = after;
+        }
+        rest
+    }
+
+    /// Whether two sets have the same value, or both none, of each type that this set has: as many of its attributes have a type
+    /// of the other set as it has.
     fn agrees_on_its_own(&self, other: &Rdn<'_>) -> bool
         ensures { IsTrue result
             ↔ AllByRecursion (λ e. AgreeAt (entries_of self.now) (entries_of other.now) e.0) (entries_of self.now) }
     {
-        let mut rest = *self;
-        while let Some((attribute, after)) = rest.split_first() {
-            if !self.agrees_at(other, attribute.kind) {
-                return false;
+        let mut rest = *other;
+        let mut found = 0;
+        while let Some((_, _)) = rest.split_first() {
+            let behind = rest.behind_run();
+            match Run::first(rest).count_in(self) {
+                Some(count) => found += count,
+                None => return false,
             }
-            rest = after;
+            rest = behind;
         }
-        true
+        found == self.count()
     }
 
-    /// Whether the sets are one map from types to values as they are compared. It looks each type up in both sets, so its
-    /// time is the product of their sizes.
+    /// Whether the sets are one map, where one walk over both at once tells; `None` where it meets different types.
+    fn matches_in_order(&self, other: &Rdn<'_>) -> Option<bool>
+        ensures { IfSome result (λ same. IsTrue same ↔ (map_of self.now ≡ map_of other.now)) }
+    {
+        let mut left = *self;
+        let mut right = *other;
+        while let Some((one, left_rest)) = left.split_first() {
+            let Some((two, right_rest)) = right.split_first() else {
+                return Some(false);
+            };
+            if one.kind != two.kind {
+                return None;
+            }
+            if !one.same_value(&two) {
+                return Some(false);
+            }
+            left = left_rest;
+            right = right_rest;
+        }
+        match right.split_first() {
+            Some(_) => Some(false),
+            None => Some(true),
+        }
+    }
+
+    /// Whether the sets are one map from types to values as they are compared. Where their types are in one order, this takes
+    /// one walk over both; else one over this set for each run of the other.
     pub(crate) fn matches(&self, other: &Rdn<'_>) -> bool
         ensures { IsTrue result ↔ (map_of self.now ≡ map_of other.now) }
     {
-        self.agrees_on_its_own(other) && other.agrees_on_its_own(self)
+        match self.matches_in_order(other) {
+            Some(same) => same,
+            None => self.count() == other.count() && self.agrees_on_its_own(other),
+        }
     }
 }

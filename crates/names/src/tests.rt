@@ -8,6 +8,7 @@ use std::test::Fail;
 
 mod comparison;
 mod layout;
+mod repetition;
 
 const COMMON_NAME: &[u8] = &[0x55, 0x04, 0x03];
 
@@ -17,6 +18,21 @@ const ORGANIZATION: &[u8] = &[0x55, 0x04, 0x0A];
 
 /// 0.9.2342.19200300.100.1.25
 const DOMAIN_COMPONENT: &[u8] = &[0x09, 0x92, 0x26, 0x89, 0x93, 0xF2, 0x2C, 0x64, 0x01, 0x19];
+
+/// Types of three octets, in order, and one of two that they begin with.
+const SHORT_TYPE: &[u8] = &[0x55, 0x04];
+
+const TYPE_1: &[u8] = &[0x55, 0x04, 0x01];
+
+const TYPE_2: &[u8] = &[0x55, 0x04, 0x02];
+
+const TYPE_3: &[u8] = &[0x55, 0x04, 0x03];
+
+const TYPE_4: &[u8] = &[0x55, 0x04, 0x04];
+
+const TYPE_5: &[u8] = &[0x55, 0x04, 0x05];
+
+const TYPE_6: &[u8] = &[0x55, 0x04, 0x06];
 
 const UTF8: u8 = 12;
 

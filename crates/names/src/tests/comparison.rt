@@ -372,3 +372,180 @@ fn names_have_types(rt: HostRuntime) -> Result<(), Fail> {
     );
     Ok(())
 }
+
+/// Two sets, each in the order of its octets, and whether they match.
+const SET_ROWS: [(&str, &[Row<'static>], &[Row<'static>], bool); 13] = [
+    (
+        "types in one order",
+        &[
+            (1, TYPE_1, UTF8, b""),
+            (1, TYPE_2, UTF8, b"a"),
+            (1, TYPE_3, UTF8, b"ab"),
+        ],
+        &[
+            (1, TYPE_1, UTF8, b""),
+            (1, TYPE_2, UTF8, b"A"),
+            (1, TYPE_3, UTF8, b"AB"),
+        ],
+        true,
+    ),
+    (
+        "types in one order, the last with another value",
+        &[
+            (1, TYPE_1, UTF8, b""),
+            (1, TYPE_2, UTF8, b"a"),
+            (1, TYPE_3, UTF8, b"ab"),
+        ],
+        &[
+            (1, TYPE_1, UTF8, b""),
+            (1, TYPE_2, UTF8, b"A"),
+            (1, TYPE_3, UTF8, b"AC"),
+        ],
+        false,
+    ),
+    (
+        "a set and its beginning",
+        &[(1, TYPE_1, UTF8, b""), (1, TYPE_2, UTF8, b"a")],
+        &[(1, TYPE_1, UTF8, b"")],
+        false,
+    ),
+    (
+        "two runs and two others",
+        &[
+            (1, TYPE_1, UTF8, b""),
+            (1, TYPE_4, UTF8, b""),
+            (1, TYPE_2, UTF8, b"x"),
+        ],
+        &[
+            (1, TYPE_2, UTF8, b"X"),
+            (1, TYPE_4, UTF8, b" "),
+            (1, TYPE_1, UTF8, b"  "),
+        ],
+        true,
+    ),
+    (
+        "the last has another value",
+        &[
+            (1, TYPE_1, UTF8, b""),
+            (1, TYPE_4, UTF8, b""),
+            (1, TYPE_2, UTF8, b"x"),
+        ],
+        &[
+            (1, TYPE_2, UTF8, b"Y"),
+            (1, TYPE_4, UTF8, b" "),
+            (1, TYPE_1, UTF8, b"  "),
+        ],
+        false,
+    ),
+    (
+        "one inside a run has another value",
+        &[
+            (1, TYPE_1, UTF8, b""),
+            (1, TYPE_4, UTF8, b""),
+            (1, TYPE_2, UTF8, b"x"),
+        ],
+        &[
+            (1, TYPE_2, UTF8, b"X"),
+            (1, TYPE_4, UTF8, b"z"),
+            (1, TYPE_1, UTF8, b"  "),
+        ],
+        false,
+    ),
+    (
+        "one has another type",
+        &[
+            (1, TYPE_1, UTF8, b""),
+            (1, TYPE_4, UTF8, b""),
+            (1, TYPE_2, UTF8, b"x"),
+        ],
+        &[
+            (1, TYPE_2, UTF8, b"X"),
+            (1, TYPE_5, UTF8, b" "),
+            (1, TYPE_1, UTF8, b"  "),
+        ],
+        false,
+    ),
+    (
+        "one more, in a run of its own",
+        &[
+            (1, TYPE_1, UTF8, b""),
+            (1, TYPE_4, UTF8, b""),
+            (1, TYPE_2, UTF8, b"x"),
+        ],
+        &[
+            (1, TYPE_2, UTF8, b"X"),
+            (1, TYPE_4, UTF8, b" "),
+            (1, TYPE_1, UTF8, b"  "),
+            (1, TYPE_5, UTF8, b"abc"),
+        ],
+        false,
+    ),
+    (
+        "three runs and three others",
+        &[
+            (1, TYPE_1, UTF8, b""),
+            (1, TYPE_4, UTF8, b""),
+            (1, TYPE_2, UTF8, b"a"),
+            (1, TYPE_5, UTF8, b"a"),
+            (1, TYPE_3, UTF8, b"ab"),
+            (1, TYPE_6, UTF8, b"ab"),
+        ],
+        &[
+            (1, TYPE_5, UTF8, b"A"),
+            (1, TYPE_2, UTF8, b"a "),
+            (1, TYPE_3, UTF8, b"AB"),
+            (1, TYPE_4, UTF8, b"  "),
+            (1, TYPE_1, UTF8, b"   "),
+            (1, TYPE_6, UTF8, b" ab"),
+        ],
+        true,
+    ),
+    (
+        "three runs and three others, the last with another value",
+        &[
+            (1, TYPE_1, UTF8, b""),
+            (1, TYPE_4, UTF8, b""),
+            (1, TYPE_2, UTF8, b"a"),
+            (1, TYPE_5, UTF8, b"a"),
+            (1, TYPE_3, UTF8, b"ab"),
+            (1, TYPE_6, UTF8, b"ab"),
+        ],
+        &[
+            (1, TYPE_5, UTF8, b"A"),
+            (1, TYPE_2, UTF8, b"a "),
+            (1, TYPE_3, UTF8, b"AB"),
+            (1, TYPE_4, UTF8, b"  "),
+            (1, TYPE_1, UTF8, b"   "),
+            (1, TYPE_6, UTF8, b" ac"),
+        ],
+        false,
+    ),
+    (
+        "turned values",
+        &[(1, TYPE_1, UTF8, b"x"), (1, TYPE_2, UTF8, b"yy")],
+        &[(1, TYPE_2, UTF8, b"x"), (1, TYPE_1, UTF8, b"yy")],
+        false,
+    ),
+    (
+        "types that begin one another, turned",
+        &[(1, SHORT_TYPE, UTF8, b""), (1, TYPE_1, UTF8, b"a")],
+        &[(1, TYPE_1, UTF8, b"A"), (1, SHORT_TYPE, UTF8, b"   ")],
+        true,
+    ),
+    (
+        "a short type for a long one",
+        &[(1, SHORT_TYPE, UTF8, b""), (1, TYPE_2, UTF8, b"a")],
+        &[(1, TYPE_1, UTF8, b""), (1, TYPE_2, UTF8, b"a")],
+        false,
+    ),
+];
+
+#[test]
+fn sets_of_several_runs_compare(rt: HostRuntime) -> Result<(), Fail> {
+    for (what, left, right, want) in SET_ROWS {
+        let left = name_of(rt.alloc(), left)?;
+        let right = name_of(rt.alloc(), right)?;
+        assert_eq!(rt; relations(rt.alloc(), &left, &right)?, [want; 5], "{what}");
+    }
+    Ok(())
+}

@@ -1,21 +1,24 @@
-use Rattle.std.proofs.Common.{sym}
-use Rattle.std.proofs.lemmas.Bool.{iff_false}
+use Rattle.std.proofs.Common.{◌∙◌, sym, eq-eqb}
+use Rattle.std.proofs.lemmas.Bool.{eqb-true}
 use Rattle.names.specs.NameView.{entries_of}
-use Rattle.names.proofs.Matching.{same_sets, sets_agree}
+use Rattle.names.proofs.Matching.{sets_agree}
+use Rattle.names.proofs.Counting.{same_by_one_side, same_size}
+use Rattle.names.proofs.RunParts.{is_distinct}
 use Rattle.names.proofs.rdn.Rdn.matches.Goals as goal
 
-pub returns-then-agrees_on_its_own : goal.returns-then-agrees_on_its_own
-returns-then-agrees_on_its_own c =
+pub returns-then-count : goal.returns-then-count
+returns-then-count c =
     let l = entries_of c.args.self.now in
-    let r = entries_of c.args.other.now in (
-      λ t. same_sets l r (c.agrees_on_its_own.ensures.0 c.if-agrees_on_its_own.true) (c.agrees_on_its_own-then-agrees_on_its_own.ensures.0 t),
-      λ e. c.agrees_on_its_own-then-agrees_on_its_own.ensures.1 (sets_agree r l (sym e)),
+    let r = entries_of c.args.other.now in
+    let size = sym c.count.ensures ∙ (c.if-count.true ∙ c.count-in-None.ensures) in (
+      λ t. same_by_one_side l r (is_distinct c.args.self.now) (is_distinct c.args.other.now) size (c.agrees_on_its_own.ensures.0 t),
+      λ same. c.agrees_on_its_own.ensures.1 (sets_agree l r same),
     )
 
-pub returns-else-agrees_on_its_own : goal.returns-else-agrees_on_its_own
-returns-else-agrees_on_its_own c =
+pub returns-else-count : goal.returns-else-count
+returns-else-count c =
     let l = entries_of c.args.self.now in
     let r = entries_of c.args.other.now in (
-      λ t. absurd (iff_false c.agrees_on_its_own.ensures c.if-agrees_on_its_own.false (c.agrees_on_its_own.ensures.0 t)),
-      λ e. c.agrees_on_its_own.ensures.1 (sets_agree l r e),
+      λ t. absurd (c.if-count.false (eqb-true c.count.result c.count-in-None.result t)),
+      λ same. eq-eqb c.count.result c.count-in-None.result (c.count.ensures ∙ (same_size l r (is_distinct c.args.self.now) (is_distinct c.args.other.now) same ∙ sym c.count-in-None.ensures)),
     )

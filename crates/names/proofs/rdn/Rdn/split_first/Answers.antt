@@ -6,12 +6,14 @@ use Rattle.asn.specs.Place.{part}
 use Rattle.names.specs.DistinguishedName.{Entry}
 use Rattle.names.specs.NameParts.{entry_in, entry_at}
 use Rattle.names.specs.NameView.{entries_of}
+use Rattle.names.proofs.Distinct.{others_distinct}
 use Rattle.names.proofs.Reading.{first_attribute, no_fault}
 use Rattle.names.proofs.rdn.Rdn.split_first.Goals as goal
 
 pub invariant_of-result : goal.invariant_of-result
 invariant_of-result c = record {
   read = ∥∥₁_map c.args.self.now.read (λ are. (first_attribute (left c.args.self.now.attributes) (left c.next.new.self) (part c.in_ok-attribute.attribute) c.in_ok-attribute.ensures.step are).1);
+  distinct = others_distinct (left c.args.self.now.attributes) (left c.next.new.self) (part c.in_ok-attribute.attribute) c.in_ok-attribute.ensures.step c.args.self.now.distinct;
 }
 
 pub unreachable-requires : goal.unreachable-requires

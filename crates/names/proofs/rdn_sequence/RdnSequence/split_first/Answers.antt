@@ -1,4 +1,4 @@
-use Rattle.std.proofs.Common.{◌≡◌, ◌∷◌, map, length, sym, ap, ◌∙◌, subst, arith, true, false}
+use Rattle.std.proofs.Common.{◌≡◌, ◌∷◌, map, length, sym, ap, ◌∙◌, subst, arith, true, false, IsTrue}
 use Rattle.std.proofs.Math.Logic.{∥∥₁_elim, ∥∥₁_map}
 use Rattle.std.proofs.Props.{props}
 use Rattle.std.proofs.lemmas.List.{length-append}
@@ -6,7 +6,7 @@ use Rattle.asn.specs.Identifier.{is_constructed}
 use Rattle.asn.specs.Members.{Members, left}
 use Rattle.asn.specs.Place.{part}
 use Rattle.names.specs.DistinguishedName.{rdn_map}
-use Rattle.names.specs.NameParts.{AreAttributes, entry_at, map_at}
+use Rattle.names.specs.NameParts.{AreAttributes, are_distinct, entry_at, map_at}
 use Rattle.names.specs.NameView.{entries_of, sequence_of}
 use Rattle.names.proofs.Reading.{first_rdn}
 use Rattle.names.proofs.rdn_sequence.RdnSequence.split_first.Goals as goal
@@ -16,6 +16,9 @@ invariant_of-result c = record {
   read = ∥∥₁_map c.args.self.now.read (λ are.
       let f = first_rdn (left c.args.self.now.rdns) (left c.next.new.self) (part c.in_ok-rdn.rdn) c.in_ok-rdn.ensures.step are in
       subst (λ (m : Members). AreAttributes m.values) (sym c.in-Some.ensures.left) f.0.1);
+  distinct = ∥∥₁_elim c.args.self.now.read (hlevel props) (λ are.
+      let f = first_rdn (left c.args.self.now.rdns) (left c.next.new.self) (part c.in_ok-rdn.rdn) c.in_ok-rdn.ensures.step are in
+      subst (λ (m : Members). IsTrue (are_distinct (map entry_at m.values))) (sym c.in-Some.ensures.left) f.0.2);
 }
 
 pub invariant_of-result-in-Some : goal.invariant_of-result-in-Some
