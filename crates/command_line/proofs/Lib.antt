@@ -1,2 +1,3 @@
 pub mod TreeWords
 pub mod Outcomes
+pub mod ShowWords

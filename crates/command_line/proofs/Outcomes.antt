@@ -1,14 +1,15 @@
 -- What follows of a line, or of an error, from what clap's definition makes of the words.
-use Rattle.std.proofs.Common.{◌≡◌, ◌∙◌, ◌⊎◌, List, [], Option, Some, None, Result, Ok, Err, IfErr, MatchResult, IsErrAnd, option_map, sym, ap, subst, inl, inr, codes}
+use Rattle.std.proofs.Common.{◌≡◌, ◌∙◌, ◌⊎◌, List, [], Option, Some, None, Result, Ok, Err, IfErr, MatchResult, IsErrAnd, option_map, sym, ap, subst, inl, inr, codes, slice_index, arith}
 use Rattle.clap.specs.Words.{Row, Text, fault_of, first_of, kind_of}
 use Rattle.command_line.specs.App.{program}
 use Rattle.clap.specs.Kinds.{Kinds, HasKind}
 use Rattle.clap.specs.declared.error.Error.{Error}
 use Rattle.clap.specs.declared.error.kind.ErrorKind.TheVariants.{OutOfMemory}
-use Rattle.command_line.specs.CommandLine.{AreRefusedWith, HasNoLine, IsLineOf, IsTree}
+use Rattle.command_line.specs.CommandLine.{AreRefusedWith, HasNoFile, HasOtherKind, IsLineOf, IsShow, IsTree, kind_named}
 use Rattle.command_line.specs.declared.line.Line.{Line}
-use Rattle.command_line.specs.declared.line.Line.TheVariants.{Tree}
+use Rattle.command_line.specs.declared.line.Line.TheVariants.{Tree, Show}
 use Rattle.command_line.proofs.TreeWords.{named_file}
+use Rattle.command_line.proofs.ShowWords.{named_kind}
 
 -- an error that comes through `?` unchanged
 pub errs_as : {T : Type 0} (P : Error → Type 0) (r : Result T Error) (x : Error) → P x → IsErrAnd r (λ e. e ≡ x) → IfErr r P
@@ -33,13 +34,18 @@ named : (p : Text × List Row) (name : Text) (file : Option Text) → option_map
 named p name file e = cc
 
 -- a file that is there is not missing
-pub file_is_there : (entered : Option (Text × List Row)) (file : Text) → option_map named_file entered ≡ Some (codes "tree", Some file) → HasNoLine entered → ⊥
-file_is_there None file e none = cc
-file_is_there (Some p) file e none =
-    let is = named p (codes "tree") (Some file) e in
+pub file_is_there : (entered : Option (Text × List Row)) (name file : Text) → option_map named_file entered ≡ Some (name, Some file) → HasNoFile name entered → ⊥
+file_is_there None name file e none = cc
+file_is_there (Some p) name file e none =
+    let is = named p name (Some file) e in
     let missing = none p.1 (ap (λ (name : Text). Some (name, p.1)) (ap (λ (q : Text × Option Text). q.0) is)) in
     let there : first_of (codes "file") p.1 ≡ Some file = ap (λ (q : Text × Option Text). q.1) is in
     cc
+
+tree_is_not_show : codes "tree" ≡ codes "show" → ⊥
+tree_is_not_show e =
+    let first : 116 ≡ 115 = ap (λ (name : Text). slice_index name 0) e in
+    absurd (omega (arith, first))
 
 -- the line has the file
 pub line_has_file : (entered : Option (Text × List Row)) (file : Text) (line : Line) → option_map named_file entered ≡ Some (codes "tree", Some file) → IsLineOf entered line → IsTree file line
@@ -47,3 +53,41 @@ line_has_file entered file (Tree given) e (p, is, (name, gives)) =
     let here = named p (codes "tree") (Some file) (ap (λ (o : Option (Text × List Row)). option_map named_file o) (sym is) ∙ e) in
     let there : first_of (codes "file") p.1 ≡ Some file = ap (λ (q : Text × Option Text). q.1) here in
     cc
+line_has_file entered file (Show kind given) e (p, is, (name, known, gives)) =
+    let here = named p (codes "tree") (Some file) (ap (λ (o : Option (Text × List Row)). option_map named_file o) (sym is) ∙ e) in
+    tree_is_not_show (sym (ap (λ (q : Text × Option Text). q.0) here) ∙ name)
+
+-- `tree` has no kind
+pub tree_has_no_kind : (entered : Option (Text × List Row)) (file : Option Text) → option_map named_file entered ≡ Some (codes "tree", file) → HasOtherKind entered → ⊥
+tree_has_no_kind entered file e (rows, is, other) =
+    let here = named (codes "show", rows) (codes "tree") file (ap (λ (o : Option (Text × List Row)). option_map named_file o) (sym is) ∙ e) in
+    tree_is_not_show (sym (ap (λ (q : Text × Option Text). q.0) here))
+
+named_kinds : (p : Text × List Row) (name : Text) (kind file : Option Text) → option_map named_kind (Some p) ≡ Some (name, (kind, file)) → named_kind p ≡ (name, (kind, file))
+named_kinds p name kind file e = cc
+
+-- what is said of the kind and of the file is said of the file
+pub file_of_kind : (entered : Option (Text × List Row)) (name : Text) (kind file : Option Text) → option_map named_kind entered ≡ Some (name, (kind, file)) → option_map named_file entered ≡ Some (name, file)
+file_of_kind None name kind file e = cc
+file_of_kind (Some p) name kind file e =
+    ap (λ (q : Text × (Option Text × Option Text)). Some (q.0, q.1.1)) (named_kinds p name kind file e)
+
+-- a kind that is not named is that of a certificate
+pub no_kind_is_known : (entered : Option (Text × List Row)) (name : Text) (file : Option Text) → option_map named_kind entered ≡ Some (name, (None, file)) → HasOtherKind entered → ⊥
+no_kind_is_known entered name file e (rows, is, other) =
+    let here = named_kinds (codes "show", rows) name None file (ap (λ (o : Option (Text × List Row)). option_map named_kind o) (sym is) ∙ e) in
+    let none : first_of (codes "as") rows ≡ None = ap (λ (q : Text × (Option Text × Option Text)). q.1.0) here in
+    let known = sym (ap kind_named none) ∙ other in
+    cc
+
+-- the line has the file, and is about a certificate
+pub line_shows_file : (entered : Option (Text × List Row)) (file : Text) (line : Line) → option_map named_kind entered ≡ Some (codes "show", (None, Some file)) → IsLineOf entered line → IsShow file line
+line_shows_file entered file (Tree given) e (p, is, (name, gives)) =
+    let here = named_kinds p (codes "show") None (Some file) (ap (λ (o : Option (Text × List Row)). option_map named_kind o) (sym is) ∙ e) in
+    tree_is_not_show (sym name ∙ ap (λ (q : Text × (Option Text × Option Text)). q.0) here)
+line_shows_file entered file (Show kind given) e (p, is, (name, known, gives)) =
+    let here = named_kinds p (codes "show") None (Some file) (ap (λ (o : Option (Text × List Row)). option_map named_kind o) (sym is) ∙ e) in
+    let none : first_of (codes "as") p.1 ≡ None = ap (λ (q : Text × (Option Text × Option Text)). q.1.0) here in
+    let there : first_of (codes "file") p.1 ≡ Some file = ap (λ (q : Text × (Option Text × Option Text)). q.1.1) here in
+    let certificate = sym (ap kind_named none) ∙ known in
+    (cc, cc)

@@ -27,7 +27,7 @@ file_at : (name xs : Text) (x : ℕ) → (x == 45) ≡ false → option_map name
 unfolding clap_on_literals
 file_at name xs x plain = simp plain
 
-is_other : (x : ℕ) → x ≢ 45 → (x == 45) ≡ false
+pub is_other : (x : ℕ) → x ≢ 45 → (x == 45) ≡ false
 is_other x ne = grind (arith, nat_tests)
 
 -- the words break no rule of the command

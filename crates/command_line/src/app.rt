@@ -2,7 +2,7 @@
 ghost use Rattle.std.specs.Prelude.{◌≡◌, IfOk, false};
 ghost use Rattle.clap.specs.Words.{app_of, rule_of};
 ghost use Rattle.clap.specs.declared.builder.command.Command.TheViews.{out-Command as fields_of};
-ghost use Rattle.command_line.specs.App.{file as file_rule, tree as tree_app, program as program_app};
+ghost use Rattle.command_line.specs.App.{file as file_rule, kind as kind_rule, tree as tree_app, show as show_app, program as program_app};
 
 use clap::{Arg, Command};
 use std::alloc::{AllocError, Global};
@@ -27,6 +27,26 @@ fn tree<'a>(alloc: Global) -> Result<Command<'a>, AllocError>
         .arg(file(alloc))
 }
 
+// --as KIND: it may be left out.
+fn kind<'a>(alloc: Global) -> Arg<'a>
+    ensures rule { rule_of result ≡ kind_rule }
+    ensures local { result.global ≡ false }
+{
+    Arg::new(alloc, "as").long("as").value_name("KIND").help(
+        "What the file holds: cert, a certificate, which is the default",
+    )
+}
+
+fn show<'a>(alloc: Global) -> Result<Command<'a>, AllocError>
+    ensures app { IfOk result (λ c. app_of c ≡ show_app) }
+    ensures local { IfOk result (λ c. (fields_of c).has_globals ≡ false) }
+{
+    Command::new(alloc, "show")
+        .about("Prints what a certificate says")
+        .arg(kind(alloc))?
+        .arg(file(alloc))
+}
+
 /// The program's command. A subcommand has to be named.
 pub fn program<'a>(alloc: Global) -> Result<Command<'a>, AllocError>
     ensures { IfOk result (λ c. app_of c ≡ program_app) }
@@ -34,5 +54,6 @@ pub fn program<'a>(alloc: Global) -> Result<Command<'a>, AllocError>
     Command::new(alloc, "x509check")
         .about("Looks at certificates and at what says that they are revoked")
         .subcommand_required(true)
-        .subcommand(tree(alloc)?)
+        .subcommand(tree(alloc)?)?
+        .subcommand(show(alloc)?)
 }

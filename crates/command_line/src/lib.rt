@@ -4,7 +4,7 @@
 mod app;
 mod line;
 
-pub use line::{Line, command_of};
+pub use line::{Kind, Line, command_of};
 
 #[cfg(test)]
 mod tests;

@@ -1,3 +1,6 @@
 pub mod Appending
 pub mod Pieces
 pub mod Shown
+pub mod Joining
+pub mod Oids
+pub mod Masks

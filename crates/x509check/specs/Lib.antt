@@ -1,4 +1,9 @@
 pub mod Printed
+pub mod EscapedText
+pub mod OidText
+pub mod NameText
+pub mod GeneralText
+pub mod CertificateText
 pub mod Unwritten
 pub mod Report
 pub mod Outcome

@@ -1,9 +1,12 @@
 -- What a run that failed says on standard error, and the status that it answers.
 use Rattle.std.specs.Prelude.{ℕ, List, [], ◌++◌, Option, Some, None, codes}
 use Rattle.std.specs.Fmt.{decimal}
-use Rattle.asn.specs.DerFault.{fault_number, fault_name, fault_place}
+use Rattle.asn.specs.DerFault.{fault_number, fault_name, fault_place, rule_number, rule_name}
+use Rattle.cert.specs.Fault.{cert_rule_number, cert_rule_name}
+use Rattle.cert.specs.declared.fault.CertRule.{CertRule}
+use Rattle.cert.specs.declared.fault.CertRule.TheVariants.{Der}
 use Rattle.x509check.specs.declared.refusal.Failure.{Failure}
-use Rattle.x509check.specs.declared.refusal.Failure.TheVariants.{Refused, Unreadable, Unwritable, NoMemory}
+use Rattle.x509check.specs.declared.refusal.Failure.TheVariants.{Refused, NoCertificate, Unreadable, Unwritable, NoMemory}
 
 -- ` at PLACE`, where there is one
 abbrev pub place_text : Option ℕ → List ℕ
@@ -16,13 +19,25 @@ refusal_line file number name place =
     codes "x509check: " ++ file ++ codes ": refused " ++ decimal number ++ codes " " ++ name
     ++ place_text place ++ codes "\n"
 
+-- the number and the name of a rule of certificates; where octets are not DER, those of the rule of DER
+abbrev pub printed_number : CertRule → ℕ
+printed_number (Der rule) = rule_number rule
+printed_number rule = cert_rule_number rule
+
+abbrev pub printed_name : CertRule → List ℕ
+printed_name (Der rule) = rule_name rule
+printed_name rule = cert_rule_name rule
+
 abbrev pub report_line : Failure → List ℕ
 report_line (Refused file fault) =
     refusal_line file.now (fault_number fault) (fault_name fault) (fault_place fault)
+report_line (NoCertificate file rule at) =
+    refusal_line file.now (printed_number rule) (printed_name rule) (Some at)
 report_line (Unreadable file) = codes "x509check: cannot read " ++ file.now ++ codes "\n"
 report_line Unwritable = codes "x509check: cannot write\n"
 report_line NoMemory = codes "x509check: no memory\n"
 
 abbrev pub status_of : Failure → ℕ
 status_of (Refused file fault) = 4
+status_of (NoCertificate file rule at) = 4
 status_of _ = 6

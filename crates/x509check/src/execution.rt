@@ -1,18 +1,21 @@
 //! One run of the program.
-ghost use Rattle.std.specs.Prelude.{◌≡◌, ◌≢◌, IfErr, MatchResult, OnOk, map};
+ghost use Rattle.std.specs.Prelude.{◌≡◌, ◌≢◌, IfErr, IfOk, MatchResult, Ok, OnOk, map};
 ghost use Rattle.clap.specs.Words.{kind_of};
 ghost use Rattle.asn.specs.Value.{Value};
 ghost use Rattle.std.specs.Io.KnownBytes.{Appends};
 ghost use Rattle.command_line.specs.CommandLine.{Reads};
+ghost use Rattle.cert.specs.Certificate.{Certificate as CertificateFields, certificate, seen_certificate};
 ghost use Rattle.x509check.specs.Printed.{lines_of};
+ghost use Rattle.x509check.specs.CertificateText.{certificate_text};
 ghost use Rattle.x509check.specs.Report.{status_of};
 ghost use Rattle.x509check.specs.Outcome.{AreMistaken, HasAnswered, IsDone, IsFailureOf, IsFailureOn, IsHelp, IsMistake, IsStatus};
 
 use crate::files::octets_of;
-use crate::printing::{TreeFault, tree_to};
+use crate::printing::{TreeFault, certificate_to, tree_to};
 use crate::refusal::Failure;
+use cert::{CertFault, Certificate};
 use clap::error::ErrorKind;
-use command_line::{Line, command_of};
+use command_line::{Kind, Line, command_of};
 use std::alloc::Global;
 use std::io;
 use std::io::Write;
@@ -41,7 +44,7 @@ pub fn execute<R: Files + AllocGlobal, O: Write, E: Write>(
         → (out.new ≡ out.old) × AreMistaken (map (λ w. w.now) words.now) }
 {
     match command_of(alloc, words) {
-        Ok(line) => finish(run(rt, &line, out), err),
+        Ok(line) => finish(run(rt, alloc, &line, out), err),
         Err(error) => explain(&error, out, err),
     }
 }
@@ -61,6 +64,7 @@ fn finish<E: Write>(outcome: Result<(), Failure<'_>>, err: &mut E) -> u8
 
 fn run<'a, R: Files + AllocGlobal, O: Write>(
     rt: &R,
+    alloc: Global,
     line: &Line<'a>,
     out: &mut O,
 ) -> Result<(), Failure<'a>>
@@ -70,6 +74,7 @@ fn run<'a, R: Files + AllocGlobal, O: Write>(
 {
     match line {
         Line::Tree { file } => tree(rt, file, out)?,
+        Line::Show { kind, file } => show(rt, alloc, *kind, file, out)?,
     }
     out.flush().map_err(|_| Failure::Unwritable)
 }
@@ -90,6 +95,54 @@ fn tree<'a, R: Files + AllocGlobal, O: Write>(
         Err(TreeFault::Refused(fault)) => Err(Failure::Refused { file, fault }),
         Err(TreeFault::Io) => Err(Failure::Unwritable),
     }
+}
+
+fn show<'a, R: Files + AllocGlobal, O: Write>(
+    rt: &R,
+    alloc: Global,
+    kind: Kind,
+    file: &'a str,
+    out: &mut O,
+) -> Result<(), Failure<'a>>
+    ensures done { OnOk result
+        (IsDone (Line.Show kind file.entry) (O.contents out.old) (O.contents out.new)) }
+    ensures fails { IfErr result (IsFailureOn file.entry.now) }
+    ensures refused { IfErr result (λ failure. status_of failure ≡ 4 → out.new ≡ out.old) }
+{
+    let octets = octets_of(rt, file)?;
+    match kind {
+        Kind::Certificate => show_certificate(alloc, file, octets.as_slice(), out),
+    }
+}
+
+fn read_certificate<'a, 'o>(
+    alloc: Global,
+    file: &'a str,
+    octets: &'o [u8],
+) -> Result<Certificate<'o>, Failure<'a>>
+    ensures reads { IfOk result (λ read. certificate octets.now ≡ Ok (seen_certificate read)) }
+    ensures fails { IfErr result (IsFailureOn file.entry.now) }
+{
+    match Certificate::read(alloc, octets) {
+        Ok(read) => Ok(read),
+        Err(CertFault::Refused(rule, at)) => Err(Failure::NoCertificate { file, rule, at }),
+        Err(CertFault::Memory) => Err(Failure::NoMemory),
+    }
+}
+
+fn show_certificate<'a, O: Write>(
+    alloc: Global,
+    file: &'a str,
+    octets: &[u8],
+    out: &mut O,
+) -> Result<(), Failure<'a>>
+    ensures done { OnOk result ((read : CertificateFields) × (certificate octets.now ≡ Ok read)
+        × Appends (O.contents out.old) (O.contents out.new) (certificate_text read)) }
+    ensures fails { IfErr result (IsFailureOn file.entry.now) }
+    ensures refused { IfErr result (λ failure. status_of failure ≡ 4 → out.new ≡ out.old) }
+{
+    let certificate = read_certificate(alloc, file, octets)?;
+    certificate_to(&certificate, out).map_err(|_| Failure::Unwritable)
 }
 
 // What clap answers in place of a line: help goes to standard output, what is wrong with the words to standard error.

@@ -3,6 +3,7 @@
 
 mod execution;
 mod files;
+mod oid_text;
 mod printing;
 mod refusal;
 

@@ -1,4 +1,10 @@
 //! What the program prints of its input.
+mod certificate;
+mod general;
+mod name;
+mod text;
 mod tree;
 
+pub use certificate::certificate_to;
+pub(crate) use text::write_hex;
 pub use tree::{TreeFault, tree_to};

@@ -1,8 +1,14 @@
 use super::execute;
+use refused::{NO_CERTIFICATES, REFUSED, REFUSED_TAILS};
+use shown::{LINES, OUTER, PLAIN, PRINTED, SHOWN};
 use std::alloc::{AllocError, Global};
 use std::io::Write;
 use std::test::Fail;
 use std::{fs, io};
+
+mod refused;
+mod shown;
+mod tutorial;
 
 // Octets in hexadecimal, the status, and the text: on standard output for status 0, else what follows the file's name
 // on standard error.
@@ -30,14 +36,19 @@ const TREES: [(&str, u8, &str); 16] = [
 ];
 
 // Command lines, the status, and whether standard output has the text.
-const WORDS: [(&[&str], u8, bool); 9] = [
+const WORDS: [(&[&str], u8, bool); 14] = [
     (&["x509check"], 5, false),
     (&[], 5, false),
     (&["x509check", "tree"], 5, false),
     (&["x509check", "tree", "a", "b"], 5, false),
     (&["x509check", "tree", "--deep", "a"], 5, false),
     (&["x509check", "grow", "a"], 5, false),
+    (&["x509check", "show"], 5, false),
+    (&["x509check", "show", "a", "b"], 5, false),
+    (&["x509check", "show", "--as", "crl", "a"], 5, false),
+    (&["x509check", "show", "--as", "cert"], 5, false),
     (&["x509check", "--help"], 0, true),
+    (&["x509check", "show", "--help"], 0, true),
     (&["x509check", "tree", "--help"], 0, true),
     (&["x509check", "help"], 0, true),
 ];
@@ -56,12 +67,20 @@ fn answer_of(rt: &HostRuntime, words: &[&str]) -> Answer {
     Answer { status, out, err }
 }
 
-// Runs `tree` on a file of its own with these octets.
-fn tree_of(rt: &HostRuntime, file: &str, octets: &[u8]) -> io::Result<Answer> {
+// Runs the subcommand on a file of its own with these octets.
+fn answer_on(rt: &HostRuntime, subcommand: &str, file: &str, octets: &[u8]) -> io::Result<Answer> {
     fs::write(rt, file, octets)?;
-    let answer = answer_of(rt, &["x509check", "tree", file]);
+    let answer = answer_of(rt, &["x509check", subcommand, file]);
     fs::remove_file(rt, file)?;
     Ok(answer)
+}
+
+fn tree_of(rt: &HostRuntime, file: &str, octets: &[u8]) -> io::Result<Answer> {
+    answer_on(rt, "tree", file, octets)
+}
+
+fn show_of(rt: &HostRuntime, file: &str, octets: &[u8]) -> io::Result<Answer> {
+    answer_on(rt, "show", file, octets)
 }
 
 fn joined(alloc: Global, first: &str, second: &str) -> Result<String, AllocError> {
@@ -85,6 +104,165 @@ fn trees_are_printed_or_refused(rt: HostRuntime) -> Result<(), Fail> {
         assert_eq!(rt; answer.out.as_slice(), wanted_out.as_bytes(), "{digits}");
         assert_eq!(rt; answer.err.as_slice(), wanted_err.as_bytes(), "{digits}");
     }
+    Ok(())
+}
+
+// Pushes the value with this identifier octet and these contents, of which there are at most 65,535.
+fn push_value(all: &mut Vec<u8>, tag: u8, contents: &[u8]) -> Result<(), AllocError> {
+    let length = contents.len().to_be_bytes();
+    all.push(tag)?;
+    match contents.len() {
+        0..128 => all.extend_from_slice(&length[7..])?,
+        128..256 => {
+            all.push(0x81)?;
+            all.extend_from_slice(&length[7..])?;
+        }
+        _ => {
+            all.push(0x82)?;
+            all.extend_from_slice(&length[6..])?;
+        }
+    }
+    all.extend_from_slice(contents)
+}
+
+fn push_octets(all: &mut Vec<u8>, alloc: Global, digits: &str) -> Result<(), Fail> {
+    let octets = hex::decode(alloc, digits).map_err(|_| "hexadecimal")?;
+    all.extend_from_slice(octets.as_slice())?;
+    Ok(())
+}
+
+// The plain certificate with another component.
+fn plain_but(alloc: Global, at: usize, digits: &str) -> Result<Vec<u8>, Fail> {
+    let (mut signed, mut inside, mut whole) = (Vec::new(alloc), Vec::new(alloc), Vec::new(alloc));
+    for (component, plain) in PLAIN.iter().enumerate() {
+        let octets = if component == at { digits } else { *plain };
+        if component == OUTER {
+            push_value(&mut inside, 0x30, signed.as_slice())?;
+        }
+        let part = if component < OUTER {
+            &mut signed
+        } else {
+            &mut inside
+        };
+        push_octets(part, alloc, octets)?;
+    }
+    push_value(&mut whole, 0x30, inside.as_slice())?;
+    Ok(whole)
+}
+
+// The lines of the plain certificate, where this component has others.
+fn lines_but(alloc: Global, at: usize, lines: &str) -> Result<String, AllocError> {
+    let mut text = String::new(alloc);
+    text.push_str("certificate\n")?;
+    for component in PRINTED {
+        text.push_str(if component == at {
+            lines
+        } else {
+            LINES[component]
+        })?;
+    }
+    Ok(text)
+}
+
+#[test]
+fn certificates_are_shown(rt: HostRuntime) -> Result<(), Fail> {
+    let alloc = rt.alloc();
+    for (what, component, digits, lines) in SHOWN {
+        let octets = plain_but(alloc, component, digits)?;
+        let answer = show_of(&rt, "execution_shown.der", octets.as_slice())?;
+        let wanted = lines_but(alloc, component, lines)?;
+        assert_eq!(rt; answer.status, 0, "{what}");
+        assert!(rt; answer.err.is_empty(), "{what}");
+        assert_eq!(rt; answer.out.as_slice(), wanted.as_bytes(), "{what}");
+    }
+    Ok(())
+}
+
+// Whether the octets are refused with these words behind the file's name, and nothing is printed.
+fn is_refused(rt: &HostRuntime, octets: &[u8], words: &str) -> Result<bool, Fail> {
+    let answer = show_of(rt, "execution_refused.der", octets)?;
+    let line = joined(rt.alloc(), "x509check: execution_refused.der: ", words)?;
+    Ok(answer.status == 4 && answer.out.is_empty() && answer.err.as_slice() == line.as_bytes())
+}
+
+// Whether the plain certificate with another component is refused with these words.
+fn is_refused_with(
+    rt: &HostRuntime,
+    component: usize,
+    digits: &str,
+    words: &str,
+) -> Result<bool, Fail> {
+    let octets = plain_but(rt.alloc(), component, digits)?;
+    is_refused(rt, octets.as_slice(), words)
+}
+
+#[test]
+fn other_fields_are_refused(rt: HostRuntime) -> Result<(), Fail> {
+    for (what, component, digits, words) in REFUSED {
+        assert!(rt;
+            is_refused_with(&rt, component, digits, words)?,
+            "{what}: {words}"
+        );
+    }
+    Ok(())
+}
+
+#[test]
+fn other_extensions_are_refused(rt: HostRuntime) -> Result<(), Fail> {
+    for (what, digits, words) in REFUSED_TAILS {
+        assert!(rt;
+            is_refused_with(&rt, shown::TAIL, digits, words)?,
+            "{what}: {words}"
+        );
+    }
+    Ok(())
+}
+
+#[test]
+fn other_octets_are_refused(rt: HostRuntime) -> Result<(), Fail> {
+    let alloc = rt.alloc();
+    for (what, digits, words) in NO_CERTIFICATES {
+        let mut octets = Vec::new(alloc);
+        push_octets(&mut octets, alloc, digits)?;
+        assert!(rt;
+            is_refused(&rt, octets.as_slice(), words)?,
+            "{what}: {words}"
+        );
+    }
+    Ok(())
+}
+
+// The plain certificate with so many alternative names, each of the form 1 and empty.
+fn with_names(alloc: Global, count: usize) -> Result<Vec<u8>, Fail> {
+    let (mut names, mut value, mut extension) = (Vec::new(alloc), Vec::new(alloc), Vec::new(alloc));
+    for _ in 0..count {
+        names.extend_from_slice(&[0x81, 0x00])?;
+    }
+    push_value(&mut value, 0x30, names.as_slice())?;
+    extension.extend_from_slice(&[0x06, 0x03, 0x55, 0x1D, 0x11])?;
+    push_value(&mut extension, 0x04, value.as_slice())?;
+    let (mut list, mut sequence, mut tail) = (Vec::new(alloc), Vec::new(alloc), Vec::new(alloc));
+    push_value(&mut list, 0x30, extension.as_slice())?;
+    push_value(&mut sequence, 0x30, list.as_slice())?;
+    push_value(&mut tail, 0xA3, sequence.as_slice())?;
+    let digits = hex::encode(alloc, tail.as_slice())?;
+    plain_but(alloc, shown::TAIL, digits.as_str())
+}
+
+#[test]
+fn as_many_names_are_shown_as_are_served(rt: HostRuntime) -> Result<(), Fail> {
+    let alloc = rt.alloc();
+    let octets = with_names(alloc, 4096)?;
+    let answer = show_of(&rt, "execution_names.der", octets.as_slice())?;
+    let mut lines = String::new(alloc);
+    for _ in 0..4096 {
+        lines.push_str("alt 1\n")?;
+    }
+    let wanted = lines_but(alloc, shown::TAIL, lines.as_str())?;
+    assert_eq!(rt; answer.status, 0);
+    assert!(rt; answer.out.as_slice() == wanted.as_bytes());
+    let more = with_names(alloc, 4097)?;
+    assert!(rt; is_refused(&rt, more.as_slice(), "refused 32 Limit at 8311\n")?);
     Ok(())
 }
 
@@ -123,11 +301,13 @@ fn values_stand_at_most_thirty_two_deep(rt: HostRuntime) -> Result<(), Fail> {
 
 #[test]
 fn a_missing_file_cannot_be_read(rt: HostRuntime) {
-    let answer = answer_of(&rt, &["x509check", "tree", "execution_none.der"]);
-    assert_eq!(rt; answer.status, 6);
-    assert!(rt; answer.out.is_empty());
-    let line = b"x509check: cannot read execution_none.der\n";
-    assert_eq!(rt; answer.err.as_slice(), line.as_slice());
+    for subcommand in ["tree", "show"] {
+        let answer = answer_of(&rt, &["x509check", subcommand, "execution_none.der"]);
+        assert_eq!(rt; answer.status, 6, "{subcommand}");
+        assert!(rt; answer.out.is_empty(), "{subcommand}");
+        let line = b"x509check: cannot read execution_none.der\n";
+        assert_eq!(rt; answer.err.as_slice(), line.as_slice(), "{subcommand}");
+    }
 }
 
 #[test]
@@ -140,12 +320,22 @@ fn words_are_answered(rt: HostRuntime) {
     }
 }
 
+const WANTING: &[u8] =
+    b"\x30\x7F\x30\x73\xA0\x03\x02\x01\x02\x02\x01\x05\x30\x04\x06\x02\x2A\x03\x30\x0C\x31\x0A\x30\x08\x06\x03\x55\x04\x03\x13\x01\x41\x30\x1E\x17\x0D\x32\x35\x30\x31\x30\x31\x30\x30\x30\x30\x30\x30\x5A\x17\x0D\x32\x36\x30\x31\x30\x31\x30\x30\x30\x30\x30\x30\x5A\x30\x0C\x31\x0A\x30\x08\x06\x03\x55\x04\x03\x13\x01\x54\x30\x0A\x30\x04\x06\x02\x2A\x03\x03\x02\x00\x4B\xA3\x1B\x30\x19\x30\x0C\x06\x03\x55\x1D\x11\x04\x05\x30\x03\x82\x01\x6E\x30\x09\x06\x02\x2A\x03\x01\x01\xFF\x04\x00\x30\x04\x06\x02\x2A\x03\x03\x02\x00\xEE";
+
+const WANTING_LINES: &[u8] = b"key 4b\nalt dns n\ncritical 1.2.3\n";
+
 /// Holds whether an allocation is refused or not: `rt try --test --fail-alloc N` refuses the Nth.
 #[test]
 fn wants_memory_or_answers(rt: HostRuntime) {
     // The test's own file may want memory too.
     if let Ok(answer) = tree_of(&rt, "execution_memory.der", &[0x05, 0x00]) {
         let is_answered = answer.status == 0 && answer.out.as_slice() == b"05 0\n".as_slice();
+        assert!(rt; is_answered || answer.status == 6, "{}", answer.status);
+    }
+    // A certificate of a DNS name and an unrecognised extension, which take memory to be read.
+    if let Ok(answer) = show_of(&rt, "execution_wanting.der", WANTING) {
+        let is_answered = answer.status == 0 && answer.out.ends_with(WANTING_LINES);
         assert!(rt; is_answered || answer.status == 6, "{}", answer.status);
     }
 }
@@ -169,24 +359,24 @@ impl Write for Full {
     }
 }
 
+// Whether a run that cannot write says so.
+fn cannot_write(rt: &HostRuntime, words: &[&str], takes_writes: bool) -> bool {
+    let mut err = Vec::new(rt.alloc());
+    let status = execute(rt, rt.alloc(), words, &mut Full { takes_writes }, &mut err);
+    status == 6 && err.as_slice() == b"x509check: cannot write\n".as_slice()
+}
+
 #[test]
 fn a_failed_output_cannot_be_written(rt: HostRuntime) -> Result<(), Fail> {
     let file = "execution_full.der";
-    fs::write(&rt, file, [0x30u8, 0x00].as_slice())?;
+    let octets = plain_but(rt.alloc(), shown::REST, "")?;
+    fs::write(&rt, file, octets.as_slice())?;
     for takes_writes in [false, true] {
-        for words in [
-            ["x509check", "tree", file].as_slice(),
-            ["x509check", "--help"].as_slice(),
-        ] {
-            let mut err = Vec::new(rt.alloc());
-            let status = execute(&rt, rt.alloc(), words, &mut Full { takes_writes }, &mut err);
-            assert_eq!(rt; status, 6, "{words:?}");
-            assert_eq!(rt;
-                err.as_slice(),
-                b"x509check: cannot write\n".as_slice(),
-                "{words:?}"
-            );
+        for subcommand in ["tree", "show"] {
+            let words = ["x509check", subcommand, file];
+            assert!(rt; cannot_write(&rt, &words, takes_writes), "{subcommand}");
         }
+        assert!(rt; cannot_write(&rt, &["x509check", "--help"], takes_writes));
     }
     fs::remove_file(&rt, file)?;
     Ok(())

@@ -9,6 +9,7 @@ ghost use Rattle.asn.specs.Shows.{Shows};
 ghost use Rattle.x509check.specs.Printed.{indent, shown_contents, line, lines_of, lines_of_all};
 ghost use Rattle.x509check.specs.Unwritten.{IsUnwritten};
 
+use super::text::{write_contents, write_digits};
 use asn::{Cursor, Fault, Tlv, whole};
 use std::io;
 use std::io::Write;
@@ -25,9 +26,6 @@ pub enum TreeFault {
 // Two spaces for each of 32 levels: a value has fewer above it.
 const SPACES: &[u8; 64] = b"                                                                ";
 
-// How many octets are written in hexadecimal at a time.
-const CHUNK: usize = 64;
-
 fn write_indent<W: Write>(level: usize, writer: &mut W) -> io::Result<()>
     ensures { OnOk result (Appends (W.contents writer.old) (W.contents writer.new)
         (indent level)) }
@@ -36,44 +34,6 @@ fn write_indent<W: Write>(level: usize, writer: &mut W) -> io::Result<()>
         writer.write_all(SPACES)?;
     }
     writer.write_all(&SPACES[..2 * (level % 32)])
-}
-
-// The digits of a few octets, in one write.
-fn write_digits<W: Write>(octets: &[u8], writer: &mut W) -> io::Result<()>
-    requires { length octets.now ≤ CHUNK }
-    ensures { OnOk result (Appends (W.contents writer.old) (W.contents writer.new)
-        (encode_lower octets.now)) }
-{
-    let mut room = [0u8; 2 * CHUNK];
-    let digits = &mut room[..2 * octets.len()];
-    // There is just the room that the digits need.
-    let _ = hex::encode_to_slice(octets, digits);
-    writer.write_all(digits)
-}
-
-fn write_hex<W: Write>(octets: &[u8], writer: &mut W) -> io::Result<()>
-    ensures { OnOk result (Appends (W.contents writer.old) (W.contents writer.new)
-        (encode_lower octets.now)) }
-{
-    let mut rest = octets;
-    while !rest.is_empty() {
-        let (chunk, others) = rest.split_at(rest.len().min(CHUNK));
-        write_digits(chunk, writer)?;
-        rest = others;
-    }
-    Ok(())
-}
-
-// A space and the contents, where there are any.
-fn write_contents<W: Write>(contents: &[u8], writer: &mut W) -> io::Result<()>
-    ensures { OnOk result (Appends (W.contents writer.old) (W.contents writer.new)
-        (shown_contents contents.now)) }
-{
-    if contents.is_empty() {
-        return Ok(());
-    }
-    writer.write_all(b" ")?;
-    write_hex(contents, writer)
 }
 
 // The line of one value, of whose contents `shown` is to be seen.

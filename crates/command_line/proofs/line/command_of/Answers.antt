@@ -1,31 +1,40 @@
-use Rattle.std.proofs.Common.{◌≡◌, ◌∙◌, ◌⊎◌, inr, List, sym, ap, subst, map, option_map}
+use Rattle.std.proofs.Common.{◌≡◌, ◌∙◌, ◌⊎◌, inl, inr, List, Some, None, sym, ap, subst, map, option_map, codes}
 use Rattle.clap.specs.Words.{App, Text, is_simple, is_simple_and_free, fault_of, kind_of, subcommand_of}
 use Rattle.clap.specs.Kinds.{HasKind}
 use Rattle.clap.specs.declared.error.kind.ErrorKind.TheVariants.{OutOfMemory}
 use Rattle.command_line.specs.App.{program}
-use Rattle.command_line.specs.CommandLine.{AreRefusedWith, HasNoLine, IsTree}
+use Rattle.command_line.specs.CommandLine.{AreRefusedWith, HasNoLine, HasOtherKind, IsShow, IsTree}
 use Rattle.command_line.proofs.TreeWords.{program_is_simple, program_is_free, no_fault, file_of_words, named_file}
-use Rattle.command_line.proofs.Outcomes.{errs_as, matched_as, refused_with, only_memory, file_is_there, line_has_file}
+use Rattle.command_line.proofs.ShowWords.{no_fault as no_fault_of_show, kind_of_words, named_kind}
+use Rattle.command_line.proofs.Outcomes.{errs_as, matched_as, refused_with, only_memory, file_is_there, file_of_kind, line_has_file, line_shows_file, no_kind_is_known, tree_has_no_kind}
 use Rattle.command_line.proofs.line.command_of.Goals as goal
 
-pub returns-in-Some-clause-reads : goal.returns-in-Some-clause-reads
-returns-in-Some-clause-reads c =
+pub returns-in-Ok-clause-reads : goal.returns-in-Ok-clause-reads
+returns-in-Ok-clause-reads c =
     let app = c.in_ok-command.ensures in
     let has = c.in_ok-matches.ensures.ok.2 (ap is_simple app ∙ program_is_simple) in
-    let line = c.in-Some.ensures.some in
+    let line = c.in-Ok.ensures.line in
     let words = map (λ s. s.now) c.args.words.now in
     let none = c.in_ok-matches.ensures.kinds (ap is_simple_and_free app ∙ program_is_free) in (
       ap (λ (a : App). fault_of a words) (sym app) ∙ none,
       (line.0, ap (λ (a : App). subcommand_of a words) (sym app) ∙ sym has.1 ∙ line.1, line.2),
     )
 
-pub returns-in-Some-clause-tree : goal.returns-in-Some-clause-tree
-returns-in-Some-clause-tree c = λ name file are plain.
+pub returns-in-Ok-clause-tree : goal.returns-in-Ok-clause-tree
+returns-in-Ok-clause-tree c = λ name file are plain.
     let app = c.in_ok-command.ensures in
     let has = c.in_ok-matches.ensures.ok.2 (ap is_simple app ∙ program_is_simple) in
     let words = map (λ s. s.now) c.args.words.now in
     let entered = has.1 ∙ ap (λ (a : App). subcommand_of a words) app ∙ ap (λ (ws : List Text). subcommand_of program ws) are in
-    line_has_file _ file c.in-Some.line (ap (option_map named_file) entered ∙ file_of_words name file plain) c.in-Some.ensures.some
+    line_has_file _ file c.in-Ok.line (ap (option_map named_file) entered ∙ file_of_words name file plain) c.in-Ok.ensures.line
+
+pub returns-in-Ok-clause-show : goal.returns-in-Ok-clause-show
+returns-in-Ok-clause-show c = λ name file are plain.
+    let app = c.in_ok-command.ensures in
+    let has = c.in_ok-matches.ensures.ok.2 (ap is_simple app ∙ program_is_simple) in
+    let words = map (λ s. s.now) c.args.words.now in
+    let entered = has.1 ∙ ap (λ (a : App). subcommand_of a words) app ∙ ap (λ (ws : List Text). subcommand_of program ws) are in
+    line_shows_file _ file c.in-Ok.line (ap (option_map named_kind) entered ∙ kind_of_words name file plain) c.in-Ok.ensures.line
 
 pub returns-in_err-matches-clause-refuses : goal.returns-in_err-matches-clause-refuses
 returns-in_err-matches-clause-refuses c =
@@ -47,13 +56,55 @@ returns-in_err-matches-clause-tree c = λ name file are plain.
     (only_memory (fault_of program words) c.in_err-matches.field-0.0 (ap (λ (ws : List Text). fault_of program ws) are ∙ no_fault name file plain) known)
     c.from_residual-in_err-matches.ensures.1
 
+pub returns-in_err-matches-clause-show : goal.returns-in_err-matches-clause-show
+returns-in_err-matches-clause-show c = λ name file are plain.
+    let app = c.in_ok-command.ensures in
+    let words = map (λ s. s.now) c.args.words.now in
+    let kinds = c.in_err-matches.ensures.kinds (ap is_simple_and_free app ∙ program_is_free) in
+    let known = subst (λ (a : App). HasKind (fault_of a words) c.in_err-matches.field-0.0) app kinds in
+    matched_as (IsShow file) (λ e. kind_of e ≡ OutOfMemory) _ c.in_err-matches.field-0.0
+    (only_memory (fault_of program words) c.in_err-matches.field-0.0 (ap (λ (ws : List Text). fault_of program ws) are ∙ no_fault_of_show name file plain) known)
+    c.from_residual-in_err-matches.ensures.1
+
+pub returns-in-Err-FileMissing-clause-tree : goal.returns-in-Err-FileMissing-clause-tree
+returns-in-Err-FileMissing-clause-tree c = λ name file are plain.
+    let app = c.in_ok-command.ensures in
+    let has = c.in_ok-matches.ensures.ok.2 (ap is_simple app ∙ program_is_simple) in
+    let words = map (λ s. s.now) c.args.words.now in
+    let entered = has.1 ∙ ap (λ (a : App). subcommand_of a words) app ∙ ap (λ (ws : List Text). subcommand_of program ws) are in
+    absurd (file_is_there _ (codes "tree") file (ap (option_map named_file) entered ∙ file_of_words name file plain) (rw c.in-Err-FileMissing.field-0-is at c.in-Err-FileMissing.ensures.flaw).0)
+
+pub returns-in-Err-FileMissing-clause-show : goal.returns-in-Err-FileMissing-clause-show
+returns-in-Err-FileMissing-clause-show c = λ name file are plain.
+    let app = c.in_ok-command.ensures in
+    let has = c.in_ok-matches.ensures.ok.2 (ap is_simple app ∙ program_is_simple) in
+    let words = map (λ s. s.now) c.args.words.now in
+    let entered = has.1 ∙ ap (λ (a : App). subcommand_of a words) app ∙ ap (λ (ws : List Text). subcommand_of program ws) are in
+    absurd (file_is_there _ (codes "show") file (file_of_kind _ (codes "show") None (Some file) (ap (option_map named_kind) entered ∙ kind_of_words name file plain)) (rw c.in-Err-FileMissing.field-0-is at c.in-Err-FileMissing.ensures.flaw).1)
+
+pub returns-in-Err-FileMissing-clause-refuses : goal.returns-in-Err-FileMissing-clause-refuses
+returns-in-Err-FileMissing-clause-refuses c =
+    let app = c.in_ok-command.ensures in
+    let has = c.in_ok-matches.ensures.ok.2 (ap is_simple app ∙ program_is_simple) in
+    let words = map (λ s. s.now) c.args.words.now in
+    let entered = has.1 ∙ ap (λ (a : App). subcommand_of a words) app in
+    inr (inr (inl (c.in_ok-error-in-Err-FileMissing.ensures.kind, subst HasNoLine entered (rw c.in-Err-FileMissing.field-0-is at c.in-Err-FileMissing.ensures.flaw))))
+
 pub returns-clause-tree : goal.returns-clause-tree
 returns-clause-tree c = λ name file are plain.
     let app = c.in_ok-command.ensures in
     let has = c.in_ok-matches.ensures.ok.2 (ap is_simple app ∙ program_is_simple) in
     let words = map (λ s. s.now) c.args.words.now in
     let entered = has.1 ∙ ap (λ (a : App). subcommand_of a words) app ∙ ap (λ (ws : List Text). subcommand_of program ws) are in
-    absurd (file_is_there _ file (ap (option_map named_file) entered ∙ file_of_words name file plain) c.in-None.ensures.none)
+    absurd (tree_has_no_kind _ (Some file) (ap (option_map named_file) entered ∙ file_of_words name file plain) (rw c.in-Err-OtherKind.field-0-is at c.in-Err-OtherKind.ensures.flaw))
+
+pub returns-clause-show : goal.returns-clause-show
+returns-clause-show c = λ name file are plain.
+    let app = c.in_ok-command.ensures in
+    let has = c.in_ok-matches.ensures.ok.2 (ap is_simple app ∙ program_is_simple) in
+    let words = map (λ s. s.now) c.args.words.now in
+    let entered = has.1 ∙ ap (λ (a : App). subcommand_of a words) app ∙ ap (λ (ws : List Text). subcommand_of program ws) are in
+    absurd (no_kind_is_known _ (codes "show") (Some file) (ap (option_map named_kind) entered ∙ kind_of_words name file plain) (rw c.in-Err-OtherKind.field-0-is at c.in-Err-OtherKind.ensures.flaw))
 
 pub returns-clause-refuses : goal.returns-clause-refuses
 returns-clause-refuses c =
@@ -61,4 +112,4 @@ returns-clause-refuses c =
     let has = c.in_ok-matches.ensures.ok.2 (ap is_simple app ∙ program_is_simple) in
     let words = map (λ s. s.now) c.args.words.now in
     let entered = has.1 ∙ ap (λ (a : App). subcommand_of a words) app in
-    inr (inr (c.in_ok-error-in-None.ensures.kind, subst HasNoLine entered c.in-None.ensures.none))
+    inr (inr (inr (c.in_ok-error-in-Err-OtherKind.ensures.kind, subst HasOtherKind entered (rw c.in-Err-OtherKind.field-0-is at c.in-Err-OtherKind.ensures.flaw))))

@@ -2,7 +2,7 @@ use Rattle.std.proofs.Common.{[], ◌++◌, refl}
 use Rattle.hex.specs.Hex.{lower_digits}
 use Rattle.x509check.proofs.Appending.{appends_none, appends_both}
 use Rattle.x509check.proofs.Pieces.{encode_with-append, nothing_encoded, chunk_more}
-use Rattle.x509check.proofs.printing.tree.write_hex.Goals as goal
+use Rattle.x509check.proofs.printing.text.write_hex.Goals as goal
 
 pub loop-rest-init : goal.loop-rest-init
 loop-rest-init g c = ([], refl, appends_none _ _ (nothing_encoded lower_digits))
