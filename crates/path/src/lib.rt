@@ -8,3 +8,6 @@ mod verifier;
 pub use fingerprinting::fingerprint;
 pub use list_verifier::ListVerifier;
 pub use verifier::Verifier;
+
+#[cfg(test)]
+mod tests;
