@@ -1,11 +1,10 @@
 -- The walk of a certificate finds what the standard calls one, and nothing else.
-use Rattle.std.proofs.Common.{◌≡◌, ◌≢◌, ◌==◌, ℕ, true, false, List, [], ◌∷◌, ◌++◌, append-nil, Option, Some, None, Result, Ok, Err, refl, sym, ap, ◌∙◌, subst}
+use Rattle.std.proofs.Common.{◌≡◌, ◌≢◌, ◌==◌, ℕ, true, false, List, [], ◌∷◌, ◌++◌, append-nil, Option, Some, None, Ok, refl, sym, ap, ◌∙◌, subst}
 use Rattle.std.specs.Str.{bytes_eq}
 use Rattle.std.specs.List.{AllByRecursion}
 use Rattle.std.proofs.lemmas.Bool.{eqb-true}
 use Rattle.std.proofs.lemmas.Slice.Eq.{bytes_eq-Decides}
 use Rattle.asn.specs.DerLaws.{AreOctets}
-use Rattle.asn.specs.Rule.{Rule}
 use Rattle.asn.specs.Place.{Place, tag, body}
 use Rattle.asn.specs.Members.{Members, members, begins, begins_in}
 use Rattle.asn.specs.Walk.{optional}
@@ -24,6 +23,7 @@ use Rattle.cert.specs.Extensions.{Extensions, no_extensions}
 use Rattle.cert.specs.TbsCertificate.{TbsHead, Subject, component, serial_number, distinguished_name, issuer, unique_id, tbs_head, tbs_subject}
 use Rattle.cert.specs.Certificate.{TbsCertificate, Certificate, extensions_in, optional_extensions, tbs_certificate, same_algorithm, has_no_unused_bits, signature_value, certificate_at, certificate}
 use Rattle.cert.specs.CertificateForms.{IsSerialNumber, IsNameOf, IsUniqueId, AreTaggedExtensions, AreOptionalExtensions, IsTbsCertificate, IsSignature, IsCertificateAt, CertificateIsExact, CertificateIsUnique}
+use Rattle.cert.proofs.ContainedValues.{as_der_ok}
 use Rattle.cert.proofs.AlgorithmLaws.{is_algorithm, algorithm_is}
 use Rattle.cert.proofs.ValidityLaws.{is_validity, validity_is}
 use Rattle.cert.proofs.KeyInfoLaws.{is_key_info, key_info_is}
@@ -383,10 +383,6 @@ certificate_at_is value fields fits is =
       ended_again R.Layout (next []) refl,
       ← is.fields_are,
     ) refl
-
-as_der_ok : {A : Type 0} (r : Result A (Rule × ℕ)) (x : A) → as_der r ≡ Ok x → r ≡ Ok x
-as_der_ok (Ok y) x e = cc
-as_der_ok (Err fault) x e = absurd cc
 
 pub certificate_is_exact : CertificateIsExact
 unfolding certificate

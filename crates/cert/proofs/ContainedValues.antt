@@ -10,7 +10,7 @@ use Rattle.asn.specs.Layout.{IsEncodingOf}
 use Rattle.asn.proofs.Laws.{nested_ok, nested_again}
 use Rattle.cert.specs.Fault.{as_der}
 
-as_der_ok : {A : Type 0} (r : Result A (Rule × ℕ)) (x : A) → as_der r ≡ Ok x → r ≡ Ok x
+pub as_der_ok : {A : Type 0} (r : Result A (Rule × ℕ)) (x : A) → as_der r ≡ Ok x → r ≡ Ok x
 as_der_ok (Ok y) x e = cc
 as_der_ok (Err fault) x e = absurd cc
 

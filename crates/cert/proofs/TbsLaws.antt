@@ -1,11 +1,10 @@
 -- The walk of the signed part finds what the standard calls one, and nothing else.
-use Rattle.std.proofs.Common.{◌≡◌, ◌≢◌, ℕ, true, false, not, List, [], ◌∷◌, ◌++◌, length, nat_lt, Option, Some, None, Result, Ok, Err, arith, refl, sym, ap, ◌∙◌, subst}
+use Rattle.std.proofs.Common.{◌≡◌, ◌≢◌, ℕ, true, false, not, List, [], ◌∷◌, ◌++◌, length, nat_lt, Option, Some, None, Result, Ok, arith, refl, sym, ap, ◌∙◌, subst}
 use Rattle.std.proofs.lemmas.Bool.{and_parts, and_from, ltb-true, lt-ltb}
 use Rattle.asn.specs.Place.{Place, tag, body}
 use Rattle.asn.specs.Members.{Members, begins, begins_in}
 use Rattle.asn.specs.Walk.{optional}
 use Rattle.asn.proofs.Laws.{bind_ok, ok_is, check_ok, check_again, Takes, required_ok, required_again, TakesOptional, optional_is, optional_there, optional_absent}
-use Rattle.names.specs.declared.fault.NameFault.{NameFault}
 use Rattle.names.specs.DistinguishedName.{RdnMap}
 use Rattle.names.specs.NameLayout.{name}
 use Rattle.names.specs.GeneralLayout.{NameContents, contents_at}
@@ -17,6 +16,7 @@ use Rattle.cert.specs.declared.version.Version.TheVariants.{V1, V2, V3}
 use Rattle.cert.specs.Fault.{as_name}
 use Rattle.cert.specs.Version.{is_v1}
 use Rattle.cert.specs.TbsCertificate.{component, is_serial, serial_number, distinguished_name, is_empty_name, issuer, unique_id_in, unique_id}
+use Rattle.cert.proofs.Rooms.{as_name_ok}
 use Rattle.cert.specs.CertificateForms.{IsSerialNumber, IsNameOf, IsUniqueId}
 
 -- a component that is there
@@ -57,10 +57,6 @@ serial_again value serial is =
     rw (check_again (is_serial (body value)) R.Serial value.at fits, ← is.contents) refl
 
 -- names
-as_name_ok : {A : Type 0} (r : Result A (NameFault × ℕ)) (x : A) → as_name r ≡ Ok x → r ≡ Ok x
-as_name_ok (Ok y) x e = cc
-as_name_ok (Err fault) x e = absurd cc
-
 pub name_ok : (value : Place) (contents : NameContents) → distinguished_name value ≡ Ok contents → IsNameOf value contents
 unfolding distinguished_name
 name_ok value contents e =
