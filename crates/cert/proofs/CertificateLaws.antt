@@ -17,11 +17,12 @@ use Rattle.cert.specs.declared.version.Version.TheVariants.{V1, V2, V3}
 use Rattle.cert.specs.Fault.{as_der}
 use Rattle.cert.specs.AlgorithmIdentifier.{AlgorithmIdentifier, algorithm_identifier, IsAlgorithmIdentifier}
 use Rattle.cert.specs.Validity.{validity, IsValidity}
-use Rattle.cert.specs.SubjectPublicKeyInfo.{bits_in, key_info, IsSubjectPublicKeyInfo}
+use Rattle.cert.specs.SubjectPublicKeyInfo.{key_info, IsSubjectPublicKeyInfo}
+use Rattle.cert.specs.BitString.{bits_in, has_no_unused_bits}
 use Rattle.cert.specs.Version.{is_v3, IsVersion}
 use Rattle.cert.specs.Extensions.{Extensions, no_extensions}
 use Rattle.cert.specs.TbsCertificate.{TbsHead, Subject, component, serial_number, distinguished_name, issuer, unique_id, tbs_head, tbs_subject}
-use Rattle.cert.specs.Certificate.{TbsCertificate, Certificate, extensions_in, optional_extensions, tbs_certificate, same_algorithm, has_no_unused_bits, signature_value, certificate_at, certificate}
+use Rattle.cert.specs.Certificate.{TbsCertificate, Certificate, extensions_in, optional_extensions, tbs_certificate, same_algorithm, signature_value, certificate_at, certificate}
 use Rattle.cert.specs.CertificateForms.{IsSerialNumber, IsNameOf, IsUniqueId, AreTaggedExtensions, AreOptionalExtensions, IsTbsCertificate, IsSignature, IsCertificateAt, CertificateIsExact, CertificateIsUnique}
 use Rattle.cert.proofs.ContainedValues.{as_der_ok}
 use Rattle.cert.proofs.AlgorithmLaws.{is_algorithm, algorithm_is}

@@ -8,15 +8,16 @@ use Rattle.asn.specs.Layout.{IsEncodingOf}
 use Rattle.asn.proofs.Laws.{bind_ok, ok_is, is_a_ok, is_a_again, as_primitive}
 use Rattle.cert.specs.declared.fault.CertRule.{CertRule}
 use Rattle.cert.specs.declared.fault.CertRule.TheVariants.{ExtensionValue}
-use Rattle.cert.specs.KeyUsage.{bits_of, key_usage, IsKeyUsage}
+use Rattle.cert.specs.BitString.{bits_in}
+use Rattle.cert.specs.KeyUsage.{key_usage, IsKeyUsage}
 use Rattle.cert.proofs.ContainedValues.{contained_ok, contained_again, encoding_inside}
 
-counted : (contents : List ℕ) → IsBitString contents → (unused : ℕ) × (contents ≡ unused ∷ bits_of contents)
+counted : (contents : List ℕ) → IsBitString contents → (unused : ℕ) × (contents ≡ unused ∷ bits_in contents)
 counted [] is = absurd is
 counted (unused ∷ bits) is = (unused, refl)
 
 -- a BIT STRING has a count of unused bits
-has_count : (value : Value) (place : Place) → IsEncodingOf value place → tag place ≡ 0x03 → (unused : ℕ) × (body place ≡ unused ∷ bits_of (body place))
+has_count : (value : Value) (place : Place) → IsEncodingOf value place → tag place ≡ 0x03 → (unused : ℕ) × (body place ≡ unused ∷ bits_in (body place))
 has_count value place encoded is =
     let same : value ≡ primitive 0x03 (body place) = as_primitive encoded is refl in
     let encoded : IsEncodingOf (primitive 0x03 (body place)) place = subst (λ v. IsEncodingOf v place) same encoded in
@@ -31,7 +32,7 @@ is_key_usage octet_string bits fits e =
     let is : tag (inside octet_string) ≡ 0x03 = subst (λ (p : Place). tag p ≡ 0x03) held.0 (is_a_ok _ _ _ _ string.1) in
     let encoded = encoding_inside octet_string held.1 in
     let count = has_count encoded.0 (inside octet_string) encoded.1 is in
-    let same : bits_of (body (inside octet_string)) ≡ bits = ap (λ (p : Place). bits_of (body p)) (sym held.0) ∙ ok_is {E = CertRule × ℕ} (bits_of (body value.0)) bits string.2 in
+    let same : bits_in (body (inside octet_string)) ≡ bits = ap (λ (p : Place). bits_in (body p)) (sym held.0) ∙ ok_is {E = CertRule × ℕ} (bits_in (body value.0)) bits string.2 in
     record {
       whole = held.1;
       unused = count.0;

@@ -1,5 +1,5 @@
 -- Certificates (RFC 5280, 4.1): SEQUENCE { tbsCertificate, signatureAlgorithm, signatureValue BIT STRING }
-use Rattle.std.specs.Prelude.{ℕ, ◌==◌, Bool, false, List, [], ◌∷◌, Option, Some, None, Result, Ok}
+use Rattle.std.specs.Prelude.{ℕ, Bool, List, Option, Some, None, Result, Ok}
 use Rattle.std.specs.Str.{bytes_eq}
 use Rattle.asn.specs.Place.{Place, body}
 use Rattle.asn.specs.Members.{Members, members}
@@ -16,7 +16,8 @@ use Rattle.cert.specs.declared.certificate.TbsCertificate as signed_part
 use Rattle.cert.specs.Fault.{as_der}
 use Rattle.cert.specs.AlgorithmIdentifier.{AlgorithmIdentifier}
 use Rattle.cert.specs.Validity.{Validity, seen_validity}
-use Rattle.cert.specs.SubjectPublicKeyInfo.{SubjectPublicKeyInfo, bits_in, seen_key_info}
+use Rattle.cert.specs.SubjectPublicKeyInfo.{SubjectPublicKeyInfo, seen_key_info}
+use Rattle.cert.specs.BitString.{bits_in, has_no_unused_bits}
 use Rattle.cert.specs.Version.{is_v3}
 use Rattle.cert.specs.Extensions.{Extensions, no_extensions, extensions, seen_extensions}
 use Rattle.cert.specs.TbsCertificate.{TbsHead, Subject, component, tbs_head, tbs_subject, seen_head, seen_subject}
@@ -57,10 +58,6 @@ unfoldable pub same_algorithm : AlgorithmIdentifier → Place → Result (Unit {
 same_algorithm inner value = check_that (bytes_eq value.octets inner.whole.octets) R.AlgorithmsDiffer value.at
 
 -- signatureValue (4.1.1.3): a BIT STRING of octets, with no bit unused
-abbrev pub has_no_unused_bits : List ℕ → Bool
-has_no_unused_bits [] = false
-has_no_unused_bits (unused ∷ octets) = unused == 0
-
 unfoldable pub signature_value : Place → Result (List ℕ) (CertRule × ℕ)
 signature_value value = check_that (has_no_unused_bits (body value)) R.SignatureBits value.at >>= λ whole. Ok (bits_in (body value))
 

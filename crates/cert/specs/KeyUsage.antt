@@ -1,12 +1,13 @@
 -- keyUsage (RFC 5280, 4.2.1.3): a BIT STRING, whose contents are the count of unused bits and the octets of the bits
 -- (X.690, 8.6.2)
-use Rattle.std.specs.Prelude.{◌≡◌, ◌↔◌, ◌==◌, ℕ, Bool, List, [], ◌∷◌, Result, Ok}
+use Rattle.std.specs.Prelude.{◌≡◌, ◌↔◌, ◌==◌, ℕ, Bool, List, ◌∷◌, Result, Ok}
 use Rattle.asn.specs.DerLaws.{AreOctets}
 use Rattle.asn.specs.Part.{IsWhole}
 use Rattle.asn.specs.Place.{Place, tag, body, inside}
 use Rattle.asn.specs.Walk.{◌>>=◌, is_a}
 use Rattle.asn.specs.Judgement.{nested}
 use Rattle.names.specs.Ip.{bit}
+use Rattle.cert.specs.BitString.{bits_in}
 use Rattle.cert.specs.Fault.{as_der}
 use Rattle.cert.specs.declared.fault.CertRule.{CertRule}
 use Rattle.cert.specs.declared.fault.CertRule.TheVariants.{ExtensionValue}
@@ -20,17 +21,12 @@ seen_key_usage read = read.bits.now
 abbrev pub has_bit : List ℕ → ℕ → Bool
 has_bit bits index = bit bits index == 1
 
--- the octets behind the count of unused bits
-abbrev pub bits_of : List ℕ → List ℕ
-bits_of [] = []
-bits_of (unused ∷ bits) = bits
-
 -- The checks in their order.
 unfoldable pub key_usage : Place → Result (List ℕ) (CertRule × ℕ)
 key_usage octet_string = do
   value ← as_der (nested octet_string)
   string ← is_a 0x03 ExtensionValue value
-  Ok (bits_of (body value))
+  Ok (bits_in (body value))
 
 -- The contents of the OCTET STRING are a BIT STRING, and these are the octets of its bits.
 pub record IsKeyUsage (octet_string : Place) (bits : List ℕ) : Type 0 where

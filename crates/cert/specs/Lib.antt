@@ -1,5 +1,6 @@
 pub mod Fault
 pub mod AlgorithmIdentifier
+pub mod BitString
 pub mod Validity
 pub mod Extension
 pub mod KeyUsage

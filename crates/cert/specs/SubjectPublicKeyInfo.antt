@@ -1,17 +1,14 @@
 -- Public keys of subjects (RFC 5280, 4.1.2.7):
 -- SEQUENCE { algorithm AlgorithmIdentifier, subjectPublicKey BIT STRING }
-use Rattle.std.specs.Prelude.{◌≡◌, ◌↔◌, ℕ, List, [], ◌∷◌, Result, Ok, drop}
+use Rattle.std.specs.Prelude.{◌≡◌, ◌↔◌, ℕ, List, [], ◌∷◌, Result, Ok}
 use Rattle.asn.specs.Place.{Place, tag, body}
 use Rattle.asn.specs.Members.{members}
 use Rattle.asn.specs.Walk.{◌>>=◌, is_a, required, ended}
 use Rattle.cert.specs.declared.fault.CertRule.{CertRule}
 use Rattle.cert.specs.declared.fault.CertRule.TheVariants.{Layout}
 use Rattle.cert.specs.declared.key_info.SubjectPublicKeyInfo as code
+use Rattle.cert.specs.BitString.{bits_in}
 use Rattle.cert.specs.AlgorithmIdentifier.{AlgorithmIdentifier, algorithm_identifier, IsAlgorithmIdentifier}
-
--- the octets of a BIT STRING: its contents behind the count of unused bits
-abbrev pub bits_in : List ℕ → List ℕ
-bits_in contents = drop 1 contents
 
 -- the whole encoding, and the octets of the key
 pub record SubjectPublicKeyInfo : Type 0 where

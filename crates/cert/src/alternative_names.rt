@@ -10,7 +10,7 @@ ghost use Rattle.cert.specs.Fault.{as_name, GivesUnlessFull};
 ghost use Rattle.cert.specs.AlternativeNames.{has_form, one_more_name, alternative_names};
 
 use crate::contained::contained_value;
-use crate::fault::{CertFault, CertRule, Refusal};
+use crate::fault::{CertFault, CertRule, Refusal, name_refusal};
 use crate::limit::{MOST_NAMES, check_room};
 use asn::{Cursor, Tlv};
 use names::{General, NameFault, form_of_tag};
@@ -27,16 +27,6 @@ fn check_form(value: Tlv<'_>) -> Result<(), Refusal>
     }
 }
 
-/// The general name that the value is.
-fn read_name(value: Tlv<'_>) -> Result<General<'_>, Refusal>
-    ensures { Gives general_name result (as_name (general (part value.entry))) }
-{
-    match General::at(value) {
-        Ok(name) => Ok(name),
-        Err((fault, at)) => Err((CertRule::Name(fault), at)),
-    }
-}
-
 /// Adds the name that the value is.
 #[tactic(auto, unfolding(crate::specs::AlternativeNames::one_more_name))]
 fn push_name<'a>(all: &mut Vec<General<'a>>, value: Tlv<'a>) -> Result<(), CertFault>
@@ -45,7 +35,7 @@ fn push_name<'a>(all: &mut Vec<General<'a>>, value: Tlv<'a>) -> Result<(), CertF
 {
     check_form(value)?;
     check_room(MOST_NAMES, all.len(), value.at)?;
-    let name = read_name(value)?;
+    let name = General::at(value).map_err(name_refusal)?;
     all.push(name)?;
     Ok(())
 }

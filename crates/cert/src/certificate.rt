@@ -7,15 +7,16 @@ ghost use Rattle.asn.specs.Walk.{Gives};
 ghost use Rattle.asn.specs.Judgement.{outermost as asn_outermost};
 ghost use Rattle.names.specs.DistinguishedName.{NamesMatch};
 ghost use Rattle.cert.specs.AlgorithmIdentifier.{seen_algorithm};
-ghost use Rattle.cert.specs.Certificate.{has_no_unused_bits, optional_extensions, tbs_certificate, seen_tbs, same_algorithm, signature_value, certificate_at, certificate, seen_certificate, is_self_issued};
+ghost use Rattle.cert.specs.Certificate.{optional_extensions, tbs_certificate, seen_tbs, same_algorithm, signature_value, certificate_at, certificate, seen_certificate, is_self_issued};
 ghost use Rattle.cert.specs.Extensions.{seen_extensions};
 ghost use Rattle.cert.specs.Fault.{GivesUnlessFull, as_der};
 ghost use Rattle.cert.specs.TbsCertificate.{component};
 
 use crate::algorithm::AlgorithmIdentifier;
+use crate::bit_string::{bits_of, is_of_whole_octets};
 use crate::extensions::Extensions;
 use crate::fault::{CertFault, CertRule, Refusal};
-use crate::key_info::{SubjectPublicKeyInfo, bits_of};
+use crate::key_info::SubjectPublicKeyInfo;
 use crate::tbs::{Subject, TbsHead};
 use crate::validity::Validity;
 use crate::version::Version;
@@ -110,15 +111,6 @@ fn take_same_algorithm(
         Ok(())
     } else {
         Err((CertRule::AlgorithmsDiffer, value.at))
-    }
-}
-
-fn is_of_whole_octets(contents: &[u8]) -> bool
-    ensures { result ≡ has_no_unused_bits contents.now }
-{
-    match contents {
-        [] => false,
-        [unused, ..] => *unused == 0,
     }
 }
 

@@ -3,6 +3,7 @@
 ghost use Rattle.std.specs.Prelude.{◌≡◌};
 ghost use Rattle.cert.specs.Fault.{cert_rule_number, cert_rule_name, cert_fault_number, cert_fault_name, cert_fault_place};
 ghost use Rattle.cert.specs.declared.fault.CertFault.TheVariants.{Memory, Refused};
+ghost use Rattle.cert.specs.declared.fault.CertRule.TheVariants.{Name};
 
 use asn::Rule;
 use names::NameFault;
@@ -55,6 +56,14 @@ pub enum CertRule {
 
 /// What is broken, with the offset of the value that breaks it in the text handed to `asn::whole`.
 pub type Refusal = (CertRule, usize);
+
+/// A fault in a name, as one of a certificate.
+pub(crate) fn name_refusal(refusal: (NameFault, usize)) -> Refusal
+    ensures { result ≡ (Name refusal.0, refusal.1) }
+{
+    let (fault, at) = refusal;
+    (CertRule::Name(fault), at)
+}
 
 /// Why octets were not read as a certificate: the first rule that is broken, with the offset of the value that breaks it, or
 /// want of memory.

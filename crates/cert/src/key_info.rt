@@ -3,9 +3,10 @@
 ghost use Rattle.std.specs.Prelude.{◌≡◌};
 ghost use Rattle.asn.specs.Place.{part};
 ghost use Rattle.asn.specs.Walk.{Gives};
-ghost use Rattle.cert.specs.SubjectPublicKeyInfo.{bits_in, key_info, seen_key_info};
+ghost use Rattle.cert.specs.SubjectPublicKeyInfo.{key_info, seen_key_info};
 
 use crate::algorithm::AlgorithmIdentifier;
+use crate::bit_string::bits_of;
 use crate::fault::{CertRule, Refusal};
 use asn::Tlv;
 
@@ -16,16 +17,6 @@ pub struct SubjectPublicKeyInfo<'a> {
     pub whole: &'a [u8],
     /// The octets of subjectPublicKey, without the count of unused bits.
     pub key: &'a [u8],
-}
-
-/// The octets of a BIT STRING, behind the count of unused bits with which its contents begin.
-pub(crate) fn bits_of(contents: &[u8]) -> &[u8]
-    ensures { result.now ≡ bits_in contents.now }
-{
-    match contents {
-        [] => &[],
-        [_, bits @ ..] => bits,
-    }
 }
 
 impl<'a> SubjectPublicKeyInfo<'a> {

@@ -5,6 +5,7 @@ ghost use Rattle.asn.specs.Place.{part};
 ghost use Rattle.asn.specs.Walk.{Gives};
 ghost use Rattle.cert.specs.KeyUsage.{has_bit, key_usage, seen_key_usage};
 
+use crate::bit_string::bits_of;
 use crate::contained::contained_value;
 use crate::fault::{CertRule, Refusal};
 use asn::Tlv;
@@ -26,11 +27,9 @@ impl<'a> KeyUsage<'a> {
     {
         let value = contained_value(octet_string)?;
         value.is_a(0x03, CertRule::ExtensionValue)?;
-        let bits = match value.body {
-            [_, bits @ ..] => bits,
-            [] => &[],
-        };
-        Ok(KeyUsage { bits })
+        Ok(KeyUsage {
+            bits: bits_of(value.body),
+        })
     }
 
     /// Whether the bit is set. One that is not there is not.

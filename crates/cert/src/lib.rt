@@ -4,6 +4,7 @@
 mod algorithm;
 mod alternative_names;
 mod basic_constraints;
+mod bit_string;
 mod certificate;
 mod contained;
 mod extension;

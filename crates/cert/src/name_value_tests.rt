@@ -36,85 +36,86 @@ fn reads_alternative_names_in_order(rt: HostRuntime) -> Result<(), Fail> {
     Ok(())
 }
 
+const REFUSED_ALTERNATIVE_NAMES: [(&[u8], CertRule, usize, &str); 14] = [
+    (
+        b"\x04\x08\x30\x06\x82\x04a..b",
+        CertRule::Name(NameFault::DnsForm),
+        4,
+        "an empty label",
+    ),
+    (
+        b"\x04\x09\x30\x07\x87\x05\x01\x02\x03\x04\x05",
+        CertRule::Name(NameFault::IpForm),
+        4,
+        "an address of 5 octets",
+    ),
+    (b"\x04\x02\x30\x00", CertRule::ExtensionValue, 4, "none"),
+    (
+        b"\x04\x04\x30\x02\x05\x00",
+        CertRule::Name(NameFault::NameLayout),
+        4,
+        "NULL",
+    ),
+    (
+        b"\x04\x04\x30\x02\x84\x00",
+        CertRule::Name(NameFault::NameLayout),
+        4,
+        "a primitive directoryName",
+    ),
+    (
+        b"\x04\x07\x30\x05\x86\x01x\x05\x00",
+        CertRule::Name(NameFault::NameLayout),
+        7,
+        "NULL behind a name",
+    ),
+    (
+        b"\x04\x06\x30\x04\xA4\x02\x05\x00",
+        CertRule::Name(NameFault::NameLayout),
+        6,
+        "NULL in a directoryName",
+    ),
+    (
+        b"\x04\x0C\x30\x0A\x82\x04a..b\x87\x02\x01\x02",
+        CertRule::Name(NameFault::DnsForm),
+        4,
+        "two faults",
+    ),
+    (
+        b"\x04\x03\x86\x01x",
+        CertRule::ExtensionValue,
+        2,
+        "a name alone",
+    ),
+    (
+        b"\x04\x05\x31\x03\x86\x01x",
+        CertRule::ExtensionValue,
+        2,
+        "a SET",
+    ),
+    (b"\x04\x00", CertRule::Der(Rule::Truncated), 2, "nothing"),
+    (
+        b"\x04\x07\x30\x03\x86\x01x\x05\x00",
+        CertRule::Der(Rule::Trailing),
+        7,
+        "two values",
+    ),
+    (
+        b"\x30\x0C\x05\x00\x04\x08\x30\x06\x82\x04a..b",
+        CertRule::Name(NameFault::DnsForm),
+        8,
+        "an empty label, further in",
+    ),
+    (
+        b"\x30\x0A\x05\x00\x04\x06\x30\x04\xA4\x02\x05\x00",
+        CertRule::Name(NameFault::NameLayout),
+        10,
+        "NULL in a directoryName, further in",
+    ),
+];
+
 #[test]
 fn refuses_alternative_names(rt: HostRuntime) -> Result<(), Fail> {
-    let rows: [(&[u8], CertRule, usize, &str); 14] = [
-        (
-            b"\x04\x08\x30\x06\x82\x04a..b",
-            CertRule::Name(NameFault::DnsForm),
-            4,
-            "an empty label",
-        ),
-        (
-            b"\x04\x09\x30\x07\x87\x05\x01\x02\x03\x04\x05",
-            CertRule::Name(NameFault::IpForm),
-            4,
-            "an address of 5 octets",
-        ),
-        (b"\x04\x02\x30\x00", CertRule::ExtensionValue, 4, "none"),
-        (
-            b"\x04\x04\x30\x02\x05\x00",
-            CertRule::Name(NameFault::NameLayout),
-            4,
-            "NULL",
-        ),
-        (
-            b"\x04\x04\x30\x02\x84\x00",
-            CertRule::Name(NameFault::NameLayout),
-            4,
-            "a primitive directoryName",
-        ),
-        (
-            b"\x04\x07\x30\x05\x86\x01x\x05\x00",
-            CertRule::Name(NameFault::NameLayout),
-            7,
-            "NULL behind a name",
-        ),
-        (
-            b"\x04\x06\x30\x04\xA4\x02\x05\x00",
-            CertRule::Name(NameFault::NameLayout),
-            6,
-            "NULL in a directoryName",
-        ),
-        (
-            b"\x04\x0C\x30\x0A\x82\x04a..b\x87\x02\x01\x02",
-            CertRule::Name(NameFault::DnsForm),
-            4,
-            "two faults",
-        ),
-        (
-            b"\x04\x03\x86\x01x",
-            CertRule::ExtensionValue,
-            2,
-            "a name alone",
-        ),
-        (
-            b"\x04\x05\x31\x03\x86\x01x",
-            CertRule::ExtensionValue,
-            2,
-            "a SET",
-        ),
-        (b"\x04\x00", CertRule::Der(Rule::Truncated), 2, "nothing"),
-        (
-            b"\x04\x07\x30\x03\x86\x01x\x05\x00",
-            CertRule::Der(Rule::Trailing),
-            7,
-            "two values",
-        ),
-        (
-            b"\x30\x0C\x05\x00\x04\x08\x30\x06\x82\x04a..b",
-            CertRule::Name(NameFault::DnsForm),
-            8,
-            "an empty label, further in",
-        ),
-        (
-            b"\x30\x0A\x05\x00\x04\x06\x30\x04\xA4\x02\x05\x00",
-            CertRule::Name(NameFault::NameLayout),
-            10,
-            "NULL in a directoryName, further in",
-        ),
-    ];
-    for (octets, rule, at, what) in rows {
+    for (octets, rule, at, what) in REFUSED_ALTERNATIVE_NAMES {
         let answer = read_alternative_names(rt.alloc(), octet_string(octets)?);
         assert!(rt;
             answer.err() == Some(CertFault::Refused(rule, at)),
@@ -147,37 +148,38 @@ fn repeated(alloc: Global, piece: &[u8], count: usize, last: &[u8]) -> Result<Ve
     Ok(all)
 }
 
+const COUNTS_OF_NAMES: [(usize, &[u8], Option<(CertRule, usize)>, &str); 5] = [
+    (4096, b"", None, "4,096 names"),
+    (
+        4096,
+        b"\x86\x01x",
+        Some((CertRule::Limit, 12_296)),
+        "4,097 names",
+    ),
+    (
+        4096,
+        b"\x82\x04a..b",
+        Some((CertRule::Limit, 12_296)),
+        "the limit before a name's own fault",
+    ),
+    (
+        4096,
+        b"\x05\x00",
+        Some((CertRule::Name(NameFault::NameLayout), 12_296)),
+        "a wrong identifier before the limit",
+    ),
+    (
+        4095,
+        b"\x82\x04a..b",
+        Some((CertRule::Name(NameFault::DnsForm), 12_293)),
+        "a fault in the 4,096th",
+    ),
+];
+
 /// A name takes 3 octets here, and the first stands at 8.
 #[test]
 fn alternative_names_have_a_limit(rt: HostRuntime) -> Result<(), Fail> {
-    let rows: [(usize, &[u8], Option<(CertRule, usize)>, &str); 5] = [
-        (4096, b"", None, "4,096 names"),
-        (
-            4096,
-            b"\x86\x01x",
-            Some((CertRule::Limit, 12_296)),
-            "4,097 names",
-        ),
-        (
-            4096,
-            b"\x82\x04a..b",
-            Some((CertRule::Limit, 12_296)),
-            "the limit before a name's own fault",
-        ),
-        (
-            4096,
-            b"\x05\x00",
-            Some((CertRule::Name(NameFault::NameLayout), 12_296)),
-            "a wrong identifier before the limit",
-        ),
-        (
-            4095,
-            b"\x82\x04a..b",
-            Some((CertRule::Name(NameFault::DnsForm), 12_293)),
-            "a fault in the 4,096th",
-        ),
-    ];
-    for (count, last, expected, what) in rows {
+    for (count, last, expected, what) in COUNTS_OF_NAMES {
         let names = repeated(rt.alloc(), b"\x86\x01x", count, last)?;
         let list = value_of(rt.alloc(), 0x30, &names)?;
         let octets = value_of(rt.alloc(), 0x04, &list)?;
@@ -195,32 +197,33 @@ fn alternative_names_have_a_limit(rt: HostRuntime) -> Result<(), Fail> {
     Ok(())
 }
 
+const NAME_CONSTRAINTS: [(&[u8], &[Form], &[Form]); 5] = [
+    (b"\x04\x02\x30\x00", &[], &[]),
+    (
+        b"\x04\x09\x30\x07\xA0\x05\x30\x03\x82\x01a",
+        &[Form::Dns],
+        &[],
+    ),
+    (
+        b"\x04\x10\x30\x0E\xA1\x0C\x30\x0A\x87\x08\x0A\x00\x00\x00\xFF\x00\x00\x00",
+        &[],
+        &[Form::Ip],
+    ),
+    (
+        b"\x04\x18\x30\x16\xA0\x0B\x30\x03\x82\x01a\x30\x04\xA4\x02\x30\x00\xA1\x07\x30\x05\x86\x03.ab",
+        &[Form::Dns, Form::Directory],
+        &[Form::Other(6)],
+    ),
+    (
+        b"\x30\x0C\x05\x00\x04\x08\x30\x06\xA0\x04\x30\x02\x82\x00",
+        &[Form::Dns],
+        &[],
+    ),
+];
+
 #[test]
 fn reads_name_constraints(rt: HostRuntime) -> Result<(), Fail> {
-    let rows: [(&[u8], &[Form], &[Form]); 5] = [
-        (b"\x04\x02\x30\x00", &[], &[]),
-        (
-            b"\x04\x09\x30\x07\xA0\x05\x30\x03\x82\x01a",
-            &[Form::Dns],
-            &[],
-        ),
-        (
-            b"\x04\x10\x30\x0E\xA1\x0C\x30\x0A\x87\x08\x0A\x00\x00\x00\xFF\x00\x00\x00",
-            &[],
-            &[Form::Ip],
-        ),
-        (
-            b"\x04\x18\x30\x16\xA0\x0B\x30\x03\x82\x01a\x30\x04\xA4\x02\x30\x00\xA1\x07\x30\x05\x86\x03.ab",
-            &[Form::Dns, Form::Directory],
-            &[Form::Other(6)],
-        ),
-        (
-            b"\x30\x0C\x05\x00\x04\x08\x30\x06\xA0\x04\x30\x02\x82\x00",
-            &[Form::Dns],
-            &[],
-        ),
-    ];
-    for (row, (octets, permitted, excluded)) in rows.iter().enumerate() {
+    for (row, (octets, permitted, excluded)) in NAME_CONSTRAINTS.iter().enumerate() {
         let found = NameConstraints::read(rt.alloc(), octet_string(octets)?)?;
         assert!(rt;
             have_forms(&found.permitted, permitted),
@@ -243,145 +246,146 @@ fn have_forms(subtrees: &[Subtree<'_>], forms: &[Form]) -> bool {
             .all(|(subtree, form)| subtree.has_form(*form))
 }
 
+const REFUSED_NAME_CONSTRAINTS: [(&[u8], CertRule, usize, &str); 24] = [
+    (
+        b"\x04\x04\x30\x02\xA0\x00",
+        CertRule::ExtensionValue,
+        6,
+        "none permitted",
+    ),
+    (
+        b"\x04\x04\x30\x02\xA1\x00",
+        CertRule::ExtensionValue,
+        6,
+        "none excluded",
+    ),
+    (
+        b"\x04\x06\x30\x04\xA0\x02\x30\x00",
+        CertRule::ExtensionValue,
+        8,
+        "no base",
+    ),
+    (
+        b"\x04\x0C\x30\x0A\xA0\x08\x30\x06\x82\x01a\x80\x01\x00",
+        CertRule::SubtreeBounds,
+        11,
+        "a minimum",
+    ),
+    (
+        b"\x04\x0C\x30\x0A\xA1\x08\x30\x06\x82\x01a\x81\x01\x05",
+        CertRule::SubtreeBounds,
+        11,
+        "a maximum",
+    ),
+    (
+        b"\x04\x0E\x30\x0C\xA0\x0A\x30\x08\x82\x01a\x80\x01\x00\x05\x00",
+        CertRule::SubtreeBounds,
+        11,
+        "a minimum and NULL",
+    ),
+    (
+        b"\x04\x0B\x30\x09\xA0\x07\x30\x05\x82\x01a\x05\x00",
+        CertRule::ExtensionValue,
+        11,
+        "NULL behind the base",
+    ),
+    (
+        b"\x04\x0E\x30\x0C\xA0\x0A\x30\x08\x82\x01a\x05\x00\x80\x01\x00",
+        CertRule::ExtensionValue,
+        11,
+        "NULL before a minimum",
+    ),
+    (
+        b"\x04\x08\x30\x06\xA0\x04\x30\x02\x05\x00",
+        CertRule::Name(NameFault::NameLayout),
+        8,
+        "NULL for the base",
+    ),
+    (
+        b"\x04\x09\x30\x07\xA0\x05\x30\x03\x80\x01\x00",
+        CertRule::Name(NameFault::NameLayout),
+        8,
+        "a minimum for the base",
+    ),
+    (
+        b"\x04\x0F\x30\x0D\xA0\x0B\x30\x09\x87\x07\x0A\x00\x00\xFF\x00\x00\x00",
+        CertRule::Name(NameFault::IpForm),
+        8,
+        "an address base of 7 octets",
+    ),
+    (
+        b"\x04\x10\x30\x0E\xA0\x0C\x30\x0A\x87\x08\x0A\x00\x00\x00\xFF\x00\xFF\x00",
+        CertRule::Name(NameFault::MaskForm),
+        8,
+        "a mask with a hole",
+    ),
+    (
+        b"\x04\x09\x30\x07\xA0\x05\x30\x03\x82\x01.",
+        CertRule::Name(NameFault::DnsForm),
+        8,
+        "a dot",
+    ),
+    (
+        b"\x04\x0C\x30\x0A\xA0\x08\x30\x06\x82\x01.\x80\x01\x00",
+        CertRule::Name(NameFault::DnsForm),
+        8,
+        "a dot and a minimum",
+    ),
+    (
+        b"\x04\x0A\x30\x08\xA0\x06\x30\x04\xA4\x02\x05\x00",
+        CertRule::Name(NameFault::NameLayout),
+        10,
+        "NULL in a directory base",
+    ),
+    (
+        b"\x04\x07\x30\x05\xA0\x03\x82\x01a",
+        CertRule::ExtensionValue,
+        6,
+        "a base that is no subtree",
+    ),
+    (
+        b"\x04\x10\x30\x0E\xA1\x05\x30\x03\x82\x01a\xA0\x05\x30\x03\x82\x01a",
+        CertRule::ExtensionValue,
+        11,
+        "the excluded first",
+    ),
+    (
+        b"\x04\x12\x30\x10\xA0\x05\x30\x03\x82\x01a\xA1\x05\x30\x03\x82\x01b\x05\x00",
+        CertRule::ExtensionValue,
+        18,
+        "NULL behind both",
+    ),
+    (
+        b"\x04\x04\x30\x02\xA2\x00",
+        CertRule::ExtensionValue,
+        4,
+        "another list",
+    ),
+    (b"\x04\x02\x31\x00", CertRule::ExtensionValue, 2, "a SET"),
+    (
+        b"\x04\x07\xA0\x05\x30\x03\x82\x01a",
+        CertRule::ExtensionValue,
+        2,
+        "a list alone",
+    ),
+    (b"\x04\x00", CertRule::Der(Rule::Truncated), 2, "nothing"),
+    (
+        b"\x04\x04\x30\x00\x05\x00",
+        CertRule::Der(Rule::Trailing),
+        4,
+        "two values",
+    ),
+    (
+        b"\x30\x10\x05\x00\x04\x0C\x30\x0A\xA0\x08\x30\x06\x82\x01a\x80\x01\x00",
+        CertRule::SubtreeBounds,
+        15,
+        "a minimum, further in",
+    ),
+];
+
 #[test]
 fn refuses_name_constraints(rt: HostRuntime) -> Result<(), Fail> {
-    let rows: [(&[u8], CertRule, usize, &str); 24] = [
-        (
-            b"\x04\x04\x30\x02\xA0\x00",
-            CertRule::ExtensionValue,
-            6,
-            "none permitted",
-        ),
-        (
-            b"\x04\x04\x30\x02\xA1\x00",
-            CertRule::ExtensionValue,
-            6,
-            "none excluded",
-        ),
-        (
-            b"\x04\x06\x30\x04\xA0\x02\x30\x00",
-            CertRule::ExtensionValue,
-            8,
-            "no base",
-        ),
-        (
-            b"\x04\x0C\x30\x0A\xA0\x08\x30\x06\x82\x01a\x80\x01\x00",
-            CertRule::SubtreeBounds,
-            11,
-            "a minimum",
-        ),
-        (
-            b"\x04\x0C\x30\x0A\xA1\x08\x30\x06\x82\x01a\x81\x01\x05",
-            CertRule::SubtreeBounds,
-            11,
-            "a maximum",
-        ),
-        (
-            b"\x04\x0E\x30\x0C\xA0\x0A\x30\x08\x82\x01a\x80\x01\x00\x05\x00",
-            CertRule::SubtreeBounds,
-            11,
-            "a minimum and NULL",
-        ),
-        (
-            b"\x04\x0B\x30\x09\xA0\x07\x30\x05\x82\x01a\x05\x00",
-            CertRule::ExtensionValue,
-            11,
-            "NULL behind the base",
-        ),
-        (
-            b"\x04\x0E\x30\x0C\xA0\x0A\x30\x08\x82\x01a\x05\x00\x80\x01\x00",
-            CertRule::ExtensionValue,
-            11,
-            "NULL before a minimum",
-        ),
-        (
-            b"\x04\x08\x30\x06\xA0\x04\x30\x02\x05\x00",
-            CertRule::Name(NameFault::NameLayout),
-            8,
-            "NULL for the base",
-        ),
-        (
-            b"\x04\x09\x30\x07\xA0\x05\x30\x03\x80\x01\x00",
-            CertRule::Name(NameFault::NameLayout),
-            8,
-            "a minimum for the base",
-        ),
-        (
-            b"\x04\x0F\x30\x0D\xA0\x0B\x30\x09\x87\x07\x0A\x00\x00\xFF\x00\x00\x00",
-            CertRule::Name(NameFault::IpForm),
-            8,
-            "an address base of 7 octets",
-        ),
-        (
-            b"\x04\x10\x30\x0E\xA0\x0C\x30\x0A\x87\x08\x0A\x00\x00\x00\xFF\x00\xFF\x00",
-            CertRule::Name(NameFault::MaskForm),
-            8,
-            "a mask with a hole",
-        ),
-        (
-            b"\x04\x09\x30\x07\xA0\x05\x30\x03\x82\x01.",
-            CertRule::Name(NameFault::DnsForm),
-            8,
-            "a dot",
-        ),
-        (
-            b"\x04\x0C\x30\x0A\xA0\x08\x30\x06\x82\x01.\x80\x01\x00",
-            CertRule::Name(NameFault::DnsForm),
-            8,
-            "a dot and a minimum",
-        ),
-        (
-            b"\x04\x0A\x30\x08\xA0\x06\x30\x04\xA4\x02\x05\x00",
-            CertRule::Name(NameFault::NameLayout),
-            10,
-            "NULL in a directory base",
-        ),
-        (
-            b"\x04\x07\x30\x05\xA0\x03\x82\x01a",
-            CertRule::ExtensionValue,
-            6,
-            "a base that is no subtree",
-        ),
-        (
-            b"\x04\x10\x30\x0E\xA1\x05\x30\x03\x82\x01a\xA0\x05\x30\x03\x82\x01a",
-            CertRule::ExtensionValue,
-            11,
-            "the excluded first",
-        ),
-        (
-            b"\x04\x12\x30\x10\xA0\x05\x30\x03\x82\x01a\xA1\x05\x30\x03\x82\x01b\x05\x00",
-            CertRule::ExtensionValue,
-            18,
-            "NULL behind both",
-        ),
-        (
-            b"\x04\x04\x30\x02\xA2\x00",
-            CertRule::ExtensionValue,
-            4,
-            "another list",
-        ),
-        (b"\x04\x02\x31\x00", CertRule::ExtensionValue, 2, "a SET"),
-        (
-            b"\x04\x07\xA0\x05\x30\x03\x82\x01a",
-            CertRule::ExtensionValue,
-            2,
-            "a list alone",
-        ),
-        (b"\x04\x00", CertRule::Der(Rule::Truncated), 2, "nothing"),
-        (
-            b"\x04\x04\x30\x00\x05\x00",
-            CertRule::Der(Rule::Trailing),
-            4,
-            "two values",
-        ),
-        (
-            b"\x30\x10\x05\x00\x04\x0C\x30\x0A\xA0\x08\x30\x06\x82\x01a\x80\x01\x00",
-            CertRule::SubtreeBounds,
-            15,
-            "a minimum, further in",
-        ),
-    ];
-    for (octets, rule, at, what) in rows {
+    for (octets, rule, at, what) in REFUSED_NAME_CONSTRAINTS {
         let answer = NameConstraints::read(rt.alloc(), octet_string(octets)?);
         assert!(rt;
             answer.err() == Some(CertFault::Refused(rule, at)),
@@ -412,65 +416,66 @@ fn constraints_of(
     value_of(alloc, 0x04, &value_of(alloc, 0x30, &lists)?)
 }
 
+const COUNTS_OF_SUBTREES: [(usize, usize, &[u8], Option<(CertRule, usize)>, &str); 10] = [
+    (2048, 2048, b"", None, "4,096 in both"),
+    (4096, 0, b"", None, "4,096 permitted"),
+    (0, 4096, b"", None, "4,096 excluded"),
+    (
+        2048,
+        2049,
+        b"",
+        Some((CertRule::Limit, 20_496)),
+        "4,097 in both",
+    ),
+    (
+        4097,
+        0,
+        b"",
+        Some((CertRule::Limit, 20_492)),
+        "4,097 permitted",
+    ),
+    (
+        0,
+        4097,
+        b"",
+        Some((CertRule::Limit, 20_492)),
+        "4,097 excluded",
+    ),
+    (
+        4096,
+        1,
+        b"",
+        Some((CertRule::Limit, 20_494)),
+        "one excluded behind 4,096 permitted",
+    ),
+    (
+        1,
+        4095,
+        b"\x30\x00",
+        Some((CertRule::Limit, 20_494)),
+        "the limit before a missing base",
+    ),
+    (
+        1,
+        4095,
+        b"\x05\x00",
+        Some((CertRule::ExtensionValue, 20_494)),
+        "a wrong identifier before the limit",
+    ),
+    (
+        1,
+        4094,
+        b"\x30\x00",
+        Some((CertRule::ExtensionValue, 20_491)),
+        "no base in the 4,096th",
+    ),
+];
+
 /// A subtree takes 5 octets here, and the first list begins at 8. A list takes 2 octets more where it has one subtree, and 4
 /// where it has more.
 #[test]
 fn subtrees_have_a_limit(rt: HostRuntime) -> Result<(), Fail> {
-    let rows: [(usize, usize, &[u8], Option<(CertRule, usize)>, &str); 10] = [
-        (2048, 2048, b"", None, "4,096 in both"),
-        (4096, 0, b"", None, "4,096 permitted"),
-        (0, 4096, b"", None, "4,096 excluded"),
-        (
-            2048,
-            2049,
-            b"",
-            Some((CertRule::Limit, 20_496)),
-            "4,097 in both",
-        ),
-        (
-            4097,
-            0,
-            b"",
-            Some((CertRule::Limit, 20_492)),
-            "4,097 permitted",
-        ),
-        (
-            0,
-            4097,
-            b"",
-            Some((CertRule::Limit, 20_492)),
-            "4,097 excluded",
-        ),
-        (
-            4096,
-            1,
-            b"",
-            Some((CertRule::Limit, 20_494)),
-            "one excluded behind 4,096 permitted",
-        ),
-        (
-            1,
-            4095,
-            b"\x30\x00",
-            Some((CertRule::Limit, 20_494)),
-            "the limit before a missing base",
-        ),
-        (
-            1,
-            4095,
-            b"\x05\x00",
-            Some((CertRule::ExtensionValue, 20_494)),
-            "a wrong identifier before the limit",
-        ),
-        (
-            1,
-            4094,
-            b"\x30\x00",
-            Some((CertRule::ExtensionValue, 20_491)),
-            "no base in the 4,096th",
-        ),
-    ];
-    for (permitted, excluded, last, expected, what) in rows {
+    for (permitted, excluded, last, expected, what) in COUNTS_OF_SUBTREES {
         let octets = constraints_of(rt.alloc(), permitted, excluded, last)?;
         match (
             NameConstraints::read(rt.alloc(), octet_string(&octets)?),

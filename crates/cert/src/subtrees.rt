@@ -9,21 +9,11 @@ ghost use Rattle.names.specs.GeneralView.{subtree_base};
 ghost use Rattle.cert.specs.Fault.{as_name, GivesUnlessFull};
 ghost use Rattle.cert.specs.NameConstraints.{no_bounds, subtree, one_more_subtree, some_subtrees, subtrees};
 
-use crate::fault::{CertFault, CertRule, Refusal};
+use crate::fault::{CertFault, CertRule, Refusal, name_refusal};
 use crate::limit::{MOST_NAMES, check_room};
 use asn::{Cursor, Tlv};
 use names::Subtree;
 use std::alloc::Global;
-
-/// The base of a subtree.
-fn read_base(value: Tlv<'_>) -> Result<Subtree<'_>, Refusal>
-    ensures { Gives subtree_base result (as_name (base (part value.entry))) }
-{
-    match Subtree::base_at(value) {
-        Ok(base) => Ok(base),
-        Err((fault, at)) => Err((CertRule::Name(fault), at)),
-    }
-}
 
 /// The fault, at the next value, where a minimum or a maximum comes, or another value is left over.
 #[tactic(auto, unfolding(crate::specs::NameConstraints::no_bounds, asn::specs::Walk::check_that))]
@@ -45,7 +35,7 @@ fn read_subtree<'a>(members: Cursor<'a>) -> Result<Subtree<'a>, Refusal>
 {
     let mut members = members;
     let value = members.next_or(CertRule::ExtensionValue)?;
-    let base = read_base(value)?;
+    let base = Subtree::base_at(value).map_err(name_refusal)?;
     check_no_bounds(members)?;
     Ok(base)
 }

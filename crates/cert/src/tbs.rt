@@ -12,7 +12,7 @@ ghost use Rattle.cert.specs.TbsCertificate.{component, is_serial, serial_number,
 ghost use Rattle.cert.specs.Validity.{validity, seen_validity};
 
 use crate::algorithm::AlgorithmIdentifier;
-use crate::fault::{CertRule, Refusal};
+use crate::fault::{CertRule, Refusal, name_refusal};
 use crate::key_info::SubjectPublicKeyInfo;
 use crate::validity::Validity;
 use crate::version::Version;
@@ -59,10 +59,7 @@ fn serial_at(value: Tlv<'_>) -> Result<&[u8], Refusal>
 fn name_at(value: Tlv<'_>) -> Result<Name<'_>, Refusal>
     ensures { Gives name_contents result (distinguished_name (part value.entry)) }
 {
-    match Name::at(value) {
-        Ok(name) => Ok(name),
-        Err((fault, at)) => Err((CertRule::Name(fault), at)),
-    }
+    Name::at(value).map_err(name_refusal)
 }
 
 /// The issuer, whose name is not empty.

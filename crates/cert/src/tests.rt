@@ -104,78 +104,79 @@ fn reads_validities(rt: HostRuntime) -> Result<(), Fail> {
     Ok(())
 }
 
+const REFUSED_VALIDITIES: [(&[u8], CertRule, usize, &str); 12] = [
+    (
+        b"\x31\x1E\x17\x0D250101000000Z\x17\x0D260101000000Z",
+        CertRule::Layout,
+        0,
+        "a SET",
+    ),
+    (
+        b"\x17\x0D250101000000Z",
+        CertRule::Layout,
+        0,
+        "a time alone",
+    ),
+    (b"\x30\x00", CertRule::Layout, 2, "no time"),
+    (
+        b"\x30\x0F\x17\x0D250101000000Z",
+        CertRule::Layout,
+        17,
+        "one time",
+    ),
+    (
+        b"\x30\x12\x02\x01\x05\x17\x0D250101000000Z",
+        CertRule::Layout,
+        2,
+        "an INTEGER first",
+    ),
+    (
+        b"\x30\x12\x17\x0D250101000000Z\x02\x01\x05",
+        CertRule::Layout,
+        17,
+        "an INTEGER second",
+    ),
+    (
+        b"\x30\x20\x17\x0D250101000000Z\x17\x0D260101000000Z\x05\x00",
+        CertRule::Layout,
+        32,
+        "a value behind the times",
+    ),
+    (
+        b"\x30\x1E\x17\x0D251301000000Z\x17\x0D260101000000Z",
+        CertRule::Time,
+        2,
+        "month 13 first",
+    ),
+    (
+        b"\x30\x1E\x17\x0D250101000000Z\x17\x0D260230000000Z",
+        CertRule::Time,
+        17,
+        "30 February second",
+    ),
+    (
+        b"\x30\x0F\x17\x0D251301000000Z",
+        CertRule::Time,
+        2,
+        "month 13 alone",
+    ),
+    (
+        b"\x30\x1E\x18\x0D250101000000Z\x17\x0D260101000000Z",
+        CertRule::Time,
+        2,
+        "a UTCTime under the tag of GeneralizedTime",
+    ),
+    (
+        b"\x30\x20\x17\x0D250101000000Z\x17\x0F20260101000000Z",
+        CertRule::Time,
+        17,
+        "a GeneralizedTime under the tag of UTCTime",
+    ),
+];
+
 #[test]
 fn refuses_validities(rt: HostRuntime) -> Result<(), Fail> {
-    let rows: [(&[u8], CertRule, usize, &str); 12] = [
-        (
-            b"\x31\x1E\x17\x0D250101000000Z\x17\x0D260101000000Z",
-            CertRule::Layout,
-            0,
-            "a SET",
-        ),
-        (
-            b"\x17\x0D250101000000Z",
-            CertRule::Layout,
-            0,
-            "a time alone",
-        ),
-        (b"\x30\x00", CertRule::Layout, 2, "no time"),
-        (
-            b"\x30\x0F\x17\x0D250101000000Z",
-            CertRule::Layout,
-            17,
-            "one time",
-        ),
-        (
-            b"\x30\x12\x02\x01\x05\x17\x0D250101000000Z",
-            CertRule::Layout,
-            2,
-            "an INTEGER first",
-        ),
-        (
-            b"\x30\x12\x17\x0D250101000000Z\x02\x01\x05",
-            CertRule::Layout,
-            17,
-            "an INTEGER second",
-        ),
-        (
-            b"\x30\x20\x17\x0D250101000000Z\x17\x0D260101000000Z\x05\x00",
-            CertRule::Layout,
-            32,
-            "a value behind the times",
-        ),
-        (
-            b"\x30\x1E\x17\x0D251301000000Z\x17\x0D260101000000Z",
-            CertRule::Time,
-            2,
-            "month 13 first",
-        ),
-        (
-            b"\x30\x1E\x17\x0D250101000000Z\x17\x0D260230000000Z",
-            CertRule::Time,
-            17,
-            "30 February second",
-        ),
-        (
-            b"\x30\x0F\x17\x0D251301000000Z",
-            CertRule::Time,
-            2,
-            "month 13 alone",
-        ),
-        (
-            b"\x30\x1E\x18\x0D250101000000Z\x17\x0D260101000000Z",
-            CertRule::Time,
-            2,
-            "a UTCTime under the tag of GeneralizedTime",
-        ),
-        (
-            b"\x30\x20\x17\x0D250101000000Z\x17\x0F20260101000000Z",
-            CertRule::Time,
-            17,
-            "a GeneralizedTime under the tag of UTCTime",
-        ),
-    ];
-    for (octets, rule, at, what) in rows {
+    for (octets, rule, at, what) in REFUSED_VALIDITIES {
         assert!(rt; Validity::read(whole(octets)?) == Err((rule, at)), "{what}");
     }
     Ok(())
@@ -221,44 +222,45 @@ fn reads_extensions(rt: HostRuntime) -> Result<(), Fail> {
     Ok(())
 }
 
+const REFUSED_EXTENSIONS: [(&[u8], usize, &str); 9] = [
+    (b"\x31\x07\x06\x03\x55\x1D\x13\x04\x00", 0, "a SET"),
+    (b"\x30\x00", 2, "nothing inside"),
+    (b"\x30\x04\x04\x02\x30\x00", 2, "no OBJECT IDENTIFIER"),
+    (
+        b"\x30\x05\x06\x03\x55\x1D\x13",
+        7,
+        "the OBJECT IDENTIFIER alone",
+    ),
+    (
+        b"\x30\x08\x06\x03\x55\x1D\x13\x01\x01\xFF",
+        10,
+        "no OCTET STRING behind TRUE",
+    ),
+    (
+        b"\x30\x0C\x06\x03\x55\x1D\x13\x01\x01\x00\x04\x02\x30\x00",
+        7,
+        "FALSE",
+    ),
+    (
+        b"\x30\x0F\x06\x03\x55\x1D\x13\x01\x01\xFF\x01\x01\xFF\x04\x02\x30\x00",
+        10,
+        "TRUE twice",
+    ),
+    (
+        b"\x30\x07\x06\x03\x55\x1D\x13\x05\x00",
+        7,
+        "NULL for the OCTET STRING",
+    ),
+    (
+        b"\x30\x09\x06\x03\x55\x1D\x13\x04\x00\x05\x00",
+        9,
+        "a value behind the OCTET STRING",
+    ),
+];
+
 #[test]
 fn refuses_extensions(rt: HostRuntime) -> Result<(), Fail> {
-    let rows: [(&[u8], usize, &str); 9] = [
-        (b"\x31\x07\x06\x03\x55\x1D\x13\x04\x00", 0, "a SET"),
-        (b"\x30\x00", 2, "nothing inside"),
-        (b"\x30\x04\x04\x02\x30\x00", 2, "no OBJECT IDENTIFIER"),
-        (
-            b"\x30\x05\x06\x03\x55\x1D\x13",
-            7,
-            "the OBJECT IDENTIFIER alone",
-        ),
-        (
-            b"\x30\x08\x06\x03\x55\x1D\x13\x01\x01\xFF",
-            10,
-            "no OCTET STRING behind TRUE",
-        ),
-        (
-            b"\x30\x0C\x06\x03\x55\x1D\x13\x01\x01\x00\x04\x02\x30\x00",
-            7,
-            "FALSE",
-        ),
-        (
-            b"\x30\x0F\x06\x03\x55\x1D\x13\x01\x01\xFF\x01\x01\xFF\x04\x02\x30\x00",
-            10,
-            "TRUE twice",
-        ),
-        (
-            b"\x30\x07\x06\x03\x55\x1D\x13\x05\x00",
-            7,
-            "NULL for the OCTET STRING",
-        ),
-        (
-            b"\x30\x09\x06\x03\x55\x1D\x13\x04\x00\x05\x00",
-            9,
-            "a value behind the OCTET STRING",
-        ),
-    ];
-    for (octets, at, what) in rows {
+    for (octets, at, what) in REFUSED_EXTENSIONS {
         let answer = Extension::read(whole(octets)?, CertRule::Layout);
         assert!(rt; answer.err() == Some((CertRule::Layout, at)), "{what}");
     }
