@@ -1,3 +1,4 @@
 pub mod TreeWords
 pub mod Outcomes
 pub mod ShowWords
+pub mod PrintsWords

@@ -1,7 +1,7 @@
 use crate::{Kind, Line, command_of};
 
 // Whether each command line is refused (its text belongs on standard error) or asks for help.
-const ANSWERED: [(&[&str], bool); 19] = [
+const ANSWERED: [(&[&str], bool); 30] = [
     (&["x509check"], true),
     (&[], true),
     (&["x509check", "tree"], true),
@@ -15,11 +15,34 @@ const ANSWERED: [(&[&str], bool); 19] = [
     (&["x509check", "show", "--as", "crl", "a"], true),
     (&["x509check", "show", "--as", "", "a"], true),
     (&["x509check", "show", "a", "b"], true),
+    (&["x509check", "show", "--issuer", "i", "a"], true),
+    (&["x509check", "prints"], true),
+    (&["x509check", "prints", "a"], true),
+    (&["x509check", "prints", "--issuer", "i"], true),
+    (
+        &["x509check", "prints", "--issuer", "a", "--as", "cert"],
+        true,
+    ),
+    (&["x509check", "prints", "--issuer", "i", "a", "b"], true),
+    (
+        &["x509check", "prints", "--issuer", "i", "--issuer", "j", "a"],
+        true,
+    ),
+    (
+        &["x509check", "prints", "--issuer", "i", "--as", "crl", "a"],
+        true,
+    ),
+    (
+        &["x509check", "prints", "--issuer", "--as", "cert", "a"],
+        true,
+    ),
+    (&["x509check", "prints", "a", "--issuer"], true),
     (&["x509check", "--version"], true),
     (&["x509check", "--help"], false),
     (&["x509check", "-h"], false),
     (&["x509check", "tree", "--help"], false),
     (&["x509check", "show", "--help"], false),
+    (&["x509check", "prints", "--help"], false),
     (&["x509check", "help", "tree"], false),
 ];
 
@@ -27,6 +50,59 @@ fn show(file: &str) -> Line<'_> {
     Line::Show {
         kind: Kind::Certificate,
         file,
+    }
+}
+
+fn prints<'a>(issuer: &'a str, file: &'a str) -> Line<'a> {
+    Line::Prints {
+        issuer,
+        kind: Kind::Certificate,
+        file,
+    }
+}
+
+// Command lines of `prints`, and the lines that they are.
+const PRINTS: [(&[&str], &str, &str); 6] = [
+    (
+        &["x509check", "prints", "--issuer", "i.der", "a.der"],
+        "i.der",
+        "a.der",
+    ),
+    (
+        &["x509check", "prints", "a.der", "--issuer", "i.der"],
+        "i.der",
+        "a.der",
+    ),
+    (
+        &["x509check", "prints", "--issuer=i.der", "--as", "cert", "a"],
+        "i.der",
+        "a",
+    ),
+    (
+        &["x509check", "prints", "--as=cert", "a", "--issuer", "a"],
+        "a",
+        "a",
+    ),
+    (
+        &["x509check", "prints", "--issuer", "prints", "show"],
+        "prints",
+        "show",
+    ),
+    (
+        &["x509check", "prints", "--issuer=--as", "--", "--issuer"],
+        "--as",
+        "--issuer",
+    ),
+];
+
+#[test]
+fn a_line_has_both_files(rt: HostRuntime) {
+    for (words, issuer, file) in PRINTS {
+        let Ok(line) = command_of(rt.alloc(), words) else {
+            assert!(rt; false, "{words:?} is refused");
+            return;
+        };
+        assert_eq!(rt; line, prints(issuer, file), "{words:?}");
     }
 }
 

@@ -184,7 +184,7 @@ pub(crate) fn read_attribute<'a>(
 }
 
 /// Whether values of the type are compared as texts.
-pub(crate) fn is_text(tag: u8) -> bool
+pub fn is_text(tag: u8) -> bool
     ensures { result ≡ is_text tag }
 {
     matches!(tag, UTF8_STRING | PRINTABLE_STRING | IA5_STRING)

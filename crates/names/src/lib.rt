@@ -18,7 +18,7 @@ mod repetition;
 mod run;
 mod subtree;
 
-pub use attribute::Attribute;
+pub use attribute::{Attribute, is_text};
 pub use dns::{Domain, domain_laws, is_dns_name};
 pub use fault::{NameFault, Refusal};
 pub use general::{Form, General};

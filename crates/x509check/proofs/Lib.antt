@@ -4,3 +4,4 @@ pub mod Shown
 pub mod Joining
 pub mod Oids
 pub mod Masks
+pub mod Failures

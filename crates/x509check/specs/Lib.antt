@@ -4,6 +4,8 @@ pub mod OidText
 pub mod NameText
 pub mod GeneralText
 pub mod CertificateText
+pub mod FingerprintText
 pub mod Unwritten
 pub mod Report
+pub mod Failures
 pub mod Outcome

@@ -1,10 +1,11 @@
 -- Distinguished names as text: a slash before each RDN, a plus between its attributes, each `OID=VALUE`.
-use Rattle.std.specs.Prelude.{ℕ, ◌==◌, ◌||◌, Bool, List, [], ◌∷◌, ◌++◌, codes, if◌then◌else◌}
+use Rattle.std.specs.Prelude.{ℕ, Bool, List, [], ◌∷◌, ◌++◌, codes, if◌then◌else◌}
 use Rattle.std.specs.List.{flat_map}
 use Rattle.hex.specs.Hex.{encode_lower}
 use Rattle.asn.specs.Identifier.{is_constructed}
 use Rattle.asn.specs.Place.{Place, tag, body}
 use Rattle.asn.specs.Members.{members}
+use Rattle.names.specs.AttributeValue.{is_text}
 use Rattle.x509check.specs.EscapedText.{escaped}
 use Rattle.x509check.specs.OidText.{oid_text}
 
@@ -15,11 +16,7 @@ inner_of constructed value = if constructed then (members value).values else []
 abbrev pub inner : Place → List Place
 inner value = inner_of (is_constructed (tag value)) value
 
--- UTF8String, PrintableString and IA5String are texts
-abbrev pub is_text : ℕ → Bool
-is_text identifier = identifier == 12 || identifier == 19 || identifier == 22
-
--- the text, or for another value all its octets
+-- the text of a UTF8String, PrintableString or IA5String, or for another value all its octets
 abbrev pub value_text : Place → List ℕ
 value_text value = if is_text (tag value) then escaped (body value) else 35 ∷ encode_lower value.octets
 

@@ -1,45 +1,64 @@
 -- What a run has done, by the status that it answers.
-use Rattle.std.specs.Prelude.{◌≡◌, ◌≢◌, ◌⊎◌, ℕ, List, Option, Ok, Err}
+use Rattle.std.specs.Prelude.{◌≡◌, ◌≢◌, ◌⊎◌, ℕ, List, Option, Ok}
 use Rattle.std.specs.Io.KnownBytes.{Appends}
 use Rattle.clap.specs.Words.{Text}
 use Rattle.clap.specs.declared.error.kind.ErrorKind.{ErrorKind}
 use Rattle.clap.specs.declared.error.kind.ErrorKind.TheVariants.{DisplayHelp, DisplayVersion, OutOfMemory}
 use Rattle.command_line.specs.CommandLine.{AreRefusedWith, Reads}
 use Rattle.command_line.specs.declared.line.Line.{Line}
-use Rattle.command_line.specs.declared.line.Line.TheVariants.{Tree, Show}
-use Rattle.command_line.specs.declared.line.Kind.TheVariants as Kind
+use Rattle.command_line.specs.declared.line.Line.TheVariants.{Tree, Show, Prints}
+use Rattle.command_line.specs.declared.line.Kind.{Kind}
+use Rattle.command_line.specs.declared.line.Kind.TheVariants.{Certificate}
 use Rattle.asn.specs.Value.{Value}
-use Rattle.asn.specs.FirstFault.{IsFirstFault}
+use Rattle.asn.specs.Encoding.{Encodes}
 use Rattle.x509check.specs.declared.refusal.Failure.{Failure}
-use Rattle.x509check.specs.declared.refusal.Failure.TheVariants.{Refused, NoCertificate, Unreadable}
-use Rattle.cert.specs.Certificate.{Certificate, certificate}
+use Rattle.cert.specs.Certificate.{Certificate as Fields, certificate}
+use Rattle.cert.specs.SubjectPublicKeyInfo.{SubjectPublicKeyInfo}
 use Rattle.x509check.specs.Printed.{lines_of}
 use Rattle.x509check.specs.CertificateText.{certificate_text}
+use Rattle.x509check.specs.FingerprintText.{certificate_print_line}
+use Rattle.x509check.specs.Failures.{Holding, IsFailureOn}
+use Rattle.x509check.specs.Report.{status_of}
 
 -- done, refused input, words that are no line, a failed file or writer or want of memory
 abbrev pub IsStatus : ℕ → Type 0
 IsStatus status = (status ≡ 0) ⊎ (status ≡ 4) ⊎ (status ≡ 5) ⊎ (status ≡ 6)
 
--- what the line asks for was written: of `tree`, the lines of a value; of `show`, those of a certificate that was read
-abbrev pub IsDone : Line → Option (List ℕ) → Option (List ℕ) → Type 0
-IsDone (Tree file) old new = (value : Value) × Appends old new (lines_of 0 value)
-IsDone (Show Kind.Certificate file) old new =
-    (octets : List ℕ) × (read : Certificate) × (certificate octets ≡ Ok read)
-    × Appends old new (certificate_text read)
+-- the file holds the octets of this certificate
+abbrev pub HoldsCertificate : Holding → List ℕ → Fields → Type 0
+HoldsCertificate holds file read =
+    (octets : List ℕ) × holds file octets × (certificate octets ≡ Ok read)
 
--- a failure on the file: it names that file, and its fault is the first of some octets
-abbrev pub IsFailureOn : List ℕ → Failure → Type 0
-IsFailureOn file (Refused named fault) =
-    (named.now ≡ file) × ((octets : List ℕ) × IsFirstFault octets fault)
-IsFailureOn file (NoCertificate named rule at) =
-    (named.now ≡ file) × ((octets : List ℕ) × (certificate octets ≡ Err (rule, at)))
-IsFailureOn file (Unreadable named) = named.now ≡ file
-IsFailureOn file _ = Unit {0}
+-- the fingerprints of the file under this key: of a certificate, its line
+abbrev pub ArePrints : Holding → SubjectPublicKeyInfo → Kind → List ℕ → List ℕ → Type 0
+ArePrints holds key_info Certificate file text =
+    (read : Fields) × HoldsCertificate holds file read
+    × (text ≡ certificate_print_line key_info read)
 
--- a failure on what the line names
-abbrev pub IsFailureOf : Line → Failure → Type 0
-IsFailureOf (Tree file) failure = IsFailureOn file.now failure
-IsFailureOf (Show kind file) failure = IsFailureOn file.now failure
+-- the text that the line asks for: of `tree`, the lines of the value whose encoding the file holds; of `show`, those of the
+-- certificate in the file; of `prints`, the fingerprints of the file under the key in the issuer's certificate
+abbrev pub IsAnswer : Holding → Line → List ℕ → Type 0
+IsAnswer holds (Tree file) text =
+    (octets : List ℕ) × (value : Value) × holds file.now octets × Encodes octets value
+    × (text ≡ lines_of 0 value)
+IsAnswer holds (Show Certificate file) text =
+    (read : Fields) × HoldsCertificate holds file.now read × (text ≡ certificate_text read)
+IsAnswer holds (Prints issuer kind file) text =
+    (signer : Fields) × HoldsCertificate holds issuer.now signer
+    × ArePrints holds signer.key_info kind file.now text
+
+-- that text was written
+abbrev pub IsDone : Holding → Line → Option (List ℕ) → Option (List ℕ) → Type 0
+IsDone holds line old new = (text : List ℕ) × IsAnswer holds line text × Appends old new text
+
+-- a failure on what the line names; on the file of `prints` only where the issuer's holds a certificate
+abbrev pub IsFailureOf : Holding → Line → Failure → Type 0
+IsFailureOf holds (Tree file) failure = IsFailureOn holds file.now failure
+IsFailureOf holds (Show kind file) failure = IsFailureOn holds file.now failure
+IsFailureOf holds (Prints issuer kind file) failure =
+    IsFailureOn holds issuer.now failure
+    ⊎ ((signer : Fields) × HoldsCertificate holds issuer.now signer
+    × IsFailureOn holds file.now failure)
 
 abbrev pub IsHelp : ErrorKind → Type 0
 IsHelp kind = (kind ≡ DisplayHelp) ⊎ (kind ≡ DisplayVersion)
@@ -49,10 +68,16 @@ abbrev pub IsMistake : ErrorKind → Type 0
 IsMistake kind = (kind ≢ OutOfMemory) × (IsHelp kind → ⊥)
 
 -- what the words ask for was written, or they ask for help
-abbrev pub HasAnswered : List Text → Option (List ℕ) → Option (List ℕ) → Type 0
-HasAnswered words old new =
-    ((line : Line) × Reads words line × IsDone line old new)
+abbrev pub HasAnswered : Holding → List Text → Option (List ℕ) → Option (List ℕ) → Type 0
+HasAnswered holds words old new =
+    ((line : Line) × Reads words line × IsDone holds line old new)
     ⊎ ((kind : ErrorKind) × AreRefusedWith words kind × IsHelp kind)
+
+-- the words are a line, and what a file that it names holds was refused
+abbrev pub HasRefused : Holding → List Text → Type 0
+HasRefused holds words =
+    (line : Line) × (failure : Failure) × Reads words line × IsFailureOf holds line failure
+    × (status_of failure ≡ 4)
 
 -- something is wrong with the words
 abbrev pub AreMistaken : List Text → Type 0

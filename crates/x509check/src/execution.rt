@@ -1,25 +1,24 @@
 //! One run of the program.
-ghost use Rattle.std.specs.Prelude.{◌≡◌, ◌≢◌, IfErr, IfOk, MatchResult, Ok, OnOk, map};
+ghost use Rattle.std.specs.Prelude.{◌≡◌, ◌≢◌, ℕ, List, IfErr, MatchResult, Ok, OnOk, map};
 ghost use Rattle.clap.specs.Words.{kind_of};
-ghost use Rattle.asn.specs.Value.{Value};
 ghost use Rattle.std.specs.Io.KnownBytes.{Appends};
-ghost use Rattle.command_line.specs.CommandLine.{Reads};
-ghost use Rattle.cert.specs.Certificate.{Certificate as CertificateFields, certificate, seen_certificate};
-ghost use Rattle.x509check.specs.Printed.{lines_of};
+ghost use Rattle.cert.specs.Certificate.{Certificate as CertificateFields, certificate};
+ghost use Rattle.cert.specs.SubjectPublicKeyInfo.{seen_key_info};
 ghost use Rattle.x509check.specs.CertificateText.{certificate_text};
+ghost use Rattle.x509check.specs.FingerprintText.{certificate_print_line};
 ghost use Rattle.x509check.specs.Report.{status_of};
-ghost use Rattle.x509check.specs.Outcome.{AreMistaken, HasAnswered, IsDone, IsFailureOf, IsFailureOn, IsHelp, IsMistake, IsStatus};
+ghost use Rattle.x509check.specs.Failures.{IsFailureOn, IsJust};
+ghost use Rattle.x509check.specs.Outcome.{AreMistaken, ArePrints, HasAnswered, HasRefused, IsDone, IsFailureOf, IsHelp, IsMistake, IsStatus};
 
-use crate::files::octets_of;
-use crate::printing::{TreeFault, certificate_to, tree_to};
+use crate::files::{Source, read_certificate};
+use crate::printing::{TreeFault, certificate_print_to, certificate_to, tree_to};
 use crate::refusal::Failure;
-use cert::{CertFault, Certificate};
+use cert::SubjectPublicKeyInfo;
 use clap::error::ErrorKind;
 use command_line::{Kind, Line, command_of};
 use std::alloc::Global;
 use std::io;
 use std::io::Write;
-use std::rt::Files;
 
 const DONE: u8 = 0;
 
@@ -28,8 +27,8 @@ const MISTAKEN: u8 = 5;
 /// Does what the words ask for, of which the first is the program's name, and answers the exit status: 0 for what was
 /// done and for help, 4 for input that was refused, 5 for words that are no command line, 6 for a file or a writer that
 /// failed and for want of memory. Each status past 0 comes with a text on `err`.
-pub fn execute<R: Files + AllocGlobal, O: Write, E: Write>(
-    rt: &R,
+pub fn execute<S: Source, O: Write, E: Write>(
+    source: &S,
     alloc: Global,
     words: &[&str],
     out: &mut O,
@@ -37,14 +36,15 @@ pub fn execute<R: Files + AllocGlobal, O: Write, E: Write>(
 ) -> u8
     ensures status { IsStatus result }
     ensures answered { result ≡ 0
-        → HasAnswered (map (λ w. w.now) words.now) (O.contents out.old) (O.contents out.new) }
-    ensures refused { result ≡ 4
-        → (out.new ≡ out.old) × ((line : Line) × Reads (map (λ w. w.now) words.now) line) }
+        → HasAnswered (S.holds source.now) (map (λ w. w.now) words.now)
+        (O.contents out.old) (O.contents out.new) }
+    ensures refused { result ≡ 4 → (out.new ≡ out.old)
+        × HasRefused (S.holds source.now) (map (λ w. w.now) words.now) }
     ensures mistaken { result ≡ 5
         → (out.new ≡ out.old) × AreMistaken (map (λ w. w.now) words.now) }
 {
     match command_of(alloc, words) {
-        Ok(line) => finish(run(rt, alloc, &line, out), err),
+        Ok(line) => finish(run(source, alloc, &line, out), err),
         Err(error) => explain(&error, out, err),
     }
 }
@@ -62,34 +62,46 @@ fn finish<E: Write>(outcome: Result<(), Failure<'_>>, err: &mut E) -> u8
     }
 }
 
-fn run<'a, R: Files + AllocGlobal, O: Write>(
-    rt: &R,
+fn run<'a, S: Source, O: Write>(
+    source: &S,
     alloc: Global,
     line: &Line<'a>,
     out: &mut O,
 ) -> Result<(), Failure<'a>>
-    ensures done { OnOk result (IsDone line.now (O.contents out.old) (O.contents out.new)) }
-    ensures fails { IfErr result (IsFailureOf line.now) }
+    ensures done { OnOk result
+        (IsDone (S.holds source.now) line.now (O.contents out.old) (O.contents out.new)) }
+    ensures fails { IfErr result (IsFailureOf (S.holds source.now) line.now) }
     ensures refused { IfErr result (λ failure. status_of failure ≡ 4 → out.new ≡ out.old) }
 {
-    match line {
-        Line::Tree { file } => tree(rt, file, out)?,
-        Line::Show { kind, file } => show(rt, alloc, *kind, file, out)?,
-    }
+    write_answer(source, alloc, line, out)?;
     out.flush().map_err(|_| Failure::Unwritable)
 }
 
-fn tree<'a, R: Files + AllocGlobal, O: Write>(
-    rt: &R,
-    file: &'a str,
+fn write_answer<'a, S: Source, O: Write>(
+    source: &S,
+    alloc: Global,
+    line: &Line<'a>,
     out: &mut O,
 ) -> Result<(), Failure<'a>>
-    ensures done { OnOk result ((value : Value)
-        × Appends (O.contents out.old) (O.contents out.new) (lines_of 0 value)) }
-    ensures fails { IfErr result (IsFailureOn file.entry.now) }
+    ensures done { OnOk result
+        (IsDone (S.holds source.now) line.now (O.contents out.old) (O.contents out.new)) }
+    ensures fails { IfErr result (IsFailureOf (S.holds source.now) line.now) }
     ensures refused { IfErr result (λ failure. status_of failure ≡ 4 → out.new ≡ out.old) }
 {
-    let octets = octets_of(rt, file)?;
+    match line {
+        Line::Tree { file } => tree(source, file, out),
+        Line::Show { kind, file } => show(source, alloc, *kind, file, out),
+        Line::Prints { issuer, kind, file } => prints(source, alloc, issuer, *kind, file, out),
+    }
+}
+
+fn tree<'a, S: Source, O: Write>(source: &S, file: &'a str, out: &mut O) -> Result<(), Failure<'a>>
+    ensures done { OnOk result (IsDone (S.holds source.now) (Line.Tree file.entry)
+        (O.contents out.old) (O.contents out.new)) }
+    ensures fails { IfErr result (IsFailureOn (S.holds source.now) file.entry.now) }
+    ensures refused { IfErr result (λ failure. status_of failure ≡ 4 → out.new ≡ out.old) }
+{
+    let octets = source.octets_of(file)?;
     match tree_to(octets.as_slice(), out) {
         Ok(()) => Ok(()),
         Err(TreeFault::Refused(fault)) => Err(Failure::Refused { file, fault }),
@@ -97,36 +109,21 @@ fn tree<'a, R: Files + AllocGlobal, O: Write>(
     }
 }
 
-fn show<'a, R: Files + AllocGlobal, O: Write>(
-    rt: &R,
+fn show<'a, S: Source, O: Write>(
+    source: &S,
     alloc: Global,
     kind: Kind,
     file: &'a str,
     out: &mut O,
 ) -> Result<(), Failure<'a>>
-    ensures done { OnOk result
-        (IsDone (Line.Show kind file.entry) (O.contents out.old) (O.contents out.new)) }
-    ensures fails { IfErr result (IsFailureOn file.entry.now) }
+    ensures done { OnOk result (IsDone (S.holds source.now) (Line.Show kind file.entry)
+        (O.contents out.old) (O.contents out.new)) }
+    ensures fails { IfErr result (IsFailureOn (S.holds source.now) file.entry.now) }
     ensures refused { IfErr result (λ failure. status_of failure ≡ 4 → out.new ≡ out.old) }
 {
-    let octets = octets_of(rt, file)?;
+    let octets = source.octets_of(file)?;
     match kind {
         Kind::Certificate => show_certificate(alloc, file, octets.as_slice(), out),
-    }
-}
-
-fn read_certificate<'a, 'o>(
-    alloc: Global,
-    file: &'a str,
-    octets: &'o [u8],
-) -> Result<Certificate<'o>, Failure<'a>>
-    ensures reads { IfOk result (λ read. certificate octets.now ≡ Ok (seen_certificate read)) }
-    ensures fails { IfErr result (IsFailureOn file.entry.now) }
-{
-    match Certificate::read(alloc, octets) {
-        Ok(read) => Ok(read),
-        Err(CertFault::Refused(rule, at)) => Err(Failure::NoCertificate { file, rule, at }),
-        Err(CertFault::Memory) => Err(Failure::NoMemory),
     }
 }
 
@@ -138,11 +135,71 @@ fn show_certificate<'a, O: Write>(
 ) -> Result<(), Failure<'a>>
     ensures done { OnOk result ((read : CertificateFields) × (certificate octets.now ≡ Ok read)
         × Appends (O.contents out.old) (O.contents out.new) (certificate_text read)) }
-    ensures fails { IfErr result (IsFailureOn file.entry.now) }
+    ensures fails { IfErr result (IsFailureOn (IsJust octets.now) file.entry.now) }
     ensures refused { IfErr result (λ failure. status_of failure ≡ 4 → out.new ≡ out.old) }
 {
     let certificate = read_certificate(alloc, file, octets)?;
     certificate_to(&certificate, out).map_err(|_| Failure::Unwritable)
+}
+
+// The issuer's file comes first, so that the other one is looked at only where it holds a certificate.
+fn prints<'a, S: Source, O: Write>(
+    source: &S,
+    alloc: Global,
+    issuer: &'a str,
+    kind: Kind,
+    file: &'a str,
+    out: &mut O,
+) -> Result<(), Failure<'a>>
+    ensures done { OnOk result
+        (IsDone (S.holds source.now) (Line.Prints issuer.entry kind file.entry)
+        (O.contents out.old) (O.contents out.new)) }
+    ensures fails { IfErr result
+        (IsFailureOf (S.holds source.now) (Line.Prints issuer.entry kind file.entry)) }
+    ensures refused { IfErr result (λ failure. status_of failure ≡ 4 → out.new ≡ out.old) }
+{
+    let octets = source.octets_of(issuer)?;
+    let signer = read_certificate(alloc, issuer, octets.as_slice())?;
+    let key_info = &signer.subject_public_key_info;
+    print_under(source, alloc, key_info, kind, file, out)
+}
+
+// The fingerprints of the file under the key of its issuer.
+fn print_under<'a, S: Source, O: Write>(
+    source: &S,
+    alloc: Global,
+    key_info: &SubjectPublicKeyInfo<'_>,
+    kind: Kind,
+    file: &'a str,
+    out: &mut O,
+) -> Result<(), Failure<'a>>
+    ensures done { OnOk result ((text : List ℕ)
+        × ArePrints (S.holds source.now) (seen_key_info key_info.now) kind file.entry.now text
+        × Appends (O.contents out.old) (O.contents out.new) text) }
+    ensures fails { IfErr result (IsFailureOn (S.holds source.now) file.entry.now) }
+    ensures refused { IfErr result (λ failure. status_of failure ≡ 4 → out.new ≡ out.old) }
+{
+    let octets = source.octets_of(file)?;
+    match kind {
+        Kind::Certificate => print_certificate(alloc, key_info, file, octets.as_slice(), out),
+    }
+}
+
+fn print_certificate<'a, O: Write>(
+    alloc: Global,
+    key_info: &SubjectPublicKeyInfo<'_>,
+    file: &'a str,
+    octets: &[u8],
+    out: &mut O,
+) -> Result<(), Failure<'a>>
+    ensures done { OnOk result ((read : CertificateFields) × (certificate octets.now ≡ Ok read)
+        × Appends (O.contents out.old) (O.contents out.new)
+        (certificate_print_line (seen_key_info key_info.now) read)) }
+    ensures fails { IfErr result (IsFailureOn (IsJust octets.now) file.entry.now) }
+    ensures refused { IfErr result (λ failure. status_of failure ≡ 4 → out.new ≡ out.old) }
+{
+    let certificate = read_certificate(alloc, file, octets)?;
+    certificate_print_to(&certificate, key_info, out).map_err(|_| Failure::Unwritable)
 }
 
 // What clap answers in place of a line: help goes to standard output, what is wrong with the words to standard error.

@@ -6,6 +6,7 @@ use std::io::Write;
 use std::test::Fail;
 use std::{fs, io};
 
+mod fingerprints;
 mod refused;
 mod shown;
 mod tutorial;
@@ -36,7 +37,7 @@ const TREES: [(&str, u8, &str); 16] = [
 ];
 
 // Command lines, the status, and whether standard output has the text.
-const WORDS: [(&[&str], u8, bool); 14] = [
+const WORDS: [(&[&str], u8, bool); 20] = [
     (&["x509check"], 5, false),
     (&[], 5, false),
     (&["x509check", "tree"], 5, false),
@@ -47,8 +48,22 @@ const WORDS: [(&[&str], u8, bool); 14] = [
     (&["x509check", "show", "a", "b"], 5, false),
     (&["x509check", "show", "--as", "crl", "a"], 5, false),
     (&["x509check", "show", "--as", "cert"], 5, false),
+    (&["x509check", "prints", "a"], 5, false),
+    (&["x509check", "prints", "--issuer", "a"], 5, false),
+    (
+        &["x509check", "prints", "--issuer", "a", "b", "c"],
+        5,
+        false,
+    ),
+    (
+        &["x509check", "prints", "--issuer", "a", "--as", "crl", "b"],
+        5,
+        false,
+    ),
+    (&["x509check", "prints", "--as", "cert", "b"], 5, false),
     (&["x509check", "--help"], 0, true),
     (&["x509check", "show", "--help"], 0, true),
+    (&["x509check", "prints", "--help"], 0, true),
     (&["x509check", "tree", "--help"], 0, true),
     (&["x509check", "help"], 0, true),
 ];
@@ -325,6 +340,18 @@ const WANTING: &[u8] =
 
 const WANTING_LINES: &[u8] = b"key 4b\nalt dns n\ncritical 1.2.3\n";
 
+// Under the key of the same certificate; a script that takes the digest by Python's hashlib gives it.
+const WANTING_PRINT: &[u8] =
+    b"451df92c641e2a0ebfd83fc11ee1c309728f2a9a1e37994d3db2a79a4dcd6c91 certificate issuer\n";
+
+// Runs `prints` on a file of its own with these octets, for both of its files.
+fn prints_alone(rt: &HostRuntime, file: &str, octets: &[u8]) -> io::Result<Answer> {
+    fs::write(rt, file, octets)?;
+    let answer = answer_of(rt, &["x509check", "prints", "--issuer", file, file]);
+    fs::remove_file(rt, file)?;
+    Ok(answer)
+}
+
 /// Holds whether an allocation is refused or not: `rt try --test --fail-alloc N` refuses the Nth.
 #[test]
 fn wants_memory_or_answers(rt: HostRuntime) {
@@ -336,6 +363,10 @@ fn wants_memory_or_answers(rt: HostRuntime) {
     // A certificate of a DNS name and an unrecognised extension, which take memory to be read.
     if let Ok(answer) = show_of(&rt, "execution_wanting.der", WANTING) {
         let is_answered = answer.status == 0 && answer.out.ends_with(WANTING_LINES);
+        assert!(rt; is_answered || answer.status == 6, "{}", answer.status);
+    }
+    if let Ok(answer) = prints_alone(&rt, "execution_asking.der", WANTING) {
+        let is_answered = answer.status == 0 && answer.out.as_slice() == WANTING_PRINT;
         assert!(rt; is_answered || answer.status == 6, "{}", answer.status);
     }
 }
@@ -376,6 +407,8 @@ fn a_failed_output_cannot_be_written(rt: HostRuntime) -> Result<(), Fail> {
             let words = ["x509check", subcommand, file];
             assert!(rt; cannot_write(&rt, &words, takes_writes), "{subcommand}");
         }
+        let words = ["x509check", "prints", "--issuer", file, file];
+        assert!(rt; cannot_write(&rt, &words, takes_writes), "prints");
         assert!(rt; cannot_write(&rt, &["x509check", "--help"], takes_writes));
     }
     fs::remove_file(&rt, file)?;

@@ -10,28 +10,20 @@ ghost use Rattle.x509check.specs.NameText.{attribute_text, attributes_text, name
 use super::text::{write_escaped, write_hex};
 use crate::oid_text::write_oid;
 use asn::{Cursor, Tlv, whole};
-use names::Name;
+use names::{Name, is_text};
 use std::io;
 use std::io::Write;
-
-const UTF8_STRING: u8 = 12;
-
-const PRINTABLE_STRING: u8 = 19;
-
-const IA5_STRING: u8 = 22;
 
 // The value of an attribute: a text, or all octets of another value.
 fn write_value<W: Write>(value: Tlv<'_>, writer: &mut W) -> io::Result<()>
     ensures { OnOk result (Appends (W.contents writer.old) (W.contents writer.new)
         (value_text (part value.entry))) }
 {
-    match value.tag {
-        UTF8_STRING | PRINTABLE_STRING | IA5_STRING => write_escaped(value.body, writer),
-        _ => {
-            writer.write_all(b"#")?;
-            write_hex(value.whole, writer)
-        }
+    if is_text(value.tag) {
+        return write_escaped(value.body, writer);
     }
+    writer.write_all(b"#")?;
+    write_hex(value.whole, writer)
 }
 
 // AttributeTypeAndValue ::= SEQUENCE { type OBJECT IDENTIFIER, value ANY }

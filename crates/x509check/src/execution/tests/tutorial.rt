@@ -1,4 +1,4 @@
-//! The first page of docs/TUTORIAL.md: the words of its commands and what they answer.
+//! The pages of docs/TUTORIAL.md: the words of their commands and what they answer.
 
 use super::*;
 
@@ -109,6 +109,72 @@ fn the_tutorial_is_true(rt: HostRuntime) -> Result<(), Fail> {
         assert_eq!(rt; answer.err.as_slice(), err.as_bytes(), "{behind:?}");
     }
     for file in ["tutorial.der", "short.der", "changed.der"] {
+        fs::remove_file(&rt, file)?;
+    }
+    Ok(())
+}
+
+// examples/root.pem and examples/middle.pem, as DER: what OpenSSL made, once, by the commands of the second page.
+const ROOT: &str =
+    "308201973082013da00302010202143e79b0984ce1090437eeef461765884a9d7a1235300a06082a8648ce3d04030230213110300e060355040a0c074578616d706c65310d300b06035504030c04526f6f74301e170d3236313132323135343935355a170d3336313131393135343935355a30213110300e060355040a0c074578616d706c65310d300b06035504030c04526f6f743059301306072a8648ce3d020106082a8648ce3d03010703420004712b1111e4e4bac96d0259708fa2b56a6d81c15e04375b9d6312440aa9c4f259922aa275922f9d21d55b82a8e639934c37aa575d5d33e55502fb6910b13e9b7da3533051301d0603551d0e041604144786e4482092e1ec1e175169ad6e6db6bf9f5f94301f0603551d230418301680144786e4482092e1ec1e175169ad6e6db6bf9f5f94300f0603551d130101ff040530030101ff300a06082a8648ce3d0403020348003045022011b4798292a84c8ba87bcdbcf4c5ea7c55e82db4bf635917bb57fe87f2f96cf8022100a5855cc6fe0ca0fa7ac8ae9f90db347cced6e40cdef4522d38510c943bb97f29";
+
+const MIDDLE: &str =
+    "308201983082013fa003020102020102300a06082a8648ce3d04030230213110300e060355040a0c074578616d706c65310d300b06035504030c04526f6f74301e170d3236313132323135343935355a170d3331313132313135343935355a30233110300e060355040a0c074578616d706c65310f300d06035504030c064d6964646c653059301306072a8648ce3d020106082a8648ce3d03010703420004d687bc01d89078fd131cea1f00fe30526d9e0de41d2beda5a5f202fb1b7f0684f1a0fba4c1d35d7deaa12636768051fa5b4a58c2ce81007207a5f1ef3b8c5a83a366306430120603551d130101ff040830060101ff020100300e0603551d0f0101ff040403020106301d0603551d0e041604149ffb5e709ce6d2440779b976ccfa2c159e48a342301f0603551d230418301680144786e4482092e1ec1e175169ad6e6db6bf9f5f94300a06082a8648ce3d0403020347003044022079a08f117fad948de177466c374dcffb7f066752c532219366fe3500d767d1c102201a515a99f11bf65678667d28bf981009439679bf1faf3f1c5307b7b769604961";
+
+const ROOT_LINE: &str =
+    "81755799ff81bb8d6e555bcca171bd758edc43d9a1bd2bba3754a2051ad39729 certificate issuer\n";
+
+const MIDDLE_LINE: &str =
+    "7ef5a6ccd11a26719df9e0db466782a4106f21dad4fedc94da88d857d8ee8f7a certificate issuer\n";
+
+// The commands of the second page, of which `examples/verdicts` prints the lines too.
+const PRINTS: [(&[&str], u8, &str, &str); 4] = [
+    (
+        &["prints", "--issuer", "root.der", "middle.der"],
+        0,
+        MIDDLE_LINE,
+        "",
+    ),
+    (
+        &["prints", "--issuer", "root.der", "root.der"],
+        0,
+        ROOT_LINE,
+        "",
+    ),
+    (
+        &["prints", "--issuer", "root.der", "half.der"],
+        4,
+        "",
+        "x509check: half.der: refused 4 Truncated at 0\n",
+    ),
+    (
+        &["prints", "--issuer", "half.der", "middle.der"],
+        4,
+        "",
+        "x509check: half.der: refused 4 Truncated at 0\n",
+    ),
+];
+
+#[test]
+fn the_second_page_is_true(rt: HostRuntime) -> Result<(), Fail> {
+    let alloc = rt.alloc();
+    let mut octets = Vec::new(alloc);
+    push_octets(&mut octets, alloc, ROOT)?;
+    fs::write(&rt, "root.der", octets.as_slice())?;
+    let half = octets.get(..200).ok_or("octets")?;
+    fs::write(&rt, "half.der", half)?;
+    octets.clear();
+    push_octets(&mut octets, alloc, MIDDLE)?;
+    fs::write(&rt, "middle.der", octets.as_slice())?;
+    for (behind, status, out, err) in PRINTS {
+        let mut words: Vec<&str> = Vec::from_slice(alloc, &["x509check"])?;
+        words.extend_from_slice(behind)?;
+        let answer = answer_of(&rt, words.as_slice());
+        assert_eq!(rt; answer.status, status, "{behind:?}");
+        assert_eq!(rt; answer.out.as_slice(), out.as_bytes(), "{behind:?}");
+        assert_eq!(rt; answer.err.as_slice(), err.as_bytes(), "{behind:?}");
+    }
+    for file in ["root.der", "half.der", "middle.der"] {
         fs::remove_file(&rt, file)?;
     }
     Ok(())

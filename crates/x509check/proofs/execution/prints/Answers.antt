@@ -1,0 +1,18 @@
+use Rattle.std.proofs.Common.{rules}
+use Rattle.std.proofs.lemmas.Result.{on_ok_weaker}
+use Rattle.cert.specs.Certificate.{seen_certificate}
+use Rattle.x509check.specs.Outcome.{HoldsCertificate}
+use Rattle.x509check.proofs.Failures.{fails_later}
+use Rattle.x509check.proofs.execution.prints.Goals as goal
+
+pub returns-clause-done : goal.returns-clause-done
+returns-clause-done g c =
+    let signer = seen_certificate c.in_ok-signer.signer in
+    let held : HoldsCertificate (g.S.Source.holds c.args.source.now) c.args.issuer.now signer = search rules in
+    on_ok_weaker c.print_under.result (λ said. (said.0, (signer, held, said.1), said.2)) c.print_under.ensures.done
+
+pub returns-clause-fails : goal.returns-clause-fails
+returns-clause-fails g c =
+    let signer = seen_certificate c.in_ok-signer.signer in
+    let held : HoldsCertificate (g.S.Source.holds c.args.source.now) c.args.issuer.now signer = search rules in
+    fails_later (g.S.Source.holds c.args.source.now) c.args.issuer.now c.args.file.now signer c.print_under.result held c.print_under.ensures.fails
