@@ -158,7 +158,7 @@ counted run whole rest count h is = record {
 }
 
 -- a list of two parts, with no type twice
-value_in_first : (kind : List ℕ) (run rest : List Entry) (v : ComparedValue) → value_at kind run ≡ Some v → value_at kind (run ++ rest) ≡ Some v
+pub value_in_first : (kind : List ℕ) (run rest : List Entry) (v : ComparedValue) → value_at kind run ≡ Some v → value_at kind (run ++ rest) ≡ Some v
 value_in_first kind [] rest v e = let z : None ≡ Some v = sym (value_none kind) ∙ e in absurd cc
 value_in_first kind (d ∷ ds) rest v e =
     elim (cases_Bool (pointwise nat_eq kind d.0)) [

@@ -31,3 +31,6 @@ mod Agreement
 mod NewKinds
 mod Pointers
 pub mod Laws
+mod Sorting
+mod Batches
+mod Fronts

@@ -86,30 +86,6 @@ pub record IsLevel (n m inner outer : List RdnMap) : Type 0 where
   pub onward : IsWithin n m → IsWithin inner outer
   pub back : (rest : List RdnMap) → inner ≡ outer ++ rest → n ≡ m ++ rest
 
-pub level_more : (n m inner outer a b : List RdnMap) (x y : RdnMap) → IsLevel n m inner outer → inner ≡ x ∷ a → outer ≡ y ∷ b → x ≡ y → IsLevel n m a b
-level_more n m inner outer a b x y h p q e = record {
-  onward = λ w. let v = h.onward w in record {
-    rest = v.rest;
-    joined = let f : x ∷ a ≡ y ∷ (b ++ v.rest) = sym p ∙ (v.joined ∙ ap (λ (l : List RdnMap). l ++ v.rest) q) in cc;
-  };
-  back = λ rest f. h.back rest (p ∙ ((λ i. e i ∷ f i) ∙ sym (ap (λ (l : List RdnMap). l ++ rest) q)));
-}
-
-pub level_ends : (n m inner outer : List RdnMap) → IsLevel n m inner outer → outer ≡ [] → n ≡ m ++ inner
-level_ends n m inner outer h q = h.back inner (sym (ap (λ (l : List RdnMap). l ++ inner) q))
-
-pub level_short : (n m inner outer b : List RdnMap) (y : RdnMap) → IsLevel n m inner outer → inner ≡ [] → outer ≡ y ∷ b → IsWithin n m → ⊥
-level_short n m inner outer b y h p q w =
-    let v = h.onward w in
-    let f : [] ≡ y ∷ (b ++ v.rest) = sym p ∙ (v.joined ∙ ap (λ (l : List RdnMap). l ++ v.rest) q) in
-    cc
-
-pub level_differs : (n m inner outer a b : List RdnMap) (x y : RdnMap) → IsLevel n m inner outer → inner ≡ x ∷ a → outer ≡ y ∷ b → (x ≡ y → ⊥) → IsWithin n m → ⊥
-level_differs n m inner outer a b x y h p q d w =
-    let v = h.onward w in
-    let f : x ∷ a ≡ y ∷ (b ++ v.rest) = sym p ∙ (v.joined ∙ ap (λ (l : List RdnMap). l ++ v.rest) q) in
-    d (cc)
-
 -- names match where nothing follows
 pub nothing_follows : (n m rest : List RdnMap) (b : Bool) → n ≡ m ++ rest → (IsTrue b ↔ (rest ≡ [])) → (IsTrue b ↔ NamesMatch n m)
 nothing_follows n m rest b e h = (
@@ -182,9 +158,6 @@ module _ {X : Type 0} (P : X → Type 0) where
   any_parts x xs (zero, y, lt, is, p) = inl (subst P (sym is) p)
   any_parts x xs (suc k, y, lt, is, p) = inr (k, y, omega arith, is, p)
 
-  any_none : Any P [] → ⊥
-  any_none (k, y, lt, is, p) = omega arith
-
   pub any_here : (whole rest after : List X) (x : X) → IsAlike (Any P whole) (Any P rest) → rest ≡ x ∷ after → P x → Any P whole
   any_here whole rest after x h is p = h.back (subst (Any P) (sym is) (any_first x after p))
 
@@ -193,9 +166,6 @@ module _ {X : Type 0} (P : X → Type 0) where
     onward = λ a. elim (any_parts x after (subst (Any P) is (h.onward a))) [ inl p ↦ absurd (n p) | inr q ↦ q ];
     back = λ q. h.back (subst (Any P) (sym is) (any_later x after q));
   }
-
-  pub any_nowhere : (whole rest : List X) → IsAlike (Any P whole) (Any P rest) → rest ≡ [] → Any P whole → ⊥
-  any_nowhere whole rest h is a = any_none (subst (Any P) is (h.onward a))
 
 -- a set has a type where the search finds a value of it
 pub kind_found : (es : List Entry) (kind : List ℕ) → contains_key (rdn_map es) kind ≡ is_some (value_at kind es)

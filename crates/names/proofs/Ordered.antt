@@ -192,7 +192,7 @@ turned a b o e = nat_list_cmp_total.antisymm b a ∙ ap ordering_reverse e
 not_lesser : (o : Ordering) → o ≡ Less → is_lt o ≡ false → ⊥
 not_lesser o e f = both_ways (is_lt o) f (ap is_lt e)
 
-tied_or : (b p : List ℕ) (o : Ordering) → slice_cmp nat_cmp b p ≡ o → is_lt (slice_cmp nat_cmp b p) ≡ false → is_lt (slice_cmp nat_cmp p b) ≡ false → b ≡ p
+pub tied_or : (b p : List ℕ) (o : Ordering) → slice_cmp nat_cmp b p ≡ o → is_lt (slice_cmp nat_cmp b p) ≡ false → is_lt (slice_cmp nat_cmp p b) ≡ false → b ≡ p
 tied_or b p Less e f g = absurd (not_lesser (slice_cmp nat_cmp b p) e f)
 tied_or b p Equal e f g = same_kinds b p e
 tied_or b p Greater e f g = absurd (not_lesser (slice_cmp nat_cmp p b) (turned b p Greater e) g)

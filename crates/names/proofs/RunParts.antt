@@ -11,15 +11,15 @@ use Rattle.names.specs.DistinguishedName.{Entry}
 use Rattle.names.specs.NameParts.{entry_at, are_distinct}
 use Rattle.names.specs.NameView.{entry_of, entries_of}
 use Rattle.names.specs.Repetition.{comes_before}
-use Rattle.names.specs.Agreement.{rising, run_of, run_from, run_left}
+use Rattle.names.specs.Agreement.{entries_in, rising, run_of, run_from, run_left}
 
-pub run_left_next : (run : Run) (a : Attribute) → run.next ≡ Some a → run_left run ≡ entry_of a ∷ rising a.kind.now (entries_of run.others)
+pub run_left_next : (run : Run) (a : Attribute) → run.next ≡ Some a → run_left run ≡ entry_of a ∷ rising a.kind.now (entries_in run.others)
 unfolding run_left
-run_left_next run a e = ap (λ (o : Option Attribute). run_from o (entries_of run.others)) e
+run_left_next run a e = ap (λ (o : Option Attribute). run_from o (entries_in run.others)) e
 
 pub run_left_none : (run : Run) → run.next ≡ None → run_left run ≡ []
 unfolding run_left
-run_left_none run e = ap (λ (o : Option Attribute). run_from o (entries_of run.others)) e
+run_left_none run e = ap (λ (o : Option Attribute). run_from o (entries_in run.others)) e
 
 pub rising_more : (last : List ℕ) (rest others : List Entry) (e : Entry) → rest ≡ e ∷ others → comes_before last e.0 ≡ true → rising last rest ≡ e ∷ rising e.0 others
 rising_more last rest others e is before = ap (rising last) is ∙ rw before refl

@@ -1,7 +1,9 @@
 -- Where two sets agree, type by type, as it is counted run by run.
-use Rattle.std.specs.Prelude.{◌≡◌, ◌+◌, ℕ, false, List, [], ◌∷◌, Option, Some, None, is_some, if◌then◌else◌}
+use Rattle.std.specs.Prelude.{◌≡◌, ◌+◌, ℕ, false, List, [], ◌∷◌, map, Option, Some, None, is_some, if◌then◌else◌}
 use Rattle.std.specs.List.{AllByRecursion}
 use Rattle.names.specs.declared.run.Run.{Run}
+use Rattle.names.specs.declared.run.Source.{Source}
+use Rattle.names.specs.declared.run.Source.TheVariants.{Set, Batch}
 use Rattle.names.specs.declared.attribute.Attribute.{Attribute}
 use Rattle.names.specs.AttributeValue.{ComparedValue}
 use Rattle.names.specs.DistinguishedName.{Entry, value_at}
@@ -23,8 +25,13 @@ abbrev pub run_from : Option Attribute → List Entry → List Entry
 run_from None others = []
 run_from (Some next) others = entry_of next ∷ rising next.kind.now others
 
+-- the attributes of a source
+unfoldable pub entries_in : Source → List Entry
+entries_in (Set set) = entries_of set
+entries_in (Batch batch) = map entry_of batch.now
+
 unfoldable pub run_left : Run → List Entry
-run_left run = run_from run.next (entries_of run.others)
+run_left run = run_from run.next (entries_in run.others)
 
 -- what is left of a run has all of its types that do not come before this one
 pub record SearchesOn (kind : List ℕ) (run rest : List Entry) : Type 0 where

@@ -18,6 +18,8 @@ pub mod GeneralName
 pub mod GeneralSubtree
 pub mod Laws
 pub mod Bases
+pub mod Batch
+pub mod BatchView
 pub mod GeneralLayout
 pub mod GeneralView
 pub mod GeneralForms

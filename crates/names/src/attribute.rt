@@ -25,7 +25,7 @@ const PRINTABLE_STRING: u8 = 19;
 const IA5_STRING: u8 = 22;
 
 /// The type of an attribute and its value.
-#[derive(Clone, Copy)]
+#[derive(Clone, Copy, Default)]
 pub struct Attribute<'a> {
     /// The contents of the object identifier that names the type.
     pub kind: &'a [u8],
@@ -188,6 +188,19 @@ pub fn is_text(tag: u8) -> bool
     ensures { result ≡ is_text tag }
 {
     matches!(tag, UTF8_STRING | PRINTABLE_STRING | IA5_STRING)
+}
+
+impl<'a> Attribute<'a> {
+    /// An attribute of the type, with no contents.
+    pub(crate) fn of_type(kind: &'a [u8]) -> Attribute<'a>
+        ensures { result.kind.now ≡ kind.entry.now }
+    {
+        Attribute {
+            kind,
+            tag: 0,
+            contents: &[],
+        }
+    }
 }
 
 impl Attribute<'_> {

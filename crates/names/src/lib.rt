@@ -2,6 +2,7 @@
 #![tactic(auto)]
 
 mod attribute;
+mod batch;
 mod dns;
 mod fault;
 mod general;
@@ -10,7 +11,6 @@ mod ip;
 mod kinds;
 mod name;
 mod name_key;
-mod name_reading;
 mod preparation;
 mod rdn;
 mod rdn_sequence;
@@ -24,9 +24,8 @@ pub use fault::{NameFault, Refusal};
 pub use general::{Form, General};
 pub use general_reading::{coverage_laws, form_of_tag, general_laws};
 pub use ip::{IpFault, IpRange, is_ip_address, range_laws};
-pub use name::Name;
+pub use name::{Name, name_laws};
 pub use name_key::key_laws;
-pub use name_reading::name_laws;
 pub use preparation::{preparation_laws, prepared_text, same_prepared};
 pub use subtree::{Subtree, subtree_laws};
 

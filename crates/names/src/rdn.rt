@@ -8,9 +8,13 @@ ghost use Rattle.asn.specs.Members.{left};
 ghost use Rattle.names.specs.NameParts.{AreAttributes, are_distinct, entry_at};
 
 use crate::attribute::{Attribute, AttributeMembers};
+use crate::batch::{Batch, MOST};
 use crate::kinds::is_kind_before;
-use crate::run::Run;
+use crate::run::{Run, Source};
 use asn::Cursor;
+
+/// Sets of fewer attributes are compared without a batch.
+const FEW: usize = 64;
 
 /// A set of attributes, or those of it that have not been looked at yet.
 #[derive(Clone, Copy)]
@@ -23,6 +27,7 @@ pub(crate) struct Rdn<'a> {
 impl<'a> Rdn<'a> {
     ghost use Rattle.names.specs.NameView.{entry_of, entries_of, map_of};
     ghost use Rattle.names.specs.Agreement.{run_of};
+    ghost use Rattle.names.specs.Batch.{IsFrontCount, FrontDiffers};
 
     /// The first attribute, and those after it.
     #[tactic(auto, unfolding(crate::specs::NameView::entries_of))]
@@ -84,23 +89,86 @@ impl<'a> Rdn<'a> {
         rest
     }
 
+    /// Whether the set begins with a run as long as a batch, or is one run.
+    fn begins_with_long_run(&self) -> bool {
+        let mut rest = *self;
+        let mut last: &[u8] = &[];
+        for _ in 0..MOST {
+            match rest.split_first() {
+                Some((next, after)) if is_kind_before(last, next.kind) => {
+                    last = next.kind;
+                    rest = after;
+                }
+                Some(_) => return false,
+                None => return true,
+            }
+        }
+        true
+    }
+
+    /// How many attributes of the other set have a type of the run that this set begins with, and what is behind the run; `None`
+    /// where one has another value.
+    fn count_run(&self, other: &Rdn<'_>) -> Option<(usize, Rdn<'a>)>
+        requires { ¬ (entries_of self.now ≡ []) }
+        ensures { MatchOption result (FrontDiffers (entries_of self.now) (entries_of other.now))
+            (λ part. IsFrontCount (entries_of self.now) (entries_of other.now) (entries_of part.1) part.0) }
+    {
+        let behind = self.behind_run();
+        match Run::first(Source::Set(*self)).count_in(other) {
+            Some(count) => Some((count, behind)),
+            None => None,
+        }
+    }
+
+    /// The same of the batch that this set begins with.
+    #[inline(never)]
+    fn count_batch(&self, other: &Rdn<'_>) -> Option<(usize, Rdn<'a>)>
+        requires { ¬ (entries_of self.now ≡ []) }
+        ensures { MatchOption result (FrontDiffers (entries_of self.now) (entries_of other.now))
+            (λ part. IsFrontCount (entries_of self.now) (entries_of other.now) (entries_of part.1) part.0) }
+    {
+        let Some((first, others)) = self.split_first() else {
+            unreachable!();
+        };
+        let (batch, behind) = Batch::of_set(first, others);
+        match batch.run().count_in(other) {
+            Some(count) => Some((count, behind)),
+            None => None,
+        }
+    }
+
+    /// The same of a run, where it is long or the sets have few attributes, and else of a batch.
+    fn count_front(&self, other: &Rdn<'_>, few: bool) -> Option<(usize, Rdn<'a>)>
+        requires { ¬ (entries_of self.now ≡ []) }
+        ensures { MatchOption result (FrontDiffers (entries_of self.now) (entries_of other.now))
+            (λ part. IsFrontCount (entries_of self.now) (entries_of other.now) (entries_of part.1) part.0) }
+    {
+        if few || self.begins_with_long_run() {
+            self.count_run(other)
+        } else {
+            self.count_batch(other)
+        }
+    }
+
     /// Whether two sets have the same value, or both none, of each type that this set has: as many of its attributes have a type
     /// of the other set as it has.
     fn agrees_on_its_own(&self, other: &Rdn<'_>) -> bool
         ensures { IsTrue result
             ↔ AllByRecursion (λ e. AgreeAt (entries_of self.now) (entries_of other.now) e.0) (entries_of self.now) }
     {
+        let count = self.count();
         let mut rest = *other;
         let mut found = 0;
         while let Some((_, _)) = rest.split_first() {
-            let behind = rest.behind_run();
-            match Run::first(rest).count_in(self) {
-                Some(count) => found += count,
+            match rest.count_front(self, count < FEW) {
+                Some((more, behind)) => {
+                    found += more;
+                    rest = behind;
+                }
                 None => return false,
             }
-            rest = behind;
         }
-        found == self.count()
+        found == count
     }
 
     /// Whether the sets are one map, where one walk over both at once tells; `None` where it meets different types.
@@ -129,7 +197,7 @@ impl<'a> Rdn<'a> {
     }
 
     /// Whether the sets are one map from types to values as they are compared. Where their types are in one order, this takes
-    /// one walk over both; else one over this set for each run of the other.
+    /// one walk over both; else one over this set for each long run and each batch of the other.
     pub(crate) fn matches(&self, other: &Rdn<'_>) -> bool
         ensures { IsTrue result ↔ (map_of self.now ≡ map_of other.now) }
     {

@@ -1,4 +1,4 @@
-//! Attributes of a set whose types ascend.
+//! Attributes whose types ascend.
 
 ghost use Rattle.std.specs.Prelude.{◌≡◌, ◌∷◌, [], MatchOption, option_map};
 ghost use Rattle.names.specs.AttributeValue.{compared_value};
@@ -9,35 +9,64 @@ use crate::attribute::Attribute;
 use crate::kinds::is_kind_before;
 use crate::rdn::Rdn;
 
-/// A run, or what is left of it: the next attribute, and those behind it in the set. It ends where the types ascend no more.
+/// Where the attributes of a run stand: in a set, or in a batch, sorted.
+#[derive(Clone, Copy)]
+pub(crate) enum Source<'a> {
+    Set(Rdn<'a>),
+    Batch(&'a [Attribute<'a>]),
+}
+
+impl<'a> Source<'a> {
+    ghost use Rattle.names.specs.Agreement.{entries_in};
+
+    /// The first attribute, and those after it.
+    #[tactic(auto, unfolding(crate::specs::Agreement::entries_in))]
+    fn split_first(&self) -> Option<(Attribute<'a>, Source<'a>)>
+        ensures { MatchOption result (entries_in self.now ≡ [])
+            (λ parts. entries_in self.now ≡ entry_of parts.0 ∷ entries_in parts.1) }
+    {
+        match *self {
+            Source::Set(set) => match set.split_first() {
+                Some((first, others)) => Some((first, Source::Set(others))),
+                None => None,
+            },
+            Source::Batch(batch) => match batch.split_first() {
+                Some((first, others)) => Some((*first, Source::Batch(others))),
+                None => None,
+            },
+        }
+    }
+}
+
+/// A run, or what is left of it: the next attribute, and those behind it. It ends where the types ascend no more.
 #[derive(Clone, Copy)]
 pub(crate) struct Run<'a> {
     pub(crate) next: Option<Attribute<'a>>,
-    pub(crate) others: Rdn<'a>,
+    pub(crate) others: Source<'a>,
 }
 
 impl<'a> Run<'a> {
-    ghost use Rattle.names.specs.Agreement.{rising, run_of, run_left, SearchesOn, StopsAt, IsFoundPast, Fits, AllFit, IsCount};
+    ghost use Rattle.names.specs.Agreement.{entries_in, rising, run_of, run_left, SearchesOn, StopsAt, IsFoundPast, Fits, AllFit, IsCount};
 
-    /// The run that the set begins with.
-    pub(crate) fn first(set: Rdn<'a>) -> Run<'a>
-        ensures { run_left result ≡ run_of (entries_of set.entry) }
+    /// The run that the attributes begin with.
+    pub(crate) fn first(attributes: Source<'a>) -> Run<'a>
+        ensures { run_left result ≡ run_of (entries_in attributes.entry) }
     {
-        match set.split_first() {
+        match attributes.split_first() {
             Some((first, others)) => Run {
                 next: Some(first),
                 others,
             },
             None => Run {
                 next: None,
-                others: set,
+                others: attributes,
             },
         }
     }
 
     /// What is left behind the next attribute, which has this type.
     fn behind(self, last: &[u8]) -> Run<'a>
-        ensures { run_left result ≡ rising last.now (entries_of self.entry.others) }
+        ensures { run_left result ≡ rising last.now (entries_in self.entry.others) }
     {
         match self.others.split_first() {
             Some((next, others)) => {
@@ -58,7 +87,7 @@ impl<'a> Run<'a> {
     }
 
     /// This where the type does not come before the last that was looked for, else the whole run.
-    fn going_on(self, whole: Run<'a>, last: &[u8], kind: &[u8]) -> Run<'a>
+    pub(crate) fn going_on(self, whole: Run<'a>, last: &[u8], kind: &[u8]) -> Run<'a>
         requires { SearchesOn last.now (run_left whole) (run_left self) }
         ensures { SearchesOn kind.now (run_left whole.entry) (run_left result) }
     {
@@ -70,7 +99,7 @@ impl<'a> Run<'a> {
     }
 
     /// What is left behind the types that come before this one.
-    fn past(self, kind: &[u8]) -> Run<'a>
+    pub(crate) fn past(self, kind: &[u8]) -> Run<'a>
         ensures { IsFoundPast kind.now (run_left self.entry) (run_left result) }
     {
         let mut rest = self;
@@ -84,7 +113,7 @@ impl<'a> Run<'a> {
     }
 
     /// The next attribute, if it has the type.
-    fn of_kind(&self, kind: &[u8]) -> Option<Attribute<'a>>
+    pub(crate) fn of_kind(&self, kind: &[u8]) -> Option<Attribute<'a>>
         requires { StopsAt kind.now (run_left self.now) }
         ensures { option_map compared_value result ≡ value_at kind.now (run_left self.now) }
     {

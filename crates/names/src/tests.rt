@@ -6,6 +6,7 @@ use asn::{Oid, whole};
 use std::alloc::{AllocError, Global};
 use std::test::Fail;
 
+mod batches;
 mod comparison;
 mod layout;
 mod repetition;

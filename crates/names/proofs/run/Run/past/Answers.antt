@@ -1,7 +1,7 @@
 use Rattle.std.proofs.Common.{List, ◌∷◌, length, refl, sym, ap, ◌∙◌, arith}
 use Rattle.names.specs.DistinguishedName.{Entry}
-use Rattle.names.specs.NameView.{entry_of, entries_of}
-use Rattle.names.specs.Agreement.{rising, run_left}
+use Rattle.names.specs.NameView.{entry_of}
+use Rattle.names.specs.Agreement.{entries_in, rising, run_left}
 use Rattle.names.proofs.Agreement.{searches_back, found_past_more, stops_first, stops_none}
 use Rattle.names.proofs.RunParts.{run_left_next, run_left_none}
 use Rattle.names.proofs.run.Run.past.Goals as goal
@@ -12,7 +12,7 @@ loop-rest-init c = searches_back c.args.kind.now (run_left c.args.self) (run_lef
 pub returns-then-not-is_kind_before : goal.returns-then-not-is_kind_before
 returns-then-not-is_kind_before c = record {
   searches = c.loop-rest.invariant;
-  stops = stops_first c.args.kind.now (run_left c.loop-rest.rest) (rising c.in-Some.next.kind.now (entries_of c.loop-rest.rest.others)) (entry_of c.in-Some.next)
+  stops = stops_first c.args.kind.now (run_left c.loop-rest.rest) (rising c.in-Some.next.kind.now (entries_in c.loop-rest.rest.others)) (entry_of c.in-Some.next)
       (run_left_next c.loop-rest.rest c.in-Some.next c.in-Some.is) (sym c.is_kind_before.ensures ∙ c.if-not-is_kind_before.true);
 }
 

@@ -4,7 +4,7 @@ use Rattle.asn.specs.Place.{remaining}
 use Rattle.asn.specs.Walk.{each}
 use Rattle.names.specs.NameLayout.{attribute}
 use Rattle.names.specs.Repetition.{AreNew, IsRest, kinds_left}
-use Rattle.names.proofs.name_reading.read_attributes.Given as goal
+use Rattle.names.proofs.name.read_attributes.Given as goal
 
 abbrev pub invariant-loop-tlv : goal.invariant-loop-tlv
 invariant-loop-tlv l = record {

@@ -7,7 +7,7 @@ use Rattle.names.specs.declared.fault.NameFault.{NameFault}
 use Rattle.names.specs.NameLayout.{attribute, attributes}
 use Rattle.names.specs.Repetition.{kinds_left}
 use Rattle.names.proofs.NewKinds.{new_first, new_others, rest_step, rest_begins, nothing_new}
-use Rattle.names.proofs.name_reading.read_attributes.Goals as goal
+use Rattle.names.proofs.name.read_attributes.Goals as goal
 
 pub returns-in-Err : goal.returns-in-Err
 unfolding attributes

@@ -1,7 +1,7 @@
 use Rattle.std.proofs.Common.{length}
 use Rattle.names.specs.Repetition.{kinds_of, pointed}
 use Rattle.names.proofs.Runs.{IsSearch}
-use Rattle.names.proofs.repetition.new_until.Given as goal
+use Rattle.names.proofs.repetition.new_in_run.Given as goal
 
 abbrev pub invariant-loop-one : goal.invariant-loop-one
 invariant-loop-one l = IsSearch (kinds_of l.all) (kinds_of l.run) (kinds_of l.earlier) (pointed l.pointer) l.last l.start l.limit

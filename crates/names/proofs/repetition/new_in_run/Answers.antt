@@ -1,6 +1,6 @@
 use Rattle.names.specs.Repetition.{kinds_of, pointed}
 use Rattle.names.proofs.Runs.{search_begins, search_more, search_ends, none_left, at_start}
-use Rattle.names.proofs.repetition.new_until.Goals as goal
+use Rattle.names.proofs.repetition.new_in_run.Goals as goal
 
 pub returns-then-one-start : goal.returns-then-one-start
 returns-then-one-start c =

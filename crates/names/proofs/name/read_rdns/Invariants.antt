@@ -2,7 +2,7 @@ use Rattle.std.proofs.Common.{◌≡◌, length}
 use Rattle.asn.specs.Members.{left}
 use Rattle.asn.specs.Walk.{each}
 use Rattle.names.specs.NameLayout.{one_more_rdn}
-use Rattle.names.proofs.name_reading.read_rdns.Given as goal
+use Rattle.names.proofs.name.read_rdns.Given as goal
 
 abbrev pub invariant-loop-tlv : goal.invariant-loop-tlv
 invariant-loop-tlv l = each one_more_rdn tt (left l.rdns).values ≡ each one_more_rdn tt (left l.fn.rdns).values
