@@ -7,6 +7,7 @@ pub use Rattle.asn.proofs.Layouts.{of_primitive, of_constructed, as_primitive, a
 pub use Rattle.asn.proofs.Judgements.{nested_ok, nested_again, outermost_ok, outermost_again}
 pub use Rattle.asn.proofs.Sizes.{length-encoding, length-encodings}
 pub use Rattle.asn.proofs.MemberLemmas.{holds, are_members}
+pub use Rattle.asn.proofs.PartLemmas.{contents_part, members_are_parts}
 pub use Rattle.asn.proofs.PlaceSizes.{values_count, values_short, members_count, members_short, body_short}
 pub use Rattle.asn.proofs.PlaceOrder.{values_before, members_before}
 pub use Rattle.asn.proofs.ListWalks.{as_each, of_each, as_list, of_list, octets_are}

@@ -2,11 +2,11 @@
 use Rattle.std.proofs.Common.{arith, ◌≡◌, ◌+◌, ◌<◌, ℕ, length, false, true, List, [], ◌∷◌, refl, Bool, ◌==◌}
 use Rattle.std.proofs.Math.Dec.{eqb-suc-zero}
 use Rattle.der.specs.Length.{end_of}
-use Rattle.der.specs.Header.{IsHeaderOf}
+use Rattle.der.specs.Header.{SaysHeader}
 use Rattle.der.specs.declared.header.Header.{Header}
 use Rattle.asn.specs.Place.{ends, is_empty}
 
-pub end_is : (text : List ℕ) (header : Header) → IsHeaderOf text header → end_of text ≡ header.len + header.contents
+pub end_is : (text : List ℕ) (header : Header) → SaysHeader text header → end_of text ≡ header.len + header.contents
 end_is text header h = rw (h.len, h.contents) refl
 
 -- the test for an empty text

@@ -6,18 +6,11 @@ use Rattle.der.specs.Value.{Value, Values, constructed, none, more}
 use Rattle.der.specs.Identifier.{is_constructed}
 use Rattle.der.specs.Length.{header_len, contents_len, contents_of}
 use Rattle.der.specs.Encoding.{EncodesAt, EncodesAllAt}
-use Rattle.der.specs.Header.{IsHeaderOf}
+use Rattle.der.specs.Header.{SaysHeader}
 use Rattle.asn.specs.Part.{BeginsEncoded, AreEncoded}
-use Rattle.der.specs.FirstFault.{BreaksFirst, itself}
-use Rattle.der.specs.Fault.{rule_number}
-use Rattle.der.specs.declared.fault.Rule.{Rule}
-use Rattle.der.proofs.Laws.{parts_of, front_of, clean_in}
+use Rattle.der.proofs.Laws.{parts_of, front_of}
 use Rattle.asn.proofs.Splits.{end_is}
 use Rattle.der.proofs.Laws.{read_front, rest_encoded, inner_encoded}
-
--- no rule on a header is broken where an encoding stands
-pub never_broken : (text : List ℕ) (rule : Rule) → BeginsEncoded text → ((depth : ℕ) → (rule_number rule < 5) × BreaksFirst rule depth text) → ⊥
-never_broken text rule (depth, v, x, rest, e, sp) b = clean_in (itself {depth = depth} {text = text}) v x rest e sp rule (b depth).1.0
 
 pub begins_with_one : (text : List ℕ) (depth : ℕ) (v : Value) → EncodesAt depth text v → BeginsEncoded text
 begins_with_one text depth v sp = (depth, v, text, [], sym (append-nil text), sp)
@@ -26,7 +19,7 @@ pub begins_with_first : (text : List ℕ) → 0 < length text → AreEncoded tex
 begins_with_first text some (depth, vs, are) = let r = rest_encoded depth text vs some are in (depth, r.0, r.2, r.3, r.4, r.5)
 
 -- the octets of the first value, and those behind
-pub whole_is : (text x rest : List ℕ) (depth : ℕ) (v : Value) (header : Header) → IsHeaderOf text header → text ≡ x ++ rest → EncodesAt depth x v → (take (header.len + header.contents) text ≡ x) × (drop (header.len + header.contents) text ≡ rest)
+pub whole_is : (text x rest : List ℕ) (depth : ℕ) (v : Value) (header : Header) → SaysHeader text header → text ≡ x ++ rest → EncodesAt depth x v → (take (header.len + header.contents) text ≡ x) × (drop (header.len + header.contents) text ≡ rest)
 whole_is text x rest depth v header h e sp =
     let n : header.len + header.contents ≡ length x = sym (end_is text header h) ∙ (read_front depth text x rest v e sp).1 in
     (rw (e, n) (take_at x rest (length x) refl), rw (e, n) (drop_at x rest (length x) refl))

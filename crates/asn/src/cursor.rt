@@ -15,6 +15,7 @@ use crate::tlv::{Cursor, Tlv};
 use der::{Fault, Header, check, is_constructed_form};
 
 /// The value that stands at the front of the octets, and the octets behind it.
+#[inline(always)]
 pub(crate) fn front_of<'a>(octets: &'a [u8], at: usize) -> (Tlv<'a>, &'a [u8])
     requires encoded { ∥ BeginsEncoded octets.now ∥₁ }
     requires fits { at + length octets.now < 2 ^ 64 }
@@ -24,10 +25,7 @@ pub(crate) fn front_of<'a>(octets: &'a [u8], at: usize) -> (Tlv<'a>, &'a [u8])
     ensures value { (depth : ℕ) (value : Value) (front rest : List ℕ) → octets.now ≡ front ++ rest
         → EncodesAt depth front value → (result.0.whole.now ≡ front) × (result.1.now ≡ rest) }
 {
-    let header = match Header::read(octets) {
-        Ok(header) => header,
-        Err(_) => unreachable!(),
-    };
+    let header = Header::known(octets);
     let (whole, rest) = octets.split_at(header.len + header.contents);
     let (_, body) = whole.split_at(header.len);
     let tag = header.identifier;
@@ -77,6 +75,16 @@ impl<'a> Tlv<'a> {
             whole: self.whole,
             at: 0,
         }
+    }
+
+    /// The offset of the contents octets in the text handed to `whole`.
+    #[tactic(auto, unfolding(crate::specs::Place::inside))]
+    pub fn body_at(&self) -> usize
+        ensures place { result ≡ (inside (part self.now)).at }
+        ensures end { result + length self.now.body.now ≡ self.now.at + length self.now.whole.now }
+    {
+        let header = self.whole.len() - self.body.len();
+        header + self.at
     }
 
     /// The values inside this one, in order; `None` where it is primitive.

@@ -183,6 +183,13 @@ impl<'a> Certificate<'a> {
         read_certificate(alloc, value)
     }
 
+    /// As `read`, of a value in the text handed to `asn::whole`, with faults at their offsets in that text.
+    pub fn at(alloc: Global, value: Tlv<'a>) -> Result<Certificate<'a>, CertFault>
+        ensures { GivesUnlessFull seen_certificate result (certificate_at (part value.entry)) }
+    {
+        read_certificate(alloc, value)
+    }
+
     /// Whether subject and issuer match (RFC 5280, 6.1).
     #[tactic(auto, unfolding(crate::specs::Certificate::is_self_issued))]
     pub fn self_issued(&self) -> bool

@@ -3,6 +3,7 @@ pub use Rattle.der.proofs.Headers.{two_octets, shorter}
 pub use Rattle.der.proofs.Fronts.{Front}
 pub use Rattle.der.proofs.Clean.{Parts, parts_of, front_of, clean_in}
 pub use Rattle.der.proofs.Parts.{read_front, built_primitive, inner_encoded, rest_encoded, encoded_long, none_left}
+pub use Rattle.der.proofs.Served.{served_length}
 pub use Rattle.der.proofs.OneEncoding.{one_encoding, one_value, one_value_all}
 pub use Rattle.der.proofs.OneFault.{one_fault}
 pub use Rattle.der.proofs.Decide.{decide, never_both, are_octets}

@@ -1,6 +1,7 @@
 mod Numbers
 mod Headers
 mod Fronts
+mod Served
 mod Sound
 mod Clean
 mod Faults
@@ -9,4 +10,6 @@ mod Parts
 mod OneEncoding
 mod OneFault
 mod Decide
+mod KnownFronts
+mod Waiting
 pub mod Laws

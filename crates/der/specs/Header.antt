@@ -1,8 +1,8 @@
 -- What the code knows of a header that it has read.
-use Rattle.std.specs.Prelude.{◌≡◌, ℕ, ◌<◌, ◌≤◌, List, length, slice_index, take}
+use Rattle.std.specs.Prelude.{◌≡◌, ◌≢◌, ℕ, ◌<◌, ◌≤◌, List, length, slice_index, take}
 use Rattle.der.specs.Value.{Value}
 use Rattle.der.specs.Encoding.{EncodesAt}
-use Rattle.der.specs.Length.{contents_limit, header_len, contents_len, end_of, IsHeaderWhole}
+use Rattle.der.specs.Length.{contents_limit, first_length, header_len, contents_len, end_of, IsHeaderWhole}
 use Rattle.der.specs.FirstFault.{Breaks}
 use Rattle.der.specs.Fault.{rule_number}
 use Rattle.der.specs.declared.fault.Rule.{Rule}
@@ -20,6 +20,18 @@ pub record IsHeaderOf (text : List ℕ) (header : Header) : Type 0 where
   pub identifier : header.identifier ≡ slice_index text 0
   pub len : header.len ≡ header_len text
   pub contents : header.contents ≡ contents_len text
+
+-- what the octets before the contents say, whatever rules they break
+pub record SaysHeader (text : List ℕ) (header : Header) : Type 0 where
+  pub identifier : header.identifier ≡ slice_index text 0
+  pub len : header.len ≡ header_len text
+  pub contents : header.contents ≡ contents_len text
+
+-- The length octets are all there, in the definite form, and at most three follow the first.
+pub record HasServedLength (text : List ℕ) : Type 0 where
+  pub whole : IsHeaderWhole text
+  pub short : header_len text ≤ 5
+  pub definite : first_length text ≢ 128
 
 -- The length octets are these, and break no rule that a length can break by itself.
 pub record IsLengthOf (text : List ℕ) (len contents : ℕ) : Type 0 where

@@ -6,4 +6,5 @@ pub mod Encoding
 pub mod Fault
 pub mod FirstFault
 pub mod Header
+pub mod Front
 pub mod Laws

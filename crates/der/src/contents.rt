@@ -49,6 +49,7 @@ fn is_object_identifier(contents: &[u8]) -> bool
 }
 
 /// Whether a primitive value with this identifier octet may have these contents.
+#[inline(always)]
 pub fn is_contents(identifier: u8, contents: &[u8]) -> bool
     ensures { IsTrue result ↔ IsContents identifier contents.now }
 {

@@ -4,6 +4,7 @@ ghost use Rattle.std.specs.Prelude.{◌≡◌};
 ghost use Rattle.der.specs.Identifier.{is_constructed, is_refused};
 
 /// Whether the constructed flag, bit 6, is set.
+#[inline(always)]
 pub fn is_constructed_form(identifier: u8) -> bool
     ensures { result ≡ is_constructed identifier }
 {
@@ -11,6 +12,7 @@ pub fn is_constructed_form(identifier: u8) -> bool
 }
 
 /// Whether no value may have this identifier octet.
+#[inline(always)]
 pub fn is_refused_identifier(identifier: u8) -> bool
     ensures { result ≡ is_refused identifier }
 {

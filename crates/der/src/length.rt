@@ -3,11 +3,13 @@
 ghost use Rattle.std.specs.Prelude.{◌≡◌, ◌<◌, ◌≤◌, ℕ, length, IfOk, IfErr};
 ghost use Rattle.der.specs.Fault.{rule_number};
 ghost use Rattle.der.specs.FirstFault.{Breaks};
-ghost use Rattle.der.specs.Header.{IsLengthOf, KeepsLength};
+ghost use Rattle.der.specs.Header.{IsLengthOf, KeepsLength, HasServedLength};
+ghost use Rattle.der.specs.Length.{header_len, contents_len};
 
 use crate::fault::Rule;
 
 /// How many octets the header of the text has, and how many its contents, by the length octets behind the identifier.
+#[inline(always)]
 pub(crate) fn length_of(text: &[u8]) -> Result<(usize, usize), Rule>
     requires { 2 ≤ length text.now }
     ensures ok { IfOk result (λ found. IsLengthOf text.now found.0 found.1) }
@@ -34,5 +36,24 @@ pub(crate) fn length_of(text: &[u8]) -> Result<(usize, usize), Rule>
         2 => Ok((4, high * 256 + text[3] as usize)),
         3 => Ok((5, high * 65536 + text[3] as usize * 256 + text[4] as usize)),
         _ => Err(Rule::TooLong),
+    }
+}
+
+/// The same of length octets that are known to be served.
+#[inline(always)]
+pub(crate) fn known_length_of(text: &[u8]) -> (usize, usize)
+    requires { HasServedLength text.now }
+    ensures len { result.0 ≡ header_len text.now }
+    ensures contents { result.1 ≡ contents_len text.now }
+{
+    let first = text[1];
+    if first < 128 {
+        return (2, first as usize);
+    }
+    let high = text[2] as usize;
+    match first {
+        129 => (3, high),
+        130 => (4, high * 256 + text[3] as usize),
+        _ => (5, high * 65536 + text[3] as usize * 256 + text[4] as usize),
     }
 }

@@ -9,6 +9,7 @@ mod grammar;
 mod header;
 mod identifier;
 mod length;
+mod quick;
 
 pub use contents::is_contents;
 pub use encoding::encoding_laws;

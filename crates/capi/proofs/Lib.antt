@@ -1,0 +1,4 @@
+mod Contents
+mod Usage
+mod Standing
+mod WholeTexts

@@ -1,0 +1,4 @@
+pub mod Answer
+pub mod Parts
+pub mod Places
+pub mod Fields

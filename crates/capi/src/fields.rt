@@ -1,0 +1,176 @@
+//! The fields of a certificate as numbers and parts of the text.
+
+use crate::places::Places;
+use asn::Tlv;
+use cert::{BasicConstraints, Certificate, Extensions, KeyUsage};
+
+/// Octets of the text that was handed in.
+#[derive(Clone, Copy, Debug, PartialEq, Eq, Default)]
+#[repr(C)]
+pub struct Part {
+    pub offset: usize,
+    pub length: usize,
+}
+
+/// What the extensions of a certificate say, as numbers. Lists are told by how many items they have.
+#[derive(Clone, Copy, Debug, PartialEq, Eq, Default)]
+#[repr(C)]
+pub struct ExtensionFields {
+    pub has_basic_constraints: bool,
+    pub is_authority: bool,
+    pub has_path_length: bool,
+    pub has_key_usage: bool,
+    pub needs_policy_processing: bool,
+    pub no_check: bool,
+    pub path_length: u32,
+    /// Bit n is bit n of the key usage, of the nine that have names.
+    pub key_usage: u32,
+    pub alternative_names: usize,
+    pub permitted_subtrees: usize,
+    pub excluded_subtrees: usize,
+    pub purposes: usize,
+    pub unrecognised: usize,
+}
+
+/// The fields of a certificate.
+#[derive(Clone, Copy, Debug, PartialEq, Eq, Default)]
+#[repr(C)]
+pub struct Fields {
+    pub version: u32,
+    pub not_before: i64,
+    pub not_after: i64,
+    pub tbs: Part,
+    pub serial: Part,
+    pub algorithm: Part,
+    pub issuer: Part,
+    pub subject: Part,
+    pub subject_public_key_info: Part,
+    pub key: Part,
+    pub signature: Part,
+    pub extensions: ExtensionFields,
+}
+
+impl Part {
+    ghost use Rattle.std.specs.Prelude.{◌≡◌, ◌<◌, ◌≤◌, ◌+◌, ◌^◌, ℕ, List, length};
+    ghost use Rattle.asn.specs.Part.{IsPartOf};
+    ghost use Rattle.asn.specs.Place.{part, body, inside};
+    ghost use Rattle.cert.specs.BitString.{bits_in};
+    ghost use Rattle.capi.specs.Parts.{IsPart};
+
+    /// The octets that stand at this offset.
+    fn at(offset: usize, octets: &[u8]) -> Part
+        ensures { (text : List ℕ) → IsPartOf text offset octets.now → IsPart text result octets.now }
+    {
+        Part {
+            offset,
+            length: octets.len(),
+        }
+    }
+
+    /// The whole value.
+    fn whole(value: Tlv<'_>) -> Part
+        ensures { (text : List ℕ) → IsPartOf text value.entry.at value.entry.whole.now → IsPart text result value.entry.whole.now }
+    {
+        Part::at(value.at, value.whole)
+    }
+
+    /// The contents of the value.
+    fn contents(value: Tlv<'_>) -> Part
+        ensures { (text : List ℕ) → IsPartOf text (inside (part value.entry)).at (inside (part value.entry)).octets
+            → IsPart text result (body (part value.entry)) }
+    {
+        Part::at(value.body_at(), value.body)
+    }
+
+    /// The contents of the BIT STRING, behind the count of unused bits.
+    fn bits(value: Tlv<'_>) -> Part
+        ensures { (text : List ℕ) → IsPartOf text (inside (part value.entry)).at (inside (part value.entry)).octets
+            → IsPart text result (bits_in (body (part value.entry))) }
+    {
+        match value.body {
+            [] => Part::at(value.body_at(), value.body),
+            [_, bits @ ..] => Part::at(value.body_at() + 1, bits),
+        }
+    }
+}
+
+impl ExtensionFields {
+    ghost use Rattle.std.specs.Prelude.{◌≡◌, ◌<◌, ◌^◌, ℕ, Some};
+    ghost use Rattle.cert.specs.Extensions.{seen_extensions};
+    ghost use Rattle.cert.specs.KeyUsage.{seen_key_usage, has_bit};
+    ghost use Rattle.capi.specs.Fields.{TellsExtensions, bits_below};
+
+    /// Bit n of the number is bit n of the key usage, of the nine that have names.
+    fn usage_number(usage: KeyUsage<'_>) -> u32
+        ensures { result ≡ bits_below 9 (seen_key_usage usage.entry) }
+    {
+        let mut number = 0;
+        let mut weight = 1;
+        for bit in 0..9u8 {
+            if usage.has(bit) {
+                number += weight;
+            }
+            weight *= 2;
+        }
+        number
+    }
+
+    fn of(extensions: &Extensions<'_>) -> ExtensionFields
+        ensures { TellsExtensions result (seen_extensions extensions.now) }
+    {
+        let constraints = extensions.basic_constraints;
+        let path_length = match constraints {
+            Some(read) => read.path_length,
+            None => None,
+        };
+        ExtensionFields {
+            has_basic_constraints: constraints.is_some(),
+            is_authority: match constraints {
+                Some(read) => read.ca,
+                None => false,
+            },
+            has_path_length: path_length.is_some(),
+            has_key_usage: extensions.key_usage.is_some(),
+            needs_policy_processing: extensions.needs_policy_processing,
+            no_check: extensions.no_check,
+            path_length: path_length.unwrap_or(0),
+            key_usage: match extensions.key_usage {
+                Some(usage) => ExtensionFields::usage_number(usage),
+                None => 0,
+            },
+            alternative_names: extensions.alternative_names.len(),
+            permitted_subtrees: extensions.name_constraints.permitted.len(),
+            excluded_subtrees: extensions.name_constraints.excluded.len(),
+            purposes: extensions.purposes.len(),
+            unrecognised: extensions.unrecognised.len(),
+        }
+    }
+}
+
+impl Fields {
+    ghost use Rattle.std.specs.Prelude.{ℕ, List};
+    ghost use Rattle.cert.specs.Certificate.{seen_certificate};
+    ghost use Rattle.capi.specs.Places.{seen_places, ArePlacesOf};
+    ghost use Rattle.capi.specs.Fields.{TellsFields};
+
+    /// The fields of a certificate whose components stand there.
+    pub(crate) fn of(certificate: &Certificate<'_>, places: Places<'_>) -> Fields
+        ensures { (text : List ℕ) → ArePlacesOf text (seen_places places.entry) (seen_certificate certificate.now)
+            → TellsFields text result (seen_certificate certificate.now) }
+    {
+        Fields {
+            version: u32::from(certificate.version.number()),
+            not_before: certificate.validity.not_before,
+            not_after: certificate.validity.not_after,
+            tbs: Part::whole(places.outer.tbs),
+            serial: Part::contents(places.head.serial),
+            algorithm: Part::whole(places.head.algorithm),
+            issuer: Part::whole(places.head.issuer),
+            subject: Part::whole(places.subject.name),
+            subject_public_key_info: Part::whole(places.subject.key_info),
+            key: Part::bits(places.key),
+            signature: Part::bits(places.outer.signature),
+            extensions: ExtensionFields::of(&certificate.extensions),
+        }
+    }
+}

@@ -1,0 +1,18 @@
+//! `x509check_fingerprint`.
+
+ghost use Rattle.std.specs.Prelude.{◌≡◌};
+ghost use Rattle.path.specs.Fingerprint.{fingerprint_of};
+
+/// Writes the fingerprint of four texts, as `path::fingerprint` says.
+#[unsafe(no_mangle)]
+pub extern "C" fn x509check_fingerprint(
+    algorithm: &[u8],
+    key_info: &[u8],
+    message: &[u8],
+    signature: &[u8],
+    fingerprint: &mut [u8; 32],
+)
+    ensures { fingerprint.new ≡ fingerprint_of algorithm.now key_info.now message.now signature.now }
+{
+    *fingerprint = path::fingerprint(algorithm, key_info, message, signature);
+}

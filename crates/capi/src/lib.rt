@@ -1,0 +1,18 @@
+//! The library for C: numbers and parts of the caller's text. `x509check.h` says how to call it.
+#![tactic(auto)]
+
+mod answer;
+mod checking;
+mod fields;
+mod fingerprint_call;
+mod places;
+mod reading;
+
+pub use answer::{Answer, CertificateAnswer};
+pub use checking::x509check_check;
+pub use fields::{ExtensionFields, Fields, Part};
+pub use fingerprint_call::x509check_fingerprint;
+pub use reading::x509check_read_certificate;
+
+#[cfg(test)]
+mod tests;

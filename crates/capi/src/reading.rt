@@ -1,0 +1,74 @@
+//! `x509check_read_certificate`.
+
+ghost use Rattle.std.specs.Prelude.{◌≡◌};
+ghost use Rattle.cert.specs.Certificate.{certificate};
+ghost use Rattle.capi.specs.Fields.{Tells, der_number, IsReadAs, IsRefusalOf};
+
+use crate::answer::CertificateAnswer;
+use crate::fields::Fields;
+use crate::places::Places;
+use asn::Tlv;
+use cert::{CertFault, CertRule, Certificate};
+use std::alloc::Global;
+
+/// The fields of the certificate that the octets are, as `Certificate::read` says.
+fn read_fields(alloc: Global, octets: &[u8]) -> Result<Fields, CertFault>
+    ensures { IsReadAs octets.now result (certificate octets.now) }
+{
+    let value = match Tlv::outermost(octets) {
+        Ok(value) => value,
+        Err((rule, at)) => return Err(CertFault::Refused(CertRule::Der(rule), at)),
+    };
+    let certificate = match Certificate::at(alloc, value) {
+        Ok(certificate) => certificate,
+        Err(fault) => return Err(fault),
+    };
+    match Places::of(value) {
+        Ok(places) => Ok(Fields::of(&certificate, places)),
+        Err(_) => unreachable!(),
+    }
+}
+
+/// The number of the rule of DER that is broken, or 0.
+fn der_fault(rule: CertRule) -> u32
+    ensures { result ≡ der_number rule }
+{
+    match rule {
+        CertRule::Der(rule) => u32::from(rule.number()),
+        _ => 0,
+    }
+}
+
+/// What is answered where the octets are refused.
+fn refusal(fault: CertFault) -> CertificateAnswer
+    ensures { IsRefusalOf result fault }
+{
+    match fault {
+        CertFault::Refused(rule, at) => CertificateAnswer {
+            fault: u32::from(rule.number()),
+            der_fault: der_fault(rule),
+            offset: at,
+            fields: Fields::default(),
+        },
+        CertFault::Memory => CertificateAnswer {
+            fault: u32::from(fault.number()),
+            ..CertificateAnswer::default()
+        },
+    }
+}
+
+/// The certificate that the octets are, as `Certificate::read` says, or the first fault.
+#[unsafe(no_mangle)]
+pub extern "C" fn x509check_read_certificate(alloc: Global, octets: &[u8]) -> CertificateAnswer
+    ensures { Tells octets.now result (certificate octets.now) }
+{
+    match read_fields(alloc, octets) {
+        Ok(fields) => CertificateAnswer {
+            fault: 0,
+            der_fault: 0,
+            offset: 0,
+            fields,
+        },
+        Err(fault) => refusal(fault),
+    }
+}

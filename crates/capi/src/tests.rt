@@ -1,0 +1,93 @@
+use super::*;
+
+/// A certificate that OpenSSL made.
+const CERTIFICATE: &[u8] =
+    b"\x30\x82\x01\x53\x30\x82\x01\x05\xA0\x03\x02\x01\x02\x02\x02\x04\xD2\x30\x05\x06\x03\x2B\x65\x70\x30\x0D\x31\x0B\x30\x09\x06\x03\x55\x04\x03\x0C\x02\x63\x61\x30\x1E\x17\x0D\x32\x36\x31\x31\x32\x32\x31\x36\x33\x36\x34\x30\x5A\x17\x0D\x33\x36\x31\x31\x31\x39\x31\x36\x33\x36\x34\x30\x5A\x30\x0D\x31\x0B\x30\x09\x06\x03\x55\x04\x03\x0C\x02\x63\x61\x30\x2A\x30\x05\x06\x03\x2B\x65\x70\x03\x21\x00\x35\x69\xCA\xAF\x37\xBB\xBB\x29\x5F\x18\x52\x3E\x93\x3D\x1D\x05\x61\x51\x3B\x36\x1B\xB9\x7D\x26\xA6\x1D\x6B\xB1\x10\x2B\xCF\x1E\xA3\x81\x88\x30\x81\x85\x30\x1D\x06\x03\x55\x1D\x0E\x04\x16\x04\x14\x29\x40\x5A\x3C\x85\x4E\xA7\xF9\xF0\xE0\x09\x17\x2A\xDB\x67\x09\xBC\x45\x7B\xA5\x30\x1F\x06\x03\x55\x1D\x23\x04\x18\x30\x16\x80\x14\x29\x40\x5A\x3C\x85\x4E\xA7\xF9\xF0\xE0\x09\x17\x2A\xDB\x67\x09\xBC\x45\x7B\xA5\x30\x12\x06\x03\x55\x1D\x13\x01\x01\xFF\x04\x08\x30\x06\x01\x01\xFF\x02\x01\x03\x30\x0E\x06\x03\x55\x1D\x0F\x01\x01\xFF\x04\x04\x03\x02\x01\x06\x30\x1F\x06\x03\x55\x1D\x11\x04\x18\x30\x16\x82\x09\x61\x2E\x65\x78\x61\x6D\x70\x6C\x65\x82\x09\x62\x2E\x65\x78\x61\x6D\x70\x6C\x65\x30\x05\x06\x03\x2B\x65\x70\x03\x41\x00\x5C\xDE\x22\x29\x80\x06\xD2\x31\x97\x53\x3B\x2D\xCF\xC8\xD9\x78\x13\xFD\xDD\x1A\x28\x73\x89\x66\xB7\x86\xF1\x6A\xBF\x4A\x8E\xEF\x84\xB6\x47\x75\xA8\x03\xFD\x99\xC9\xA9\x1F\x8D\x3B\xF9\x32\x8A\x4D\x49\x0C\x61\xEF\x24\x7C\x49\x71\x90\x10\x0D\x1C\x12\x3B\x04";
+
+/// What Python's hashlib gives of four texts, each behind its length.
+const FINGERPRINT: &[u8] =
+    b"\x72\x3A\xF5\x32\xED\xD9\xE4\xCA\xAE\x4A\x40\xA7\x3B\xAB\xAA\xD3\xEF\x9C\x8E\xD5\xDD\x67\x71\x40\x10\xE2\x74\x0F\x6F\x0B\xE4\xBC";
+
+#[test]
+fn checks(rt: HostRuntime) {
+    let rows: [(&[u8], u32, usize); 6] = [
+        (&[0x30, 0x03, 0x02, 0x01, 0x05], 0, 0),
+        (&[0x1F], 1, 0),
+        (&[0x02, 0x81, 0x7F], 2, 0),
+        (&[], 4, 0),
+        (&[0x30, 0x04, 0x05, 0x00, 0x03, 0x00], 6, 4),
+        (&[0x05, 0x00, 0x00], 7, 2),
+    ];
+    for (octets, fault, offset) in rows {
+        assert_eq!(rt;
+            x509check_check(octets),
+            Answer { fault, offset },
+            "{octets:?}"
+        );
+    }
+}
+
+#[test]
+fn refuses(rt: HostRuntime) {
+    let rows: [(&[u8], u32, u32, usize); 3] = [
+        (&[0x30, 0x04, 0x05, 0x00, 0x03, 0x00], 21, 6, 4),
+        (&[0x02, 0x01, 0x00], 22, 0, 0),
+        (&[0x30, 0x02, 0x05, 0x00], 22, 0, 2),
+    ];
+    for (octets, fault, der_fault, offset) in rows {
+        let answer = x509check_read_certificate(rt.alloc(), octets);
+        assert_eq!(rt; answer.fault, fault, "{octets:?}");
+        assert_eq!(rt; answer.der_fault, der_fault, "{octets:?}");
+        assert_eq!(rt; answer.offset, offset, "{octets:?}");
+        assert_eq!(rt; answer.fields, Fields::default(), "{octets:?}");
+    }
+}
+
+fn is_part(part: Part, offset: usize, length: usize) -> bool {
+    part.offset == offset && part.length == length
+}
+
+/// The offsets are those of `openssl asn1parse`.
+#[test]
+fn reads(rt: HostRuntime) {
+    let answer = x509check_read_certificate(rt.alloc(), CERTIFICATE);
+    let fields = answer.fields;
+    assert_eq!(rt; answer.fault, 0);
+    assert_eq!(rt; fields.version, 3);
+    assert_eq!(rt; fields.not_before, 1795365400);
+    assert_eq!(rt; fields.not_after, 2110725400);
+    let rows: [(Part, usize, usize, &str); 8] = [
+        (fields.tbs, 4, 265, "tbs"),
+        (fields.serial, 15, 2, "serial"),
+        (fields.algorithm, 17, 7, "algorithm"),
+        (fields.issuer, 24, 15, "issuer"),
+        (fields.subject, 71, 15, "subject"),
+        (fields.subject_public_key_info, 86, 44, "key info"),
+        (fields.key, 98, 32, "key"),
+        (fields.signature, 279, 64, "signature"),
+    ];
+    for (part, offset, length, name) in rows {
+        assert!(rt; is_part(part, offset, length), "{name}");
+    }
+}
+
+#[test]
+fn reads_extensions(rt: HostRuntime) {
+    let told = x509check_read_certificate(rt.alloc(), CERTIFICATE)
+        .fields
+        .extensions;
+    assert!(rt; told.has_basic_constraints && told.is_authority && told.has_path_length);
+    assert_eq!(rt; told.path_length, 3);
+    assert!(rt; told.has_key_usage);
+    assert_eq!(rt; told.key_usage, 96);
+    assert_eq!(rt; told.alternative_names, 2);
+    assert_eq!(rt; told.purposes, 0);
+    assert_eq!(rt; told.unrecognised, 0);
+}
+
+#[test]
+fn prints(rt: HostRuntime) {
+    let mut print = [0; 32];
+    x509check_fingerprint(b"abc", b"\x30\x00", b"message", b"\xFF", &mut print);
+    assert!(rt; print.as_slice() == FINGERPRINT);
+}

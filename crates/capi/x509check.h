@@ -1,0 +1,115 @@
+/* x509check: DER and certificates (X.690; RFC 5280, 4), read by code that is proved. docs/PROMISES.md says what the calls promise.
+ *
+ * Texts are octets of the caller: a pointer and a length in octets. They are only read, only during the call, and nothing keeps
+ * them. The pointer may be null where the length is 0. Results are numbers and parts of the caller's text: offsets and lengths in
+ * octets, counted from its first octet. There is nothing to free. All calls may run on several threads at a time.
+ *
+ * Faults are numbers, 0 for none: 1 to 7 of DER, 11 to 17 of names, 21 to 33 of certificates (docs/FAULTS.md). The fault is the
+ * first in the text, and its offset that of the value at fault.
+ *
+ * Link with libcapi.a (crates/capi/out, made by `rt lib`) and with c/liblibc_c.a of the Rattle kit, through which memory is taken
+ * from the program's malloc.
+ */
+#ifndef X509CHECK_H
+#define X509CHECK_H
+
+#include <stdbool.h>
+#include <stddef.h>
+#include <stdint.h>
+
+#ifdef __cplusplus
+extern "C" {
+#endif
+
+/* The fault of a certificate whose text, or the value of an extension in it, is not DER. */
+#define X509CHECK_FAULT_DER 21
+/* The fault of a call that was refused memory; its offset is 0. */
+#define X509CHECK_FAULT_MEMORY 33
+
+/* The octets of a fingerprint. */
+#define X509CHECK_FINGERPRINT_LENGTH 32
+
+/* The bits of key_usage (RFC 5280, 4.2.1.3). */
+#define X509CHECK_DIGITAL_SIGNATURE (1u << 0)
+#define X509CHECK_NON_REPUDIATION (1u << 1)
+#define X509CHECK_KEY_ENCIPHERMENT (1u << 2)
+#define X509CHECK_DATA_ENCIPHERMENT (1u << 3)
+#define X509CHECK_KEY_AGREEMENT (1u << 4)
+#define X509CHECK_KEY_CERT_SIGN (1u << 5)
+#define X509CHECK_CRL_SIGN (1u << 6)
+#define X509CHECK_ENCIPHER_ONLY (1u << 7)
+#define X509CHECK_DECIPHER_ONLY (1u << 8)
+
+/* Octets of the text that was handed in. */
+struct x509check_part {
+    size_t offset;
+    size_t length;
+};
+
+/* Whether a text is DER. */
+struct x509check_answer {
+    uint32_t fault; /* 0, or 1 to 7 */
+    size_t offset;  /* of the value at fault; 0 where there is no fault */
+};
+
+/* What the extensions of a certificate say. Where one is not there, its numbers are 0. */
+struct x509check_extensions {
+    bool has_basic_constraints;
+    bool is_authority; /* cA */
+    bool has_path_length;
+    bool has_key_usage;
+    bool needs_policy_processing; /* policyMappings, policyConstraints or inhibitAnyPolicy is there */
+    bool no_check;                /* id-pkix-ocsp-nocheck is there */
+    uint32_t path_length;         /* 4294967295 where it is that or more */
+    uint32_t key_usage;           /* the bits above; others are left out */
+    size_t alternative_names;     /* how many names subjectAltName has */
+    size_t permitted_subtrees;    /* how many subtrees nameConstraints permits, */
+    size_t excluded_subtrees;     /* and how many it excludes */
+    size_t purposes;              /* how many purposes extKeyUsage has */
+    size_t unrecognised;          /* how many critical extensions are not recognised */
+};
+
+/* The fields of a certificate. Parts are of the text that was handed in. */
+struct x509check_fields {
+    uint32_t version;   /* 1 to 3 */
+    int64_t not_before; /* in seconds from 1970-01-01T00:00:00Z; may be negative */
+    int64_t not_after;
+    struct x509check_part tbs;                     /* the signed part: the whole encoding */
+    struct x509check_part serial;                  /* the contents of the INTEGER: 1 to 32 octets */
+    struct x509check_part algorithm;               /* the algorithm identifier in the signed part: the whole encoding */
+    struct x509check_part issuer;                  /* the whole encoding of the name */
+    struct x509check_part subject;                 /* the whole encoding of the name */
+    struct x509check_part subject_public_key_info; /* the whole encoding */
+    struct x509check_part key;                     /* the octets of subjectPublicKey, without the count of unused bits */
+    struct x509check_part signature;               /* the octets of signatureValue, without the count of unused bits */
+    struct x509check_extensions extensions;
+};
+
+/* A certificate, or why a text is none. */
+struct x509check_certificate {
+    uint32_t fault;     /* 0, 11 to 17, or 21 to 33 */
+    uint32_t der_fault; /* 1 to 7 where fault is X509CHECK_FAULT_DER, else 0 */
+    size_t offset;      /* of the value at fault; 0 where there is no fault */
+    struct x509check_fields fields; /* all 0 where there is a fault */
+};
+
+/* Whether the text is the DER encoding of one value, all of it, or the first fault. Takes no memory. */
+struct x509check_answer x509check_check(const uint8_t *octets, size_t length);
+
+/* The certificate that the text is, or the first fault. No signature is judged, and no validity: a certificate that is read is
+ * not one to be trusted. Memory is taken for lists during the call, and is given back before it returns; where it is refused,
+ * the fault is X509CHECK_FAULT_MEMORY. */
+struct x509check_certificate x509check_read_certificate(const uint8_t *octets, size_t length);
+
+/* Writes 32 octets to `fingerprint`: the SHA-256 of four texts, each behind its length in 8 octets, the highest first. The texts
+ * are what a judge of signatures is asked: the algorithm identifier and the subjectPublicKeyInfo, each the whole encoding, the
+ * message that was signed, and the octets of the signature. They may not overlap with `fingerprint`. Takes no memory. */
+void x509check_fingerprint(const uint8_t *algorithm, size_t algorithm_length, const uint8_t *key_info, size_t key_info_length,
+                           const uint8_t *message, size_t message_length, const uint8_t *signature, size_t signature_length,
+                           uint8_t fingerprint[X509CHECK_FINGERPRINT_LENGTH]);
+
+#ifdef __cplusplus
+}
+#endif
+
+#endif

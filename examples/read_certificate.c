@@ -1,0 +1,77 @@
+/* Prints what a certificate says, with the library for C:
+ *
+ *     (cd crates/capi && rt lib)
+ *     cc -O2 -Icrates/capi examples/read_certificate.c crates/capi/out/libcapi.a KIT/c/liblibc_c.a -o read_certificate
+ *     ./read_certificate FILE.der
+ *
+ * KIT is the folder of the Rattle kit, two above the command rt.
+ */
+#include <stdio.h>
+#include <stdlib.h>
+
+#include "x509check.h"
+
+static void print_part(const char *title, const uint8_t *octets, struct x509check_part part)
+{
+    printf("%s ", title);
+    for (size_t i = 0; i < part.length; i++)
+        printf("%02x", octets[part.offset + i]);
+    putchar('\n');
+}
+
+static void print_certificate(const uint8_t *octets, const struct x509check_fields *fields)
+{
+    const struct x509check_extensions *told = &fields->extensions;
+
+    printf("version %u\n", (unsigned)fields->version);
+    print_part("serial", octets, fields->serial);
+    print_part("issuer", octets, fields->issuer);
+    print_part("subject", octets, fields->subject);
+    printf("from %lld\nuntil %lld\n", (long long)fields->not_before, (long long)fields->not_after);
+    print_part("key", octets, fields->key);
+    if (told->is_authority && told->has_path_length)
+        printf("authority, path length %u\n", (unsigned)told->path_length);
+    else if (told->is_authority)
+        puts("authority");
+    if (told->key_usage & X509CHECK_KEY_CERT_SIGN)
+        puts("signs certificates");
+    printf("%zu alternative names\n", told->alternative_names);
+}
+
+static void print_fingerprint(const uint8_t *octets, const struct x509check_fields *fields)
+{
+    uint8_t fingerprint[X509CHECK_FINGERPRINT_LENGTH];
+    struct x509check_part whole = {0, sizeof fingerprint};
+
+    x509check_fingerprint(octets + fields->algorithm.offset, fields->algorithm.length,
+                          octets + fields->subject_public_key_info.offset, fields->subject_public_key_info.length,
+                          octets + fields->tbs.offset, fields->tbs.length, octets + fields->signature.offset,
+                          fields->signature.length, fingerprint);
+    print_part("fingerprint of the signature, as one under the certificate's own key", fingerprint, whole);
+}
+
+int main(int argc, char **argv)
+{
+    static uint8_t octets[1 << 16];
+    FILE *file = argc == 2 ? fopen(argv[1], "rb") : NULL;
+    struct x509check_certificate answer;
+    size_t length;
+
+    if (file == NULL) {
+        fputs("usage: read_certificate FILE.der\n", stderr);
+        return 2;
+    }
+    length = fread(octets, 1, sizeof octets, file);
+    fclose(file);
+    answer = x509check_read_certificate(octets, length);
+    if (answer.fault != 0) {
+        printf("refused: fault %u", (unsigned)answer.fault);
+        if (answer.fault == X509CHECK_FAULT_DER)
+            printf(" (DER %u)", (unsigned)answer.der_fault);
+        printf(" at %zu\n", answer.offset);
+        return 1;
+    }
+    print_certificate(octets, &answer.fields);
+    print_fingerprint(octets, &answer.fields);
+    return 0;
+}

@@ -1,0 +1,90 @@
+#!/usr/bin/env python3
+"""Prints what a certificate says, with the library for C in a shared object:
+
+    (cd crates/capi && rt lib)
+    cc -shared -o libx509check.so -Wl,--whole-archive crates/capi/out/libcapi.a -Wl,--no-whole-archive KIT/c/liblibc_c.a
+    examples/read_certificate.py ./libx509check.so FILE.der
+
+KIT is the folder of the Rattle kit, two above the command rt.
+"""
+
+import ctypes
+import sys
+
+
+class Part(ctypes.Structure):
+    _fields_ = [("offset", ctypes.c_size_t), ("length", ctypes.c_size_t)]
+
+    def of(self, octets):
+        return octets[self.offset:self.offset + self.length]
+
+
+class Answer(ctypes.Structure):
+    _fields_ = [("fault", ctypes.c_uint32), ("offset", ctypes.c_size_t)]
+
+
+class Extensions(ctypes.Structure):
+    _fields_ = [
+        *((name, ctypes.c_bool) for name in (
+            "has_basic_constraints", "is_authority", "has_path_length", "has_key_usage", "needs_policy_processing", "no_check")),
+        ("path_length", ctypes.c_uint32),
+        ("key_usage", ctypes.c_uint32),
+        *((name, ctypes.c_size_t) for name in (
+            "alternative_names", "permitted_subtrees", "excluded_subtrees", "purposes", "unrecognised")),
+    ]
+
+
+class Fields(ctypes.Structure):
+    _fields_ = [
+        ("version", ctypes.c_uint32),
+        ("not_before", ctypes.c_int64),
+        ("not_after", ctypes.c_int64),
+        *((name, Part) for name in (
+            "tbs", "serial", "algorithm", "issuer", "subject", "subject_public_key_info", "key", "signature")),
+        ("extensions", Extensions),
+    ]
+
+
+class Certificate(ctypes.Structure):
+    _fields_ = [("fault", ctypes.c_uint32), ("der_fault", ctypes.c_uint32), ("offset", ctypes.c_size_t), ("fields", Fields)]
+
+
+def load(path):
+    library = ctypes.CDLL(path)
+    library.x509check_check.argtypes = [ctypes.c_char_p, ctypes.c_size_t]
+    library.x509check_check.restype = Answer
+    library.x509check_read_certificate.argtypes = [ctypes.c_char_p, ctypes.c_size_t]
+    library.x509check_read_certificate.restype = Certificate
+    library.x509check_fingerprint.argtypes = [ctypes.c_char_p, ctypes.c_size_t] * 4 + [ctypes.c_char_p]
+    library.x509check_fingerprint.restype = None
+    return library
+
+
+def fingerprint(library, *texts):
+    written = ctypes.create_string_buffer(32)
+    arguments = [argument for text in texts for argument in (text, len(text))]
+    library.x509check_fingerprint(*arguments, written)
+    return written.raw
+
+
+def main(path, file):
+    library = load(path)
+    octets = open(file, "rb").read()
+    answer = library.x509check_read_certificate(octets, len(octets))
+    if answer.fault:
+        print("refused: fault", answer.fault, "DER", answer.der_fault, "at", answer.offset)
+        return 1
+    fields = answer.fields
+    print("version", fields.version)
+    for name in ("serial", "issuer", "subject", "key"):
+        print(name, getattr(fields, name).of(octets).hex())
+    print("from", fields.not_before)
+    print("until", fields.not_after)
+    print("authority", fields.extensions.is_authority, "path length", fields.extensions.path_length)
+    texts = (getattr(fields, name).of(octets) for name in ("algorithm", "subject_public_key_info", "tbs", "signature"))
+    print("fingerprint", fingerprint(library, *texts).hex())
+    return 0
+
+
+if __name__ == "__main__":
+    sys.exit(main(*sys.argv[1:]))
