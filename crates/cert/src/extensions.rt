@@ -4,6 +4,7 @@ ghost use Rattle.std.specs.Prelude.{◌≡◌, OnErr, OnOk, Err};
 ghost use Rattle.cert.specs.declared.fault.CertFault.TheVariants.{Memory};
 ghost use Rattle.asn.specs.Place.{part};
 ghost use Rattle.asn.specs.Members.{left};
+ghost use Rattle.asn.specs.Oid.{oid_contents};
 ghost use Rattle.asn.specs.Walk.{each};
 ghost use Rattle.cert.specs.Extension.{seen_extension};
 ghost use Rattle.cert.specs.Extensions.{seen_extensions, no_extensions, kind_of, listed, noted, told_by, one_extension, nothing_taken, seen_taken, extensions};
@@ -89,12 +90,12 @@ impl<'a> Extensions<'a> {
         Ok(())
     }
 
-    /// Lists the type of an extension that is critical and not recognised.
-    fn note(&mut self, extension: Extension<'a>) -> Result<(), CertFault>
+    /// Lists the type of an extension, of that kind, that is critical and not recognised.
+    fn note(&mut self, kind: ExtensionKind, extension: Extension<'a>) -> Result<(), CertFault>
+        requires { kind ≡ kind_of (oid_contents extension.oid) }
         ensures full { OnErr result (result ≡ Err Memory) }
         ensures noted { OnOk result (seen_extensions self.new ≡ noted (seen_extension extension.entry) (seen_extensions self.old)) }
     {
-        let kind = ExtensionKind::of(extension.oid.contents());
         if extension.critical && !kind.is_recognised() {
             self.unrecognised.push(extension.oid)?;
         }
@@ -121,7 +122,7 @@ impl<'a> Taken<'a> {
         }
         let kind = ExtensionKind::of(extension.oid.contents());
         self.told.tell(alloc, kind, extension.value)?;
-        self.told.note(extension)
+        self.told.note(kind, extension)
     }
 }
 

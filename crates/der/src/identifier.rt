@@ -16,6 +16,10 @@ pub fn is_constructed_form(identifier: u8) -> bool
 pub fn is_refused_identifier(identifier: u8) -> bool
     ensures { result ≡ is_refused identifier }
 {
+    // SEQUENCE and SET, which most constructed values are
+    if matches!(identifier, 0x30 | 0x31) {
+        return false;
+    }
     let number = identifier % 32;
     if number == 31 {
         return true;

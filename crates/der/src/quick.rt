@@ -43,6 +43,26 @@ fn front_of(text: &[u8]) -> Option<Front<'_>>
     }
 }
 
+/// Texts of fewer octets are looked at for values with nothing inside them first.
+const SHORT: usize = 128;
+
+/// Whether the text is known to be the encodings of values with nothing inside them, at depth 2.
+fn are_flat(text: &[u8]) -> bool
+    ensures { IsTrue result → AreEncodings 2 text.now }
+{
+    let mut rest = text;
+    while !rest.is_empty() {
+        let Some(front) = front_of(rest) else {
+            return false;
+        };
+        if front.constructed && !front.contents.is_empty() {
+            return false;
+        }
+        rest = front.others;
+    }
+    true
+}
+
 /// Whether the text is known to be the encodings of values at depth 2.
 fn are_known(text: &[u8]) -> bool
     ensures { IsTrue result → AreEncodings 2 text.now }
@@ -76,12 +96,20 @@ fn are_known(text: &[u8]) -> bool
     }
 }
 
+/// The same; the values of a short text mostly have nothing inside them, and then no stack is needed.
+#[inline(always)]
+fn are_inside(text: &[u8]) -> bool
+    ensures { IsTrue result → AreEncodings 2 text.now }
+{
+    (text.len() < SHORT && are_flat(text)) || are_known(text)
+}
+
 /// Whether the octets are known to be the encoding of one value.
 pub(crate) fn is_known(octets: &[u8]) -> bool
     ensures { IsTrue result → (value : Value) × Encodes octets.now value }
 {
     match front_of(octets) {
-        Some(front) if front.others.is_empty() => !front.constructed || are_known(front.contents),
+        Some(front) if front.others.is_empty() => !front.constructed || are_inside(front.contents),
         _ => false,
     }
 }

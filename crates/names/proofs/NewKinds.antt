@@ -6,7 +6,7 @@ use Rattle.std.proofs.lemmas.Bool.{both_ways, eq-eqb}
 use Rattle.std.proofs.lemmas.Slice.Eq.{bytes_eq-Decides}
 use Rattle.asn.specs.Identifier.{is_constructed}
 use Rattle.asn.specs.Place.{Place, body, remaining, part, Splits}
-use Rattle.asn.specs.Members.{Members, members, left, with_first}
+use Rattle.asn.specs.Members.{Members, members, left, with_first, next_in, next_at, none_in, none_left}
 use Rattle.asn.specs.Walk.{◌>>=◌, is_a, required, next_or, ended}
 use Rattle.asn.specs.declared.tlv.Cursor.{Cursor}
 use Rattle.asn.specs.declared.tlv.Tlv.{Tlv}
@@ -54,6 +54,24 @@ is_new kind at (p ∷ ps) new =
     before_by (p.at == at) (has_kind kind p || has_kind_before kind at ps) (λ apart.
     let n = new (λ same. both_ways (p.at == at) apart (eq-eqb p.at at same)) in
     either_false (has_kind kind p) (has_kind_before kind at ps) (λ h. n.0 (has_kind_is kind p h)) (is_new kind at ps n.1))
+
+none_before : (kind : List ℕ) (end : ℕ) (places : List Place) → has_kind_before kind (next_in end places) places ≡ false
+none_before kind end [] = refl
+none_before kind end (p ∷ ps) = ap (λ (same : Bool). if same then false else (has_kind kind p || has_kind_before kind p.at ps)) (eq-eqb p.at p.at refl)
+
+-- none stands before the first
+pub first_has_none_before : (kind : List ℕ) (at : ℕ) (places : Members) → at ≡ next_at places → false ≡ has_kind_before kind at places.values
+unfolding next_at
+first_has_none_before kind at places e = sym (ap (λ (a : ℕ). has_kind_before kind a places.values) e ∙ none_before kind places.end places.values)
+
+all_new_in : (all : List Placed) (limit : ℕ) (places : List Place) → none_in places ≡ true → AreNew all limit (map placed_at places)
+all_new_in all limit [] e = tt
+all_new_in all limit (p ∷ ps) e = absurd cc
+
+-- where none is left, all that are left are new
+pub none_left_new : (all : List Placed) (limit : ℕ) (rest : Cursor) → none_left (left rest) ≡ true → AreNew all limit (kinds_left rest)
+unfolding kinds_left none_left
+none_left_new all limit rest e = all_new_in all limit (left rest).values e
 
 -- one attribute is taken
 pub kinds_step : (old new : Cursor) (tlv : Tlv) → left old ≡ with_first (part tlv) (left new) → kinds_left old ≡ placed_at (part tlv) ∷ kinds_left new

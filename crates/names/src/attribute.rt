@@ -44,6 +44,7 @@ pub(crate) struct AttributeMembers<'a> {
 
 impl<'a> AttributeMembers<'a> {
     /// AttributeTypeAndValue ::= SEQUENCE { type OBJECT IDENTIFIER, value ANY }
+    #[inline(always)]
     #[tactic(auto, unfolding(crate::specs::NameLayout::attribute_members))]
     pub(crate) fn read(attribute: Tlv<'a>) -> Result<AttributeMembers<'a>, Refusal>
         ensures { Gives seen_members result (attribute_members (part attribute.entry)) }
@@ -83,6 +84,9 @@ fn is_of_kind(attribute: Tlv<'_>, kind: &[u8]) -> bool
 fn repeats_kind(all: Cursor<'_>, at: usize, kind: &[u8]) -> bool
     ensures { result ≡ has_kind_before kind.now at (left all.entry).values }
 {
+    if at == all.at() {
+        return false;
+    }
     let mut earlier = all;
     while let Some(attribute) = earlier.next() {
         if attribute.at == at {

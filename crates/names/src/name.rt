@@ -36,6 +36,9 @@ fn clear_after(all: Cursor<'_>, clear: usize, at: usize, rest: Cursor<'_>) -> us
     requires new { at < clear → AreNew (kinds_left all) clear (kinds_left rest) }
     ensures { AreNew (kinds_left all.entry) result (kinds_left rest.entry) }
 {
+    if rest.end() {
+        return clear;
+    }
     let next = rest.at();
     if at < clear && next < clear {
         return clear;
