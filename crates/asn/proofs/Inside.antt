@@ -28,6 +28,13 @@ inside_is tlv =
     ap (λ (w : List ℕ). record { octets = w; at = tlv.at + (length tlv.whole.now - length tlv.body.now) }) (body_of tlv)
     ∙ ap (λ (k : ℕ). record { octets = contents_of tlv.whole.now; at = k }) (contents_at tlv)
 
+-- the contents stand where the offset says
+pub stands_inside : (tlv : Tlv) (at : ℕ) → at ≡ (inside (part tlv)).at → record { octets = tlv.body.now; at = at } ≡ inside (part tlv)
+unfolding inside
+stands_inside tlv at e =
+    ap (λ (k : ℕ). record { octets = tlv.body.now; at = k }) e
+    ∙ ap (λ (w : List ℕ). record { octets = w; at = tlv.at + header_len tlv.whole.now }) (body_of tlv)
+
 pub body_shorter : (tlv : Tlv) → length tlv.body.now < length tlv.whole.now
 body_shorter tlv =
     ∥∥₁_elim tlv.encoded (hlevel props) (λ b.

@@ -100,7 +100,7 @@ impl<'a> Tlv<'a> {
         if is_constructed_form(self.tag) {
             Some(Cursor {
                 octets: self.body,
-                at: self.at + (self.whole.len() - self.body.len()),
+                at: self.body_at(),
             })
         } else {
             None

@@ -11,7 +11,7 @@ ghost use Rattle.asn.specs.Tree.{value_of, values_of};
 ghost use Rattle.asn.specs.declared.encoding.EncodeFault.TheVariants.{Memory as memory};
 
 use crate::tree::Tree;
-use der::{is_constructed_form, is_contents, is_refused_identifier};
+use der::{MAX_DEPTH, is_constructed_form, is_contents, is_refused_identifier};
 use std::alloc::{AllocError, Global};
 use thiserror::Error;
 
@@ -77,7 +77,7 @@ fn primitive_size(identifier: u8, contents: &[u8], depth: u32) -> Option<usize>
     ensures some { IfSome result (λ size. IsEncodableAt depth (primitive identifier contents.now) × (size ≡ size_around (length contents.now))) }
     ensures none { IfNone result (IsEncodableAt depth (primitive identifier contents.now) → ⊥) }
 {
-    if depth > 32
+    if depth > MAX_DEPTH
         || is_refused_identifier(identifier)
         || is_constructed_form(identifier)
         || contents.len() >= CONTENTS_LIMIT
@@ -92,7 +92,7 @@ fn primitive_size(identifier: u8, contents: &[u8], depth: u32) -> Option<usize>
 fn may_hold_values(identifier: u8, depth: u32) -> bool
     ensures { IsTrue result ↔ IsHolder depth identifier }
 {
-    depth <= 32 && !is_refused_identifier(identifier) && is_constructed_form(identifier)
+    depth <= MAX_DEPTH && !is_refused_identifier(identifier) && is_constructed_form(identifier)
 }
 
 /// How many octets the encoding of the tree has; `None` where it has none at this depth.

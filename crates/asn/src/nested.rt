@@ -42,7 +42,7 @@ impl<'a> Tlv<'a> {
     pub fn nested(&self) -> Result<Tlv<'a>, (Rule, usize)>
         ensures { Gives part result (nested (part self.now)) }
     {
-        let base = self.at + (self.whole.len() - self.body.len());
+        let base = self.body_at();
         match judge(self.body) {
             Ok(()) => Ok(whole_at(self.body, base)),
             Err((rule, at)) => Err((rule, base + at)),

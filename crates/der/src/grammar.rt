@@ -13,6 +13,9 @@ use crate::header::Header;
 use crate::identifier::is_constructed_form;
 use crate::quick::is_known;
 
+/// The depth of the deepest values, where the outermost is at depth 1.
+pub const MAX_DEPTH: u32 = 32;
+
 /// The value at the front of a text that goes to the end of the enclosing value: how many octets it has, or the first rule
 /// that is broken in it, and where.
 #[cycle(check)]
@@ -26,7 +29,7 @@ fn check_value(text: &[u8], depth: u32) -> Result<usize, (Rule, usize)>
         Ok(header) => header,
         Err(rule) => return Err((rule, 0)),
     };
-    if depth > 32 {
+    if depth > MAX_DEPTH {
         return Err((Rule::TooDeep, 0));
     }
     let end = header.len + header.contents;

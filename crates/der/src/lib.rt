@@ -14,7 +14,7 @@ mod quick;
 pub use contents::is_contents;
 pub use encoding::encoding_laws;
 pub use fault::{Fault, Rule};
-pub use grammar::check;
+pub use grammar::{MAX_DEPTH, check};
 pub use header::Header;
 pub use identifier::{is_constructed_form, is_refused_identifier};
 

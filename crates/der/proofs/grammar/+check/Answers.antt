@@ -30,8 +30,8 @@ end_is text header h = rw (h.len, h.contents) refl
 pub check_value-returns-in-Err-clause-err : goal.check_value-returns-in-Err-clause-err
 check_value-returns-in-Err-clause-err t c = refused_itself c.args.depth c.args.text.now c.in-Err.rule (c.in-Err.ensures.err c.args.depth).1
 
-pub check_value-returns-then-depth-gt32-clause-err : goal.check_value-returns-then-depth-gt32-clause-err
-check_value-returns-then-depth-gt32-clause-err t c = refused_itself c.args.depth c.args.text.now TooDeep (first_too_deep c.args.depth c.args.text.now c.in-Ok.ensures.ok.sound (omega arith))
+pub check_value-returns-then-depth-gt-MAX_DEPTH-clause-err : goal.check_value-returns-then-depth-gt-MAX_DEPTH-clause-err
+check_value-returns-then-depth-gt-MAX_DEPTH-clause-err t c = refused_itself c.args.depth c.args.text.now TooDeep (first_too_deep c.args.depth c.args.text.now c.in-Ok.ensures.ok.sound (omega arith))
 
 pub check_value-overflow_add-result : goal.check_value-overflow_add-result
 check_value-overflow_add-result t c =
