@@ -1,7 +1,3 @@
-pub mod Appending
 pub mod Pieces
-pub mod Shown
-pub mod Joining
-pub mod Oids
-pub mod Masks
+pub mod Answered
 pub mod Failures

@@ -1,11 +1,6 @@
-pub mod Printed
-pub mod EscapedText
-pub mod OidText
-pub mod NameText
-pub mod GeneralText
-pub mod CertificateText
-pub mod FingerprintText
-pub mod Unwritten
 pub mod Report
 pub mod Failures
 pub mod Outcome
+pub use Rattle.printing.specs.Printed
+pub use Rattle.printing.specs.CertificateText
+pub use Rattle.printing.specs.FingerprintText

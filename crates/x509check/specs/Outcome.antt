@@ -14,9 +14,9 @@ use Rattle.asn.specs.Encoding.{Encodes}
 use Rattle.x509check.specs.declared.refusal.Failure.{Failure}
 use Rattle.cert.specs.Certificate.{Certificate as Fields, certificate}
 use Rattle.cert.specs.SubjectPublicKeyInfo.{SubjectPublicKeyInfo}
-use Rattle.x509check.specs.Printed.{lines_of}
-use Rattle.x509check.specs.CertificateText.{certificate_text}
-use Rattle.x509check.specs.FingerprintText.{certificate_print_line}
+use Rattle.printing.specs.Printed.{lines_of}
+use Rattle.printing.specs.CertificateText.{certificate_text}
+use Rattle.printing.specs.FingerprintText.{certificate_print_line}
 use Rattle.x509check.specs.Failures.{Holding, IsFailureOn}
 use Rattle.x509check.specs.Report.{status_of}
 

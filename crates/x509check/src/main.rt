@@ -3,8 +3,6 @@
 
 mod execution;
 mod files;
-mod oid_text;
-mod printing;
 mod refusal;
 
 use execution::execute;

@@ -1,7 +1,7 @@
 use Rattle.std.proofs.Common.{rules}
-use Rattle.std.proofs.lemmas.Result.{on_ok_weaker}
 use Rattle.cert.specs.Certificate.{seen_certificate}
 use Rattle.x509check.specs.Outcome.{HoldsCertificate}
+use Rattle.x509check.proofs.Answered.{prints_under}
 use Rattle.x509check.proofs.Failures.{fails_later}
 use Rattle.x509check.proofs.execution.prints.Goals as goal
 
@@ -9,7 +9,7 @@ pub returns-clause-done : goal.returns-clause-done
 returns-clause-done g c =
     let signer = seen_certificate c.in_ok-signer.signer in
     let held : HoldsCertificate (g.S.Source.holds c.args.source.now) c.args.issuer.now signer = search rules in
-    on_ok_weaker c.print_under.result (λ said. (said.0, (signer, held, said.1), said.2)) c.print_under.ensures.done
+    prints_under (g.S.Source.holds c.args.source.now) c.args.issuer.now c.args.file.now c.args.kind signer (g.O.Write.contents c.args.out.now) (g.O.Write.contents c.print_under.new.out) c.print_under.result held c.print_under.ensures.done
 
 pub returns-clause-fails : goal.returns-clause-fails
 returns-clause-fails g c =

@@ -1,7 +1,7 @@
 use Rattle.std.proofs.Common.{refl}
 use Rattle.std.proofs.lemmas.Result.{on_ok_weaker}
 use Rattle.x509check.specs.Report.{refusal_line}
-use Rattle.x509check.proofs.Appending.{appends_both}
+use Rattle.printing.proofs.Laws.{appends_both}
 use Rattle.x509check.proofs.Pieces.{refusal_pieces}
 use Rattle.x509check.proofs.refusal.write_refusal.Goals as goal
 

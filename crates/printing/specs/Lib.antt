@@ -1,0 +1,13 @@
+pub mod Printed
+pub mod EscapedText
+pub mod OidText
+pub mod NameText
+pub mod GeneralText
+pub mod CertificateText
+pub mod FingerprintText
+pub mod Unwritten
+pub use Rattle.asn.specs.Value
+pub use Rattle.asn.specs.Encoding
+pub use Rattle.asn.specs.FirstFault
+pub use Rattle.cert.specs.Certificate
+pub use Rattle.cert.specs.SubjectPublicKeyInfo
