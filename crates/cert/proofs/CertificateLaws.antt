@@ -233,6 +233,17 @@ subject_again version left subject tagged found others is same are end =
 octets_behind : (front : List Place) (left others : List Place) → left ≡ front ++ others → AllByRecursion Octets left → AllByRecursion Octets others
 octets_behind front left others e fits = all_behind Octets front others (subst (AllByRecursion Octets) e fits)
 
+-- the members, from the values that the three steps took
+in_order : {left behind_head behind_subject others : Members} {head : TbsHead} {version : Version} {subject : Subject} {found : Extensions} (first : TakesHead left head behind_head) (second : TakesSubject version behind_head subject behind_subject) (third : TakesExtensions version behind_subject found others)
+    → others.values ≡ []
+    → left.values ≡ first.versions ++ (first.serial ∷ first.signature ∷ first.issuer ∷ first.validity ∷ (second.name ∷ second.key_info ∷ second.issuer_ids ++ (second.subject_ids ++ third.tagged)))
+in_order first second third none =
+    first.values
+    ∙ ap (λ vs. first.versions ++ (first.serial ∷ first.signature ∷ first.issuer ∷ first.validity ∷ vs))
+    (second.values
+    ∙ ap (λ vs. second.name ∷ second.key_info ∷ second.issuer_ids ++ (second.subject_ids ++ vs))
+    (third.values ∙ ap (◌++◌ third.tagged) none ∙ append-nil third.tagged))
+
 pub is_tbs : (value : Place) (fields : TbsCertificate) → AreOctets value.octets → tbs_certificate value ≡ Ok fields → IsTbsCertificate value fields
 unfolding tbs_certificate
 is_tbs value fields fits e =
@@ -246,7 +257,6 @@ is_tbs value fields fits e =
     let behind_key = (subst (AllByRecursion Octets) second.values behind_head).1.1 in
     let behind_ids = all_behind Octets second.subject_ids subject.0.1.values (all_behind Octets second.issuer_ids (second.subject_ids ++ subject.0.1.values) behind_key) in
     let third = optional_extensions_ok head.0.0.version subject.0.1 extensions.0 behind_ids extensions.1 in
-    let end = third.values ∙ ap (◌++◌ third.tagged) (ended_ok _ _ _ done.1) ∙ append-nil third.tagged in
     subst (IsTbsCertificate value) (ok_is {E = CertRule × ℕ} _ fields done.2) record {
       versions = first.versions;
       serial = first.serial;
@@ -258,10 +268,7 @@ is_tbs value fields fits e =
       issuer_ids = second.issuer_ids;
       subject_ids = second.subject_ids;
       extensions = third.tagged;
-      members_are =
-          first.values
-          ∙ ap (λ vs. first.versions ++ (first.serial ∷ first.signature ∷ first.issuer ∷ first.validity ∷ vs))
-          (second.values ∙ ap (λ vs. second.name ∷ second.key_info ∷ second.issuer_ids ++ (second.subject_ids ++ vs)) end);
+      members_are = in_order first second third (ended_ok _ _ _ done.1);
       version_is = first.version_is;
       serial_is = first.serial_is;
       signature_is = first.signature_is;

@@ -148,7 +148,7 @@ impl<'a> Extensions<'a> {
     /// Extensions ::= SEQUENCE SIZE (1..MAX) OF Extension
     ///
     /// What the extensions in the SEQUENCE say, or the first fault. Time is that of n log n for n octets; memory is taken
-    /// for the lists, and for the types while they are read.
+    /// for the lists, and while they are read for the types, where there are more than 16.
     #[tactic(auto, unfolding(crate::specs::Extensions::extensions))]
     pub(crate) fn read(alloc: Global, value: Tlv<'a>) -> Result<Extensions<'a>, CertFault>
         requires { value.tag ≡ 48 }

@@ -694,17 +694,39 @@ const EXTENSIONS: [&[u8]; 10] = [
     b"\x30\x06\x06\x02\x2A\x04\x04\x00",
 ];
 
+/// The plain certificate with these extensions, one behind the other.
+fn with_list(alloc: Global, list: &[u8]) -> Result<Vec<u8>, AllocError> {
+    let mut sequence = Vec::new(alloc);
+    push_value(&mut sequence, 0x30, list)?;
+    let mut tail = Vec::new(alloc);
+    push_value(&mut tail, 0xA3, &sequence)?;
+    plain_but(alloc, TAIL, &tail)
+}
+
 /// The plain certificate with these extensions.
 fn with_extensions(alloc: Global, extensions: &[&[u8]]) -> Result<Vec<u8>, AllocError> {
     let mut list = Vec::new(alloc);
     for extension in extensions {
         list.extend_from_slice(extension)?;
     }
-    let mut sequence = Vec::new(alloc);
-    push_value(&mut sequence, 0x30, &list)?;
-    let mut tail = Vec::new(alloc);
-    push_value(&mut tail, 0xA3, &sequence)?;
-    plain_but(alloc, TAIL, &tail)
+    with_list(alloc, &list)
+}
+
+/// Pushes an extension of 8 octets, whose type is 1.2 and the number.
+fn push_type(list: &mut Vec<u8>, number: u8) -> Result<(), AllocError> {
+    list.extend_from_slice(b"\x30\x06\x06\x02\x2A")?;
+    list.push(number)?;
+    list.extend_from_slice(b"\x04\x00")
+}
+
+/// The plain certificate with extensions of so many types, 1.2.1 and on, and behind them one of the last type.
+fn with_types(alloc: Global, count: u8, last: u8) -> Result<Vec<u8>, AllocError> {
+    let mut list = Vec::new(alloc);
+    for number in 1..=count {
+        push_type(&mut list, number)?;
+    }
+    push_type(&mut list, last)?;
+    with_list(alloc, &list)
 }
 
 #[test]
@@ -732,6 +754,28 @@ fn reads_extensions_of_each_kind(rt: HostRuntime) -> Result<(), Fail> {
     Ok(())
 }
 
+/// How many types there are, the number of one behind them, and where that is refused as repeated.
+const MANY: [(u8, u8, Option<usize>); 6] = [
+    (16, 17, None),
+    (17, 18, None),
+    (16, 1, Some(226)),
+    (17, 1, Some(234)),
+    (17, 16, Some(234)),
+    (17, 17, Some(234)),
+];
+
+#[test]
+fn tells_many_types_apart(rt: HostRuntime) -> Result<(), Fail> {
+    let alloc = rt.alloc();
+    for (count, last, at) in MANY {
+        let octets = with_types(alloc, count, last)?;
+        let answer = Certificate::read(alloc, &octets).err();
+        let wanted = at.map(|at| CertFault::Refused(CertRule::ExtensionRepeated, at));
+        assert_eq!(rt; answer, wanted, "{count} types, then {last}");
+    }
+    Ok(())
+}
+
 /// For every refused allocation: the answer is that of ample memory, or want of memory.
 #[test]
 fn wants_memory_or_answers(rt: HostRuntime) -> Result<(), Fail> {
@@ -741,6 +785,13 @@ fn wants_memory_or_answers(rt: HostRuntime) -> Result<(), Fail> {
     };
     match Certificate::read(alloc, &octets) {
         Ok(read) => assert_eq!(rt; read.extensions.unrecognised.len(), 2),
+        Err(fault) => assert_eq!(rt; fault, CertFault::Memory),
+    }
+    let Ok(octets) = with_types(alloc, 17, 18) else {
+        return Ok(());
+    };
+    match Certificate::read(alloc, &octets) {
+        Ok(read) => assert!(rt; read.extensions.unrecognised.is_empty()),
         Err(fault) => assert_eq!(rt; fault, CertFault::Memory),
     }
     Ok(())
