@@ -5,7 +5,7 @@ use Rattle.asn.specs.DerLaws.{AreOctets}
 use Rattle.asn.specs.Place.{Place, tag, body, inside}
 use Rattle.asn.specs.Members.{members}
 use Rattle.asn.proofs.Laws.{bind_ok, ok_is, check_again, is_a_ok, is_a_again}
-use Rattle.names.specs.declared.fault.NameFault.TheVariants.{NameLayout}
+use Rattle.names.specs.NameFault.TheVariants.{NameLayout}
 use Rattle.names.specs.GeneralLayout.{GeneralName, directory_name, dns_name, ip_address, other_name, form_of_identifier, general}
 use Rattle.names.specs.GeneralForms.{IsGeneralName}
 use Rattle.names.proofs.Laws.{general_names_are_read}

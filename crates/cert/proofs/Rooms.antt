@@ -3,7 +3,7 @@ use Rattle.std.proofs.Common.{◌≡◌, ◌<◌, ℕ, Result, Ok, Err}
 use Rattle.std.specs.Prelude.{nat_lt}
 use Rattle.std.proofs.lemmas.Bool.{ltb-true, lt-ltb}
 use Rattle.asn.proofs.Laws.{check_ok, check_again}
-use Rattle.names.specs.declared.fault.NameFault.{NameFault}
+use Rattle.names.specs.NameFault.{NameFault}
 use Rattle.cert.specs.declared.fault.CertRule.TheVariants.{Limit}
 use Rattle.cert.specs.Fault.{as_name}
 use Rattle.cert.specs.Limit.{has_room}

@@ -7,7 +7,7 @@ use Rattle.asn.specs.Place.{Place, tag, body, inside}
 use Rattle.asn.specs.Members.{members}
 use Rattle.asn.specs.Walk.{◌>>=◌, check_that, is_a, some, each}
 use Rattle.asn.specs.Judgement.{nested}
-use Rattle.names.specs.declared.fault.NameFault.TheVariants.{NameLayout}
+use Rattle.names.specs.NameFault.TheVariants.{NameLayout}
 use Rattle.names.specs.GeneralLayout.{GeneralName, form_of_identifier, general}
 use Rattle.names.specs.GeneralForms.{IsGeneralName}
 use Rattle.cert.specs.Fault.{as_der, as_name}

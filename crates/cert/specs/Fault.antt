@@ -1,7 +1,7 @@
 -- The numbers and names of the rules, and how faults of the layers below are passed on.
 use Rattle.std.specs.Prelude.{◌≡◌, ℕ, List, codes, Option, Some, None, Result, Ok, Err}
 use Rattle.asn.specs.Rule.{Rule}
-use Rattle.names.specs.declared.fault.NameFault.{NameFault}
+use Rattle.names.specs.NameFault.{NameFault}
 use Rattle.names.specs.Fault.{fault_number, fault_name}
 use Rattle.cert.specs.declared.fault.CertFault.{CertFault}
 use Rattle.cert.specs.declared.fault.CertFault.TheVariants.{Refused, Memory}

@@ -15,7 +15,7 @@ use Rattle.names.specs.GeneralCoverage.{is_among, are_among, is_address_of, is_r
 use Rattle.names.proofs.DomainLaws.{more_is_exact}
 use Rattle.names.proofs.Labels.{ends_in_is_exact}
 use Rattle.names.proofs.Ranges.{Same, same_of, agree_of}
-use Rattle.names.proofs.Matching.{within_is_exact}
+use Rattle.distinguished_names.proofs.Laws.{within_is_exact}
 
 among : (name : List ℕ) (domain : Domain) → is_in_domain name domain ≡ is_among name (domain_names domain)
 unfolding is_in_domain is_among

@@ -1,14 +1,3 @@
-mod Strings
-mod Distinct
-mod Reading
-mod Pairs
-mod Zipped
-mod NameLaws
-mod NameValues
-mod Splitting
-mod Words
-mod PreparedText
-mod PreparationLaws
 mod DnsNames
 mod Labels
 mod DomainLaws
@@ -17,20 +6,5 @@ mod Masks
 mod BaseLaws
 mod GeneralLaws
 mod CoverageLaws
-mod Matching
-mod Ordered
-mod Keys
-mod Fits
-mod SequenceFits
 mod Subtrees
-mod Runs
-mod InOrder
-mod Counting
-mod RunParts
-mod Agreement
-mod NewKinds
-mod Pointers
 pub mod Laws
-mod Sorting
-mod Batches
-mod Fronts

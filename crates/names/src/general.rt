@@ -3,7 +3,7 @@
 ghost use Rattle.std.specs.Prelude.{◌≡◌};
 ghost use Rattle.names.specs.GeneralName.{form_of_name};
 
-use crate::name::Name;
+use distinguished_names::Name;
 
 /// A form of general names.
 #[derive(Clone, Copy, PartialEq, Eq, Debug)]

@@ -10,12 +10,11 @@ ghost use Rattle.names.specs.GeneralForms.{GeneralNamesAreRead, SubtreeBasesAreR
 ghost use Rattle.names.specs.GeneralView.{name_contents, general_name, subtree_base};
 
 use crate::dns::{Domain, is_dns_name};
-use crate::fault::{NameFault, Refusal};
 use crate::general::{Form, General};
 use crate::ip::{IpFault, IpRange, is_ip_address};
-use crate::name::Name;
 use crate::subtree::Subtree;
 use asn::Tlv;
+use distinguished_names::{Name, NameFault, Refusal};
 
 const DIRECTORY_NAME: u8 = 0xA4;
 

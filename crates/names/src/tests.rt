@@ -1,108 +1,39 @@
 //! What no clause says: that the definitions are those of the standards, by rows worked by hand and taken from them.
 
 use super::*;
-use crate::attribute::is_well_formed_text;
-use asn::{Oid, whole};
-use std::alloc::{AllocError, Global};
+use asn::whole;
+use std::alloc::AllocError;
 use std::test::Fail;
 
-mod batches;
-mod comparison;
-mod layout;
-mod repetition;
-
-const COMMON_NAME: &[u8] = &[0x55, 0x04, 0x03];
-
-const COUNTRY: &[u8] = &[0x55, 0x04, 0x06];
-
-const ORGANIZATION: &[u8] = &[0x55, 0x04, 0x0A];
-
-/// 0.9.2342.19200300.100.1.25
-const DOMAIN_COMPONENT: &[u8] = &[0x09, 0x92, 0x26, 0x89, 0x93, 0xF2, 0x2C, 0x64, 0x01, 0x19];
-
-/// Types of three octets, in order, and one of two that they begin with.
-const SHORT_TYPE: &[u8] = &[0x55, 0x04];
-
-const TYPE_1: &[u8] = &[0x55, 0x04, 0x01];
-
-const TYPE_2: &[u8] = &[0x55, 0x04, 0x02];
-
-const TYPE_3: &[u8] = &[0x55, 0x04, 0x03];
-
-const TYPE_4: &[u8] = &[0x55, 0x04, 0x04];
-
-const TYPE_5: &[u8] = &[0x55, 0x04, 0x05];
-
-const TYPE_6: &[u8] = &[0x55, 0x04, 0x06];
-
-const UTF8: u8 = 12;
-
-const NUMERIC: u8 = 18;
-
-const PRINTABLE: u8 = 19;
-
-const TELETEX: u8 = 20;
-
-const IA5: u8 = 22;
-
-const BMP: u8 = 30;
+/// Octets, whether they are a DNS name, and whether they are the base of a constraint.
+const DNS_NAMES: [(&str, &[u8], bool, bool); 14] = [
+    ("a name", b"example.com", true, true),
+    ("one label", b"a", true, true),
+    ("nothing", b"", false, true),
+    ("a dot", b".", false, false),
+    ("an empty label", b"a..b", false, false),
+    ("a dot before", b".example", false, true),
+    ("two dots before", b"..example", false, false),
+    ("a dot after", b"example.", false, false),
+    ("a label of 63", &[b'a'; 63], true, true),
+    ("a label of 64", &[b'a'; 64], false, false),
+    ("a space", b"a b", false, false),
+    ("octet 7F", &[0x61, 0x7F], false, false),
+    ("octets 21 and 7E", &[0x21, 0x7E], true, true),
+    ("a star", b"*.example", true, true),
+];
 
 #[test]
-fn texts_are_well_formed(rt: HostRuntime) {
-    let rows: [(u8, &[u8], bool); 9] = [
-        (PRINTABLE, b"Example CA", true),
-        (PRINTABLE, &[0x80], false),
-        (IA5, &[0x7F], true),
-        (IA5, &[0x41, 0xFF], false),
-        (UTF8, &[0xC3, 0xA9], true),
-        (UTF8, &[0xC3], false),
-        (UTF8, &[0xED, 0xA0, 0x80], false),
-        (TELETEX, &[0xE9], true),
-        (UTF8, &[], true),
-    ];
-    for (tag, contents, want) in rows {
-        assert_eq!(rt; is_well_formed_text(tag, contents), want, "tag {tag}");
+fn dns_names_and_bases_are_read(rt: HostRuntime) -> Result<(), AllocError> {
+    for (what, octets, name, base) in DNS_NAMES {
+        assert_eq!(rt; is_dns_name(octets), name, "{what} as a name");
+        assert_eq!(rt; Domain::of_base(octets).is_some(), base, "{what} as a base");
     }
-}
-
-#[test]
-fn texts_are_prepared(rt: HostRuntime) -> Result<(), AllocError> {
-    let rows: [(&[u8], &[u8]); 8] = [
-        (b" Example   CA ", b"example ca"),
-        (b"example ca", b"example ca"),
-        (b"A  b", b"a b"),
-        (b"   ", b""),
-        (b"", b""),
-        (b"a\tB", b"a\tb"),
-        (&[0xC3, 0x89, 0x20, 0x20, 0x5A], &[0xC3, 0x89, 0x20, 0x7A]),
-        (b"AZ[@`az{", b"az[@`az{"),
-    ];
-    for (text, want) in rows {
-        let prepared = prepared_text(rt.alloc(), text)?;
-        assert!(rt; prepared.as_slice() == want, "prepared");
-        assert!(rt; same_prepared(text, want), "same");
-    }
-    for (left, right) in [
-        ("a b", "ab"),
-        ("a", "b"),
-        ("a", ""),
-        ("", "a"),
-        ("a b", "a"),
-        ("a", "a b"),
-    ] {
-        assert!(rt;
-            !same_prepared(left.as_bytes(), right.as_bytes()),
-            "{left} and {right}"
-        );
-    }
-    preparation_laws();
     Ok(())
 }
 
 #[test]
-fn dns_names_and_bases_are_read(rt: HostRuntime) -> Result<(), AllocError> {
-    let label_63 = [b'a'; 63];
-    let label_64 = [b'a'; 64];
+fn dns_names_have_253_octets_at_most(rt: HostRuntime) -> Result<(), AllocError> {
     let mut long = Vec::new(rt.alloc());
     for _ in 0..126 {
         long.extend_from_slice(b"a.")?;
@@ -119,26 +50,10 @@ fn dns_names_and_bases_are_read(rt: HostRuntime) -> Result<(), AllocError> {
         (name_253.len(), name_254.len(), dot_and_253.len()),
         (253, 254, 254)
     );
-
-    // the octets; whether they are a name; whether they are a base
-    let rows: [(&str, &[u8], bool, bool); 17] = [
-        ("a name", b"example.com", true, true),
-        ("one label", b"a", true, true),
-        ("nothing", b"", false, true),
-        ("a dot", b".", false, false),
-        ("an empty label", b"a..b", false, false),
-        ("a dot before", b".example", false, true),
-        ("two dots before", b"..example", false, false),
-        ("a dot after", b"example.", false, false),
-        ("a label of 63", &label_63, true, true),
-        ("a label of 64", &label_64, false, false),
+    let rows: [(&str, &[u8], bool, bool); 3] = [
         ("253 octets", name_253, true, true),
         ("254 octets", name_254, false, false),
         ("a dot and 253 octets", dot_and_253, false, true),
-        ("a space", b"a b", false, false),
-        ("octet 7F", &[0x61, 0x7F], false, false),
-        ("octets 21 and 7E", &[0x21, 0x7E], true, true),
-        ("a star", b"*.example", true, true),
     ];
     for (what, octets, name, base) in rows {
         assert_eq!(rt; is_dns_name(octets), name, "{what} as a name");
@@ -198,39 +113,38 @@ fn domains_cover_names(rt: HostRuntime) {
     domain_laws();
 }
 
+/// The bases of constraints on addresses, and how many ones their masks begin with.
+const IP_BASES: [(&str, &[u8], Result<u16, IpFault>); 9] = [
+    ("10/8", &[10, 0, 0, 0, 255, 0, 0, 0], Ok(8)),
+    ("10.1/16", &[10, 1, 0, 0, 255, 255, 0, 0], Ok(16)),
+    ("all", &[0, 0, 0, 0, 0, 0, 0, 0], Ok(0)),
+    ("one address", &[10, 1, 2, 3, 255, 255, 255, 255], Ok(32)),
+    (
+        "192.168.32/19",
+        &[192, 168, 32, 0, 255, 255, 224, 0],
+        Ok(19),
+    ),
+    ("version 6", &[0xFF; 32], Ok(128)),
+    (
+        "a hole between octets",
+        &[10, 0, 0, 0, 255, 0, 255, 0],
+        Err(IpFault::Mask),
+    ),
+    (
+        "a hole in an octet",
+        &[10, 0, 0, 0, 0xFD, 0, 0, 0],
+        Err(IpFault::Mask),
+    ),
+    ("an address alone", &[10, 0, 0, 0], Err(IpFault::Length)),
+];
+
 #[test]
 fn ip_bases_are_read(rt: HostRuntime) {
-    let rows: [(&str, &[u8], Result<u16, IpFault>); 8] = [
-        ("10/8", &[10, 0, 0, 0, 255, 0, 0, 0], Ok(8)),
-        ("10.1/16", &[10, 1, 0, 0, 255, 255, 0, 0], Ok(16)),
-        ("all", &[0, 0, 0, 0, 0, 0, 0, 0], Ok(0)),
-        ("one address", &[10, 1, 2, 3, 255, 255, 255, 255], Ok(32)),
-        (
-            "192.168.32/19",
-            &[192, 168, 32, 0, 255, 255, 224, 0],
-            Ok(19),
-        ),
-        (
-            "a hole between octets",
-            &[10, 0, 0, 0, 255, 0, 255, 0],
-            Err(IpFault::Mask),
-        ),
-        (
-            "a hole in an octet",
-            &[10, 0, 0, 0, 0xFD, 0, 0, 0],
-            Err(IpFault::Mask),
-        ),
-        ("an address alone", &[10, 0, 0, 0], Err(IpFault::Length)),
-    ];
-    for (what, base, want) in rows {
+    for (what, base, want) in IP_BASES {
         let prefix = IpRange::of_base(base).map(|range| range.prefix);
         assert!(rt; prefix == want, "{what}");
     }
-    let sixteen = [0xFF; 32];
-    assert!(rt;
-        IpRange::of_base(&sixteen).map(|range| range.prefix) == Ok(128),
-        "version 6"
-    );
+    let octets = [0xFF; 32];
     for (count, want) in [
         (4, true),
         (16, true),
@@ -239,7 +153,7 @@ fn ip_bases_are_read(rt: HostRuntime) {
         (15, false),
         (32, false),
     ] {
-        assert_eq!(rt; is_ip_address(&sixteen[..count]), want, "{count} octets");
+        assert_eq!(rt; is_ip_address(&octets[..count]), want, "{count} octets");
     }
 }
 
@@ -294,79 +208,9 @@ fn ranges_cover_addresses(rt: HostRuntime) {
     range_laws();
 }
 
-/// An attribute: the number of its RDN, its type, and the identifier octet and the contents of its value.
-type Row<'a> = (u8, &'a [u8], u8, &'a [u8]);
-
-/// A value with these contents, of fewer than 128 octets.
-fn value_of(alloc: Global, tag: u8, contents: &[u8]) -> Result<Vec<u8>, Fail> {
-    let mut out = vec![in alloc; tag; 1]?;
-    out.push(u8::try_from(contents.len())?)?;
-    out.extend_from_slice(contents)?;
-    Ok(out)
-}
-
-fn attribute_of(alloc: Global, row: &Row<'_>) -> Result<Vec<u8>, Fail> {
-    let (_, kind, tag, contents) = *row;
-    let mut members = value_of(alloc, 0x06, kind)?;
-    members.extend_from_slice(&value_of(alloc, tag, contents)?)?;
-    value_of(alloc, 0x30, &members)
-}
-
-fn rdn_of(alloc: Global, rows: &[Row<'_>]) -> Result<Vec<u8>, Fail> {
-    let mut attributes = Vec::new(alloc);
-    for row in rows {
-        attributes.extend_from_slice(&attribute_of(alloc, row)?)?;
-    }
-    value_of(alloc, 0x31, &attributes)
-}
-
-/// The octets of a name with these attributes. Neighbours with one number share an RDN.
-fn name_of(alloc: Global, rows: &[Row<'_>]) -> Result<Vec<u8>, Fail> {
-    let mut rdns = Vec::new(alloc);
-    for rdn in rows.chunk_by(|row, next| row.0 == next.0) {
-        rdns.extend_from_slice(&rdn_of(alloc, rdn)?)?;
-    }
-    value_of(alloc, 0x30, &rdns)
-}
-
 /// The name that the octets are.
 fn read(octets: &[u8]) -> Result<Name<'_>, Fail> {
     Ok(Name::read(whole(octets)?)?)
-}
-
-#[test]
-fn rows_are_spelled(rt: HostRuntime) -> Result<(), Fail> {
-    // two RDNs, the second with two attributes
-    let want = [
-        0x30, 0x24, 0x31, 0x0B, 0x30, 0x09, 0x06, 0x03, 0x55, 0x04, 0x06, 0x13, 0x02, 0x53, 0x45,
-        0x31, 0x15, 0x30, 0x08, 0x06, 0x03, 0x55, 0x04, 0x03, 0x0C, 0x01, 0x41, 0x30, 0x09, 0x06,
-        0x03, 0x55, 0x04, 0x0A, 0x13, 0x02, 0x42, 0x43,
-    ];
-    let rows: [Row<'_>; 3] = [
-        (1, COUNTRY, PRINTABLE, b"SE"),
-        (2, COMMON_NAME, UTF8, b"A"),
-        (2, ORGANIZATION, PRINTABLE, b"BC"),
-    ];
-    assert!(rt; name_of(rt.alloc(), &rows)?.as_slice() == &want[..]);
-    assert!(rt; name_of(rt.alloc(), &[])?.as_slice() == &[0x30, 0x00][..]);
-    Ok(())
-}
-
-#[test]
-fn faults_have_numbers_and_names(rt: HostRuntime) {
-    let rows = [
-        (NameFault::NameLayout, 11, "NameLayout"),
-        (NameFault::RdnRepeat, 12, "RdnRepeat"),
-        (NameFault::SetOrder, 13, "SetOrder"),
-        (NameFault::Text, 14, "Text"),
-        (NameFault::DnsForm, 15, "DnsForm"),
-        (NameFault::IpForm, 16, "IpForm"),
-        (NameFault::MaskForm, 17, "MaskForm"),
-    ];
-    for (fault, number, name) in rows {
-        assert_eq!(rt; fault.number(), number, "{fault}");
-        assert!(rt; fault.name() == name, "{fault}");
-    }
 }
 
 #[test]

@@ -1,0 +1,27 @@
+mod Strings
+mod Distinct
+mod Reading
+mod Pairs
+mod Zipped
+mod NameLaws
+mod NameValues
+mod Splitting
+mod Words
+mod PreparedText
+mod PreparationLaws
+mod Matching
+mod Ordered
+mod Keys
+mod Fits
+mod SequenceFits
+mod Runs
+mod InOrder
+mod Counting
+mod RunParts
+mod Agreement
+mod NewKinds
+mod Pointers
+pub mod Laws
+mod Sorting
+mod Batches
+mod Fronts

@@ -1,0 +1,22 @@
+use Rattle.std.proofs.Common.{refl, map, sym, ap, subst, arith}
+use Rattle.asn.specs.Members.{Members}
+use Rattle.asn.specs.Place.{part}
+use Rattle.distinguished_names.specs.NameParts.{AreRdns, map_at, rdns_at}
+use Rattle.distinguished_names.specs.NameView.{sequence_of}
+use Rattle.distinguished_names.specs.NameOctets.{raw_of, rdns_of}
+use Rattle.distinguished_names.proofs.Reading.{rdns_read}
+use Rattle.distinguished_names.proofs.name.Name.at.Goals as goal
+
+pub invariant_of-result : goal.invariant_of-result
+invariant_of-result c = record {
+  read = ∣ subst (λ (m : Members). AreRdns m.values) (sym c.in_ok-rdns.ensures.rdns) (rdns_read (part c.args.tlv) tt c.in_ok-rdns.ensures.walk) ∣₁;
+  short = let s = c.in_ok-rdns.ensures.short in omega arith;
+}
+
+pub returns-clause-raw : goal.returns-clause-raw
+unfolding raw_of
+returns-clause-raw c = refl
+
+pub returns-clause-rdns : goal.returns-clause-rdns
+unfolding rdns_of sequence_of rdns_at
+returns-clause-rdns c = ap (λ (m : Members). map map_at m.values) c.in_ok-rdns.ensures.rdns

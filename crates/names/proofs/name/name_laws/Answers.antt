@@ -1,7 +1,0 @@
-use Rattle.names.proofs.Matching.{matching_is_exact, within_is_exact}
-use Rattle.names.proofs.NameLaws.{name_is_exact}
-use Rattle.names.proofs.NameValues.{name_has_layout}
-use Rattle.names.proofs.name.name_laws.Goals as goal
-
-pub returns : goal.returns
-returns c = record { matching = matching_is_exact; within = within_is_exact; layout = name_is_exact; value = name_has_layout }

@@ -1,7 +1,0 @@
--- The members of an attribute, as places.
-use Rattle.asn.specs.Place.{part}
-use Rattle.names.specs.declared.attribute.AttributeMembers.{AttributeMembers}
-use Rattle.names.specs.NameLayout.{AttributePlaces}
-
-abbrev pub seen_members : AttributeMembers → AttributePlaces
-seen_members members = record { kind = part members.kind; value = part members.value }
