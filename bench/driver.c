@@ -1,11 +1,20 @@
 /* Measures the library beside a plain C checker, SHA-256, memcpy and OpenSSL's d2i_X509, on the texts that data.py writes.
  *
  *   driver compare FILE..   whether the library and the C checker name the same fault and place for each text
- *   driver check FILE       the octets that are checked each second
- *   driver read FILE        the certificates that are read each second
+ *   driver check FILE       for each row TITLE|OCTETS|TEXTS|SECONDS: how long all texts take to check
+ *   driver read FILE        the same to check and read certificates
  *   driver hostile FILE     one line: nanoseconds per octet to check and, where it is a certificate, to read the text
+ *
+ * Built with -DPLACE=N, the code of the checker and of the library stands 16 * N octets further on. On some processors that alone moves
+ * the speed of a loop by a quarter, so that `run` takes the best of four places.
  */
 #define _POSIX_C_SOURCE 199309L
+
+#ifdef PLACE
+#define WORDS_OF(number) #number
+#define SKIP(number) __asm__(".text\n.skip 16 * " WORDS_OF(number))
+SKIP(PLACE);
+#endif
 
 #include <stdbool.h>
 #include <stdint.h>
@@ -191,16 +200,11 @@ static void measure(struct row *rows, size_t count, const struct texts *texts)
     }
 }
 
-/* The first row is the plain C checker, whose speed the last column counts from. */
-static void print_table(struct row *rows, size_t count, const struct texts *texts)
+static void print_rows(struct row *rows, size_t count, const struct texts *texts)
 {
     measure(rows, count, texts);
-    for (size_t i = 0; i < count; i++) {
-        printf("  %-34s %8.0f MB/s", rows[i].title, (double)texts->octets / rows[i].best / 1e6);
-        if (texts->count > 1)
-            printf(" %12.0f texts/s", (double)texts->count / rows[i].best);
-        printf(" %9.3f\n", rows[0].best / rows[i].best);
-    }
+    for (size_t i = 0; i < count; i++)
+        printf("%s|%zu|%zu|%.9f\n", rows[i].title, texts->octets, texts->count, rows[i].best);
 }
 
 static void print_checks(const struct texts *texts)
@@ -214,7 +218,7 @@ static void print_checks(const struct texts *texts)
         {"memcpy", by_copying, 0},
     };
 
-    print_table(rows, sizeof rows / sizeof rows[0], texts);
+    print_rows(rows, sizeof rows / sizeof rows[0], texts);
 }
 
 static void print_reads(const struct texts *texts)
@@ -230,7 +234,7 @@ static void print_reads(const struct texts *texts)
         {"memcpy", by_copying, 0},
     };
 
-    print_table(rows, sizeof rows / sizeof rows[0], texts);
+    print_rows(rows, sizeof rows / sizeof rows[0], texts);
 }
 
 /* The title, the octets, and nanoseconds an octet: the C checker's, to check, and to read where it is a certificate. */

@@ -11,6 +11,9 @@ KIT is the folder of the Rattle kit, two above the command rt.
 import ctypes
 import sys
 
+FAULT_DER = 21
+KEY_CERT_SIGN = 1 << 5
+
 
 class Part(ctypes.Structure):
     _fields_ = [("offset", ctypes.c_size_t), ("length", ctypes.c_size_t)]
@@ -67,22 +70,33 @@ def fingerprint(library, *texts):
     return written.raw
 
 
-def main(path, file):
-    library = load(path)
-    octets = open(file, "rb").read()
-    answer = library.x509check_read_certificate(octets, len(octets))
-    if answer.fault:
-        print("refused: fault", answer.fault, "DER", answer.der_fault, "at", answer.offset)
-        return 1
-    fields = answer.fields
+def print_certificate(octets, fields):
     print("version", fields.version)
-    for name in ("serial", "issuer", "subject", "key"):
+    for name in ("serial", "issuer", "subject"):
         print(name, getattr(fields, name).of(octets).hex())
     print("from", fields.not_before)
     print("until", fields.not_after)
-    print("authority", fields.extensions.is_authority, "path length", fields.extensions.path_length)
-    texts = (getattr(fields, name).of(octets) for name in ("algorithm", "subject_public_key_info", "tbs", "signature"))
-    print("fingerprint", fingerprint(library, *texts).hex())
+    print("key", fields.key.of(octets).hex())
+    extensions = fields.extensions
+    if extensions.is_authority:
+        print("authority" + (f", path length {extensions.path_length}" if extensions.has_path_length else ""))
+    if extensions.key_usage & KEY_CERT_SIGN:
+        print("signs certificates")
+    print(extensions.alternative_names, "alternative names")
+
+
+def main(path, file):
+    library = load(path)
+    with open(file, "rb") as opened:
+        octets = opened.read()
+    answer = library.x509check_read_certificate(octets, len(octets))
+    if answer.fault:
+        der = f" (DER {answer.der_fault})" if answer.fault == FAULT_DER else ""
+        print(f"refused: fault {answer.fault}{der} at {answer.offset}")
+        return 1
+    print_certificate(octets, answer.fields)
+    texts = (getattr(answer.fields, name).of(octets) for name in ("algorithm", "subject_public_key_info", "tbs", "signature"))
+    print("fingerprint of the signature, as one under the certificate's own key", fingerprint(library, *texts).hex())
     return 0
 
 

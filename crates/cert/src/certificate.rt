@@ -174,7 +174,7 @@ impl<'a> Certificate<'a> {
     /// The certificate that the octets are, or the first fault in them.
     ///
     /// Time is that of n log n for n octets. Memory is taken for the lists in `extensions`, and, while it reads, for the
-    /// types of the extensions; `CertFault::Memory` is answered only where that was refused.
+    /// types of the extensions past the sixteenth; `CertFault::Memory` is answered only where that was refused.
     #[tactic(auto, unfolding(crate::specs::Certificate::certificate))]
     pub fn read(alloc: Global, octets: &'a [u8]) -> Result<Certificate<'a>, CertFault>
         ensures { GivesUnlessFull seen_certificate result (certificate octets.now) }
