@@ -6,7 +6,7 @@
  *   driver hostile FILE     one line: nanoseconds per octet to check and, where it is a certificate, to read the text
  *
  * Built with -DPLACE=N, the code of the checker and of the library stands 16 * N octets further on. On some processors that alone moves
- * the speed of a loop by a quarter, so that `run` takes the best of four places.
+ * the speed of a loop by a fifth, so that `run` takes the best of four places.
  */
 #define _POSIX_C_SOURCE 199309L
 
