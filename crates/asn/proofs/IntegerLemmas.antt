@@ -23,7 +23,7 @@ sub_greater : (a b n : ℕ) → a < b → pos a -ℤ pos b ≡ pos n → ⊥
 sub_greater a b n less same = omega (arith, ints)
 
 -- where bit 8 of the first octet is 0, the value is that of the bits
-value_of_positive : (first : ℕ) (rest : List ℕ) → first < 128 → integer_value (first ∷ rest) ≡ pos (binary_value (first ∷ rest))
+pub value_of_positive : (first : ℕ) (rest : List ℕ) → first < 128 → integer_value (first ∷ rest) ≡ pos (binary_value (first ∷ rest))
 unfolding integer_value binary_value
 value_of_positive first rest low =
     let worth : ℕ = 256 ^ length rest in
@@ -63,7 +63,7 @@ magnitude_of_positive (first ∷ second ∷ rest) some low =
       shortest = λ _. some;
     }
 
-binary_value-zero_first : (first : ℕ) (rest : List ℕ) → first ≡ 0 → binary_value (first ∷ rest) ≡ binary_value rest
+pub binary_value-zero_first : (first : ℕ) (rest : List ℕ) → first ≡ 0 → binary_value (first ∷ rest) ≡ binary_value rest
 unfolding binary_value
 binary_value-zero_first first rest none =
     let worth : ℕ = 256 ^ length rest in

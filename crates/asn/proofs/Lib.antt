@@ -5,7 +5,6 @@ mod Shown
 mod NextShown
 mod PlaceLemmas
 mod Sizes
-mod TreeValues
 mod Judgements
 mod MemberLemmas
 mod PartLemmas

@@ -8,7 +8,6 @@ use Rattle.std.proofs.lemmas.Float.{T_from_true}
 use Rattle.std.proofs.lemmas.Slice.Eq.{bytes_eq-Decides}
 use Rattle.jiff_core.specs.Calendar.{IsCivilDate, IsYear, days_in_month}
 use Rattle.asn.specs.Time.{CivilTime, IsCivilTime, IsUtcTime, IsGeneralizedTime, IsTime, SpellsTime, two_digits, text_after_year, time_value, number_at, time_in_year, year_of_utc, is_in_range, is_civil_date, is_clock_time, is_civil_time, is_utc_time, is_generalized_time, utc_time_in, generalized_time_in, seconds_where, seconds_in}
-use Rattle.asn.specs.declared.time.TheConstants.{UTC_TIME, GENERALIZED_TIME}
 
 le : (a b : ℕ) → Decides (nat_le a b) (a ≤ b)
 le a b = (leb-true a b, le-leb a b)
@@ -97,7 +96,7 @@ where_true : (b : Bool) (t : CivilTime) (s : ℤ) → seconds_where b t ≡ Some
 where_true true t s e = (refl, cc)
 where_true false t s e = absurd cc
 
-of_utc : (text : List ℕ) (t : CivilTime) (s : ℤ) → seconds_where (is_civil_time t && is_utc_time text t) t ≡ Some s → IsTime UTC_TIME text s
+of_utc : (text : List ℕ) (t : CivilTime) (s : ℤ) → seconds_where (is_civil_time t && is_utc_time text t) t ≡ Some s → IsTime 23 text s
 of_utc text t s e =
     let w = where_true (is_civil_time t && is_utc_time text t) t s e in
     let h = (Decides-and _ _ (civil t) (utc text t)).0 w.0 in
@@ -106,7 +105,7 @@ of_utc text t s e =
 below_10000 : (t : CivilTime) → is_civil_time t ≡ true → t.year ≤ 9999
 below_10000 t e = (le t.year 9999).0 (year_is t.year ((civil t).0 e).date.0)
 
-of_generalized : (text : List ℕ) (t : CivilTime) (s : ℤ) → seconds_where (is_civil_time t && is_generalized_time text t) t ≡ Some s → IsTime GENERALIZED_TIME text s
+of_generalized : (text : List ℕ) (t : CivilTime) (s : ℤ) → seconds_where (is_civil_time t && is_generalized_time text t) t ≡ Some s → IsTime 24 text s
 of_generalized text t s e =
     let w = where_true (is_civil_time t && is_generalized_time text t) t s e in
     let both = Decides-and _ _ (is_true (is_civil_time t)) (is_true (is_generalized_time text t)) in
@@ -114,17 +113,17 @@ of_generalized text t s e =
     record { time = t; exists = (civil t).0 h.0; spelled = inr (refl, (generalized text t (below_10000 t h.0)).0 h.1); value = w.1 }
 
 -- the tests of the tag, one after the other
-by_tag : (tag : ℕ) (a b : Option ℤ) (s : ℤ) → (if tag == UTC_TIME then a else (if tag == GENERALIZED_TIME then b else None)) ≡ Some s → ((tag ≡ UTC_TIME) × (a ≡ Some s)) ⊎ ((tag ≡ GENERALIZED_TIME) × (b ≡ Some s))
-by_tag tag a b s e = by (tag == UTC_TIME) (tag == GENERALIZED_TIME) refl refl e where
-  by : (u g : Bool) → (tag == UTC_TIME) ≡ u → (tag == GENERALIZED_TIME) ≡ g → (if u then a else (if g then b else None)) ≡ Some s → ((tag ≡ UTC_TIME) × (a ≡ Some s)) ⊎ ((tag ≡ GENERALIZED_TIME) × (b ≡ Some s))
-  by true g is_utc is_generalized e = inl (eqb-true tag UTC_TIME is_utc, e)
-  by false true is_utc is_generalized e = inr (eqb-true tag GENERALIZED_TIME is_generalized, e)
+by_tag : (tag : ℕ) (a b : Option ℤ) (s : ℤ) → (if tag == 23 then a else (if tag == 24 then b else None)) ≡ Some s → ((tag ≡ 23) × (a ≡ Some s)) ⊎ ((tag ≡ 24) × (b ≡ Some s))
+by_tag tag a b s e = by (tag == 23) (tag == 24) refl refl e where
+  by : (u g : Bool) → (tag == 23) ≡ u → (tag == 24) ≡ g → (if u then a else (if g then b else None)) ≡ Some s → ((tag ≡ 23) × (a ≡ Some s)) ⊎ ((tag ≡ 24) × (b ≡ Some s))
+  by true g is_utc is_generalized e = inl (eqb-true tag 23 is_utc, e)
+  by false true is_utc is_generalized e = inr (eqb-true tag 24 is_generalized, e)
   by false false is_utc is_generalized e = absurd cc
 
 pub time_of : (tag : ℕ) (text : List ℕ) (s : ℤ) → seconds_in tag text ≡ Some s → IsTime tag text s
 unfolding seconds_in
 time_of tag text s e = of (by_tag tag _ _ s e) where
-  of : ((tag ≡ UTC_TIME) × (seconds_where (is_civil_time (utc_time_in text) && is_utc_time text (utc_time_in text)) (utc_time_in text) ≡ Some s)) ⊎ ((tag ≡ GENERALIZED_TIME) × (seconds_where (is_civil_time (generalized_time_in text) && is_generalized_time text (generalized_time_in text)) (generalized_time_in text) ≡ Some s)) → IsTime tag text s
+  of : ((tag ≡ 23) × (seconds_where (is_civil_time (utc_time_in text) && is_utc_time text (utc_time_in text)) (utc_time_in text) ≡ Some s)) ⊎ ((tag ≡ 24) × (seconds_where (is_civil_time (generalized_time_in text) && is_generalized_time text (generalized_time_in text)) (generalized_time_in text) ≡ Some s)) → IsTime tag text s
   of (inl (t, e)) = subst (λ k. IsTime k text s) (sym t) (of_utc text (utc_time_in text) s e)
   of (inr (t, e)) = subst (λ k. IsTime k text s) (sym t) (of_generalized text (generalized_time_in text) s e)
 

@@ -6,7 +6,6 @@ use Rattle.asn.specs.Place.{Place, tag, body}
 use Rattle.asn.specs.Members.{Members}
 use Rattle.asn.specs.Time.{IsTime, seconds_in}
 use Rattle.asn.specs.Walk.{◌>>=◌, choice, is_one_of, or_fault, seconds, time}
-use Rattle.asn.specs.declared.time.TheConstants.{UTC_TIME, GENERALIZED_TIME}
 use Rattle.asn.proofs.Walks.{bind_ok, ok_is, choice_ok, choice_again, TakesNext}
 use Rattle.asn.specs.Layout.{IsEncodingOf, HasTimeLayout}
 use Rattle.asn.proofs.Layouts.{as_primitive, of_primitive}
@@ -32,23 +31,23 @@ pub record TakesTime (left : Members) (value : Place) (moment : ℤ) (others : M
 pub time_ok : {F : Type 0} (layout fault : F) (left : Members) (x : ℤ × Members) → time layout fault left ≡ Ok x → (value : Place) × TakesTime left value x.0 x.1
 unfolding time
 time_ok layout fault left x e =
-    let v = bind_ok (choice (UTC_TIME ∷ GENERALIZED_TIME ∷ []) layout left) (λ value. seconds fault value.0 >>= λ moment. Ok (moment, value.1)) x e in
+    let v = bind_ok (choice (0x17 ∷ 0x18 ∷ []) layout left) (λ value. seconds fault value.0 >>= λ moment. Ok (moment, value.1)) x e in
     let m = bind_ok (seconds fault v.0.0) (λ moment. Ok (moment, v.0.1)) x v.2 in
     let P : ℤ × Members → Type 0 = λ y. TakesTime left v.0.0 y.0 y.1 in
-    let took = choice_ok (UTC_TIME ∷ GENERALIZED_TIME ∷ []) layout left v.0 v.1 in
+    let took = choice_ok (0x17 ∷ 0x18 ∷ []) layout left v.0 v.1 in
     (v.0.0, subst P (ok_is (m.0, v.0.1) x m.2) record { next = took.next; is_time = seconds_ok fault v.0.0 m.0 m.1 })
 
 -- a time has the identifier of one, which is primitive
-of_spelling : (identifier : ℕ) (A B : Type 0) → ((identifier ≡ UTC_TIME) × A) ⊎ ((identifier ≡ GENERALIZED_TIME) × B) → (is_one_of (UTC_TIME ∷ GENERALIZED_TIME ∷ []) identifier ≡ true) × (is_constructed identifier ≡ false)
+of_spelling : (identifier : ℕ) (A B : Type 0) → ((identifier ≡ 0x17) × A) ⊎ ((identifier ≡ 0x18) × B) → (is_one_of (0x17 ∷ 0x18 ∷ []) identifier ≡ true) × (is_constructed identifier ≡ false)
 of_spelling identifier A B (inl (is, a)) = rw is (refl, refl)
 of_spelling identifier A B (inr (is, b)) = rw is (refl, refl)
 
-pub time_tag : (identifier : ℕ) (text : List ℕ) (moment : ℤ) → IsTime identifier text moment → (is_one_of (UTC_TIME ∷ GENERALIZED_TIME ∷ []) identifier ≡ true) × (is_constructed identifier ≡ false)
+pub time_tag : (identifier : ℕ) (text : List ℕ) (moment : ℤ) → IsTime identifier text moment → (is_one_of (0x17 ∷ 0x18 ∷ []) identifier ≡ true) × (is_constructed identifier ≡ false)
 time_tag identifier text moment is = of_spelling identifier _ _ is.spelled
 
 pub time_again : {F : Type 0} (layout fault : F) (left : Members) (value : Place) (others : List Place) (moment : ℤ) → left.values ≡ value ∷ others → IsTime (tag value) (body value) moment → time layout fault left ≡ Ok (moment, record { values = others; end = left.end })
 unfolding time
-time_again layout fault left value others moment e is = rw (choice_again (UTC_TIME ∷ GENERALIZED_TIME ∷ []) layout left value others e (time_tag (tag value) (body value) moment is).0, seconds_are fault value moment is) refl
+time_again layout fault left value others moment e is = rw (choice_again (0x17 ∷ 0x18 ∷ []) layout left value others e (time_tag (tag value) (body value) moment is).0, seconds_are fault value moment is) refl
 
 -- a place that holds a value shows a time exactly where the value is one
 pub as_time : {value : Value} {place : Place} {moment : ℤ} → IsEncodingOf value place → IsTime (tag place) (body place) moment → HasTimeLayout value moment

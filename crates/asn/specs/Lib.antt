@@ -6,9 +6,7 @@ pub mod Walk
 pub mod Judgement
 pub mod Layout
 pub mod ListLayout
-pub mod Tree
 pub mod Size
-pub mod Fault
 pub mod Integer
 pub mod NumberLaws
 pub mod Oid

@@ -3,7 +3,6 @@
 use Rattle.std.specs.Prelude.{◌≡◌, ◌↔◌, ◌⊎◌, ◌<◌, ◌≤◌, ◌+◌, ◌-◌, ◌*◌, ◌/◌, ◌%◌, ℕ, List, [], ◌∷◌, ◌++◌, ℤ, pos, ◌+ℤ◌, ◌*ℤ◌, codes, slice_index}
 use Rattle.std.specs.Prelude.{Bool, ◌&&◌, ◌==◌, nat_lt, nat_le, bytes_eq, if◌then◌else◌, Option, Some, None}
 use Rattle.jiff_core.specs.Calendar.{IsCivilDate, days_from_civil, days_in_month}
-use Rattle.asn.specs.declared.time.TheConstants.{UTC_TIME, GENERALIZED_TIME}
 
 -- a number below 100 in two decimal digits
 abbrev pub two_digits : ℕ → List ℕ
@@ -43,11 +42,11 @@ pub record IsGeneralizedTime (text : List ℕ) (time : CivilTime) : Type 0 where
   pub spelled :
       text ≡ two_digits (time.year / 100) ++ two_digits (time.year % 100) ++ text_after_year time
 
--- the content under that tag spells the time
+-- the content under that tag spells the time: 23 is UTCTime, 24 GeneralizedTime (X.680 8.4)
 abbrev pub SpellsTime : ℕ → List ℕ → CivilTime → Type 0
 SpellsTime tag text time =
-    ((tag ≡ UTC_TIME) × IsUtcTime text time)
-    ⊎ ((tag ≡ GENERALIZED_TIME) × IsGeneralizedTime text time)
+    ((tag ≡ 23) × IsUtcTime text time)
+    ⊎ ((tag ≡ 24) × IsGeneralizedTime text time)
 
 -- the seconds from 1970-01-01T00:00:00Z: of the whole days, and of the day
 abbrev pub time_value : CivilTime → ℤ
@@ -141,8 +140,8 @@ seconds_of_generalized text time = seconds_where (is_civil_time time && is_gener
 -- the seconds from 1970-01-01T00:00:00Z of a content under a tag, where it is a time
 unfoldable pub seconds_in : ℕ → List ℕ → Option ℤ
 seconds_in tag text =
-    if tag == UTC_TIME then seconds_of_utc text (utc_time_in text)
-    else (if tag == GENERALIZED_TIME then seconds_of_generalized text (generalized_time_in text) else None)
+    if tag == 23 then seconds_of_utc text (utc_time_in text)
+    else (if tag == 24 then seconds_of_generalized text (generalized_time_in text) else None)
 
 -- and these are the seconds of which the content is the time
 abbrev pub TimeIsExact : Type 0

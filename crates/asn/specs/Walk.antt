@@ -4,7 +4,6 @@ use Rattle.std.specs.List.{list_any}
 use Rattle.asn.specs.Place.{Place, tag, body}
 use Rattle.asn.specs.Members.{Members, none_left, next_at}
 use Rattle.asn.specs.Time.{seconds_in}
-use Rattle.asn.specs.declared.time.TheConstants.{UTC_TIME, GENERALIZED_TIME}
 
 infixl 10 ◌>>=◌
 abbrev pub ◌>>=◌ : {A B E : Type 0} → Result A E → (A → Result B E) → Result B E
@@ -90,7 +89,7 @@ seconds fault value = or_fault (seconds_in (tag value) (body value)) fault value
 -- Time ::= CHOICE { utcTime UTCTime, generalTime GeneralizedTime } (RFC 5280, 4.1): the next value is one, and a time
 unfoldable pub time : {F : Type 0} → F → F → Members → Result (ℤ × Members) (F × ℕ)
 time layout fault left = do
-  value ← choice (UTC_TIME ∷ GENERALIZED_TIME ∷ []) layout left
+  value ← choice (0x17 ∷ 0x18 ∷ []) layout left
   moment ← seconds fault value.0
   Ok (moment, value.1)
 

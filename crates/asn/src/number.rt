@@ -129,6 +129,3 @@ impl Ord for Number20 {
         self.octets.cmp(&other.octets)
     }
 }
-
-#[cfg(test)]
-mod tests;

@@ -31,6 +31,3 @@ impl<'a> Oid<'a> {
         self.contents == contents
     }
 }
-
-#[cfg(test)]
-mod tests;

@@ -74,8 +74,8 @@ fn seconds_in_year(year: u16, text: &[u8]) -> Option<i64>
 
 /// The seconds of YYMMDDHHMMSSZ. YY from 50 on is 19YY, and else 20YY (RFC 5280 4.1.2.5.1).
 fn seconds_of_utc_time(text: &[u8]) -> Option<i64>
-    ensures some { IfSome result (IsTime UTC_TIME text.now) }
-    ensures none { IfNone result ((seconds : ℤ) → IsTime UTC_TIME text.now seconds → ⊥) }
+    ensures some { IfSome result (IsTime 23 text.now) }
+    ensures none { IfNone result ((seconds : ℤ) → IsTime 23 text.now seconds → ⊥) }
 {
     if text.len() != 13 {
         return None;
@@ -87,8 +87,8 @@ fn seconds_of_utc_time(text: &[u8]) -> Option<i64>
 
 /// The seconds of YYYYMMDDHHMMSSZ (RFC 5280 4.1.2.5.2).
 fn seconds_of_generalized_time(text: &[u8]) -> Option<i64>
-    ensures some { IfSome result (IsTime GENERALIZED_TIME text.now) }
-    ensures none { IfNone result ((seconds : ℤ) → IsTime GENERALIZED_TIME text.now seconds → ⊥) }
+    ensures some { IfSome result (IsTime 24 text.now) }
+    ensures none { IfNone result ((seconds : ℤ) → IsTime 24 text.now seconds → ⊥) }
 {
     if text.len() != 15 {
         return None;
@@ -119,6 +119,3 @@ pub fn time_laws()
     ensures unique { TimesAreUnique }
     ensures exact { TimeIsExact }
 {}
-
-#[cfg(test)]
-mod tests;

@@ -1,6 +1,6 @@
 //! Reading the values of a layout from left to right.
 
-ghost use Rattle.std.specs.Prelude.{◌≡◌, ◌<◌, true, length, IfOk, IfSome};
+ghost use Rattle.std.specs.Prelude.{◌≡◌, ◌<◌, true, length, IfOk, IfSome, OnErr};
 ghost use Rattle.der.specs.Identifier.{is_constructed};
 ghost use Rattle.der.specs.Length.{contents_limit};
 ghost use Rattle.asn.specs.Place.{part, remaining};
@@ -10,6 +10,7 @@ ghost use Rattle.asn.specs.Walk.{Gives, seen, is_a, required, choice, optional, 
 use crate::time::{GENERALIZED_TIME, UTC_TIME, seconds_of_time};
 use crate::tlv::{Cursor, Tlv};
 
+// A step that looks at the next value stands behind it, where there is one, whether it takes the value or refuses it.
 impl<'a> Cursor<'a> {
     /// Whether the next value is there and has this identifier octet.
     pub fn begins(&self, tag: u8) -> bool
@@ -23,10 +24,11 @@ impl<'a> Cursor<'a> {
 
     /// Takes the next value, which must have this identifier octet; else the fault, at the next value, or at the end of
     /// the enclosing value where none is left.
-    #[tactic(auto, unfolding(crate::specs::Walk::required, crate::specs::Members::next_at))]
+    #[tactic(auto, unfolding(crate::specs::Walk::required, crate::specs::Members::next_at, crate::specs::Walk::any))]
     pub fn required<F: Copy>(&mut self, tag: u8, fault: F) -> Result<Tlv<'a>, (F, usize)>
         ensures walk { Gives (λ tlv. (part tlv, left self.new)) result (required tag fault (left self.old)) }
         ensures tag { IfOk result (λ tlv. tlv.tag ≡ tag) }
+        ensures passed { left self.new ≡ (any (left self.old)).1 }
     {
         let at = self.at();
         match self.next() {
@@ -39,7 +41,8 @@ impl<'a> Cursor<'a> {
     /// end of the enclosing value where none is left.
     #[tactic(auto, unfolding(crate::specs::Walk::choice, crate::specs::Walk::check_that))]
     pub fn choice<F: Copy>(&mut self, tags: &[u8], fault: F) -> Result<Tlv<'a>, (F, usize)>
-        ensures { Gives (λ tlv. (part tlv, left self.new)) result (choice tags.now fault (left self.old)) }
+        ensures walk { Gives (λ tlv. (part tlv, left self.new)) result (choice tags.now fault (left self.old)) }
+        ensures passed { left self.new ≡ (any (left self.old)).1 }
     {
         let value = self.next_or(fault)?;
         if tags.contains(&value.tag) {
@@ -53,7 +56,8 @@ impl<'a> Cursor<'a> {
     /// the fault `layout`, as of `choice`, where it is neither; else `fault`, at the value, where it is no time.
     #[tactic(auto, unfolding(crate::specs::Walk::time))]
     pub fn time<F: Copy>(&mut self, layout: F, fault: F) -> Result<i64, (F, usize)>
-        ensures { Gives (λ moment. (moment, left self.new)) result (time layout fault (left self.old)) }
+        ensures walk { Gives (λ moment. (moment, left self.new)) result (time layout fault (left self.old)) }
+        ensures passed { left self.new ≡ (any (left self.old)).1 }
     {
         let value = self.choice(&[UTC_TIME, GENERALIZED_TIME], layout)?;
         value.seconds(fault)
@@ -69,9 +73,10 @@ impl<'a> Cursor<'a> {
     }
 
     /// Takes a BOOLEAN DEFAULT FALSE, which is TRUE where it is there (X.690, 11.5); else the fault, at the BOOLEAN.
-    #[tactic(auto, unfolding(crate::specs::Walk::default_false))]
+    #[tactic(auto, unfolding(crate::specs::Walk::default_false, crate::specs::Walk::any, crate::specs::Walk::optional))]
     pub fn default_false<F: Copy>(&mut self, fault: F) -> Result<bool, (F, usize)>
-        ensures { Gives (λ flag. (flag, left self.new)) result (default_false fault (left self.old)) }
+        ensures walk { Gives (λ flag. (flag, left self.new)) result (default_false fault (left self.old)) }
+        ensures passed { OnErr result (left self.new ≡ (any (left self.old)).1) }
     {
         match self.optional(0x01) {
             None => Ok(false),
@@ -91,9 +96,10 @@ impl<'a> Cursor<'a> {
     }
 
     /// Takes the next value, of any kind; the fault, at the end of the enclosing value, where none is left.
-    #[tactic(auto, unfolding(crate::specs::Walk::next_or, crate::specs::Members::next_at))]
+    #[tactic(auto, unfolding(crate::specs::Walk::next_or, crate::specs::Members::next_at, crate::specs::Walk::any))]
     pub fn next_or<F: Copy>(&mut self, fault: F) -> Result<Tlv<'a>, (F, usize)>
-        ensures { Gives (λ tlv. (part tlv, left self.new)) result (next_or fault (left self.old)) }
+        ensures walk { Gives (λ tlv. (part tlv, left self.new)) result (next_or fault (left self.old)) }
+        ensures passed { left self.new ≡ (any (left self.old)).1 }
     {
         let at = self.at();
         match self.next() {

@@ -47,9 +47,21 @@ two i n tail low high =
       bounded = omega arith;
     }
 
-three : (i n : ℕ) (tail : List ℕ) → 65536 ≤ n → n < contents_limit → IsLengthOf (i ∷ 131 ∷ n / 65536 ∷ n / 256 % 256 ∷ n % 256 ∷ tail) 5 n
+three : (i n : ℕ) (tail : List ℕ) → 65536 ≤ n → n < 16777216 → IsLengthOf (i ∷ 131 ∷ n / 65536 ∷ n / 256 % 256 ∷ n % 256 ∷ tail) 5 n
 three i n tail low high =
     let text = i ∷ 131 ∷ n / 65536 ∷ n / 256 % 256 ∷ n % 256 ∷ tail in
+    let e : contents_len text ≡ n = omega arith in
+    record {
+      len_is = refl;
+      contents_is = sym e;
+      whole = (omega arith, omega arith);
+      form = long_form text (omega arith) (omega arith) (omega arith) (omega arith);
+      bounded = omega arith;
+    }
+
+four : (i n : ℕ) (tail : List ℕ) → 16777216 ≤ n → n < contents_limit → IsLengthOf (i ∷ 132 ∷ n / 16777216 ∷ n / 65536 % 256 ∷ n / 256 % 256 ∷ n % 256 ∷ tail) 6 n
+four i n tail low high =
+    let text = i ∷ 132 ∷ n / 16777216 ∷ n / 65536 % 256 ∷ n / 256 % 256 ∷ n % 256 ∷ tail in
     let e : contents_len text ≡ n = omega arith in
     record {
       len_is = refl;
@@ -67,7 +79,10 @@ lengths i n tail bounded =
         | inl b ↦ rw (lt-ltb n 256 b) (one i n tail a b)
         | inr b ↦ rw (le-ltb n 256 b) (elim (cases_lt n 65536) [
           | inl c ↦ rw (lt-ltb n 65536 c) (two i n tail b c)
-          | inr c ↦ rw (le-ltb n 65536 c) (three i n tail c bounded)
+          | inr c ↦ rw (le-ltb n 65536 c) (elim (cases_lt n 16777216) [
+            | inl d ↦ rw (lt-ltb n 16777216 d) (three i n tail c d)
+            | inr d ↦ rw (le-ltb n 16777216 d) (four i n tail d bounded)
+          ])
         ])
       ])
     ]

@@ -9,7 +9,7 @@ use Rattle.der.specs.Length.{number, contents_limit, header_len, contents_len, e
 use Rattle.der.specs.FirstFault.{Breaks, BreaksFirst}
 use Rattle.der.specs.Fault.{rule_number}
 use Rattle.der.specs.Header.{KeepsLength}
-use Rattle.der.proofs.Numbers.{number-long}
+use Rattle.der.proofs.Numbers.{IsPastLimit, number-long}
 
 pub header_len-long : (text : List ℕ) → 128 ≤ get_or text 1 0 → header_len text ≡ get_or text 1 0 - 126
 header_len-long text long = rw (le-ltb (get_or text 1 0) 128 long) refl
@@ -17,12 +17,12 @@ header_len-long text long = rw (le-ltb (get_or text 1 0) 128 long) refl
 pub contents_len-long : (text : List ℕ) → 128 ≤ get_or text 1 0 → contents_len text ≡ number (take (get_or text 1 0 - 128) (drop 2 text))
 contents_len-long text long = rw (le-ltb (get_or text 1 0) 128 long) refl
 
-pub too_long : (text : List ℕ) → 128 ≤ get_or text 1 0 → get_or text 1 0 ≢ 128 → get_or text 1 0 ≢ 255 → 2 + (get_or text 1 0 - 128) ≤ length text → get_or text 2 0 ≢ 0 → 4 ≤ get_or text 1 0 - 128
+pub too_long : (text : List ℕ) → 128 ≤ get_or text 1 0 → get_or text 1 0 ≢ 128 → get_or text 1 0 ≢ 255 → 2 + (get_or text 1 0 - 128) ≤ length text → get_or text 2 0 ≢ 0 → IsPastLimit (get_or text 1 0 - 128) (get_or text 2 0)
     → (depth : ℕ) → Breaks TooLong depth text × (1 < 3) × (3 < 5) × KeepsLength text TooLong
-too_long text long not_128 not_255 whole high count depth =
+too_long text long not_128 not_255 whole high past depth =
     let len = header_len-long text long in
     let number_is = contents_len-long text long in
-    let bound : contents_limit ≤ contents_len text = rw number_is (number-long text (get_or text 1 0 - 128) whole count (omega arith)) in
+    let bound : contents_limit ≤ contents_len text = rw number_is (number-long text (get_or text 1 0 - 128) whole past (omega arith)) in
     (((omega arith, omega arith), bound), omega arith, omega arith, keeps)
   where
     keeps : KeepsLength text TooLong
@@ -32,7 +32,7 @@ too_long text long not_128 not_255 whole high count depth =
     keeps LengthForm low up (_, inr (inr (w, (_, inl e)))) = high e
     keeps LengthForm low up (_, inr (inr (w, (_, inr lt)))) =
         let number_is = contents_len-long text long in
-        let bound : contents_limit ≤ contents_len text = rw number_is (number-long text (get_or text 1 0 - 128) whole count (omega arith)) in
+        let bound : contents_limit ≤ contents_len text = rw number_is (number-long text (get_or text 1 0 - 128) whole past (omega arith)) in
         omega arith
     keeps TooLong low up b = omega arith
     keeps Truncated low up b = omega arith

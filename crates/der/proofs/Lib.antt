@@ -1,5 +1,6 @@
 mod Numbers
 mod Headers
+mod Prefixes
 mod Fronts
 mod Served
 mod Sound

@@ -35,7 +35,19 @@ three i a b d tail positive ha hb hd =
     let m : n / 256 ≡ a * 256 + b = omega arith in
     let s : (a * 256 + b) % 256 ≡ b = omega arith in
     let r : n % 256 ≡ d = omega arith in
-    rw (e, le-ltb n 128 (omega arith), le-ltb n 256 (omega arith), le-ltb n 65536 (omega arith), q, m, s, r) refl
+    rw (e, le-ltb n 128 (omega arith), le-ltb n 256 (omega arith), le-ltb n 65536 (omega arith), lt-ltb n 16777216 (omega arith), q, m, s, r) refl
+
+four : (i a b d e : ℕ) (tail : List ℕ) → 0 < a → a < 256 → b < 256 → d < 256 → e < 256 → IsShort (i ∷ 132 ∷ a ∷ b ∷ d ∷ e ∷ tail)
+four i a b d e tail positive ha hb hd he =
+    let n = a * 16777216 + b * 65536 + d * 256 + e in
+    let is : contents_len (i ∷ 132 ∷ a ∷ b ∷ d ∷ e ∷ tail) ≡ n = omega arith in
+    let p : n / 16777216 ≡ a = omega arith in
+    let q : n / 65536 ≡ a * 256 + b = omega arith in
+    let r : (a * 256 + b) % 256 ≡ b = omega arith in
+    let s : n / 256 ≡ a * 65536 + b * 256 + d = omega arith in
+    let t : (a * 65536 + b * 256 + d) % 256 ≡ d = omega arith in
+    let u : n % 256 ≡ e = omega arith in
+    rw (is, le-ltb n 128 (omega arith), le-ltb n 256 (omega arith), le-ltb n 65536 (omega arith), le-ltb n 16777216 (omega arith), p, q, r, s, t, u) refl
 
 not_zero : (text : List ℕ) → IsSound text → 128 ≤ get_or text 1 0 → (get_or text 2 0 ≢ 0) × (128 ≤ contents_len text) × (contents_len text < contents_limit) × (get_or text 1 0 ≢ 128) × (get_or text 1 0 ≢ 255) × (2 + (get_or text 1 0 - 128) ≤ length text)
 not_zero text sound long =
@@ -51,7 +63,7 @@ not_zero text sound long =
     bounded = elim (cases_lt (contents_len text) contents_limit) [ inl lt ↦ lt | inr le ↦ absurd (sound.keeps TooLong 1 (omega arith) (sound.whole, le)) ]
 
 -- which first length octets are left
-few : (text : List ℕ) → IsSound text → 128 ≤ get_or text 1 0 → (get_or text 1 0 ≡ 129) ⊎ (get_or text 1 0 ≡ 130) ⊎ (get_or text 1 0 ≡ 131)
+few : (text : List ℕ) → IsSound text → 128 ≤ get_or text 1 0 → (get_or text 1 0 ≡ 129) ⊎ (get_or text 1 0 ≡ 130) ⊎ (get_or text 1 0 ≡ 131) ⊎ (get_or text 1 0 ≡ 132)
 few text sound long =
     let f = not_zero text sound long in
     elim (cases_lt (get_or text 1 0) 130) [
@@ -59,10 +71,13 @@ few text sound long =
       | inr a ↦ elim (cases_lt (get_or text 1 0) 131) [
         | inl b ↦ inr (inl (omega arith))
         | inr b ↦ elim (cases_lt (get_or text 1 0) 132) [
-          | inl d ↦ inr (inr (omega arith))
-          | inr d ↦ absurd (
-              let bound : contents_limit ≤ contents_len text = rw (contents_len-long text long) (number-long text (get_or text 1 0 - 128) f.5 (omega arith) (omega (arith, f.0))) in
-              omega (arith, f.2))
+          | inl d ↦ inr (inr (inl (omega arith)))
+          | inr d ↦ elim (cases_lt (get_or text 1 0) 133) [
+            | inl e ↦ inr (inr (inr (omega arith)))
+            | inr e ↦ absurd (
+                let bound : contents_limit ≤ contents_len text = rw (contents_len-long text long) (number-long text (get_or text 1 0 - 128) f.5 (inl (omega arith)) (omega (arith, f.0))) in
+                omega (arith, f.2))
+          ]
         ]
       ]
     ]
@@ -76,7 +91,7 @@ is_short (i ∷ l ∷ tail) fits sound =
       | inr ge ↦ long_short i l tail fits sound ge (few (i ∷ l ∷ tail) sound ge)
     ]
   where
-    long_short : (i l : ℕ) (tail : List ℕ) → ((k : ℕ) → get_or (i ∷ l ∷ tail) k 0 < 256) → IsSound (i ∷ l ∷ tail) → 128 ≤ l → ((l ≡ 129) ⊎ (l ≡ 130) ⊎ (l ≡ 131)) → IsShort (i ∷ l ∷ tail)
+    long_short : (i l : ℕ) (tail : List ℕ) → ((k : ℕ) → get_or (i ∷ l ∷ tail) k 0 < 256) → IsSound (i ∷ l ∷ tail) → 128 ≤ l → ((l ≡ 129) ⊎ (l ≡ 130) ⊎ (l ≡ 131) ⊎ (l ≡ 132)) → IsShort (i ∷ l ∷ tail)
     long_short i l (a ∷ tail) fits sound ge (inl e) =
         let f = not_zero (i ∷ l ∷ a ∷ tail) sound ge in
         let c : contents_len (i ∷ l ∷ a ∷ tail) ≡ a = rw (e) (omega arith) in
@@ -84,15 +99,22 @@ is_short (i ∷ l ∷ tail) fits sound =
     long_short i l (a ∷ b ∷ tail) fits sound ge (inr (inl e)) =
         let f = not_zero (i ∷ l ∷ a ∷ b ∷ tail) sound ge in
         subst (λ (x : ℕ). IsShort (i ∷ x ∷ a ∷ b ∷ tail)) (sym e) (two i a b tail (omega (arith, f.0)) (fits 2) (fits 3))
-    long_short i l (a ∷ b ∷ d ∷ tail) fits sound ge (inr (inr e)) =
+    long_short i l (a ∷ b ∷ d ∷ tail) fits sound ge (inr (inr (inl e))) =
         let f = not_zero (i ∷ l ∷ a ∷ b ∷ d ∷ tail) sound ge in
         subst (λ (x : ℕ). IsShort (i ∷ x ∷ a ∷ b ∷ d ∷ tail)) (sym e) (three i a b d tail (omega (arith, f.0)) (fits 2) (fits 3) (fits 4))
+    long_short i l (a ∷ b ∷ d ∷ g ∷ tail) fits sound ge (inr (inr (inr e))) =
+        let f = not_zero (i ∷ l ∷ a ∷ b ∷ d ∷ g ∷ tail) sound ge in
+        subst (λ (x : ℕ). IsShort (i ∷ x ∷ a ∷ b ∷ d ∷ g ∷ tail)) (sym e) (four i a b d g tail (omega (arith, f.0)) (fits 2) (fits 3) (fits 4) (fits 5))
     long_short i l [] fits sound ge (inl e) = absurd (omega (arith, (not_zero (i ∷ l ∷ []) sound ge).5))
     long_short i l [] fits sound ge (inr (inl e)) = absurd (omega (arith, (not_zero (i ∷ l ∷ []) sound ge).5))
-    long_short i l [] fits sound ge (inr (inr e)) = absurd (omega (arith, (not_zero (i ∷ l ∷ []) sound ge).5))
+    long_short i l [] fits sound ge (inr (inr (inl e))) = absurd (omega (arith, (not_zero (i ∷ l ∷ []) sound ge).5))
     long_short i l (a ∷ []) fits sound ge (inr (inl e)) = absurd (omega (arith, (not_zero (i ∷ l ∷ a ∷ []) sound ge).5))
-    long_short i l (a ∷ []) fits sound ge (inr (inr e)) = absurd (omega (arith, (not_zero (i ∷ l ∷ a ∷ []) sound ge).5))
-    long_short i l (a ∷ b ∷ []) fits sound ge (inr (inr e)) = absurd (omega (arith, (not_zero (i ∷ l ∷ a ∷ b ∷ []) sound ge).5))
+    long_short i l (a ∷ []) fits sound ge (inr (inr (inl e))) = absurd (omega (arith, (not_zero (i ∷ l ∷ a ∷ []) sound ge).5))
+    long_short i l (a ∷ b ∷ []) fits sound ge (inr (inr (inl e))) = absurd (omega (arith, (not_zero (i ∷ l ∷ a ∷ b ∷ []) sound ge).5))
+    long_short i l [] fits sound ge (inr (inr (inr e))) = absurd (omega (arith, (not_zero (i ∷ l ∷ []) sound ge).5))
+    long_short i l (a ∷ []) fits sound ge (inr (inr (inr e))) = absurd (omega (arith, (not_zero (i ∷ l ∷ a ∷ []) sound ge).5))
+    long_short i l (a ∷ b ∷ []) fits sound ge (inr (inr (inr e))) = absurd (omega (arith, (not_zero (i ∷ l ∷ a ∷ b ∷ []) sound ge).5))
+    long_short i l (a ∷ b ∷ d ∷ []) fits sound ge (inr (inr (inr e))) = absurd (omega (arith, (not_zero (i ∷ l ∷ a ∷ b ∷ d ∷ []) sound ge).5))
 
 -- how many octets the contents has, and that they are the limit's
 pub contents_fits : (text : List ℕ) → IsSound text → (length (contents_of text) ≡ contents_len text) × (contents_len text < contents_limit)

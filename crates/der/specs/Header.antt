@@ -1,9 +1,10 @@
 -- What the code knows of a header that it has read.
-use Rattle.std.specs.Prelude.{◌≡◌, ◌≢◌, ℕ, ◌<◌, ◌≤◌, List, length, slice_index, take}
+use Rattle.std.specs.Prelude.{◌≡◌, ◌≢◌, ℕ, ◌<◌, ◌≤◌, List, ◌++◌, length, slice_index, take, false}
 use Rattle.der.specs.Value.{Value}
+use Rattle.der.specs.Identifier.{is_refused}
 use Rattle.der.specs.Encoding.{EncodesAt}
 use Rattle.der.specs.Length.{contents_limit, first_length, header_len, contents_len, end_of, IsHeaderWhole}
-use Rattle.der.specs.FirstFault.{Breaks}
+use Rattle.der.specs.FirstFault.{Breaks, BreaksFirst}
 use Rattle.der.specs.Fault.{rule_number}
 use Rattle.der.specs.declared.fault.Rule.{Rule}
 use Rattle.der.specs.declared.fault.Rule.TheVariants.{LengthForm}
@@ -27,10 +28,10 @@ pub record SaysHeader (text : List ℕ) (header : Header) : Type 0 where
   pub len : header.len ≡ header_len text
   pub contents : header.contents ≡ contents_len text
 
--- The length octets are all there, in the definite form, and at most three follow the first.
+-- The length octets are all there, in the definite form, and at most four follow the first.
 pub record HasServedLength (text : List ℕ) : Type 0 where
   pub whole : IsHeaderWhole text
-  pub short : header_len text ≤ 5
+  pub short : header_len text ≤ 6
   pub definite : first_length text ≢ 128
 
 -- The length octets are these, and break no rule that a length can break by itself.
@@ -44,6 +45,23 @@ pub record IsLengthOf (text : List ℕ) (len contents : ℕ) : Type 0 where
 -- a rule that the length octets break is the first after the identifier's
 abbrev pub KeepsLength : List ℕ → Rule → Type 0
 KeepsLength text rule = (other : Rule) → 1 < rule_number other → rule_number other < rule_number rule → Breaks other 1 text → ⊥
+
+-- The first octets of a text, behind which its header goes on: no rule is broken so far.
+pub record GoesOn (front : List ℕ) : Type 0 where
+  pub short : length front < header_len front
+  pub accepted : 0 < length front → is_refused (slice_index front 0) ≡ false
+  pub definite : first_length front ≢ 128
+  pub unreserved : first_length front ≢ 255
+
+-- The octets begin with a whole header that breaks no rule, whatever follows them.
+pub record HasHeader (front : List ℕ) (header : Header) : Type 0 where
+  pub accepted : is_refused (slice_index front 0) ≡ false
+  pub identifier : header.identifier ≡ slice_index front 0
+  pub lengths : IsLengthOf front header.len header.contents
+
+-- The rule is the first that is broken by every text that begins with these octets.
+abbrev pub IsBrokenAhead : List ℕ → Rule → Type 0
+IsBrokenAhead front rule = (rule_number rule < 4) × ((behind : List ℕ) → BreaksFirst rule 1 (front ++ behind))
 
 -- the text begins with the encoding of a value, which has this many octets
 pub record BeginsWithValue (depth : ℕ) (text : List ℕ) (len : ℕ) : Type 0 where

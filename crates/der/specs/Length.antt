@@ -3,7 +3,7 @@ use Rattle.std.specs.Prelude.{◌≡◌, ◌⊎◌, ℕ, ◌<◌, ◌≤◌, ◌
 
 -- contents have fewer octets than this
 abbrev pub contents_limit : ℕ
-contents_limit = 2 ^ 24
+contents_limit = 2 ^ 28
 
 -- the length octets of n contents octets: the definite form, in as few octets as possible
 abbrev pub length_octets : ℕ → List ℕ
@@ -11,7 +11,8 @@ length_octets n =
     if nat_lt n 128 then n ∷ []
     else (if nat_lt n (2 ^ 8) then 0x81 ∷ n ∷ []
     else (if nat_lt n (2 ^ 16) then 0x82 ∷ n / 256 ∷ n % 256 ∷ []
-    else 0x83 ∷ n / 65536 ∷ n / 256 % 256 ∷ n % 256 ∷ []))
+    else (if nat_lt n (2 ^ 24) then 0x83 ∷ n / 65536 ∷ n / 256 % 256 ∷ n % 256 ∷ []
+    else 0x84 ∷ n / 16777216 ∷ n / 65536 % 256 ∷ n / 256 % 256 ∷ n % 256 ∷ [])))
 
 -- the number that octets spell, the first the most significant
 abbrev pub number : List ℕ → ℕ

@@ -15,7 +15,7 @@ pub enum Rule {
     /// Length octets that are indefinite, reserved, or more than the length needs (8.1.3, 10.1).
     #[error("length octets that are not the shortest")]
     LengthForm,
-    /// Contents of 2^24 octets or more.
+    /// Contents of 2^28 octets or more.
     #[error("contents past the limit")]
     TooLong,
     /// A header or contents that pass the end of the enclosing value, or of the input.

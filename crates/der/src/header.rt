@@ -1,9 +1,9 @@
 //! The identifier and length octets before the contents.
 
-ghost use Rattle.std.specs.Prelude.{◌≡◌, ◌<◌, ℕ, IfOk, IfErr};
+ghost use Rattle.std.specs.Prelude.{◌≡◌, ◌<◌, ℕ, IfOk, IfErr, IfSome, IfNone};
 ghost use Rattle.der.specs.Fault.{rule_number};
 ghost use Rattle.der.specs.FirstFault.{BreaksFirst};
-ghost use Rattle.der.specs.Header.{IsHeaderOf, SaysHeader, HasServedLength};
+ghost use Rattle.der.specs.Header.{IsHeaderOf, SaysHeader, HasServedLength, GoesOn, HasHeader, IsBrokenAhead};
 
 use crate::fault::Rule;
 use crate::identifier::is_refused_identifier;
@@ -46,6 +46,34 @@ impl Header {
             len,
             contents,
         })
+    }
+
+    /// The header of a value of which these are the first octets, whatever follows them; `None` where it goes on behind them;
+    /// else the first rule that it breaks. An identifier octet or a first length octet that breaks one is told by itself.
+    pub fn begun(front: &[u8]) -> Result<Option<Header>, Rule>
+        ensures whole { IfOk result (λ found. IfSome found (λ header. HasHeader front.now header)) }
+        ensures goes_on { IfOk result (λ found. IfNone found (GoesOn front.now)) }
+        ensures err { IfErr result (λ rule. IsBrokenAhead front.now rule) }
+    {
+        if front.is_empty() {
+            return Ok(None);
+        }
+        let identifier = front[0];
+        if is_refused_identifier(identifier) {
+            return Err(Rule::TagForm);
+        }
+        if front.len() < 2 {
+            return Ok(None);
+        }
+        match length_of(front) {
+            Ok((len, contents)) => Ok(Some(Header {
+                identifier,
+                len,
+                contents,
+            })),
+            Err(rule) if rule == Rule::Truncated => Ok(None),
+            Err(rule) => Err(rule),
+        }
     }
 
     /// The header at the front of a text that is known to begin with the encoding of a value: no rule is looked at again.

@@ -15,6 +15,7 @@ pub(crate) fn length_of(text: &[u8]) -> Result<(usize, usize), Rule>
     ensures ok { IfOk result (λ found. IsLengthOf text.now found.0 found.1) }
     ensures err { IfErr result (λ rule. (depth : ℕ) → Breaks rule depth text.now
         × (1 < rule_number rule) × (rule_number rule < 5) × KeepsLength text.now rule) }
+    ensures short { IfErr result (λ rule. rule ≡ Rule.Truncated → length text.now < header_len text.now) }
 {
     let first = text[1];
     if first < 128 {
@@ -35,6 +36,10 @@ pub(crate) fn length_of(text: &[u8]) -> Result<(usize, usize), Rule>
         1 => Ok((3, high)),
         2 => Ok((4, high * 256 + text[3] as usize)),
         3 => Ok((5, high * 65536 + text[3] as usize * 256 + text[4] as usize)),
+        4 if high < 16 => Ok((
+            6,
+            high * 16777216 + text[3] as usize * 65536 + text[4] as usize * 256 + text[5] as usize,
+        )),
         _ => Err(Rule::TooLong),
     }
 }
@@ -54,6 +59,10 @@ pub(crate) fn known_length_of(text: &[u8]) -> (usize, usize)
     match first {
         129 => (3, high),
         130 => (4, high * 256 + text[3] as usize),
-        _ => (5, high * 65536 + text[3] as usize * 256 + text[4] as usize),
+        131 => (5, high * 65536 + text[3] as usize * 256 + text[4] as usize),
+        _ => (
+            6,
+            high * 16777216 + text[3] as usize * 65536 + text[4] as usize * 256 + text[5] as usize,
+        ),
     }
 }

@@ -17,6 +17,3 @@ pub use fault::{Fault, Rule};
 pub use grammar::{MAX_DEPTH, check};
 pub use header::Header;
 pub use identifier::{is_constructed_form, is_refused_identifier};
-
-#[cfg(test)]
-mod tests;

@@ -5,8 +5,8 @@ use Rattle.asn.specs.Walk.{is_one_of}
 use Rattle.asn.proofs.Walks.{choice_refused}
 use Rattle.asn.proofs.tlv.Cursor.choice.Goals as goal
 
-pub returns-else-contains : goal.returns-else-contains
-returns-else-contains g c =
+pub returns-else-contains-clause-walk : goal.returns-else-contains-clause-walk
+returns-else-contains-clause-walk g c =
     let value = c.in_ok-value.value in
-    choice_refused c.args.tags.now c.args.fault (left c.args.self.now) (part value) _ c.in_ok-value.ensures
+    choice_refused c.args.tags.now c.args.fault (left c.args.self.now) (part value) _ c.in_ok-value.ensures.walk
     (ap (is_one_of c.args.tags.now) (sym value.tag_is) ∙ sym c.contains.ensures.value ∙ c.if-contains.false)

@@ -1,0 +1,23 @@
+//! Rows of what is read of octets: encodings, members, layouts, trees, numbers and times, worked by hand or by other tools.
+//! All of this crate are tests, over the public calls of `der` and `asn`.
+#![tactic(auto)]
+
+#[cfg(test)]
+mod encodings;
+#[cfg(test)]
+mod members;
+#[cfg(test)]
+mod numbers;
+#[cfg(test)]
+mod times;
+#[cfg(test)]
+mod tree_rows;
+
+#[cfg(test)]
+use std::process::Abort;
+
+/// Stops a test where what it looked at is not so.
+#[cfg(test)]
+fn holds(rt: &impl Abort, is_so: bool, what: &str) {
+    assert!(rt; is_so, "{what}");
+}
