@@ -12,12 +12,11 @@ use Rattle.std.proofs.lemmas.Bool.{cond-true, lt-ltb}
 use Rattle.std.proofs.lemmas.Cmp.{nat_list_cmp_total}
 use Rattle.std.proofs.lemmas.List.{nil_from_length, length-map}
 use Rattle.std.proofs.lemmas.List.Splits.{join_with_byte-slice_split}
-use Rattle.distinguished_names.specs.Preparation.{is_space, has_octets, lowered, words, prepared}
+use Rattle.preparation.specs.Preparation.{is_space, has_octets, lowered, words, prepared}
 use Rattle.distinguished_names.specs.AttributeValue.{ComparedValue, Text, Other}
 use Rattle.distinguished_names.specs.DistinguishedName.{Entry, rdn_map}
 use Rattle.distinguished_names.specs.NameKey.{ValueFits, EntryFits, RdnFits, SetFits}
-use Rattle.distinguished_names.proofs.Splitting.{slice_split_nonempty}
-use Rattle.distinguished_names.proofs.PreparedText.{spaced, join_first}
+use Rattle.preparation.proofs.Laws.{slice_split_nonempty, spaced, join_first}
 
 -- a prepared text is no longer than the text
 spaced_filter : (parts : List (List ℕ)) → length (spaced (filter has_octets parts)) ≤ length (spaced parts)

@@ -5,10 +5,6 @@ mod Pairs
 mod Zipped
 mod NameLaws
 mod NameValues
-mod Splitting
-mod Words
-mod PreparedText
-mod PreparationLaws
 mod Matching
 mod Ordered
 mod Keys

@@ -1,7 +1,7 @@
 -- Values of attributes, as they are compared (RFC 5280, 7.1).
 use Rattle.std.specs.Prelude.{ℕ, List, ◌∷◌, Bool, ◌==◌, ◌||◌, cond}
 use Rattle.distinguished_names.specs.declared.attribute.Attribute.{Attribute}
-use Rattle.distinguished_names.specs.Preparation.{prepared}
+use Rattle.preparation.specs.Preparation.{prepared}
 
 -- UTF8String, PrintableString and IA5String
 abbrev pub is_text : ℕ → Bool

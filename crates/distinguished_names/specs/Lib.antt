@@ -2,7 +2,6 @@ pub mod Fault
 pub mod NameLayout
 pub mod NameForms
 pub mod AttributeView
-pub mod Preparation
 pub mod AttributeValue
 pub mod DistinguishedName
 pub mod NameParts
@@ -14,3 +13,4 @@ pub mod NameKey
 pub mod AttributeOrder
 pub mod Batch
 pub mod BatchView
+pub use Rattle.preparation.specs.Preparation

@@ -15,8 +15,8 @@ ghost use Rattle.distinguished_names.specs.NameView.{entry_of};
 ghost use Rattle.distinguished_names.specs.Repetition.{kind_at};
 
 use crate::fault::{NameFault, Refusal};
-use crate::preparation::same_prepared;
 use asn::{Cursor, Tlv};
+use preparation::same_prepared;
 
 const UTF8_STRING: u8 = 12;
 

@@ -7,7 +7,6 @@ mod fault;
 mod kinds;
 mod name;
 mod name_key;
-mod preparation;
 mod rdn;
 mod rdn_sequence;
 mod repetition;
@@ -18,6 +17,3 @@ pub use fault::{NameFault, Refusal};
 pub use name::{Name, name_laws};
 pub use name_key::key_laws;
 pub use preparation::{preparation_laws, prepared_text, same_prepared};
-
-#[cfg(test)]
-mod tests;

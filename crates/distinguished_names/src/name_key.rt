@@ -9,9 +9,9 @@ ghost use Rattle.distinguished_names.specs.NameOctets.{KeysDecideMatching};
 ghost use Rattle.distinguished_names.specs.NameView.{entry_of, entries_of, map_of, sequence_of};
 
 use crate::attribute::{Attribute, is_text};
-use crate::preparation::prepared_text;
 use crate::rdn::Rdn;
 use crate::rdn_sequence::RdnSequence;
+use preparation::prepared_text;
 use std::alloc::{AllocError, Global};
 
 /// Adds a number in four octets, the highest first.

@@ -1,9 +1,11 @@
-use Rattle.std.proofs.Common.{◌≡◌, ℕ, ◌<◌, ◌≤◌, ◌++◌, List, [], ◌∷◌, length, Bool, true, refl, sym, ◌∙◌, ap, inl, inr, arith, nat_lt, append_assoc, length-append, IsTrue}
+use Rattle.std.proofs.Common.{◌≡◌, ℕ, ◌<◌, ◌≤◌, ◌++◌, List, [], ◌∷◌, length, Bool, true, refl, sym, ◌∙◌, ap, inl, inr, ◌⊎◌, arith, nat_lt, append_assoc, length-append, IsTrue}
 use Rattle.std.specs.Prelude.{◌↔◌}
 use Rattle.std.proofs.lemmas.Bool.{and_parts, and_from, ltb-true, lt-ltb, cases_lt}
 use Rattle.names.specs.declared.dns.Domain.{Domain}
 use Rattle.names.specs.declared.dns.Domain.TheVariants as D
 use Rattle.names.specs.Dns.{labels, EndsIn, EndsInMore, IsInDomain, ends_in_labels, ends_in_more_labels, is_in_domain, is_domain_inside}
+use Rattle.names.specs.Bases.{DomainNames, every_name, names_within, names_below, domain_names}
+use Rattle.names.specs.GeneralCoverage.{is_among, are_among}
 use Rattle.names.specs.Laws.{DomainTestIsExact, DomainInsideIsSound, SharedDomainsAreNested}
 use Rattle.names.proofs.Labels.{ends_in_is_exact}
 
@@ -77,46 +79,75 @@ domain_test_is_exact x D.Every = (λ _. tt, λ _. refl)
 domain_test_is_exact x (D.Within s) = ends_in_is_exact x s.now
 domain_test_is_exact x (D.Below s) = more_is_exact x s.now
 
+-- both laws, of what bases say
+pub names_inside : (x : List ℕ) (s t : DomainNames) → IsTrue (are_among s t) → IsTrue (is_among x s) → IsTrue (is_among x t)
+unfolding is_among are_among
+names_inside x s every_name h k = refl
+names_inside x every_name (names_within t) h k = cc
+names_inside x every_name (names_below t) h k = cc
+names_inside x (names_within s) (names_within t) h k = trans x s t h k
+names_inside x (names_within s) (names_below t) h k =
+    let a = more_count s t h in
+    let b = ends_count x s k in
+    more_of x t (trans x s t (more_ends s t h) k) (omega arith)
+names_inside x (names_below s) (names_within t) h k = trans x s t h (more_ends x s k)
+names_inside x (names_below s) (names_below t) h k =
+    let a = ends_count s t h in
+    let b = more_count x s k in
+    more_of x t (trans x s t h (more_ends x s k)) (omega arith)
+
+pub names_nested : (x : List ℕ) (s t : DomainNames) → IsTrue (is_among x s) → IsTrue (is_among x t) → IsTrue (are_among s t) ⊎ IsTrue (are_among t s)
+unfolding is_among are_among
+names_nested x s every_name h k = inl refl
+names_nested x every_name (names_within t) h k = inr refl
+names_nested x every_name (names_below t) h k = inr refl
+names_nested x (names_within s) (names_within t) h k =
+    elim (cases_lt (count s) (count t)) [
+      | inl lt ↦ inr (both x t s k h (omega arith))
+      | inr le ↦ inl (both x s t h k le)
+    ]
+names_nested x (names_within s) (names_below t) h k =
+    elim (cases_lt (count t) (count s)) [
+      | inl lt ↦ inl (more_of s t (both x s t h (more_ends x t k) (omega arith)) lt)
+      | inr le ↦ inr (both x t s (more_ends x t k) h le)
+    ]
+names_nested x (names_below s) (names_within t) h k =
+    elim (cases_lt (count s) (count t)) [
+      | inl lt ↦ inr (more_of t s (both x t s k (more_ends x s h) (omega arith)) lt)
+      | inr le ↦ inl (both x s t (more_ends x s h) k le)
+    ]
+names_nested x (names_below s) (names_below t) h k =
+    elim (cases_lt (count s) (count t)) [
+      | inl lt ↦ inr (both x t s (more_ends x t k) (more_ends x s h) (omega arith))
+      | inr le ↦ inl (both x s t (more_ends x s h) (more_ends x t k) le)
+    ]
+
+-- it is what domains say that decides
+pub among : (name : List ℕ) (domain : Domain) → is_in_domain name domain ≡ is_among name (domain_names domain)
+unfolding is_in_domain is_among
+among name D.Every = refl
+among name (D.Within base) = refl
+among name (D.Below base) = refl
+
+pub among_all : (s t : Domain) → is_domain_inside s t ≡ are_among (domain_names s) (domain_names t)
+unfolding is_domain_inside are_among
+among_all s D.Every = refl
+among_all D.Every (D.Within t) = refl
+among_all D.Every (D.Below t) = refl
+among_all (D.Within s) (D.Within t) = refl
+among_all (D.Within s) (D.Below t) = refl
+among_all (D.Below s) (D.Within t) = refl
+among_all (D.Below s) (D.Below t) = refl
+
 pub domain_inside_is_sound : DomainInsideIsSound
-unfolding is_in_domain is_domain_inside
-domain_inside_is_sound x s D.Every h k = refl
-domain_inside_is_sound x D.Every (D.Within t) h k = cc
-domain_inside_is_sound x D.Every (D.Below t) h k = cc
-domain_inside_is_sound x (D.Within s) (D.Within t) h k = trans x s.now t.now h k
-domain_inside_is_sound x (D.Within s) (D.Below t) h k =
-    let a = more_count s.now t.now h in
-    let b = ends_count x s.now k in
-    more_of x t.now (trans x s.now t.now (more_ends s.now t.now h) k) (omega arith)
-domain_inside_is_sound x (D.Below s) (D.Within t) h k = trans x s.now t.now h (more_ends x s.now k)
-domain_inside_is_sound x (D.Below s) (D.Below t) h k =
-    let a = ends_count s.now t.now h in
-    let b = more_count x s.now k in
-    more_of x t.now (trans x s.now t.now h (more_ends x s.now k)) (omega arith)
+domain_inside_is_sound x s t h k =
+    among x t ∙ names_inside x (domain_names s) (domain_names t) (sym (among_all s t) ∙ h) (sym (among x s) ∙ k)
 
 pub shared_domains_are_nested : SharedDomainsAreNested
-unfolding is_in_domain is_domain_inside
-shared_domains_are_nested x s D.Every h k = inl refl
-shared_domains_are_nested x D.Every (D.Within t) h k = inr refl
-shared_domains_are_nested x D.Every (D.Below t) h k = inr refl
-shared_domains_are_nested x (D.Within s) (D.Within t) h k =
-    elim (cases_lt (count s.now) (count t.now)) [
-      | inl lt ↦ inr (both x t.now s.now k h (omega arith))
-      | inr le ↦ inl (both x s.now t.now h k le)
-    ]
-shared_domains_are_nested x (D.Within s) (D.Below t) h k =
-    elim (cases_lt (count t.now) (count s.now)) [
-      | inl lt ↦ inl (more_of s.now t.now (both x s.now t.now h (more_ends x t.now k) (omega arith)) lt)
-      | inr le ↦ inr (both x t.now s.now (more_ends x t.now k) h le)
-    ]
-shared_domains_are_nested x (D.Below s) (D.Within t) h k =
-    elim (cases_lt (count s.now) (count t.now)) [
-      | inl lt ↦ inr (more_of t.now s.now (both x t.now s.now k (more_ends x s.now h) (omega arith)) lt)
-      | inr le ↦ inl (both x s.now t.now (more_ends x s.now h) k le)
-    ]
-shared_domains_are_nested x (D.Below s) (D.Below t) h k =
-    elim (cases_lt (count s.now) (count t.now)) [
-      | inl lt ↦ inr (both x t.now s.now (more_ends x t.now k) (more_ends x s.now h) (omega arith))
-      | inr le ↦ inl (both x s.now t.now (more_ends x s.now h) (more_ends x t.now k) le)
+shared_domains_are_nested x s t h k =
+    elim (names_nested x (domain_names s) (domain_names t) (sym (among x s) ∙ h) (sym (among x t) ∙ k)) [
+      | inl inside ↦ inl (among_all s t ∙ inside)
+      | inr inside ↦ inr (among_all t s ∙ inside)
     ]
 
 -- an answer that is the test decides the relation

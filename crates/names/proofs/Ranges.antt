@@ -1,9 +1,11 @@
-use Rattle.std.proofs.Common.{◌≡◌, ℕ, ◌<◌, ◌≤◌, ◌+◌, List, length, Bool, true, refl, sym, ◌∙◌, ap, inl, inr, arith, ◌==◌, zero, suc, add-zero, IsTrue}
+use Rattle.std.proofs.Common.{◌≡◌, ℕ, ◌<◌, ◌≤◌, ◌+◌, List, length, Bool, true, refl, sym, ◌∙◌, ap, inl, inr, ◌⊎◌, arith, ◌==◌, zero, suc, add-zero, IsTrue}
 use Rattle.std.specs.Prelude.{nat_le, ◌↔◌}
 use Rattle.std.specs.List.{list_all, range_with_len}
 use Rattle.std.proofs.lemmas.Bool.{and_parts, and_from, eqb-true, eq-eqb, leb-true, le-leb, cases_lt}
 use Rattle.names.specs.declared.ip.IpRange.{IpRange}
 use Rattle.names.specs.Ip.{IsInRange, bit, same_bit, agree, is_in_range, is_range_inside}
+use Rattle.names.specs.Bases.{AddressRange, address_range}
+use Rattle.names.specs.GeneralCoverage.{is_address_of, is_range_of}
 use Rattle.names.specs.Laws.{RangeTestIsExact, RangeInsideIsSound, SharedRangesAreNested}
 
 pub all_at : (p : ℕ → Bool) (a n i : ℕ) → list_all p (range_with_len a n) ≡ true → i < n → p (a + i) ≡ true
@@ -42,35 +44,44 @@ shared : (m n : ℕ) (a b x : List ℕ) → m ≤ n → Same m a x → Same n b 
 unfolding Same
 shared m n a b x le p q i lt = p i lt ∙ sym (q i (omega arith))
 
-pub range_inside_is_sound : RangeInsideIsSound
-unfolding is_in_range is_range_inside
-range_inside_is_sound x s t h k =
-    let a = and_parts (length s.address.now == length t.address.now) _ h in
+-- both laws, of what bases say
+pub addresses_inside : (x : List ℕ) (s t : AddressRange) → IsTrue (is_range_of s t) → IsTrue (is_address_of x s) → IsTrue (is_address_of x t)
+unfolding is_address_of is_range_of
+addresses_inside x s t h k =
+    let a = and_parts (length s.address == length t.address) _ h in
     let b = and_parts (nat_le t.prefix s.prefix) _ a.1 in
-    let c = and_parts (length x == length s.address.now) _ k in
-    and_from (length x == length t.address.now) _
-    (eq-eqb _ _ (eqb-true (length x) (length s.address.now) c.0 ∙ eqb-true (length s.address.now) (length t.address.now) a.0))
-    (agree_of t.prefix t.address.now x
-    (through t.prefix s.prefix t.address.now s.address.now x (leb-true t.prefix s.prefix b.0)
-    (same_of t.prefix t.address.now s.address.now b.1) (same_of s.prefix s.address.now x c.1)))
+    let c = and_parts (length x == length s.address) _ k in
+    and_from (length x == length t.address) _
+    (eq-eqb _ _ (eqb-true (length x) (length s.address) c.0 ∙ eqb-true (length s.address) (length t.address) a.0))
+    (agree_of t.prefix t.address x
+    (through t.prefix s.prefix t.address s.address x (leb-true t.prefix s.prefix b.0)
+    (same_of t.prefix t.address s.address b.1) (same_of s.prefix s.address x c.1)))
 
-nested_by : (x : List ℕ) (s t : IpRange) → is_in_range x s ≡ true → is_in_range x t ≡ true → t.prefix ≤ s.prefix → is_range_inside s t ≡ true
-unfolding is_in_range is_range_inside
+nested_by : (x : List ℕ) (s t : AddressRange) → is_address_of x s ≡ true → is_address_of x t ≡ true → t.prefix ≤ s.prefix → is_range_of s t ≡ true
+unfolding is_address_of is_range_of
 nested_by x s t h k le =
-    let a = and_parts (length x == length s.address.now) _ h in
-    let b = and_parts (length x == length t.address.now) _ k in
-    and_from (length s.address.now == length t.address.now) _
-    (eq-eqb _ _ (sym (eqb-true (length x) (length s.address.now) a.0) ∙ eqb-true (length x) (length t.address.now) b.0))
+    let a = and_parts (length x == length s.address) _ h in
+    let b = and_parts (length x == length t.address) _ k in
+    and_from (length s.address == length t.address) _
+    (eq-eqb _ _ (sym (eqb-true (length x) (length s.address) a.0) ∙ eqb-true (length x) (length t.address) b.0))
     (and_from (nat_le t.prefix s.prefix) _ (le-leb t.prefix s.prefix le)
-    (agree_of t.prefix t.address.now s.address.now
-    (shared t.prefix s.prefix t.address.now s.address.now x le (same_of t.prefix t.address.now x b.1) (same_of s.prefix s.address.now x a.1))))
+    (agree_of t.prefix t.address s.address
+    (shared t.prefix s.prefix t.address s.address x le (same_of t.prefix t.address x b.1) (same_of s.prefix s.address x a.1))))
 
-pub shared_ranges_are_nested : SharedRangesAreNested
-shared_ranges_are_nested x s t h k =
+pub addresses_nested : (x : List ℕ) (s t : AddressRange) → IsTrue (is_address_of x s) → IsTrue (is_address_of x t) → IsTrue (is_range_of s t) ⊎ IsTrue (is_range_of t s)
+addresses_nested x s t h k =
     elim (cases_lt s.prefix t.prefix) [
       | inl lt ↦ inr (nested_by x t s k h (omega arith))
       | inr le ↦ inl (nested_by x s t h k le)
     ]
+
+pub range_inside_is_sound : RangeInsideIsSound
+unfolding is_in_range is_range_inside is_address_of is_range_of
+range_inside_is_sound x s t h k = addresses_inside x (address_range s) (address_range t) h k
+
+pub shared_ranges_are_nested : SharedRangesAreNested
+unfolding is_in_range is_range_inside is_address_of is_range_of
+shared_ranges_are_nested x s t h k = addresses_nested x (address_range s) (address_range t) h k
 
 pub range_test_is_exact : RangeTestIsExact
 unfolding is_in_range Same

@@ -19,7 +19,7 @@ within_through x s t a b = record {
   joined = b.joined ∙ (ap (λ (l : List RdnMap). l ++ b.rest) a.joined ∙ append_assoc t a.rest b.rest);
 }
 
-test_within : (x s t : List RdnMap) → IsTrue (is_within s t) → IsTrue (is_within x s) → IsTrue (is_within x t)
+pub test_within : (x s t : List RdnMap) → IsTrue (is_within s t) → IsTrue (is_within x s) → IsTrue (is_within x t)
 test_within x s t p q = (within_is_exact x t).1 (within_through x s t ((within_is_exact s t).0 p) ((within_is_exact x s).0 q))
 
 -- of two beginnings of one list one begins with the other
@@ -37,7 +37,7 @@ module _ {X : Type 0} where
         | inr h ↦ inr (h.0, λ i. sym e i ∷ h.1 i)
       ]
 
-within_nested : (x s t : List RdnMap) → IsWithin x s → IsWithin x t → IsTrue (is_within s t) ⊎ IsTrue (is_within t s)
+pub within_nested : (x s t : List RdnMap) → IsWithin x s → IsWithin x t → IsTrue (is_within s t) ⊎ IsTrue (is_within t s)
 within_nested x s t a b =
     elim (begins_one x s t a.rest b.rest a.joined b.joined) [
       | inl h ↦ inl ((within_is_exact s t).1 (record { rest = h.0; joined = h.1 }))
@@ -85,7 +85,7 @@ form_is_processed (G.Dns x) (S.Dns s) p = tt
 form_is_processed (G.Ip x) (S.Ip s) p = tt
 form_is_processed x s p = absurd p
 
-other_same : (m n : ℕ) → F.Other m ≡ F.Other n → m ≡ n
+pub other_same : (m n : ℕ) → F.Other m ≡ F.Other n → m ≡ n
 other_same m n h = cc
 
 pub form_test_is_exact : FormTestIsExact

@@ -1,5 +1,5 @@
 -- Which names lie in which subtrees, by what both say (RFC 5280, 4.2.1.10).
-use Rattle.std.specs.Prelude.{◌≡◌, ◌↔◌, ◌<◌, IsTrue, ◌==◌, ◌&&◌, ℕ, List, Bool, true, false, nat_le, length}
+use Rattle.std.specs.Prelude.{◌≡◌, ◌↔◌, ◌<◌, IsTrue, ◌==◌, ◌&&◌, ◌⊎◌, ℕ, List, Bool, true, false, nat_le, length}
 use Rattle.names.specs.declared.general.General.{General}
 use Rattle.names.specs.declared.general.Form.{Form}
 use Rattle.names.specs.declared.general.Form.TheVariants as F
@@ -7,8 +7,8 @@ use Rattle.names.specs.declared.subtree.Subtree.{Subtree}
 use Rattle.distinguished_names.specs.DistinguishedName.{IsWithin, is_within}
 use Rattle.names.specs.Dns.{EndsIn, EndsInMore, labels, ends_in_labels, ends_in_more_labels}
 use Rattle.names.specs.Ip.{bit, agree}
-use Rattle.names.specs.GeneralName.{form_of_name}
-use Rattle.names.specs.GeneralSubtree.{form_of, is_in_subtree, is_subtree_inside}
+use Rattle.names.specs.GeneralName.{form_of_name, IsProcessed}
+use Rattle.names.specs.GeneralSubtree.{form_of, is_in_subtree, is_subtree_inside, has_form}
 use Rattle.names.specs.Bases.{DomainNames, every_name, names_within, names_below, AddressRange}
 use Rattle.names.specs.GeneralLayout.{GeneralName, SubtreeBase, directory_name, dns_name, ip_address, other_name, directory_base, dns_base, ip_base, other_base}
 use Rattle.names.specs.GeneralView.{general_name, subtree_base}
@@ -63,6 +63,14 @@ is_base_inside (dns_base inner) (dns_base outer) = are_among inner outer
 is_base_inside (ip_base inner) (ip_base outer) = is_range_of inner outer
 is_base_inside _ _ = false
 
+-- the subtree is about names of the form
+unfoldable pub is_of_form : SubtreeBase → Form → Bool
+is_of_form (directory_base base) F.Directory = true
+is_of_form (dns_base names) F.Dns = true
+is_of_form (ip_base range) F.Ip = true
+is_of_form (other_base number contents) (F.Other wanted) = number == wanted
+is_of_form _ _ = false
+
 -- the same as relations
 
 abbrev pub IsAmong : List ℕ → DomainNames → Type 0
@@ -97,3 +105,26 @@ NameFormIsOfContents = (name : General) → form_of_name name ≡ form_of_genera
 
 abbrev pub BaseFormIsOfContents : Type 0
 BaseFormIsOfContents = (s : Subtree) → form_of s ≡ form_of_base (subtree_base s)
+
+abbrev pub FormTestIsOfContents : Type 0
+FormTestIsOfContents = (s : Subtree) (form : Form) → has_form s form ≡ is_of_form (subtree_base s) form
+
+-- every name in the first is in the second
+abbrev pub BaseInsideIsSound : Type 0
+BaseInsideIsSound = (name : GeneralName) (s t : SubtreeBase) → IsTrue (is_base_inside s t) → IsCovered name s → IsCovered name t
+
+-- two that share a name are nested, one way or the other
+abbrev pub SharedBasesAreNested : Type 0
+SharedBasesAreNested =
+    (name : GeneralName) (s t : SubtreeBase) → IsCovered name s → IsCovered name t →
+    IsTrue (is_base_inside s t) ⊎ IsTrue (is_base_inside t s)
+
+-- a name lies in subtrees of its own form alone, and that form is processed
+abbrev pub CoveredIsOfForm : Type 0
+CoveredIsOfForm = (name : GeneralName) (s : SubtreeBase) → IsCovered name s → form_of_base s ≡ form_of_general_name name
+
+abbrev pub CoveredIsProcessed : Type 0
+CoveredIsProcessed = (name : GeneralName) (s : SubtreeBase) → IsCovered name s → IsProcessed (form_of_base s)
+
+abbrev pub BaseFormTestIsExact : Type 0
+BaseFormTestIsExact = (s : SubtreeBase) (form : Form) → (IsTrue (is_of_form s form) ↔ (form_of_base s ≡ form))

@@ -5,7 +5,7 @@ ghost use Rattle.asn.specs.Place.{part};
 ghost use Rattle.asn.specs.Walk.{Gives};
 ghost use Rattle.names.specs.GeneralLayout.{form_of_identifier, explicit_name, general, dns_name_at, ip_address_at, base, dns_base_at, ip_base_at};
 ghost use Rattle.names.specs.Bases.{DnsNameTestIsExact, NamesOfBaseAreExact, AddressTestIsExact, RangeOfBaseIsExact, RefusedBaseIsExact};
-ghost use Rattle.names.specs.GeneralCoverage.{CoverageTestIsExact, CoverageIsOfContents, InsideIsOfContents, NameFormIsOfContents, BaseFormIsOfContents};
+ghost use Rattle.names.specs.GeneralCoverage.{CoverageTestIsExact, CoverageIsOfContents, InsideIsOfContents, NameFormIsOfContents, BaseFormIsOfContents, FormTestIsOfContents, BaseInsideIsSound, SharedBasesAreNested, CoveredIsOfForm, CoveredIsProcessed, BaseFormTestIsExact};
 ghost use Rattle.names.specs.GeneralForms.{GeneralNamesAreRead, SubtreeBasesAreRead};
 ghost use Rattle.names.specs.GeneralView.{name_contents, general_name, subtree_base};
 
@@ -160,14 +160,17 @@ pub fn general_laws()
 {}
 
 /// Whether a name lies in a subtree, and a subtree in another, is decided by what they say, wherever that lies in memory. The
-/// test on what they say decides the relation.
+/// tests on what they say decide the relations, and the laws of `subtree_laws` hold of them.
 pub fn coverage_laws()
     ensures test { CoverageTestIsExact }
     ensures covers { CoverageIsOfContents }
     ensures inside { InsideIsOfContents }
     ensures name_form { NameFormIsOfContents }
     ensures base_form { BaseFormIsOfContents }
+    ensures has_form { FormTestIsOfContents }
+    ensures sound { BaseInsideIsSound }
+    ensures nested { SharedBasesAreNested }
+    ensures form { CoveredIsOfForm }
+    ensures processed { CoveredIsProcessed }
+    ensures form_test { BaseFormTestIsExact }
 {}
-
-#[cfg(test)]
-mod tests;

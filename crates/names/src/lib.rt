@@ -16,6 +16,3 @@ pub use general::{Form, General};
 pub use general_reading::{coverage_laws, form_of_tag, general_laws};
 pub use ip::{IpFault, IpRange, is_ip_address, range_laws};
 pub use subtree::{Subtree, subtree_laws};
-
-#[cfg(test)]
-mod tests;

@@ -1,0 +1,5 @@
+mod Splitting
+mod Words
+mod PreparedText
+mod PreparationLaws
+pub mod Laws
