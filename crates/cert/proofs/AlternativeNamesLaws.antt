@@ -11,7 +11,6 @@ use Rattle.names.specs.GeneralForms.{IsGeneralName}
 use Rattle.names.proofs.Laws.{general_names_are_read}
 use Rattle.cert.specs.declared.fault.CertRule.{CertRule}
 use Rattle.cert.specs.declared.fault.CertRule.TheVariants.{Name, ExtensionValue}
-use Rattle.cert.specs.declared.limit.TheConstants.{MOST_NAMES}
 use Rattle.cert.specs.AlternativeNames.{has_form, one_more_name, alternative_names, AreAlternativeNames}
 use Rattle.cert.proofs.ContainedValues.{contained_ok, contained_again}
 use Rattle.cert.proofs.AddedItems.{Adds, RoomBelow, at_most, some_items_ok, some_items_again}
@@ -23,7 +22,7 @@ formed value (dns_name text) is = rw is.0 refl
 formed value (ip_address octets) is = rw is.0 refl
 formed value (other_name number contents) is = rw is.0 refl
 
-name_ok : (from : List GeneralName) (value : Place) (to : List GeneralName) → one_more_name from value ≡ Ok to → Adds IsGeneralName (RoomBelow MOST_NAMES) from value to
+name_ok : (from : List GeneralName) (value : Place) (to : List GeneralName) → one_more_name from value ≡ Ok to → Adds IsGeneralName (RoomBelow 4096) from value to
 unfolding one_more_name
 name_ok from value to e =
     let form = bind_ok (has_form value) _ to e in
@@ -32,15 +31,15 @@ name_ok from value to e =
     record {
       item = name.0;
       is_item = (general_names_are_read value name.0).0 (as_name_ok (general value) name.0 name.1);
-      room = room_ok MOST_NAMES (length from) value.at room.0 room.1;
+      room = room_ok 4096 (length from) value.at room.0 room.1;
       added = sym (ok_is {E = CertRule × ℕ} _ to name.2);
     }
 
-name_again : (from : List GeneralName) (value : Place) (to : List GeneralName) → Adds IsGeneralName (RoomBelow MOST_NAMES) from value to → one_more_name from value ≡ Ok to
+name_again : (from : List GeneralName) (value : Place) (to : List GeneralName) → Adds IsGeneralName (RoomBelow 4096) from value to → one_more_name from value ≡ Ok to
 unfolding one_more_name has_form
 name_again from value to adds =
     let read = (general_names_are_read value adds.item).1 adds.is_item in
-    rw (check_again (is_some (form_of_identifier (tag value))) (Name NameLayout) value.at (formed value adds.item adds.is_item), room_again MOST_NAMES (length from) value.at adds.room, read, ← adds.added) refl
+    rw (check_again (is_some (form_of_identifier (tag value))) (Name NameLayout) value.at (formed value adds.item adds.is_item), room_again 4096 (length from) value.at adds.room, read, ← adds.added) refl
 
 pub are_alternative_names : (octet_string : Place) (names : List GeneralName) → AreOctets (body octet_string) → alternative_names octet_string ≡ Ok names → AreAlternativeNames octet_string names
 unfolding alternative_names
@@ -48,12 +47,12 @@ are_alternative_names octet_string names fits e =
     let value = bind_ok _ _ names e in
     let sequence = bind_ok _ _ names value.2 in
     let held = contained_ok octet_string value.0 fits value.1 in
-    let found = some_items_ok one_more_name IsGeneralName (RoomBelow MOST_NAMES) name_ok ExtensionValue (members value.0) names sequence.2 in
+    let found = some_items_ok one_more_name IsGeneralName (RoomBelow 4096) name_ok ExtensionValue (members value.0) names sequence.2 in
     record {
       whole = held.1;
       sequence = subst (λ (p : Place). tag p ≡ 0x30) held.0 (is_a_ok _ _ _ _ sequence.1);
       some = found.one;
-      served = at_most (length names) MOST_NAMES found.room;
+      served = at_most (length names) 4096 found.room;
       each = subst (λ (p : Place). AllZip IsGeneralName (members p).values names) held.0 found.are_items;
     }
 
@@ -62,4 +61,4 @@ unfolding alternative_names
 alternative_names_are octet_string names are =
     let served = are.served in
     rw (contained_again octet_string are.whole, is_a_again 0x30 ExtensionValue (inside octet_string) are.sequence)
-    (some_items_again one_more_name IsGeneralName (RoomBelow MOST_NAMES) name_again ExtensionValue (members (inside octet_string)) names record { one = are.some; are_items = are.each; room = λ k high. omega arith })
+    (some_items_again one_more_name IsGeneralName (RoomBelow 4096) name_again ExtensionValue (members (inside octet_string)) names record { one = are.some; are_items = are.each; room = λ k high. omega arith })

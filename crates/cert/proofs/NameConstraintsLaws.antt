@@ -9,7 +9,6 @@ use Rattle.names.specs.GeneralLayout.{SubtreeBase, base}
 use Rattle.names.proofs.Laws.{subtree_bases_are_read}
 use Rattle.cert.specs.declared.fault.CertRule.{CertRule}
 use Rattle.cert.specs.declared.fault.CertRule.TheVariants.{ExtensionValue, SubtreeBounds}
-use Rattle.cert.specs.declared.limit.TheConstants.{MOST_NAMES}
 use Rattle.cert.specs.NameConstraints.{NameConstraints, no_bounds, subtree, one_more_subtree, some_subtrees, subtrees_in, subtrees, name_constraints, IsSubtree, AreSubtrees, IsNameConstraints}
 use Rattle.cert.proofs.ContainedValues.{contained_ok, contained_again}
 use Rattle.cert.proofs.AddedItems.{Adds, RoomBelow, SomeItems, at_most, none_behind, some_items_ok, some_items_again}
@@ -131,7 +130,7 @@ are_name_constraints octet_string fields fits e =
       members_are = ap (λ (p : Place). (members p).values) (sym held.0) ∙ first.values ∙ ap (λ (vs : List Place). first.lists ++ vs) (second.values ∙ none_behind second.lists excluded.0.1.values end);
       permitted = first.are;
       excluded = second.are;
-      served = both_served (length permitted.0.0) (length excluded.0.0) MOST_NAMES first.served second.served;
+      served = both_served (length permitted.0.0) (length excluded.0.0) 4096 first.served second.served;
     }
 
 pub name_constraints_are : (octet_string : Place) (fields : NameConstraints) → IsNameConstraints octet_string fields → name_constraints octet_string ≡ Ok fields
@@ -140,4 +139,4 @@ name_constraints_are octet_string fields is =
     let inner : Members = members (inside octet_string) in
     let left : List Place → Members = λ values. record { values = values; end = inner.end } in
     let served = is.served in
-    rw (contained_again octet_string is.whole, is_a_again 0x30 ExtensionValue (inside octet_string) is.sequence, subtrees_again MOST_NAMES 0xA0 inner is.permitted_lists is.excluded_lists fields.permitted is.members_are is.permitted (omega arith) (not_permitted is.excluded_lists fields.excluded is.excluded), subtrees_again (MOST_NAMES - length fields.permitted) 0xA1 (left is.excluded_lists) is.excluded_lists [] fields.excluded (sym (append-nil is.excluded_lists)) is.excluded (omega arith) refl, ended_again ExtensionValue (left []) refl) refl
+    rw (contained_again octet_string is.whole, is_a_again 0x30 ExtensionValue (inside octet_string) is.sequence, subtrees_again 4096 0xA0 inner is.permitted_lists is.excluded_lists fields.permitted is.members_are is.permitted (omega arith) (not_permitted is.excluded_lists fields.excluded is.excluded), subtrees_again (4096 - length fields.permitted) 0xA1 (left is.excluded_lists) is.excluded_lists [] fields.excluded (sym (append-nil is.excluded_lists)) is.excluded (omega arith) refl, ended_again ExtensionValue (left []) refl) refl

@@ -14,7 +14,6 @@ use Rattle.cert.specs.Fault.{as_der, as_name}
 use Rattle.cert.specs.Limit.{has_room}
 use Rattle.cert.specs.declared.fault.CertRule.{CertRule}
 use Rattle.cert.specs.declared.fault.CertRule.TheVariants.{Name, ExtensionValue}
-use Rattle.cert.specs.declared.limit.TheConstants.{MOST_NAMES}
 
 -- the value has the identifier of a general name
 unfoldable pub has_form : Place → Result (Unit {0}) (CertRule × ℕ)
@@ -24,7 +23,7 @@ has_form value = check_that (is_some (form_of_identifier (tag value))) (Name Nam
 unfoldable pub one_more_name : List GeneralName → Place → Result (List GeneralName) (CertRule × ℕ)
 one_more_name earlier value = do
   form ← has_form value
-  room ← has_room MOST_NAMES (length earlier) value.at
+  room ← has_room 4096 (length earlier) value.at
   name ← as_name (general value)
   Ok (earlier ++ name ∷ [])
 
@@ -42,7 +41,7 @@ pub record AreAlternativeNames (octet_string : Place) (names : List GeneralName)
   pub whole : IsWhole (body octet_string)
   pub sequence : tag (inside octet_string) ≡ 0x30
   pub some : 0 < length names
-  pub served : length names ≤ MOST_NAMES
+  pub served : length names ≤ 4096
   pub each : AllZip IsGeneralName (members (inside octet_string)).values names
 
 abbrev pub AlternativeNamesAreExact : Type 0

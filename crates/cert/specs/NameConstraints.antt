@@ -15,7 +15,6 @@ use Rattle.cert.specs.Fault.{as_der, as_name}
 use Rattle.cert.specs.Limit.{has_room}
 use Rattle.cert.specs.declared.fault.CertRule.{CertRule}
 use Rattle.cert.specs.declared.fault.CertRule.TheVariants.{ExtensionValue, SubtreeBounds}
-use Rattle.cert.specs.declared.limit.TheConstants.{MOST_NAMES}
 use Rattle.cert.specs.declared.name_constraints.NameConstraints as code
 
 -- the bases of the subtrees, which are all that is served of them
@@ -70,8 +69,8 @@ unfoldable pub name_constraints : Place → Result NameConstraints (CertRule × 
 name_constraints octet_string = do
   value ← as_der (nested octet_string)
   sequence ← is_a 0x30 ExtensionValue value
-  permitted ← subtrees MOST_NAMES 0xA0 (members value)
-  excluded ← subtrees (MOST_NAMES - length permitted.0) 0xA1 permitted.1
+  permitted ← subtrees 4096 0xA0 (members value)
+  excluded ← subtrees (4096 - length permitted.0) 0xA1 permitted.1
   done ← ended ExtensionValue excluded.1
   Ok (record { permitted = permitted.0; excluded = excluded.0 })
 
@@ -99,7 +98,7 @@ pub record IsNameConstraints (octet_string : Place) (fields : NameConstraints) :
   pub members_are : (members (inside octet_string)).values ≡ permitted_lists ++ excluded_lists
   pub permitted : AreSubtrees 0xA0 permitted_lists fields.permitted
   pub excluded : AreSubtrees 0xA1 excluded_lists fields.excluded
-  pub served : length fields.permitted + length fields.excluded ≤ MOST_NAMES
+  pub served : length fields.permitted + length fields.excluded ≤ 4096
 
 abbrev pub NameConstraintsAreExact : Type 0
 NameConstraintsAreExact =

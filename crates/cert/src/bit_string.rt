@@ -4,7 +4,7 @@ ghost use Rattle.std.specs.Prelude.{◌≡◌};
 ghost use Rattle.cert.specs.BitString.{bits_in, has_no_unused_bits};
 
 /// The octets of the bits, behind the count of unused bits with which the contents begin.
-pub(crate) fn bits_of(contents: &[u8]) -> &[u8]
+pub fn bits_of(contents: &[u8]) -> &[u8]
     ensures { result.now ≡ bits_in contents.now }
 {
     match contents {
@@ -13,7 +13,8 @@ pub(crate) fn bits_of(contents: &[u8]) -> &[u8]
     }
 }
 
-pub(crate) fn is_of_whole_octets(contents: &[u8]) -> bool
+/// Whether no bit is unused.
+pub fn is_of_whole_octets(contents: &[u8]) -> bool
     ensures { result ≡ has_no_unused_bits contents.now }
 {
     match contents {

@@ -29,9 +29,9 @@ pub enum ExtensionKind {
 /// id-pkix-ocsp-nocheck: 1.3.6.1.5.5.7.48.1.5
 const NO_CHECK: &[u8] = &[0x2B, 0x06, 0x01, 0x05, 0x05, 0x07, 0x30, 0x01, 0x05];
 
-/// The number behind id-ce, which is 2.5.29.
+/// The number behind id-ce, which is 2.5.29 (RFC 5280, 4.2.1); `None` for the contents of another OBJECT IDENTIFIER.
 #[tactic(auto, unfolding(crate::specs::Extensions::certificate_extension))]
-fn certificate_extension_number(oid: &[u8]) -> Option<u8>
+pub fn certificate_extension_number(oid: &[u8]) -> Option<u8>
     ensures { result ≡ certificate_extension oid.now }
 {
     match oid {

@@ -25,9 +25,10 @@ mod version;
 
 pub use algorithm::AlgorithmIdentifier;
 pub use basic_constraints::BasicConstraints;
+pub use bit_string::{bits_of, is_of_whole_octets};
 pub use certificate::Certificate;
 pub use extension::Extension;
-pub use extension_kind::ExtensionKind;
+pub use extension_kind::{ExtensionKind, certificate_extension_number};
 pub use extensions::Extensions;
 pub use fault::{CertFault, CertRule, Refusal};
 pub use key_info::SubjectPublicKeyInfo;
@@ -35,12 +36,7 @@ pub use key_usage::KeyUsage;
 pub use layout::{certificate_laws, layout_laws};
 pub use limit::MOST_NAMES;
 pub use name_constraints::NameConstraints;
+pub use oid_set::OidSet;
+pub use tbs::is_serial_number;
 pub use validity::Validity;
 pub use version::Version;
-
-#[cfg(test)]
-mod name_value_tests;
-#[cfg(test)]
-mod tests;
-#[cfg(test)]
-mod value_tests;

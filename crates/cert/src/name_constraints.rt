@@ -1,7 +1,6 @@
 //! nameConstraints: the names that certificates behind this one may hold (RFC 5280, 4.2.1.10).
 
 ghost use Rattle.std.specs.Prelude.{◌≤◌, ◌+◌, vec_len};
-ghost use Rattle.cert.specs.declared.limit.TheConstants.{MOST_NAMES};
 
 use crate::contained::contained_value;
 use crate::fault::{CertFault, CertRule};
@@ -19,7 +18,7 @@ pub struct NameConstraints<'a> {
     pub permitted: Vec<Subtree<'a>>,
     /// Empty where they are not there.
     pub excluded: Vec<Subtree<'a>>,
-    pub ghost served: { vec_len permitted + vec_len excluded ≤ MOST_NAMES },
+    pub ghost served: { vec_len permitted + vec_len excluded ≤ 4096 },
 }
 
 impl<'a> NameConstraints<'a> {

@@ -33,13 +33,14 @@ fn is_among(oid: &[u8], others: &[&[u8]]) -> bool
 
 /// Contents of OBJECT IDENTIFIERs, each once. The first ones take no memory, and those that find no room are in a tree.
 #[derive(Drop)]
-pub(crate) struct OidSet<'a> {
+pub struct OidSet<'a> {
     few: ArrayVec<&'a [u8], FEW>,
     many: BTreeSet<&'a [u8]>,
 }
 
 impl<'a> OidSet<'a> {
-    pub(crate) fn new(alloc: Global) -> OidSet<'a>
+    /// The empty set.
+    pub fn new(alloc: Global) -> OidSet<'a>
         ensures { oids_in result ≡ empty }
     {
         OidSet {
@@ -49,7 +50,7 @@ impl<'a> OidSet<'a> {
     }
 
     /// Puts one more into the set, and answers whether it is new. Time is logarithmic in the size of the set.
-    pub(crate) fn insert(&mut self, oid: &'a [u8]) -> Result<bool, AllocError>
+    pub fn insert(&mut self, oid: &'a [u8]) -> Result<bool, AllocError>
         ensures new { IfOk result (λ new. new ≡ not (contains (oids_in self.old) oid.now)) }
         ensures added { OnOk result (oids_in self.new ≡ insert (oids_in self.old) oid.now) }
     {

@@ -102,7 +102,7 @@ pub(crate) fn take_permitted<'a>(
     members: &mut Cursor<'a>,
 ) -> Result<Vec<Subtree<'a>>, CertFault>
     ensures walk { GivesUnlessFull (λ all. (map subtree_base all.items, left members.new)) result
-        (subtrees MOST_NAMES 0xA0 (left members.old)) }
+        (subtrees 4096 0xA0 (left members.old)) }
     ensures served { IfOk result (λ all. vec_len all ≤ MOST_NAMES) }
 {
     match members.optional(0xA0) {

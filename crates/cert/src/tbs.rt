@@ -36,7 +36,8 @@ pub(crate) struct Subject<'a> {
     pub(crate) key_info: SubjectPublicKeyInfo<'a>,
 }
 
-fn is_serial_number(contents: &[u8]) -> bool
+/// Whether the contents of an INTEGER are a serial number that is served: 1 to 32 octets, of any sign.
+pub fn is_serial_number(contents: &[u8]) -> bool
     ensures { result ≡ is_serial contents.now }
 {
     !contents.is_empty() && contents.len() <= 32

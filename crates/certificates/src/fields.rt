@@ -1,95 +1,18 @@
 //! Whole certificates: what is read of them, and the first fault with its place.
 
-use super::*;
+use crate::building::{
+    ALGORITHM, ISSUER, KEY, OUTER, PLAIN, REST, SERIAL, SIGNATURE, SUBJECT, TAIL, VALIDITY,
+    VERSION, certificate_of, plain_but, with_list,
+};
+use crate::holds;
 use asn::Rule;
-use names::{Form, NameFault, Subtree};
-use std::alloc::AllocError;
-
-/// The components of a certificate in order: the places of a table of them.
-const VERSION: usize = 0;
-
-const SERIAL: usize = 1;
-
-const ALGORITHM: usize = 2;
-
-const ISSUER: usize = 3;
-
-const VALIDITY: usize = 4;
-
-const SUBJECT: usize = 5;
-
-const KEY: usize = 6;
-/// Unique identifiers and extensions.
-const TAIL: usize = 7;
-
-const OUTER: usize = 8;
-
-const SIGNATURE: usize = 9;
-/// What is left over.
-const REST: usize = 10;
-
-/// A certificate of 100 octets, where the signed part stands at 2, the version at 4, the serial number at 9, the algorithm at
-/// 12, the issuer at 18, the validity at 32, the subject at 64, the key at 78, the outer algorithm at 90 and the signature at
-/// 96.
-const PLAIN: [&[u8]; 11] = [
-    b"\xA0\x03\x02\x01\x02",
-    b"\x02\x01\x05",
-    b"\x30\x04\x06\x02\x2A\x03",
-    b"\x30\x0C\x31\x0A\x30\x08\x06\x03\x55\x04\x03\x13\x01A",
-    b"\x30\x1E\x17\x0D250101000000Z\x17\x0D260101000000Z",
-    b"\x30\x0C\x31\x0A\x30\x08\x06\x03\x55\x04\x03\x13\x01T",
-    b"\x30\x0A\x30\x04\x06\x02\x2A\x03\x03\x02\x00K",
-    b"",
-    b"\x30\x04\x06\x02\x2A\x03",
-    b"\x03\x02\x00\xEE",
-    b"",
-];
-
-/// Pushes the value with this identifier octet and these contents, of which there are at most 65,535.
-fn push_value(all: &mut Vec<u8>, tag: u8, contents: &[u8]) -> Result<(), AllocError> {
-    let length = contents.len().to_be_bytes();
-    all.push(tag)?;
-    match contents.len() {
-        0..128 => all.extend_from_slice(&length[7..])?,
-        128..256 => {
-            all.push(0x81)?;
-            all.extend_from_slice(&length[7..])?;
-        }
-        _ => {
-            all.push(0x82)?;
-            all.extend_from_slice(&length[6..])?;
-        }
-    }
-    all.extend_from_slice(contents)
-}
-
-/// The certificate of these components.
-fn certificate_of(alloc: Global, components: &[&[u8]; 11]) -> Result<Vec<u8>, AllocError> {
-    let mut signed = Vec::new(alloc);
-    for component in &components[..OUTER] {
-        signed.extend_from_slice(component)?;
-    }
-    let mut inside = Vec::new(alloc);
-    push_value(&mut inside, 0x30, &signed)?;
-    for component in &components[OUTER..] {
-        inside.extend_from_slice(component)?;
-    }
-    let mut whole = Vec::new(alloc);
-    push_value(&mut whole, 0x30, &inside)?;
-    Ok(whole)
-}
-
-/// The plain certificate with another component.
-fn plain_but(alloc: Global, at: usize, octets: &[u8]) -> Result<Vec<u8>, AllocError> {
-    let mut components = PLAIN;
-    if let Some(component) = components.get_mut(at) {
-        *component = octets;
-    }
-    certificate_of(alloc, &components)
-}
+use cert::{CertFault, CertRule, Certificate, Version};
+use names::{Form, NameFault};
+use std::alloc::{AllocError, Global};
+use std::test::Fail;
 
 /// What is another, its octets, what is refused, and where.
-const REFUSED: [(&str, usize, &[u8], CertRule, usize); 63] = [
+const REFUSED: &[(&str, usize, &[u8], CertRule, usize)] = &[
     (
         "a version that is v1",
         VERSION,
@@ -515,93 +438,112 @@ const REFUSED: [(&str, usize, &[u8], CertRule, usize); 63] = [
     ),
 ];
 
+/// Whether the octets are refused for the rule at this offset.
+fn is_refused(alloc: Global, octets: &[u8], rule: CertRule, at: usize) -> bool {
+    Certificate::read(alloc, octets).err() == Some(CertFault::Refused(rule, at))
+}
+
 #[test]
-fn refuses_certificates(rt: HostRuntime) -> Result<(), Fail> {
+fn other_components_are_refused(rt: HostRuntime) -> Result<(), Fail> {
     let alloc = rt.alloc();
-    for (what, component, octets, rule, at) in REFUSED {
-        let certificate = plain_but(alloc, component, octets)?;
-        let answer = Certificate::read(alloc, &certificate).err();
-        assert_eq!(rt; answer, Some(CertFault::Refused(rule, at)), "{what}");
+    for (what, component, octets, rule, at) in REFUSED.iter() {
+        let certificate = plain_but(alloc, *component, octets)?;
+        assert!(rt; is_refused(alloc, &certificate, *rule, *at), "{what}");
     }
     Ok(())
 }
 
-/// The same without the checks of components: texts cut short, with octets behind, or of another form.
+/// Texts of another form, without the checks of components.
+const OTHER_TEXTS: &[(&[u8], CertRule, usize, &str)] = &[
+    (&[], CertRule::Der(Rule::Truncated), 0, "no octets"),
+    (b"\x05\x00", CertRule::Layout, 0, "a NULL"),
+    (b"\x31\x00", CertRule::Layout, 0, "a SET"),
+    (b"\x30\x00", CertRule::Layout, 2, "nothing inside"),
+    (
+        b"\x30\x02\x31\x00",
+        CertRule::Layout,
+        2,
+        "a signed part that is a SET",
+    ),
+    (
+        b"\x30\x02\x30\x00",
+        CertRule::Layout,
+        4,
+        "nothing in the signed part",
+    ),
+];
+
 #[test]
-fn refuses_other_texts(rt: HostRuntime) -> Result<(), Fail> {
+fn other_texts_are_refused(rt: HostRuntime) -> Result<(), Fail> {
     let alloc = rt.alloc();
-    let plain = certificate_of(alloc, &PLAIN)?;
-    let (_, shorter) = plain.split_last().ok_or("octets")?;
-    let mut longer = certificate_of(alloc, &PLAIN)?;
-    longer.push(0)?;
-    let rows: [(&[u8], CertRule, usize, &str); 8] = [
-        (&[], CertRule::Der(Rule::Truncated), 0, "no octets"),
-        (
-            shorter,
-            CertRule::Der(Rule::Truncated),
-            0,
-            "the last octet missing",
-        ),
-        (
-            &longer,
-            CertRule::Der(Rule::Trailing),
-            100,
-            "an octet behind",
-        ),
-        (b"\x05\x00", CertRule::Layout, 0, "a NULL"),
-        (b"\x31\x00", CertRule::Layout, 0, "a SET"),
-        (b"\x30\x00", CertRule::Layout, 2, "nothing inside"),
-        (
-            b"\x30\x02\x31\x00",
-            CertRule::Layout,
-            2,
-            "a signed part that is a SET",
-        ),
-        (
-            b"\x30\x02\x30\x00",
-            CertRule::Layout,
-            4,
-            "nothing in the signed part",
-        ),
-    ];
-    for (octets, rule, at, what) in rows {
-        let answer = Certificate::read(alloc, octets).err();
-        assert_eq!(rt; answer, Some(CertFault::Refused(rule, at)), "{what}");
+    for (octets, rule, at, what) in OTHER_TEXTS.iter() {
+        assert!(rt; is_refused(alloc, octets, *rule, *at), "{what}");
     }
+    let mut octets = certificate_of(alloc, &PLAIN)?;
+    octets.push(0)?;
+    let trailing = CertRule::Der(Rule::Trailing);
+    holds(
+        &rt,
+        is_refused(alloc, &octets, trailing, 100),
+        "an octet behind",
+    );
+    octets.truncate(99);
+    let truncated = CertRule::Der(Rule::Truncated);
+    holds(
+        &rt,
+        is_refused(alloc, &octets, truncated, 0),
+        "the last octet missing",
+    );
     Ok(())
 }
 
 #[test]
-fn reads_a_plain_certificate(rt: HostRuntime) -> Result<(), Fail> {
+fn the_fields_of_a_plain_certificate_are_read(rt: HostRuntime) -> Result<(), Fail> {
     let alloc = rt.alloc();
     let octets = certificate_of(alloc, &PLAIN)?;
     let read = Certificate::read(alloc, &octets).map_err(|_| "a certificate")?;
-    assert_eq!(rt; octets.len(), 100);
-    assert!(rt; read.octets == octets.as_slice());
-    assert!(rt; read.tbs == &octets[2..90]);
-    assert_eq!(rt; read.version, Version::V3);
-    assert!(rt; read.serial == b"\x05".as_slice());
-    assert!(rt; read.algorithm == PLAIN[ALGORITHM]);
-    assert!(rt; read.issuer.raw() == PLAIN[ISSUER]);
-    assert_eq!(rt; read.validity.not_before, 1_735_689_600);
-    assert_eq!(rt; read.validity.not_after, 1_767_225_600);
-    assert!(rt; read.subject.raw() == PLAIN[SUBJECT]);
-    assert!(rt; read.subject_public_key_info.whole == PLAIN[KEY]);
-    assert!(rt; read.subject_public_key_info.key == b"K".as_slice());
-    assert!(rt; read.signature == b"\xEE".as_slice());
-    assert!(rt; !read.self_issued());
+    assert!(rt; octets.len() == 100, "100 octets");
+    holds(&rt, read.octets == octets.as_slice(), "its octets");
+    holds(&rt, read.tbs == &octets[2..90], "the signed part");
+    holds(&rt, read.version == Version::V3, "v3");
+    holds(&rt, read.serial == b"\x05".as_slice(), "the serial number");
+    holds(&rt, read.algorithm == PLAIN[ALGORITHM], "the algorithm");
+    holds(&rt, read.issuer.raw() == PLAIN[ISSUER], "the issuer");
+    holds(&rt, read.validity.not_before == 1_735_689_600, "notBefore");
+    holds(&rt, read.validity.not_after == 1_767_225_600, "notAfter");
+    holds(&rt, read.subject.raw() == PLAIN[SUBJECT], "the subject");
+    let key_info = &read.subject_public_key_info;
+    holds(&rt, key_info.whole == PLAIN[KEY], "subjectPublicKeyInfo");
+    holds(&rt, key_info.key == b"K".as_slice(), "the key");
+    holds(&rt, read.signature == b"\xEE".as_slice(), "the signature");
+    holds(&rt, !read.self_issued(), "not self-issued");
+    Ok(())
+}
+
+#[test]
+fn a_plain_certificate_says_nothing_more(rt: HostRuntime) -> Result<(), Fail> {
+    let alloc = rt.alloc();
+    let octets = certificate_of(alloc, &PLAIN)?;
+    let read = Certificate::read(alloc, &octets).map_err(|_| "a certificate")?;
     let said = &read.extensions;
-    assert!(rt; said.key_usage.is_none() && said.basic_constraints.is_none());
-    assert!(rt; said.alternative_names.is_empty() && said.purposes.is_empty());
-    assert!(rt;
-        said.name_constraints.permitted.is_empty() && said.name_constraints.excluded.is_empty()
+    holds(&rt, said.key_usage.is_none(), "no keyUsage");
+    holds(&rt, said.basic_constraints.is_none(), "no basicConstraints");
+    holds(&rt, said.alternative_names.is_empty(), "no names");
+    holds(&rt, said.purposes.is_empty(), "no purposes");
+    let constraints = &said.name_constraints;
+    holds(&rt, constraints.permitted.is_empty(), "nothing permitted");
+    holds(&rt, constraints.excluded.is_empty(), "nothing excluded");
+    holds(
+        &rt,
+        !said.needs_policy_processing && !said.no_check,
+        "no flag",
     );
-    assert!(rt; !said.needs_policy_processing && !said.no_check && said.unrecognised.is_empty());
+    holds(&rt, said.unrecognised.is_empty(), "nothing unrecognised");
     Ok(())
 }
 
 /// Other components with which a certificate is read.
-const ACCEPTED: [(&str, usize, &[u8]); 9] = [
+const ACCEPTED: &[(&str, usize, &[u8])] = &[
     ("version 1", VERSION, b""),
     ("version 2", VERSION, b"\xA0\x03\x02\x01\x01"),
     ("a negative serial number", SERIAL, b"\x02\x01\xFF"),
@@ -626,10 +568,10 @@ const ACCEPTED: [(&str, usize, &[u8]); 9] = [
 ];
 
 #[test]
-fn reads_other_certificates(rt: HostRuntime) -> Result<(), Fail> {
+fn other_certificates_are_read(rt: HostRuntime) -> Result<(), Fail> {
     let alloc = rt.alloc();
-    for (what, component, octets) in ACCEPTED {
-        let certificate = plain_but(alloc, component, octets)?;
+    for (what, component, octets) in ACCEPTED.iter() {
+        let certificate = plain_but(alloc, *component, octets)?;
         assert!(rt; Certificate::read(alloc, &certificate).is_ok(), "{what}");
     }
     let mut components = PLAIN;
@@ -641,29 +583,28 @@ fn reads_other_certificates(rt: HostRuntime) -> Result<(), Fail> {
 }
 
 /// Components that a version does not have: unique identifiers in v1, extensions in v1 and v2.
+const LATER: &[(&[u8], &[u8], usize, &str)] = &[
+    (b"", b"\x81\x01\x00", 85, "issuerUniqueID in v1"),
+    (b"", b"\x82\x01\x00", 85, "subjectUniqueID in v1"),
+    (b"", b"\xA3\x02\x05\x00", 85, "extensions in v1"),
+    (
+        b"\xA0\x03\x02\x01\x01",
+        b"\xA3\x02\x05\x00",
+        90,
+        "extensions in v2",
+    ),
+];
+
 #[test]
-fn refuses_components_of_later_versions(rt: HostRuntime) -> Result<(), Fail> {
+fn components_of_later_versions_are_refused(rt: HostRuntime) -> Result<(), Fail> {
     let alloc = rt.alloc();
-    let rows: [(&[u8], &[u8], usize, &str); 4] = [
-        (b"", b"\x81\x01\x00", 85, "issuerUniqueID in v1"),
-        (b"", b"\x82\x01\x00", 85, "subjectUniqueID in v1"),
-        (b"", b"\xA3\x02\x05\x00", 85, "extensions in v1"),
-        (
-            b"\xA0\x03\x02\x01\x01",
-            b"\xA3\x02\x05\x00",
-            90,
-            "extensions in v2",
-        ),
-    ];
-    for (version, tail, at, what) in rows {
+    for (version, tail, at, what) in LATER.iter() {
         let mut components = PLAIN;
         components[VERSION] = version;
         components[TAIL] = tail;
         let certificate = certificate_of(alloc, &components)?;
-        let answer = Certificate::read(alloc, &certificate).err();
-        assert_eq!(rt;
-            answer,
-            Some(CertFault::Refused(CertRule::Version, at)),
+        assert!(rt;
+            is_refused(alloc, &certificate, CertRule::Version, *at),
             "{what}"
         );
     }
@@ -671,7 +612,7 @@ fn refuses_components_of_later_versions(rt: HostRuntime) -> Result<(), Fail> {
 }
 
 /// Extensions of each kind, one a line.
-const EXTENSIONS: [&[u8]; 10] = [
+const EXTENSIONS: &[&[u8]] = &[
     // keyUsage, critical: bits 5 and 6
     b"\x30\x0E\x06\x03\x55\x1D\x0F\x01\x01\xFF\x04\x04\x03\x02\x01\x06",
     // subjectAltName: a DNS name and an address
@@ -694,19 +635,10 @@ const EXTENSIONS: [&[u8]; 10] = [
     b"\x30\x06\x06\x02\x2A\x04\x04\x00",
 ];
 
-/// The plain certificate with these extensions, one behind the other.
-fn with_list(alloc: Global, list: &[u8]) -> Result<Vec<u8>, AllocError> {
-    let mut sequence = Vec::new(alloc);
-    push_value(&mut sequence, 0x30, list)?;
-    let mut tail = Vec::new(alloc);
-    push_value(&mut tail, 0xA3, &sequence)?;
-    plain_but(alloc, TAIL, &tail)
-}
-
 /// The plain certificate with these extensions.
 fn with_extensions(alloc: Global, extensions: &[&[u8]]) -> Result<Vec<u8>, AllocError> {
     let mut list = Vec::new(alloc);
-    for extension in extensions {
+    for extension in extensions.iter() {
         list.extend_from_slice(extension)?;
     }
     with_list(alloc, &list)
@@ -730,32 +662,85 @@ fn with_types(alloc: Global, count: u8, last: u8) -> Result<Vec<u8>, AllocError>
 }
 
 #[test]
-fn reads_extensions_of_each_kind(rt: HostRuntime) -> Result<(), Fail> {
+fn extensions_of_each_kind_are_read(rt: HostRuntime) -> Result<(), Fail> {
     let alloc = rt.alloc();
-    let octets = with_extensions(alloc, &EXTENSIONS)?;
+    let octets = with_extensions(alloc, EXTENSIONS)?;
     let read = Certificate::read(alloc, &octets).map_err(|_| "a certificate")?;
     let said = &read.extensions;
     let usage = said.key_usage.ok_or("keyUsage")?;
-    assert!(rt; usage.bits == b"\x06".as_slice() && usage.has(5) && usage.has(6) && !usage.has(0));
-    assert_eq!(rt; said.alternative_names.len(), 2);
-    assert!(rt; said.alternative_names[0].form() == Form::Dns);
-    assert!(rt; said.alternative_names[1].form() == Form::Ip);
+    holds(
+        &rt,
+        usage.bits == b"\x06".as_slice(),
+        "the bits of keyUsage",
+    );
+    holds(
+        &rt,
+        usage.has(5) && usage.has(6) && !usage.has(0),
+        "its uses",
+    );
+    assert!(rt; said.alternative_names.len() == 2, "two names");
+    holds(
+        &rt,
+        said.alternative_names[0].form() == Form::Dns,
+        "a DNS name",
+    );
+    holds(
+        &rt,
+        said.alternative_names[1].form() == Form::Ip,
+        "an address",
+    );
     let basic = said.basic_constraints.ok_or("basicConstraints")?;
-    assert!(rt; basic.ca && basic.path_length == Some(0));
-    assert_eq!(rt; said.name_constraints.permitted.len(), 1);
-    assert_eq!(rt; said.name_constraints.excluded.len(), 1);
-    assert!(rt; said.name_constraints.excluded[0].inside(&said.name_constraints.permitted[0]));
-    assert_eq!(rt; said.purposes.len(), 1);
-    assert!(rt; said.purposes[0].is(b"\x2B\x06\x01\x05\x05\x07\x03\x09"));
-    assert!(rt; said.needs_policy_processing && said.no_check);
-    assert_eq!(rt; said.unrecognised.len(), 2);
-    assert!(rt; said.unrecognised[0].is(b"\x2B\x06\x01\x05\x05\x07\x30\x01\x05"));
-    assert!(rt; said.unrecognised[1].is(b"\x2A\x03"));
+    holds(
+        &rt,
+        basic.ca && basic.path_length == Some(0),
+        "a path length of 0",
+    );
+    let (permitted, excluded) = (
+        &said.name_constraints.permitted,
+        &said.name_constraints.excluded,
+    );
+    assert!(rt;
+        permitted.len() == 1 && excluded.len() == 1,
+        "a subtree in each list"
+    );
+    holds(
+        &rt,
+        excluded[0].inside(&permitted[0]),
+        "x.example in example",
+    );
+    Ok(())
+}
+
+#[test]
+fn extensions_are_noted(rt: HostRuntime) -> Result<(), Fail> {
+    let alloc = rt.alloc();
+    let octets = with_extensions(alloc, EXTENSIONS)?;
+    let read = Certificate::read(alloc, &octets).map_err(|_| "a certificate")?;
+    let said = &read.extensions;
+    assert!(rt; said.purposes.len() == 1, "one purpose");
+    holds(
+        &rt,
+        said.purposes[0].is(b"\x2B\x06\x01\x05\x05\x07\x03\x09"),
+        "OCSP signing",
+    );
+    holds(
+        &rt,
+        said.needs_policy_processing && said.no_check,
+        "both flags",
+    );
+    assert!(rt; said.unrecognised.len() == 2, "two that are not recognised");
+    let no_check = b"\x2B\x06\x01\x05\x05\x07\x30\x01\x05";
+    holds(
+        &rt,
+        said.unrecognised[0].is(no_check),
+        "id-pkix-ocsp-nocheck",
+    );
+    holds(&rt, said.unrecognised[1].is(b"\x2A\x03"), "1.2.3");
     Ok(())
 }
 
 /// How many types there are, the number of one behind them, and where that is refused as repeated.
-const MANY: [(u8, u8, Option<usize>); 6] = [
+const MANY: &[(u8, u8, Option<usize>)] = &[
     (16, 17, None),
     (17, 18, None),
     (16, 1, Some(226)),
@@ -765,13 +750,13 @@ const MANY: [(u8, u8, Option<usize>); 6] = [
 ];
 
 #[test]
-fn tells_many_types_apart(rt: HostRuntime) -> Result<(), Fail> {
+fn many_types_are_told_apart(rt: HostRuntime) -> Result<(), Fail> {
     let alloc = rt.alloc();
-    for (count, last, at) in MANY {
-        let octets = with_types(alloc, count, last)?;
+    for (count, last, at) in MANY.iter() {
+        let octets = with_types(alloc, *count, *last)?;
         let answer = Certificate::read(alloc, &octets).err();
         let wanted = at.map(|at| CertFault::Refused(CertRule::ExtensionRepeated, at));
-        assert_eq!(rt; answer, wanted, "{count} types, then {last}");
+        assert!(rt; answer == wanted, "{count} types, then {last}");
     }
     Ok(())
 }
@@ -780,19 +765,19 @@ fn tells_many_types_apart(rt: HostRuntime) -> Result<(), Fail> {
 #[test]
 fn wants_memory_or_answers(rt: HostRuntime) -> Result<(), Fail> {
     let alloc = rt.alloc();
-    let Ok(octets) = with_extensions(alloc, &EXTENSIONS) else {
+    let Ok(octets) = with_extensions(alloc, EXTENSIONS) else {
         return Ok(());
     };
     match Certificate::read(alloc, &octets) {
-        Ok(read) => assert_eq!(rt; read.extensions.unrecognised.len(), 2),
-        Err(fault) => assert_eq!(rt; fault, CertFault::Memory),
+        Ok(read) => assert!(rt; read.extensions.unrecognised.len() == 2),
+        Err(fault) => assert!(rt; fault == CertFault::Memory),
     }
     let Ok(octets) = with_types(alloc, 17, 18) else {
         return Ok(());
     };
     match Certificate::read(alloc, &octets) {
         Ok(read) => assert!(rt; read.extensions.unrecognised.is_empty()),
-        Err(fault) => assert_eq!(rt; fault, CertFault::Memory),
+        Err(fault) => assert!(rt; fault == CertFault::Memory),
     }
     Ok(())
 }

@@ -1,13 +1,15 @@
 //! Values of extensions that hold names, written by hand: what they hold, the first fault, and the limits.
 
-use super::*;
-use crate::alternative_names::read_alternative_names;
-use crate::purposes::read_purposes;
-use crate::value_tests::octet_string;
+use crate::building::{is_refused_in, push_value, with_extension};
+use crate::values::octet_string;
 use asn::Rule;
+use cert::{CertFault, CertRule, Certificate, NameConstraints};
 use names::{Form, General, NameFault, Subtree};
 use std::alloc::{AllocError, Global};
 use std::test::Fail;
+
+/// subjectAltName
+const NAMES_TYPE: &[u8] = &[0x55, 0x1D, 0x11];
 
 /// The contents of a name that is no directory name.
 fn contents_of<'a>(name: &General<'a>) -> Option<&'a [u8]> {
@@ -17,26 +19,30 @@ fn contents_of<'a>(name: &General<'a>) -> Option<&'a [u8]> {
     }
 }
 
+/// The names in the value below.
+const NAMES: &[(Form, Option<&[u8]>)] = &[
+    (Form::Dns, Some(b"a.b")),
+    (Form::Ip, Some(b"\xC0\x00\x02\x01")),
+    (Form::Other(6), Some(b"x")),
+    (Form::Directory, None),
+];
+
 #[test]
-fn reads_alternative_names_in_order(rt: HostRuntime) -> Result<(), Fail> {
+fn alternative_names_are_read_in_order(rt: HostRuntime) -> Result<(), Fail> {
     let octets =
         b"\x30\x18\x05\x00\x04\x14\x30\x12\x82\x03a.b\x87\x04\xC0\x00\x02\x01\x86\x01x\xA4\x02\x30\x00";
-    let found = read_alternative_names(rt.alloc(), octet_string(octets)?)?;
-    let expected: [(Form, Option<&[u8]>); 4] = [
-        (Form::Dns, Some(b"a.b")),
-        (Form::Ip, Some(b"\xC0\x00\x02\x01")),
-        (Form::Other(6), Some(b"x")),
-        (Form::Directory, None),
-    ];
-    assert_eq!(rt; found.len(), 4);
-    for (name, (form, contents)) in found.iter().zip(expected) {
-        assert!(rt; name.form() == form);
-        assert!(rt; contents_of(name) == contents);
+    let certificate = with_extension(rt.alloc(), NAMES_TYPE, octets)?;
+    let read = Certificate::read(rt.alloc(), &certificate).map_err(|_| "a certificate")?;
+    let found = &read.extensions.alternative_names;
+    assert!(rt; found.len() == NAMES.len(), "how many");
+    for (name, (form, contents)) in found.iter().zip(NAMES.iter()) {
+        let is_so = name.form() == *form && contents_of(name) == *contents;
+        assert!(rt; is_so, "{form:?}");
     }
     Ok(())
 }
 
-const REFUSED_ALTERNATIVE_NAMES: [(&[u8], CertRule, usize, &str); 14] = [
+const REFUSED_ALTERNATIVE_NAMES: &[(&[u8], CertRule, usize, &str)] = &[
     (
         b"\x04\x08\x30\x06\x82\x04a..b",
         CertRule::Name(NameFault::DnsForm),
@@ -114,27 +120,18 @@ const REFUSED_ALTERNATIVE_NAMES: [(&[u8], CertRule, usize, &str); 14] = [
 ];
 
 #[test]
-fn refuses_alternative_names(rt: HostRuntime) -> Result<(), Fail> {
-    for (octets, rule, at, what) in REFUSED_ALTERNATIVE_NAMES {
-        let answer = read_alternative_names(rt.alloc(), octet_string(octets)?);
-        assert!(rt;
-            answer.err() == Some(CertFault::Refused(rule, at)),
-            "{what}"
-        );
+fn other_alternative_names_are_refused(rt: HostRuntime) -> Result<(), Fail> {
+    for (octets, rule, at, what) in REFUSED_ALTERNATIVE_NAMES.iter() {
+        let is_so = is_refused_in(rt.alloc(), NAMES_TYPE, octets, *rule, *at)?;
+        assert!(rt; is_so, "{what}");
     }
     Ok(())
 }
 
-/// A value with the contents, of fewer than 2^7, or of 2^8 to 2^16 octets.
+/// A value with the contents.
 fn value_of(alloc: Global, identifier: u8, contents: &[u8]) -> Result<Vec<u8>, AllocError> {
-    let length = contents.len().to_be_bytes();
     let mut value = Vec::new(alloc);
-    if contents.len() < 128 {
-        value.extend_from_slice(&[identifier, length[7]])?;
-    } else {
-        value.extend_from_slice(&[identifier, 0x82, length[6], length[7]])?;
-    }
-    value.extend_from_slice(contents)?;
+    push_value(&mut value, identifier, contents)?;
     Ok(value)
 }
 
@@ -148,7 +145,7 @@ fn repeated(alloc: Global, piece: &[u8], count: usize, last: &[u8]) -> Result<Ve
     Ok(all)
 }
 
-const COUNTS_OF_NAMES: [(usize, &[u8], Option<(CertRule, usize)>, &str); 5] = [
+const COUNTS_OF_NAMES: &[(usize, &[u8], Option<(CertRule, usize)>, &str)] = &[
     (4096, b"", None, "4,096 names"),
     (
         4096,
@@ -179,25 +176,24 @@ const COUNTS_OF_NAMES: [(usize, &[u8], Option<(CertRule, usize)>, &str); 5] = [
 /// A name takes 3 octets here, and the first stands at 8.
 #[test]
 fn alternative_names_have_a_limit(rt: HostRuntime) -> Result<(), Fail> {
-    for (count, last, expected, what) in COUNTS_OF_NAMES {
-        let names = repeated(rt.alloc(), b"\x86\x01x", count, last)?;
+    for (count, last, expected, what) in COUNTS_OF_NAMES.iter() {
+        let names = repeated(rt.alloc(), b"\x86\x01x", *count, last)?;
         let list = value_of(rt.alloc(), 0x30, &names)?;
         let octets = value_of(rt.alloc(), 0x04, &list)?;
-        match (
-            read_alternative_names(rt.alloc(), octet_string(&octets)?),
-            expected,
-        ) {
-            (Ok(found), None) => assert_eq!(rt; found.len(), 4096),
-            (Err(fault), Some((rule, at))) => {
-                assert!(rt; fault == CertFault::Refused(rule, at), "{what}");
+        let is_so = match expected {
+            None => {
+                let certificate = with_extension(rt.alloc(), NAMES_TYPE, &octets)?;
+                let read = Certificate::read(rt.alloc(), &certificate).map_err(|_| *what)?;
+                read.extensions.alternative_names.len() == 4096
             }
-            _ => return Err(Fail::from(what)),
-        }
+            Some((rule, at)) => is_refused_in(rt.alloc(), NAMES_TYPE, &octets, *rule, *at)?,
+        };
+        assert!(rt; is_so, "{what}");
     }
     Ok(())
 }
 
-const NAME_CONSTRAINTS: [(&[u8], &[Form], &[Form]); 5] = [
+const NAME_CONSTRAINTS: &[(&[u8], &[Form], &[Form])] = &[
     (b"\x04\x02\x30\x00", &[], &[]),
     (
         b"\x04\x09\x30\x07\xA0\x05\x30\x03\x82\x01a",
@@ -222,17 +218,12 @@ const NAME_CONSTRAINTS: [(&[u8], &[Form], &[Form]); 5] = [
 ];
 
 #[test]
-fn reads_name_constraints(rt: HostRuntime) -> Result<(), Fail> {
+fn name_constraints_are_read(rt: HostRuntime) -> Result<(), Fail> {
     for (row, (octets, permitted, excluded)) in NAME_CONSTRAINTS.iter().enumerate() {
         let found = NameConstraints::read(rt.alloc(), octet_string(octets)?)?;
-        assert!(rt;
-            have_forms(&found.permitted, permitted),
-            "permitted at row {row}"
-        );
-        assert!(rt;
-            have_forms(&found.excluded, excluded),
-            "excluded at row {row}"
-        );
+        let are_so = have_forms(&found.permitted, permitted)
+            && have_forms(&found.excluded, excluded);
+        assert!(rt; are_so, "at row {row}");
     }
     Ok(())
 }
@@ -246,7 +237,7 @@ fn have_forms(subtrees: &[Subtree<'_>], forms: &[Form]) -> bool {
             .all(|(subtree, form)| subtree.has_form(*form))
 }
 
-const REFUSED_NAME_CONSTRAINTS: [(&[u8], CertRule, usize, &str); 24] = [
+const REFUSED_NAME_CONSTRAINTS: &[(&[u8], CertRule, usize, &str)] = &[
     (
         b"\x04\x04\x30\x02\xA0\x00",
         CertRule::ExtensionValue,
@@ -384,13 +375,11 @@ const REFUSED_NAME_CONSTRAINTS: [(&[u8], CertRule, usize, &str); 24] = [
 ];
 
 #[test]
-fn refuses_name_constraints(rt: HostRuntime) -> Result<(), Fail> {
-    for (octets, rule, at, what) in REFUSED_NAME_CONSTRAINTS {
+fn other_name_constraints_are_refused(rt: HostRuntime) -> Result<(), Fail> {
+    for (octets, rule, at, what) in REFUSED_NAME_CONSTRAINTS.iter() {
         let answer = NameConstraints::read(rt.alloc(), octet_string(octets)?);
-        assert!(rt;
-            answer.err() == Some(CertFault::Refused(rule, at)),
-            "{what}"
-        );
+        let is_so = answer.err() == Some(CertFault::Refused(*rule, *at));
+        assert!(rt; is_so, "{what}");
     }
     Ok(())
 }
@@ -416,7 +405,7 @@ fn constraints_of(
     value_of(alloc, 0x04, &value_of(alloc, 0x30, &lists)?)
 }
 
-const COUNTS_OF_SUBTREES: [(usize, usize, &[u8], Option<(CertRule, usize)>, &str); 10] = [
+const COUNTS_OF_SUBTREES: &[(usize, usize, &[u8], Option<(CertRule, usize)>, &str)] = &[
     (2048, 2048, b"", None, "4,096 in both"),
     (4096, 0, b"", None, "4,096 permitted"),
     (0, 4096, b"", None, "4,096 excluded"),
@@ -475,21 +464,19 @@ const COUNTS_OF_SUBTREES: [(usize, usize, &[u8], Option<(CertRule, usize)>, &str
 /// where it has more.
 #[test]
 fn subtrees_have_a_limit(rt: HostRuntime) -> Result<(), Fail> {
-    for (permitted, excluded, last, expected, what) in COUNTS_OF_SUBTREES {
-        let octets = constraints_of(rt.alloc(), permitted, excluded, last)?;
-        match (
+    for (permitted, excluded, last, expected, what) in COUNTS_OF_SUBTREES.iter() {
+        let octets = constraints_of(rt.alloc(), *permitted, *excluded, last)?;
+        let is_so = match (
             NameConstraints::read(rt.alloc(), octet_string(&octets)?),
-            expected,
+            *expected,
         ) {
             (Ok(found), None) => {
-                assert_eq!(rt; found.permitted.len(), permitted, "{what}");
-                assert_eq!(rt; found.excluded.len(), excluded, "{what}");
+                found.permitted.len() == *permitted && found.excluded.len() == *excluded
             }
-            (Err(fault), Some((rule, at))) => {
-                assert!(rt; fault == CertFault::Refused(rule, at), "{what}");
-            }
-            _ => return Err(Fail::from(what)),
-        }
+            (Err(fault), Some((rule, at))) => fault == CertFault::Refused(rule, at),
+            _ => false,
+        };
+        assert!(rt; is_so, "{what}");
     }
     Ok(())
 }
@@ -497,19 +484,9 @@ fn subtrees_have_a_limit(rt: HostRuntime) -> Result<(), Fail> {
 /// Where an allocation is refused, the answer is want of memory, and else what the octets hold.
 #[test]
 fn wants_memory_or_answers(rt: HostRuntime) -> Result<(), Fail> {
-    let purposes = b"\x04\x05\x30\x03\x06\x01\x2A";
-    match read_purposes(rt.alloc(), octet_string(purposes)?) {
-        Ok(found) => assert_eq!(rt; found.len(), 1),
-        Err(fault) => assert!(rt; fault == CertFault::Memory),
-    }
-    let names = b"\x04\x05\x30\x03\x86\x01x";
-    match read_alternative_names(rt.alloc(), octet_string(names)?) {
-        Ok(found) => assert_eq!(rt; found.len(), 1),
-        Err(fault) => assert!(rt; fault == CertFault::Memory),
-    }
     let constraints = b"\x04\x10\x30\x0E\xA0\x05\x30\x03\x82\x01a\xA1\x05\x30\x03\x82\x01a";
     match NameConstraints::read(rt.alloc(), octet_string(constraints)?) {
-        Ok(found) => assert_eq!(rt; found.permitted.len() + found.excluded.len(), 2),
+        Ok(found) => assert!(rt; found.permitted.len() + found.excluded.len() == 2),
         Err(fault) => assert!(rt; fault == CertFault::Memory),
     }
     Ok(())

@@ -1,12 +1,12 @@
 //! Values of extensions, written by hand: what they hold, and the first fault.
 
-use super::*;
-use crate::purposes::read_purposes;
+use crate::building::{is_refused_in, with_extension};
 use asn::{Rule, Tlv, whole};
+use cert::{BasicConstraints, CertRule, Certificate, KeyUsage};
 use std::test::Fail;
 
 /// The OCTET STRING that the octets are, or that is the second value inside.
-pub(crate) fn octet_string(octets: &[u8]) -> Result<Tlv<'_>, Fail> {
+pub fn octet_string(octets: &[u8]) -> Result<Tlv<'_>, Fail> {
     let value = whole(octets)?;
     let Some(inside) = value.inside() else {
         return Ok(value);
@@ -16,7 +16,7 @@ pub(crate) fn octet_string(octets: &[u8]) -> Result<Tlv<'_>, Fail> {
     Ok(members.next().ok_or("a second value")?)
 }
 
-const KEY_USAGES: [(&[u8], &[u8], &[u8]); 8] = [
+const KEY_USAGES: &[(&[u8], &[u8], &[u8])] = &[
     (b"\x04\x04\x03\x02\x01\x06", b"\x06", &[5, 6]),
     (b"\x04\x04\x03\x02\x00\x06", b"\x06", &[5, 6]),
     (b"\x04\x03\x03\x01\x00", b"", &[]),
@@ -32,21 +32,19 @@ const KEY_USAGES: [(&[u8], &[u8], &[u8]); 8] = [
 ];
 
 #[test]
-fn reads_key_usages(rt: HostRuntime) -> Result<(), Fail> {
+fn key_usages_are_read(rt: HostRuntime) -> Result<(), Fail> {
     for (row, (octets, bits, set)) in KEY_USAGES.iter().enumerate() {
         let usage = KeyUsage::read(octet_string(octets)?)?;
         assert!(rt; usage.bits == *bits, "at row {row}");
         for bit in 0..=255 {
-            assert!(rt;
-                usage.has(bit) == set.contains(&bit),
-                "bit {bit} at row {row}"
-            );
+            let is_so = usage.has(bit) == set.contains(&bit);
+            assert!(rt; is_so, "bit {bit} at row {row}");
         }
     }
     Ok(())
 }
 
-const REFUSED_KEY_USAGES: [(&[u8], CertRule, usize, &str); 9] = [
+const REFUSED_KEY_USAGES: &[(&[u8], CertRule, usize, &str)] = &[
     (
         b"\x04\x02\x03\x00",
         CertRule::Der(Rule::Content),
@@ -94,15 +92,15 @@ const REFUSED_KEY_USAGES: [(&[u8], CertRule, usize, &str); 9] = [
 ];
 
 #[test]
-fn refuses_key_usages(rt: HostRuntime) -> Result<(), Fail> {
-    for (octets, rule, at, what) in REFUSED_KEY_USAGES {
+fn other_key_usages_are_refused(rt: HostRuntime) -> Result<(), Fail> {
+    for (octets, rule, at, what) in REFUSED_KEY_USAGES.iter() {
         let answer = KeyUsage::read(octet_string(octets)?);
-        assert!(rt; answer.err() == Some((rule, at)), "{what}");
+        assert!(rt; answer.err() == Some((*rule, *at)), "{what}");
     }
     Ok(())
 }
 
-const BASIC_CONSTRAINTS: [(&[u8], bool, Option<u32>); 13] = [
+const BASIC_CONSTRAINTS: &[(&[u8], bool, Option<u32>)] = &[
     (b"\x04\x08\x30\x06\x01\x01\xFF\x02\x01\x00", true, Some(0)),
     (b"\x04\x02\x30\x00", false, None),
     (b"\x04\x05\x30\x03\x01\x01\xFF", true, None),
@@ -147,21 +145,19 @@ const BASIC_CONSTRAINTS: [(&[u8], bool, Option<u32>); 13] = [
 ];
 
 #[test]
-fn reads_basic_constraints(rt: HostRuntime) -> Result<(), Fail> {
+fn basic_constraints_are_read(rt: HostRuntime) -> Result<(), Fail> {
     for (row, (octets, ca, path_length)) in BASIC_CONSTRAINTS.iter().enumerate() {
         let expected = BasicConstraints {
             ca: *ca,
             path_length: *path_length,
         };
-        assert!(rt;
-            BasicConstraints::read(octet_string(octets)?) == Ok(expected),
-            "at row {row}"
-        );
+        let answer = BasicConstraints::read(octet_string(octets)?);
+        assert!(rt; answer == Ok(expected), "at row {row}");
     }
     Ok(())
 }
 
-const REFUSED_BASIC_CONSTRAINTS: [(&[u8], CertRule, usize, &str); 17] = [
+const REFUSED_BASIC_CONSTRAINTS: &[(&[u8], CertRule, usize, &str)] = &[
     (
         b"\x04\x05\x30\x03\x01\x01\x00",
         CertRule::ExtensionValue,
@@ -257,35 +253,46 @@ const REFUSED_BASIC_CONSTRAINTS: [(&[u8], CertRule, usize, &str); 17] = [
 ];
 
 #[test]
-fn refuses_basic_constraints(rt: HostRuntime) -> Result<(), Fail> {
-    for (octets, rule, at, what) in REFUSED_BASIC_CONSTRAINTS {
+fn other_basic_constraints_are_refused(rt: HostRuntime) -> Result<(), Fail> {
+    for (octets, rule, at, what) in REFUSED_BASIC_CONSTRAINTS.iter() {
         let answer = BasicConstraints::read(octet_string(octets)?);
-        assert!(rt; answer.err() == Some((rule, at)), "{what}");
+        assert!(rt; answer.err() == Some((*rule, *at)), "{what}");
     }
     Ok(())
 }
+
+/// extKeyUsage
+const PURPOSES_TYPE: &[u8] = &[0x55, 0x1D, 0x25];
+
+/// Values of extKeyUsage, and the contents of its purposes.
+const PURPOSES: &[(&[u8], &[&[u8]])] = &[
+    (
+        b"\x04\x0C\x30\x0A\x06\x08\x2B\x06\x01\x05\x05\x07\x03\x01",
+        &[b"\x2B\x06\x01\x05\x05\x07\x03\x01"],
+    ),
+    (
+        b"\x04\x0B\x30\x09\x06\x01\x2A\x06\x01\x2B\x06\x01\x2A",
+        &[b"\x2A", b"\x2B", b"\x2A"],
+    ),
+];
 
 #[test]
-fn reads_purposes_in_order(rt: HostRuntime) -> Result<(), Fail> {
-    let one = b"\x04\x0C\x30\x0A\x06\x08\x2B\x06\x01\x05\x05\x07\x03\x01";
-    let found = read_purposes(rt.alloc(), octet_string(one)?)?;
-    assert_eq!(rt; found.len(), 1);
-    assert!(rt;
-        found
-            .iter()
-            .all(|oid| oid.is(b"\x2B\x06\x01\x05\x05\x07\x03\x01"))
-    );
-    let three = b"\x04\x0B\x30\x09\x06\x01\x2A\x06\x01\x2B\x06\x01\x2A";
-    let found = read_purposes(rt.alloc(), octet_string(three)?)?;
-    let expected: [&[u8]; 3] = [b"\x2A", b"\x2B", b"\x2A"];
-    assert_eq!(rt; found.len(), 3);
-    for (oid, contents) in found.iter().zip(expected) {
-        assert!(rt; oid.is(contents));
+fn purposes_are_read_in_order(rt: HostRuntime) -> Result<(), Fail> {
+    for (octets, contents) in PURPOSES.iter() {
+        let certificate = with_extension(rt.alloc(), PURPOSES_TYPE, octets)?;
+        let read = Certificate::read(rt.alloc(), &certificate).map_err(|_| "a certificate")?;
+        let found = &read.extensions.purposes;
+        let are_so = found.len() == contents.len()
+            && found
+                .iter()
+                .zip(contents.iter())
+                .all(|(oid, wanted)| oid.is(wanted));
+        assert!(rt; are_so, "{octets:?}");
     }
     Ok(())
 }
 
-const REFUSED_PURPOSES: [(&[u8], CertRule, usize, &str); 9] = [
+const REFUSED_PURPOSES: &[(&[u8], CertRule, usize, &str)] = &[
     (b"\x04\x02\x30\x00", CertRule::ExtensionValue, 4, "none"),
     (
         b"\x04\x04\x30\x02\x05\x00",
@@ -333,13 +340,10 @@ const REFUSED_PURPOSES: [(&[u8], CertRule, usize, &str); 9] = [
 ];
 
 #[test]
-fn refuses_purposes(rt: HostRuntime) -> Result<(), Fail> {
-    for (octets, rule, at, what) in REFUSED_PURPOSES {
-        let answer = read_purposes(rt.alloc(), octet_string(octets)?);
-        assert!(rt;
-            answer.err() == Some(CertFault::Refused(rule, at)),
-            "{what}"
-        );
+fn other_purposes_are_refused(rt: HostRuntime) -> Result<(), Fail> {
+    for (octets, rule, at, what) in REFUSED_PURPOSES.iter() {
+        let is_so = is_refused_in(rt.alloc(), PURPOSES_TYPE, octets, *rule, *at)?;
+        assert!(rt; is_so, "{what}");
     }
     Ok(())
 }
