@@ -1,1 +1,4 @@
-mod Searching
+mod Rooms
+mod Deciding
+mod Passing
+mod Outcomes

@@ -1,13 +1,11 @@
-//! Paths of certificates (RFC 5280, 6): who judges their signatures.
+//! Paths of certificates (RFC 5280, 6): whether they are valid.
 #![tactic(auto)]
 
-mod fingerprinting;
-mod list_verifier;
-mod verifier;
+mod reason;
+mod state;
+mod validation;
 
-pub use fingerprinting::fingerprint;
-pub use list_verifier::ListVerifier;
-pub use verifier::Verifier;
-
-#[cfg(test)]
-mod tests;
+pub use reason::{Outcome, Reason, Step};
+pub use state::State;
+pub use validation::{outcome_laws, validate};
+pub use verifiers::Verifier;

@@ -1,1 +1,1 @@
-pub mod ToySignature
+pub use Rattle.toy_signatures.specs.ToySignature

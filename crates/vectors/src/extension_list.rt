@@ -2,9 +2,9 @@
 
 use crate::fault::NotationFault;
 use crate::notation::{GeneralName, Notation};
-use crate::parts::{name_tree, primitive};
-use asn::{Tree, encode};
-use std::alloc::{AllocError, Global};
+use crate::parts::{integer_contents, name_tree, primitive};
+use std::alloc::Global;
+use trees::{Tree, encode};
 
 const KEY_USAGE: &[u8] = b"\x55\x1D\x0F";
 
@@ -22,7 +22,7 @@ const PURPOSES: &[u8] = b"\x55\x1D\x25";
 const NO_CHECK: &[u8] = b"\x2B\x06\x01\x05\x05\x07\x30\x01\x05";
 
 /// Extension ::= SEQUENCE { extnID, critical BOOLEAN DEFAULT FALSE, extnValue OCTET STRING }
-fn extension(
+pub(crate) fn extension(
     alloc: Global,
     kind: &[u8],
     critical: bool,
@@ -57,25 +57,6 @@ fn alternative_names(alloc: Global, names: &[GeneralName<'_>]) -> Result<Tree, N
     Ok(Tree::Constructed(0x30, members))
 }
 
-/// The INTEGER of a number, in as few octets as possible (X.690, 8.3).
-fn integer(alloc: Global, number: u32) -> Result<Tree, AllocError> {
-    let mut contents = Vec::new(alloc);
-    let mut begun = false;
-    for octet in number.to_be_bytes() {
-        if !begun && octet >= 128 {
-            contents.push(0)?;
-        }
-        begun = begun || octet != 0;
-        if begun {
-            contents.push(octet)?;
-        }
-    }
-    if !begun {
-        contents.push(0)?;
-    }
-    Ok(Tree::Primitive(0x02, contents))
-}
-
 /// BasicConstraints ::= SEQUENCE { cA BOOLEAN DEFAULT FALSE, pathLenConstraint INTEGER OPTIONAL }
 fn basic_constraints(
     alloc: Global,
@@ -87,7 +68,7 @@ fn basic_constraints(
         members.push(primitive(alloc, 0x01, &[0xFF])?)?;
     }
     if let Some(number) = path_length {
-        members.push(integer(alloc, number)?)?;
+        members.push(Tree::Primitive(0x02, integer_contents(alloc, number)?))?;
     }
     Ok(Tree::Constructed(0x30, members))
 }
@@ -171,9 +152,9 @@ fn push_others(
         let value = purposes(alloc, &notation.purposes)?;
         all.push(extension(alloc, PURPOSES, false, &value)?)?;
     }
-    if notation.policy {
+    if let Some(critical) = notation.policy {
         let value = Tree::Constructed(0x30, Vec::new(alloc));
-        all.push(extension(alloc, POLICY_CONSTRAINTS, true, &value)?)?;
+        all.push(extension(alloc, POLICY_CONSTRAINTS, critical, &value)?)?;
     }
     let null = Tree::Primitive(0x05, Vec::new(alloc));
     if notation.no_check {

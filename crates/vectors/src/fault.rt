@@ -1,10 +1,10 @@
-//! Why a text gives no certificate.
+//! Why a text gives no certificate and no revocation list.
 
-use asn::EncodeFault;
 use std::alloc::{AllocError, AllocFailed};
 use thiserror::Error;
+use trees::EncodeFault;
 
-/// Why there is no certificate of a text.
+/// Why there is no certificate, or no revocation list, of a text.
 #[derive(Clone, Copy, Debug, PartialEq, Eq, Error)]
 pub enum NotationFault {
     #[error("no memory")]

@@ -61,7 +61,8 @@ pub(crate) struct Notation<'a> {
     pub excluded: Vec<GeneralName<'a>>,
     /// The contents of the OBJECT IDENTIFIERs in extKeyUsage.
     pub purposes: Vec<Vec<u8>>,
-    pub policy: bool,
+    /// Whether there is a policyConstraints, and whether it is critical.
+    pub policy: Option<bool>,
     pub no_check: bool,
     /// The types of critical extensions that are not known.
     pub critical: Vec<Vec<u8>>,
@@ -91,7 +92,7 @@ impl<'a> Notation<'a> {
             permitted: Vec::new(alloc),
             excluded: Vec::new(alloc),
             purposes: Vec::new(alloc),
-            policy: false,
+            policy: None,
             no_check: false,
             critical: Vec::new(alloc),
         })
@@ -112,7 +113,8 @@ impl<'a> Notation<'a> {
     fn note_word(&mut self, word: Part<'a>) -> Result<(), NotationFault> {
         match word.text {
             "empty" => self.subject = "",
-            "policy" => self.policy = true,
+            "policy" => self.policy = Some(true),
+            "policy-not-critical" => self.policy = Some(false),
             "nocheck" => self.no_check = true,
             _ => return Err(word.fault()),
         }
@@ -167,27 +169,15 @@ impl<'a> Notation<'a> {
         }
     }
 
-    /// The options, each in braces, one after the other.
-    fn note_all(&mut self, alloc: Global, options: Part<'a>) -> Result<(), NotationFault> {
-        let mut next = options;
-        for braced in options.text.split_inclusive('}') {
-            let inside = braced
-                .strip_prefix('{')
-                .and_then(|behind| behind.strip_suffix('}'))
-                .ok_or(next.fault())?;
-            self.note(alloc, next.behind(1, inside))?;
-            next = next.behind(braced.len(), "");
-        }
-        Ok(())
-    }
-
     /// What the text says, or the offset at which it is none of the notation.
     pub fn read(alloc: Global, text: &'a str) -> Result<Notation<'a>, NotationFault> {
         let whole = Part { text, at: 0 };
         let (kind, behind) = whole.split_at_mark('(')?;
         let (names, options) = behind.split_at_mark(')')?;
         let mut notation = Notation::head(alloc, kind, names)?;
-        notation.note_all(alloc, options)?;
+        for option in &options.enclosed(alloc, '{', '}')? {
+            notation.note(alloc, *option)?;
+        }
         Ok(notation)
     }
 }

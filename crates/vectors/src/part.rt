@@ -7,7 +7,7 @@ use std::alloc::Global;
 
 /// A part of a text, and the offset at which it stands there.
 #[derive(Clone, Copy)]
-pub(crate) struct Part<'a> {
+pub struct Part<'a> {
     pub text: &'a str,
     pub at: usize,
 }
@@ -37,6 +37,26 @@ impl<'a> Part<'a> {
     pub fn split_at_mark(self, mark: char) -> Result<(Part<'a>, Part<'a>), NotationFault> {
         self.split_at_first(mark)
             .ok_or(self.behind(self.text.len(), "").fault())
+    }
+
+    /// What stands between each pair of such marks, where the text is nothing but such pairs, one after the other.
+    pub fn enclosed(
+        self,
+        alloc: Global,
+        open: char,
+        close: char,
+    ) -> Result<Vec<Part<'a>>, NotationFault> {
+        let mut all = Vec::new(alloc);
+        let mut next = self;
+        for pair in self.text.split_inclusive(close) {
+            let inside = pair
+                .strip_prefix(open)
+                .and_then(|behind| behind.strip_suffix(close))
+                .ok_or(next.fault())?;
+            all.push(next.behind(1, inside))?;
+            next = next.behind(pair.len(), "");
+        }
+        Ok(all)
     }
 
     /// One or more characters of ASCII.

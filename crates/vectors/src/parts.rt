@@ -1,8 +1,8 @@
-//! Names, keys and other parts of certificates as trees.
+//! Names, keys and other parts of certificates and revocation lists as trees.
 
 use crate::fault::NotationFault;
-use asn::{Tree, encode};
 use std::alloc::{AllocError, Global};
+use trees::{Tree, encode};
 
 /// The contents of 2.5.4.3, the type of a common name.
 const COMMON_NAME: &[u8] = b"\x55\x04\x03";
@@ -10,16 +10,32 @@ const COMMON_NAME: &[u8] = b"\x55\x04\x03";
 /// The contents of 1.2.3, the algorithm of every key and signature.
 const ALGORITHM: &[u8] = b"\x2A\x03";
 
-pub(crate) fn primitive(
-    alloc: Global,
-    identifier: u8,
-    contents: &[u8],
-) -> Result<Tree, AllocError> {
+/// A primitive value.
+pub fn primitive(alloc: Global, identifier: u8, contents: &[u8]) -> Result<Tree, AllocError> {
     Ok(Tree::Primitive(identifier, Vec::from_slice(alloc, contents)?))
 }
 
+/// The contents of the INTEGER of a number, as few octets as possible (X.690, 8.3).
+pub(crate) fn integer_contents(alloc: Global, number: u32) -> Result<Vec<u8>, AllocError> {
+    let mut contents = Vec::new(alloc);
+    let mut begun = false;
+    for octet in number.to_be_bytes() {
+        if !begun && octet >= 128 {
+            contents.push(0)?;
+        }
+        begun = begun || octet != 0;
+        if begun {
+            contents.push(octet)?;
+        }
+    }
+    if !begun {
+        contents.push(0)?;
+    }
+    Ok(contents)
+}
+
 /// A BIT STRING of whole octets.
-pub(crate) fn bit_string(alloc: Global, octets: &[u8]) -> Result<Tree, AllocError> {
+pub fn bit_string(alloc: Global, octets: &[u8]) -> Result<Tree, AllocError> {
     let mut contents = Vec::from_slice(alloc, &[0])?;
     contents.extend_from_slice(octets)?;
     Ok(Tree::Primitive(0x03, contents))
@@ -34,7 +50,7 @@ fn rdn(alloc: Global, common_name: &str) -> Result<Tree, NotationFault> {
 }
 
 /// The name with one RDN, or with none where the common name has no characters.
-pub(crate) fn name_tree(alloc: Global, common_name: &str) -> Result<Tree, NotationFault> {
+pub fn name_tree(alloc: Global, common_name: &str) -> Result<Tree, NotationFault> {
     let mut rdns = Vec::new(alloc);
     if !common_name.is_empty() {
         rdns.push(rdn(alloc, common_name)?)?;
@@ -43,7 +59,7 @@ pub(crate) fn name_tree(alloc: Global, common_name: &str) -> Result<Tree, Notati
 }
 
 /// The algorithm identifier 1.2.3 without parameters.
-pub(crate) fn algorithm_tree(alloc: Global) -> Result<Tree, NotationFault> {
+pub fn algorithm_tree(alloc: Global) -> Result<Tree, NotationFault> {
     let kind = primitive(alloc, 0x06, ALGORITHM)?;
     Ok(Tree::Constructed(0x30, vec![in alloc; kind]?))
 }

@@ -1,0 +1,4 @@
+mod Selecting
+mod NarrowedLists
+mod Tests
+pub mod Laws

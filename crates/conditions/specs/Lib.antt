@@ -1,0 +1,13 @@
+pub mod NamesOf
+pub mod CertificateConditions
+pub mod Narrowing
+pub mod Constraints
+pub use Rattle.names.specs.GeneralName
+pub use Rattle.names.specs.GeneralLayout
+pub use Rattle.names.specs.GeneralCoverage
+pub use Rattle.names.specs.GeneralView
+pub use Rattle.names.specs.DistinguishedName
+pub use Rattle.cert.specs.Certificate
+pub use Rattle.cert.specs.NameConstraints
+pub use Rattle.cert.specs.BasicConstraints
+pub use Rattle.cert.specs.KeyUsage

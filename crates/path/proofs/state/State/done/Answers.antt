@@ -1,0 +1,5 @@
+use Rattle.path.proofs.Passing.{admits_of}
+use Rattle.path.proofs.state.State.done.Goals as goal
+
+pub returns-clause-admits : goal.returns-clause-admits
+returns-clause-admits g c = admits_of c.self.view_is _ _ _ _ c.self.invariant

@@ -1,0 +1,48 @@
+use Rattle.std.proofs.Common.{◌≡◌, ◌+◌, ◌∙◌, ap, arith, length, subst, w64}
+use Rattle.std.proofs.lemmas.Bool.{false≢true}
+use Rattle.std.specs.Option.{option_copied}
+use Rattle.std.proofs.Math.Facts.{to_z-of_z}
+use Rattle.std.proofs.lemmas.List.{length-map}
+use Rattle.cert.specs.Certificate.{seen_certificate}
+use Rattle.path.specs.Query.{Query, count}
+use Rattle.path.specs.Conditions.{MeetsConditions}
+use Rattle.path.specs.Validity.{IsFirstFailure}
+use Rattle.path.specs.State.{query_of}
+use Rattle.path.proofs.Rooms.{split_last}
+use Rattle.path.proofs.Outcomes.{failed}
+use Rattle.path.proofs.validation.validate.Goals as goal
+
+pub loop-state-preserved : goal.loop-state-preserved
+loop-state-preserved g c =
+    let old = c.loop-state.state in
+    let kept = c.loop-state.invariant in
+    let step = rw c.in-Passed.is at c.in_ok-next.ensures.step in
+    record {
+      verifier = step.5 ∙ kept.verifier;
+      query = step.4 ∙ kept.query;
+      within = rw (step.4, step.3) (let below = step.1 in omega arith);
+      passed = rw (step.4, step.5, step.3) (split_last (λ j. MeetsConditions (g.V.Verifier.accepts old.verifier) old.query j) old.done kept.passed step.2);
+    }
+
+pub returns-in_err-next-clause-calm : goal.returns-in_err-next-clause-calm
+returns-in_err-next-clause-calm g c = λ none.
+    let query = c.loop-state.invariant.query ∙ (c.start-state.ensures.query ∙ ap (λ m. query_of c.args.anchor.now c.args.path.now m (option_copied c.args.purpose)) (to_z-of_z {w = w64} c.ranges.moment)) in
+    let below = c.in_err-next.ensures.passing.1 in
+    let q = ap (λ u. count u) query in
+    let same = length-map c.args.path.now seen_certificate in
+    absurd (false≢true (c.in_err-next.ensures.calm (rw query (none (c.loop-state.state.done + 1) (omega arith) (omega arith)))))
+
+pub returns-in-Failed-clause-outcome : goal.returns-in-Failed-clause-outcome
+returns-in-Failed-clause-outcome g c =
+    let old = c.loop-state.state in
+    let kept = c.loop-state.invariant in
+    let query = kept.query ∙ (c.start-state.ensures.query ∙ ap (λ m. query_of c.args.anchor.now c.args.path.now m (option_copied c.args.purpose)) (to_z-of_z {w = w64} c.ranges.moment)) in
+    let verifier = kept.verifier ∙ c.start-state.ensures.verifier in
+    let step = rw c.in-Failed.is at c.in_ok-next.ensures.step in
+    let done = c.done.ensures.done ∙ ap (λ s. s.done) step.1 in
+    let many : count old.query ≡ length c.args.path.now = ap (λ q. count q) query ∙ length-map c.args.path.now seen_certificate in
+    subst (λ (q : Query). IsFirstFailure (g.V.Verifier.accepts c.args.verifier.now) q c.failed_at.result c.in-Failed.reason) query
+    (rw (← verifier) (failed (g.V.Verifier.accepts old.verifier) old.query old.done c.in-Failed.reason c.failed_at.result step.0 kept.passed
+    (λ e. c.failed_at.ensures.none (omega arith))
+    (λ e. c.failed_at.ensures.many (omega arith))
+    (λ e f. c.failed_at.ensures.served (omega arith) (omega arith) ∙ ap (λ n. n + 1) done)))

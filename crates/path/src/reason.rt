@@ -1,0 +1,130 @@
+//! Why a path is refused, and what a validation answers.
+
+ghost use Rattle.std.specs.Prelude.{◌≡◌};
+ghost use Rattle.path.specs.Reason.{reason_rank, reason_name};
+
+use thiserror::Error;
+
+/// Why a certificate of a path, or the path itself, is refused. Of the reasons at one certificate the one of the least rank is
+/// told.
+#[derive(Clone, Copy, Debug, PartialEq, Eq, Error)]
+pub enum Reason {
+    /// An earlier certificate of the path has the same octets.
+    #[error("certificate repeated")]
+    Repeated,
+    /// The verifier does not accept the signature under the issuer's key (RFC 5280, 6.1.3 (a) (1)).
+    #[error("signature")]
+    Signature,
+    /// The moment is before notBefore (6.1.3 (a) (2)).
+    #[error("not yet valid")]
+    NotYet,
+    /// The moment is after notAfter (6.1.3 (a) (2)).
+    #[error("expired")]
+    Expired,
+    /// The issuer is not the subject of the certificate before (6.1.3 (a) (4)).
+    #[error("another issuer")]
+    Issuer,
+    /// A name lies outside of the permitted subtrees (6.1.3 (b)).
+    #[error("name not permitted")]
+    NotPermitted,
+    /// A name lies in an excluded subtree (6.1.3 (c)).
+    #[error("name excluded")]
+    Excluded,
+    /// A name has a form that is constrained and whose constraints are not processed (4.2.1.10).
+    #[error("constraint of a form that is not processed")]
+    ConstraintForm,
+    /// An issuer is not of version 3 with cA (6.1.4 (k)).
+    #[error("no authority")]
+    NotCa,
+    /// More certificates follow than a path length allows (6.1.4 (l)).
+    #[error("path too long for a path length")]
+    PathLength,
+    /// An issuer's keyUsage lacks keyCertSign (6.1.4 (n)).
+    #[error("key may not sign certificates")]
+    KeyCertSign,
+    /// An extension wants a policy tree, which is not built.
+    #[error("policy processing wanted")]
+    Policy,
+    /// A critical extension is not recognised (6.1.4 (o), 6.1.5 (f)).
+    #[error("critical extension not recognised")]
+    CriticalUnknown,
+    /// The last certificate is not for the purpose asked for (4.2.1.12).
+    #[error("another purpose")]
+    Purpose,
+    /// The path has no certificate.
+    #[error("no certificate")]
+    Empty,
+    /// The path has more certificates than are served.
+    #[error("too many certificates")]
+    TooLong,
+}
+
+impl Reason {
+    /// The number by which the product names the reason, from 1 to 16.
+    pub fn rank(self) -> u8
+        ensures { result ≡ reason_rank self }
+    {
+        match self {
+            Reason::Repeated => 1,
+            Reason::Signature => 2,
+            Reason::NotYet => 3,
+            Reason::Expired => 4,
+            Reason::Issuer => 5,
+            Reason::NotPermitted => 6,
+            Reason::Excluded => 7,
+            Reason::ConstraintForm => 8,
+            Reason::NotCa => 9,
+            Reason::PathLength => 10,
+            Reason::KeyCertSign => 11,
+            Reason::Policy => 12,
+            Reason::CriticalUnknown => 13,
+            Reason::Purpose => 14,
+            Reason::Empty => 15,
+            Reason::TooLong => 16,
+        }
+    }
+
+    /// The word that stands beside the number.
+    pub fn name(self) -> &'static str
+        ensures { result.now ≡ reason_name self }
+    {
+        match self {
+            Reason::Repeated => "Repeated",
+            Reason::Signature => "Signature",
+            Reason::NotYet => "NotYet",
+            Reason::Expired => "Expired",
+            Reason::Issuer => "Issuer",
+            Reason::NotPermitted => "NotPermitted",
+            Reason::Excluded => "Excluded",
+            Reason::ConstraintForm => "ConstraintForm",
+            Reason::NotCa => "NotCa",
+            Reason::PathLength => "PathLength",
+            Reason::KeyCertSign => "KeyCertSign",
+            Reason::Policy => "Policy",
+            Reason::CriticalUnknown => "CriticalUnknown",
+            Reason::Purpose => "Purpose",
+            Reason::Empty => "Empty",
+            Reason::TooLong => "TooLong",
+        }
+    }
+}
+
+/// What the validation of a path answers.
+#[derive(Clone, Copy, Debug, PartialEq, Eq)]
+pub enum Outcome {
+    /// The path is valid.
+    Good,
+    /// The number of the first certificate that is refused, from 1 on, and why; 0 stands for the path itself.
+    Bad(usize, Reason),
+}
+
+/// What a step over the next certificate of a path answers.
+#[derive(Clone, Copy, Debug, PartialEq, Eq)]
+pub enum Step {
+    /// The certificate meets all conditions.
+    Passed,
+    /// The certificate, or the path itself, is refused.
+    Failed(Reason),
+    /// All certificates have passed.
+    Ended,
+}

@@ -1,0 +1,351 @@
+//! The validation of a path under way, one certificate after the other (RFC 5280, 6.1.2 to 6.1.5).
+
+ghost use Rattle.std.specs.Prelude.{◌≡◌, ◌↔◌, ◌⊎◌, ◌<◌, ◌≤◌, ◌+◌, IsTrue, IsOk, IfOk, OnOk, OnErr, MatchOption, false, Some};
+ghost use Rattle.std.specs.List.{list_any};
+ghost use Rattle.std.specs.Option.{option_copied};
+ghost use Rattle.std.specs.Str.{bytes_eq};
+ghost use Rattle.cert.specs.Certificate.{seen_certificate};
+ghost use Rattle.path.specs.declared.reason.Reason.TheVariants as reason;
+ghost use Rattle.path.specs.Query.{count, certificate_at};
+ghost use Rattle.path.specs.Conditions.{AreNamesChecked, MeetsCondition, MeetsConditions};
+ghost use Rattle.path.specs.Validity.{IsServed, IsLeastBroken};
+ghost use Rattle.conditions.specs.Constraints.{subtrees_in};
+ghost use Rattle.path.specs.State.{query_of, Advances, AdmitsExactly, CarriesNoSubtree, subtrees_up_to};
+ghost use Rattle.path.specs.Keeping.{spent, lesser};
+
+use crate::reason::{Reason, Step};
+use cert::Certificate;
+use conditions::{
+    Constraints, FormSet, allows_purpose, are_critical_extensions_known, has_begun,
+    has_not_expired, is_ca, may_sign_certificates, needs_no_policy_tree, path_length,
+};
+use names::Name;
+use std::alloc::{AllocError, Global};
+use std::marker::Model;
+use verifiers::Verifier;
+
+/// The most certificates of a path that is served.
+pub(crate) const MOST_CERTIFICATES: usize = 128;
+
+/// The reasons for which a certificate is refused, by rank.
+const REASONS: [Reason; 14] = [
+    Reason::Repeated,
+    Reason::Signature,
+    Reason::NotYet,
+    Reason::Expired,
+    Reason::Issuer,
+    Reason::NotPermitted,
+    Reason::Excluded,
+    Reason::ConstraintForm,
+    Reason::NotCa,
+    Reason::PathLength,
+    Reason::KeyCertSign,
+    Reason::Policy,
+    Reason::CriticalUnknown,
+    Reason::Purpose,
+];
+
+/// A validation of a path under way.
+///
+/// It holds what the certificates that have passed leave behind, so that the next one is looked at with no look back: the name
+/// and the key of the issuer, how many more certificates the path lengths allow, the subtrees that name constraints leave, and
+/// which forms of names were constrained that are not processed. Only whether a certificate is repeated is asked of those that
+/// have passed.
+#[derive(Drop)]
+pub struct State<'p, 'c, V> {
+    alloc: Global,
+    verifier: &'p V,
+    anchor: &'p Certificate<'c>,
+    path: &'p [Certificate<'c>],
+    moment: i64,
+    purpose: Option<&'p [u8]>,
+    done: usize,
+    issuer: Name<'c>,
+    key: &'c [u8],
+    room: Option<u32>,
+    constraints: Constraints<'c>,
+    forms: FormSet,
+}
+
+impl<'p, 'c, V> Model for State<'p, 'c, V> {
+    ghost use Rattle.std.specs.Option.{option_copied};
+    ghost use Rattle.names.specs.GeneralView.{name_contents};
+    ghost use Rattle.path.specs.State.{Progress, query_of};
+    ghost use Rattle.conditions.specs.Constraints.{seen_constraints};
+    ghost use Rattle.path.specs.Keeping.{Keeps};
+    ghost use Rattle.std.specs.Coded.{codes};
+    ghost use Rattle.path.specs.Codes.{rdn_code};
+
+    ghost Value = { Progress V };
+
+    ghost coded = { Prim.hlevel (codes, rdn_code, V.code) };
+
+    ghost view = { λ s. record {
+      verifier = s.verifier.now;
+      query = query_of s.anchor.now s.path.now s.moment (option_copied s.purpose);
+      done = s.done;
+      constraints = seen_constraints s.constraints;
+    } };
+
+    ghost invariant = { λ s. Keeps (query_of s.anchor.now s.path.now s.moment (option_copied s.purpose)) s.done
+        (name_contents s.issuer) s.key.now s.room (seen_constraints s.constraints) s.forms };
+}
+
+/// How many more certificates may follow that are not self-issued, behind one more and under its own path length.
+fn next_room(room: Option<u32>, self_issued: bool, path_length: Option<u32>) -> Option<u32>
+    ensures { result ≡ lesser (spent room self_issued) path_length }
+{
+    let left = match room {
+        None => None,
+        Some(room) => Some(if self_issued {
+            room
+        } else {
+            room.saturating_sub(1)
+        }),
+    };
+    match (left, path_length) {
+        (None, path_length) => path_length,
+        (Some(left), None) => Some(left),
+        (Some(left), Some(path_length)) => Some(left.min(path_length)),
+    }
+}
+
+/// Whether one more certificate may follow.
+fn has_room(room: Option<u32>, self_issued: bool) -> bool
+    ensures { IsTrue result ↔ (self_issued ≡ false → ¬ (room ≡ Some 0)) }
+{
+    match room {
+        None => true,
+        Some(room) => self_issued || room != 0,
+    }
+}
+
+/// Whether one of the certificates has the same octets.
+fn repeats(earlier: &[Certificate<'_>], later: &Certificate<'_>) -> bool
+    ensures { result ≡ list_any (λ c. bytes_eq c.octets.now later.now.octets.now) earlier.now }
+{
+    earlier.iter().any(|c| c.octets == later.octets)
+}
+
+impl<'p, 'c, V: Verifier> State<'p, 'c, V> {
+    /// The validation before the first certificate. `moment` is in seconds from 1970-01-01T00:00:00Z, and the purpose the
+    /// contents of an OBJECT IDENTIFIER. No memory is taken.
+    pub fn start(
+        alloc: Global,
+        verifier: &'p V,
+        anchor: &'p Certificate<'c>,
+        path: &'p [Certificate<'c>],
+        moment: i64,
+        purpose: Option<&'p [u8]>,
+    ) -> State<'p, 'c, V>
+        ensures verifier { result.verifier ≡ verifier.now }
+        ensures query { result.query ≡ query_of anchor.now path.now moment (option_copied purpose.entry) }
+        ensures done { result.done ≡ 0 }
+    {
+        State {
+            alloc,
+            verifier,
+            anchor,
+            path,
+            moment,
+            purpose,
+            done: 0,
+            issuer: anchor.subject,
+            key: anchor.subject_public_key_info.whole,
+            room: None,
+            constraints: Constraints::none(alloc),
+            forms: FormSet::new(),
+        }
+    }
+
+    /// How many certificates have passed. The names that may follow are just those that their constraints admit.
+    pub fn done(&self) -> usize
+        ensures done { result ≡ self.now.done }
+        ensures within { result ≤ count self.now.query }
+        ensures admits { AdmitsExactly self.now.query self.now.done self.now.constraints }
+    {
+        self.done
+    }
+
+    /// How many subtrees are held: at most as many as the certificates that have passed carry.
+    pub fn subtrees(&self) -> usize
+        ensures value { result ≡ subtrees_in self.now.constraints }
+        ensures bound { result ≤ subtrees_up_to self.now.query self.now.done }
+    {
+        self.constraints.len()
+    }
+
+    /// The certificate behind those that have passed.
+    fn certificate(&self) -> &'p Certificate<'c>
+        requires { self.now.done < count self.now.query }
+        ensures { seen_certificate result.now ≡ certificate_at self.now.query (self.now.done + 1) }
+    {
+        let path = self.path;
+        &path[self.done]
+    }
+
+    /// Whether that certificate is the last one.
+    fn is_last(&self) -> bool
+        requires { self.now.done < count self.now.query }
+        ensures { IsTrue result ↔ (self.now.done + 1 ≡ count self.now.query) }
+    {
+        self.done + 1 == self.path.len()
+    }
+
+    /// Whether its names are checked.
+    fn are_names_checked(&self) -> bool
+        requires { self.now.done < count self.now.query }
+        ensures { IsTrue result ↔ AreNamesChecked self.now.query (self.now.done + 1) }
+    {
+        self.is_last() || !self.certificate().self_issued()
+    }
+
+    /// Whether no earlier certificate has its octets. Time is that of comparing them with those of each earlier certificate,
+    /// as far as they are the same.
+    fn is_not_repeated(&self) -> bool
+        requires { self.now.done < count self.now.query }
+        ensures { IsTrue result ↔ MeetsCondition (V.accepts self.now.verifier) self.now.query (self.now.done + 1) reason.Repeated }
+    {
+        let path = self.path;
+        !repeats(&path[..self.done], self.certificate())
+    }
+
+    fn is_signed_by_issuer(&self) -> bool
+        requires { self.now.done < count self.now.query }
+        ensures { IsTrue result ↔ MeetsCondition (V.accepts self.now.verifier) self.now.query (self.now.done + 1) reason.Signature }
+    {
+        let certificate = self.certificate();
+        self.verifier.judge(
+            certificate.algorithm,
+            self.key,
+            certificate.tbs,
+            certificate.signature,
+        )
+    }
+
+    fn is_named_by_issuer(&self) -> bool
+        requires { self.now.done < count self.now.query }
+        ensures { IsTrue result ↔ MeetsCondition (V.accepts self.now.verifier) self.now.query (self.now.done + 1) reason.Issuer }
+    {
+        self.certificate().issuer.matches(&self.issuer)
+    }
+
+    fn are_names_permitted(&self) -> bool
+        requires { self.now.done < count self.now.query }
+        ensures { IsTrue result ↔ MeetsCondition (V.accepts self.now.verifier) self.now.query (self.now.done + 1) reason.NotPermitted }
+    {
+        !self.are_names_checked() || self.constraints.permits_names_of(self.certificate())
+    }
+
+    fn are_names_not_excluded(&self) -> bool
+        requires { self.now.done < count self.now.query }
+        ensures { IsTrue result ↔ MeetsCondition (V.accepts self.now.verifier) self.now.query (self.now.done + 1) reason.Excluded }
+    {
+        !self.are_names_checked() || !self.constraints.excludes_name_of(self.certificate())
+    }
+
+    fn are_constraints_processed(&self) -> bool
+        requires { self.now.done < count self.now.query }
+        ensures { IsTrue result ↔ MeetsCondition (V.accepts self.now.verifier) self.now.query (self.now.done + 1) reason.ConstraintForm }
+    {
+        !self.are_names_checked() || !self.forms.has_form_of_name_of(self.certificate())
+    }
+
+    fn is_within_path_length(&self) -> bool
+        requires { self.now.done < count self.now.query }
+        ensures { IsTrue result ↔ MeetsCondition (V.accepts self.now.verifier) self.now.query (self.now.done + 1) reason.PathLength }
+    {
+        self.is_last() || has_room(self.room, self.certificate().self_issued())
+    }
+
+    /// Whether the certificate meets the condition whose breach is the reason.
+    fn meets(&self, reason: Reason) -> bool
+        requires { self.now.done < count self.now.query }
+        ensures { IsTrue result ↔ MeetsCondition (V.accepts self.now.verifier) self.now.query (self.now.done + 1) reason }
+    {
+        let certificate = self.certificate();
+        match reason {
+            Reason::Repeated => self.is_not_repeated(),
+            Reason::Signature => self.is_signed_by_issuer(),
+            Reason::NotYet => has_begun(certificate, self.moment),
+            Reason::Expired => has_not_expired(certificate, self.moment),
+            Reason::Issuer => self.is_named_by_issuer(),
+            Reason::NotPermitted => self.are_names_permitted(),
+            Reason::Excluded => self.are_names_not_excluded(),
+            Reason::ConstraintForm => self.are_constraints_processed(),
+            Reason::NotCa => self.is_last() || is_ca(certificate),
+            Reason::PathLength => self.is_within_path_length(),
+            Reason::KeyCertSign => self.is_last() || may_sign_certificates(certificate),
+            Reason::Policy => needs_no_policy_tree(certificate),
+            Reason::CriticalUnknown => are_critical_extensions_known(certificate),
+            Reason::Purpose => !self.is_last() || allows_purpose(certificate, self.purpose),
+            Reason::Empty | Reason::TooLong => true,
+        }
+    }
+
+    /// The condition of the least rank that the certificate breaks.
+    fn broken(&self) -> Option<Reason>
+        requires { self.now.done < count self.now.query }
+        ensures { MatchOption result (MeetsConditions (V.accepts self.now.verifier) self.now.query (self.now.done + 1)) (λ r. IsLeastBroken (V.accepts self.now.verifier) self.now.query (self.now.done + 1) r) }
+    {
+        for reason in REASONS {
+            if !self.meets(reason) {
+                return Some(reason);
+            }
+        }
+        None
+    }
+
+    /// Lets the certificate pass.
+    fn pass(&mut self) -> Result<(), AllocError>
+        requires below { self.old.done < count self.old.query }
+        requires served { IsServed self.old.query }
+        requires length { MeetsCondition (V.accepts self.old.verifier) self.old.query (self.old.done + 1) reason.PathLength }
+        ensures done { OnOk result (self.new.done ≡ self.old.done + 1) }
+        ensures query { OnOk result (self.new.query ≡ self.old.query) }
+        ensures verifier { OnOk result (self.new.verifier ≡ self.old.verifier) }
+        ensures err { OnErr result (self.new ≡ self.old) }
+        ensures calm { CarriesNoSubtree self.old.query (self.old.done + 1) → IsOk result }
+    {
+        let certificate = self.certificate();
+        let carried = &certificate.extensions.name_constraints;
+        self.constraints.narrow(self.alloc, carried)?;
+        self.forms.insert_forms_of(carried);
+        let self_issued = certificate.self_issued();
+        self.room = next_room(self.room, self_issued, path_length(certificate));
+        self.issuer = certificate.subject;
+        self.key = certificate.subject_public_key_info.whole;
+        self.done += 1;
+        Ok(())
+    }
+
+    /// Looks at the next certificate, and lets it pass where it meets all conditions. After `Failed` and `Ended` each further
+    /// call answers the same; after want of memory nothing has changed.
+    ///
+    /// Time is linear in the names of the certificate and the subtrees held for each of them, and in the subtrees held for
+    /// each that it carries; and what looking for a repeated certificate costs. Memory is taken only where the certificate
+    /// passes and carries a subtree of a processed form.
+    pub fn next(&mut self) -> Result<Step, AllocError>
+        ensures step { IfOk result (λ step. Advances (V.accepts self.old.verifier) self.old step self.new) }
+        ensures err { OnErr result (self.new ≡ self.old) }
+        // Memory is asked for only where the certificate passes, and carries a subtree of a processed form.
+        ensures passing { OnErr result (IsServed self.old.query × (self.old.done < count self.old.query) × MeetsConditions (V.accepts self.old.verifier) self.old.query (self.old.done + 1)) }
+        ensures calm { CarriesNoSubtree self.old.query (self.old.done + 1) → IsOk result }
+    {
+        let count = self.path.len();
+        if count == 0 {
+            return Ok(Step::Failed(Reason::Empty));
+        }
+        if count > MOST_CERTIFICATES {
+            return Ok(Step::Failed(Reason::TooLong));
+        }
+        if self.done == count {
+            return Ok(Step::Ended);
+        }
+        if let Some(reason) = self.broken() {
+            return Ok(Step::Failed(reason));
+        }
+        self.pass()?;
+        Ok(Step::Passed)
+    }
+}

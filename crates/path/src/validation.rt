@@ -1,0 +1,62 @@
+//! The validation of a whole path (RFC 5280, 6.1).
+
+ghost use Rattle.std.specs.Prelude.{◌≡◌, ◌<◌, ◌≤◌, ◌+◌, ℕ, IfOk, IsOk, length};
+ghost use Rattle.std.specs.Option.{option_copied};
+ghost use Rattle.path.specs.Validity.{IsOutcome, OutcomeIsOne};
+ghost use Rattle.path.specs.State.{query_of, CarriesNoSubtree};
+
+use crate::reason::{Outcome, Step};
+use crate::state::{MOST_CERTIFICATES, State};
+use cert::Certificate;
+use std::alloc::{AllocError, Global};
+use verifiers::Verifier;
+
+/// The number of the certificate that fails behind so many, or 0 where it is the path itself that is not served.
+fn failed_at(count: usize, done: usize) -> usize
+    requires { done ≤ count }
+    ensures none { count ≡ 0 → result ≡ 0 }
+    ensures many { 128 < count → result ≡ 0 }
+    ensures served { 1 ≤ count → count ≤ 128 → result ≡ done + 1 }
+{
+    if count == 0 || count > MOST_CERTIFICATES {
+        0
+    } else {
+        done + 1
+    }
+}
+
+/// Whether the path is valid under the anchor, at the moment (in seconds from 1970-01-01T00:00:00Z) and for the purpose (the
+/// contents of an OBJECT IDENTIFIER); else the first certificate that is refused, and of its reasons the one of the least
+/// rank. Of the anchor the subject and the key alone are used.
+///
+/// Time is linear in the certificates, but for the subtrees of name constraints: each that a certificate carries is looked at
+/// with each that is held, and each name with each that is held; and each certificate is compared with those before it, as far
+/// as the octets are the same. Memory is taken only where a certificate that is not refused carries a subtree of a directory
+/// name, a DNS name or an IP address.
+pub fn validate<V: Verifier>(
+    alloc: Global,
+    verifier: &V,
+    anchor: &Certificate<'_>,
+    path: &[Certificate<'_>],
+    moment: i64,
+    purpose: Option<&[u8]>,
+) -> Result<Outcome, AllocError>
+    ensures outcome { IfOk result (λ outcome. IsOutcome (V.accepts verifier.now) (query_of anchor.now path.now moment (option_copied purpose.entry)) outcome) }
+    ensures calm { ((j : ℕ) → 1 ≤ j → j ≤ length path.now → CarriesNoSubtree (query_of anchor.now path.now moment (option_copied purpose.entry)) j) → IsOk result }
+{
+    let mut state = State::start(alloc, verifier, anchor, path, moment, purpose);
+    loop {
+        match state.next()? {
+            Step::Passed => {}
+            Step::Ended => return Ok(Outcome::Good),
+            Step::Failed(reason) => {
+                return Ok(Outcome::Bad(failed_at(path.len(), state.done()), reason));
+            }
+        }
+    }
+}
+
+/// A path has one outcome.
+pub fn outcome_laws()
+    ensures { OutcomeIsOne }
+{}

@@ -1,0 +1,3 @@
+pub mod Fingerprint
+pub mod FramingLaws
+pub mod ListVerifier

@@ -1,0 +1,10 @@
+//! Who judges signatures: a trait, a verifier that believes a list of fingerprints, and the fingerprints.
+#![tactic(auto)]
+
+mod fingerprinting;
+mod list_verifier;
+mod verifier;
+
+pub use fingerprinting::{fingerprint, framing_laws};
+pub use list_verifier::ListVerifier;
+pub use verifier::Verifier;
