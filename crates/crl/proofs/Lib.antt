@@ -1,0 +1,9 @@
+mod EntryAgain
+mod Numbers
+mod Numbered
+mod ExtensionTypes
+mod ReasonLaws
+mod EntryLaws
+mod ListExtensionLaws
+mod ListLaws
+pub mod Laws

@@ -1,0 +1,12 @@
+pub mod Parts
+pub mod CrlNumber
+pub mod IssuerScope
+pub mod EntryExtension
+pub mod Entry
+pub mod ListExtension
+pub mod CertificateList
+pub mod EntryForms
+pub mod ListForms
+pub use Rattle.revocation.specs.Fault
+pub use Rattle.revocation.specs.declared.fault.StatementRule
+pub use Rattle.revocation.specs.declared.fault.StatementFault

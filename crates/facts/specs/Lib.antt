@@ -1,0 +1,4 @@
+pub mod Listed
+pub mod Statement
+pub mod Single
+pub mod Fact

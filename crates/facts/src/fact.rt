@@ -1,0 +1,36 @@
+//! What a statement says.
+
+use crate::issuer::Issuer;
+use crate::revoked::RevokedSerials;
+use crate::scope::Scope;
+use crate::single::Singles;
+use asn::Number20;
+
+/// What a revocation list says (RFC 5280, 5.1). Times are in seconds from 1970-01-01T00:00:00Z.
+#[derive(Drop)]
+pub struct CrlFacts<'a> {
+    pub issuer: Issuer<'a>,
+    /// Which certificates of the issuer it is about.
+    pub scope: Scope,
+    /// Lists of one issuer and scope are newer by this.
+    pub number: Number20,
+    /// thisUpdate: from when the list counts.
+    pub from: i64,
+    /// nextUpdate: until when it counts.
+    pub until: i64,
+    pub revoked: RevokedSerials<'a>,
+}
+
+/// What an OCSP response says (RFC 6960, 4.2.1).
+#[derive(Drop)]
+pub struct OcspFacts<'a> {
+    pub issuer: Issuer<'a>,
+    pub singles: Singles<'a>,
+}
+
+/// What a genuine statement says.
+#[derive(Drop)]
+pub enum Facts<'a> {
+    Crl(CrlFacts<'a>),
+    Ocsp(OcspFacts<'a>),
+}

@@ -1,0 +1,14 @@
+//! What signed statements say of certificates (RFC 5280, 5; RFC 6960, 4.2): for whom they speak, from when until when, and what.
+#![tactic(auto)]
+
+mod fact;
+mod issuer;
+mod revoked;
+mod scope;
+mod single;
+
+pub use fact::{CrlFacts, Facts, OcspFacts};
+pub use issuer::{Issuer, NameKey};
+pub use revoked::{Listed, RevokedSerials};
+pub use scope::Scope;
+pub use single::{Single, Singles, Status};

@@ -1,0 +1,3 @@
+mod NewTypes
+mod PartLaws
+pub mod Laws

@@ -1,0 +1,11 @@
+pub mod Fault
+pub mod Parts
+pub use Rattle.asn.specs.Place
+pub use Rattle.asn.specs.Members
+pub use Rattle.asn.specs.Walk
+pub use Rattle.asn.specs.Judgement
+pub use Rattle.names.specs.GeneralLayout
+pub use Rattle.names.specs.GeneralView
+pub use Rattle.cert.specs.AlgorithmIdentifier
+pub use Rattle.cert.specs.Extension
+pub use Rattle.cert.specs.OidSet

@@ -1,0 +1,10 @@
+//! What statements about revocation share, lists and responses: why they are refused, and the parts that both are made of.
+#![tactic(auto)]
+
+mod fault;
+mod parts;
+
+pub use fault::{Refusal, StatementFault, StatementRule};
+pub use parts::{
+    is_reason, name_at, new_extension, outermost, take_algorithm, take_serial, take_signature,
+};
