@@ -1,0 +1,6 @@
+mod SingleAgain
+mod ListOfExtensions
+mod StatusLaws
+mod SingleLaws
+mod ResponseLaws
+mod KindLaws

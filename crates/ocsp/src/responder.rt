@@ -1,0 +1,71 @@
+//! Who answers (RFC 6960, 4.2.1).
+
+ghost use Rattle.asn.specs.Place.{part};
+ghost use Rattle.asn.specs.Members.{left};
+ghost use Rattle.asn.specs.Walk.{Gives};
+ghost use Rattle.names.specs.GeneralView.{name_contents};
+ghost use Rattle.revocation.specs.Parts.{component, distinguished_name};
+ghost use Rattle.ocsp.specs.Responder.{keyed_responder, named_responder, responder, responder_at, seen_responder};
+
+use asn::{Cursor, Tlv};
+use names::Name;
+use revocation::{Refusal, StatementRule, name_at};
+
+/// ResponderID ::= CHOICE { byName [1] EXPLICIT Name, byKey [2] EXPLICIT KeyHash }
+#[derive(Clone, Copy)]
+pub enum ResponderId<'a> {
+    ByName(Name<'a>),
+    /// KeyHash ::= OCTET STRING: its contents, of any length.
+    ByKey(&'a [u8]),
+}
+
+#[tactic(auto, unfolding(revocation::specs::Parts::component))]
+fn take_name<'a>(members: &mut Cursor<'a>) -> Result<Name<'a>, Refusal>
+    ensures { Gives (λ read. (name_contents read, left members.new)) result (component 0x30 distinguished_name (left members.old)) }
+{
+    name_at(members.required(0x30, StatementRule::Layout)?)
+}
+
+impl<'a> ResponderId<'a> {
+    /// byName [1] EXPLICIT Name
+    #[tactic(auto, unfolding(crate::specs::Responder::named_responder))]
+    fn named(value: Tlv<'a>) -> Result<ResponderId<'a>, Refusal>
+        ensures { Gives seen_responder result (named_responder (part value.entry)) }
+    {
+        value.is_a(0xA1, StatementRule::Layout)?;
+        let mut members = value.members();
+        let name = take_name(&mut members)?;
+        members.ended(StatementRule::Layout)?;
+        Ok(ResponderId::ByName(name))
+    }
+
+    /// byKey [2] EXPLICIT KeyHash
+    #[tactic(auto, unfolding(crate::specs::Responder::keyed_responder))]
+    fn keyed(value: Tlv<'a>) -> Result<ResponderId<'a>, Refusal>
+        ensures { Gives seen_responder result (keyed_responder (part value.entry)) }
+    {
+        value.is_a(0xA2, StatementRule::Layout)?;
+        let mut members = value.members();
+        let hash = members.required(0x04, StatementRule::Layout)?;
+        members.ended(StatementRule::Layout)?;
+        Ok(ResponderId::ByKey(hash.body))
+    }
+
+    #[tactic(auto, unfolding(crate::specs::Responder::responder_at))]
+    fn read(value: Tlv<'a>) -> Result<ResponderId<'a>, Refusal>
+        ensures { Gives seen_responder result (responder_at (part value.entry)) }
+    {
+        match value.tag {
+            0xA1 => ResponderId::named(value),
+            _ => ResponderId::keyed(value),
+        }
+    }
+
+    /// Takes responderID.
+    #[tactic(auto, unfolding(crate::specs::Responder::responder))]
+    pub(crate) fn take(members: &mut Cursor<'a>) -> Result<ResponderId<'a>, Refusal>
+        ensures { Gives (λ read. (seen_responder read, left members.new)) result (responder (left members.old)) }
+    {
+        ResponderId::read(members.next_or(StatementRule::Layout)?)
+    }
+}
