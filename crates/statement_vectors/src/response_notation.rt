@@ -1,0 +1,142 @@
+//! What a text of the notation says of an OCSP response.
+
+use crate::options::{option_in, word_and_value};
+use std::alloc::Global;
+use vectors::{NotationFault, Part};
+
+/// Whether a certificate is revoked.
+#[derive(Clone, Copy)]
+pub(crate) enum Status {
+    Good,
+    /// With the reason's number where one is given.
+    Revoked(Option<u32>),
+    Unknown,
+}
+
+/// A serial number with its status.
+#[derive(Drop)]
+pub(crate) struct Single {
+    /// The contents of serialNumber.
+    pub serial: Vec<u8>,
+    pub status: Status,
+}
+
+impl Single {
+    /// `SERIAL good`, `SERIAL revoked`, `SERIAL revoked REASON` or `SERIAL unknown`
+    fn read(alloc: Global, text: Part<'_>) -> Result<Single, NotationFault> {
+        let (serial, status) = text.split_at_mark(' ')?;
+        let serial = serial.octets(alloc)?;
+        let (word, value) = word_and_value(status);
+        let status = match word.text {
+            "good" => Status::Good,
+            "revoked" if value.text.is_empty() => Status::Revoked(None),
+            "revoked" => Status::Revoked(Some(value.number()?)),
+            "unknown" => Status::Unknown,
+            _ => return Err(word.fault()),
+        };
+        Ok(Single { serial, status })
+    }
+}
+
+/// Who says that the response is his.
+#[derive(Clone, Copy)]
+pub(crate) enum Responder<'a> {
+    ByName(&'a str),
+    /// By the hash of the key's octets.
+    ByKey(&'a str),
+}
+
+/// What a text asks for.
+#[derive(Drop)]
+pub(crate) struct ResponseNotation<'a> {
+    /// The issuer of the certificates that it speaks of.
+    pub issuer: &'a str,
+    /// The key of that issuer.
+    pub key: &'a str,
+    pub singles: Vec<Single>,
+    pub responder: Responder<'a>,
+    /// The key that signs.
+    pub signer: &'a str,
+    pub this_update: &'a str,
+    pub produced_at: &'a str,
+    pub next_update: Option<&'a str>,
+}
+
+/// Fourteen digits and `Z`, of any date or none.
+fn time<'a>(part: Part<'a>) -> Result<&'a str, NotationFault> {
+    match part.text.strip_suffix('Z') {
+        Some(digits) if digits.len() == 14 && digits.bytes().all(|octet| octet.is_ascii_digit()) =>
+            { Ok(part.text) }
+        _ => Err(part.fault()),
+    }
+}
+
+/// The single responses, with commas between them.
+fn singles(alloc: Global, text: Part<'_>) -> Result<Vec<Single>, NotationFault> {
+    let mut singles = Vec::new(alloc);
+    for one in text.text.split(',') {
+        match Single::read(alloc, text.behind(0, one)) {
+            Ok(single) => singles.push(single)?,
+            Err(fault) => return Err(fault),
+        }
+    }
+    Ok(singles)
+}
+
+impl<'a> ResponseNotation<'a> {
+    /// What stands before the options: `ocsp(ISSUER,SERIAL STATUS,..)`.
+    fn head(
+        alloc: Global,
+        kind: Part<'a>,
+        inside: Part<'a>,
+    ) -> Result<ResponseNotation<'a>, NotationFault> {
+        if kind.text != "ocsp" {
+            return Err(kind.fault());
+        }
+        let (issuer, listed) = inside.split_at_mark(',')?;
+        let issuer = issuer.word()?;
+        Ok(ResponseNotation {
+            issuer,
+            key: issuer,
+            singles: singles(alloc, listed)?,
+            responder: Responder::ByName(issuer),
+            signer: issuer,
+            this_update: "20250601000000Z",
+            produced_at: "20250601000000Z",
+            next_update: Some("20250701000000Z"),
+        })
+    }
+
+    fn note(&mut self, option: Part<'a>) -> Result<(), NotationFault> {
+        let (word, value) = word_and_value(option);
+        match word.text {
+            "key" => self.key = value.word()?,
+            "signed" => self.signer = value.word()?,
+            "by" => self.responder = Responder::ByName(value.word()?),
+            "bykey" => self.responder = Responder::ByKey(value.word()?),
+            "from" => {
+                self.this_update = time(value)?;
+                self.produced_at = self.this_update;
+            }
+            "produced" => self.produced_at = time(value)?,
+            "until" => self.next_update = Some(time(value)?),
+            "open" if value.text.is_empty() => self.next_update = None,
+            _ => return Err(word.fault()),
+        }
+        Ok(())
+    }
+
+    /// What the text says, or the offset at which it is none of the notation.
+    pub fn read(alloc: Global, text: &'a str) -> Result<ResponseNotation<'a>, NotationFault> {
+        let whole = Part { text, at: 0 };
+        let (kind, behind) = whole.split_at_mark('(')?;
+        let (inside, options) = behind.split_at_mark(')')?;
+        let mut notation = ResponseNotation::head(alloc, kind, inside)?;
+        let mut next = options;
+        for braced in options.text.split_inclusive('}') {
+            notation.note(option_in(next, braced)?)?;
+            next = next.behind(braced.len(), "");
+        }
+        Ok(notation)
+    }
+}

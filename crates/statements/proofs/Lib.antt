@@ -1,0 +1,6 @@
+mod Answering
+mod Genuineness
+mod Listing
+mod Responding
+mod Signers
+mod Responses

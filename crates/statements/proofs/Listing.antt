@@ -1,0 +1,43 @@
+-- The serial numbers and reasons of entries, one for one.
+use Rattle.std.proofs.Common.{◌≡◌, ℕ, ℤ, Bool, true, false, List, [], ◌∷◌, Option, Some, None, IfSome, IfNone, map, refl, sym, ap, subst, ◌∙◌}
+use Rattle.std.specs.Option.{IsSome}
+use Rattle.std.specs.Str.{bytes_eq}
+use Rattle.std.proofs.Math.Path.{fun_ext}
+use Rattle.asn.specs.DerLaws.{AreOctets}
+use Rattle.asn.specs.Integer.{IsNumber20, binary_value}
+use Rattle.crl.proofs.Laws.{is_binary}
+use Rattle.crl.specs.Entry.{Entry, reason_listed}
+use Rattle.facts.specs.Listed.{ListedSerial, first_reason}
+use Rattle.crl.specs.CertificateList.{CertificateList}
+use Rattle.facts.specs.Statement.{CrlFact}
+use Rattle.statements.specs.CrlFact.{listed_in, fact_of}
+
+-- what the listed serial numbers say first, the entries say first
+reason_at : (serial : List ℕ) (entries : List Entry) → first_reason (map listed_in entries) serial ≡ reason_listed entries serial
+reason_at serial [] = refl
+reason_at serial (entry ∷ entries) = by (reason_at serial entries) (bytes_eq entry.serial serial) refl where
+  by : first_reason (map listed_in entries) serial ≡ reason_listed entries serial → (b : Bool) → bytes_eq entry.serial serial ≡ b → first_reason (map listed_in (entry ∷ entries)) serial ≡ reason_listed (entry ∷ entries) serial
+  by rest true e = rw e refl
+  by rest false e = rw e rest
+
+pub reasons_are : (revoked : List ListedSerial) (entries : List Entry) → ((serial : List ℕ) → first_reason revoked serial ≡ first_reason (map listed_in entries) serial) → first_reason revoked ≡ reason_listed entries
+reasons_are revoked entries same = fun_ext (λ serial. same serial ∙ reason_at serial entries)
+
+-- ---- the number of a list
+
+pub is_some : (contents : List ℕ) (found : Option ℕ) → IfNone found ((number : ℕ) → IsNumber20 contents number → ⊥) → IsNumber20 contents (binary_value contents) → IsSome found
+is_some contents None none is = absurd (none (binary_value contents) is)
+is_some contents (Some number) none is = refl
+
+pub value_is : (contents : List ℕ) (found : Option ℕ) (number : ℕ) → IfSome found (IsNumber20 contents) → found ≡ Some number → AreOctets contents → number ≡ binary_value contents
+value_is contents found number some e each = sym (is_binary contents number each (subst (λ found. IfSome found (IsNumber20 contents)) e some))
+
+-- ---- what the list says
+
+pub fact_equal :
+    (number : ℕ) (from until : ℤ) (revoked listed : List ListedSerial) (list : CertificateList) →
+    number ≡ binary_value list.number → from ≡ list.this_update → until ≡ list.next_update →
+    ((serial : List ℕ) → first_reason revoked serial ≡ first_reason listed serial) → listed ≡ map listed_in list.entries →
+    Path CrlFact (record { number = number; window = record { from = from; until = until }; reasons = first_reason revoked }) (fact_of list)
+fact_equal number from until revoked listed list number_is from_is until_is reasons listed_is =
+    rw (number_is, from_is, until_is, reasons_are revoked list.entries (λ serial. reasons serial ∙ ap (λ listed. first_reason listed serial) listed_is)) refl

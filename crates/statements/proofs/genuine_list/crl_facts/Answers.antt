@@ -1,0 +1,6 @@
+use Rattle.crl.specs.CertificateList.{seen_list}
+use Rattle.crl.proofs.Laws.{lists_are_numbered}
+use Rattle.statements.proofs.genuine_list.crl_facts.Goals as goal
+
+pub facts_of-requires : goal.facts_of-requires
+facts_of-requires g c = lists_are_numbered c.args.octets.now (seen_list c.in_ok-list.list) c.in_ok-list.ensures

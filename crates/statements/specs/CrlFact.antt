@@ -1,0 +1,64 @@
+-- What a list says of its issuer's certificates (RFC 5280, 5.1 to 5.3, and 6.3.3 (f) and (g)).
+use Rattle.std.specs.Prelude.{◌≡◌, ◌↔◌, ℕ, Bool, List, Result, Ok, IsTrue}
+use Rattle.asn.specs.Integer.{binary_value}
+use Rattle.names.specs.DistinguishedName.{NamesMatch, matching}
+use Rattle.cert.specs.Certificate.{Certificate}
+use Rattle.crl.specs.CertificateList.{CertificateList, certificate_list}
+use Rattle.crl.specs.Entry.{Entry, reason_listed}
+use Rattle.revocation.specs.declared.fault.StatementFault.{StatementFault}
+use Rattle.revocation.specs.declared.fault.StatementFault.TheVariants.{OtherIssuer, BadSignature}
+use Rattle.facts.specs.Listed.{ListedSerial}
+use Rattle.facts.specs.Statement.{CrlSlot, CrlFact}
+use Rattle.statements.specs.Issuer.{identity_of}
+use Rattle.statements.specs.Genuine.{Accepts, ◌then◌, as_refused, or_else}
+
+-- the serial number of an entry, with the number of the reason
+abbrev pub listed_in : Entry → ListedSerial
+listed_in entry = record { serial = entry.serial; reason = entry.reason }
+
+-- the list is of the issuer by its name
+abbrev pub IsNamed : Certificate → CertificateList → Type 0
+IsNamed issuer list = NamesMatch list.issuer.rdns issuer.subject.rdns
+
+-- and its signature is accepted under the issuer's key
+abbrev pub is_signed : Accepts → Certificate → CertificateList → Bool
+is_signed accepts issuer list = accepts list.algorithm issuer.key_info.whole list.tbs list.signature
+
+-- what it is numbered within: the issuer and the scope
+abbrev pub slot_of : Certificate → CertificateList → CrlSlot
+slot_of issuer list = record { issuer = identity_of issuer; scope = list.scope }
+
+-- A serial number that is listed twice counts once, with its first reason.
+abbrev pub fact_of : CertificateList → CrlFact
+fact_of list = record {
+  number = binary_value list.number;
+  window = record { from = list.this_update; until = list.next_update };
+  reasons = reason_listed list.entries;
+}
+
+-- The octets are a list of the issuer, which says this. No moment is looked at.
+pub record IsCrlFact (accepts : Accepts) (issuer : Certificate) (octets : List ℕ) (slot : CrlSlot) (fact : CrlFact) : Type 0 where
+  pub list : CertificateList
+  pub reads : certificate_list octets ≡ Ok list
+  pub named : IsNamed issuer list
+  pub signed : IsTrue (is_signed accepts issuer list)
+  pub slot_is : slot ≡ slot_of issuer list
+  pub fact_is : fact ≡ fact_of list
+
+-- the checks of the issuer in their order: its name, the signature
+unfoldable pub of_issuer : Accepts → Certificate → CertificateList → Result (Unit {0}) StatementFault
+of_issuer accepts issuer list =
+    or_else (matching list.issuer.rdns issuer.subject.rdns) OtherIssuer then λ named. or_else (is_signed accepts issuer list) BadSignature
+
+-- The checks in their order: what is read, and of whom it is.
+unfoldable pub genuine_list : Accepts → Certificate → List ℕ → Result (CrlSlot × CrlFact) StatementFault
+genuine_list accepts issuer octets =
+    as_refused (certificate_list octets) then λ list.
+    of_issuer accepts issuer list then λ is.
+    Ok (slot_of issuer list, fact_of list)
+
+-- They succeed exactly where the octets are a list of the issuer.
+abbrev pub GenuineListsAreFacts : Type 0
+GenuineListsAreFacts =
+    (accepts : Accepts) (issuer : Certificate) (octets : List ℕ) (slot : CrlSlot) (fact : CrlFact) →
+    (genuine_list accepts issuer octets ≡ Ok (slot, fact)) ↔ IsCrlFact accepts issuer octets slot fact

@@ -1,0 +1,34 @@
+-- Statements that are believed or refused.
+use Rattle.std.specs.Prelude.{◌≡◌, ℕ, Bool, true, false, List, Result, Ok, Err}
+use Rattle.revocation.specs.declared.fault.StatementFault.{StatementFault}
+use Rattle.revocation.specs.declared.fault.StatementFault.TheVariants.{Refused, Memory}
+use Rattle.revocation.specs.declared.fault.StatementRule.{StatementRule}
+
+-- what a verifier accepts, of algorithm, key, message and signature
+abbrev pub Accepts : Type 0
+Accepts = List ℕ → List ℕ → List ℕ → List ℕ → Bool
+
+-- what was read, or the rule that is broken, with the place
+abbrev pub as_refused : {A : Type 0} → Result A (StatementRule × ℕ) → Result A StatementFault
+as_refused (Ok read) = Ok read
+as_refused (Err fault) = Err (Refused fault.0 fault.1)
+
+-- the first of two checks decides
+infixl 1 ◌then◌
+abbrev pub ◌then◌ : {A B : Type 0} → Result A StatementFault → (A → Result B StatementFault) → Result B StatementFault
+Ok x then next = next x
+Err fault then next = Err fault
+
+-- this, or that fault
+abbrev pub or_else : Bool → StatementFault → Result (Unit {0}) StatementFault
+or_else true fault = Ok tt
+or_else false fault = Err fault
+
+-- What a function that takes memory returned, seen by view, is this, unless memory was refused.
+abbrev pub FailsUnlessFull : {Y : Type 0} → StatementFault → Result Y StatementFault → Type 0
+FailsUnlessFull Memory answer = Unit {0}
+FailsUnlessFull fault answer = answer ≡ Err fault
+
+abbrev pub AnswersUnlessFull : {X Y : Type 0} → (X → Y) → Result X StatementFault → Result Y StatementFault → Type 0
+AnswersUnlessFull view (Ok x) answer = answer ≡ Ok (view x)
+AnswersUnlessFull view (Err fault) answer = FailsUnlessFull fault answer

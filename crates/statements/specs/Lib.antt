@@ -1,0 +1,6 @@
+pub mod Issuer
+pub mod Genuine
+pub mod CrlFact
+pub mod Responder
+pub mod SignerView
+pub mod OcspFact

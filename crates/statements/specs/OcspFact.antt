@@ -1,0 +1,111 @@
+-- What a response says of the issuer's certificates (RFC 6960, 4.2.1 and 4.2.2).
+use Rattle.std.specs.Prelude.{◌≡◌, ◌≢◌, ◌↔◌, ◌&&◌, ◌==◌, ◌+ℤ◌, ℕ, ℤ, pos, Bool, List, [], ◌∷◌, length, filter, map, Option, Some, None, Result, Ok, Err, if◌then◌else◌}
+use Rattle.std.specs.Str.{bytes_eq}
+use Rattle.std.specs.Int.{int_max, int_min, saturate_signed, w64}
+use Rattle.cert.specs.Certificate.{Certificate}
+use Rattle.ocsp.specs.OcspResponse.{OcspResponse, ocsp_response}
+use Rattle.ocsp.specs.Single.{SingleResponse}
+use Rattle.ocsp.specs.declared.cert_status.CertStatus.{CertStatus}
+use Rattle.ocsp.specs.declared.cert_status.CertStatus.TheVariants as said
+use Rattle.facts.specs.declared.single.Status.{Status}
+use Rattle.facts.specs.declared.single.Status.TheVariants.{Good, Revoked, Unknown}
+use Rattle.facts.specs.Single.{SingleFact, some_singles}
+use Rattle.facts.specs.Statement.{IssuerIdentity, Window}
+use Rattle.facts.specs.Fact.{Fact, ocsp_slot}
+use Rattle.ocsp.specs.Kind.{is_response}
+use Rattle.statements.specs.Issuer.{identity_of}
+use Rattle.statements.specs.CrlFact.{genuine_list}
+use Rattle.revocation.specs.declared.fault.StatementFault.{StatementFault}
+use Rattle.revocation.specs.declared.fault.StatementFault.TheVariants.{NoSigner, NothingForIssuer}
+use Rattle.statements.specs.Genuine.{Accepts, ◌then◌, as_refused}
+use Rattle.statements.specs.Responder.{Signer, the_issuer, delegate, key_hash, signer_of, IsSigner}
+
+-- id-sha1: 1.3.14.3.2.26
+abbrev pub id_sha1 : List ℕ
+id_sha1 = 0x2B ∷ 0x0E ∷ 0x03 ∷ 0x02 ∷ 0x1A ∷ []
+
+-- the single response speaks of a certificate whose issuer has the key of this hash: its hashes are SHA-1 (4.1.1)
+abbrev pub speaks_with : List ℕ → SingleResponse → Bool
+speaks_with hash single =
+    bytes_eq single.id.hash_algorithm id_sha1 && (length single.id.issuer_name_hash == 20 && bytes_eq single.id.issuer_key_hash hash)
+
+abbrev pub speaks_for : Certificate → SingleResponse → Bool
+speaks_for issuer = speaks_with (key_hash issuer)
+
+-- a day, in seconds
+abbrev pub day : ℤ
+day = pos 86400
+
+-- A single response without nextUpdate counts for a day from thisUpdate on, which is a choice of the profile. Seconds are counted in
+-- 64 bits, in which every time before the year 10000 is far from the last.
+abbrev pub end_of : SingleResponse → ℤ
+end_of single = end_in single.this_update single.next_update where
+  end_in : ℤ → Option ℤ → ℤ
+  end_in this_update None = saturate_signed w64 (this_update +ℤ day)
+  end_in this_update (Some next_update) = next_update
+
+-- It counts while both the statement and the delegate's certificate do.
+abbrev pub window_of : Signer → SingleResponse → Window
+window_of the_issuer single = record { from = single.this_update; until = end_of single }
+window_of (delegate c) single = record { from = int_max single.this_update c.validity.not_before; until = int_min (end_of single) c.validity.not_after }
+
+abbrev pub status_of : CertStatus → Status
+status_of said.Good = Good
+status_of (said.Revoked reason) = Revoked reason
+status_of said.Unknown = Unknown
+
+abbrev pub single_fact : Signer → ℤ → SingleResponse → SingleFact
+single_fact signer produced_at single = record {
+  name_hash = single.id.issuer_name_hash;
+  serial = single.id.serial;
+  fact = record {
+    times = record { this_update = single.this_update; produced_at = produced_at };
+    window = window_of signer single;
+    status = status_of single.status;
+  };
+}
+
+-- what the response says, in the order of its single responses; those that do not speak of the issuer's certificates are passed over
+abbrev pub singles_of : Certificate → OcspResponse → Signer → List SingleFact
+singles_of issuer response signer = map (single_fact signer response.produced_at) (filter (speaks_for issuer) response.responses)
+
+abbrev pub signer_or_fault : Option Signer → Result Signer StatementFault
+signer_or_fault (Some signer) = Ok signer
+signer_or_fault None = Err NoSigner
+
+abbrev pub or_nothing : Option (List SingleFact) → Result (List SingleFact) StatementFault
+or_nothing None = Err NothingForIssuer
+or_nothing (Some singles) = Ok singles
+
+-- The checks in their order: what is read, its signer, whether it says something.
+unfoldable pub genuine_response : Accepts → Certificate → List ℕ → Result (List SingleFact) StatementFault
+genuine_response accepts issuer octets =
+    as_refused (ocsp_response octets) then λ response.
+    signer_or_fault (signer_of accepts issuer response) then λ signer.
+    or_nothing (some_singles (singles_of issuer response signer))
+
+-- The octets are a response that somebody signed who may answer for the issuer, and these are what it says. No moment is looked at.
+pub record IsGenuineResponse (accepts : Accepts) (issuer : Certificate) (octets : List ℕ) (singles : List SingleFact) : Type 0 where
+  pub response : OcspResponse
+  pub reads : ocsp_response octets ≡ Ok response
+  pub signer : Signer
+  pub is_signer : IsSigner accepts issuer response signer
+  pub singles_are : singles ≡ singles_of issuer response signer
+  pub some : singles ≢ []
+
+-- The checks succeed exactly there.
+abbrev pub GenuineResponsesAreSigned : Type 0
+GenuineResponsesAreSigned =
+    (accepts : Accepts) (issuer : Certificate) (octets : List ℕ) (singles : List SingleFact) →
+    (genuine_response accepts issuer octets ≡ Ok singles) ↔ IsGenuineResponse accepts issuer octets singles
+
+-- ---- statements of both kinds
+
+abbrev pub fact_with : IssuerIdentity → SingleFact → Fact
+fact_with issuer single = Fact.OfResponse (ocsp_slot issuer single) single.fact
+
+-- The facts that a statement tells of its issuer's certificates, in order.
+unfoldable pub genuine_statement : Accepts → Certificate → List ℕ → Result (List Fact) StatementFault
+genuine_statement accepts issuer octets =
+    if is_response octets then (genuine_response accepts issuer octets then λ singles. Ok (map (fact_with (identity_of issuer)) singles))
+    else (genuine_list accepts issuer octets then λ said. Ok (Fact.OfCrl said.0 said.1 ∷ []))

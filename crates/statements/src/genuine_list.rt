@@ -1,0 +1,81 @@
+//! Lists of an issuer (RFC 5280, 6.3.3).
+
+ghost use Rattle.std.specs.Prelude.{◌≡◌, IfOk, IsTrue};
+ghost use Rattle.cert.specs.Certificate.{seen_certificate};
+ghost use Rattle.crl.specs.CertificateList.{seen_list};
+ghost use Rattle.crl.specs.CrlNumber.{is_crl_number};
+ghost use Rattle.facts.specs.Fact.{crl_fact, crl_slot};
+ghost use Rattle.statements.specs.CrlFact.{GenuineListsAreFacts, fact_of, genuine_list, of_issuer, slot_of};
+ghost use Rattle.statements.specs.Genuine.{AnswersUnlessFull};
+
+use crate::issuing::issuer_of;
+use crate::listed::{listed_by, number_of};
+use cert::Certificate;
+use crl::Crl;
+use facts::{CrlFacts, RevokedSerials};
+use revocation::StatementFault;
+use std::alloc::{AllocError, Global};
+use verifiers::Verifier;
+
+/// Whether the list is one of the issuer: by its name, and by its signature under the issuer's key.
+#[tactic(auto, unfolding(crate::specs::CrlFact::of_issuer))]
+fn check_issuer<V: Verifier>(
+    verifier: &V,
+    issuer: &Certificate<'_>,
+    list: &Crl<'_>,
+) -> Result<(), StatementFault>
+    ensures { of_issuer (V.accepts verifier.now) (seen_certificate issuer.now) (seen_list list.now) ≡ result }
+{
+    if !list.issuer.matches(&issuer.subject) {
+        return Err(StatementFault::OtherIssuer);
+    }
+    let key_info = issuer.subject_public_key_info.whole;
+    if !verifier.judge(list.algorithm, key_info, list.tbs, list.signature) {
+        return Err(StatementFault::BadSignature);
+    }
+    Ok(())
+}
+
+/// What the list says of the issuer's certificates.
+fn facts_of<'a>(
+    alloc: Global,
+    issuer: &Certificate<'a>,
+    list: &Crl<'a>,
+) -> Result<CrlFacts<'a>, AllocError>
+    requires { IsTrue (is_crl_number list.now.number.now) }
+    ensures slot { IfOk result (λ facts. crl_slot facts ≡ slot_of (seen_certificate issuer.now) (seen_list list.now)) }
+    ensures fact { IfOk result (λ facts. crl_fact facts ≡ fact_of (seen_list list.now)) }
+{
+    let listed = listed_by(alloc, list.revoked)?;
+    Ok(CrlFacts {
+        issuer: issuer_of(alloc, issuer)?,
+        scope: list.scope,
+        number: number_of(list.number),
+        from: list.this_update,
+        until: list.next_update,
+        revoked: RevokedSerials::of_entries(listed)?,
+    })
+}
+
+/// What a list of the issuer says. The fault of a list that is none, then that of one of another issuer, then that of one whose
+/// signature is not accepted under the issuer's key. No moment is looked at. Time is n log n in the octets, and memory is for
+/// the entries.
+#[tactic(auto, using(crate::proofs::Genuineness::list_refused, crate::proofs::Genuineness::issuer_refused, crate::proofs::Genuineness::list_believed))]
+pub fn crl_facts<'a, V: Verifier>(
+    alloc: Global,
+    verifier: &V,
+    issuer: &Certificate<'a>,
+    octets: &'a [u8],
+) -> Result<CrlFacts<'a>, StatementFault>
+    ensures { AnswersUnlessFull (λ facts. (crl_slot facts, crl_fact facts)) result
+        (genuine_list (V.accepts verifier.now) (seen_certificate issuer.now) octets.now) }
+{
+    let list = Crl::read(alloc, octets)?;
+    check_issuer(verifier, issuer, &list)?;
+    Ok(facts_of(alloc, issuer, &list)?)
+}
+
+/// A list is genuine exactly where it is read, has the issuer's name, and its signature is accepted under the issuer's key.
+pub fn crl_fact_laws()
+    ensures { GenuineListsAreFacts }
+{}

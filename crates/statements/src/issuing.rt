@@ -1,0 +1,21 @@
+//! The issuer that a certificate is of.
+
+ghost use Rattle.std.specs.Prelude.{◌≡◌, IfOk};
+ghost use Rattle.cert.specs.Certificate.{seen_certificate};
+ghost use Rattle.facts.specs.Fact.{issuer_of as seen_issuer};
+ghost use Rattle.statements.specs.Issuer.{identity_of};
+
+use cert::Certificate;
+use facts::{Issuer, NameKey};
+use std::alloc::{AllocError, Global};
+
+/// Whom a certificate is of: the key of its subject's name, and its subjectPublicKeyInfo.
+pub fn issuer_of<'a>(alloc: Global, certificate: &Certificate<'a>) -> Result<Issuer<'a>, AllocError>
+    ensures { IfOk result (λ issuer. seen_issuer issuer ≡ identity_of (seen_certificate certificate.now)) }
+{
+    let name = certificate.subject.key(alloc)?;
+    Ok(Issuer {
+        name: NameKey::from_octets(name),
+        key_info: certificate.subject_public_key_info.whole,
+    })
+}

@@ -1,0 +1,16 @@
+//! Statements about revocation: whether one is genuine, and what it says (RFC 5280, 6.3.3; RFC 6960, 3.2).
+#![tactic(auto)]
+
+mod genuine_list;
+mod genuine_response;
+mod issuing;
+mod listed;
+mod responder;
+mod signer;
+mod singles;
+mod statement;
+
+pub use genuine_list::{crl_fact_laws, crl_facts};
+pub use genuine_response::{ocsp_fact_laws, ocsp_facts};
+pub use issuing::issuer_of;
+pub use statement::genuine;

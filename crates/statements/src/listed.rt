@@ -1,0 +1,36 @@
+//! What a list lists.
+
+ghost use Rattle.std.specs.Prelude.{◌≡◌, ◌++◌, IfOk, IsTrue, map};
+ghost use Rattle.asn.specs.Integer.{binary_value};
+ghost use Rattle.crl.specs.CrlNumber.{is_crl_number};
+ghost use Rattle.crl.specs.Entry.{entries_left};
+ghost use Rattle.facts.specs.Listed.{seen_listed};
+ghost use Rattle.statements.specs.CrlFact.{listed_in};
+
+use asn::Number20;
+use crl::Entries;
+use facts::Listed;
+use std::alloc::{AllocError, Global};
+
+/// The number with these contents, which are those of one.
+pub(crate) fn number_of(contents: &[u8]) -> Number20
+    requires { IsTrue (is_crl_number contents.now) }
+    ensures { result ≡ binary_value contents.now }
+{
+    Number20::from_content(contents).unwrap()
+}
+
+/// The serial numbers and reasons of the entries, in order.
+pub(crate) fn listed_by(alloc: Global, entries: Entries<'_>) -> Result<Vec<Listed<'_>>, AllocError>
+    ensures { IfOk result (λ listed. map seen_listed listed.items ≡ map listed_in (entries_left entries.entry)) }
+{
+    let mut entries = entries;
+    let mut listed = Vec::new(alloc);
+    while let Some(entry) = entries.next() {
+        listed.push(Listed {
+            serial: entry.serial,
+            reason: entry.reason,
+        })?;
+    }
+    Ok(listed)
+}

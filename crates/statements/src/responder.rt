@@ -1,0 +1,116 @@
+//! Who signed a response (RFC 6960, 4.2.2.2).
+
+ghost use Rattle.std.specs.Prelude.{◌≡◌, map};
+ghost use Rattle.std.specs.List.{list_any};
+ghost use Rattle.asn.specs.Oid.{oid_contents};
+ghost use Rattle.cert.specs.Certificate.{seen_certificate};
+ghost use Rattle.ocsp.specs.OcspResponse.{seen_response};
+ghost use Rattle.ocsp.specs.Responder.{seen_responder};
+ghost use Rattle.statements.specs.Responder.{is_issued, is_named_by, is_responder, is_signing, key_hash, may_respond, signs, signs_itself};
+
+use asn::Oid;
+use cert::Certificate;
+use ocsp::{ResponderId, Response};
+use sha1::Sha1;
+use verifiers::Verifier;
+
+/// id-kp-OCSPSigning, 1.3.6.1.5.5.7.3.9
+const OCSP_SIGNING: &[u8] = b"\x2B\x06\x01\x05\x05\x07\x03\x09";
+
+/// The SHA-1 of the octets of the certificate's key.
+pub(crate) fn hash_of_key(certificate: &Certificate<'_>) -> [u8; 20]
+    ensures { result ≡ key_hash (seen_certificate certificate.now) }
+{
+    Sha1::digest(certificate.subject_public_key_info.key)
+}
+
+/// Whether the responder id names the certificate.
+fn is_named(responder: &ResponderId<'_>, certificate: &Certificate<'_>) -> bool
+    ensures { result ≡ is_named_by (seen_responder responder.now) (seen_certificate certificate.now) }
+{
+    match responder {
+        ResponderId::ByName(name) => name.matches(&certificate.subject),
+        ResponderId::ByKey(hash) => *hash == hash_of_key(certificate).as_slice(),
+    }
+}
+
+/// Whether the response is signed under the certificate's key.
+fn has_signed<V: Verifier>(
+    verifier: &V,
+    response: &Response<'_>,
+    certificate: &Certificate<'_>,
+) -> bool
+    ensures { result ≡ signs (V.accepts verifier.now) (seen_response response.now) (seen_certificate certificate.now) }
+{
+    let key_info = certificate.subject_public_key_info.whole;
+    verifier.judge(
+        response.algorithm,
+        key_info,
+        response.tbs,
+        response.signature,
+    )
+}
+
+/// Whether the response is signed by the issuer itself.
+#[tactic(auto, unfolding(crate::specs::Responder::signs_itself))]
+pub(crate) fn is_by_issuer<V: Verifier>(
+    verifier: &V,
+    issuer: &Certificate<'_>,
+    response: &Response<'_>,
+) -> bool
+    ensures { result ≡ signs_itself (V.accepts verifier.now) (seen_certificate issuer.now) (seen_response response.now) }
+{
+    is_named(&response.responder, issuer) && has_signed(verifier, response, issuer)
+}
+
+/// Whether the issuer issued the certificate.
+fn is_of_issuer<V: Verifier>(
+    verifier: &V,
+    issuer: &Certificate<'_>,
+    certificate: &Certificate<'_>,
+) -> bool
+    ensures { result ≡ is_issued (V.accepts verifier.now) (seen_certificate issuer.now) (seen_certificate certificate.now) }
+{
+    let key_info = issuer.subject_public_key_info.whole;
+    certificate.issuer.matches(&issuer.subject)
+        && verifier.judge(
+            certificate.algorithm,
+            key_info,
+            certificate.tbs,
+            certificate.signature,
+        )
+}
+
+/// Whether one of the purposes is to sign responses.
+fn lists_signing(purposes: &[Oid<'_>]) -> bool
+    ensures { result ≡ list_any is_signing (map oid_contents purposes.now) }
+{
+    purposes.iter().any(|purpose| purpose.is(OCSP_SIGNING))
+}
+
+/// Whether the extensions let the certificate's key sign responses.
+fn may_sign_responses(certificate: &Certificate<'_>) -> bool
+    ensures { result ≡ may_respond (seen_certificate certificate.now) }
+{
+    let extensions = &certificate.extensions;
+    lists_signing(&extensions.purposes)
+        && extensions.no_check
+        && !extensions.needs_policy_processing
+        && extensions.unrecognised.is_empty()
+}
+
+/// Whether the certificate is that of a delegate of the issuer who signed the response.
+#[tactic(auto, unfolding(crate::specs::Responder::is_responder))]
+pub(crate) fn is_by_delegate<V: Verifier>(
+    verifier: &V,
+    issuer: &Certificate<'_>,
+    response: &Response<'_>,
+    certificate: &Certificate<'_>,
+) -> bool
+    ensures { result ≡ is_responder (V.accepts verifier.now) (seen_certificate issuer.now) (seen_response response.now) (seen_certificate certificate.now) }
+{
+    is_named(&response.responder, certificate)
+        && is_of_issuer(verifier, issuer, certificate)
+        && may_sign_responses(certificate)
+        && has_signed(verifier, response, certificate)
+}

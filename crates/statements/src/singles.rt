@@ -1,0 +1,104 @@
+//! What the single responses say of the issuer's certificates (RFC 6960, 4.2.1 and 4.2.2).
+
+ghost use Rattle.std.specs.Prelude.{◌≡◌, IfOk, map};
+ghost use Rattle.cert.specs.Certificate.{seen_certificate};
+ghost use Rattle.facts.specs.Single.{seen_single};
+ghost use Rattle.ocsp.specs.OcspResponse.{seen_response};
+ghost use Rattle.ocsp.specs.Single.{seen_single as seen_response_to};
+ghost use Rattle.statements.specs.OcspFact.{end_of, single_fact, singles_of, speaks_with, status_of, window_of};
+ghost use Rattle.statements.specs.SignerView.{seen_signer};
+
+use crate::responder::hash_of_key;
+use crate::signer::Signer;
+use cert::Certificate;
+use facts::{Single, Status};
+use ocsp::{CertStatus, Response, SingleResponse};
+use std::alloc::{AllocError, Global};
+
+/// id-sha1, 1.3.14.3.2.26
+const SHA_1: &[u8] = b"\x2B\x0E\x03\x02\x1A";
+
+/// For how long a single response counts that does not say until when, in seconds.
+const DAY: i64 = 86_400;
+
+/// Whether the single response speaks of a certificate whose issuer has the key of this hash.
+fn speaks_of_issuer(key_hash: &[u8], single: &SingleResponse<'_>) -> bool
+    ensures { result ≡ speaks_with key_hash.now (seen_response_to single.now) }
+{
+    single.id.hash_algorithm == SHA_1
+        && single.id.issuer_name_hash.len() == 20
+        && single.id.issuer_key_hash == key_hash
+}
+
+/// Until when the single response counts.
+fn end(single: &SingleResponse<'_>) -> i64
+    ensures { result ≡ end_of (seen_response_to single.now) }
+{
+    match single.next_update {
+        Some(next_update) => next_update,
+        None => single.this_update.saturating_add(DAY),
+    }
+}
+
+/// From when and until when it counts, by this signer.
+fn window(signer: &Signer<'_>, single: &SingleResponse<'_>) -> (i64, i64)
+    ensures from { result.0 ≡ (window_of (seen_signer signer.now) (seen_response_to single.now)).from }
+    ensures until { result.1 ≡ (window_of (seen_signer signer.now) (seen_response_to single.now)).until }
+{
+    let (from, until) = (single.this_update, end(single));
+    match signer {
+        Signer::Issuer => (from, until),
+        Signer::Delegate(certificate) => {
+            let validity = certificate.validity;
+            (from.max(validity.not_before), until.min(validity.not_after))
+        }
+    }
+}
+
+/// The status as that of a fact.
+fn status(status: CertStatus) -> Status
+    ensures { result ≡ status_of status }
+{
+    match status {
+        CertStatus::Good => Status::Good,
+        CertStatus::Revoked(reason) => Status::Revoked(reason),
+        CertStatus::Unknown => Status::Unknown,
+    }
+}
+
+/// What a single response says, in a response made at this time by this signer.
+fn said_by<'a>(signer: &Signer<'_>, produced_at: i64, single: &SingleResponse<'a>) -> Single<'a>
+    ensures { seen_single result ≡ single_fact (seen_signer signer.now) produced_at (seen_response_to single.now) }
+{
+    let (from, until) = window(signer, single);
+    Single {
+        name_hash: single.id.issuer_name_hash,
+        serial: single.id.serial,
+        this_update: single.this_update,
+        produced_at,
+        from,
+        until,
+        status: status(single.status),
+    }
+}
+
+/// What the response says of certificates of the issuer, in order.
+pub(crate) fn singles_said<'a>(
+    alloc: Global,
+    issuer: &Certificate<'_>,
+    response: &Response<'a>,
+    signer: &Signer<'_>,
+) -> Result<Vec<Single<'a>>, AllocError>
+    ensures { IfOk result (λ all. map seen_single all.items ≡
+        singles_of (seen_certificate issuer.now) (seen_response response.now) (seen_signer signer.now)) }
+{
+    let key_hash = hash_of_key(issuer);
+    let mut all = Vec::new(alloc);
+    let mut singles = response.responses;
+    while let Some(single) = singles.next() {
+        if speaks_of_issuer(&key_hash, &single) {
+            all.push(said_by(signer, response.produced_at, &single))?;
+        }
+    }
+    Ok(all)
+}
