@@ -1,0 +1,12 @@
+mod Options
+mod StatusLaws
+mod ValidLaws
+mod WordLaws
+mod VerdictLaws
+mod Tests
+mod AgreementLaws
+mod ComparisonLaws
+mod RunLaws
+mod ExamplePath
+mod ExampleLaws
+mod KnownVerdictLaws

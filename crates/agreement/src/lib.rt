@@ -1,0 +1,8 @@
+//! When relying parties agree: the verdict on a path, as a definition, and the laws of it (RFC 5280, 6; RFC 6960, 2 and 3).
+#![tactic(auto)]
+
+mod laws;
+mod verdict;
+
+pub use laws::{agreement_examples, agreement_laws, comparison_laws, run_laws, verdict_laws};
+pub use verdict::{Comparison, Verdict};

@@ -1,0 +1,4 @@
+mod NewestLaws
+mod ComingLaws
+mod Counting
+pub mod Laws
