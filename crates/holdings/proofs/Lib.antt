@@ -1,0 +1,7 @@
+mod Chains
+mod Looking
+mod Nothing
+mod Owning
+mod Listing
+mod Saying
+pub mod HeldLaws

@@ -1,0 +1,4 @@
+pub mod Held
+pub mod LooksUp
+pub mod Creation
+pub mod Laws

@@ -1,0 +1,5 @@
+pub mod Fault
+pub mod Tables
+pub mod Texts
+pub mod Queries
+pub mod Statements
