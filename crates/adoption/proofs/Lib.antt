@@ -1,0 +1,14 @@
+mod Chained
+mod Cells
+mod Ordered
+mod Meaning
+mod Testing
+mod Following
+mod Stores
+mod Typed
+mod Inspecting
+mod Placed
+mod Decoded
+mod Adopting
+mod WithoutScopes
+pub mod Laws

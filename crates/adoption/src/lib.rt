@@ -1,0 +1,20 @@
+//! Stores that begin: tables made in an empty database, and a database read once and taken for a store.
+#![tactic(auto)]
+
+mod cell;
+mod creation;
+mod crl_test;
+mod entry_test;
+mod inspection;
+mod issuer_test;
+mod row_test;
+mod single_test;
+mod unscoped;
+mod unscoped_test;
+mod version_1;
+mod version_test;
+
+pub use creation::create;
+pub use inspection::inspect;
+pub use unscoped::{OwnEntry, UnscopedList, UnscopedLists};
+pub use version_1::read_version_1;

@@ -1,0 +1,4 @@
+mod Old
+mod Beside
+mod Moving
+mod Ending

@@ -1,0 +1,144 @@
+//! Lists of version 1, put in their places as lists for all certificates.
+
+ghost use Rattle.std.specs.Prelude.{◌≡◌, ◌≢◌, ◌<◌, ◌^◌, ◌++◌, ◌∷◌, ℕ, List, [], map, Err, IfOk, OnOk, IsTrue};
+ghost use Rattle.sqlite.specs.Held.{state};
+ghost use Rattle.sqlite.specs.State.{HasCleanDisk};
+ghost use Rattle.facts.specs.declared.scope.Scope.TheVariants.{All};
+ghost use Rattle.facts.specs.Listed.{first_reason, seen_listed};
+ghost use Rattle.tables.specs.Statements.{CommitsNothing};
+ghost use Rattle.rows.specs.Holding.{AreInOrder};
+ghost use Rattle.rows.specs.Seen.{seen_head};
+ghost use Rattle.rows.specs.Steps.{Changes};
+ghost use Rattle.adoption.specs.Seen.{seen_list, seen_own};
+ghost use Rattle.adoption.specs.Version1.{UnscopedCrl, listed_under};
+ghost use Rattle.taking.specs.Lists.{with_list};
+ghost use Rattle.taking.specs.Passing.{Goes};
+ghost use Rattle.migration.specs.Moved.{HasMoved, IsNext};
+
+use adoption::{OwnEntry, UnscopedList, UnscopedLists};
+use asn::Number20;
+use facts::{Listed, RevokedSerials, Scope};
+use rows::{ID_LIMIT, ListKey, replace_crl, replace_entries};
+use sqlite::{Alter, Transaction};
+use std::alloc::{AllocError, Global};
+use tables::StoreFault;
+
+/// The entries of an issuer's list.
+fn entries_of<'a>(
+    alloc: Global,
+    entries: &'a [OwnEntry],
+    issuer: u32,
+) -> Result<Vec<Listed<'a>>, AllocError>
+    ensures { IfOk result (λ listed. map seen_listed listed.items ≡ listed_under (map seen_own entries.now) issuer) }
+{
+    let mut listed = Vec::new(alloc);
+    'each: for entry in entries {
+        if entry.issuer == issuer {
+            listed.push(Listed {
+                serial: entry.serial.as_slice(),
+                reason: entry.reason,
+            })?;
+        }
+    }
+    Ok(listed)
+}
+
+fn revoked_of<'a>(
+    alloc: Global,
+    entries: &'a [OwnEntry],
+    issuer: u32,
+) -> Result<RevokedSerials<'a>, StoreFault>
+    ensures reasons { IfOk result (λ revoked. (serial : List ℕ) → first_reason revoked serial ≡ first_reason (listed_under (map seen_own entries.now) issuer) serial) }
+    ensures memory { result ≢ Err StoreFault.Schema }
+{
+    let listed = match entries_of(alloc, entries, issuer) {
+        Ok(listed) => listed,
+        Err(_) => return Err(StoreFault::Memory),
+    };
+    match RevokedSerials::of_entries(listed) {
+        Ok(revoked) => Ok(revoked),
+        Err(_) => Err(StoreFault::Memory),
+    }
+}
+
+/// A CRL number is below 2^160.
+fn is_numbered(number: Number20)
+    ensures { number < 2 ^ 160 }
+{
+    let _same = Number20::from_octets(number.to_octets());
+}
+
+/// Puts a list, with its entries.
+fn put_revoked<S: Alter>(
+    tx: &mut Transaction<'_, S>,
+    list: &UnscopedList,
+    revoked: &RevokedSerials<'_>,
+) -> Result<(), StoreFault>
+    requires issuer { list.now.issuer < 536870911 }
+    requires inside { HasCleanDisk (state S.Store tx.old.conn.now) → IsTrue (state S.Store tx.old.conn.now).in_transaction }
+    ensures same_reference { tx.new.conn.ghost_name ≡ tx.old.conn.ghost_name }
+    ensures formed { OnOk result (AreInOrder revoked.now) }
+    ensures changes { HasCleanDisk (state S.Store tx.new.conn.now) → Changes (state S.Store tx.old.conn.now) (state S.Store tx.new.conn.now) (with_list list.now.issuer All (seen_head list.now.head) revoked.now) result }
+    ensures survives { CommitsNothing (state S.Store tx.old.conn.now) (state S.Store tx.new.conn.now) }
+{
+    let head = list.head;
+    is_numbered(head.number);
+    let key = ListKey {
+        issuer: list.issuer,
+        scope: Scope::All,
+    };
+    if let Err(fault) = replace_crl(tx, key.issuer, key.scope, &head) {
+        return Err(fault);
+    }
+    match replace_entries(tx, &key, revoked) {
+        Ok(()) => Ok(()),
+        Err(fault) => Err(fault),
+    }
+}
+
+/// Puts a list in its place, with those of the entries that are its.
+fn put_list<S: Alter>(
+    alloc: Global,
+    tx: &mut Transaction<'_, S>,
+    list: &UnscopedList,
+    entries: &[OwnEntry],
+) -> Result<(), StoreFault>
+    requires inside { HasCleanDisk (state S.Store tx.old.conn.now) → IsTrue (state S.Store tx.old.conn.now).in_transaction }
+    ensures same_reference { tx.new.conn.ghost_name ≡ tx.old.conn.ghost_name }
+    ensures puts { HasCleanDisk (state S.Store tx.new.conn.now) → (crls moved : List UnscopedCrl) → IsNext crls moved (seen_list list.now) → Goes (state S.Store tx.old.conn.now) (state S.Store tx.new.conn.now) (HasMoved crls (map seen_own entries.now) moved) (λ done. HasMoved crls (map seen_own entries.now) (moved ++ seen_list list.now ∷ [])) result }
+    ensures survives { CommitsNothing (state S.Store tx.old.conn.now) (state S.Store tx.new.conn.now) }
+{
+    if list.issuer >= ID_LIMIT {
+        return Err(StoreFault::Store);
+    }
+    let revoked = match revoked_of(alloc, entries, list.issuer) {
+        Ok(revoked) => revoked,
+        Err(fault) => return Err(fault),
+    };
+    match put_revoked(tx, list, &revoked) {
+        Ok(()) => Ok(()),
+        Err(fault) => Err(fault),
+    }
+}
+
+/// Puts all lists in their places.
+pub(crate) fn put_lists<S: Alter>(
+    alloc: Global,
+    tx: &mut Transaction<'_, S>,
+    all: &UnscopedLists,
+) -> Result<(), StoreFault>
+    requires inside { HasCleanDisk (state S.Store tx.old.conn.now) → IsTrue (state S.Store tx.old.conn.now).in_transaction }
+    ensures same_reference { tx.new.conn.ghost_name ≡ tx.old.conn.ghost_name }
+    ensures puts { HasCleanDisk (state S.Store tx.new.conn.now) → Goes (state S.Store tx.old.conn.now) (state S.Store tx.new.conn.now) (HasMoved (map seen_list all.now.lists.items) (map seen_own all.now.entries.items) []) (λ done. HasMoved (map seen_list all.now.lists.items) (map seen_own all.now.entries.items) (map seen_list all.now.lists.items)) result }
+    ensures survives { CommitsNothing (state S.Store tx.old.conn.now) (state S.Store tx.new.conn.now) }
+{
+    let lists = all.lists.as_slice();
+    let entries = all.entries.as_slice();
+    'each: for list in lists {
+        match put_list(alloc, tx, list, entries) {
+            Ok(()) => {}
+            Err(fault) => return Err(fault),
+        }
+    }
+    Ok(())
+}

@@ -1,0 +1,5 @@
+mod Ordered
+mod Over
+mod Looking
+mod Again
+mod Reopened

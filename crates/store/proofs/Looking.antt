@@ -1,0 +1,24 @@
+-- A look-up that finds or fails, and the transaction that is dropped.
+use Rattle.std.proofs.Common.{◌≡◌, true, subst, inr}
+use Rattle.sqlite.specs.Store.{Ghosts}
+use Rattle.sqlite.specs.Held.{Held, state}
+use Rattle.sqlite.specs.State.{State, KeepsCommit, IsRolledBack}
+use Rattle.sqlite.proofs.InsideLemmas.{unchanged_keeps, keeps_then}
+use Rattle.facts.specs.Statement.{Holdings}
+use Rattle.tables.specs.declared.fault.StoreFault.{StoreFault}
+use Rattle.tables.specs.declared.fault.StoreFault.TheVariants.{Schema as NotOurs}
+use Rattle.holdings.specs.Held.{IsStoreOf}
+use Rattle.holdings.specs.LooksUp.{FailsIn, IsFoundIn}
+
+pub fails_at : {S : Type 0} (g : Ghosts S) (old begun : Held S) (last new : State) (fault : StoreFault) → begun ≡ record old { in_transaction = true } → FailsIn (state g begun) last fault → IsRolledBack last new
+    → KeepsCommit (state g old) new × (fault ≡ NotOurs → (held : Holdings) → IsStoreOf (state g old).now held → ⊥)
+fails_at g old begun last new fault is fails undone =
+    let h = subst (λ b. FailsIn (state g b) last fault) is fails in
+    (keeps_then (state g old) last new (record { was_open = h.keeps.was_open; committed = h.keeps.committed }) (unchanged_keeps last new (inr undone)), λ ours held it. h.formed ours held it)
+
+pub found_at : {S A : Type 0} (g : Ghosts S) (old begun : Held S) (last new : State) (Is : Holdings → A → Type 0) (found : A)
+    → begun ≡ record old { in_transaction = true } → IsFoundIn (state g begun) last Is found → IsRolledBack last new
+    → KeepsCommit (state g old) new × ((held : Holdings) → IsStoreOf (state g old).now held → Is held found)
+found_at g old begun last new Is found is looks undone =
+    let h = subst (λ b. IsFoundIn (state g b) last Is found) is looks in
+    (keeps_then (state g old) last new (record { was_open = h.keeps.was_open; committed = h.keeps.committed }) (unchanged_keeps last new (inr undone)), λ held it. (h.held held it).1)

@@ -1,0 +1,46 @@
+-- Files that a close gave back, opened and read again.
+use Rattle.std.proofs.Common.{Ok, Err, refl, sym, subst, arith}
+use Rattle.sqlite_disk.specs.declared.Disk.{Ghosts}
+use Rattle.sqlite_disk.specs.declared.Files.{Files}
+use Rattle.sqlite_store.specs.declared.store.FileStore.{FileStore}
+use Rattle.sqlite.specs.Held.{Held}
+use Rattle.sqlite.specs.State.{HasCleanDisk}
+use Rattle.sqlite.specs.Files.{file_state, Finds, IsOpened}
+use Rattle.sqlite.specs.Closing.{IsCopied}
+use Rattle.sqlite.specs.WalReads.{AreClean}
+use Rattle.tables.specs.declared.fault.StoreFault.{StoreFault}
+use Rattle.tables.specs.declared.fault.StoreFault.TheVariants.{Store, Schema, Memory}
+use Rattle.tables.specs.Statements.{CommitsNothing}
+use Rattle.holdings.specs.Held.{IsStoreOf}
+use Rattle.store.specs.Adopts.{Adopts, Reopens, Restarts, FailsToReopen}
+
+module _ {D : Type 0} {g : Ghosts D} (old opened again : Held (FileStore D g)) (files : Files D)
+    (copied : AreClean g files.log files.db → IsCopied old files) (same : Reopens old files)
+    (found : HasCleanDisk (file_state opened) → Finds files opened) (is_opened : HasCleanDisk (file_state opened) → IsOpened opened)
+    (read : CommitsNothing (file_state opened) (file_state again)) where
+  clean_before : HasCleanDisk (file_state again) → HasCleanDisk (file_state opened)
+  clean_before clean = let step = read.clean in omega (arith, step, clean)
+
+  pub restarts : HasCleanDisk (file_state again) → Adopts {A = Unit {0}} (file_state opened) (file_state again) (Ok tt) → Restarts (file_state old) (file_state again)
+  restarts clean adopts =
+      let finds = found (clean_before clean) in
+      let closed = copied finds.honest in
+      record {
+        was_clean = closed.was_clean;
+        was_open = closed.was_open;
+        is_open = adopts.0.0.is_open;
+        holds = λ held it. subst (λ db. IsStoreOf db held) (sym adopts.0.0.now_is) (same opened finds (is_opened (clean_before clean)) held it);
+      }
+
+  pub fails : (fault : StoreFault) → (HasCleanDisk (file_state again) → Adopts {A = Unit {0}} (file_state opened) (file_state again) (Err fault)) → FailsToReopen old fault
+  fails Store adopts = tt
+  fails Memory adopts = tt
+  fails Schema adopts = record {
+    files = files;
+    copied = copied;
+    opened = opened;
+    found = found;
+    again = again;
+    read = read;
+    none = λ clean held it. (adopts clean).1 refl held (same opened (found (clean_before clean)) (is_opened (clean_before clean)) held it);
+  }

@@ -1,0 +1,151 @@
+//! A store over files.
+
+ghost use Rattle.std.specs.Prelude.{◌≡◌, ◌≢◌, ◌⊎◌, false, IfErr, IfOk, IsTrue, option_map};
+ghost use Rattle.sqlite.specs.Files.{file_state};
+ghost use Rattle.sqlite.specs.Closing.{IsCopied};
+ghost use Rattle.sqlite.specs.WalReads.{AreClean};
+ghost use Rattle.sqlite.specs.State.{HasCleanDisk, IsUnchanged, Survives};
+ghost use Rattle.facts.specs.Fact.{facts_in, issuer_of};
+ghost use Rattle.facts.specs.Statement.{Holdings};
+ghost use Rattle.tables.specs.Statements.{CommitsNothing};
+ghost use Rattle.rows.specs.Seen.{seen_said};
+ghost use Rattle.holdings.specs.Held.{IsStoreOf, part_of, seen_crl};
+ghost use Rattle.holdings.specs.Creation.{nothing_held};
+ghost use Rattle.adoption.specs.Creates.{AreTreesOf, IsCreated, IsDurable, IsSettled};
+ghost use Rattle.adoption.specs.Inspects.{IsStore};
+ghost use Rattle.adoption.specs.Version1.{IsVersion1Of, IsVersion1};
+ghost use Rattle.store.specs.Adopts.{FailsToReopen, IsMigratedFrom, LookedUp, Reopens, Restarts};
+ghost use Rattle.taking.specs.Delivery.{CommitsWhole, Puts};
+
+use crate::adopting::{adopt, take_over};
+use crate::look_up::{look_up_crl, look_up_ocsp};
+use crate::reopening::open_again;
+use adoption::create;
+use facts::{Facts, Issuer, Scope};
+use holdings::HeldCrl;
+use newest::Counts;
+use rows::Said;
+use sqlite::{Connection, FileStore, Files};
+use sqlite_disk::Disk;
+use std::alloc::Global;
+use tables::StoreFault;
+use taking::put;
+
+/// A database that is a store, between transactions.
+pub struct Store<D: Disk> {
+    pub conn: Connection<FileStore<D>>,
+    pub ghost idle: { conn.in_transaction ≡ false },
+}
+
+impl<D: Disk + Drop> Drop for Store<D> {
+    fn drop(self) {
+        let Store { conn: _ } = self;
+    }
+}
+
+impl<D: Disk + Drop> Store<D> {
+    /// Makes a store in an empty database. It holds nothing. Where a table stands there already, that is `StoreFault::Store`.
+    pub fn create(mut conn: Connection<FileStore<D>>) -> Result<Store<D>, StoreFault>
+        requires idle { conn.in_transaction ≡ false }
+        ensures created { IfOk result (λ store. HasCleanDisk (file_state store.conn) → IsCreated (file_state conn) (file_state store.conn)) }
+        ensures nothing { IfOk result (λ store. HasCleanDisk (file_state store.conn) → IsStoreOf (file_state store.conn).now nothing_held) }
+        ensures durable { IfOk result (λ store. IsDurable (file_state store.conn)) }
+        ensures crash { IfOk result (λ store. Survives (file_state conn) (file_state store.conn) (AreTreesOf nothing_held)) }
+    {
+        match create(&mut conn) {
+            Ok(()) => Ok(Store { conn }),
+            Err(fault) => Err(fault),
+        }
+    }
+
+    /// Takes a database for a store, and migrates it first where it is of version 1: `StoreFault::Schema` where it is neither.
+    pub fn adopt(alloc: Global, mut conn: Connection<FileStore<D>>) -> Result<Store<D>, StoreFault>
+        requires idle { conn.in_transaction ≡ false }
+        ensures was { IfOk result (λ store. HasCleanDisk (file_state store.conn) → IsStore (file_state conn).now ⊎ IsVersion1 (file_state conn).now) }
+        ensures unchanged { IfOk result (λ store. HasCleanDisk (file_state store.conn) → IsStore (file_state conn).now → IsUnchanged (file_state conn) (file_state store.conn)) }
+        ensures migrated { IfOk result (λ store. HasCleanDisk (file_state store.conn) → (held : Holdings) → IsVersion1Of (file_state conn).now held → IsStoreOf (file_state store.conn).now held) }
+        ensures store { IfOk result (λ store. HasCleanDisk (file_state store.conn) → IsStore (file_state store.conn).now) }
+        ensures durable { IfOk result (λ store. IsDurable (file_state store.conn)) }
+        ensures crash { IfOk result (λ store. Survives (file_state conn) (file_state store.conn) (IsMigratedFrom (file_state conn))) }
+    {
+        match take_over(alloc, &mut conn) {
+            Ok(()) => Ok(Store { conn }),
+            Err(fault) => Err(fault),
+        }
+    }
+
+    /// Puts all facts of a statement into the store, in order and in one transaction: in each slot the newest is held then. The
+    /// facts are counted: stored, kept out, or contradicting what is held. Where a fault is answered, what is held is as it was.
+    pub fn put(&mut self, facts: &Facts<'_>) -> Result<Counts, StoreFault>
+        ensures puts { HasCleanDisk (file_state self.new.conn) → Puts (file_state self.old.conn) (file_state self.new.conn) (facts_in facts.now) result }
+        ensures survives { Survives (file_state self.old.conn) (file_state self.new.conn) (CommitsWhole (file_state self.old.conn) (facts_in facts.now)) }
+    {
+        put(&mut self.conn, facts)
+    }
+
+    /// What is held in the slot of an issuer and a scope: the list's number and window, and its reason for one serial number.
+    pub fn crl(
+        &mut self,
+        issuer: &Issuer<'_>,
+        scope: Scope,
+        serial: &[u8],
+    ) -> Result<Option<HeldCrl>, StoreFault>
+        ensures looks_up { HasCleanDisk (file_state self.new.conn) → LookedUp (file_state self.old.conn) (file_state self.new.conn) (λ held crl. option_map seen_crl crl ≡ option_map (part_of serial.now) (held.crl (record { issuer = issuer_of issuer.now; scope = scope }))) result }
+        ensures durable { IsDurable (file_state self.new.conn) }
+        ensures survives { CommitsNothing (file_state self.old.conn) (file_state self.new.conn) }
+    {
+        look_up_crl(&mut self.conn, issuer, scope, serial)
+    }
+
+    /// What is held of one certificate of an issuer: the hash of the issuer's name, as the certificate spells it, and the contents
+    /// octets of its serial number.
+    pub fn ocsp<'x>(
+        &mut self,
+        issuer: &Issuer<'_>,
+        name_hash: &'x [u8],
+        serial: &'x [u8],
+    ) -> Result<Option<Said>, StoreFault>
+        ensures looks_up { HasCleanDisk (file_state self.new.conn) → LookedUp (file_state self.old.conn) (file_state self.new.conn) (λ held said. option_map seen_said said ≡ held.ocsp (record { issuer = issuer_of issuer.now; name_hash = name_hash.now; serial = serial.now })) result }
+        ensures durable { IsDurable (file_state self.new.conn) }
+        ensures survives { CommitsNothing (file_state self.old.conn) (file_state self.new.conn) }
+    {
+        look_up_ocsp(&mut self.conn, issuer, name_hash, serial)
+    }
+
+    /// Closes the store: the database file then has all that is held, and a connection that is opened on the files is the same store.
+    pub fn into_files(self) -> Result<Files<D>, StoreFault>
+        ensures usable { IfOk result (λ files. IsTrue (D.Disk.is_usable files.log) × IsTrue (D.Disk.is_usable files.db)) }
+        ensures copied { IfOk result (λ files. AreClean D.Disk files.log files.db → IsCopied self.conn files) }
+        ensures reopens { IfOk result (Reopens self.conn) }
+        ensures fault { IfErr result (λ fault. fault ≢ StoreFault.Schema) }
+    {
+        let Store { conn } = self;
+        let _settled = conn.is_autocommit();
+        match conn.close_files() {
+            Ok(files) => Ok(files),
+            Err((error, store)) => {
+                drop(store.close());
+                Err(StoreFault::from(error))
+            }
+        }
+    }
+
+    /// Closes the store's files and takes them for a store again.
+    pub fn reopen(self, alloc: Global) -> Result<Store<D>, StoreFault>
+        ensures restarts { IfOk result (λ store. HasCleanDisk (file_state store.conn) → Restarts (file_state self.conn) (file_state store.conn)) }
+        ensures durable { IfOk result (λ store. IsDurable (file_state store.conn)) }
+        ensures fails { IfErr result (FailsToReopen self.conn) }
+    {
+        let mut conn = match self.into_files() {
+            Ok(files) => match open_again(alloc, files) {
+                Ok(conn) => conn,
+                Err(fault) => return Err(fault),
+            },
+            Err(fault) => return Err(fault),
+        };
+        if let Err(fault) = adopt(&mut conn) {
+            return Err(fault);
+        }
+        Ok(Store { conn })
+    }
+}

@@ -1,0 +1,94 @@
+//! Look-ups, in a transaction that is dropped.
+
+ghost use Rattle.std.specs.Prelude.{◌≡◌, false, option_map};
+ghost use Rattle.sqlite.specs.Held.{state};
+ghost use Rattle.sqlite.specs.State.{HasCleanDisk};
+ghost use Rattle.facts.specs.Fact.{issuer_of};
+ghost use Rattle.tables.specs.Statements.{CommitsNothing};
+ghost use Rattle.rows.specs.Seen.{seen_said};
+ghost use Rattle.holdings.specs.Held.{part_of, seen_crl};
+ghost use Rattle.adoption.specs.Creates.{IsDurable, IsSettled};
+ghost use Rattle.store.specs.Adopts.{LooksAt, LookedUp};
+
+use facts::{Issuer, Scope};
+use holdings::{HeldCrl, crl, ocsp};
+use rows::Said;
+use sqlite::{Alter, Connection};
+use tables::StoreFault;
+
+fn crl_in_transaction<S: Alter>(
+    conn: &mut Connection<S>,
+    issuer: &Issuer<'_>,
+    scope: Scope,
+    serial: &[u8],
+) -> Result<Option<HeldCrl>, StoreFault>
+    requires idle { conn.old.in_transaction ≡ false }
+    ensures idle { conn.new.in_transaction ≡ false }
+    ensures looks_at { HasCleanDisk (state S.Store conn.new) → LooksAt (state S.Store conn.old) (state S.Store conn.new) (λ held crl. option_map seen_crl crl ≡ option_map (part_of serial.now) (held.crl (record { issuer = issuer_of issuer.now; scope = scope }))) result }
+    ensures survives { CommitsNothing (state S.Store conn.old) (state S.Store conn.new) }
+{
+    let mut tx = conn.transaction();
+    match crl(&mut tx, issuer, scope, serial) {
+        Ok(held) => Ok(held),
+        Err(fault) => Err(fault),
+    }
+}
+
+/// What is held in the slot of an issuer and a scope: the list's number and window, and its reason for one serial number.
+pub fn look_up_crl<S: Alter>(
+    conn: &mut Connection<S>,
+    issuer: &Issuer<'_>,
+    scope: Scope,
+    serial: &[u8],
+) -> Result<Option<HeldCrl>, StoreFault>
+    requires idle { conn.old.in_transaction ≡ false }
+    ensures idle { conn.new.in_transaction ≡ false }
+    ensures looks_up { HasCleanDisk (state S.Store conn.new) → LookedUp (state S.Store conn.old) (state S.Store conn.new) (λ held crl. option_map seen_crl crl ≡ option_map (part_of serial.now) (held.crl (record { issuer = issuer_of issuer.now; scope = scope }))) result }
+    ensures settled { IsSettled (state S.Store conn.old) × IsSettled (state S.Store conn.new) }
+    ensures durable { IsDurable (state S.Store conn.new) }
+    ensures survives { CommitsNothing (state S.Store conn.old) (state S.Store conn.new) }
+{
+    let _before = conn.is_autocommit();
+    let held = crl_in_transaction(conn, issuer, scope, serial);
+    let _after = conn.is_autocommit();
+    held
+}
+
+fn ocsp_in_transaction<'x, S: Alter>(
+    conn: &mut Connection<S>,
+    issuer: &Issuer<'_>,
+    name_hash: &'x [u8],
+    serial: &'x [u8],
+) -> Result<Option<Said>, StoreFault>
+    requires idle { conn.old.in_transaction ≡ false }
+    ensures idle { conn.new.in_transaction ≡ false }
+    ensures looks_at { HasCleanDisk (state S.Store conn.new) → LooksAt (state S.Store conn.old) (state S.Store conn.new) (λ held said. option_map seen_said said ≡ held.ocsp (record { issuer = issuer_of issuer.now; name_hash = name_hash.now; serial = serial.now })) result }
+    ensures survives { CommitsNothing (state S.Store conn.old) (state S.Store conn.new) }
+{
+    let mut tx = conn.transaction();
+    match ocsp(&mut tx, issuer, name_hash, serial) {
+        Ok(said) => Ok(said),
+        Err(fault) => Err(fault),
+    }
+}
+
+/// What is held of one certificate of an issuer: the hash of the issuer's name, as the certificate spells it, and the contents
+/// octets of its serial number.
+pub fn look_up_ocsp<'x, S: Alter>(
+    conn: &mut Connection<S>,
+    issuer: &Issuer<'_>,
+    name_hash: &'x [u8],
+    serial: &'x [u8],
+) -> Result<Option<Said>, StoreFault>
+    requires idle { conn.old.in_transaction ≡ false }
+    ensures idle { conn.new.in_transaction ≡ false }
+    ensures looks_up { HasCleanDisk (state S.Store conn.new) → LookedUp (state S.Store conn.old) (state S.Store conn.new) (λ held said. option_map seen_said said ≡ held.ocsp (record { issuer = issuer_of issuer.now; name_hash = name_hash.now; serial = serial.now })) result }
+    ensures settled { IsSettled (state S.Store conn.old) × IsSettled (state S.Store conn.new) }
+    ensures durable { IsDurable (state S.Store conn.new) }
+    ensures survives { CommitsNothing (state S.Store conn.old) (state S.Store conn.new) }
+{
+    let _before = conn.is_autocommit();
+    let said = ocsp_in_transaction(conn, issuer, name_hash, serial);
+    let _after = conn.is_autocommit();
+    said
+}

@@ -1,0 +1,44 @@
+//! Stores at paths.
+
+ghost use Rattle.std.specs.Prelude.{IfOk};
+ghost use Rattle.sqlite.specs.Files.{file_state};
+ghost use Rattle.sqlite.specs.State.{HasCleanDisk};
+ghost use Rattle.holdings.specs.Held.{IsStoreOf};
+ghost use Rattle.holdings.specs.Creation.{nothing_held};
+ghost use Rattle.adoption.specs.Inspects.{IsStore};
+
+use crate::handle::Store;
+use sqlite::Connection;
+use sqlite_std_file::File;
+use std::fs;
+use std::rt::HostRuntime;
+use tables::StoreFault;
+
+impl Store<File> {
+    /// Takes the file at a path for a store, and migrates it first where it is of version 1: `StoreFault::Store` where there is none or it
+    /// is no database, `StoreFault::Schema` where it is no store.
+    pub fn open(rt: &HostRuntime, path: &str) -> Result<Store<File>, StoreFault>
+        ensures store { IfOk result (λ store. HasCleanDisk (file_state store.conn) → IsStore (file_state store.conn).now) }
+    {
+        if fs::open(rt, path).is_err() {
+            return Err(StoreFault::Store);
+        }
+        match Connection::open(rt, path) {
+            Ok(conn) => Store::adopt(rt.alloc(), conn),
+            Err(error) => Err(StoreFault::from(error)),
+        }
+    }
+
+    /// Makes a store at a path, which holds nothing: `StoreFault::Store` where a file is there.
+    pub fn make(rt: &HostRuntime, path: &str) -> Result<Store<File>, StoreFault>
+        ensures store { IfOk result (λ store. HasCleanDisk (file_state store.conn) → IsStoreOf (file_state store.conn).now nothing_held) }
+    {
+        if fs::open(rt, path).is_ok() {
+            return Err(StoreFault::Store);
+        }
+        match Connection::open(rt, path) {
+            Ok(conn) => Store::create(conn),
+            Err(error) => Err(StoreFault::from(error)),
+        }
+    }
+}

@@ -1,0 +1,31 @@
+//! Files of a store that are opened again.
+
+ghost use Rattle.std.specs.Prelude.{◌≡◌, ◌≢◌, false, IfErr, IfOk, IsTrue};
+ghost use Rattle.sqlite.specs.Files.{file_state, Finds, IsOpened};
+ghost use Rattle.sqlite.specs.State.{HasCleanDisk};
+
+use sqlite::{Connection, FileStore, Files, Options};
+use sqlite_disk::Disk;
+use std::alloc::Global;
+use tables::StoreFault;
+
+/// Where the salts of the log begin. A close leaves an empty log, so they need not differ from those before.
+const SEED: u64 = 0;
+
+/// Opens the files that a close gave back.
+pub(crate) fn open_again<D: Disk + Drop>(
+    alloc: Global,
+    files: Files<D>,
+) -> Result<Connection<FileStore<D>>, StoreFault>
+    requires log { IsTrue (D.Disk.is_usable files.log) }
+    requires db { IsTrue (D.Disk.is_usable files.db) }
+    ensures idle { IfOk result (λ conn. conn.in_transaction ≡ false) }
+    ensures opened { IfOk result (λ conn. HasCleanDisk (file_state conn) → IsOpened conn) }
+    ensures found { IfOk result (λ conn. HasCleanDisk (file_state conn) → Finds files conn) }
+    ensures fault { IfErr result (λ fault. fault ≢ StoreFault.Schema) }
+{
+    match Connection::open_files(alloc, files, Options::new(SEED)) {
+        Ok(conn) => Ok(conn),
+        Err((error, _left)) => Err(StoreFault::from(error)),
+    }
+}

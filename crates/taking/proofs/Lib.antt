@@ -1,0 +1,7 @@
+mod Chains
+mod Forms
+mod Issuing
+mod Outcomes
+mod Storing
+mod Deliveries
+pub mod Laws

@@ -1,0 +1,4 @@
+pub mod Passing
+pub mod Lists
+pub mod Taking
+pub mod Delivery
