@@ -1,0 +1,5 @@
+mod Answering
+mod Chains
+mod Differing
+mod Reading
+mod Links
