@@ -1,0 +1,4 @@
+mod Happening
+mod Looking
+mod Progress
+mod Agreeing

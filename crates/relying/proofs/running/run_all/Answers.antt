@@ -1,0 +1,22 @@
+use Rattle.std.proofs.Common.{◌∙◌, ap, arith}
+use Rattle.relying.proofs.Progress.{one_further, stops_at, all_done}
+use Rattle.relying.proofs.running.run_all.Goals as goal
+
+pub returns-in-Err-clause-stops : goal.returns-in-Err-clause-stops
+returns-in-Err-clause-stops g c =
+    let l = c.loop-index.invariant in
+    stops_at _ c.args.events.now c.loop-index.index _ c.loop-index.answers.items c.args.node.store.conn c.loop-index.node.store.conn c.in-Err.fault c.loop-index-test.true l.4 c.in-Err.ensures.fails.0 c.in-Err.ensures.fails.1
+
+pub loop-index-preserved : goal.loop-index-preserved
+loop-index-preserved g c =
+    let l = c.loop-index.invariant in (
+      c.in-Ok.ensures.verifier ∙ l.0,
+      omega (arith, l.1, c.take_event.ensures.len),
+      omega (arith, l.2, c.take_event.ensures.capacity),
+      λ clean. l.3 (c.in-Ok.ensures.clean clean),
+      λ clean. one_further (g.V.Verifier.accepts c.args.node.verifier) c.args.events.now c.loop-index.index _ c.loop-index.answers.items c.take_event.new.answers.items _ _ _ (g.V.Verifier.accepts c.loop-index.node.verifier)
+          c.loop-index-test.true (l.4 (c.in-Ok.ensures.clean clean)) (ap g.V.Verifier.accepts l.0) (c.in-Ok.ensures.happens clean),
+    )
+
+pub returns-clause-ran : goal.returns-clause-ran
+returns-clause-ran g c clean = all_done _ c.args.events.now c.loop-index.index c.loop-index.answers.items _ _ (omega arith) (c.loop-index.invariant.4 clean)

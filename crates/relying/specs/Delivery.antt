@@ -1,0 +1,53 @@
+-- How a delivery is answered, and what it does to the database.
+use Rattle.std.specs.Prelude.{◌≡◌, ℕ, List, Result, Ok, Err}
+use Rattle.sqlite.specs.State.{State}
+use Rattle.cert.specs.declared.fault.CertRule.{CertRule}
+use Rattle.cert.specs.Certificate.{Certificate, certificate}
+use Rattle.cert.specs.Fault.{FailsUnlessFull as CertificateFails}
+use Rattle.facts.specs.Fact.{Fact}
+use Rattle.revocation.specs.declared.fault.StatementFault.{StatementFault}
+use Rattle.statements.specs.Genuine.{Accepts, FailsUnlessFull}
+use Rattle.statements.specs.OcspFact.{genuine_statement}
+use Rattle.newest.specs.declared.counts.Counts.{Counts}
+use Rattle.store.specs.Adopts.{Keeps}
+use Rattle.taking.specs.Delivery.{Delivers, GivesUp}
+use Rattle.relying.specs.declared.fault.DeliverFault.{DeliverFault}
+use Rattle.relying.specs.declared.fault.DeliverFault.TheVariants.{Issuer, Statement, Store}
+
+-- The fault is that of the statement, which says these facts or is refused; or the statement is genuine, and the fault is that of
+-- the store.
+abbrev pub IsReasonUnder : Result (List Fact) StatementFault → DeliverFault → Type 0
+IsReasonUnder said (Issuer fault) = ⊥
+IsReasonUnder said (Statement fault) = FailsUnlessFull fault said
+IsReasonUnder said (Store fault) = (facts : List Fact) × (said ≡ Ok facts)
+
+-- the same, or it is that of the issuer's certificate; where both are refused it is that of the certificate
+abbrev pub IsReasonOf : (Certificate → Result (List Fact) StatementFault) → Result Certificate (CertRule × ℕ) → DeliverFault → Type 0
+IsReasonOf said read (Issuer fault) = CertificateFails fault read
+IsReasonOf said read (Statement fault) = (issuer : Certificate) × (read ≡ Ok issuer) × IsReasonUnder (said issuer) (Statement fault)
+IsReasonOf said read (Store fault) = (issuer : Certificate) × (read ≡ Ok issuer) × IsReasonUnder (said issuer) (Store fault)
+
+-- why a delivery takes nothing
+abbrev pub IsReason : Accepts → List ℕ → List ℕ → DeliverFault → Type 0
+IsReason accepts issuer statement fault = IsReasonOf (λ by. genuine_statement accepts by statement) (certificate issuer) fault
+
+-- the issuer's certificate is one, and the statement is genuine under it and says these facts
+pub record Says (accepts : Accepts) (issuer statement : List ℕ) (facts : List Fact) : Type 0 where
+  pub by : Certificate
+  pub by_is : certificate issuer ≡ Ok by
+  pub said : genuine_statement accepts by statement ≡ Ok facts
+
+-- what becomes of the database: after a fault that is not the store's it is as it was
+abbrev pub Leaves : State → State → DeliverFault → Type 0
+Leaves old new (Store fault) = GivesUp old new fault
+Leaves old new fault = Keeps old new
+
+abbrev pub IsAnswered : Accepts → List ℕ → List ℕ → State → State → Result Counts DeliverFault → Type 0
+IsAnswered accepts issuer statement old new (Ok counts) = (facts : List Fact) × Says accepts issuer statement facts × Delivers old new facts counts
+IsAnswered accepts issuer statement old new (Err fault) = IsReason accepts issuer statement fault × Leaves old new fault
+
+-- ---- on the way
+
+abbrev pub IsAnsweredUnder : Result (List Fact) StatementFault → State → State → Result Counts DeliverFault → Type 0
+IsAnsweredUnder said old new (Ok counts) = (facts : List Fact) × (said ≡ Ok facts) × Delivers old new facts counts
+IsAnsweredUnder said old new (Err fault) = IsReasonUnder said fault × Leaves old new fault

@@ -1,0 +1,6 @@
+pub mod Delivery
+pub mod Asking
+pub mod Restart
+pub mod Run
+pub mod Stopping
+pub mod Never

@@ -1,0 +1,19 @@
+-- Two parties that agree.
+use Rattle.std.specs.Prelude.{◌≡◌, Result, IfOk}
+use Rattle.sqlite.specs.State.{State}
+use Rattle.facts.specs.Statement.{Holdings}
+use Rattle.holdings.specs.Held.{IsStoreOf}
+use Rattle.path.specs.Query.{Query, Accepts}
+use Rattle.agreement.specs.declared.verdict.Comparison.{Comparison}
+use Rattle.agreement.specs.declared.verdict.Comparison.TheVariants.{Same}
+use Rattle.agreement.specs.declared.verdict.Verdict.{Verdict}
+use Rattle.agreement.specs.Agreement.{HeldAreConsistent, HoldSameNewest}
+use Rattle.agreement.specs.Verdict.{IsVerdict}
+use Rattle.verdicts.specs.declared.fault.Fault.{Fault}
+
+-- Where both hold the same newest for every certificate of the path, and what they hold of it is consistent, the answer is that the
+-- verdicts are the same, or a fault.
+abbrev pub NeverDiffer : Accepts → Query → State → State → Result Comparison Fault → Type 0
+NeverDiffer accepts query one other result =
+    (held others : Holdings) → IsStoreOf one.now held → IsStoreOf other.now others → HeldAreConsistent query held others →
+    HoldSameNewest query held others → IfOk result (λ answer. (v : Verdict) × IsVerdict accepts query held v × (answer ≡ Same v))

@@ -1,0 +1,94 @@
+-- What events do to a relying party, one after the other.
+use Rattle.std.specs.Prelude.{◌≡◌, ◌≢◌, ℕ, List, [], ◌∷◌, ◌++◌, map, slice_get, take, Some, Result, Ok, Err, IsTrue}
+use Rattle.sqlite_disk.specs.declared.Disk.{Ghosts}
+use Rattle.sqlite_store.specs.declared.store.FileStore.{FileStore}
+use Rattle.sqlite.specs.Held.{Held}
+use Rattle.sqlite.specs.Files.{file_state}
+use Rattle.sqlite.specs.State.{State, HasCleanDisk}
+use Rattle.facts.specs.Fact.{Fact}
+use Rattle.facts.specs.Statement.{Holdings}
+use Rattle.tables.specs.declared.fault.StoreFault.TheVariants.{Schema as NotOurs}
+use Rattle.holdings.specs.Held.{IsStoreOf}
+use Rattle.newest.specs.declared.counts.Counts.{Counts}
+use Rattle.newest.specs.Coming.{after_all, AreCounts}
+use Rattle.path.specs.Query.{Accepts}
+use Rattle.agreement.specs.Run.{Event, Answer, facts_taken, genuine_facts, HasRun}
+use Rattle.relying.specs.declared.events.Event as said
+use Rattle.relying.specs.declared.fault.DeliverFault.{DeliverFault}
+use Rattle.relying.specs.declared.fault.DeliverFault.TheVariants.{Store}
+use Rattle.relying.specs.Delivery.{IsReason, Says}
+use Rattle.relying.specs.Restart.{FailsToRestart}
+use Rattle.verdicts.specs.declared.fault.Fault.{Fault}
+
+abbrev pub seen_event : said.Event → Event
+seen_event (said.TheVariants.Deliver issuer statement) = Event.Deliver issuer.now statement.now
+seen_event said.TheVariants.Restart = Event.Restart
+
+abbrev pub seen_answer : Result Counts DeliverFault → Answer
+seen_answer (Ok counts) = Answer.Taken
+seen_answer (Err fault) = Answer.Refused
+
+-- A delivery at a party that holds this, its answer, and what is held next: all facts of a genuine statement are taken, and counted
+-- so; or nothing is, for the reason that is told, which is never the form of the store's rows.
+abbrev pub Takes : Accepts → List ℕ → List ℕ → Holdings → Holdings → Result Counts DeliverFault → Type 0
+Takes accepts issuer statement held next (Ok counts) =
+    (facts : List Fact) × Says accepts issuer statement facts × AreCounts held facts counts × (next ≡ after_all held facts)
+Takes accepts issuer statement held next (Err fault) =
+    IsReason accepts issuer statement fault × (fault ≢ Store NotOurs) × (next ≡ held)
+
+-- one event after another, with the answers to the deliveries in order; a restart leaves what is held
+abbrev pub Runs : Accepts → List Event → List (Result Counts DeliverFault) → Holdings → Holdings → Type 0
+Runs accepts [] [] start held = held ≡ start
+Runs accepts [] (answer ∷ answers) start held = ⊥
+Runs accepts (Event.Restart ∷ events) answers start held = Runs accepts events answers start held
+Runs accepts (Event.Deliver issuer statement ∷ events) [] start held = ⊥
+Runs accepts (Event.Deliver issuer statement ∷ events) (answer ∷ answers) start held =
+    (next : Holdings) × Takes accepts issuer statement start next answer × Runs accepts events answers next held
+
+-- What the store holds after a run is what the events make of what it held before: of each slot the newest of what was held and of
+-- what was taken.
+pub record HasEnded (accepts : Accepts) (events : List Event) (answers : List (Result Counts DeliverFault)) (start : Holdings) (new : State) : Type 0 where
+  pub held : Holdings
+  pub store : IsStoreOf new.now held
+  pub runs : Runs accepts events answers start held
+  pub newest :
+      HasRun genuine_facts events (map seen_answer answers)
+      (record { accepts = accepts; start = start; taken = facts_taken genuine_facts accepts events (map seen_answer answers); held = held })
+
+-- Where the connection is open in the end it was from the start, and the run has ended so.
+pub record Ran (accepts : Accepts) (events : List Event) (answers : List (Result Counts DeliverFault)) (old new : State) : Type 0 where
+  pub was_open : IsTrue new.is_open → IsTrue old.is_open
+  pub ended : IsTrue new.is_open → (start : Holdings) → IsStoreOf old.now start → HasEnded accepts events answers start new
+
+-- ---- on the way
+
+-- the same of the events so far
+pub record RanSoFar (accepts : Accepts) (events : List Event) (answers : List (Result Counts DeliverFault)) (old new : State) : Type 0 where
+  pub was_open : IsTrue new.is_open → IsTrue old.is_open
+  pub so_far :
+      IsTrue new.is_open → (start : Holdings) → IsStoreOf old.now start →
+      (held : Holdings) × IsStoreOf new.now held × Runs accepts events answers start held
+
+-- the same of one event, with the answer that it adds, or none
+pub record HasHappened (accepts : Accepts) (event : Event) (before after : List (Result Counts DeliverFault)) (old new : State) : Type 0 where
+  pub added : List (Result Counts DeliverFault)
+  pub after_is : after ≡ before ++ added
+  pub ran : RanSoFar accepts (event ∷ []) added old new
+
+-- A restart that fails, behind so many events, which ran so.
+pub record StopsAt {D : Type 0} {g : Ghosts D} (accepts : Accepts) (events : List Event) (done : ℕ) (old : Held (FileStore D g)) (fault : Fault) : Type 0 where
+  pub at : slice_get events done ≡ Some Event.Restart
+  pub last : Held (FileStore D g)
+  pub answers : List (Result Counts DeliverFault)
+  pub so_far : HasCleanDisk (file_state last) → RanSoFar accepts (take done events) answers (file_state old) (file_state last)
+  pub fails : FailsToRestart last fault
+
+-- ---- laws
+
+-- events that run so have run in the sense of agreement
+abbrev pub RunsAreRuns : Type 0
+RunsAreRuns =
+    (accepts : Accepts) (events : List Event) (answers : List (Result Counts DeliverFault)) (start held : Holdings) →
+    Runs accepts events answers start held →
+    HasRun genuine_facts events (map seen_answer answers)
+    (record { accepts = accepts; start = start; taken = facts_taken genuine_facts accepts events (map seen_answer answers); held = held })

@@ -1,0 +1,122 @@
+//! Comparisons, in two transactions that are dropped.
+
+ghost use Rattle.std.specs.Prelude.{◌≡◌, false};
+ghost use Rattle.sqlite.specs.Held.{state};
+ghost use Rattle.sqlite.specs.Files.{file_state};
+ghost use Rattle.sqlite.specs.State.{HasCleanDisk};
+ghost use Rattle.adoption.specs.Creates.{IsDurable, IsSettled};
+ghost use Rattle.agreement.specs.Comparison.{IsComparison};
+ghost use Rattle.tables.specs.Statements.{CommitsNothing};
+ghost use Rattle.relying.specs.Asking.{LooksAtBoth, LooksInsideBoth};
+ghost use Rattle.relying.specs.Never.{NeverDiffer};
+ghost use Rattle.verdicts.specs.View.{seen_query};
+
+use crate::node::Node;
+use agreement::comparison_laws;
+use sqlite::{Alter, Connection, FileStore};
+use sqlite_disk::Disk;
+use std::alloc::Global;
+use verdicts::{Comparison, Fault, Query};
+use verifiers::Verifier;
+
+fn compare_in_transactions<V: Verifier, S: Alter, D: Alter>(
+    alloc: Global,
+    verifier: &V,
+    one: &mut Connection<S>,
+    other: &mut Connection<D>,
+    query: &Query<'_>,
+) -> Result<Comparison, Fault>
+    requires idle { one.old.in_transaction ≡ false }
+    requires other_idle { other.old.in_transaction ≡ false }
+    ensures idle { one.new.in_transaction ≡ false }
+    ensures other_idle { other.new.in_transaction ≡ false }
+    ensures looks { HasCleanDisk (state S.Store one.new) → HasCleanDisk (state D.Store other.new) → LooksInsideBoth (state S.Store one.old) (state S.Store one.new) (state D.Store other.old) (state D.Store other.new) (λ held others. IsComparison (V.accepts verifier.now) (seen_query query.now) held others) result }
+    ensures survives { CommitsNothing (state S.Store one.old) (state S.Store one.new) }
+    ensures other_survives { CommitsNothing (state D.Store other.old) (state D.Store other.new) }
+{
+    let mut first = one.transaction();
+    let mut second = other.transaction();
+    match verdicts::compare(alloc, verifier, &mut first, &mut second, query) {
+        Ok(comparison) => Ok(comparison),
+        Err(fault) => Err(fault),
+    }
+}
+
+/// The comparison of the verdicts on a path by what two stores hold.
+fn compare_stores<V: Verifier, S: Alter, D: Alter>(
+    alloc: Global,
+    verifier: &V,
+    one: &mut Connection<S>,
+    other: &mut Connection<D>,
+    query: &Query<'_>,
+) -> Result<Comparison, Fault>
+    requires idle { one.old.in_transaction ≡ false }
+    requires other_idle { other.old.in_transaction ≡ false }
+    ensures idle { one.new.in_transaction ≡ false }
+    ensures other_idle { other.new.in_transaction ≡ false }
+    ensures looks { HasCleanDisk (state S.Store one.new) → HasCleanDisk (state D.Store other.new) → LooksAtBoth (state S.Store one.old) (state S.Store one.new) (state D.Store other.old) (state D.Store other.new) (λ held others. IsComparison (V.accepts verifier.now) (seen_query query.now) held others) result }
+    ensures settled { IsSettled (state S.Store one.old) × IsSettled (state S.Store one.new) }
+    ensures other_settled { IsSettled (state D.Store other.old) × IsSettled (state D.Store other.new) }
+    ensures durable { IsDurable (state S.Store one.new) }
+    ensures other_durable { IsDurable (state D.Store other.new) }
+    ensures survives { CommitsNothing (state S.Store one.old) (state S.Store one.new) }
+    ensures other_survives { CommitsNothing (state D.Store other.old) (state D.Store other.new) }
+{
+    let _before = one.is_autocommit();
+    let _other_before = other.is_autocommit();
+    let found = compare_in_transactions(alloc, verifier, one, other, query);
+    let _after = one.is_autocommit();
+    let _other_after = other.is_autocommit();
+    found
+}
+
+/// The same of a store and one over files.
+fn compare_with_files<V: Verifier, S: Alter, D: Disk + Drop>(
+    alloc: Global,
+    verifier: &V,
+    one: &mut Connection<S>,
+    other: &mut Connection<FileStore<D>>,
+    query: &Query<'_>,
+) -> Result<Comparison, Fault>
+    requires idle { one.old.in_transaction ≡ false }
+    requires other_idle { other.old.in_transaction ≡ false }
+    ensures idle { one.new.in_transaction ≡ false }
+    ensures other_idle { other.new.in_transaction ≡ false }
+    ensures looks { HasCleanDisk (state S.Store one.new) → HasCleanDisk (file_state other.new) → LooksAtBoth (state S.Store one.old) (state S.Store one.new) (file_state other.old) (file_state other.new) (λ held others. IsComparison (V.accepts verifier.now) (seen_query query.now) held others) result }
+    ensures settled { IsSettled (state S.Store one.old) × IsSettled (state S.Store one.new) }
+    ensures other_settled { IsSettled (file_state other.old) × IsSettled (file_state other.new) }
+    ensures durable { IsDurable (state S.Store one.new) }
+    ensures other_durable { IsDurable (file_state other.new) }
+    ensures survives { CommitsNothing (state S.Store one.old) (state S.Store one.new) }
+    ensures other_survives { CommitsNothing (file_state other.old) (file_state other.new) }
+{
+    compare_stores(alloc, verifier, one, other, query)
+}
+
+/// The comparison of the verdicts of two parties on a path. Both judge signatures by one relation, which the caller has to know of
+/// their verifiers. Where the path does not meet the conditions on it, neither store is asked. That the two differ is never
+/// answered where what they hold of the path is consistent and they hold the same newest.
+pub fn compare<V: Verifier + Drop, D: Disk + Drop>(
+    alloc: Global,
+    one: &mut Node<V, D>,
+    other: &mut Node<V, D>,
+    query: &Query<'_>,
+) -> Result<Comparison, Fault>
+    requires one_relation { V.accepts one.old.verifier ≡ V.accepts other.old.verifier }
+    ensures verifiers { (one.new.verifier ≡ one.old.verifier) × (other.new.verifier ≡ other.old.verifier) }
+    ensures looks { HasCleanDisk (file_state one.new.store.conn) → HasCleanDisk (file_state other.new.store.conn) → LooksAtBoth (file_state one.old.store.conn) (file_state one.new.store.conn) (file_state other.old.store.conn) (file_state other.new.store.conn) (λ held others. IsComparison (V.accepts one.old.verifier) (seen_query query.now) held others) result }
+    ensures never { HasCleanDisk (file_state one.new.store.conn) → HasCleanDisk (file_state other.new.store.conn) → NeverDiffer (V.accepts one.old.verifier) (seen_query query.now) (file_state one.old.store.conn) (file_state other.old.store.conn) result }
+    ensures durable { IsDurable (file_state one.new.store.conn) }
+    ensures other_durable { IsDurable (file_state other.new.store.conn) }
+    ensures survives { CommitsNothing (file_state one.old.store.conn) (file_state one.new.store.conn) }
+    ensures other_survives { CommitsNothing (file_state other.old.store.conn) (file_state other.new.store.conn) }
+{
+    comparison_laws();
+    compare_with_files(
+        alloc,
+        &one.verifier,
+        &mut one.store.conn,
+        &mut other.store.conn,
+        query,
+    )
+}

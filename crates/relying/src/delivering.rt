@@ -1,0 +1,59 @@
+//! Statements that are delivered.
+
+ghost use Rattle.std.specs.Prelude.{◌≡◌, false, IsTrue};
+ghost use Rattle.sqlite.specs.Held.{state};
+ghost use Rattle.sqlite.specs.State.{HasCleanDisk, Survives};
+ghost use Rattle.cert.specs.Certificate.{seen_certificate};
+ghost use Rattle.agreement.specs.Run.{facts_or_none, genuine_facts};
+ghost use Rattle.taking.specs.Delivery.{CommitsWhole};
+ghost use Rattle.relying.specs.Delivery.{IsAnswered, IsAnsweredUnder};
+ghost use Rattle.statements.specs.OcspFact.{genuine_statement};
+
+use crate::fault::DeliverFault;
+use cert::Certificate;
+use newest::Counts;
+use sqlite::{Alter, Connection};
+use statements::genuine;
+use std::alloc::Global;
+use taking::put;
+use verifiers::Verifier;
+
+/// Puts what a statement of the issuer says into the store.
+fn deliver_under<V: Verifier, S: Alter>(
+    alloc: Global,
+    verifier: &V,
+    conn: &mut Connection<S>,
+    issuer: &Certificate<'_>,
+    statement: &[u8],
+) -> Result<Counts, DeliverFault>
+    ensures idle { conn.old.in_transaction ≡ false → conn.new.in_transaction ≡ false }
+    ensures answered { HasCleanDisk (state S.Store conn.new) → IsAnsweredUnder (genuine_statement (V.accepts verifier.now) (seen_certificate issuer.now) statement.now) (state S.Store conn.old) (state S.Store conn.new) result }
+    ensures survives { Survives (state S.Store conn.old) (state S.Store conn.new) (CommitsWhole (state S.Store conn.old) (facts_or_none (genuine_statement (V.accepts verifier.now) (seen_certificate issuer.now) statement.now))) }
+{
+    let facts = match genuine(alloc, verifier, issuer, statement) {
+        Ok(facts) => facts,
+        Err(fault) => return Err(DeliverFault::Statement(fault)),
+    };
+    match put(conn, &facts) {
+        Ok(counts) => Ok(counts),
+        Err(fault) => Err(DeliverFault::Store(fault)),
+    }
+}
+
+/// Puts what a statement says into the store, under the issuer of the certificate.
+pub(crate) fn deliver<V: Verifier, S: Alter>(
+    alloc: Global,
+    verifier: &V,
+    conn: &mut Connection<S>,
+    issuer: &[u8],
+    statement: &[u8],
+) -> Result<Counts, DeliverFault>
+    ensures idle { conn.old.in_transaction ≡ false → conn.new.in_transaction ≡ false }
+    ensures answered { HasCleanDisk (state S.Store conn.new) → IsAnswered (V.accepts verifier.now) issuer.now statement.now (state S.Store conn.old) (state S.Store conn.new) result }
+    ensures survives { Survives (state S.Store conn.old) (state S.Store conn.new) (CommitsWhole (state S.Store conn.old) (genuine_facts (V.accepts verifier.now) issuer.now statement.now)) }
+{
+    match Certificate::read(alloc, issuer) {
+        Ok(issuer) => deliver_under(alloc, verifier, conn, &issuer, statement),
+        Err(fault) => Err(DeliverFault::Issuer(fault)),
+    }
+}

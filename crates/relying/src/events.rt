@@ -1,0 +1,77 @@
+//! What reaches a relying party, one event after the other.
+
+ghost use Rattle.std.specs.Prelude.{◌≡◌, ◌≤◌, ◌<◌, ◌+◌, IfErr, IfOk, vec_capacity, vec_len};
+ghost use Rattle.sqlite.specs.Files.{file_state};
+ghost use Rattle.sqlite.specs.State.{HasCleanDisk};
+ghost use Rattle.agreement.specs.Run.{Event as Happened};
+ghost use Rattle.relying.specs.Run.{HasHappened, seen_event};
+ghost use Rattle.relying.specs.Restart.{FailsToRestart};
+
+use crate::fault::DeliverFault;
+use crate::node::Node;
+use newest::Counts;
+use sqlite_disk::Disk;
+use std::alloc::Global;
+use verdicts::Fault;
+use verifiers::Verifier;
+
+/// What reaches a relying party.
+#[derive(Clone, Copy, Debug, PartialEq, Eq)]
+pub enum Event<'a> {
+    /// A statement, with the certificate of the issuer that it is about: `Deliver(issuer, statement)`.
+    Deliver(&'a [u8], &'a [u8]),
+    /// The store's files are closed and opened again.
+    Restart,
+}
+
+/// How a delivery is answered.
+pub type Answer = Result<Counts, DeliverFault>;
+
+/// A delivery. Its answer is added to the answers, for which there is room.
+fn take_delivery<V: Verifier + Drop, D: Disk + Drop>(
+    node: &mut Node<V, D>,
+    alloc: Global,
+    issuer: &[u8],
+    statement: &[u8],
+    answers: &mut Vec<Answer>,
+)
+    requires room { vec_len answers.old < vec_capacity answers.old }
+    ensures verifier { node.new.verifier ≡ node.old.verifier }
+    ensures clean { HasCleanDisk (file_state node.new.store.conn) → HasCleanDisk (file_state node.old.store.conn) }
+    ensures happens { HasCleanDisk (file_state node.new.store.conn) → HasHappened (V.accepts node.old.verifier) (Happened.Deliver issuer.now statement.now) answers.old.items answers.new.items (file_state node.old.store.conn) (file_state node.new.store.conn) }
+    ensures capacity { vec_capacity answers.old ≤ vec_capacity answers.new }
+    ensures len { vec_len answers.new ≡ vec_len answers.old + 1 }
+{
+    let answer = node.deliver(alloc, issuer, statement);
+    let Ok(()) = answers.push(answer) else {
+        unreachable!()
+    };
+}
+
+/// One event.
+pub(crate) fn take_event<V: Verifier + Drop, D: Disk + Drop>(
+    node: Node<V, D>,
+    alloc: Global,
+    event: &Event<'_>,
+    answers: &mut Vec<Answer>,
+) -> Result<Node<V, D>, Fault>
+    requires room { vec_len answers.old < vec_capacity answers.old }
+    ensures verifier { IfOk result (λ next. next.verifier ≡ node.verifier) }
+    ensures clean { IfOk result (λ next. HasCleanDisk (file_state next.store.conn) → HasCleanDisk (file_state node.store.conn)) }
+    ensures happens { IfOk result (λ next. HasCleanDisk (file_state next.store.conn) → HasHappened (V.accepts node.verifier) (seen_event event.now) answers.old.items answers.new.items (file_state node.store.conn) (file_state next.store.conn)) }
+    ensures fails { IfErr result (λ fault. (seen_event event.now ≡ Happened.Restart) × FailsToRestart node.store.conn fault) }
+    ensures capacity { vec_capacity answers.old ≤ vec_capacity answers.new }
+    ensures len { vec_len answers.new ≤ vec_len answers.old + 1 }
+{
+    match event {
+        Event::Deliver(issuer, statement) => {
+            let mut node = node;
+            take_delivery(&mut node, alloc, issuer, statement, answers);
+            Ok(node)
+        }
+        Event::Restart => match node.restart(alloc) {
+            Ok(next) => Ok(next),
+            Err(fault) => Err(fault),
+        },
+    }
+}

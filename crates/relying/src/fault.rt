@@ -1,0 +1,31 @@
+//! Why statements are not taken.
+
+use crate::node::Node;
+use cert::CertFault;
+use revocation::StatementFault;
+use sqlite_disk::Disk;
+use tables::StoreFault;
+use thiserror::Error;
+use verdicts::Fault;
+use verifiers::Verifier;
+
+/// Why a delivery takes nothing: the issuer's certificate is refused, else the statement is, else the store does not take it.
+#[derive(Clone, Copy, Debug, PartialEq, Eq, Error)]
+pub enum DeliverFault {
+    #[error("the issuer's certificate is refused")]
+    Issuer(CertFault),
+    #[error("the statement is refused")]
+    Statement(StatementFault),
+    #[error("the store does not take it")]
+    Store(StoreFault),
+}
+
+/// Why a run does not reach its end.
+#[derive(Drop)]
+pub enum RunFault<V: Verifier, D: Disk> {
+    /// There is no room for the answers. Nothing was done.
+    NoRoom(Node<V, D>),
+    /// A restart fails, behind so many events that were done. The relying party is no more; its files are as the last delivery
+    /// left them.
+    Restart(usize, Fault),
+}

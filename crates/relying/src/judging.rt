@@ -1,0 +1,53 @@
+//! Verdicts, in a transaction that is dropped.
+
+ghost use Rattle.std.specs.Prelude.{◌≡◌, false};
+ghost use Rattle.sqlite.specs.Held.{state};
+ghost use Rattle.sqlite.specs.State.{HasCleanDisk};
+ghost use Rattle.adoption.specs.Creates.{IsDurable, IsSettled};
+ghost use Rattle.agreement.specs.Verdict.{IsVerdict};
+ghost use Rattle.tables.specs.Statements.{CommitsNothing};
+ghost use Rattle.relying.specs.Asking.{Looks, LooksInside};
+ghost use Rattle.verdicts.specs.View.{seen_query};
+
+use sqlite::{Alter, Connection};
+use std::alloc::Global;
+use verdicts::{Fault, Query, Verdict, verdict};
+use verifiers::Verifier;
+
+fn judge_in_transaction<V: Verifier, S: Alter>(
+    alloc: Global,
+    verifier: &V,
+    conn: &mut Connection<S>,
+    query: &Query<'_>,
+) -> Result<Verdict, Fault>
+    requires idle { conn.old.in_transaction ≡ false }
+    ensures idle { conn.new.in_transaction ≡ false }
+    ensures looks { HasCleanDisk (state S.Store conn.new) → LooksInside (state S.Store conn.old) (state S.Store conn.new) (λ held verdict. IsVerdict (V.accepts verifier.now) (seen_query query.now) held verdict) result }
+    ensures survives { CommitsNothing (state S.Store conn.old) (state S.Store conn.new) }
+{
+    let mut tx = conn.transaction();
+    match verdict(alloc, verifier, &mut tx, query) {
+        Ok(verdict) => Ok(verdict),
+        Err(fault) => Err(fault),
+    }
+}
+
+/// The verdict on a path by what the store holds.
+pub(crate) fn judge<V: Verifier, S: Alter>(
+    alloc: Global,
+    verifier: &V,
+    conn: &mut Connection<S>,
+    query: &Query<'_>,
+) -> Result<Verdict, Fault>
+    requires idle { conn.old.in_transaction ≡ false }
+    ensures idle { conn.new.in_transaction ≡ false }
+    ensures looks { HasCleanDisk (state S.Store conn.new) → Looks (state S.Store conn.old) (state S.Store conn.new) (λ held verdict. IsVerdict (V.accepts verifier.now) (seen_query query.now) held verdict) result }
+    ensures settled { IsSettled (state S.Store conn.old) × IsSettled (state S.Store conn.new) }
+    ensures durable { IsDurable (state S.Store conn.new) }
+    ensures survives { CommitsNothing (state S.Store conn.old) (state S.Store conn.new) }
+{
+    let _before = conn.is_autocommit();
+    let found = judge_in_transaction(alloc, verifier, conn, query);
+    let _after = conn.is_autocommit();
+    found
+}

@@ -1,0 +1,18 @@
+//! Relying parties: whom they believe and what they hold of statements, what reaches them, and their verdicts on paths
+//! (RFC 5280, 6; RFC 6960, 3.2).
+#![tactic(auto)]
+
+mod comparing;
+mod delivering;
+mod events;
+mod fault;
+mod judging;
+mod node;
+mod running;
+
+pub use comparing::compare;
+pub use events::{Answer, Event};
+pub use fault::{DeliverFault, RunFault};
+pub use node::Node;
+pub use running::run_laws;
+pub use verdicts::{Comparison, Fault, Query, QueryFault, Verdict};

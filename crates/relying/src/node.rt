@@ -1,0 +1,97 @@
+//! A relying party.
+
+ghost use Rattle.std.specs.Prelude.{◌≡◌, IfErr, IfOk};
+ghost use Rattle.sqlite.specs.Files.{file_state};
+ghost use Rattle.sqlite.specs.State.{HasCleanDisk, Survives};
+ghost use Rattle.adoption.specs.Creates.{IsDurable};
+ghost use Rattle.agreement.specs.Run.{genuine_facts};
+ghost use Rattle.agreement.specs.Verdict.{IsVerdict};
+ghost use Rattle.store.specs.Adopts.{Restarts};
+ghost use Rattle.tables.specs.Statements.{CommitsNothing};
+ghost use Rattle.taking.specs.Delivery.{CommitsWhole};
+ghost use Rattle.relying.specs.Asking.{Looks};
+ghost use Rattle.relying.specs.Delivery.{IsAnswered};
+ghost use Rattle.relying.specs.Restart.{FailsToRestart};
+ghost use Rattle.verdicts.specs.View.{seen_query};
+
+use crate::delivering::deliver;
+use crate::fault::DeliverFault;
+use crate::judging::judge;
+use newest::Counts;
+use sqlite_disk::Disk;
+use std::alloc::Global;
+use store::Store;
+use verdicts::{Fault, Query, Verdict};
+use verifiers::Verifier;
+
+/// A relying party: by what it judges signatures, and the newest statements that it has seen.
+pub struct Node<V: Verifier, D: Disk> {
+    pub(crate) verifier: V,
+    pub(crate) store: Store<D>,
+}
+
+impl<V: Verifier + Drop, D: Disk + Drop> Drop for Node<V, D> {
+    fn drop(self) {
+        let Node {
+            verifier: _,
+            store: _,
+        } = self;
+    }
+}
+
+impl<V: Verifier + Drop, D: Disk + Drop> Node<V, D> {
+    /// A party that judges so, and holds what the store holds.
+    pub fn new(verifier: V, store: Store<D>) -> Node<V, D>
+        ensures verifier { result.verifier ≡ verifier }
+        ensures store { result.store ≡ store }
+    {
+        Node { verifier, store }
+    }
+
+    /// Takes a statement, a list or a response, under the issuer of a certificate: of each slot the newest is held then. The
+    /// fault of the issuer's certificate comes first, then that of the statement, then that of the store. Where a fault is
+    /// answered, what is held is as it was. Time is n log n in the octets, but for the store's.
+    pub fn deliver(
+        &mut self,
+        alloc: Global,
+        issuer: &[u8],
+        statement: &[u8],
+    ) -> Result<Counts, DeliverFault>
+        ensures verifier { self.new.verifier ≡ self.old.verifier }
+        ensures answered { HasCleanDisk (file_state self.new.store.conn) → IsAnswered (V.accepts self.old.verifier) issuer.now statement.now (file_state self.old.store.conn) (file_state self.new.store.conn) result }
+        ensures survives { Survives (file_state self.old.store.conn) (file_state self.new.store.conn) (CommitsWhole (file_state self.old.store.conn) (genuine_facts (V.accepts self.old.verifier) issuer.now statement.now)) }
+    {
+        deliver(
+            alloc,
+            &self.verifier,
+            &mut self.store.conn,
+            issuer,
+            statement,
+        )
+    }
+
+    /// The verdict on a path by what is held. Where the path does not meet the conditions on it, the store is not asked.
+    pub fn verdict(&mut self, alloc: Global, query: &Query<'_>) -> Result<Verdict, Fault>
+        ensures verifier { self.new.verifier ≡ self.old.verifier }
+        ensures looks { HasCleanDisk (file_state self.new.store.conn) → Looks (file_state self.old.store.conn) (file_state self.new.store.conn) (λ held verdict. IsVerdict (V.accepts self.old.verifier) (seen_query query.now) held verdict) result }
+        ensures durable { IsDurable (file_state self.new.store.conn) }
+        ensures survives { CommitsNothing (file_state self.old.store.conn) (file_state self.new.store.conn) }
+    {
+        judge(alloc, &self.verifier, &mut self.store.conn, query)
+    }
+
+    /// Closes the store's files and takes them for a store again. Where that fails there is no party any more: the caller opens
+    /// the store anew.
+    pub fn restart(self, alloc: Global) -> Result<Node<V, D>, Fault>
+        ensures verifier { IfOk result (λ node. node.verifier ≡ self.verifier) }
+        ensures restarts { IfOk result (λ node. HasCleanDisk (file_state node.store.conn) → Restarts (file_state self.store.conn) (file_state node.store.conn)) }
+        ensures durable { IfOk result (λ node. IsDurable (file_state node.store.conn)) }
+        ensures fails { IfErr result (FailsToRestart self.store.conn) }
+    {
+        let Node { verifier, store } = self;
+        match store.reopen(alloc) {
+            Ok(store) => Ok(Node { verifier, store }),
+            Err(fault) => Err(Fault::Store(fault)),
+        }
+    }
+}

@@ -1,0 +1,68 @@
+//! Runs of events.
+
+ghost use Rattle.std.specs.Prelude.{◌≡◌, ◌≤◌, [], IfErr, IfOk, length, map, vec_capacity};
+ghost use Rattle.sqlite.specs.Files.{file_state};
+ghost use Rattle.sqlite.specs.State.{HasCleanDisk};
+ghost use Rattle.relying.specs.Run.{Ran, RunsAreRuns, StopsAt, seen_event};
+ghost use Rattle.relying.specs.Stopping.{StopsShort};
+
+use crate::events::{Answer, Event, take_event};
+use crate::fault::RunFault;
+use crate::node::Node;
+use sqlite_disk::Disk;
+use std::alloc::Global;
+use verdicts::Fault;
+use verifiers::Verifier;
+
+/// The events in order. There is room for the answers.
+fn run_all<V: Verifier + Drop, D: Disk + Drop>(
+    node: Node<V, D>,
+    alloc: Global,
+    events: &[Event<'_>],
+    answers: &mut Vec<Answer>,
+) -> Result<Node<V, D>, (usize, Fault)>
+    requires none { answers.old.items ≡ [] }
+    requires room { length events.now ≤ vec_capacity answers.old }
+    ensures verifier { IfOk result (λ last. last.verifier ≡ node.verifier) }
+    ensures clean { IfOk result (λ last. HasCleanDisk (file_state last.store.conn) → HasCleanDisk (file_state node.store.conn)) }
+    ensures ran { IfOk result (λ last. HasCleanDisk (file_state last.store.conn) → Ran (V.accepts node.verifier) (map seen_event events.now) answers.new.items (file_state node.store.conn) (file_state last.store.conn)) }
+    ensures stops { IfErr result (λ stop. StopsAt (V.accepts node.verifier) (map seen_event events.now) stop.0 node.store.conn stop.1) }
+{
+    let mut node = node;
+    for (index, event) in events.iter().enumerate() {
+        match take_event(node, alloc, event, answers) {
+            Ok(next) => node = next,
+            Err(fault) => return Err((index, fault)),
+        }
+    }
+    Ok(node)
+}
+
+impl<V: Verifier + Drop, D: Disk + Drop> Node<V, D> {
+    /// Takes the events in order, and tells the answers to the deliveries in order. Room for as many answers as there are events is
+    /// taken first: where there is none, nothing is done and the party comes back. A restart that fails ends the run.
+    pub fn run(
+        self,
+        alloc: Global,
+        events: &[Event<'_>],
+    ) -> Result<(Node<V, D>, Vec<Answer>), RunFault<V, D>>
+        ensures verifier { IfOk result (λ run. run.0.verifier ≡ self.verifier) }
+        ensures clean { IfOk result (λ run. HasCleanDisk (file_state run.0.store.conn) → HasCleanDisk (file_state self.store.conn)) }
+        ensures ran { IfOk result (λ run. HasCleanDisk (file_state run.0.store.conn) → Ran (V.accepts self.verifier) (map seen_event events.now) run.1.items (file_state self.store.conn) (file_state run.0.store.conn)) }
+        ensures stops { IfErr result (StopsShort (V.accepts self.verifier) self (map seen_event events.now)) }
+    {
+        let mut answers = match Vec::with_capacity(alloc, events.len()) {
+            Ok(answers) => answers,
+            Err(_) => return Err(RunFault::NoRoom(self)),
+        };
+        match run_all(self, alloc, events, &mut answers) {
+            Ok(node) => Ok((node, answers)),
+            Err((done, fault)) => Err(RunFault::Restart(done, fault)),
+        }
+    }
+}
+
+/// A run of events is a run in the sense of agreement.
+pub fn run_laws()
+    ensures { RunsAreRuns }
+{}
