@@ -1,4 +1,9 @@
+pub mod Turns
 pub mod TreeWords
-pub mod Outcomes
 pub mod ShowWords
 pub mod PrintsWords
+pub mod DeliverWords
+pub mod CheckWords
+pub mod CompareWords
+pub mod Values
+pub mod Outcomes

@@ -1,14 +1,11 @@
 -- What clap's definition makes of the words of `tree FILE`.
-use Rattle.std.proofs.Common.{◌≡◌, ◌≢◌, ◌==◌, ℕ, List, [], ◌∷◌, Option, Some, option_map, true, false, refl, codes, arith}
-use Rattle.std.proofs.lemmas.Bool.Decides.{nat_tests}
-use Rattle.clap.specs.Words.{Row, Text, fault_of, first_of, subcommand_of, is_simple, is_simple_and_free}
+use Rattle.std.proofs.Common.{◌≡◌, ◌==◌, ℕ, [], ◌∷◌, Some, true, false, refl, codes}
+use Rattle.clap.specs.Words.{Text, fault_of, first_of, subcommand_of, is_simple, is_simple_and_free}
+use Rattle.clap.specs.Walk.{rows_after}
 use Rattle.clap.proofs.OnLiterals.{clap_on_literals}
 use Rattle.command_line.specs.App.{program}
 use Rattle.command_line.specs.CommandLine.{IsPlainWord}
-
--- the name of a subcommand, with its file
-abbrev pub named_file : Text × List Row → Text × Option Text
-named_file p = (p.0, first_of (codes "file") p.1)
+use Rattle.command_line.proofs.Turns.{Enters, is_other, shape_of}
 
 -- the program's command is one of which clap gives the matches
 pub program_is_simple : is_simple program ≡ true
@@ -23,12 +20,14 @@ no_fault_at : (name xs : Text) (x : ℕ) → (x == 45) ≡ false → fault_of pr
 unfolding clap_on_literals
 no_fault_at name xs x plain = simp plain
 
-file_at : (name xs : Text) (x : ℕ) → (x == 45) ≡ false → option_map named_file (subcommand_of program (name ∷ codes "tree" ∷ (x ∷ xs) ∷ [])) ≡ Some (codes "tree", Some (x ∷ xs))
+file_at : (xs : Text) (x : ℕ) → (x == 45) ≡ false → first_of (codes "file") (rows_after (shape_of (codes "tree")).rules [] ((x ∷ xs) ∷ [])) ≡ Some (x ∷ xs)
 unfolding clap_on_literals
-file_at name xs x plain = simp plain
+file_at xs x plain = simp plain
 
-pub is_other : (x : ℕ) → x ≢ 45 → (x == 45) ≡ false
-is_other x ne = grind (arith, nat_tests)
+file_found : (file : Text) → IsPlainWord file → first_of (codes "file") (rows_after (shape_of (codes "tree")).rules [] (file ∷ [])) ≡ Some file
+unfolding clap_on_literals
+file_found [] plain = refl
+file_found (x ∷ xs) plain = file_at xs x (is_other x plain)
 
 -- the words break no rule of the command
 pub no_fault : (name file : Text) → IsPlainWord file → fault_of program (name ∷ codes "tree" ∷ file ∷ []) ≡ []
@@ -37,7 +36,11 @@ no_fault name [] plain = refl
 no_fault name (x ∷ xs) plain = no_fault_at name xs x (is_other x plain)
 
 -- they enter the subcommand, and its file is theirs
-pub file_of_words : (name file : Text) → IsPlainWord file → option_map named_file (subcommand_of program (name ∷ codes "tree" ∷ file ∷ [])) ≡ Some (codes "tree", Some file)
+pub entered : (name file : Text) → IsPlainWord file → Enters (subcommand_of program (name ∷ codes "tree" ∷ file ∷ [])) (codes "tree") ((codes "file", Some file) ∷ [])
 unfolding clap_on_literals
-file_of_words name [] plain = refl
-file_of_words name (x ∷ xs) plain = file_at name xs x (is_other x plain)
+entered name file plain =
+    record {
+      rows = rows_after (shape_of (codes "tree")).rules [] (file ∷ []);
+      is = refl;
+      finds = (file_found file plain, tt);
+    }

@@ -3,8 +3,7 @@
 
 mod app;
 mod line;
+mod question;
 
 pub use line::{Kind, Line, command_of};
-
-#[cfg(test)]
-mod tests;
+pub use question::Question;

@@ -1,7 +1,9 @@
-use crate::{Kind, Line, command_of};
+//! Command lines of `tree`, `show` and `prints`.
+
+use command_line::{Kind, Line, command_of};
 
 // Whether each command line is refused (its text belongs on standard error) or asks for help.
-const ANSWERED: [(&[&str], bool); 30] = [
+const ANSWERED: &[(&[&str], bool)] = &[
     (&["x509check"], true),
     (&[], true),
     (&["x509check", "tree"], true),
@@ -12,7 +14,7 @@ const ANSWERED: [(&[&str], bool); 30] = [
     (&["x509check", "a"], true),
     (&["x509check", "show"], true),
     (&["x509check", "show", "--as", "cert"], true),
-    (&["x509check", "show", "--as", "crl", "a"], true),
+    (&["x509check", "show", "--as", "csr", "a"], true),
     (&["x509check", "show", "--as", "", "a"], true),
     (&["x509check", "show", "a", "b"], true),
     (&["x509check", "show", "--issuer", "i", "a"], true),
@@ -29,7 +31,7 @@ const ANSWERED: [(&[&str], bool); 30] = [
         true,
     ),
     (
-        &["x509check", "prints", "--issuer", "i", "--as", "crl", "a"],
+        &["x509check", "prints", "--issuer", "i", "--as", "csr", "a"],
         true,
     ),
     (
@@ -46,13 +48,6 @@ const ANSWERED: [(&[&str], bool); 30] = [
     (&["x509check", "help", "tree"], false),
 ];
 
-fn show(file: &str) -> Line<'_> {
-    Line::Show {
-        kind: Kind::Certificate,
-        file,
-    }
-}
-
 fn prints<'a>(issuer: &'a str, file: &'a str) -> Line<'a> {
     Line::Prints {
         issuer,
@@ -62,7 +57,7 @@ fn prints<'a>(issuer: &'a str, file: &'a str) -> Line<'a> {
 }
 
 // Command lines of `prints`, and the lines that they are.
-const PRINTS: [(&[&str], &str, &str); 6] = [
+const PRINTS: &[(&[&str], &str, &str)] = &[
     (
         &["x509check", "prints", "--issuer", "i.der", "a.der"],
         "i.der",
@@ -97,50 +92,77 @@ const PRINTS: [(&[&str], &str, &str); 6] = [
 
 #[test]
 fn a_line_has_both_files(rt: HostRuntime) {
-    for (words, issuer, file) in PRINTS {
+    for (words, issuer, file) in PRINTS.iter() {
         let Ok(line) = command_of(rt.alloc(), words) else {
             assert!(rt; false, "{words:?} is refused");
             return;
         };
-        assert_eq!(rt; line, prints(issuer, file), "{words:?}");
+        assert!(rt; line == prints(issuer, file), "{words:?}");
     }
 }
 
+// The line of `show` where there is a kind, and else of `tree`.
+fn looks<'a>(kind: Option<Kind>, file: &'a str) -> Line<'a> {
+    match kind {
+        Some(kind) => Line::Show { kind, file },
+        None => Line::Tree { file },
+    }
+}
+
+// Command lines of `tree`, and of `show` with its kind, and the file of each.
+const LINES: &[(&[&str], Option<Kind>, &str)] = &[
+    (&["x509check", "tree", "a.der"], None, "a.der"),
+    (&["other", "tree", "tree"], None, "tree"),
+    (&["x509check", "tree", "--", "--help"], None, "--help"),
+    (
+        &["x509check", "show", "a.der"],
+        Some(Kind::Certificate),
+        "a.der",
+    ),
+    (
+        &["x509check", "show", "--as", "cert", "b.der"],
+        Some(Kind::Certificate),
+        "b.der",
+    ),
+    (
+        &["x509check", "show", "--as", "crl", "b.der"],
+        Some(Kind::RevocationList),
+        "b.der",
+    ),
+    (
+        &["x509check", "show", "--as", "ocsp", "b.der"],
+        Some(Kind::Response),
+        "b.der",
+    ),
+    (
+        &["x509check", "show", "b.der", "--as=cert"],
+        Some(Kind::Certificate),
+        "b.der",
+    ),
+    (
+        &["x509check", "show", "cert"],
+        Some(Kind::Certificate),
+        "cert",
+    ),
+];
+
 #[test]
 fn a_line_has_its_file(rt: HostRuntime) {
-    let table: [(&[&str], Line<'_>); 7] = [
-        (
-            &["x509check", "tree", "a.der"],
-            Line::Tree { file: "a.der" },
-        ),
-        (&["other", "tree", "tree"], Line::Tree { file: "tree" }),
-        (
-            &["x509check", "tree", "--", "--help"],
-            Line::Tree { file: "--help" },
-        ),
-        (&["x509check", "show", "a.der"], show("a.der")),
-        (
-            &["x509check", "show", "--as", "cert", "b.der"],
-            show("b.der"),
-        ),
-        (&["x509check", "show", "b.der", "--as=cert"], show("b.der")),
-        (&["x509check", "show", "cert"], show("cert")),
-    ];
-    for (words, want) in table {
+    for (words, kind, file) in LINES.iter() {
         let Ok(line) = command_of(rt.alloc(), words) else {
             assert!(rt; false, "{words:?} is refused");
             return;
         };
-        assert_eq!(rt; line, want, "{words:?}");
+        assert!(rt; line == looks(*kind, file), "{words:?}");
     }
 }
 
 #[test]
 fn other_words_have_an_answer(rt: HostRuntime) {
-    for (words, is_refused) in ANSWERED {
+    for (words, is_refused) in ANSWERED.iter() {
         match command_of(rt.alloc(), words) {
             Ok(line) => assert!(rt; false, "{words:?} is {line:?}"),
-            Err(error) => assert_eq!(rt; error.use_stderr(), is_refused, "{words:?}: {error}"),
+            Err(error) => assert!(rt; error.use_stderr() == *is_refused, "{words:?}: {error}"),
         }
     }
 }

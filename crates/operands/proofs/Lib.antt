@@ -1,0 +1,4 @@
+pub mod Arcs
+pub mod Decimals
+pub mod Lines
+pub mod Subidentifiers
