@@ -93,6 +93,50 @@ struct x509check_certificate {
     struct x509check_fields fields; /* all 0 where there is a fault */
 };
 
+/* The layout that the calls answer with, on x86-64: what this header says of it is what the library was built with. */
+#ifdef __cplusplus
+#define X509CHECK_STANDS_AT(type, field, at) static_assert(offsetof(struct type, field) == (at), #field)
+#define X509CHECK_HAS_SIZE(type, size) static_assert(sizeof(struct type) == (size), #type)
+#else
+#define X509CHECK_STANDS_AT(type, field, at) _Static_assert(offsetof(struct type, field) == (at), #field)
+#define X509CHECK_HAS_SIZE(type, size) _Static_assert(sizeof(struct type) == (size), #type)
+#endif
+X509CHECK_STANDS_AT(x509check_part, length, 8);
+X509CHECK_HAS_SIZE(x509check_part, 16);
+X509CHECK_STANDS_AT(x509check_answer, offset, 8);
+X509CHECK_HAS_SIZE(x509check_answer, 16);
+X509CHECK_STANDS_AT(x509check_extensions, is_authority, 1);
+X509CHECK_STANDS_AT(x509check_extensions, has_path_length, 2);
+X509CHECK_STANDS_AT(x509check_extensions, has_key_usage, 3);
+X509CHECK_STANDS_AT(x509check_extensions, needs_policy_processing, 4);
+X509CHECK_STANDS_AT(x509check_extensions, no_check, 5);
+X509CHECK_STANDS_AT(x509check_extensions, path_length, 8);
+X509CHECK_STANDS_AT(x509check_extensions, key_usage, 12);
+X509CHECK_STANDS_AT(x509check_extensions, alternative_names, 16);
+X509CHECK_STANDS_AT(x509check_extensions, permitted_subtrees, 24);
+X509CHECK_STANDS_AT(x509check_extensions, excluded_subtrees, 32);
+X509CHECK_STANDS_AT(x509check_extensions, purposes, 40);
+X509CHECK_STANDS_AT(x509check_extensions, unrecognised, 48);
+X509CHECK_HAS_SIZE(x509check_extensions, 56);
+X509CHECK_STANDS_AT(x509check_fields, not_before, 8);
+X509CHECK_STANDS_AT(x509check_fields, not_after, 16);
+X509CHECK_STANDS_AT(x509check_fields, tbs, 24);
+X509CHECK_STANDS_AT(x509check_fields, serial, 40);
+X509CHECK_STANDS_AT(x509check_fields, algorithm, 56);
+X509CHECK_STANDS_AT(x509check_fields, issuer, 72);
+X509CHECK_STANDS_AT(x509check_fields, subject, 88);
+X509CHECK_STANDS_AT(x509check_fields, subject_public_key_info, 104);
+X509CHECK_STANDS_AT(x509check_fields, key, 120);
+X509CHECK_STANDS_AT(x509check_fields, signature, 136);
+X509CHECK_STANDS_AT(x509check_fields, extensions, 152);
+X509CHECK_HAS_SIZE(x509check_fields, 208);
+X509CHECK_STANDS_AT(x509check_certificate, der_fault, 4);
+X509CHECK_STANDS_AT(x509check_certificate, offset, 8);
+X509CHECK_STANDS_AT(x509check_certificate, fields, 16);
+X509CHECK_HAS_SIZE(x509check_certificate, 224);
+#undef X509CHECK_STANDS_AT
+#undef X509CHECK_HAS_SIZE
+
 /* Whether the text is the DER encoding of one value, all of it, or the first fault. Takes no memory. */
 struct x509check_answer x509check_check(const uint8_t *octets, size_t length);
 

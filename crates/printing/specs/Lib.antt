@@ -5,9 +5,13 @@ pub mod NameText
 pub mod GeneralText
 pub mod CertificateText
 pub mod FingerprintText
+pub mod CrlText
+pub mod ResponseText
 pub mod Unwritten
 pub use Rattle.asn.specs.Value
 pub use Rattle.asn.specs.Encoding
 pub use Rattle.asn.specs.FirstFault
 pub use Rattle.cert.specs.Certificate
 pub use Rattle.cert.specs.SubjectPublicKeyInfo
+pub use Rattle.crl.specs.CertificateList
+pub use Rattle.crl.specs.Entry

@@ -24,7 +24,7 @@ use std::io;
 use std::io::Write;
 
 // A word, and the octets where there are any.
-fn write_octets<W: Write>(word: &str, octets: &[u8], writer: &mut W) -> io::Result<()>
+pub(crate) fn write_octets<W: Write>(word: &str, octets: &[u8], writer: &mut W) -> io::Result<()>
     ensures { OnOk result (Appends (W.contents writer.old) (W.contents writer.new)
         (octets_line word.now octets.now)) }
 {
@@ -40,7 +40,7 @@ fn write_version<W: Write>(version: Version, writer: &mut W) -> io::Result<()>
     writeln!(writer, "certificate\nversion {}", version.number())
 }
 
-fn write_named<W: Write>(word: &str, name: &Name<'_>, writer: &mut W) -> io::Result<()>
+pub(crate) fn write_named<W: Write>(word: &str, name: &Name<'_>, writer: &mut W) -> io::Result<()>
     ensures { OnOk result (Appends (W.contents writer.old) (W.contents writer.new)
         (name_line word.now (raw_of name.now))) }
 {

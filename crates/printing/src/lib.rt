@@ -6,12 +6,13 @@ mod fingerprint;
 mod general;
 mod name;
 mod oid_text;
+mod response;
+mod revocation_list;
 mod text;
 mod tree;
 
 pub use certificate::certificate_to;
-pub use fingerprint::certificate_print_to;
+pub use fingerprint::{PrintsFault, certificate_print_to, crl_print_to, response_prints_to};
+pub use response::response_to;
+pub use revocation_list::crl_to;
 pub use tree::{TreeFault, tree_to};
-
-#[cfg(test)]
-mod tests;

@@ -1,11 +1,7 @@
 //! `x509check`: looks at X.509 certificates and at what says that they are revoked.
 #![tactic(auto)]
 
-mod execution;
-mod files;
-mod refusal;
-
-use execution::execute;
+use program::execute;
 use std::io::Write;
 use std::process::ExitCode;
 use std::{env, io};
