@@ -50,7 +50,7 @@ static enum checker_rule read_length(const uint8_t *text, size_t length, struct 
         return CHECKER_TRUNCATED;
     if (text[2] == 0 || (count == 1 && text[2] < 0x80))
         return CHECKER_LENGTH_FORM;
-    if (count > 3)
+    if (count > 4 || (count == 4 && text[2] > 0x0F))
         return CHECKER_TOO_LONG;
     header->length = 2 + count;
     header->contents = 0;

@@ -13,7 +13,7 @@ import re
 import struct
 import sys
 
-MOST = (1 << 24) - 1  # the most octets that contents may have
+MOST = (1 << 24) - 1  # contents of the great texts, of three length octets
 
 
 def value(identifier, *contents):

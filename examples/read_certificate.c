@@ -50,20 +50,42 @@ static void print_fingerprint(const uint8_t *octets, const struct x509check_fiel
     print_part("fingerprint of the signature, as one under the certificate's own key", fingerprint, whole);
 }
 
-int main(int argc, char **argv)
+/* The octets of a file, to be freed, or a null pointer with the line on standard error. */
+static uint8_t *octets_of(const char *path, size_t *length)
 {
-    static uint8_t octets[1 << 16];
-    FILE *file = argc == 2 ? fopen(argv[1], "rb") : NULL;
-    struct x509check_certificate answer;
-    size_t length;
+    FILE *file = fopen(path, "rb");
+    size_t room = 1 << 12;
+    uint8_t *octets = file == NULL ? NULL : malloc(room);
 
-    if (file == NULL) {
-        fputs("usage: read_certificate FILE.der\n", stderr);
-        return 2;
+    *length = 0;
+    while (octets != NULL) {
+        size_t read = fread(octets + *length, 1, room - *length, file);
+        uint8_t *more;
+
+        *length += read;
+        if (read == 0)
+            break;
+        if (*length < room)
+            continue;
+        more = realloc(octets, room *= 2);
+        if (more == NULL)
+            free(octets);
+        octets = more;
     }
-    length = fread(octets, 1, sizeof octets, file);
-    fclose(file);
-    answer = x509check_read_certificate(octets, length);
+    if (octets == NULL || ferror(file)) {
+        perror(path);
+        free(octets);
+        octets = NULL;
+    }
+    if (file != NULL)
+        fclose(file);
+    return octets;
+}
+
+static int print_answer(const uint8_t *octets, size_t length)
+{
+    struct x509check_certificate answer = x509check_read_certificate(octets, length);
+
     if (answer.fault != 0) {
         printf("refused: fault %u", (unsigned)answer.fault);
         if (answer.fault == X509CHECK_FAULT_DER)
@@ -74,4 +96,22 @@ int main(int argc, char **argv)
     print_certificate(octets, &answer.fields);
     print_fingerprint(octets, &answer.fields);
     return 0;
+}
+
+int main(int argc, char **argv)
+{
+    uint8_t *octets;
+    size_t length;
+    int status;
+
+    if (argc != 2) {
+        fputs("usage: read_certificate FILE.der\n", stderr);
+        return 2;
+    }
+    octets = octets_of(argv[1], &length);
+    if (octets == NULL)
+        return 2;
+    status = print_answer(octets, length);
+    free(octets);
+    return status;
 }

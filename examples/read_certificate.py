@@ -101,4 +101,6 @@ def main(path, file):
 
 
 if __name__ == "__main__":
+    if len(sys.argv) != 3:
+        sys.exit("usage: read_certificate.py LIBRARY.so FILE.der")
     sys.exit(main(*sys.argv[1:]))

@@ -1,0 +1,43 @@
+#!/usr/bin/env python3
+"""Writes a revocation list of so many entries and its issuer's certificate into a folder: lists.py FOLDER COUNT
+
+Serial numbers have 16 octets and stand in no order, as in a list that grew; every fourth entry has a reason.
+"""
+
+import os
+import random
+import sys
+
+sys.path.insert(0, os.path.join(os.path.dirname(os.path.abspath(__file__)), ".."))
+sys.path.insert(0, os.path.join(os.path.dirname(os.path.abspath(__file__)), "..", "paths"))
+from data import bits, integer, oid, sequence, value  # noqa: E402
+from paths import ECDSA_SHA256, certificate, extension, name  # noqa: E402
+
+
+def entry(rng, number):
+    serial = value(0x02, bytes([rng.randrange(1, 128)]) + rng.randbytes(15))
+    date = value(0x17, b"250520000000Z")
+    if number % 4:
+        return sequence(serial, date)
+    return sequence(serial, date, sequence(extension("2.5.29.21", value(0x0A, bytes([rng.choice((1, 4, 5))])))))
+
+
+def revocation_list(count):
+    rng = random.Random(count)
+    entries = value(0x30, *(entry(rng, number) for number in range(count)))
+    extensions = value(0xA0, sequence(extension("2.5.29.20", integer(5))))
+    signed = sequence(
+        integer(1), ECDSA_SHA256, name("Root"), value(0x17, b"250601000000Z"), value(0x17, b"250701000000Z"), entries, extensions
+    )
+    return sequence(signed, ECDSA_SHA256, bits(sequence(integer(1), integer(2))))
+
+
+def main(folder, count):
+    with open(os.path.join(folder, "list.der"), "wb") as out:
+        out.write(revocation_list(count))
+    with open(os.path.join(folder, "issuer.der"), "wb") as out:
+        out.write(certificate(1, "Root", "Root", True, False))
+
+
+if __name__ == "__main__":
+    main(sys.argv[1], int(sys.argv[2]))

@@ -1,0 +1,74 @@
+#!/usr/bin/env python3
+"""Writes the paths that bench/paths/run measures into a folder: paths.py FOLDER
+
+Each file is a list of certificates, each behind its length in 4 octets, the lowest first: the anchor's, and then those of the path. All
+have one key, the generator of P-256, and signatures of octets that nobody judges: both programs are told to accept them.
+"""
+
+import os
+import struct
+import sys
+
+sys.path.insert(0, os.path.join(os.path.dirname(os.path.abspath(__file__)), ".."))
+from data import bits, integer, oid, sequence, value  # noqa: E402
+
+ECDSA_SHA256 = sequence(oid("1.2.840.10045.4.3.2"))
+GENERATOR = bytes.fromhex(
+    "046b17d1f2e12c4247f8bce6e563a440f277037d812deb33a0f4a13945d898c296"
+    "4fe342e2fe1a7f9b8ee7eb4a7c0f9e162bce33576b315ececbb6406837bf51f5"
+)
+KEY_INFO = sequence(sequence(oid("1.2.840.10045.2.1"), oid("1.2.840.10045.3.1.7")), bits(GENERATOR))
+VALIDITY = sequence(value(0x17, b"250101000000Z"), value(0x17, b"350101000000Z"))
+TRUE = value(0x01, b"\xff")
+DEPTHS = (3, 10, 64)
+SUBTREES = 8
+
+
+def name(text):
+    return sequence(value(0x31, sequence(oid("2.5.4.3"), value(0x0C, text.encode()))))
+
+
+def extension(kind, content, critical=False):
+    return sequence(oid(kind), *([TRUE] if critical else []), value(0x04, content))
+
+
+def constraints(count):
+    permitted = [sequence(value(0x82, b"example.com"))]
+    permitted += [sequence(value(0x82, b"n%d.example.com" % number)) for number in range(count - 1)]
+    return extension("2.5.29.30", sequence(value(0xA0, *permitted)), critical=True)
+
+
+def certificate(serial, subject, issuer, is_ca, constrained):
+    extensions = []
+    if is_ca:
+        extensions.append(extension("2.5.29.19", sequence(TRUE), critical=True))
+        extensions.append(extension("2.5.29.15", value(0x03, b"\x01\x06"), critical=True))
+        if constrained:
+            extensions.append(constraints(SUBTREES))
+    else:
+        extensions.append(extension("2.5.29.17", sequence(value(0x82, b"www.example.com"))))
+    signed = sequence(
+        value(0xA0, integer(2)), integer(serial), ECDSA_SHA256, name(issuer), VALIDITY, name(subject), KEY_INFO,
+        value(0xA3, sequence(*extensions)),
+    )
+    signature = sequence(integer(serial + 1), integer(serial + 2))
+    return sequence(signed, ECDSA_SHA256, bits(signature))
+
+
+def path(depth, constrained):
+    names = ["Root"] + ["Authority %d" % number for number in range(1, depth)] + ["Target"]
+    yield certificate(1, "Root", "Root", True, False)
+    for number in range(1, depth + 1):
+        yield certificate(number + 1, names[number], names[number - 1], number < depth, constrained)
+
+
+def main(folder):
+    for depth in DEPTHS:
+        for title, constrained in (("plain", False), ("subtrees", True)):
+            with open(os.path.join(folder, "%s%d" % (title, depth)), "wb") as out:
+                for octets in path(depth, constrained):
+                    out.write(struct.pack("<I", len(octets)) + octets)
+
+
+if __name__ == "__main__":
+    main(sys.argv[1])
