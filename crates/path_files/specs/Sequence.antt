@@ -1,9 +1,10 @@
 -- Values one after the other, at the front of a source of octets.
-use Rattle.std.specs.Prelude.{◌≡◌, ◌⊎◌, ◌<◌, ◌≤◌, ◌++◌, ⊤, ℕ, List, length, Option, Some, None}
+use Rattle.std.specs.Prelude.{◌≡◌, ◌≢◌, ◌⊎◌, ◌<◌, ◌≤◌, ◌++◌, ⊤, ℕ, List, length, Option, Some, None}
 use Rattle.std.specs.List.{flat_map, AllByRecursion}
 use Rattle.der.specs.Value.{Value}
 use Rattle.der.specs.Encoding.{Encodes}
 use Rattle.stream.specs.declared.reading.ReadFault.{ReadFault}
+use Rattle.stream.specs.declared.reading.ReadFault.TheVariants.{Limit}
 use Rattle.stream.specs.Stream.{ended, TakesFrom, TakesFault}
 
 -- octets one after the other
@@ -37,3 +38,8 @@ pub record ReadsValues (limit most : ℕ) (old new : Option (List ℕ)) (values 
   pub behind : Option (List ℕ)
   pub begins : BeginsFrom limit old values behind
   pub stops : StopsBehind limit most values behind new stopped
+
+-- no value was past the limit, as far as the source tells what it has left
+abbrev pub NoneIsPast : Option (List ℕ) → Option (ℕ × ReadFault) → Type 0
+NoneIsPast (Some text) (Some stopped) = stopped.1 ≢ Limit
+NoneIsPast text stopped = ⊤

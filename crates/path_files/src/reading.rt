@@ -1,7 +1,7 @@
 //! Values read one after the other.
 
 ghost use Rattle.std.specs.Prelude.{map};
-ghost use Rattle.path_files.specs.Sequence.{ReadsValues};
+ghost use Rattle.path_files.specs.Sequence.{NoneIsPast, ReadsValues};
 
 use der::Fault;
 use std::alloc::Global;
@@ -22,9 +22,11 @@ pub struct PathOctets {
 }
 
 /// At most so many values, with which the source begins, until it ends. Nothing is read behind the last of them. Where there is no room
-/// for the list of them, the value that was read is refused with want of memory.
+/// for the list of them, the value that was read is refused with want of memory. No value is past the limit, since none can have more
+/// octets; a source that does not tell what it has left promises nothing of that.
 pub fn path_octets<R: Read>(alloc: Global, source: &mut R, most: u32) -> PathOctets
-    ensures { ReadsValues 268435461 most (R.remaining source.old) (R.remaining source.new) (map (λ octets. octets.items) result.values.items) result.stopped }
+    ensures values { ReadsValues 268435461 most (R.remaining source.old) (R.remaining source.new) (map (λ octets. octets.items) result.values.items) result.stopped }
+    ensures longest { NoneIsPast (R.remaining source.old) result.stopped }
 {
     let mut values = Vec::new(alloc);
     let mut place: u64 = 0;
