@@ -1,1 +1,5 @@
+mod Ascending
+mod ByPrefix
+mod Finding
+mod Prefixes
 mod Sorting

@@ -1,12 +1,11 @@
 -- Entries that are sorted by serial number, and of those with one number the first left: they ascend, and each number has the reason
 -- that it had first.
-use Rattle.std.proofs.Common.{◌≡◌, ℕ, Bool, true, false, cond, not, ◌&&◌, List, [], ◌∷◌, Option, Some, None, IfSome, map, option_map, refl, sym, ap, ◌∙◌, subst}
-use Rattle.std.specs.List.{find, filter, dedup, dedup_from, AllByRecursion}
+use Rattle.std.proofs.Common.{◌≡◌, ℕ, Bool, true, false, cond, not, ◌&&◌, List, [], ◌∷◌, Option, Some, map, option_map, refl, sym, ap, ◌∙◌, subst}
+use Rattle.std.specs.List.{find, dedup, dedup_from, AllByRecursion}
 use Rattle.std.specs.List.Sorted.{IsSortedByKey, IsStableByKey, IsStrictlySortedBy, ties}
 use Rattle.std.specs.Ordering.{nat_cmp, is_lt, is_eq, ordering_reverse}
 use Rattle.std.specs.declared.cmp.Ordering.{Ordering}
 use Rattle.std.specs.declared.cmp.Ordering.TheVariants.{Less, Equal, Greater}
-use Rattle.std.proofs.Math.Path.{fun_ext}
 use Rattle.std.specs.Cmp.Lexicographic.{slice_cmp, on_texts, texts_ties}
 use Rattle.std.specs.Str.{bytes_eq}
 use Rattle.std.proofs.lemmas.Cmp.{nat_list_cmp_total}
@@ -15,6 +14,7 @@ use Rattle.std.proofs.lemmas.List.Kept.{IsStrictlySortedBy-dedup}
 use Rattle.std.proofs.lemmas.Slice.Eq.{bytes_eq-Decides}
 use Rattle.facts.specs.declared.revoked.Listed.{Listed}
 use Rattle.facts.specs.Listed.{seen_listed, IsAscending, first_reason}
+use Rattle.facts.proofs.Finding.{found_kept, reason_seen}
 
 abbrev pub serial_of : Listed → List ℕ
 serial_of listed = listed.serial.now
@@ -65,24 +65,6 @@ found_deduped serial (x ∷ xs) = found_from serial x xs
 
 -- ---- a stable sort leaves them in their order
 
-abbrev pub first : List Listed → Option Listed
-first [] = None
-first (x ∷ xs) = Some x
-
-first_passing : (p : Listed → Bool) (xs : List Listed) → find p xs ≡ first (filter p xs)
-first_passing p [] = refl
-first_passing p (x ∷ xs) = by (first_passing p xs) (p x) refl where
-  by : find p xs ≡ first (filter p xs) → (b : Bool) → p x ≡ b → find p (x ∷ xs) ≡ first (filter p (x ∷ xs))
-  by rest true e = rw e refl
-  by rest false e = rw e rest
-
-found_passes : (p : Listed → Bool) (xs : List Listed) → IfSome (find p xs) (λ x. p x ≡ true)
-found_passes p [] = tt
-found_passes p (x ∷ xs) = by (found_passes p xs) (p x) refl where
-  by : IfSome (find p xs) (λ y. p y ≡ true) → (b : Bool) → p x ≡ b → IfSome (find p (x ∷ xs)) (λ y. p y ≡ true)
-  by rest true e = rw e e
-  by rest false e = rw e rest
-
 neither_less : (one other : Ordering) → one ≡ ordering_reverse other → (not (is_lt one) && not (is_lt other)) ≡ is_eq other
 neither_less one Less e = rw e refl
 neither_less one Equal e = rw e refl
@@ -96,32 +78,14 @@ ties_are_equal x y =
     neither_less (slice_cmp nat_cmp (serial_of x) (serial_of y)) (slice_cmp nat_cmp (serial_of y) (serial_of x)) (nat_list_cmp_total.antisymm (serial_of x) (serial_of y))
     ∙ is_eq-slice_cmp (serial_of y) (serial_of x)
 
-module _ (xs ys : List Listed) (stable : IsStableByKey serial_of (slice_cmp nat_cmp) xs ys) (serial : List ℕ) where
-  alike_at : (x : Listed) → has serial x ≡ true → find (has serial) ys ≡ find (has serial) xs
-  alike_at x e =
-      let test : ties less x ≡ has serial = fun_ext (ties_are_equal x) ∙ ap has ((bytes_eq-Decides (serial_of x) serial).0 e) in
-      first_passing (has serial) ys
-      ∙ ap first (subst (λ p. filter p ys ≡ filter p xs) test (stable x))
-      ∙ sym (first_passing (has serial) xs)
-
-  pub found_sorted : find (has serial) ys ≡ find (has serial) xs
-  found_sorted = by (find (has serial) xs) refl (find (has serial) ys) refl where
-    by : (o : Option Listed) → find (has serial) xs ≡ o → (p : Option Listed) → find (has serial) ys ≡ p → find (has serial) ys ≡ find (has serial) xs
-    by (Some x) e p f = alike_at x (subst (λ found. IfSome found (λ y. has serial y ≡ true)) e (found_passes (has serial) xs))
-    by None e (Some y) f = alike_at y (subst (λ found. IfSome found (λ z. has serial z ≡ true)) f (found_passes (has serial) ys))
-    by None e None f = f ∙ sym e
-
 -- ---- what is left says of each number what the entries said first
 
-reason_seen : (serial : List ℕ) (xs : List Listed) → first_reason (map seen_listed xs) serial ≡ option_map (λ x. x.reason) (find (has serial) xs)
-reason_seen serial [] = refl
-reason_seen serial (x ∷ xs) = by (reason_seen serial xs) (has serial x) refl where
-  by : first_reason (map seen_listed xs) serial ≡ option_map (λ y. y.reason) (find (has serial) xs) → (b : Bool) → has serial x ≡ b → first_reason (map seen_listed (x ∷ xs)) serial ≡ option_map (λ y. y.reason) (find (has serial) (x ∷ xs))
-  by rest true e = rw e refl
-  by rest false e = rw e rest
+module _ (xs ys : List Listed) (stable : IsStableByKey serial_of (slice_cmp nat_cmp) xs ys) (serial : List ℕ) where
+  all_tie : (x y : Listed) → has serial x ≡ true → has serial y ≡ true → ties less x y ≡ true
+  all_tie x y one other = ties_are_equal x y ∙ subst (λ octets. bytes_eq (serial_of y) octets ≡ true) (sym ((bytes_eq-Decides (serial_of x) serial).0 one)) other
 
-pub reasons_left : (xs ys : List Listed) → IsStableByKey serial_of (slice_cmp nat_cmp) xs ys → (serial : List ℕ) → first_reason (map seen_listed (dedup same_serial ys)) serial ≡ first_reason (map seen_listed xs) serial
-reasons_left xs ys stable serial =
-    reason_seen serial (dedup same_serial ys)
-    ∙ ap (option_map (λ x. x.reason)) (found_deduped serial ys ∙ found_sorted xs ys stable serial)
-    ∙ sym (reason_seen serial xs)
+  pub reasons_left : first_reason (map seen_listed (dedup same_serial ys)) serial ≡ first_reason (map seen_listed xs) serial
+  reasons_left =
+      reason_seen seen_listed serial (dedup same_serial ys)
+      ∙ ap (option_map (λ x. x.reason)) (found_deduped serial ys ∙ found_kept (has serial) (ties less) all_tie xs ys stable)
+      ∙ sym (reason_seen seen_listed serial xs)

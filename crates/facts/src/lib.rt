@@ -1,8 +1,11 @@
 //! What signed statements say of certificates (RFC 5280, 5; RFC 6960, 4.2): for whom they speak, from when until when, and what.
 #![tactic(auto)]
 
+mod by_prefix;
 mod fact;
 mod issuer;
+mod prefix;
+mod prefixed;
 mod revoked;
 mod scope;
 mod single;
