@@ -1,4 +1,5 @@
 mod Old
 mod Beside
+mod ByIssuer
 mod Moving
 mod Ending

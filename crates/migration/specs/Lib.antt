@@ -1,3 +1,4 @@
 pub mod Texts
+pub mod Grouped
 pub mod Moved
 pub mod Migrates

@@ -1,6 +1,8 @@
 //! A store of version 1 becomes one of version 2.
 #![tactic(auto)]
 
+mod grouped;
+mod grouping;
 mod listing;
 mod migrating;
 mod preparing;

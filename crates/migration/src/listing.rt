@@ -4,54 +4,39 @@ ghost use Rattle.std.specs.Prelude.{◌≡◌, ◌≢◌, ◌<◌, ◌^◌, ◌+
 ghost use Rattle.sqlite.specs.Held.{state};
 ghost use Rattle.sqlite.specs.State.{HasCleanDisk};
 ghost use Rattle.facts.specs.declared.scope.Scope.TheVariants.{All};
-ghost use Rattle.facts.specs.Listed.{first_reason, seen_listed};
+ghost use Rattle.facts.specs.Listed.{first_reason};
+ghost use Rattle.std.specs.List.Sorted.{IsNonDecreasingBy};
 ghost use Rattle.tables.specs.Statements.{CommitsNothing};
 ghost use Rattle.rows.specs.Holding.{AreInOrder};
 ghost use Rattle.rows.specs.Seen.{seen_head};
 ghost use Rattle.rows.specs.Steps.{Changes};
 ghost use Rattle.adoption.specs.Seen.{seen_list, seen_own};
-ghost use Rattle.adoption.specs.Version1.{UnscopedCrl, listed_under};
+ghost use Rattle.adoption.specs.Version1.{UnscopedCrl, UnscopedEntry, listed_under};
 ghost use Rattle.taking.specs.Lists.{with_list};
 ghost use Rattle.taking.specs.Passing.{Goes};
+ghost use Rattle.migration.specs.Grouped.{HasSameLists, seen_entry};
 ghost use Rattle.migration.specs.Moved.{HasMoved, IsNext};
 
-use adoption::{OwnEntry, UnscopedList, UnscopedLists};
+use crate::grouped::IssuersEntry;
+use crate::grouping::{by_issuer, entries_of};
+use adoption::{UnscopedList, UnscopedLists};
 use asn::Number20;
-use facts::{Listed, RevokedSerials, Scope};
+use facts::{RevokedSerials, Scope};
 use rows::{ID_LIMIT, ListKey, replace_crl, replace_entries};
 use sqlite::{Alter, Transaction};
 use std::alloc::{AllocError, Global};
 use tables::StoreFault;
 
-/// The entries of an issuer's list.
-fn entries_of<'a>(
-    alloc: Global,
-    entries: &'a [OwnEntry],
-    issuer: u32,
-) -> Result<Vec<Listed<'a>>, AllocError>
-    ensures { IfOk result (λ listed. map seen_listed listed.items ≡ listed_under (map seen_own entries.now) issuer) }
-{
-    let mut listed = Vec::new(alloc);
-    'each: for entry in entries {
-        if entry.issuer == issuer {
-            listed.push(Listed {
-                serial: entry.serial.as_slice(),
-                reason: entry.reason,
-            })?;
-        }
-    }
-    Ok(listed)
-}
-
 fn revoked_of<'a>(
     alloc: Global,
-    entries: &'a [OwnEntry],
+    sorted: &[IssuersEntry<'a>],
     issuer: u32,
 ) -> Result<RevokedSerials<'a>, StoreFault>
-    ensures reasons { IfOk result (λ revoked. (serial : List ℕ) → first_reason revoked serial ≡ first_reason (listed_under (map seen_own entries.now) issuer) serial) }
+    requires { IsNonDecreasingBy (λ entry. entry.issuer) sorted.now }
+    ensures reasons { IfOk result (λ revoked. (serial : List ℕ) → first_reason revoked serial ≡ first_reason (listed_under (map seen_entry sorted.now) issuer) serial) }
     ensures memory { result ≢ Err StoreFault.Schema }
 {
-    let listed = match entries_of(alloc, entries, issuer) {
+    let listed = match entries_of(alloc, sorted, issuer) {
         Ok(listed) => listed,
         Err(_) => return Err(StoreFault::Memory),
     };
@@ -101,17 +86,18 @@ fn put_list<S: Alter>(
     alloc: Global,
     tx: &mut Transaction<'_, S>,
     list: &UnscopedList,
-    entries: &[OwnEntry],
+    sorted: &[IssuersEntry<'_>],
 ) -> Result<(), StoreFault>
+    requires rise { IsNonDecreasingBy (λ entry. entry.issuer) sorted.now }
     requires inside { HasCleanDisk (state S.Store tx.old.conn.now) → IsTrue (state S.Store tx.old.conn.now).in_transaction }
     ensures same_reference { tx.new.conn.ghost_name ≡ tx.old.conn.ghost_name }
-    ensures puts { HasCleanDisk (state S.Store tx.new.conn.now) → (crls moved : List UnscopedCrl) → IsNext crls moved (seen_list list.now) → Goes (state S.Store tx.old.conn.now) (state S.Store tx.new.conn.now) (HasMoved crls (map seen_own entries.now) moved) (λ done. HasMoved crls (map seen_own entries.now) (moved ++ seen_list list.now ∷ [])) result }
+    ensures puts { HasCleanDisk (state S.Store tx.new.conn.now) → (crls moved : List UnscopedCrl) (entries : List UnscopedEntry) → HasSameLists (map seen_entry sorted.now) entries → IsNext crls moved (seen_list list.now) → Goes (state S.Store tx.old.conn.now) (state S.Store tx.new.conn.now) (HasMoved crls entries moved) (λ done. HasMoved crls entries (moved ++ seen_list list.now ∷ [])) result }
     ensures survives { CommitsNothing (state S.Store tx.old.conn.now) (state S.Store tx.new.conn.now) }
 {
     if list.issuer >= ID_LIMIT {
         return Err(StoreFault::Store);
     }
-    let revoked = match revoked_of(alloc, entries, list.issuer) {
+    let revoked = match revoked_of(alloc, sorted, list.issuer) {
         Ok(revoked) => revoked,
         Err(fault) => return Err(fault),
     };
@@ -119,6 +105,28 @@ fn put_list<S: Alter>(
         Ok(()) => Ok(()),
         Err(fault) => Err(fault),
     }
+}
+
+/// Puts lists in their places, one after the other.
+fn put_each<S: Alter>(
+    alloc: Global,
+    tx: &mut Transaction<'_, S>,
+    lists: &[UnscopedList],
+    sorted: &[IssuersEntry<'_>],
+) -> Result<(), StoreFault>
+    requires rise { IsNonDecreasingBy (λ entry. entry.issuer) sorted.now }
+    requires inside { HasCleanDisk (state S.Store tx.old.conn.now) → IsTrue (state S.Store tx.old.conn.now).in_transaction }
+    ensures same_reference { tx.new.conn.ghost_name ≡ tx.old.conn.ghost_name }
+    ensures puts { HasCleanDisk (state S.Store tx.new.conn.now) → (entries : List UnscopedEntry) → HasSameLists (map seen_entry sorted.now) entries → Goes (state S.Store tx.old.conn.now) (state S.Store tx.new.conn.now) (HasMoved (map seen_list lists.now) entries []) (λ done. HasMoved (map seen_list lists.now) entries (map seen_list lists.now)) result }
+    ensures survives { CommitsNothing (state S.Store tx.old.conn.now) (state S.Store tx.new.conn.now) }
+{
+    'each: for list in lists {
+        match put_list(alloc, tx, list, sorted) {
+            Ok(()) => {}
+            Err(fault) => return Err(fault),
+        }
+    }
+    Ok(())
 }
 
 /// Puts all lists in their places.
@@ -132,13 +140,12 @@ pub(crate) fn put_lists<S: Alter>(
     ensures puts { HasCleanDisk (state S.Store tx.new.conn.now) → Goes (state S.Store tx.old.conn.now) (state S.Store tx.new.conn.now) (HasMoved (map seen_list all.now.lists.items) (map seen_own all.now.entries.items) []) (λ done. HasMoved (map seen_list all.now.lists.items) (map seen_own all.now.entries.items) (map seen_list all.now.lists.items)) result }
     ensures survives { CommitsNothing (state S.Store tx.old.conn.now) (state S.Store tx.new.conn.now) }
 {
-    let lists = all.lists.as_slice();
-    let entries = all.entries.as_slice();
-    'each: for list in lists {
-        match put_list(alloc, tx, list, entries) {
-            Ok(()) => {}
-            Err(fault) => return Err(fault),
-        }
+    let sorted = match by_issuer(alloc, all.entries.as_slice()) {
+        Ok(sorted) => sorted,
+        Err(_) => return Err(StoreFault::Memory),
+    };
+    match put_each(alloc, tx, all.lists.as_slice(), sorted.as_slice()) {
+        Ok(()) => Ok(()),
+        Err(fault) => Err(fault),
     }
-    Ok(())
 }

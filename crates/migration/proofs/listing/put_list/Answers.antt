@@ -1,12 +1,13 @@
-use Rattle.std.proofs.Common.{◌<◌, map, rules}
-use Rattle.adoption.specs.Seen.{seen_list, seen_own}
+use Rattle.std.proofs.Common.{◌<◌, ◌∙◌, ap, rules}
+use Rattle.adoption.specs.Seen.{seen_list}
+use Rattle.facts.specs.Listed.{first_reason}
 use Rattle.migration.proofs.Moving.{list_moves, list_stops}
 use Rattle.migration.proofs.listing.put_list.Goals as goal
 
 pub returns-in-Ok-put_revoked-clause-puts : goal.returns-in-Ok-put_revoked-clause-puts
-returns-in-Ok-put_revoked-clause-puts g c clean crls moved next =
+returns-in-Ok-put_revoked-clause-puts g c clean crls moved entries same next =
     let room : c.args.list.now.issuer < 536870911 = search rules in
-    list_moves _ _ crls (map seen_own c.args.entries.now) moved (seen_list c.args.list.now) c.in-Ok.revoked (c.in-Ok-put_revoked.ensures.changes clean) c.in-Ok-put_revoked.ensures.formed room c.in-Ok.ensures.reasons next
+    list_moves _ _ crls entries moved (seen_list c.args.list.now) c.in-Ok.revoked (c.in-Ok-put_revoked.ensures.changes clean) c.in-Ok-put_revoked.ensures.formed room (λ serial. c.in-Ok.ensures.reasons serial ∙ ap (λ all. first_reason all serial) (same c.args.list.now.issuer)) next
 
 pub returns-clause-puts : goal.returns-clause-puts
-returns-clause-puts g c clean crls moved next = list_stops _ _ crls (map seen_own c.args.entries.now) moved c.in-Err-put_revoked.fault (c.in-Err-put_revoked.ensures.changes clean)
+returns-clause-puts g c clean crls moved entries same next = list_stops _ _ crls entries moved c.in-Err-put_revoked.fault (c.in-Err-put_revoked.ensures.changes clean)
