@@ -7,3 +7,4 @@ pub mod CheckWords
 pub mod CompareWords
 pub mod Values
 pub mod Outcomes
+pub mod Building
