@@ -48,6 +48,14 @@ impl<V: Verifier + Drop, D: Disk + Drop> Node<V, D> {
         Node { verifier, store }
     }
 
+    /// The store, which holds what the party held.
+    pub fn into_store(self) -> Store<D>
+        ensures { result ≡ self.store }
+    {
+        let Node { verifier: _, store } = self;
+        store
+    }
+
     /// Takes a statement, a list or a response, under the issuer of a certificate: of each slot the newest is held then. The
     /// fault of the issuer's certificate comes first, then that of the statement, then that of the store. Where a fault is
     /// answered, what is held is as it was. Time is n log n in the octets, but for the store's.
