@@ -1,3 +1,3 @@
-pub mod Pieces
-pub mod Answered
-pub mod Failures
+mod Statuses
+mod Ending
+mod Explaining

@@ -1,6 +1,7 @@
-pub mod Report
-pub mod Failures
 pub mod Outcome
-pub use Rattle.printing.specs.Printed
-pub use Rattle.printing.specs.CertificateText
-pub use Rattle.printing.specs.FingerprintText
+pub mod Ended
+pub use Rattle.failures.specs.Report
+pub use Rattle.failures.specs.Failures
+pub use Rattle.showing.specs.Shown
+pub use Rattle.judging.specs.Delivered
+pub use Rattle.judging.specs.Judged

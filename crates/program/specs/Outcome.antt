@@ -1,94 +1,75 @@
 -- What a run has done, by the status that it answers.
-use Rattle.std.specs.Prelude.{◌≡◌, ◌≢◌, ◌⊎◌, ℕ, List, Option, Ok}
+use Rattle.std.specs.Prelude.{◌≡◌, ◌≢◌, ◌⊎◌, ℕ, List, Option}
 use Rattle.std.specs.Io.KnownBytes.{Appends}
 use Rattle.clap.specs.Words.{Text}
 use Rattle.clap.specs.declared.error.kind.ErrorKind.{ErrorKind}
 use Rattle.clap.specs.declared.error.kind.ErrorKind.TheVariants.{DisplayHelp, DisplayVersion, OutOfMemory}
+use Rattle.agreement.specs.declared.verdict.Comparison.{Comparison}
+use Rattle.agreement.specs.declared.verdict.Verdict.{Verdict}
+use Rattle.answer_lines.specs.AnswerText.{comparison_line, verdict_line}
 use Rattle.command_line.specs.CommandLine.{AreRefusedWith, Reads}
 use Rattle.command_line.specs.declared.line.Line.{Line}
 use Rattle.command_line.specs.declared.line.Line.TheVariants.{Tree, Show, Prints, Deliver, Check, Compare}
-use Rattle.command_line.specs.declared.line.Kind.{Kind}
-use Rattle.command_line.specs.declared.line.Kind.TheVariants.{Certificate, RevocationList, Response}
-use Rattle.asn.specs.Value.{Value}
-use Rattle.asn.specs.Encoding.{Encodes}
-use Rattle.program.specs.declared.refusal.Failure.{Failure}
-use Rattle.cert.specs.Certificate.{Certificate as Fields, certificate}
-use Rattle.cert.specs.SubjectPublicKeyInfo.{SubjectPublicKeyInfo}
-use Rattle.crl.specs.CertificateList.{CertificateList, certificate_list}
-use Rattle.ocsp.specs.OcspResponse.{OcspResponse, ocsp_response}
-use Rattle.printing.specs.Printed.{lines_of}
-use Rattle.printing.specs.CertificateText.{certificate_text}
-use Rattle.printing.specs.CrlText.{crl_text}
-use Rattle.printing.specs.FingerprintText.{certificate_print_line, crl_print_line, response_print_lines}
-use Rattle.printing.specs.ResponseText.{response_text}
-use Rattle.program.specs.Failures.{Holding, IsFailureOn}
-use Rattle.program.specs.Report.{status_of}
+use Rattle.failures.specs.Failures.{Holding, IsNoValue, OrUnwritable}
+use Rattle.failures.specs.declared.failure.Failure.{Failure}
+use Rattle.failures.specs.declared.failure.Failure.TheVariants.{NoMemory, Unwritable}
+use Rattle.judging.specs.Delivered.{IsDeliveredText, IsFailureOfDelivery}
+use Rattle.judging.specs.Judged.{IsCompared, IsFailureOfCheck, IsFailureOfComparison, IsJudged}
+use Rattle.judging.specs.Standing.{Standing}
+use Rattle.judging.specs.Status.{comparison_status, verdict_status}
+use Rattle.showing.specs.Shown.{ArePrintsUnder, IsFailureOfPrints, IsNotShown, IsShownText, IsTreeText}
 
--- done, refused input, words that are no line, a failed file or writer or want of memory
-abbrev pub IsStatus : ℕ → Type 0
-IsStatus status = (status ≡ 0) ⊎ (status ≡ 4) ⊎ (status ≡ 5) ⊎ (status ≡ 6)
+-- ---- answers
 
--- the file holds the octets of this certificate
-abbrev pub HoldsCertificate : Holding → List ℕ → Fields → Type 0
-HoldsCertificate holds file read =
-    (octets : List ℕ) × holds file octets × (certificate octets ≡ Ok read)
+-- the line of a verdict that is asked for, and its status
+abbrev pub IsVerdictText : (Verdict → Type 0) → ℕ → List ℕ → Type 0
+IsVerdictText Is status text =
+    (verdict : Verdict) × Is verdict × (status ≡ verdict_status verdict) × (text ≡ verdict_line verdict)
 
--- the file holds the octets of this revocation list
-abbrev pub HoldsList : Holding → List ℕ → CertificateList → Type 0
-HoldsList holds file read = (octets : List ℕ) × holds file octets × (certificate_list octets ≡ Ok read)
+-- the same of a comparison
+abbrev pub IsComparisonText : (Comparison → Type 0) → ℕ → List ℕ → Type 0
+IsComparisonText Is status text =
+    (comparison : Comparison) × Is comparison × (status ≡ comparison_status comparison)
+    × (text ≡ comparison_line comparison)
 
--- the file holds the octets of this response
-abbrev pub HoldsResponse : Holding → List ℕ → OcspResponse → Type 0
-HoldsResponse holds file read = (octets : List ℕ) × holds file octets × (ocsp_response octets ≡ Ok read)
+-- The text that the line asks for, and the status that comes with it. Files hold so, and stores stand and are left so.
+abbrev pub IsAnswer : Holding → Standing → Standing → Line → ℕ → List ℕ → Type 0
+IsAnswer holds stands leaves (Tree file) status text =
+    (status ≡ 0) × IsTreeText holds file.now text
+IsAnswer holds stands leaves (Show kind file) status text =
+    (status ≡ 0) × IsShownText holds kind file.now text
+IsAnswer holds stands leaves (Prints issuer kind file) status text =
+    (status ≡ 0) × ArePrintsUnder holds issuer.now kind file.now text
+IsAnswer holds stands leaves (Deliver store verdicts issuer file) status text =
+    (status ≡ 0)
+    × IsDeliveredText holds stands leaves
+    (record { store = store; verdicts = verdicts; issuer = issuer; file = file }) text
+IsAnswer holds stands leaves (Check question) status text =
+    IsVerdictText (IsJudged holds stands leaves question) status text
+IsAnswer holds stands leaves (Compare question other) status text =
+    IsComparisonText (IsCompared holds stands leaves question other.now) status text
 
--- the fingerprints of the file under this key: of a certificate and of a revocation list, its line; of a response, its lines
-abbrev pub ArePrints : Holding → SubjectPublicKeyInfo → Kind → List ℕ → List ℕ → Type 0
-ArePrints holds key_info Certificate file text =
-    (read : Fields) × HoldsCertificate holds file read
-    × (text ≡ certificate_print_line key_info read)
-ArePrints holds key_info RevocationList file text =
-    (read : CertificateList) × HoldsList holds file read × (text ≡ crl_print_line key_info read)
-ArePrints holds key_info Response file text =
-    (read : OcspResponse) × HoldsResponse holds file read
-    × (text ≡ response_print_lines key_info read)
+-- that text was written, and nothing else
+abbrev pub IsDone : Holding → Standing → Standing → Line → Option (List ℕ) → Option (List ℕ) → ℕ → Type 0
+IsDone holds stands leaves line old new status =
+    (text : List ℕ) × IsAnswer holds stands leaves line status text × Appends old new text
 
--- the text that the line asks for: of `tree`, the lines of the value whose encoding the file holds; of `show`, those of the
--- certificate, the revocation list or the response in the file; of `prints`, the fingerprints of the file under the key in the issuer's certificate
-abbrev pub IsAnswer : Holding → Line → List ℕ → Type 0
-IsAnswer holds (Tree file) text =
-    (octets : List ℕ) × (value : Value) × holds file.now octets × Encodes octets value
-    × (text ≡ lines_of 0 value)
-IsAnswer holds (Show Certificate file) text =
-    (read : Fields) × HoldsCertificate holds file.now read × (text ≡ certificate_text read)
-IsAnswer holds (Show RevocationList file) text =
-    (read : CertificateList) × HoldsList holds file.now read × (text ≡ crl_text read)
-IsAnswer holds (Show Response file) text =
-    (read : OcspResponse) × HoldsResponse holds file.now read × (text ≡ response_text read)
-IsAnswer holds (Prints issuer kind file) text =
-    (signer : Fields) × HoldsCertificate holds issuer.now signer
-    × ArePrints holds signer.key_info kind file.now text
-IsAnswer holds _ text = ⊥
+-- ---- failures
 
--- what the line asks for is not served yet
-abbrev pub IsLater : Line → Type 0
-IsLater (Deliver store verdicts issuer file) = Unit {0}
-IsLater (Check question) = Unit {0}
-IsLater (Compare question other) = Unit {0}
-IsLater _ = ⊥
-
--- that text was written
-abbrev pub IsDone : Holding → Line → Option (List ℕ) → Option (List ℕ) → Type 0
-IsDone holds line old new = (text : List ℕ) × IsAnswer holds line text × Appends old new text
-
--- a failure on what the line names; on the file of `prints` only where the issuer's holds a certificate
+-- the first failure on what the line names, or standard output failed
 abbrev pub IsFailureOf : Holding → Line → Failure → Type 0
-IsFailureOf holds (Tree file) failure = IsFailureOn holds file.now failure
-IsFailureOf holds (Show kind file) failure = IsFailureOn holds file.now failure
-IsFailureOf holds (Prints issuer kind file) failure =
-    IsFailureOn holds issuer.now failure
-    ⊎ ((signer : Fields) × HoldsCertificate holds issuer.now signer
-    × IsFailureOn holds file.now failure)
-IsFailureOf holds _ failure = status_of failure ≡ 5
+IsFailureOf holds (Tree file) = OrUnwritable (IsNoValue holds file.now)
+IsFailureOf holds (Show kind file) = OrUnwritable (IsNotShown holds kind file.now)
+IsFailureOf holds (Prints issuer kind file) =
+    OrUnwritable (IsFailureOfPrints holds issuer.now kind file.now)
+IsFailureOf holds (Deliver store verdicts issuer file) =
+    OrUnwritable (IsFailureOfDelivery holds
+    (record { store = store; verdicts = verdicts; issuer = issuer; file = file }))
+IsFailureOf holds (Check question) = OrUnwritable (IsFailureOfCheck holds question)
+IsFailureOf holds (Compare question other) =
+    OrUnwritable (IsFailureOfComparison holds question other.now)
+
+-- ---- words
 
 abbrev pub IsHelp : ErrorKind → Type 0
 IsHelp kind = (kind ≡ DisplayHelp) ⊎ (kind ≡ DisplayVersion)
@@ -97,20 +78,21 @@ IsHelp kind = (kind ≡ DisplayHelp) ⊎ (kind ≡ DisplayVersion)
 abbrev pub IsMistake : ErrorKind → Type 0
 IsMistake kind = (kind ≢ OutOfMemory) × (IsHelp kind → ⊥)
 
+-- ---- a run
+
 -- what the words ask for was written, or they ask for help
-abbrev pub HasAnswered : Holding → List Text → Option (List ℕ) → Option (List ℕ) → Type 0
-HasAnswered holds words old new =
-    ((line : Line) × Reads words line × IsDone holds line old new)
-    ⊎ ((kind : ErrorKind) × AreRefusedWith words kind × IsHelp kind)
+abbrev pub HasAnswered : Holding → Standing → Standing → List Text → Option (List ℕ) → Option (List ℕ) → ℕ → Type 0
+HasAnswered holds stands leaves words old new status =
+    ((line : Line) × Reads words line × IsDone holds stands leaves line old new status)
+    ⊎ ((kind : ErrorKind) × AreRefusedWith words kind × IsHelp kind × (status ≡ 0))
 
--- the words are a line, and what a file that it names holds was refused
-abbrev pub HasRefused : Holding → List Text → Type 0
-HasRefused holds words =
-    (line : Line) × (failure : Failure) × Reads words line × IsFailureOf holds line failure
-    × (status_of failure ≡ 4)
+-- The words are a line, and this failed; or memory ran out while they were read, or the text of help could not be written.
+abbrev pub HasFailed : Holding → List Text → Failure → Type 0
+HasFailed holds words failure =
+    ((line : Line) × Reads words line × IsFailureOf holds line failure)
+    ⊎ (failure ≡ NoMemory)
+    ⊎ ((kind : ErrorKind) × AreRefusedWith words kind × IsHelp kind × (failure ≡ Unwritable))
 
--- something is wrong with the words, or what they ask for is not served yet
+-- something is wrong with the words
 abbrev pub AreMistaken : List Text → Type 0
-AreMistaken words =
-    ((kind : ErrorKind) × AreRefusedWith words kind × IsMistake kind)
-    ⊎ ((line : Line) × Reads words line × IsLater line)
+AreMistaken words = (kind : ErrorKind) × AreRefusedWith words kind × IsMistake kind

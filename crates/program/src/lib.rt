@@ -1,10 +1,8 @@
-//! What the program does: what the words of its command line ask for of the files that they name, and how it says what failed.
+//! One run of the program: what the words of its command line ask for, and how it says what failed.
 #![tactic(auto)]
 
 mod execution;
-mod files;
-mod refusal;
 
-pub use execution::execute;
-pub use files::Source;
-pub use refusal::Failure;
+pub use execution::{Ended, execute, executed};
+pub use failures::{Failure, Source};
+pub use judging::Stores;

@@ -1,0 +1,8 @@
+//! Why a run of the program fails, how it says so, and the files that it reads.
+#![tactic(auto)]
+
+mod failure;
+mod files;
+
+pub use failure::Failure;
+pub use files::{Source, read_certificate, read_list, read_response};

@@ -1,0 +1,4 @@
+mod Believing
+mod Refusing
+mod Questions
+mod Seeing

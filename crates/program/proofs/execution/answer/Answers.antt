@@ -1,0 +1,7 @@
+use Rattle.std.proofs.lemmas.Result.{err_from_is_err_and}
+use Rattle.program.proofs.execution.answer.Goals as goal
+
+pub returns-in_err-deliver-in-Deliver-clause-fails : goal.returns-in_err-deliver-in-Deliver-clause-fails
+returns-in_err-deliver-in-Deliver-clause-fails g c =
+    let p = err_from_is_err_and c.from_residual-in_err-deliver-in-Deliver.result c.from_residual-in_err-deliver-in-Deliver.ensures.1 in
+    rw (p.1, p.2, c.in-Deliver.is) c.in_err-deliver-in-Deliver.ensures.fails

@@ -1,0 +1,4 @@
+mod Places
+mod Values
+mod Certificates
+mod Files

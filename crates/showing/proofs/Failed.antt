@@ -1,0 +1,14 @@
+-- What follows from the failure of a part.
+use Rattle.std.proofs.Common.{inl, inr, ℕ, List, Result, Ok, Err, IfErr}
+use Rattle.cert.specs.Certificate.{Certificate}
+use Rattle.failures.specs.declared.failure.Failure.{Failure}
+use Rattle.command_line.specs.declared.line.Kind.{Kind}
+use Rattle.failures.specs.Failures.{Holding, HoldsCertificate, OrUnwritable}
+use Rattle.showing.specs.Shown.{IsFailureOfPrints, IsNotShown}
+
+-- failures on the file of `prints` are those of the line, since the issuer's file holds a certificate
+pub fails_later : {T : Type 0} (holds : Holding) (issuer : List ℕ) (kind : Kind) (file : List ℕ) (signer : Certificate) (result : Result T Failure) → HoldsCertificate holds issuer signer
+    → IfErr result (OrUnwritable (IsNotShown holds kind file)) → IfErr result (OrUnwritable (IsFailureOfPrints holds issuer kind file))
+fails_later holds issuer kind file signer (Ok x) held fails = tt
+fails_later holds issuer kind file signer (Err failure) held (inl fails) = inl (inr (signer, held, fails))
+fails_later holds issuer kind file signer (Err failure) held (inr late) = inr late

@@ -1,0 +1,62 @@
+-- What is written of a file.
+use Rattle.std.specs.Prelude.{◌≡◌, ◌⊎◌, ℕ, List}
+use Rattle.command_line.specs.declared.line.Kind.{Kind}
+use Rattle.command_line.specs.declared.line.Kind.TheVariants.{Certificate, RevocationList, Response}
+use Rattle.asn.specs.Value.{Value}
+use Rattle.asn.specs.Encoding.{Encodes}
+use Rattle.cert.specs.Certificate.{Certificate as Fields}
+use Rattle.cert.specs.SubjectPublicKeyInfo.{SubjectPublicKeyInfo}
+use Rattle.crl.specs.CertificateList.{CertificateList}
+use Rattle.ocsp.specs.OcspResponse.{OcspResponse}
+use Rattle.printing.specs.Printed.{lines_of}
+use Rattle.printing.specs.CertificateText.{certificate_text}
+use Rattle.printing.specs.CrlText.{crl_text}
+use Rattle.printing.specs.FingerprintText.{certificate_print_line, crl_print_line, response_print_lines}
+use Rattle.printing.specs.ResponseText.{response_text}
+use Rattle.failures.specs.declared.failure.Failure.{Failure}
+use Rattle.failures.specs.Failures.{Holding, HoldsCertificate, HoldsList, HoldsResponse, IsNoCertificate, IsNoList, IsNoResponse}
+
+-- the lines of the value whose encoding the file holds
+abbrev pub IsTreeText : Holding → List ℕ → List ℕ → Type 0
+IsTreeText holds file text =
+    (octets : List ℕ) × (value : Value) × holds file octets × Encodes octets value
+    × (text ≡ lines_of 0 value)
+
+-- the lines of the certificate, the revocation list or the response in the file
+abbrev pub IsShownText : Holding → Kind → List ℕ → List ℕ → Type 0
+IsShownText holds Certificate file text =
+    (read : Fields) × HoldsCertificate holds file read × (text ≡ certificate_text read)
+IsShownText holds RevocationList file text =
+    (read : CertificateList) × HoldsList holds file read × (text ≡ crl_text read)
+IsShownText holds Response file text =
+    (read : OcspResponse) × HoldsResponse holds file read × (text ≡ response_text read)
+
+-- the fingerprints of the file under this key: of a certificate and of a revocation list, its line; of a response, its lines
+abbrev pub ArePrints : Holding → SubjectPublicKeyInfo → Kind → List ℕ → List ℕ → Type 0
+ArePrints holds key_info Certificate file text =
+    (read : Fields) × HoldsCertificate holds file read
+    × (text ≡ certificate_print_line key_info read)
+ArePrints holds key_info RevocationList file text =
+    (read : CertificateList) × HoldsList holds file read × (text ≡ crl_print_line key_info read)
+ArePrints holds key_info Response file text =
+    (read : OcspResponse) × HoldsResponse holds file read
+    × (text ≡ response_print_lines key_info read)
+
+-- the same under the key in the issuer's certificate
+abbrev pub ArePrintsUnder : Holding → List ℕ → Kind → List ℕ → List ℕ → Type 0
+ArePrintsUnder holds issuer kind file text =
+    (signer : Fields) × HoldsCertificate holds issuer signer
+    × ArePrints holds signer.key_info kind file text
+
+-- a failure on a file that is to hold a value of that kind
+abbrev pub IsNotShown : Holding → Kind → List ℕ → Failure → Type 0
+IsNotShown holds Certificate file failure = IsNoCertificate holds file failure
+IsNotShown holds RevocationList file failure = IsNoList holds file failure
+IsNotShown holds Response file failure = IsNoResponse holds file failure
+
+-- a failure on the issuer's file; on the other only where the issuer's holds a certificate
+abbrev pub IsFailureOfPrints : Holding → List ℕ → Kind → List ℕ → Failure → Type 0
+IsFailureOfPrints holds issuer kind file failure =
+    IsNoCertificate holds issuer failure
+    ⊎ ((signer : Fields) × HoldsCertificate holds issuer signer
+    × IsNotShown holds kind file failure)
