@@ -331,61 +331,6 @@ fn a_missing_file_cannot_be_read(rt: HostRuntime) {
     }
 }
 
-/// Words of the commands that are read, and not served yet.
-const LATER: &[&[&str]] = &[
-    &[
-        "x509check",
-        "deliver",
-        "--store",
-        "s",
-        "--verdicts",
-        "v",
-        "--issuer",
-        "i",
-        "f",
-    ],
-    &[
-        "x509check",
-        "check",
-        "--store",
-        "s",
-        "--verdicts",
-        "v",
-        "--at",
-        "t",
-        "--anchor",
-        "a",
-        "f",
-    ],
-    &[
-        "x509check",
-        "compare",
-        "--store",
-        "s",
-        "--other",
-        "o",
-        "--verdicts",
-        "v",
-        "--at",
-        "t",
-        "--anchor",
-        "a",
-        "f",
-        "g",
-    ],
-];
-
-#[test]
-fn what_is_not_served_yet_says_so(rt: HostRuntime) {
-    for words in LATER.iter() {
-        let answer = answer_of(&rt, words);
-        assert!(rt;
-            is_answer(&answer, 5, b"", b"x509check: not served yet\n"),
-            "{words:?}"
-        );
-    }
-}
-
 #[test]
 fn words_are_answered(rt: HostRuntime) {
     for (words, status, is_help) in WORDS.iter() {

@@ -187,3 +187,71 @@ fn the_second_page_is_true(rt: HostRuntime) -> Result<(), Fail> {
     }
     Ok(())
 }
+
+// examples/issuer.pem and examples/list.pem, as DER: what OpenSSL made, once, by the commands of the third page.
+const ISSUER: &str =
+    "3082019b30820141a003020102021441325995597c41ca0221f90e08a68452c82d47d9300a06082a8648ce3d04030230233110300e060355040a0c074578616d706c65310f300d06035504030c06497373756572301e170d3236313132333138343333395a170d3336313132303138343333395a30233110300e060355040a0c074578616d706c65310f300d06035504030c064973737565723059301306072a8648ce3d020106082a8648ce3d03010703420004c87541d127a8064dcdacbeb80c37f13fcf40a1f5cf22712bdb2ebe3ae9914b35d4b1232390795768b794f55c1453e2a7a0504b1eb5844c13ba675d669f6b84eea3533051301d0603551d0e041604144a70905025449f3c8ecb9e2d74d82a78016a7c77301f0603551d230418301680144a70905025449f3c8ecb9e2d74d82a78016a7c77300f0603551d130101ff040530030101ff300a06082a8648ce3d0403020348003045022100d4128f42e64bb4ffe0d4247981746e9984731928f2d62bf59e6fb9c73f3d377502201932730ac4300f724c92805acf4be9e28932494eb761b449dab083ef5b5f430e";
+
+const LIST: &str =
+    "308201153081bc020101300a06082a8648ce3d04030230233110300e060355040a0c074578616d706c65310f300d06035504030c06497373756572170d3236303330313030303030305a170d3236303430313030303030305a30373020020105170d3236303131303132303030305a300c300a0603551d1504030a01013013020200c8170d3236303231313132303030305aa02f302d301f0603551d230418301680144a70905025449f3c8ecb9e2d74d82a78016a7c77300a0603551d140403020107300a06082a8648ce3d0403020348003045022100d294b51f6cf8a57142cd2db57ea9fabcff5cb7da789a591af77bf25e21788baf022058d4b9e8b6e10907bf97e715f516a1e32dec03a46b7191290adb18278eeedf87";
+
+const LIST_SHOWN: &str = "crl
+issuer /2.5.4.10=Example/2.5.4.3=Issuer
+number 07
+from 1772323200
+until 1775001600
+revoked 05 1
+revoked 00c8 0
+";
+
+const LIST_LINE: &str =
+    "a3c90871b974d1adc74f5e6074958e168b008dd9bf0ead254201d3e490a882a7 crl issuer\n";
+
+// The commands of the third page; `examples/verdicts` prints the line of the second.
+const OF_LISTS: &[Command] = &[
+    (&["show", "--as", "crl", "list.der"], 0, LIST_SHOWN, ""),
+    (
+        &[
+            "prints",
+            "--issuer",
+            "issuer.der",
+            "--as",
+            "crl",
+            "list.der",
+        ],
+        0,
+        LIST_LINE,
+        "",
+    ),
+    (
+        &["show", "--as", "crl", "part.der"],
+        4,
+        "",
+        "x509check: part.der: refused 4 Truncated at 0\n",
+    ),
+    (
+        &["show", "--as", "crl", "issuer.der"],
+        4,
+        "",
+        "x509check: issuer.der: refused 43 NotV2 at 8\n",
+    ),
+];
+
+#[test]
+fn the_third_page_is_true(rt: HostRuntime) -> Result<(), Fail> {
+    let alloc = rt.alloc();
+    let mut octets = Vec::new(alloc);
+    push_octets(&mut octets, alloc, LIST)?;
+    fs::write(&rt, "list.der", octets.as_slice())?;
+    let part = octets.get(..200).ok_or("octets")?;
+    fs::write(&rt, "part.der", part)?;
+    octets.clear();
+    push_octets(&mut octets, alloc, ISSUER)?;
+    fs::write(&rt, "issuer.der", octets.as_slice())?;
+    let other = first_other(&rt, OF_LISTS)?;
+    assert!(rt; other.is_none(), "{other:?}");
+    for file in ["list.der", "part.der", "issuer.der"] {
+        fs::remove_file(&rt, file)?;
+    }
+    Ok(())
+}
