@@ -1,12 +1,12 @@
 -- The judgement of octets is what is found.
-use Rattle.std.proofs.Common.{◌≡◌, ◌⊎◌, ℕ, List, Result, Ok, Err, refl, ap, ◌∙◌, inl, inr}
+use Rattle.std.proofs.Common.{◌≡◌, ◌⊎◌, ℕ, ◌≤◌, List, length, Result, Ok, Err, refl, ap, ◌∙◌, inl, inr, arith}
 use Rattle.der.specs.Value.{Value}
 use Rattle.der.specs.Encoding.{Encodes}
 use Rattle.der.specs.FirstFault.{IsFirstFault}
 use Rattle.der.specs.declared.fault.Rule.{Rule}
 use Rattle.der.specs.declared.fault.Fault.TheVariants.{Refused}
 use Rattle.der.specs.Laws.{AreOctets, Decision}
-use Rattle.der.proofs.Laws.{decide, never_both, one_fault, are_octets}
+use Rattle.der.proofs.Laws.{decide, never_both, one_fault, are_octets, first_within}
 use Rattle.asn.specs.Part.{IsWhole, contents}
 use Rattle.asn.specs.Place.{Place, body, inside}
 use Rattle.asn.specs.Judgement.{answer_of, judgement_of, judgement, placed, nested, outermost}
@@ -36,6 +36,22 @@ judgement_ok text v encodes = ok_of text v (are_octets text) encodes
 pub judgement_err : (text : List ℕ) (rule : Rule) (at : ℕ) → AreOctets text → IsFirstFault text (Refused rule at) → judgement text ≡ Err (rule, at)
 unfolding judgement
 judgement_err text rule at fits first = err_of text rule at (are_octets text) fits first
+
+answers_within : (text : List ℕ) (d : Decision text) (rule : Rule) (at : ℕ) → answer_of text d ≡ Err (rule, at) → at ≤ length text
+answers_within text (inl value) rule at e = absurd cc
+answers_within text (inr (broken, place, first)) rule at e =
+    let both : (broken, place) ≡ (rule, at) = cc in
+    let same : place ≡ at = ap (λ (x : Rule × ℕ). x.1) both in
+    let low = first_within text broken place first in
+    omega (arith, same, low)
+
+within_of : (text : List ℕ) (d : AreOctets text ⊎ (AreOctets text → ⊥)) (rule : Rule) (at : ℕ) → judgement_of text d ≡ Err (rule, at) → at ≤ length text
+within_of text (inl octets) rule at e = answers_within text (decide text octets) rule at e
+within_of text (inr none) rule at e = absurd cc
+
+pub judgement_within : (text : List ℕ) (rule : Rule) (at : ℕ) → judgement text ≡ Err (rule, at) → at ≤ length text
+unfolding judgement
+judgement_within text rule at e = within_of text (are_octets text) rule at e
 
 -- the contents of a value are the encoding of a value of their own
 answers_value : (text : List ℕ) (d : Decision text) (u : Unit {0}) → answer_of text d ≡ Ok u → IsWhole text

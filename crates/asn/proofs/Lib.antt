@@ -8,8 +8,10 @@ mod Sizes
 mod Judgements
 mod MemberLemmas
 mod PartLemmas
+mod EncodedParts
 mod PlaceSizes
 mod PlaceOrder
+mod SameOctets
 mod OctetParts
 mod Walks
 mod TimeWalks

@@ -6,10 +6,12 @@ use Rattle.der.specs.Length.{header_len, contents_len, contents_of, end_of}
 use Rattle.der.specs.Encoding.{EncodesAt, EncodesAllAt}
 use Rattle.der.proofs.Laws.{parts_of, front_of, read_front, encoded_long}
 use Rattle.asn.specs.Part.{contents}
-use Rattle.asn.specs.Place.{Place, inside, ends, front, behind, values}
+use Rattle.asn.specs.Place.{Place, body, inside, ends, front, behind, values}
 use Rattle.asn.specs.Members.{members_at}
 use Rattle.asn.specs.Layout.{AreMembersAt, Holds}
+use Rattle.asn.specs.Size.{octets_of_all}
 use Rattle.asn.proofs.PlaceLemmas.{values_none, values_more}
+use Rattle.asn.proofs.Sizes.{encodable_all}
 
 contents_size : (text : List ℕ) → end_of text ≤ length text → header_len text + length (contents_of text) ≡ end_of text
 contents_size text within = omega (arith, length-take-le (contents_len text) (drop (header_len text) text) (omega (arith, length-drop (header_len text) text)))
@@ -55,3 +57,10 @@ holds depth (constructed i vs) place sp =
     let r = read_front depth place.octets place.octets [] (constructed i vs) (sym (append-nil place.octets)) sp in
     let size : place.at + header_len place.octets + length (contents_of place.octets) ≡ place.at + length place.octets = omega (arith, contents_size place.octets f.within, r.1) in
     (f.identifier, sp.2, are_members vs (depth + 1) (contents_of place.octets) (place.at + header_len place.octets) (rw f.contents_is sp.3.1), size)
+
+-- the contents of a constructed value are the encodings of the values inside
+pub contents_held : (depth i : ℕ) (vs : Values) (place : Place) → EncodesAt depth place.octets (constructed i vs) → body place ≡ octets_of_all vs
+unfolding contents
+contents_held depth i vs place sp =
+    let f = front_of depth place.octets place.octets [] i sp.3.0 (sym (append-nil place.octets)) (parts_of (constructed i vs) depth place.octets sp).2 in
+    f.contents_is ∙ (encodable_all vs (depth + 1) sp.3.0 sp.3.1).1

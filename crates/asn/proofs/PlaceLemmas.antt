@@ -79,11 +79,6 @@ unfolding members_at begins
 begins_is identifier [] at = sym (ap (begins_in identifier) (values_none [] at (empty_ends at)))
 begins_is identifier (o ∷ os) at = sym (ap (begins_in identifier) (values_more (o ∷ os) at (more_follow o os at)) ∙ ap (λ (t : ℕ). t == identifier) (front_tag o os at))
 
--- the tests of the code
-pub empty_of : (xs : List ℕ) → length xs < 1 → is_empty xs ≡ true
-empty_of [] h = refl
-empty_of (x ∷ xs) h = absurd (omega arith)
-
 pub some_of : (xs : List ℕ) → 1 ≤ length xs → is_empty xs ≡ false
 some_of [] h = absurd (omega arith)
 some_of (x ∷ xs) h = refl

@@ -1,5 +1,5 @@
 -- The values inside a constructed value.
-use Rattle.std.specs.Prelude.{ℕ, ◌+◌, ◌==◌, Bool, true, false, List, [], ◌∷◌, length}
+use Rattle.std.specs.Prelude.{ℕ, ◌+◌, ◌==◌, Bool, true, false, List, [], ◌∷◌, length, map}
 use Rattle.asn.specs.Place.{Place, tag, remaining, inside, values}
 use Rattle.asn.specs.declared.tlv.Cursor.{Cursor}
 
@@ -51,3 +51,7 @@ abbrev pub AtMostOne : List Place → Type 0
 AtMostOne [] = Unit {0}
 AtMostOne (value ∷ []) = Unit {0}
 AtMostOne (value ∷ other ∷ values) = ⊥
+
+-- the octets of values in order, wherever they stand
+abbrev pub octets_of_each : List Place → List (List ℕ)
+octets_of_each values = map (λ value. value.octets) values

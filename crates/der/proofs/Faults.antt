@@ -1,6 +1,7 @@
 -- The first broken rule, seen from the value round it or from the value before.
 use Rattle.std.proofs.Common.{◌≡◌, ◌⊎◌, ℕ, ◌+◌, ◌<◌, ◌≤◌, List, length, get_or, take, drop, refl, sym, arith, true, false, inl, inr}
 use Rattle.std.proofs.lemmas.List.{length-drop, length-take-le, take-append-drop}
+use Rattle.der.specs.declared.fault.Fault.TheVariants.{Refused}
 use Rattle.der.specs.declared.fault.Rule.{Rule}
 use Rattle.der.specs.declared.fault.Rule.TheVariants.{TagForm, LengthForm, TooLong, Truncated, TooDeep, Content, Trailing}
 use Rattle.der.specs.Value.{Value}
@@ -8,7 +9,7 @@ use Rattle.der.specs.Identifier.{is_constructed}
 use Rattle.der.specs.Contents.{IsContents}
 use Rattle.der.specs.Length.{header_len, contents_len, contents_of, end_of}
 use Rattle.der.specs.Encoding.{deepest, EncodesAt}
-use Rattle.der.specs.FirstFault.{Breaks, BreaksFirst, StartsIn, StartsAmong, itself, inside, first, later, FirstFaultIn, FirstFaultAmong}
+use Rattle.der.specs.FirstFault.{Breaks, BreaksFirst, StartsIn, StartsAmong, itself, inside, first, later, FirstFaultIn, FirstFaultAmong, IsFirstFault}
 use Rattle.der.specs.Fault.{rule_number}
 use Rattle.der.specs.Header.{IsSound}
 use Rattle.der.proofs.Clean.{clean_in}
@@ -90,3 +91,8 @@ refused_later depth text rule at v sound encoded refused =
     before : (earlier level : ℕ) (rest : List ℕ) → StartsAmong depth text earlier level rest → (other : Rule) → earlier < end_of text + at → Breaks other level rest → ⊥
     before earlier level rest (first _ s) other lt b = clean_in s v (take (end_of text) text) (drop (end_of text) text) (sym (take-append-drop (end_of text) text)) encoded other b
     before earlier level rest (later {at = k} w i s) other lt b = refused.earliest k level rest other (omega arith) s b
+
+-- the first fault of a text is at one of its octets, or at its end
+pub first_within : (text : List ℕ) (rule : Rule) (at : ℕ) → IsFirstFault text (Refused rule at) → at ≤ length text
+first_within text rule at (inl fault) = elim (below_in fault.broken.2) [ inl start ↦ omega (arith, start) | inr (whole, below) ↦ omega (arith, whole, below) ]
+first_within text rule at (inr (is, trailing)) = omega (arith, trailing.more)

@@ -8,4 +8,4 @@ pub use Rattle.der.proofs.OneEncoding.{one_encoding, one_value, one_value_all}
 pub use Rattle.der.proofs.OneFault.{one_fault, one_start}
 pub use Rattle.der.proofs.Decide.{decide, never_both, are_octets}
 pub use Rattle.der.proofs.Prefixes.{header_len-ahead, whole-ahead, contents_len-ahead, end_of-ahead, header-ahead, header-back, fault-ahead}
-pub use Rattle.der.proofs.Faults.{refused_itself}
+pub use Rattle.der.proofs.Faults.{refused_itself, first_within}

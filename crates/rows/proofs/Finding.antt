@@ -1,14 +1,13 @@
 -- What a query that is answered says, and what a statement that has run has done.
-use Rattle.std.proofs.Common.{◌≡◌, ℕ, List, Option, Some, None, option_map, Result, Ok, Err, IfOk, IfSome, IsTrue, refl, sym, ap, subst, ◌∙◌, cond, false, inl, arith}
+use Rattle.std.proofs.Common.{◌≡◌, ℕ, List, Option, Some, None, option_map, Result, Ok, Err, IfOk, IfSome, IsTrue, refl, sym, ap, subst, ◌∙◌, cond, inl, arith}
 use Rattle.sqlite_schema.specs.declared.command.Returning.{Returning}
 use Rattle.sqlite.specs.Clock.{timed}
 use Rattle.sqlite.specs.Listing.{understood}
 use Rattle.sqlite.specs.Order.{Row}
 use Rattle.sqlite.specs.Schema.{Schema}
-use Rattle.sqlite.specs.declared.error.Error.{Error}
 use Rattle.sqlite.specs.State.{State, KeepsCommit, Shown, ShowsRows, ExecutesInside, Survives}
 use Rattle.sqlite.proofs.Callers.{IsPlain}
-use Rattle.sqlite.proofs.InsideLemmas.{unchanged_keeps, inside_keeps}
+use Rattle.sqlite.proofs.InsideLemmas.{unchanged_keeps}
 use Rattle.tables.specs.declared.origin.Origin.{Origin}
 use Rattle.tables.specs.declared.fault.StoreFault.{StoreFault}
 use Rattle.tables.specs.declared.fault.StoreFault.TheVariants.{Schema as NotOurs}
@@ -74,9 +73,6 @@ finds_shown old new text params rows (Ok found) cells Told Fits want IsFound ok 
     }
 finds_shown old new text params rows (Err fault) cells Told Fits want IsFound ok schema inside h plain shows is =
     record { keeps = shown_keeps old new text params rows inside h; formed = λ e origin it held form. let there = shows origin it held form in schema (ap Err e) (want it) there.1 there.0 }
-
-pub write_keeps : (old new : State) (text : List ℕ) (params : Row) (result : Result ℕ Error) → ExecutesInside 0 text params old new result → KeepsCommit old new
-write_keeps old new text params result h = inside_keeps old new 0 false text params result h
 
 -- a statement that has run inside a transaction
 pub moves : (old new : State) (text : List ℕ) (params : Row) (count : ℕ) (changed : Contents → Contents) → ExecutesInside 0 text params old new (Ok count)

@@ -1,13 +1,11 @@
 -- A list that replaces another keeps every row in its place.
-use Rattle.std.proofs.Common.{◌≡◌, ◌≢◌, ◌⊎◌, ℕ, suc, ◌+◌, ◌<◌, ◌≤◌, List, [], ◌∷◌, ◌++◌, filter, map, length, refl, sym, ap, subst, ◌∙◌, inl, inr, arith, append-nil, append_assoc}
-use Rattle.std.proofs.lemmas.Bool.{cases_Bool}
+use Rattle.std.proofs.Common.{◌≡◌, ◌≢◌, ◌⊎◌, ℕ, suc, ◌+◌, ◌<◌, ◌≤◌, List, [], ◌∷◌, ◌++◌, filter, map, length, refl, sym, ap, subst, ◌∙◌, arith, append-nil, append_assoc}
 use Rattle.std.proofs.lemmas.List.{length-append}
 use Rattle.std.specs.List.{AllByRecursion}
-use Rattle.std.specs.Str.{bytes_eq}
 use Rattle.sqlite_trees.specs.Tree.{IsAscending}
-use Rattle.facts.specs.Listed.{ListedSerial, first_reason}
+use Rattle.facts.specs.Listed.{ListedSerial}
 use Rattle.rows.specs.Contents.{EntryRow}
-use Rattle.rows.specs.Places.{IsBelow, is_under, listed_in, base_of, ArePlaced, put_entry, without, fill, replaced, Replaces, reason_at}
+use Rattle.rows.specs.Places.{IsBelow, is_under, listed_in, base_of, ArePlaced, put_entry, without, fill, replaced, Replaces}
 use Rattle.rows.proofs.Placing.{IsNext, own_put, slot_put, slot_spared, placed_put, placed_without, emptied, spared}
 
 pub length_map : {X Y : Type 0} (f : X → Y) (xs : List X) → length (map f xs) ≡ length xs
@@ -53,14 +51,3 @@ replaces es i s ps placed few scopes room up =
       own = done.1.0 ∙ joined;
       others = λ j t far. done.1.1 j t far ∙ ap (map (λ e. e.listed)) (spared es i s j t far);
     }
-
--- what a test of every row finds is what the listed_in lists
-pub reason_same : (es : List EntryRow) (i s : ℕ) (serial : List ℕ) → reason_at es i s serial ≡ first_reason (listed_in es i s) serial
-reason_same [] i s serial = refl
-reason_same (e ∷ es) i s serial = elim (cases_Bool (is_under i s e)) [
-  | inl here ↦ elim (cases_Bool (bytes_eq e.listed.serial serial)) [
-    | inl same ↦ rw (here, same) refl
-    | inr other ↦ rw (here, other) (reason_same es i s serial)
-  ]
-  | inr out ↦ rw out (reason_same es i s serial)
-]

@@ -39,9 +39,6 @@ from_end limit (Some x) (Some y) octets answer read end h =
     let all : x ≡ octets = read ∙ ap (λ (t : List ℕ). octets ++ t) end ∙ append-nil octets in
     subst (λ (t : List ℕ). Takes limit t y answer) (sym all) (subst (λ (t : List ℕ). Takes limit octets t answer) (sym end) h)
 
-pub goes_on_nil : GoesOn []
-goes_on_nil = record { short = omega arith; accepted = λ some. absurd (omega arith); definite = λ e. omega arith; unreserved = λ e. omega arith }
-
 pub none_left : (limit : ℕ) (a b : Option (List ℕ)) → Consumes a b [] → IsAtEnd b → TakesValue limit a b None
 none_left limit a b read end = from_end limit a b [] ended read end (refl, refl)
 
