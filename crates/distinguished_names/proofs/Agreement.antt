@@ -63,9 +63,6 @@ fits_found run e v is same = record { only = λ w found. let z : Some v ≡ Some
 pub fits_none : (run : List Entry) (e : Entry) → None ≡ value_at e.0 run → Fits run e
 fits_none run e is = record { only = λ w found. let z : None ≡ Some w = is ∙ found in absurd cc }
 
-pub fits_not : (run : List Entry) (e : Entry) (v : ComparedValue) → Some v ≡ value_at e.0 run → (v ≡ e.1 → ⊥) → Fits run e → ⊥
-fits_not run e v is other fits = other (fits.only v (sym is))
-
 -- how many are found: of one, of some, of all
 one_found : (o : Option ComparedValue) (v : ComparedValue) → Some v ≡ o → 1 ≡ (if is_some o then 1 else 0) + 0
 one_found None v e = absurd cc

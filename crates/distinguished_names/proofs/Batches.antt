@@ -1,5 +1,5 @@
 -- Attributes taken into a batch one after the other.
-use Rattle.std.proofs.Common.{IsTrue, ◌≡◌, ◌<◌, ◌≤◌, ◌+◌, ℕ, List, [], ◌∷◌, ◌++◌, length, map, take, drop, get_or, true, false, Option, Some, None, refl, sym, ap, ◌∙◌, subst, inl, inr, arith, append_assoc, nat_eq}
+use Rattle.std.proofs.Common.{IsTrue, ◌≡◌, ◌<◌, ◌+◌, ℕ, List, [], ◌∷◌, ◌++◌, length, map, take, drop, get_or, true, false, Option, Some, None, refl, sym, ap, ◌∙◌, subst, inl, inr, arith, append_assoc, nat_eq}
 use Rattle.std.specs.Prelude.{is_some, option_map}
 use Rattle.std.specs.List.{AllByRecursion, insert}
 use Rattle.std.specs.Cmp.Lexicographic.{pointwise}
@@ -91,25 +91,12 @@ pub record IsTaken (kinds rest : List Placed) (batch : List Entry) : Type 0 wher
   pub held : AreHeld batch taken
   pub unlike : AreUnlike taken
 
-pub taken_begins : (kinds : List Placed) (batch : List Entry) → IsTaken kinds kinds batch
-taken_begins kinds batch = record { taken = []; joined = refl; held = tt; unlike = tt }
-
 pub taken_more : (kinds rest others : List Placed) (x : Placed) (e : Entry) (old new : List Entry) → IsTaken kinds rest old → rest ≡ x ∷ others → e.0 ≡ x.1 → IsAdded e old new → IsTaken kinds others new
 taken_more kinds rest others x e old new h is same added = record {
   taken = h.taken ++ x ∷ [];
   joined = h.joined ∙ (ap (λ (xs : List Placed). h.taken ++ xs) is ∙ sym (append_assoc h.taken (x ∷ []) others));
   held = all_and (λ (y : Placed). is_some (value_at y.1 new) ≡ true) h.taken x (all_held e old new h.taken added h.held) (subst (λ (k : List ℕ). is_some (value_at k new) ≡ true) same (held_itself e old new added));
   unlike = unlike_more old h.taken x h.unlike h.held (subst (λ (k : List ℕ). value_at k old ≡ None) same added.absent);
-}
-
-pub taken_until : (kinds rest others : List Placed) (x : Placed) (batch : List Entry) (limit : ℕ) → IsTaken kinds rest batch → rest ≡ x ∷ others → x.0 ≡ limit → IsBatchOf kinds limit batch
-taken_until kinds rest others x batch limit h is at = record {
-  taken = h.taken;
-  rest = rest;
-  joined = h.joined;
-  begins = subst (BeginsAt limit) (sym is) at;
-  held = h.held;
-  unlike = h.unlike;
 }
 
 pub taken_all : (kinds rest : List Placed) (batch : List Entry) (limit : ℕ) → IsTaken kinds rest batch → rest ≡ [] → IsBatchOf kinds limit batch
@@ -198,14 +185,8 @@ set_more set rest others e old new h is added = record {
 pub record IsPassed (start : ℕ) (batch : List Entry) (all left : List Placed) : Type 0 where
   pub back : NoneBefore start batch left → NoneBefore start batch all
 
-pub passed_begins : (start : ℕ) (batch : List Entry) (all : List Placed) → IsPassed start batch all all
-passed_begins start batch all = record { back = λ h. h }
-
 pub passed_more : (start : ℕ) (batch : List Entry) (all left others : List Placed) (x : Placed) → IsPassed start batch all left → left ≡ x ∷ others → value_at x.1 batch ≡ None → IsPassed start batch all others
 passed_more start batch all left others x h is none = record { back = λ later. h.back (subst (NoneBefore start batch) (sym is) (λ below. (none, later))) }
-
-pub passed_start : (start : ℕ) (batch : List Entry) (all left others : List Placed) (x : Placed) → IsPassed start batch all left → left ≡ x ∷ others → start ≤ x.0 → NoneBefore start batch all
-passed_start start batch all left others x h is le = h.back (subst (NoneBefore start batch) (sym is) (λ below. absurd (omega arith)))
 
 pub passed_all : (start : ℕ) (batch : List Entry) (all left : List Placed) → IsPassed start batch all left → left ≡ [] → NoneBefore start batch all
 passed_all start batch all left h is = h.back (subst (NoneBefore start batch) (sym is) tt)

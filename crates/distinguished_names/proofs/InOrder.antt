@@ -11,9 +11,6 @@ pub record IsAbreast (one two left right : List Entry) : Type 0 where
   pub one_is : one ≡ front ++ left
   pub two_is : two ≡ front ++ right
 
-pub abreast_begins : (one two : List Entry) → IsAbreast one two one two
-abreast_begins one two = record { front = []; one_is = refl; two_is = refl }
-
 pub abreast_more : (one two left right left_rest right_rest : List Entry) (d e : Entry) → IsAbreast one two left right → left ≡ d ∷ left_rest → right ≡ e ∷ right_rest → d.0 ≡ e.0 → d.1 ≡ e.1
     → IsAbreast one two left_rest right_rest
 abreast_more one two left right left_rest right_rest d e h left_is right_is kinds values =

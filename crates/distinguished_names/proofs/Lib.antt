@@ -5,6 +5,7 @@ mod Pairs
 mod Zipped
 mod NameLaws
 mod NameValues
+mod NameEntries
 mod Matching
 mod Ordered
 mod Keys

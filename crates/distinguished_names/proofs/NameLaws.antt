@@ -66,7 +66,7 @@ members_ok place parts e =
 parts_of : {place : Place} → IsAttributeAt place → AttributePlaces
 parts_of is = record { kind = is.kind; value = is.value }
 
-members_again : (place : Place) (is : IsAttributeAt place) → attribute_members place ≡ Ok (record { kind = is.kind; value = is.value })
+pub members_again : (place : Place) (is : IsAttributeAt place) → attribute_members place ≡ Ok (record { kind = is.kind; value = is.value })
 unfolding attribute_members
 members_again place is =
     let left : List Place → Members = λ values. record { values = values; end = (members place).end } in

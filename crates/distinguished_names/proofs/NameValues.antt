@@ -20,7 +20,7 @@ holds_string (constructed identifier values) place encoded string = tt
 not_constructed : (identifier other : ℕ) → is_constructed identifier ≡ true → is_constructed other ≡ false → identifier ≡ other → ⊥
 not_constructed identifier other flag clear same = absurd cc
 
-string_held : (value : Value) (place : Place) → IsEncodingOf value place → HoldsString value → IsStringOf (tag place) (body place)
+pub string_held : (value : Value) (place : Place) → IsEncodingOf value place → HoldsString value → IsStringOf (tag place) (body place)
 string_held (primitive identifier contents) place encoded string = let shown = of_primitive encoded refl in subst₂ IsStringOf (sym shown.0) (sym shown.1) string
 string_held (constructed identifier values) place encoded string =
     let shown = of_constructed encoded refl in

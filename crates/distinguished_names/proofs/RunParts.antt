@@ -1,5 +1,5 @@
 -- What is left of a run, and what is behind it.
-use Rattle.std.proofs.Common.{◌≡◌, ◌<◌, ◌^◌, ℕ, List, [], ◌∷◌, ◌++◌, length, true, false, Option, Some, None, refl, sym, ap, ◌∙◌, arith, IsTrue}
+use Rattle.std.proofs.Common.{◌≡◌, ◌<◌, ◌^◌, ℕ, List, [], ◌∷◌, ◌++◌, length, true, false, Option, Some, None, refl, ap, ◌∙◌, arith, IsTrue}
 use Rattle.std.proofs.lemmas.List.{length-map}
 use Rattle.asn.specs.Place.{remaining}
 use Rattle.asn.specs.Members.{left, members_at}
@@ -33,18 +33,6 @@ rising_none last rest is = ap (rising last) is
 -- what is behind a run
 abbrev pub LeavesBehind : List Entry → List Entry → List Entry → Type 0
 LeavesBehind whole run rest = (tail : List Entry) → rest ≡ run ++ tail → whole ≡ run_of whole ++ tail
-
-pub run_begins : (whole others : List Entry) (e : Entry) → whole ≡ e ∷ others → LeavesBehind whole (rising e.0 others) others
-run_begins whole others e is tail joined =
-    is ∙ (ap (λ (es : List Entry). e ∷ es) joined ∙ ap (λ (es : List Entry). run_of es ++ tail) (sym is))
-
-pub run_goes_on : (whole rest others : List Entry) (last : List ℕ) (e : Entry) → LeavesBehind whole (rising last rest) rest → rest ≡ e ∷ others → comes_before last e.0 ≡ true
-    → LeavesBehind whole (rising e.0 others) others
-run_goes_on whole rest others last e h is before tail joined =
-    h tail (is ∙ (ap (λ (es : List Entry). e ∷ es) joined ∙ ap (λ (es : List Entry). es ++ tail) (sym (rising_more last rest others e is before))))
-
-pub run_stops : (whole rest : List Entry) (last : List ℕ) → LeavesBehind whole (rising last rest) rest → rising last rest ≡ [] → whole ≡ run_of whole ++ rest
-run_stops whole rest last h none = h rest (ap (λ (es : List Entry). es ++ rest) (sym none))
 
 -- no set is larger than a number can be
 pub entries_short : (set : Rdn) → length (entries_of set) < 2 ^ 64

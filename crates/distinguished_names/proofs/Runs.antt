@@ -215,14 +215,3 @@ none_left start limit run left is = subst (AreApart start limit run) (sym is) tt
 
 pub at_start : (start limit : ℕ) (run left others : List Placed) (x : Placed) → left ≡ x ∷ others → start ≤ x.0 → AreApart start limit run left
 at_start start limit run left others x is le = subst (AreApart start limit run) (sym is) (λ below. absurd (omega arith))
-
--- where a run ends
-pub run_more : (run rest others : List Placed) (last : List ℕ) (x : Placed) → ((limit : ℕ) → Rises limit last rest → Ascends limit run) → rest ≡ x ∷ others → comes_before last x.1 ≡ true
-    → (limit : ℕ) → Rises limit x.1 others → Ascends limit run
-run_more run rest others last x h is before limit rises = h limit (subst (Rises limit last) (sym is) (λ below. (before, rises)))
-
-pub run_ends : (run rest others : List Placed) (last : List ℕ) (x : Placed) → ((limit : ℕ) → Rises limit last rest → Ascends limit run) → rest ≡ x ∷ others → Ascends x.0 run
-run_ends run rest others last x h is = h x.0 (subst (Rises x.0 last) (sym is) (λ below. absurd (omega arith)))
-
-pub run_ends_all : (run rest : List Placed) (last : List ℕ) (limit : ℕ) → ((limit : ℕ) → Rises limit last rest → Ascends limit run) → rest ≡ [] → Ascends limit run
-run_ends_all run rest last limit h is = h limit (subst (Rises limit last) (sym is) tt)

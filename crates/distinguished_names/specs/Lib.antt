@@ -14,3 +14,4 @@ pub mod AttributeOrder
 pub mod Batch
 pub mod BatchView
 pub use Rattle.preparation.specs.Preparation
+pub mod NameComparison

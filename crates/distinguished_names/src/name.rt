@@ -3,15 +3,15 @@
 ghost use Rattle.std.specs.Prelude.{◌≡◌, ◌↔◌, ◌<◌, ℕ, [], length, IsTrue, IfOk, OnOk};
 ghost use Rattle.asn.specs.Place.{part, remaining};
 ghost use Rattle.asn.specs.Length.{contents_limit};
-ghost use Rattle.asn.specs.Members.{left, members};
+ghost use Rattle.asn.specs.Members.{left, members, octets_of_each};
 ghost use Rattle.asn.specs.Walk.{Gives, each};
 ghost use Rattle.asn.specs.Oid.{oid_contents};
 ghost use Rattle.distinguished_names.specs.DistinguishedName.{NamesMatch, IsWithin, HasKind, matching, is_within, MatchingIsExact, WithinIsExact};
 ghost use Rattle.distinguished_names.specs.NameKey.{name_key};
 ghost use Rattle.distinguished_names.specs.NameParts.{rdns_at};
-ghost use Rattle.distinguished_names.specs.NameOctets.{raw_of, rdns_of};
 ghost use Rattle.distinguished_names.specs.NameLayout.{name, rdn, attributes, one_more_rdn};
 ghost use Rattle.distinguished_names.specs.NameForms.{NameIsExact, NameHasLayout};
+ghost use Rattle.distinguished_names.specs.NameComparison.{NameIsComparedByLayout};
 ghost use Rattle.distinguished_names.specs.Repetition.{kinds_left, AreNew, IsRest};
 
 use crate::attribute::read_attribute;
@@ -27,6 +27,7 @@ use std::alloc::{AllocError, Global};
 pub struct Name<'a> {
     pub(crate) raw: &'a [u8],
     pub(crate) rdns: RdnSequence<'a>,
+    pub ghost members: { octets_of_each (left rdns.rdns).values ≡ octets_of_each (members (record { octets = raw.now; at = 0 })).values },
 }
 
 /// How far the attributes are known to have new types, once the one at the offset was read. A run is looked at when its first
@@ -99,6 +100,8 @@ fn read_name(tlv: Tlv<'_>) -> Result<Cursor<'_>, Refusal>
 }
 
 impl<'a> Name<'a> {
+    ghost use Rattle.distinguished_names.specs.NameOctets.{raw_of, rdns_of};
+
     /// As `read`, with faults at their offsets in the text handed to `asn::whole`.
     pub fn at(tlv: Tlv<'a>) -> Result<Name<'a>, Refusal>
         ensures walk { Gives (λ _. tt) result (name (part tlv.entry)) }
@@ -129,6 +132,14 @@ impl<'a> Name<'a> {
         ensures { result.now ≡ raw_of self.now }
     {
         self.raw
+    }
+
+    /// The RDNs in order, each a SET of attributes: the members of the name.
+    #[tactic(auto, unfolding(crate::specs::NameOctets::raw_of))]
+    pub fn rdns(&self) -> Cursor<'a>
+        ensures { octets_of_each (left result).values ≡ octets_of_each (members (record { octets = raw_of self.now; at = 0 })).values }
+    {
+        self.rdns.rdns
     }
 
     /// Whether the name has no RDN.
@@ -175,10 +186,11 @@ impl<'a> Name<'a> {
 }
 
 /// The tests of `matches` and `within` decide the relations. A place is read as a name exactly where it is one, and the
-/// encoding of a value exactly where the value has the layout of one.
+/// encoding of a value exactly where the value has the layout of one. It is compared as the sets of the attributes that the layout has.
 pub fn name_laws()
     ensures matching { MatchingIsExact }
     ensures within { WithinIsExact }
     ensures layout { NameIsExact }
     ensures value { NameHasLayout }
+    ensures compared { NameIsComparedByLayout }
 {}

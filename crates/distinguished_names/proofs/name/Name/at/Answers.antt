@@ -1,6 +1,7 @@
-use Rattle.std.proofs.Common.{refl, map, sym, ap, subst, arith}
-use Rattle.asn.specs.Members.{Members}
+use Rattle.std.proofs.Common.{refl, map, sym, ap, ◌∙◌, subst, arith}
+use Rattle.asn.specs.Members.{Members, octets_of_each}
 use Rattle.asn.specs.Place.{part}
+use Rattle.asn.proofs.Laws.{members_same}
 use Rattle.distinguished_names.specs.NameParts.{AreRdns, map_at, rdns_at}
 use Rattle.distinguished_names.specs.NameView.{sequence_of}
 use Rattle.distinguished_names.specs.NameOctets.{raw_of, rdns_of}
@@ -12,6 +13,11 @@ invariant_of-result c = record {
   read = ∣ subst (λ (m : Members). AreRdns m.values) (sym c.in_ok-rdns.ensures.rdns) (rdns_read (part c.args.tlv) tt c.in_ok-rdns.ensures.walk) ∣₁;
   short = let s = c.in_ok-rdns.ensures.short in omega arith;
 }
+
+pub invariant_of-result-2 : goal.invariant_of-result-2
+invariant_of-result-2 c =
+    let value = part c.args.tlv in
+    record { members = ap (λ (m : Members). octets_of_each m.values) c.in_ok-rdns.ensures.rdns ∙ members_same value (record { octets = value.octets; at = 0 }) refl }
 
 pub returns-clause-raw : goal.returns-clause-raw
 unfolding raw_of
