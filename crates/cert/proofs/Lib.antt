@@ -17,6 +17,8 @@ mod NameConstraintsLaws
 mod Sayings
 mod NewTypes
 mod ExtensionListLaws
+mod ExtensionTypes
+mod FieldLaws
 mod TbsLaws
 mod CertificateLaws
 pub mod Laws

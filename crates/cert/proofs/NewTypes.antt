@@ -73,10 +73,10 @@ new_pairs types (one ∷ others) new =
     (All-from_recursion (HaveOtherTypes one) others (differ_from types one others (new_absent (insert types one.extension.oid) others new.1)))
     (new_pairs (insert types one.extension.oid) others new.1)
 
-first_pairs : (one : Told) (others : List Told) → AllPairs HaveOtherTypes (one ∷ others) → AllByRecursion (HaveOtherTypes one) others
+pub first_pairs : (one : Told) (others : List Told) → AllPairs HaveOtherTypes (one ∷ others) → AllByRecursion (HaveOtherTypes one) others
 first_pairs one others pairs = recursion_from_All (HaveOtherTypes one) others (λ k d within. pairs 0 (suc k) d (omega arith) (omega arith))
 
-rest_pairs : (one : Told) (others : List Told) → AllPairs HaveOtherTypes (one ∷ others) → AllPairs HaveOtherTypes others
+pub rest_pairs : (one : Told) (others : List Told) → AllPairs HaveOtherTypes (one ∷ others) → AllPairs HaveOtherTypes others
 rest_pairs one others pairs = λ i j d lt within. pairs (suc i) (suc j) d (omega arith) (omega arith)
 
 with_one : (types : Oids) (one : Told) (rest : List Told) → AllByRecursion (Absent types) rest → AllByRecursion (HaveOtherTypes one) rest → AllByRecursion (Absent (insert types one.extension.oid)) rest

@@ -34,3 +34,4 @@ pub use Rattle.names.specs.GeneralForms
 pub use Rattle.names.specs.NameForms
 pub use Rattle.asn.specs.Part
 pub use Rattle.asn.specs.DerLaws
+pub mod ExtensionFields

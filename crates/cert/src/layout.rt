@@ -10,6 +10,7 @@ ghost use Rattle.cert.specs.AlternativeNames.{AlternativeNamesAreExact};
 ghost use Rattle.cert.specs.NameConstraints.{NameConstraintsAreExact};
 ghost use Rattle.cert.specs.SubjectPublicKeyInfo.{SubjectPublicKeyInfoIsExact};
 ghost use Rattle.cert.specs.CertificateForms.{CertificateIsExact, CertificateIsUnique};
+ghost use Rattle.cert.specs.ExtensionFields.{ExtensionsAreByField};
 
 /// A place is read as a part of a certificate exactly where it is one, and the encoding of a value exactly where the value
 /// has the layout; the fields are the parts of these octets that the layout names. What an OCTET STRING holds is read as the
@@ -30,8 +31,9 @@ pub fn layout_laws()
 {}
 
 /// Octets are read as a certificate exactly where they are one: DER with the layout of RFC 5280, 4.1, and these fields, which
-/// are the only ones.
+/// are the only ones. Each field of its extensions is what the extension of its type says, by the types of RFC 5280, 4.2.1.
 pub fn certificate_laws()
     ensures exact { CertificateIsExact }
     ensures unique { CertificateIsUnique }
+    ensures by_field { ExtensionsAreByField }
 {}

@@ -1,0 +1,347 @@
+-- Each field of the extensions is what the extension of its type says.
+use Rattle.std.proofs.Common.{◌≡◌, ◌≢◌, ◌⊎◌, ◌&&◌, ℕ, zero, suc, Bool, true, false, not, List, [], ◌∷◌, ◌++◌, map, Option, AllPairs, Contains, filter, append-nil, append_assoc, if◌then◌else◌, arith, refl, sym, ap, ◌∙◌, subst, inl, inr}
+use Rattle.std.specs.List.{AllByRecursion, AllZip}
+use Rattle.std.specs.Str.{bytes_eq}
+use Rattle.std.proofs.lemmas.Bool.{cases_Bool}
+use Rattle.std.proofs.lemmas.List.Elements.{All-from_recursion}
+use Rattle.std.proofs.lemmas.List.Kept.{AllPairs-cons}
+use Rattle.std.proofs.lemmas.Slice.Eq.{bytes_eq-Decides}
+use Rattle.asn.specs.Place.{Place}
+use Rattle.asn.specs.Members.{members}
+use Rattle.names.specs.GeneralLayout.{GeneralName}
+use Rattle.cert.specs.declared.extension_kind.ExtensionKind.{ExtensionKind}
+use Rattle.cert.specs.declared.extension_kind.ExtensionKind.TheVariants as Kind
+use Rattle.cert.specs.Extension.{Extension, IsExtension}
+use Rattle.cert.specs.Extensions.{Extensions, Saying, key_usage_is, alternative_names_are, basic_constraints_are, name_constraints_are, purposes_are, policies_are_processed, need_not_be_checked, says_nothing, no_extensions, told_key_usage, told_alternative_names, told_basic_constraints, told_name_constraints, told_purposes, told_policy, told_no_check, kind_of, is_recognised, told, noted}
+use Rattle.cert.specs.ExtensionForms.{Says, Told, Tells, all_told}
+use Rattle.cert.specs.ExtensionFields.{id_ce, id_ocsp_no_check, has_recognised_type, IsPolicyProcessing, HasOneOf, IsFieldOf, SaysKeyUsage, SaysBasicConstraints, AreFieldsOf, ExtensionsAreByField}
+use Rattle.cert.specs.AlternativeNames.{AreAlternativeNames}
+use Rattle.cert.specs.BasicConstraints.{BasicConstraints}
+use Rattle.cert.specs.NameConstraints.{NameConstraints, IsNameConstraints}
+use Rattle.cert.specs.Purposes.{ArePurposes}
+use Rattle.cert.proofs.ExtensionTypes.{HasType, type_of_kind, recognised_type, of_key_usage, of_alternative_names, of_basic_constraints, of_name_constraints, of_purposes, of_policy_processing, of_no_check}
+use Rattle.cert.proofs.ExtensionListLaws.{are_extensions}
+use Rattle.cert.proofs.NewTypes.{first_pairs, rest_pairs}
+
+abbrev extension_in : Told → Extension
+extension_in one = one.extension
+
+abbrev SaysSo : Told → Type 0
+SaysSo one = Says one.extension one.saying
+
+abbrev HaveOtherTypes : Told → Told → Type 0
+HaveOtherTypes one other = one.extension.oid ≢ other.extension.oid
+
+-- what is known behind one more
+abbrev after : Told → Extensions → Extensions
+after one before = noted one.extension (told one.saying before)
+
+-- an extension further behind
+behind : (e : Extension) (list : List Extension) (x : Extension) → Contains list x → Contains (e ∷ list) x
+behind e list x has = (suc has.0, omega (arith, has.1), has.2)
+
+-- one field, which one type of extension settles
+module _ {X : Type 0} (get : Extensions → X) (set : Saying → X → X) (type : List ℕ) (Gives : Place → X → Type 0)
+    (commutes : (one : Told) (before : Extensions) → get (after one before) ≡ set one.saying (get before))
+    (silent : (one : Told) (x : X) → SaysSo one → one.extension.oid ≢ type → set one.saying x ≡ x)
+    (spoken : (one : Told) (x : X) → SaysSo one → one.extension.oid ≡ type → Gives one.extension.value (set one.saying x)) where
+  unchanged : (list : List Told) (before : Extensions) → AllByRecursion SaysSo list → AllByRecursion (λ one. one.extension.oid ≢ type) list → get (all_told list before) ≡ get before
+  unchanged [] before says others = refl
+  unchanged (one ∷ list) before says others = unchanged list (after one before) says.1 others.1 ∙ commutes one before ∙ silent one (get before) says.0 others.0
+
+  others_of : (one : Told) (list : List Told) → one.extension.oid ≡ type → AllByRecursion (HaveOtherTypes one) list → AllByRecursion (λ other. other.extension.oid ≢ type) list
+  others_of one [] is differ = tt
+  others_of one (other ∷ list) is differ = ((λ same. differ.0 (is ∙ sym same)), others_of one list is differ.1)
+
+  later : (one : Told) (list : List Told) (before : Extensions) → SaysSo one → one.extension.oid ≢ type
+      → IsFieldOf (map extension_in list) type Gives (get (after one before)) (get (all_told list (after one before)))
+      → IsFieldOf (map extension_in (one ∷ list)) type Gives (get before) (get (all_told (one ∷ list) before))
+  later one list before says other (inl (e, has, is, gives)) = inl (e, behind one.extension (map extension_in list) e has, is, gives)
+  later one list before says other (inr (none, same)) = inr ((other, none), same ∙ commutes one before ∙ silent one (get before) says other)
+
+  field_of : (list : List Told) (before : Extensions) → AllByRecursion SaysSo list → AllPairs HaveOtherTypes list
+      → IsFieldOf (map extension_in list) type Gives (get before) (get (all_told list before))
+  field_of [] before says pairs = inr (tt, refl)
+  field_of (one ∷ list) before says pairs = elim (cases_Bool (bytes_eq one.extension.oid type)) [
+    | inl same ↦
+        let is = (bytes_eq-Decides one.extension.oid type).0 same in
+        let stays = unchanged list (after one before) says.1 (others_of one list is (first_pairs one list pairs)) ∙ commutes one before in
+        inl (one.extension, (zero, omega arith, refl), is, subst (Gives one.extension.value) (sym stays) (spoken one (get before) says.0 is))
+    | inr differs ↦
+        let other : one.extension.oid ≢ type = λ is. let same = (bytes_eq-Decides one.extension.oid type).1 is in absurd cc in
+        later one list before says.0 other (field_of list (after one before) says.1 (rest_pairs one list pairs))
+  ]
+
+-- a mark, which extensions of some types set
+module _ (get : Extensions → Bool) (set : Saying → Bool → Bool) (IsType : List ℕ → Type 0)
+    (commutes : (one : Told) (before : Extensions) → get (after one before) ≡ set one.saying (get before))
+    (set_by : (one : Told) (x : Bool) → SaysSo one → set one.saying x ≡ true → (x ≡ true) ⊎ IsType one.extension.oid)
+    (stays : (one : Told) → set one.saying true ≡ true)
+    (sets : (one : Told) (x : Bool) → SaysSo one → IsType one.extension.oid → set one.saying x ≡ true) where
+  marked_by : (list : List Told) (before : Extensions) → AllByRecursion SaysSo list → get (all_told list before) ≡ true
+      → (get before ≡ true) ⊎ HasOneOf IsType (map extension_in list)
+  marked_by [] before says marked = inl marked
+  marked_by (one ∷ list) before says marked = elim (marked_by list (after one before) says.1 marked) [
+    | inl next ↦ elim (set_by one (get before) says.0 (sym (commutes one before) ∙ next)) [
+      | inl was ↦ inl was
+      | inr is ↦ inr (one.extension, (zero, omega arith, refl), is)
+    ]
+    | inr (e, has, is) ↦ inr (e, behind one.extension (map extension_in list) e has, is)
+  ]
+
+  stays_marked : (list : List Told) (before : Extensions) → get before ≡ true → get (all_told list before) ≡ true
+  stays_marked [] before was = was
+  stays_marked (one ∷ list) before was = stays_marked list (after one before) (commutes one before ∙ ap (set one.saying) was ∙ stays one)
+
+  marks : (list : List Told) (before : Extensions) → AllByRecursion SaysSo list → HasOneOf IsType (map extension_in list) → get (all_told list before) ≡ true
+  marks [] before says (e, (k, within, found), is) = absurd (omega (arith, within))
+  marks (one ∷ list) before says (e, (zero, within, found), is) =
+      stays_marked list (after one before) (commutes one before ∙ sets one (get before) says.0 (subst (λ (x : Extension). IsType x.oid) (sym found) is))
+  marks (one ∷ list) before says (e, (suc k, within, found), is) = marks list (after one before) says.1 (e, (k, omega (arith, within), found), is)
+
+-- the types that are listed
+listed_behind : (list : List Told) (before : Extensions)
+    → (all_told list before).unrecognised ≡ before.unrecognised ++ map (λ (e : Extension). e.oid) (filter (λ (e : Extension). e.critical && not (has_recognised_type e.oid)) (map extension_in list))
+listed_behind [] before = sym (append-nil before.unrecognised)
+listed_behind (one ∷ list) before =
+    listed_behind list (after one before) ∙ go (one.extension.critical && not (is_recognised (kind_of one.extension.oid))) (ap (λ known. one.extension.critical && not known) (recognised_type one.extension.oid))
+  where
+    rest : List (List ℕ)
+    rest = map (λ (e : Extension). e.oid) (filter (λ (e : Extension). e.critical && not (has_recognised_type e.oid)) (map extension_in list))
+
+    go : (b : Bool) → b ≡ (one.extension.critical && not (has_recognised_type one.extension.oid)) → (if b then before.unrecognised ++ one.extension.oid ∷ [] else before.unrecognised) ++ rest
+        ≡ before.unrecognised ++ map (λ (e : Extension). e.oid) (filter (λ (e : Extension). e.critical && not (has_recognised_type e.oid)) (map extension_in (one ∷ list)))
+    go true is = rw (← is) (append_assoc before.unrecognised (one.extension.oid ∷ []) rest)
+    go false is = rw (← is) refl
+
+-- the kind of a type, and a saying that it does not go with
+kind_is : (e : Extension) (type : List ℕ) (kind said : ExtensionKind) → kind_of type ≡ kind → e.oid ≡ type → kind_of e.oid ≡ said → kind ≡ said
+kind_is e type kind said of is says = sym of ∙ ap kind_of (sym is) ∙ says
+
+-- an extension has the type of its kind
+type_is : (e : Extension) (kind : ExtensionKind) → kind_of e.oid ≡ kind → HasType kind e.oid
+type_is e kind is = subst (λ (k : ExtensionKind). HasType k e.oid) is (type_of_kind e.oid)
+
+silent_key_usage : (e : Extension) (s : Saying) (x : Option (List ℕ)) → Says e s → e.oid ≢ id_ce 15 → told_key_usage s x ≡ x
+silent_key_usage e (key_usage_is v) x says other = absurd (other (type_is e Kind.KeyUsage says.0))
+silent_key_usage e (alternative_names_are v) x says other = refl
+silent_key_usage e (basic_constraints_are v) x says other = refl
+silent_key_usage e (name_constraints_are v) x says other = refl
+silent_key_usage e (purposes_are v) x says other = refl
+silent_key_usage e policies_are_processed x says other = refl
+silent_key_usage e need_not_be_checked x says other = refl
+silent_key_usage e says_nothing x says other = refl
+
+spoken_key_usage : (e : Extension) (s : Saying) (x : Option (List ℕ)) → Says e s → e.oid ≡ id_ce 15 → SaysKeyUsage e.value (told_key_usage s x)
+spoken_key_usage e (key_usage_is v) x says is = (v, says.1, refl)
+spoken_key_usage e (alternative_names_are v) x says is = let no : Kind.KeyUsage ≡ Kind.AlternativeNames = kind_is e (id_ce 15) Kind.KeyUsage Kind.AlternativeNames of_key_usage is says.0 in absurd cc
+spoken_key_usage e (basic_constraints_are v) x says is = let no : Kind.KeyUsage ≡ Kind.BasicConstraints = kind_is e (id_ce 15) Kind.KeyUsage Kind.BasicConstraints of_key_usage is says.0 in absurd cc
+spoken_key_usage e (name_constraints_are v) x says is = let no : Kind.KeyUsage ≡ Kind.NameConstraints = kind_is e (id_ce 15) Kind.KeyUsage Kind.NameConstraints of_key_usage is says.0 in absurd cc
+spoken_key_usage e (purposes_are v) x says is = let no : Kind.KeyUsage ≡ Kind.Purposes = kind_is e (id_ce 15) Kind.KeyUsage Kind.Purposes of_key_usage is says.0 in absurd cc
+spoken_key_usage e policies_are_processed x says is = let no : Kind.KeyUsage ≡ Kind.PolicyProcessing = kind_is e (id_ce 15) Kind.KeyUsage Kind.PolicyProcessing of_key_usage is says in absurd cc
+spoken_key_usage e need_not_be_checked x says is = let no : Kind.KeyUsage ≡ Kind.NoCheck = kind_is e (id_ce 15) Kind.KeyUsage Kind.NoCheck of_key_usage is says in absurd cc
+spoken_key_usage e says_nothing x (inl says) is = let no : Kind.KeyUsage ≡ Kind.Policies = kind_is e (id_ce 15) Kind.KeyUsage Kind.Policies of_key_usage is says in absurd cc
+spoken_key_usage e says_nothing x (inr says) is = let no : Kind.KeyUsage ≡ Kind.Other = kind_is e (id_ce 15) Kind.KeyUsage Kind.Other of_key_usage is says in absurd cc
+
+silent_alternative_names : (e : Extension) (s : Saying) (x : List GeneralName) → Says e s → e.oid ≢ id_ce 17 → told_alternative_names s x ≡ x
+silent_alternative_names e (key_usage_is v) x says other = refl
+silent_alternative_names e (alternative_names_are v) x says other = absurd (other (type_is e Kind.AlternativeNames says.0))
+silent_alternative_names e (basic_constraints_are v) x says other = refl
+silent_alternative_names e (name_constraints_are v) x says other = refl
+silent_alternative_names e (purposes_are v) x says other = refl
+silent_alternative_names e policies_are_processed x says other = refl
+silent_alternative_names e need_not_be_checked x says other = refl
+silent_alternative_names e says_nothing x says other = refl
+
+spoken_alternative_names : (e : Extension) (s : Saying) (x : List GeneralName) → Says e s → e.oid ≡ id_ce 17 → AreAlternativeNames e.value (told_alternative_names s x)
+spoken_alternative_names e (key_usage_is v) x says is = let no : Kind.AlternativeNames ≡ Kind.KeyUsage = kind_is e (id_ce 17) Kind.AlternativeNames Kind.KeyUsage of_alternative_names is says.0 in absurd cc
+spoken_alternative_names e (alternative_names_are v) x says is = says.1
+spoken_alternative_names e (basic_constraints_are v) x says is = let no : Kind.AlternativeNames ≡ Kind.BasicConstraints = kind_is e (id_ce 17) Kind.AlternativeNames Kind.BasicConstraints of_alternative_names is says.0 in absurd cc
+spoken_alternative_names e (name_constraints_are v) x says is = let no : Kind.AlternativeNames ≡ Kind.NameConstraints = kind_is e (id_ce 17) Kind.AlternativeNames Kind.NameConstraints of_alternative_names is says.0 in absurd cc
+spoken_alternative_names e (purposes_are v) x says is = let no : Kind.AlternativeNames ≡ Kind.Purposes = kind_is e (id_ce 17) Kind.AlternativeNames Kind.Purposes of_alternative_names is says.0 in absurd cc
+spoken_alternative_names e policies_are_processed x says is = let no : Kind.AlternativeNames ≡ Kind.PolicyProcessing = kind_is e (id_ce 17) Kind.AlternativeNames Kind.PolicyProcessing of_alternative_names is says in absurd cc
+spoken_alternative_names e need_not_be_checked x says is = let no : Kind.AlternativeNames ≡ Kind.NoCheck = kind_is e (id_ce 17) Kind.AlternativeNames Kind.NoCheck of_alternative_names is says in absurd cc
+spoken_alternative_names e says_nothing x (inl says) is = let no : Kind.AlternativeNames ≡ Kind.Policies = kind_is e (id_ce 17) Kind.AlternativeNames Kind.Policies of_alternative_names is says in absurd cc
+spoken_alternative_names e says_nothing x (inr says) is = let no : Kind.AlternativeNames ≡ Kind.Other = kind_is e (id_ce 17) Kind.AlternativeNames Kind.Other of_alternative_names is says in absurd cc
+
+silent_basic_constraints : (e : Extension) (s : Saying) (x : Option BasicConstraints) → Says e s → e.oid ≢ id_ce 19 → told_basic_constraints s x ≡ x
+silent_basic_constraints e (key_usage_is v) x says other = refl
+silent_basic_constraints e (alternative_names_are v) x says other = refl
+silent_basic_constraints e (basic_constraints_are v) x says other = absurd (other (type_is e Kind.BasicConstraints says.0))
+silent_basic_constraints e (name_constraints_are v) x says other = refl
+silent_basic_constraints e (purposes_are v) x says other = refl
+silent_basic_constraints e policies_are_processed x says other = refl
+silent_basic_constraints e need_not_be_checked x says other = refl
+silent_basic_constraints e says_nothing x says other = refl
+
+spoken_basic_constraints : (e : Extension) (s : Saying) (x : Option BasicConstraints) → Says e s → e.oid ≡ id_ce 19 → SaysBasicConstraints e.value (told_basic_constraints s x)
+spoken_basic_constraints e (key_usage_is v) x says is = let no : Kind.BasicConstraints ≡ Kind.KeyUsage = kind_is e (id_ce 19) Kind.BasicConstraints Kind.KeyUsage of_basic_constraints is says.0 in absurd cc
+spoken_basic_constraints e (alternative_names_are v) x says is = let no : Kind.BasicConstraints ≡ Kind.AlternativeNames = kind_is e (id_ce 19) Kind.BasicConstraints Kind.AlternativeNames of_basic_constraints is says.0 in absurd cc
+spoken_basic_constraints e (basic_constraints_are v) x says is = (v, says.1, refl)
+spoken_basic_constraints e (name_constraints_are v) x says is = let no : Kind.BasicConstraints ≡ Kind.NameConstraints = kind_is e (id_ce 19) Kind.BasicConstraints Kind.NameConstraints of_basic_constraints is says.0 in absurd cc
+spoken_basic_constraints e (purposes_are v) x says is = let no : Kind.BasicConstraints ≡ Kind.Purposes = kind_is e (id_ce 19) Kind.BasicConstraints Kind.Purposes of_basic_constraints is says.0 in absurd cc
+spoken_basic_constraints e policies_are_processed x says is = let no : Kind.BasicConstraints ≡ Kind.PolicyProcessing = kind_is e (id_ce 19) Kind.BasicConstraints Kind.PolicyProcessing of_basic_constraints is says in absurd cc
+spoken_basic_constraints e need_not_be_checked x says is = let no : Kind.BasicConstraints ≡ Kind.NoCheck = kind_is e (id_ce 19) Kind.BasicConstraints Kind.NoCheck of_basic_constraints is says in absurd cc
+spoken_basic_constraints e says_nothing x (inl says) is = let no : Kind.BasicConstraints ≡ Kind.Policies = kind_is e (id_ce 19) Kind.BasicConstraints Kind.Policies of_basic_constraints is says in absurd cc
+spoken_basic_constraints e says_nothing x (inr says) is = let no : Kind.BasicConstraints ≡ Kind.Other = kind_is e (id_ce 19) Kind.BasicConstraints Kind.Other of_basic_constraints is says in absurd cc
+
+silent_name_constraints : (e : Extension) (s : Saying) (x : NameConstraints) → Says e s → e.oid ≢ id_ce 30 → told_name_constraints s x ≡ x
+silent_name_constraints e (key_usage_is v) x says other = refl
+silent_name_constraints e (alternative_names_are v) x says other = refl
+silent_name_constraints e (basic_constraints_are v) x says other = refl
+silent_name_constraints e (name_constraints_are v) x says other = absurd (other (type_is e Kind.NameConstraints says.0))
+silent_name_constraints e (purposes_are v) x says other = refl
+silent_name_constraints e policies_are_processed x says other = refl
+silent_name_constraints e need_not_be_checked x says other = refl
+silent_name_constraints e says_nothing x says other = refl
+
+spoken_name_constraints : (e : Extension) (s : Saying) (x : NameConstraints) → Says e s → e.oid ≡ id_ce 30 → IsNameConstraints e.value (told_name_constraints s x)
+spoken_name_constraints e (key_usage_is v) x says is = let no : Kind.NameConstraints ≡ Kind.KeyUsage = kind_is e (id_ce 30) Kind.NameConstraints Kind.KeyUsage of_name_constraints is says.0 in absurd cc
+spoken_name_constraints e (alternative_names_are v) x says is = let no : Kind.NameConstraints ≡ Kind.AlternativeNames = kind_is e (id_ce 30) Kind.NameConstraints Kind.AlternativeNames of_name_constraints is says.0 in absurd cc
+spoken_name_constraints e (basic_constraints_are v) x says is = let no : Kind.NameConstraints ≡ Kind.BasicConstraints = kind_is e (id_ce 30) Kind.NameConstraints Kind.BasicConstraints of_name_constraints is says.0 in absurd cc
+spoken_name_constraints e (name_constraints_are v) x says is = says.1
+spoken_name_constraints e (purposes_are v) x says is = let no : Kind.NameConstraints ≡ Kind.Purposes = kind_is e (id_ce 30) Kind.NameConstraints Kind.Purposes of_name_constraints is says.0 in absurd cc
+spoken_name_constraints e policies_are_processed x says is = let no : Kind.NameConstraints ≡ Kind.PolicyProcessing = kind_is e (id_ce 30) Kind.NameConstraints Kind.PolicyProcessing of_name_constraints is says in absurd cc
+spoken_name_constraints e need_not_be_checked x says is = let no : Kind.NameConstraints ≡ Kind.NoCheck = kind_is e (id_ce 30) Kind.NameConstraints Kind.NoCheck of_name_constraints is says in absurd cc
+spoken_name_constraints e says_nothing x (inl says) is = let no : Kind.NameConstraints ≡ Kind.Policies = kind_is e (id_ce 30) Kind.NameConstraints Kind.Policies of_name_constraints is says in absurd cc
+spoken_name_constraints e says_nothing x (inr says) is = let no : Kind.NameConstraints ≡ Kind.Other = kind_is e (id_ce 30) Kind.NameConstraints Kind.Other of_name_constraints is says in absurd cc
+
+silent_purposes : (e : Extension) (s : Saying) (x : List (List ℕ)) → Says e s → e.oid ≢ id_ce 37 → told_purposes s x ≡ x
+silent_purposes e (key_usage_is v) x says other = refl
+silent_purposes e (alternative_names_are v) x says other = refl
+silent_purposes e (basic_constraints_are v) x says other = refl
+silent_purposes e (name_constraints_are v) x says other = refl
+silent_purposes e (purposes_are v) x says other = absurd (other (type_is e Kind.Purposes says.0))
+silent_purposes e policies_are_processed x says other = refl
+silent_purposes e need_not_be_checked x says other = refl
+silent_purposes e says_nothing x says other = refl
+
+spoken_purposes : (e : Extension) (s : Saying) (x : List (List ℕ)) → Says e s → e.oid ≡ id_ce 37 → ArePurposes e.value (told_purposes s x)
+spoken_purposes e (key_usage_is v) x says is = let no : Kind.Purposes ≡ Kind.KeyUsage = kind_is e (id_ce 37) Kind.Purposes Kind.KeyUsage of_purposes is says.0 in absurd cc
+spoken_purposes e (alternative_names_are v) x says is = let no : Kind.Purposes ≡ Kind.AlternativeNames = kind_is e (id_ce 37) Kind.Purposes Kind.AlternativeNames of_purposes is says.0 in absurd cc
+spoken_purposes e (basic_constraints_are v) x says is = let no : Kind.Purposes ≡ Kind.BasicConstraints = kind_is e (id_ce 37) Kind.Purposes Kind.BasicConstraints of_purposes is says.0 in absurd cc
+spoken_purposes e (name_constraints_are v) x says is = let no : Kind.Purposes ≡ Kind.NameConstraints = kind_is e (id_ce 37) Kind.Purposes Kind.NameConstraints of_purposes is says.0 in absurd cc
+spoken_purposes e (purposes_are v) x says is = says.1
+spoken_purposes e policies_are_processed x says is = let no : Kind.Purposes ≡ Kind.PolicyProcessing = kind_is e (id_ce 37) Kind.Purposes Kind.PolicyProcessing of_purposes is says in absurd cc
+spoken_purposes e need_not_be_checked x says is = let no : Kind.Purposes ≡ Kind.NoCheck = kind_is e (id_ce 37) Kind.Purposes Kind.NoCheck of_purposes is says in absurd cc
+spoken_purposes e says_nothing x (inl says) is = let no : Kind.Purposes ≡ Kind.Policies = kind_is e (id_ce 37) Kind.Purposes Kind.Policies of_purposes is says in absurd cc
+spoken_purposes e says_nothing x (inr says) is = let no : Kind.Purposes ≡ Kind.Other = kind_is e (id_ce 37) Kind.Purposes Kind.Other of_purposes is says in absurd cc
+
+policy_set_by : (e : Extension) (s : Saying) (x : Bool) → Says e s → told_policy s x ≡ true → (x ≡ true) ⊎ IsPolicyProcessing e.oid
+policy_set_by e (key_usage_is v) x says set = inl set
+policy_set_by e (alternative_names_are v) x says set = inl set
+policy_set_by e (basic_constraints_are v) x says set = inl set
+policy_set_by e (name_constraints_are v) x says set = inl set
+policy_set_by e (purposes_are v) x says set = inl set
+policy_set_by e policies_are_processed x says set = inr (type_is e Kind.PolicyProcessing says)
+policy_set_by e need_not_be_checked x says set = inl set
+policy_set_by e says_nothing x says set = inl set
+
+policy_stays : (s : Saying) → told_policy s true ≡ true
+policy_stays (key_usage_is v) = refl
+policy_stays (alternative_names_are v) = refl
+policy_stays (basic_constraints_are v) = refl
+policy_stays (name_constraints_are v) = refl
+policy_stays (purposes_are v) = refl
+policy_stays policies_are_processed = refl
+policy_stays need_not_be_checked = refl
+policy_stays says_nothing = refl
+
+policy_sets : (e : Extension) (s : Saying) (x : Bool) → Says e s → IsPolicyProcessing e.oid → told_policy s x ≡ true
+policy_sets e (key_usage_is v) x says is = let no : Kind.PolicyProcessing ≡ Kind.KeyUsage = sym (of_policy_processing e.oid is) ∙ says.0 in absurd cc
+policy_sets e (alternative_names_are v) x says is = let no : Kind.PolicyProcessing ≡ Kind.AlternativeNames = sym (of_policy_processing e.oid is) ∙ says.0 in absurd cc
+policy_sets e (basic_constraints_are v) x says is = let no : Kind.PolicyProcessing ≡ Kind.BasicConstraints = sym (of_policy_processing e.oid is) ∙ says.0 in absurd cc
+policy_sets e (name_constraints_are v) x says is = let no : Kind.PolicyProcessing ≡ Kind.NameConstraints = sym (of_policy_processing e.oid is) ∙ says.0 in absurd cc
+policy_sets e (purposes_are v) x says is = let no : Kind.PolicyProcessing ≡ Kind.Purposes = sym (of_policy_processing e.oid is) ∙ says.0 in absurd cc
+policy_sets e policies_are_processed x says is = refl
+policy_sets e need_not_be_checked x says is = let no : Kind.PolicyProcessing ≡ Kind.NoCheck = sym (of_policy_processing e.oid is) ∙ says in absurd cc
+policy_sets e says_nothing x (inl says) is = let no : Kind.PolicyProcessing ≡ Kind.Policies = sym (of_policy_processing e.oid is) ∙ says in absurd cc
+policy_sets e says_nothing x (inr says) is = let no : Kind.PolicyProcessing ≡ Kind.Other = sym (of_policy_processing e.oid is) ∙ says in absurd cc
+
+no_check_set_by : (e : Extension) (s : Saying) (x : Bool) → Says e s → told_no_check s x ≡ true → (x ≡ true) ⊎ (e.oid ≡ id_ocsp_no_check)
+no_check_set_by e (key_usage_is v) x says set = inl set
+no_check_set_by e (alternative_names_are v) x says set = inl set
+no_check_set_by e (basic_constraints_are v) x says set = inl set
+no_check_set_by e (name_constraints_are v) x says set = inl set
+no_check_set_by e (purposes_are v) x says set = inl set
+no_check_set_by e policies_are_processed x says set = inl set
+no_check_set_by e need_not_be_checked x says set = inr (type_is e Kind.NoCheck says)
+no_check_set_by e says_nothing x says set = inl set
+
+no_check_stays : (s : Saying) → told_no_check s true ≡ true
+no_check_stays (key_usage_is v) = refl
+no_check_stays (alternative_names_are v) = refl
+no_check_stays (basic_constraints_are v) = refl
+no_check_stays (name_constraints_are v) = refl
+no_check_stays (purposes_are v) = refl
+no_check_stays policies_are_processed = refl
+no_check_stays need_not_be_checked = refl
+no_check_stays says_nothing = refl
+
+no_check_sets : (e : Extension) (s : Saying) (x : Bool) → Says e s → (e.oid ≡ id_ocsp_no_check) → told_no_check s x ≡ true
+no_check_sets e (key_usage_is v) x says is = let no : Kind.NoCheck ≡ Kind.KeyUsage = sym (of_no_check e.oid is) ∙ says.0 in absurd cc
+no_check_sets e (alternative_names_are v) x says is = let no : Kind.NoCheck ≡ Kind.AlternativeNames = sym (of_no_check e.oid is) ∙ says.0 in absurd cc
+no_check_sets e (basic_constraints_are v) x says is = let no : Kind.NoCheck ≡ Kind.BasicConstraints = sym (of_no_check e.oid is) ∙ says.0 in absurd cc
+no_check_sets e (name_constraints_are v) x says is = let no : Kind.NoCheck ≡ Kind.NameConstraints = sym (of_no_check e.oid is) ∙ says.0 in absurd cc
+no_check_sets e (purposes_are v) x says is = let no : Kind.NoCheck ≡ Kind.Purposes = sym (of_no_check e.oid is) ∙ says.0 in absurd cc
+no_check_sets e policies_are_processed x says is = let no : Kind.NoCheck ≡ Kind.PolicyProcessing = sym (of_no_check e.oid is) ∙ says in absurd cc
+no_check_sets e need_not_be_checked x says is = refl
+no_check_sets e says_nothing x (inl says) is = let no : Kind.NoCheck ≡ Kind.Policies = sym (of_no_check e.oid is) ∙ says in absurd cc
+no_check_sets e says_nothing x (inr says) is = let no : Kind.NoCheck ≡ Kind.Other = sym (of_no_check e.oid is) ∙ says in absurd cc
+
+-- the fields of a list of extensions
+fields_of : (list : List Told) → AllByRecursion SaysSo list → AllPairs HaveOtherTypes list → AreFieldsOf (map extension_in list) (all_told list no_extensions)
+fields_of list says pairs = record {
+  key_usage = field_of (λ (x : Extensions). x.key_usage) told_key_usage (id_ce 15) SaysKeyUsage (λ one before. refl) (λ one x. silent_key_usage one.extension one.saying x) (λ one x. spoken_key_usage one.extension one.saying x) list no_extensions says pairs;
+  alternative_names = field_of (λ (x : Extensions). x.alternative_names) told_alternative_names (id_ce 17) AreAlternativeNames (λ one before. refl) (λ one x. silent_alternative_names one.extension one.saying x) (λ one x. spoken_alternative_names one.extension one.saying x) list no_extensions says pairs;
+  basic_constraints = field_of (λ (x : Extensions). x.basic_constraints) told_basic_constraints (id_ce 19) SaysBasicConstraints (λ one before. refl) (λ one x. silent_basic_constraints one.extension one.saying x) (λ one x. spoken_basic_constraints one.extension one.saying x) list no_extensions says pairs;
+  name_constraints = field_of (λ (x : Extensions). x.name_constraints) told_name_constraints (id_ce 30) IsNameConstraints (λ one before. refl) (λ one x. silent_name_constraints one.extension one.saying x) (λ one x. spoken_name_constraints one.extension one.saying x) list no_extensions says pairs;
+  purposes = field_of (λ (x : Extensions). x.purposes) told_purposes (id_ce 37) ArePurposes (λ one before. refl) (λ one x. silent_purposes one.extension one.saying x) (λ one x. spoken_purposes one.extension one.saying x) list no_extensions says pairs;
+  needs_policy_processing = (
+    (λ marked. unmarked (marked_by (λ (x : Extensions). x.needs_policy_processing) told_policy IsPolicyProcessing (λ one before. refl) (λ one x. policy_set_by one.extension one.saying x) (λ one. policy_stays one.saying) (λ one x. policy_sets one.extension one.saying x) list no_extensions says marked)),
+    marks (λ (x : Extensions). x.needs_policy_processing) told_policy IsPolicyProcessing (λ one before. refl) (λ one x. policy_set_by one.extension one.saying x) (λ one. policy_stays one.saying) (λ one x. policy_sets one.extension one.saying x) list no_extensions says,
+  );
+  no_check = (
+    (λ marked. unmarked (marked_by (λ (x : Extensions). x.no_check) told_no_check (λ type. type ≡ id_ocsp_no_check) (λ one before. refl) (λ one x. no_check_set_by one.extension one.saying x) (λ one. no_check_stays one.saying) (λ one x. no_check_sets one.extension one.saying x) list no_extensions says marked)),
+    marks (λ (x : Extensions). x.no_check) told_no_check (λ type. type ≡ id_ocsp_no_check) (λ one before. refl) (λ one x. no_check_set_by one.extension one.saying x) (λ one. no_check_stays one.saying) (λ one x. no_check_sets one.extension one.saying x) list no_extensions says,
+  );
+  unrecognised = listed_behind list no_extensions;
+}
+  where
+    unmarked : {A : Type 0} → (false ≡ true) ⊎ A → A
+    unmarked (inl never) = absurd cc
+    unmarked (inr a) = a
+
+-- of each place that tells something, the extension and what it says
+extensions_are_in : (values : List Place) (list : List Told) → AllZip Tells values list → AllZip IsExtension values (map extension_in list)
+extensions_are_in [] [] all = tt
+extensions_are_in [] (one ∷ list) all = absurd all
+extensions_are_in (value ∷ values) [] all = absurd all
+extensions_are_in (value ∷ values) (one ∷ list) all = (all.0.is_extension, extensions_are_in values list all.1)
+
+say_so : (values : List Place) (list : List Told) → AllZip Tells values list → AllByRecursion SaysSo list
+say_so [] [] all = tt
+say_so [] (one ∷ list) all = absurd all
+say_so (value ∷ values) [] all = absurd all
+say_so (value ∷ values) (one ∷ list) all = (all.0.says, say_so values list all.1)
+
+differ_in : (one : Told) (list : List Told) → AllByRecursion (HaveOtherTypes one) list → AllByRecursion (λ (e : Extension). one.extension.oid ≢ e.oid) (map extension_in list)
+differ_in one [] all = tt
+differ_in one (other ∷ list) all = (all.0, differ_in one list all.1)
+
+types_differ : (list : List Told) → AllPairs HaveOtherTypes list → AllPairs (λ (a b : Extension). a.oid ≢ b.oid) (map extension_in list)
+types_differ [] pairs = λ i j d lt within. absurd (omega arith)
+types_differ (one ∷ list) pairs =
+    AllPairs-cons (λ (a b : Extension). a.oid ≢ b.oid) one.extension (map extension_in list)
+    (All-from_recursion (λ (e : Extension). one.extension.oid ≢ e.oid) (map extension_in list) (differ_in one list (first_pairs one list pairs)))
+    (types_differ list (rest_pairs one list pairs))
+
+pub extensions_by_field : ExtensionsAreByField
+extensions_by_field value fields fits e =
+    let are = are_extensions value fields fits e in
+    record {
+      list = map extension_in are.list;
+      each = extensions_are_in ((members value).values) are.list are.each;
+      types = types_differ are.list are.types;
+      fields_are = subst (AreFieldsOf (map extension_in are.list)) (sym are.fields_are) (fields_of are.list (say_so ((members value).values) are.list are.each) are.types);
+    }
