@@ -1,0 +1,5 @@
+mod Standing
+mod Steps
+mod Names
+mod Extensions
+mod Certificates
