@@ -1,15 +1,14 @@
 -- The components of a certificate stand where the walk over its places finds them.
-use Rattle.std.proofs.Common.{◌≡◌, ℕ, ◌+◌, false, List, [], ◌∷◌, ◌++◌, length, Option, Ok, refl, sym, ap, ◌∙◌, subst}
+use Rattle.std.proofs.Common.{◌≡◌, ℕ, false, List, [], ◌∷◌, ◌++◌, Option, Ok, refl, sym, ap, ◌∙◌, subst}
 use Rattle.std.proofs.lemmas.List.{append-nil}
-use Rattle.asn.specs.Value.{Value, Values, primitive, constructed, none, more}
+use Rattle.asn.specs.Value.{Value}
 use Rattle.asn.specs.Identifier.{is_constructed}
 use Rattle.asn.specs.Encoding.{EncodesAt}
 use Rattle.asn.specs.DerLaws.{AreOctets}
-use Rattle.asn.specs.Place.{Place, tag, inside}
+use Rattle.asn.specs.Place.{Place, tag}
 use Rattle.asn.specs.Members.{Members, members, begins}
 use Rattle.asn.specs.Walk.{optional}
-use Rattle.asn.specs.Layout.{AreMembersAt, AreParts}
-use Rattle.asn.proofs.Laws.{holds, contents_part, members_are_parts, is_a_again, next_or_again, optional_there, optional_absent}
+use Rattle.asn.proofs.Laws.{IsEncodedPart, AllParts, members_stand, contents_stand, is_a_again, next_or_again, optional_there, optional_absent}
 use Rattle.cert.specs.declared.fault.CertRule.TheVariants.{Layout}
 use Rattle.cert.specs.declared.version.Version.{Version}
 use Rattle.cert.specs.Version.{IsVersion}
@@ -18,41 +17,7 @@ use Rattle.cert.specs.SubjectPublicKeyInfo.{SubjectPublicKeyInfo, IsSubjectPubli
 use Rattle.cert.specs.Certificate.{Certificate, certificate}
 use Rattle.cert.specs.CertificateForms.{IsCertificateAt}
 use Rattle.cert.proofs.Laws.{certificate_is_exact}
-use Rattle.capi.specs.Places.{Places, StandsIn, ArePlacesOf, outer_places, head_places, subject_places, key_place, places}
-
--- a part of the text that is an encoding
-record IsEncodedPart (text : List ℕ) (place : Place) : Type 0 where
-  stands : StandsIn text place
-  depth : ℕ
-  value : Value
-  encodes : EncodesAt depth place.octets value
-
-abbrev AllParts : List ℕ → List Place → Type 0
-AllParts text [] = Unit {0}
-AllParts text (place ∷ places) = IsEncodedPart text place × AllParts text places
-
-both : (text : List ℕ) (depth at : ℕ) (values : Values) (places : List Place) → AreMembersAt depth at values places → AreParts text places → AllParts text places
-both text depth at none [] are parts = tt
-both text depth at none (place ∷ places) are parts = absurd are
-both text depth at (more value values) [] are parts = absurd are
-both text depth at (more value values) (place ∷ places) are parts =
-    (record { stands = parts.0; depth = depth; value = value; encodes = are.1 }, both text depth (at + length place.octets) values places are.2 parts.1)
-
-members_stand : (text : List ℕ) (place : Place) → tag place ≡ 0x30 → IsEncodedPart text place → AllParts text (members place).values
-members_stand text place sequence whole = by whole.value whole.encodes
-  where
-    by : (value : Value) → EncodesAt whole.depth place.octets value → AllParts text (members place).values
-    by (primitive identifier contents) encodes =
-        let h = holds whole.depth (primitive identifier contents) place encodes in
-        let is_off : is_constructed 0x30 ≡ false = ap is_constructed (sym sequence ∙ h.0) ∙ h.1 in
-        absurd cc
-    by (constructed identifier values) encodes =
-        let h = holds whole.depth (constructed identifier values) place encodes in
-        both text (whole.depth + 1) _ values (members place).values h.2 (members_are_parts text whole.depth identifier values place whole.stands encodes)
-
-contents_stand : (text : List ℕ) (place : Place) → IsEncodedPart text place → StandsIn text (inside place)
-unfolding inside
-contents_stand text place whole = contents_part text whole.depth place.at place.octets whole.value whole.encodes whole.stands
+use Rattle.capi.specs.Places.{Places, ArePlacesOf, components, outer_places, head_places, subject_places, key_place, places}
 
 later : (text : List ℕ) (first others : List Place) → AllParts text (first ++ others) → AllParts text others
 later text [] others parts = parts
@@ -122,18 +87,7 @@ whole_stands text value encodes = record {
   encodes = encodes;
 }
 
--- where the components of a certificate stand
-abbrev places_in : (value : Place) (fields : Certificate) → IsCertificateAt value fields → Places
-places_in value fields is =
-    let tbs = is.signed_is in
-    record {
-      outer = record { tbs = is.signed; signature = is.signature };
-      head = record { serial = tbs.serial; algorithm = tbs.signature; issuer = tbs.issuer };
-      subject = record { name = tbs.subject; key_info = tbs.key_info };
-      key = tbs.key_info_is.key;
-    }
-
-places_found : (value : Place) (fields : Certificate) (is : IsCertificateAt value fields) → places value ≡ Ok (places_in value fields is)
+pub places_found : (value : Place) (fields : Certificate) (is : IsCertificateAt value fields) → places value ≡ Ok (components value fields is)
 unfolding places
 places_found value fields is =
     let tbs = is.signed_is in
@@ -148,14 +102,14 @@ places_found value fields is =
       key_again tbs.key_info is.tbs.subject.key_info tbs.key_info_is,
     ) refl
 
-they_stand : (text : List ℕ) (fields : Certificate) (is : IsCertificateAt (whole_text text) fields) → IsEncodedPart text (whole_text text) → ArePlacesOf text (places_in (whole_text text) fields is) fields
+they_stand : (text : List ℕ) (fields : Certificate) (is : IsCertificateAt (whole_text text) fields) → IsEncodedPart text (whole_text text) → ArePlacesOf text (components (whole_text text) fields is) fields
 they_stand text fields is whole =
     let tbs = is.signed_is in
-    let outer = subst (AllParts text) is.members_are (members_stand text (whole_text text) is.sequence whole) in
-    let inner = later text tbs.versions _ (subst (AllParts text) tbs.members_are (members_stand text is.signed is.signed_sequence outer.0)) in
+    let outer = subst (AllParts text) is.members_are (members_stand text (whole_text text) (ap is_constructed is.sequence) whole) in
+    let inner = later text tbs.versions _ (subst (AllParts text) tbs.members_are (members_stand text is.signed (ap is_constructed is.signed_sequence) outer.0)) in
     let behind_issuer = inner.1.1.1 in
     let key_info = behind_issuer.1.1.0 in
-    let key = subst (AllParts text) tbs.key_info_is.members_are (members_stand text tbs.key_info tbs.key_info_is.sequence key_info) in
+    let key = subst (AllParts text) tbs.key_info_is.members_are (members_stand text tbs.key_info (ap is_constructed tbs.key_info_is.sequence) key_info) in
     let same = is.fields_are in
     record {
       tbs_stands = outer.0.stands;
@@ -181,4 +135,4 @@ pub stand : (text : List ℕ) (fields : Certificate) → AreOctets text → cert
     → (found : Places) × (places (record { octets = text; at = 0 }) ≡ Ok found) × ArePlacesOf text found fields
 stand text fields octets e =
     let is = (certificate_is_exact text fields octets).0 e in
-    (places_in (whole_text text) fields is.layout, places_found (whole_text text) fields is.layout, they_stand text fields is.layout (whole_stands text is.value is.der))
+    (components (whole_text text) fields is.layout, places_found (whole_text text) fields is.layout, they_stand text fields is.layout (whole_stands text is.value is.der))

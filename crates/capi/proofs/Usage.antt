@@ -1,5 +1,5 @@
 -- The bits of a key usage as a number.
-use Rattle.std.proofs.Common.{◌≡◌, ℕ, zero, suc, ◌+◌, ◌*◌, ◌^◌, ◌<◌, ◌≤◌, Bool, true, false, List, refl, arith, if◌then◌else◌}
+use Rattle.std.proofs.Common.{◌≡◌, ℕ, zero, suc, ◌+◌, ◌*◌, ◌^◌, ◌<◌, ◌≤◌, Bool, true, false, List, arith, if◌then◌else◌}
 use Rattle.std.proofs.Math.Nat.{pow-succ'}
 use Rattle.std.proofs.Math.Pow.{pow_mono}
 use Rattle.cert.specs.KeyUsage.{has_bit}
@@ -14,9 +14,6 @@ bits_fit zero bits = omega arith
 bits_fit (suc n) bits =
     let e : 2 ^ suc n ≡ 2 * 2 ^ n = pow-succ' 2 n in
     rw e (weighed (has_bit bits n) (bits_below n bits) (2 ^ n) (bits_fit n bits))
-
-pub one_more_bit : (n : ℕ) (bits : List ℕ) → bits_below (n + 1) bits ≡ bits_below n bits + (if has_bit bits n then 2 ^ n else 0)
-one_more_bit n bits = let e : n + 1 ≡ suc n = omega arith in rw e refl
 
 pub fits_nine : (n number weight : ℕ) (bits : List ℕ) → n < 9 → weight ≡ 2 ^ n → number ≡ bits_below n bits → number + weight < 2 ^ 32
 fits_nine n number weight bits few w b =

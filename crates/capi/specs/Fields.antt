@@ -10,12 +10,15 @@ use Rattle.cert.specs.KeyUsage.{has_bit}
 use Rattle.cert.specs.BasicConstraints.{BasicConstraints}
 use Rattle.cert.specs.Extensions.{Extensions}
 use Rattle.cert.specs.Certificate.{Certificate}
+use Rattle.cert.specs.CertificateForms.{IsCertificateAt}
+use Rattle.asn.specs.Place.{inside}
 use Rattle.der.specs.Fault.{rule_number}
 use Rattle.capi.specs.declared.answer.CertificateAnswer.{CertificateAnswer}
 use Rattle.capi.specs.declared.fields.Part.{Part}
 use Rattle.capi.specs.declared.fields.Fields as code
 use Rattle.capi.specs.declared.fields.ExtensionFields as extension
 use Rattle.capi.specs.Parts.{IsPart}
+use Rattle.capi.specs.Places.{Places, components, bits_at}
 
 -- basicConstraints (4.2.1.9): cA, and the path length where it is there
 abbrev pub is_ca : Option BasicConstraints → Bool
@@ -68,6 +71,23 @@ pub record TellsFields (text : List ℕ) (told : code.Fields) (certificate : Cer
   pub key : IsPart text told.key certificate.key_info.key
   pub signature : IsPart text told.signature certificate.signature
   pub extensions : TellsExtensions told.extensions certificate.extensions
+
+-- each part begins where its component does, or the contents or the bits of that
+pub record AreAt (told : code.Fields) (places : Places) : Type 0 where
+  pub tbs : told.tbs.offset ≡ places.outer.tbs.at
+  pub serial : told.serial.offset ≡ (inside places.head.serial).at
+  pub algorithm : told.algorithm.offset ≡ places.head.algorithm.at
+  pub issuer : told.issuer.offset ≡ places.head.issuer.at
+  pub subject : told.subject.offset ≡ places.subject.name.at
+  pub subject_public_key_info : told.subject_public_key_info.offset ≡ places.subject.key_info.at
+  pub key : told.key.offset ≡ bits_at places.key
+  pub signature : told.signature.offset ≡ bits_at places.outer.signature
+
+-- the components are those of the certificate's layout in the text
+abbrev pub AreAtComponents : List ℕ → code.Fields → Certificate → Type 0
+AreAtComponents text told certificate =
+    (layout : IsCertificateAt (record { octets = text; at = 0 }) certificate) →
+    AreAt told (components (record { octets = text; at = 0 }) certificate layout)
 
 -- where the fault is one of DER, the number of the rule of DER that is broken
 abbrev pub der_number : CertRule → ℕ
@@ -126,6 +146,7 @@ pub record TellsCertificate (text : List ℕ) (answer : CertificateAnswer) (cert
   pub der_fault : answer.der_fault ≡ 0
   pub offset : answer.offset ≡ 0
   pub fields : TellsFields text answer.fields certificate
+  pub places : AreAtComponents text answer.fields certificate
 
 -- The answer tells what reading the text gives, unless memory was refused.
 abbrev pub Tells : List ℕ → CertificateAnswer → Result Certificate (CertRule × ℕ) → Type 0
@@ -134,7 +155,8 @@ Tells text answer (Err (rule, at)) = (answer ≡ no_memory) ⊎ TellsRefusal ans
 
 -- The fields that were read are those of the certificate, or it is the fault of reading the text.
 abbrev pub IsReadAs : List ℕ → Result code.Fields CertFault → Result Certificate (CertRule × ℕ) → Type 0
-IsReadAs text (Ok told) walk = (certificate : Certificate) × (walk ≡ Ok certificate) × TellsFields text told certificate
+IsReadAs text (Ok told) walk =
+    (certificate : Certificate) × (walk ≡ Ok certificate) × TellsFields text told certificate × AreAtComponents text told certificate
 IsReadAs text (Err fault) walk = FailsUnlessFull fault walk
 
 -- The answer tells of a fault.

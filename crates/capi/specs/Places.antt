@@ -1,5 +1,5 @@
 -- Where the components of a certificate stand (RFC 5280, 4.1).
-use Rattle.std.specs.Prelude.{◌≡◌, ℕ, List, Result, Ok}
+use Rattle.std.specs.Prelude.{◌≡◌, ◌+◌, ℕ, List, length, take, Result, Ok}
 use Rattle.asn.specs.Part.{IsPartOf}
 use Rattle.asn.specs.Place.{Place, part, body, inside}
 use Rattle.asn.specs.Members.{Members, members}
@@ -7,6 +7,7 @@ use Rattle.asn.specs.Walk.{◌>>=◌, is_a, next_or, optional}
 use Rattle.cert.specs.declared.fault.CertRule.{CertRule}
 use Rattle.cert.specs.declared.fault.CertRule.TheVariants.{Layout}
 use Rattle.cert.specs.Certificate.{Certificate}
+use Rattle.cert.specs.CertificateForms.{IsCertificateAt}
 use Rattle.cert.specs.BitString.{bits_in}
 use Rattle.capi.specs.declared.places.Outer as outer
 use Rattle.capi.specs.declared.places.Head as head
@@ -108,3 +109,18 @@ pub record ArePlacesOf (text : List ℕ) (places : Places) (certificate : Certif
   pub key_is : certificate.key_info.key ≡ bits_in (body places.key)
   pub signature_stands : StandsIn text (inside places.outer.signature)
   pub signature_is : certificate.signature ≡ bits_in (body places.outer.signature)
+
+-- the components of a certificate by its layout
+abbrev pub components : (value : Place) (fields : Certificate) → IsCertificateAt value fields → Places
+components value fields layout =
+    let tbs = layout.signed_is in
+    record {
+      outer = record { tbs = layout.signed; signature = layout.signature };
+      head = record { serial = tbs.serial; algorithm = tbs.signature; issuer = tbs.issuer };
+      subject = record { name = tbs.subject; key_info = tbs.key_info };
+      key = tbs.key_info_is.key;
+    }
+
+-- where the bits of a BIT STRING begin, behind the count of unused bits
+abbrev pub bits_at : Place → ℕ
+bits_at value = (inside value).at + length (take 1 (body value))

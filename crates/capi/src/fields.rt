@@ -56,10 +56,12 @@ impl Part {
     ghost use Rattle.asn.specs.Place.{part, body, inside};
     ghost use Rattle.cert.specs.BitString.{bits_in};
     ghost use Rattle.capi.specs.Parts.{IsPart};
+    ghost use Rattle.capi.specs.Places.{bits_at};
 
     /// The octets that stand at this offset.
     fn at(offset: usize, octets: &[u8]) -> Part
-        ensures { (text : List ℕ) → IsPartOf text offset octets.now → IsPart text result octets.now }
+        ensures part { (text : List ℕ) → IsPartOf text offset octets.now → IsPart text result octets.now }
+        ensures place { result.offset ≡ offset }
     {
         Part {
             offset,
@@ -69,23 +71,26 @@ impl Part {
 
     /// The whole value.
     fn whole(value: Tlv<'_>) -> Part
-        ensures { (text : List ℕ) → IsPartOf text value.entry.at value.entry.whole.now → IsPart text result value.entry.whole.now }
+        ensures part { (text : List ℕ) → IsPartOf text value.entry.at value.entry.whole.now → IsPart text result value.entry.whole.now }
+        ensures place { result.offset ≡ value.entry.at }
     {
         Part::at(value.at, value.whole)
     }
 
     /// The contents of the value.
     fn contents(value: Tlv<'_>) -> Part
-        ensures { (text : List ℕ) → IsPartOf text (inside (part value.entry)).at (inside (part value.entry)).octets
+        ensures part { (text : List ℕ) → IsPartOf text (inside (part value.entry)).at (inside (part value.entry)).octets
             → IsPart text result (body (part value.entry)) }
+        ensures place { result.offset ≡ (inside (part value.entry)).at }
     {
         Part::at(value.body_at(), value.body)
     }
 
     /// The contents of the BIT STRING, behind the count of unused bits.
     fn bits(value: Tlv<'_>) -> Part
-        ensures { (text : List ℕ) → IsPartOf text (inside (part value.entry)).at (inside (part value.entry)).octets
+        ensures part { (text : List ℕ) → IsPartOf text (inside (part value.entry)).at (inside (part value.entry)).octets
             → IsPart text result (bits_in (body (part value.entry))) }
+        ensures place { result.offset ≡ bits_at (part value.entry) }
     {
         match value.body {
             [] => Part::at(value.body_at(), value.body),
@@ -151,12 +156,13 @@ impl Fields {
     ghost use Rattle.std.specs.Prelude.{ℕ, List};
     ghost use Rattle.cert.specs.Certificate.{seen_certificate};
     ghost use Rattle.capi.specs.Places.{seen_places, ArePlacesOf};
-    ghost use Rattle.capi.specs.Fields.{TellsFields};
+    ghost use Rattle.capi.specs.Fields.{TellsFields, AreAt};
 
     /// The fields of a certificate whose components stand there.
     pub(crate) fn of(certificate: &Certificate<'_>, places: Places<'_>) -> Fields
-        ensures { (text : List ℕ) → ArePlacesOf text (seen_places places.entry) (seen_certificate certificate.now)
+        ensures parts { (text : List ℕ) → ArePlacesOf text (seen_places places.entry) (seen_certificate certificate.now)
             → TellsFields text result (seen_certificate certificate.now) }
+        ensures places { AreAt result (seen_places places.entry) }
     {
         Fields {
             version: u32::from(certificate.version.number()),

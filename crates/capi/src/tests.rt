@@ -100,6 +100,19 @@ fn reads_extensions(rt: HostRuntime) {
     assert_eq!(rt; told.unrecognised, 0);
 }
 
+/// As in the header; in structs of `repr(C)` the fields stand in the order of the source.
+#[test]
+fn structs_have_their_sizes(rt: HostRuntime) {
+    const SIZES: [usize; 5] = [
+        size_of::<Part>(),
+        size_of::<Answer>(),
+        size_of::<ExtensionFields>(),
+        size_of::<Fields>(),
+        size_of::<CertificateAnswer>(),
+    ];
+    assert!(rt; SIZES == [16, 16, 56, 208, 224]);
+}
+
 #[test]
 fn prints(rt: HostRuntime) {
     let mut print = [0; 32];

@@ -1,11 +1,12 @@
 use Rattle.std.proofs.Common.{arith, ◌≡◌, ◌∙◌, ℕ, Ok, sym, ap, subst}
-use Rattle.asn.specs.Place.{part}
+use Rattle.asn.specs.Place.{Place, part}
 use Rattle.asn.specs.DerLaws.{AreOctets}
 use Rattle.asn.proofs.Laws.{outermost_ok, ok_is}
 use Rattle.cert.specs.Certificate.{seen_certificate}
 use Rattle.cert.specs.declared.fault.CertRule.{CertRule}
-use Rattle.capi.specs.Places.{Places, places, seen_places, ArePlacesOf}
-use Rattle.capi.proofs.Standing.{stand}
+use Rattle.capi.specs.Places.{Places, components, places, seen_places, ArePlacesOf}
+use Rattle.capi.specs.Fields.{AreAt}
+use Rattle.capi.proofs.Standing.{places_found, stand}
 use Rattle.capi.proofs.WholeTexts.{read_at, not_der}
 use Rattle.capi.proofs.reading.read_fields.Goals as goal
 
@@ -35,4 +36,12 @@ returns c =
     let found = stand text certificate_seen octets read in
     let both : Ok found.0 ≡ Ok (seen_places c.in-Ok-of.places) = sym found.1 ∙ sym (ap places value_is) ∙ c.in-Ok-of.ensures in
     let P : Places → Type 0 = λ ps. ArePlacesOf text ps certificate_seen in
-    (certificate_seen, read, c.of-in-Ok-of.ensures text (subst P (ok_is {E = CertRule × ℕ} found.0 (seen_places c.in-Ok-of.places) both) found.2))
+    let value : Place = record { octets = text; at = 0 } in (
+      certificate_seen,
+      read,
+      c.of-in-Ok-of.ensures.parts text (subst P (ok_is {E = CertRule × ℕ} found.0 (seen_places c.in-Ok-of.places) both) found.2),
+      λ layout.
+          let same : Ok (seen_places c.in-Ok-of.places) ≡ Ok (components value certificate_seen layout) =
+          sym (sym (ap places value_is) ∙ c.in-Ok-of.ensures) ∙ places_found value certificate_seen layout in
+          subst (AreAt c.of-in-Ok-of.result) (ok_is {E = CertRule × ℕ} (seen_places c.in-Ok-of.places) (components value certificate_seen layout) same) c.of-in-Ok-of.ensures.places,
+    )

@@ -4,8 +4,8 @@ use Rattle.capi.specs.Parts.{IsPart}
 use Rattle.capi.proofs.Contents.{body_stands, body_is}
 use Rattle.capi.proofs.fields.Part.contents.Goals as goal
 
-pub returns : goal.returns
-returns c = λ text stands.
+pub returns-clause-part : goal.returns-clause-part
+returns-clause-part c = λ text stands.
     let value = c.args.value in
     let at : ℕ → Type 0 = λ k. IsPartOf text k value.body.now in
-    subst (IsPart text c.at.result) (body_is value) (c.at.ensures text (subst at (sym c.body_at.ensures.place) (body_stands text value stands)))
+    subst (IsPart text c.at.result) (body_is value) (c.at.ensures.part text (subst at (sym c.body_at.ensures.place) (body_stands text value stands)))
