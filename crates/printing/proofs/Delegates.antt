@@ -1,5 +1,5 @@
 -- The lines of the certificates that come with a response, joined in order.
-use Rattle.std.proofs.Common.{◌≡◌, ◌<◌, ◌+◌, ◌^◌, ℕ, List, [], ◌∷◌, ◌++◌, length, ap, sym, ◌∙◌, append_assoc, append-nil, Option, Some, None, subst, arith}
+use Rattle.std.proofs.Common.{◌≡◌, ◌<◌, ◌+◌, ◌^◌, ℕ, List, ◌∷◌, ◌++◌, length, ap, sym, ◌∙◌, append_assoc, Option, Some, None, subst, arith}
 use Rattle.std.proofs.lemmas.List.{length-map}
 use Rattle.asn.specs.Members.{left, members_at}
 use Rattle.asn.specs.Place.{remaining}
@@ -18,10 +18,6 @@ pub delegates_more : (key_info : SubjectPublicKeyInfo) (response : OcspResponse)
     → all ≡ text ++ delegate_lines key_info response n old → all ≡ (text ++ both_lines key_info response n c) ++ delegate_lines key_info response (n + 1) new
 delegates_more key_info response n all text c old new is whole =
     whole ∙ ap (λ cs. text ++ delegate_lines key_info response n cs) is ∙ sym (append_assoc text (both_lines key_info response n c) (delegate_lines key_info response (n + 1) new))
-
--- none is left
-pub delegates_all : (key_info : SubjectPublicKeyInfo) (response : OcspResponse) (n : ℕ) (all text : List ℕ) (old : List Certificate) → old ≡ [] → all ≡ text ++ delegate_lines key_info response n old → all ≡ text
-delegates_all key_info response n all text old is whole = whole ∙ ap (λ cs. text ++ delegate_lines key_info response n cs) is ∙ append-nil text
 
 values_short : (cursor : Cursor) → length (certs_in (Some cursor)) < 2 ^ 64
 unfolding members_at

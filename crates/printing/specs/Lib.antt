@@ -15,3 +15,4 @@ pub use Rattle.cert.specs.Certificate
 pub use Rattle.cert.specs.SubjectPublicKeyInfo
 pub use Rattle.crl.specs.CertificateList
 pub use Rattle.crl.specs.Entry
+pub mod Written

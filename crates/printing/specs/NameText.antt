@@ -47,4 +47,4 @@ rdns_text (first ∷ others) = flat_map rdn_text (first ∷ others)
 
 -- the name that has this encoding
 unfoldable pub name_text : List ℕ → List ℕ
-name_text octets = rdns_text (inner (record { octets = octets; at = 0 }))
+name_text octets = rdns_text (members (record { octets = octets; at = 0 })).values

@@ -1,7 +1,6 @@
 //! What a certificate says, a line each.
-ghost use Rattle.std.specs.Prelude.{◌≡◌, OnOk, codes, map, option_map};
+ghost use Rattle.std.specs.Prelude.{◌≡◌, codes, map, option_map};
 ghost use Rattle.std.specs.List.{flat_map};
-ghost use Rattle.std.specs.Io.KnownBytes.{Appends};
 ghost use Rattle.asn.specs.Oid.{oid_contents};
 ghost use Rattle.asn.specs.Walk.{seen};
 ghost use Rattle.names.specs.NameOctets.{raw_of};
@@ -12,6 +11,7 @@ ghost use Rattle.cert.specs.Extensions.{seen_extensions};
 ghost use Rattle.cert.specs.KeyUsage.{seen_key_usage};
 ghost use Rattle.cert.specs.Validity.{seen_validity};
 ghost use Rattle.printing.specs.CertificateText.{alternative_line, base_line, basic_lines, certificate_text, constraint_lines, extension_lines, field_lines, name_line, octets_line, oid_line, purpose_lines, usage_lines, validity_lines, version_lines, word_line};
+ghost use Rattle.printing.specs.Written.{Writes};
 
 use crate::general::{write_base, write_general};
 use crate::name::write_name;
@@ -25,8 +25,7 @@ use std::io::Write;
 
 // A word, and the octets where there are any.
 pub(crate) fn write_octets<W: Write>(word: &str, octets: &[u8], writer: &mut W) -> io::Result<()>
-    ensures { OnOk result (Appends (W.contents writer.old) (W.contents writer.new)
-        (octets_line word.now octets.now)) }
+    ensures { Writes W.contents writer.old writer.new result (octets_line word.now octets.now) }
 {
     writer.write_all(word.as_bytes())?;
     write_contents(octets, writer)?;
@@ -34,15 +33,13 @@ pub(crate) fn write_octets<W: Write>(word: &str, octets: &[u8], writer: &mut W) 
 }
 
 fn write_version<W: Write>(version: Version, writer: &mut W) -> io::Result<()>
-    ensures { OnOk result (Appends (W.contents writer.old) (W.contents writer.new)
-        (version_lines version)) }
+    ensures { Writes W.contents writer.old writer.new result (version_lines version) }
 {
     writeln!(writer, "certificate\nversion {}", version.number())
 }
 
 pub(crate) fn write_named<W: Write>(word: &str, name: &Name<'_>, writer: &mut W) -> io::Result<()>
-    ensures { OnOk result (Appends (W.contents writer.old) (W.contents writer.new)
-        (name_line word.now (raw_of name.now))) }
+    ensures { Writes W.contents writer.old writer.new result (name_line word.now (raw_of name.now)) }
 {
     write!(writer, "{word} ")?;
     write_name(name, writer)?;
@@ -50,8 +47,7 @@ pub(crate) fn write_named<W: Write>(word: &str, name: &Name<'_>, writer: &mut W)
 }
 
 fn write_validity<W: Write>(validity: &Validity, writer: &mut W) -> io::Result<()>
-    ensures { OnOk result (Appends (W.contents writer.old) (W.contents writer.new)
-        (validity_lines (seen_validity validity.now))) }
+    ensures { Writes W.contents writer.old writer.new result (validity_lines (seen_validity validity.now)) }
 {
     writeln!(writer, "from {}", validity.not_before)?;
     writeln!(writer, "until {}", validity.not_after)
@@ -59,8 +55,7 @@ fn write_validity<W: Write>(validity: &Validity, writer: &mut W) -> io::Result<(
 
 // The lines up to the key.
 fn write_fields<W: Write>(certificate: &Certificate<'_>, writer: &mut W) -> io::Result<()>
-    ensures { OnOk result (Appends (W.contents writer.old) (W.contents writer.new)
-        (field_lines (seen_certificate certificate.now))) }
+    ensures { Writes W.contents writer.old writer.new result (field_lines (seen_certificate certificate.now)) }
 {
     write_version(certificate.version, writer)?;
     write_octets("serial", certificate.serial, writer)?;
@@ -71,8 +66,7 @@ fn write_fields<W: Write>(certificate: &Certificate<'_>, writer: &mut W) -> io::
 }
 
 fn write_basic<W: Write>(constraints: Option<BasicConstraints>, writer: &mut W) -> io::Result<()>
-    ensures { OnOk result (Appends (W.contents writer.old) (W.contents writer.new)
-        (basic_lines (seen seen_basic_constraints constraints))) }
+    ensures { Writes W.contents writer.old writer.new result (basic_lines (seen seen_basic_constraints constraints)) }
 {
     let Some(constraints) = constraints else {
         return Ok(());
@@ -85,8 +79,7 @@ fn write_basic<W: Write>(constraints: Option<BasicConstraints>, writer: &mut W) 
 }
 
 fn write_usage<W: Write>(usage: Option<KeyUsage<'_>>, writer: &mut W) -> io::Result<()>
-    ensures { OnOk result (Appends (W.contents writer.old) (W.contents writer.new)
-        (usage_lines (seen seen_key_usage usage.entry))) }
+    ensures { Writes W.contents writer.old writer.new result (usage_lines (seen seen_key_usage usage.entry)) }
 {
     match usage {
         None => Ok(()),
@@ -95,8 +88,7 @@ fn write_usage<W: Write>(usage: Option<KeyUsage<'_>>, writer: &mut W) -> io::Res
 }
 
 fn write_alternative<W: Write>(name: &General<'_>, writer: &mut W) -> io::Result<()>
-    ensures { OnOk result (Appends (W.contents writer.old) (W.contents writer.new)
-        (alternative_line (general_name name.now))) }
+    ensures { Writes W.contents writer.old writer.new result (alternative_line (general_name name.now)) }
 {
     writer.write_all(b"alt ")?;
     write_general(name, writer)?;
@@ -104,8 +96,8 @@ fn write_alternative<W: Write>(name: &General<'_>, writer: &mut W) -> io::Result
 }
 
 fn write_alternatives<W: Write>(names: &[General<'_>], writer: &mut W) -> io::Result<()>
-    ensures { OnOk result (Appends (W.contents writer.old) (W.contents writer.new)
-        (flat_map alternative_line (map general_name names.now))) }
+    ensures { Writes W.contents writer.old writer.new result
+        (flat_map alternative_line (map general_name names.now)) }
 {
     'names: for name in names {
         write_alternative(name, writer)?;
@@ -114,8 +106,7 @@ fn write_alternatives<W: Write>(names: &[General<'_>], writer: &mut W) -> io::Re
 }
 
 fn write_subtree<W: Write>(word: &str, base: &Subtree<'_>, writer: &mut W) -> io::Result<()>
-    ensures { OnOk result (Appends (W.contents writer.old) (W.contents writer.new)
-        (base_line word.now (subtree_base base.now))) }
+    ensures { Writes W.contents writer.old writer.new result (base_line word.now (subtree_base base.now)) }
 {
     write!(writer, "{word} ")?;
     write_base(base, writer)?;
@@ -123,8 +114,8 @@ fn write_subtree<W: Write>(word: &str, base: &Subtree<'_>, writer: &mut W) -> io
 }
 
 fn write_subtrees<W: Write>(word: &str, bases: &[Subtree<'_>], writer: &mut W) -> io::Result<()>
-    ensures { OnOk result (Appends (W.contents writer.old) (W.contents writer.new)
-        (flat_map (base_line word.now) (map subtree_base bases.now))) }
+    ensures { Writes W.contents writer.old writer.new result
+        (flat_map (base_line word.now) (map subtree_base bases.now)) }
 {
     'bases: for base in bases {
         write_subtree(word, base, writer)?;
@@ -133,8 +124,7 @@ fn write_subtrees<W: Write>(word: &str, bases: &[Subtree<'_>], writer: &mut W) -
 }
 
 fn write_identifier<W: Write>(word: &str, oid: Oid<'_>, writer: &mut W) -> io::Result<()>
-    ensures { OnOk result (Appends (W.contents writer.old) (W.contents writer.new)
-        (oid_line word.now (oid_contents oid.entry))) }
+    ensures { Writes W.contents writer.old writer.new result (oid_line word.now (oid_contents oid.entry)) }
 {
     write!(writer, "{word} ")?;
     write_oid(oid.contents(), writer)?;
@@ -142,8 +132,8 @@ fn write_identifier<W: Write>(word: &str, oid: Oid<'_>, writer: &mut W) -> io::R
 }
 
 fn write_identifiers<W: Write>(word: &str, oids: &[Oid<'_>], writer: &mut W) -> io::Result<()>
-    ensures { OnOk result (Appends (W.contents writer.old) (W.contents writer.new)
-        (flat_map (oid_line word.now) (map oid_contents oids.now))) }
+    ensures { Writes W.contents writer.old writer.new result
+        (flat_map (oid_line word.now) (map oid_contents oids.now)) }
 {
     'oids: for oid in oids {
         write_identifier(word, *oid, writer)?;
@@ -153,8 +143,7 @@ fn write_identifiers<W: Write>(word: &str, oids: &[Oid<'_>], writer: &mut W) -> 
 
 // A line, where that is so.
 fn write_where<W: Write>(is_so: bool, line: &str, writer: &mut W) -> io::Result<()>
-    ensures { OnOk result (Appends (W.contents writer.old) (W.contents writer.new)
-        (word_line line.now is_so)) }
+    ensures { Writes W.contents writer.old writer.new result (word_line line.now is_so) }
 {
     match is_so {
         true => writer.write_all(line.as_bytes()),
@@ -164,8 +153,7 @@ fn write_where<W: Write>(is_so: bool, line: &str, writer: &mut W) -> io::Result<
 
 // What the extensions say of names.
 fn write_constraints<W: Write>(said: &Extensions<'_>, writer: &mut W) -> io::Result<()>
-    ensures { OnOk result (Appends (W.contents writer.old) (W.contents writer.new)
-        (constraint_lines (seen_extensions said.now))) }
+    ensures { Writes W.contents writer.old writer.new result (constraint_lines (seen_extensions said.now)) }
 {
     write_alternatives(said.alternative_names.as_slice(), writer)?;
     write_subtrees("permit", said.name_constraints.permitted.as_slice(), writer)?;
@@ -174,8 +162,7 @@ fn write_constraints<W: Write>(said: &Extensions<'_>, writer: &mut W) -> io::Res
 
 // What they say of other matters.
 fn write_purposes<W: Write>(said: &Extensions<'_>, writer: &mut W) -> io::Result<()>
-    ensures { OnOk result (Appends (W.contents writer.old) (W.contents writer.new)
-        (purpose_lines (seen_extensions said.now))) }
+    ensures { Writes W.contents writer.old writer.new result (purpose_lines (seen_extensions said.now)) }
 {
     write_identifiers("purpose", said.purposes.as_slice(), writer)?;
     write_where(said.needs_policy_processing, "policy\n", writer)?;
@@ -184,8 +171,7 @@ fn write_purposes<W: Write>(said: &Extensions<'_>, writer: &mut W) -> io::Result
 }
 
 fn write_extensions<W: Write>(said: &Extensions<'_>, writer: &mut W) -> io::Result<()>
-    ensures { OnOk result (Appends (W.contents writer.old) (W.contents writer.new)
-        (extension_lines (seen_extensions said.now))) }
+    ensures { Writes W.contents writer.old writer.new result (extension_lines (seen_extensions said.now)) }
 {
     write_basic(said.basic_constraints, writer)?;
     write_usage(said.key_usage, writer)?;
@@ -196,8 +182,7 @@ fn write_extensions<W: Write>(said: &Extensions<'_>, writer: &mut W) -> io::Resu
 /// Writes what the certificate says, a line each: its fields in the order of the standard, and then what its extensions say.
 /// It takes no memory.
 pub fn certificate_to<W: Write>(certificate: &Certificate<'_>, writer: &mut W) -> io::Result<()>
-    ensures { OnOk result (Appends (W.contents writer.old) (W.contents writer.new)
-        (certificate_text (seen_certificate certificate.now))) }
+    ensures { Writes W.contents writer.old writer.new result (certificate_text (seen_certificate certificate.now)) }
 {
     write_fields(certificate, writer)?;
     write_extensions(&certificate.extensions, writer)

@@ -1,12 +1,12 @@
 //! The fingerprints of what a verifier is asked, a line each, as a file of verdicts has them.
-ghost use Rattle.std.specs.Prelude.{◌≡◌, OnOk};
-ghost use Rattle.std.specs.Io.KnownBytes.{Appends};
+ghost use Rattle.std.specs.Prelude.{◌≡◌};
 ghost use Rattle.cert.specs.Certificate.{seen_certificate};
 ghost use Rattle.cert.specs.SubjectPublicKeyInfo.{seen_key_info};
 ghost use Rattle.crl.specs.CertificateList.{seen_list};
 ghost use Rattle.ocsp.specs.OcspResponse.{seen_response};
 ghost use Rattle.ocsp.specs.Certificates.{certificates_left};
 ghost use Rattle.printing.specs.FingerprintText.{both_lines, certificate_print, certificate_print_line, crl_print, crl_print_line, delegate_line, delegate_lines, delegate_words, delegated_line, delegated_words, fingerprint_line, response_print, response_print_lines};
+ghost use Rattle.printing.specs.Written.{Writes};
 
 use crate::text::write_hex;
 use cert::{Certificate, SubjectPublicKeyInfo};
@@ -43,8 +43,7 @@ impl From<AllocError> for PrintsFault {
 
 // A fingerprint and what it is of.
 fn write_fingerprint<W: Write>(print: &[u8; 32], words: &str, writer: &mut W) -> io::Result<()>
-    ensures { OnOk result (Appends (W.contents writer.old) (W.contents writer.new)
-        (fingerprint_line print.now words.now)) }
+    ensures { Writes W.contents writer.old writer.new result (fingerprint_line print.now words.now) }
 {
     write_hex(print, writer)?;
     writeln!(writer, " {words}")
@@ -69,8 +68,8 @@ pub fn certificate_print_to<W: Write>(
     key_info: &SubjectPublicKeyInfo<'_>,
     writer: &mut W,
 ) -> io::Result<()>
-    ensures { OnOk result (Appends (W.contents writer.old) (W.contents writer.new)
-        (certificate_print_line (seen_key_info key_info.now) (seen_certificate certificate.now))) }
+    ensures { Writes W.contents writer.old writer.new result
+        (certificate_print_line (seen_key_info key_info.now) (seen_certificate certificate.now)) }
 {
     write_fingerprint(
         &print_of(certificate, key_info),
@@ -92,8 +91,8 @@ pub fn crl_print_to<W: Write>(
     key_info: &SubjectPublicKeyInfo<'_>,
     writer: &mut W,
 ) -> io::Result<()>
-    ensures { OnOk result (Appends (W.contents writer.old) (W.contents writer.new)
-        (crl_print_line (seen_key_info key_info.now) (seen_list list.now))) }
+    ensures { Writes W.contents writer.old writer.new result
+        (crl_print_line (seen_key_info key_info.now) (seen_list list.now)) }
 {
     write_fingerprint(&print_of_list(list, key_info), "crl issuer", writer)
 }
@@ -112,31 +111,27 @@ fn print_of_response(response: &Response<'_>, key_info: &SubjectPublicKeyInfo<'_
 
 #[tactic(auto, unfolding(crate::specs::FingerprintText::delegate_words))]
 fn write_delegate_words<W: Write>(number: usize, writer: &mut W) -> io::Result<()>
-    ensures { OnOk result (Appends (W.contents writer.old) (W.contents writer.new)
-        (delegate_words number)) }
+    ensures { Writes W.contents writer.old writer.new result (delegate_words number) }
 {
     writeln!(writer, " certificate {number} issuer")
 }
 
 #[tactic(auto, unfolding(crate::specs::FingerprintText::delegated_words))]
 fn write_delegated_words<W: Write>(number: usize, writer: &mut W) -> io::Result<()>
-    ensures { OnOk result (Appends (W.contents writer.old) (W.contents writer.new)
-        (delegated_words number)) }
+    ensures { Writes W.contents writer.old writer.new result (delegated_words number) }
 {
     writeln!(writer, " response certificate {number}")
 }
 
 fn write_delegate_line<W: Write>(print: &[u8; 32], number: usize, writer: &mut W) -> io::Result<()>
-    ensures { OnOk result (Appends (W.contents writer.old) (W.contents writer.new)
-        (delegate_line print.now number)) }
+    ensures { Writes W.contents writer.old writer.new result (delegate_line print.now number) }
 {
     write_hex(print, writer)?;
     write_delegate_words(number, writer)
 }
 
 fn write_delegated_line<W: Write>(print: &[u8; 32], number: usize, writer: &mut W) -> io::Result<()>
-    ensures { OnOk result (Appends (W.contents writer.old) (W.contents writer.new)
-        (delegated_line print.now number)) }
+    ensures { Writes W.contents writer.old writer.new result (delegated_line print.now number) }
 {
     write_hex(print, writer)?;
     write_delegated_words(number, writer)
@@ -150,8 +145,8 @@ fn write_delegate<W: Write>(
     number: usize,
     writer: &mut W,
 ) -> io::Result<()>
-    ensures { OnOk result (Appends (W.contents writer.old) (W.contents writer.new)
-        (both_lines (seen_key_info key_info.now) (seen_response response.now) number (seen_certificate certificate.now))) }
+    ensures { Writes W.contents writer.old writer.new result
+        (both_lines (seen_key_info key_info.now) (seen_response response.now) number (seen_certificate certificate.now)) }
 {
     write_delegate_line(&print_of(certificate, key_info), number, writer)?;
     let key_info = &certificate.subject_public_key_info;
@@ -164,8 +159,8 @@ fn write_delegates<W: Write>(
     key_info: &SubjectPublicKeyInfo<'_>,
     writer: &mut W,
 ) -> Result<(), PrintsFault>
-    ensures { OnOk result (Appends (W.contents writer.old) (W.contents writer.new)
-        (delegate_lines (seen_key_info key_info.now) (seen_response response.now) 1 (certificates_left response.now.certs))) }
+    ensures { Writes W.contents writer.old writer.new result
+        (delegate_lines (seen_key_info key_info.now) (seen_response response.now) 1 (certificates_left response.now.certs)) }
 {
     let mut certs = response.certs;
     let mut number = 0;
@@ -185,8 +180,8 @@ pub fn response_prints_to<W: Write>(
     key_info: &SubjectPublicKeyInfo<'_>,
     writer: &mut W,
 ) -> Result<(), PrintsFault>
-    ensures { OnOk result (Appends (W.contents writer.old) (W.contents writer.new)
-        (response_print_lines (seen_key_info key_info.now) (seen_response response.now))) }
+    ensures { Writes W.contents writer.old writer.new result
+        (response_print_lines (seen_key_info key_info.now) (seen_response response.now)) }
 {
     let print = print_of_response(response, key_info);
     write_fingerprint(&print, "response issuer", writer)?;

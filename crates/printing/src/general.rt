@@ -1,6 +1,5 @@
 //! General names, and the bases of subtrees, as text.
-ghost use Rattle.std.specs.Prelude.{◌≡◌, ◌++◌, OnOk, codes, length};
-ghost use Rattle.std.specs.Io.KnownBytes.{Appends};
+ghost use Rattle.std.specs.Prelude.{◌≡◌, ◌++◌, codes, length};
 ghost use Rattle.hex.specs.Hex.{encode_lower};
 ghost use Rattle.names.specs.Bases.{address_range, domain_names};
 ghost use Rattle.names.specs.GeneralView.{general_name, subtree_base};
@@ -9,6 +8,7 @@ ghost use Rattle.printing.specs.Printed.{shown_contents};
 ghost use Rattle.printing.specs.EscapedText.{spaced_text};
 ghost use Rattle.printing.specs.NameText.{name_text};
 ghost use Rattle.printing.specs.GeneralText.{base_text, domain_text, general_text, mask_octets, other_text, range_text};
+ghost use Rattle.printing.specs.Written.{Writes};
 
 use crate::name::write_name;
 use crate::text::{write_contents, write_digits, write_escaped, write_hex, write_spaced_text};
@@ -20,24 +20,21 @@ use std::io::Write;
 const BEGUN: [u8; 9] = [0x00, 0x80, 0xC0, 0xE0, 0xF0, 0xF8, 0xFC, 0xFE, 0xFF];
 
 fn write_directory<W: Write>(name: &Name<'_>, writer: &mut W) -> io::Result<()>
-    ensures { OnOk result (Appends (W.contents writer.old) (W.contents writer.new)
-        (codes "dir " ++ name_text (raw_of name.now))) }
+    ensures { Writes W.contents writer.old writer.new result (codes "dir " ++ name_text (raw_of name.now)) }
 {
     writer.write_all(b"dir ")?;
     write_name(name, writer)
 }
 
 fn write_dns<W: Write>(name: &[u8], writer: &mut W) -> io::Result<()>
-    ensures { OnOk result (Appends (W.contents writer.old) (W.contents writer.new)
-        (codes "dns" ++ spaced_text name.now)) }
+    ensures { Writes W.contents writer.old writer.new result (codes "dns" ++ spaced_text name.now) }
 {
     writer.write_all(b"dns")?;
     write_spaced_text(name, writer)
 }
 
 fn write_address<W: Write>(address: &[u8], writer: &mut W) -> io::Result<()>
-    ensures { OnOk result (Appends (W.contents writer.old) (W.contents writer.new)
-        (codes "ip" ++ shown_contents address.now)) }
+    ensures { Writes W.contents writer.old writer.new result (codes "ip" ++ shown_contents address.now) }
 {
     writer.write_all(b"ip")?;
     write_contents(address, writer)
@@ -45,8 +42,7 @@ fn write_address<W: Write>(address: &[u8], writer: &mut W) -> io::Result<()>
 
 // Another form: its number and its contents.
 fn write_other<W: Write>(number: u8, contents: &[u8], writer: &mut W) -> io::Result<()>
-    ensures { OnOk result (Appends (W.contents writer.old) (W.contents writer.new)
-        (other_text number contents.now)) }
+    ensures { Writes W.contents writer.old writer.new result (other_text number contents.now) }
 {
     write!(writer, "{number}")?;
     write_contents(contents, writer)
@@ -54,8 +50,7 @@ fn write_other<W: Write>(number: u8, contents: &[u8], writer: &mut W) -> io::Res
 
 /// Writes the general name.
 pub(crate) fn write_general<W: Write>(name: &General<'_>, writer: &mut W) -> io::Result<()>
-    ensures { OnOk result (Appends (W.contents writer.old) (W.contents writer.new)
-        (general_text (general_name name.now))) }
+    ensures { Writes W.contents writer.old writer.new result (general_text (general_name name.now)) }
 {
     match name {
         General::Directory(name) => write_directory(name, writer),
@@ -67,8 +62,7 @@ pub(crate) fn write_general<W: Write>(name: &General<'_>, writer: &mut W) -> io:
 
 // The base of a DNS constraint, as it stands in the certificate.
 fn write_domain<W: Write>(domain: &Domain<'_>, writer: &mut W) -> io::Result<()>
-    ensures { OnOk result (Appends (W.contents writer.old) (W.contents writer.new)
-        (domain_text (domain_names domain.now))) }
+    ensures { Writes W.contents writer.old writer.new result (domain_text (domain_names domain.now)) }
 {
     match domain {
         Domain::Every => writer.write_all(b"dns"),
@@ -82,8 +76,7 @@ fn write_domain<W: Write>(domain: &Domain<'_>, writer: &mut W) -> io::Result<()>
 
 // So many octets of a mask that begins with so many ones.
 fn write_mask<W: Write>(count: usize, ones: u16, writer: &mut W) -> io::Result<()>
-    ensures { OnOk result (Appends (W.contents writer.old) (W.contents writer.new)
-        (encode_lower (mask_octets count ones))) }
+    ensures { Writes W.contents writer.old writer.new result (encode_lower (mask_octets count ones)) }
 {
     let mut left = ones;
     for _ in 0..count {
@@ -94,8 +87,7 @@ fn write_mask<W: Write>(count: usize, ones: u16, writer: &mut W) -> io::Result<(
 }
 
 fn write_range<W: Write>(range: &IpRange<'_>, writer: &mut W) -> io::Result<()>
-    ensures { OnOk result (Appends (W.contents writer.old) (W.contents writer.new)
-        (range_text (address_range range.now))) }
+    ensures { Writes W.contents writer.old writer.new result (range_text (address_range range.now)) }
 {
     writer.write_all(b"ip ")?;
     write_hex(range.address, writer)?;
@@ -104,8 +96,7 @@ fn write_range<W: Write>(range: &IpRange<'_>, writer: &mut W) -> io::Result<()>
 
 /// Writes the base of a subtree, as it stands in the certificate.
 pub(crate) fn write_base<W: Write>(base: &Subtree<'_>, writer: &mut W) -> io::Result<()>
-    ensures { OnOk result (Appends (W.contents writer.old) (W.contents writer.new)
-        (base_text (subtree_base base.now))) }
+    ensures { Writes W.contents writer.old writer.new result (base_text (subtree_base base.now)) }
 {
     match base {
         Subtree::Directory(name) => write_directory(name, writer),

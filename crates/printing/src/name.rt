@@ -1,23 +1,22 @@
 //! Distinguished names as text.
-ghost use Rattle.std.specs.Prelude.{◌≡◌, OnOk};
+ghost use Rattle.std.specs.Prelude.{◌≡◌};
 ghost use Rattle.std.specs.List.{flat_map};
-ghost use Rattle.std.specs.Io.KnownBytes.{Appends};
 ghost use Rattle.asn.specs.Place.{part};
 ghost use Rattle.asn.specs.Members.{left};
 ghost use Rattle.names.specs.NameOctets.{raw_of};
 ghost use Rattle.printing.specs.NameText.{attribute_text, attributes_text, name_text, next_attribute_text, rdn_text, rdns_text, value_text};
+ghost use Rattle.printing.specs.Written.{Writes};
 
 use crate::oid_text::write_oid;
 use crate::text::{write_escaped, write_hex};
-use asn::{Cursor, Tlv, whole};
+use asn::{Cursor, Tlv};
 use names::{Name, is_text};
 use std::io;
 use std::io::Write;
 
 // The value of an attribute: a text, or all octets of another value.
 fn write_value<W: Write>(value: Tlv<'_>, writer: &mut W) -> io::Result<()>
-    ensures { OnOk result (Appends (W.contents writer.old) (W.contents writer.new)
-        (value_text (part value.entry))) }
+    ensures { Writes W.contents writer.old writer.new result (value_text (part value.entry)) }
 {
     if is_text(value.tag) {
         return write_escaped(value.body, writer);
@@ -28,8 +27,7 @@ fn write_value<W: Write>(value: Tlv<'_>, writer: &mut W) -> io::Result<()>
 
 // AttributeTypeAndValue ::= SEQUENCE { type OBJECT IDENTIFIER, value ANY }
 fn write_attribute<W: Write>(attribute: Tlv<'_>, writer: &mut W) -> io::Result<()>
-    ensures { OnOk result (Appends (W.contents writer.old) (W.contents writer.new)
-        (attribute_text (part attribute.entry))) }
+    ensures { Writes W.contents writer.old writer.new result (attribute_text (part attribute.entry)) }
 {
     let Some(mut members) = attribute.inside() else {
         return Ok(());
@@ -44,8 +42,7 @@ fn write_attribute<W: Write>(attribute: Tlv<'_>, writer: &mut W) -> io::Result<(
 
 // The attributes of an RDN, with a plus between them.
 fn write_attributes<W: Write>(attributes: Cursor<'_>, writer: &mut W) -> io::Result<()>
-    ensures { OnOk result (Appends (W.contents writer.old) (W.contents writer.new)
-        (attributes_text (left attributes.entry).values)) }
+    ensures { Writes W.contents writer.old writer.new result (attributes_text (left attributes.entry).values) }
 {
     let mut others = attributes;
     let Some(first) = others.next() else {
@@ -61,8 +58,7 @@ fn write_attributes<W: Write>(attributes: Cursor<'_>, writer: &mut W) -> io::Res
 
 // RelativeDistinguishedName ::= SET OF AttributeTypeAndValue
 fn write_rdn<W: Write>(rdn: Tlv<'_>, writer: &mut W) -> io::Result<()>
-    ensures { OnOk result (Appends (W.contents writer.old) (W.contents writer.new)
-        (rdn_text (part rdn.entry))) }
+    ensures { Writes W.contents writer.old writer.new result (rdn_text (part rdn.entry)) }
 {
     writer.write_all(b"/")?;
     match rdn.inside() {
@@ -72,8 +68,7 @@ fn write_rdn<W: Write>(rdn: Tlv<'_>, writer: &mut W) -> io::Result<()>
 }
 
 fn write_rdns<W: Write>(rdns: Cursor<'_>, writer: &mut W) -> io::Result<()>
-    ensures { OnOk result (Appends (W.contents writer.old) (W.contents writer.new)
-        (flat_map rdn_text (left rdns.entry).values)) }
+    ensures { Writes W.contents writer.old writer.new result (flat_map rdn_text (left rdns.entry).values) }
 {
     let mut rdns = rdns;
     while let Some(rdn) = rdns.next() {
@@ -85,8 +80,7 @@ fn write_rdns<W: Write>(rdns: Cursor<'_>, writer: &mut W) -> io::Result<()>
 // The RDNs; where there are none, a hyphen.
 #[tactic(auto, unfolding(asn::specs::Members::none_left))]
 fn write_sequence<W: Write>(rdns: Cursor<'_>, writer: &mut W) -> io::Result<()>
-    ensures { OnOk result (Appends (W.contents writer.old) (W.contents writer.new)
-        (rdns_text (left rdns.entry).values)) }
+    ensures { Writes W.contents writer.old writer.new result (rdns_text (left rdns.entry).values) }
 {
     if rdns.end() {
         return writer.write_all(b"-");
@@ -94,18 +88,10 @@ fn write_sequence<W: Write>(rdns: Cursor<'_>, writer: &mut W) -> io::Result<()>
     write_rdns(rdns, writer)
 }
 
-/// Writes the name: a slash before each RDN, a plus between its attributes, each `OID=VALUE`; the empty name is a hyphen. A
-/// name that was read is one value, so that it is never refused here.
+/// Writes the name: a slash before each RDN, a plus between its attributes, each `OID=VALUE`; the empty name is a hyphen.
 #[tactic(auto, unfolding(crate::specs::NameText::name_text))]
 pub(crate) fn write_name<W: Write>(name: &Name<'_>, writer: &mut W) -> io::Result<()>
-    ensures { OnOk result (Appends (W.contents writer.old) (W.contents writer.new)
-        (name_text (raw_of name.now))) }
+    ensures { Writes W.contents writer.old writer.new result (name_text (raw_of name.now)) }
 {
-    let Ok(sequence) = whole(name.raw()) else {
-        return Err(io::Error::from(io::ErrorKind::InvalidData));
-    };
-    match sequence.inside() {
-        Some(rdns) => write_sequence(rdns, writer),
-        None => writer.write_all(b"-"),
-    }
+    write_sequence(name.rdns(), writer)
 }

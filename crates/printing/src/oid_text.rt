@@ -1,8 +1,8 @@
 //! OBJECT IDENTIFIERs in dotted decimal (X.690, 8.19).
-ghost use Rattle.std.specs.Prelude.{◌≡◌, ◌≤◌, ◌<◌, ◌∷◌, ◌++◌, [], ℕ, length, map, IfSome, OnOk, MatchOption, false};
+ghost use Rattle.std.specs.Prelude.{◌≡◌, ◌≤◌, ◌<◌, ◌∷◌, ◌++◌, [], ℕ, length, map, IfSome, MatchOption, false};
 ghost use Rattle.std.specs.List.{flat_map, list_any};
-ghost use Rattle.std.specs.Io.KnownBytes.{Appends};
 ghost use Rattle.printing.specs.OidText.{dotted, dotted_number, first_two, is_long, number_of, number_size, numbers_in, oid_text};
+ghost use Rattle.printing.specs.Written.{Writes};
 
 use crate::text::write_hex;
 use std::io;
@@ -66,8 +66,7 @@ fn number_of(octets: &[u8]) -> u64
 
 // The first number is that of two.
 fn write_first_two<W: Write>(number: u64, writer: &mut W) -> io::Result<()>
-    ensures { OnOk result (Appends (W.contents writer.old) (W.contents writer.new)
-        (first_two number)) }
+    ensures { Writes W.contents writer.old writer.new result (first_two number) }
 {
     if number < 40 {
         write!(writer, "0.{number}")
@@ -80,8 +79,7 @@ fn write_first_two<W: Write>(number: u64, writer: &mut W) -> io::Result<()>
 
 fn write_numbers<W: Write>(contents: &[u8], writer: &mut W) -> io::Result<()>
     requires { list_any is_long (numbers_in contents.now) ≡ false }
-    ensures { OnOk result (Appends (W.contents writer.old) (W.contents writer.new)
-        (dotted (numbers_in contents.now))) }
+    ensures { Writes W.contents writer.old writer.new result (dotted (numbers_in contents.now)) }
 {
     let mut rest = contents;
     let Some(first) = next_number(&mut rest) else {
@@ -98,8 +96,7 @@ fn write_numbers<W: Write>(contents: &[u8], writer: &mut W) -> io::Result<()>
 /// and the contents in hexadecimal.
 #[tactic(auto, unfolding(crate::specs::OidText::oid_text))]
 pub(crate) fn write_oid<W: Write>(contents: &[u8], writer: &mut W) -> io::Result<()>
-    ensures { OnOk result (Appends (W.contents writer.old) (W.contents writer.new)
-        (oid_text contents.now)) }
+    ensures { Writes W.contents writer.old writer.new result (oid_text contents.now) }
 {
     if has_long_number(contents) {
         writer.write_all(b"#")?;

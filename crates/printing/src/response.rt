@@ -1,11 +1,11 @@
 //! What an OCSP response says, a line each.
-ghost use Rattle.std.specs.Prelude.{◌≡◌, OnOk};
+ghost use Rattle.std.specs.Prelude.{◌≡◌};
 ghost use Rattle.std.specs.List.{flat_map};
-ghost use Rattle.std.specs.Io.KnownBytes.{Appends};
 ghost use Rattle.ocsp.specs.OcspResponse.{seen_response};
 ghost use Rattle.ocsp.specs.Responder.{seen_responder};
 ghost use Rattle.ocsp.specs.Single.{seen_single, singles_left};
 ghost use Rattle.printing.specs.ResponseText.{head_lines, key_mark, next_text, produced_line, responder_line, response_text, single_line, status_text, title_line};
+ghost use Rattle.printing.specs.Written.{Writes};
 
 use crate::certificate::write_named;
 use crate::text::write_hex;
@@ -15,21 +15,20 @@ use std::io::Write;
 
 #[tactic(auto, unfolding(crate::specs::ResponseText::title_line))]
 fn write_title<W: Write>(writer: &mut W) -> io::Result<()>
-    ensures { OnOk result (Appends (W.contents writer.old) (W.contents writer.new) title_line) }
+    ensures { Writes W.contents writer.old writer.new result title_line }
 {
     writer.write_all(b"response\n")
 }
 
 #[tactic(auto, unfolding(crate::specs::ResponseText::key_mark))]
 fn write_key_mark<W: Write>(writer: &mut W) -> io::Result<()>
-    ensures { OnOk result (Appends (W.contents writer.old) (W.contents writer.new) key_mark) }
+    ensures { Writes W.contents writer.old writer.new result key_mark }
 {
     writer.write_all(b"responder #")
 }
 
 fn write_responder<W: Write>(responder: &ResponderId<'_>, writer: &mut W) -> io::Result<()>
-    ensures { OnOk result (Appends (W.contents writer.old) (W.contents writer.new)
-        (responder_line (seen_responder responder.now))) }
+    ensures { Writes W.contents writer.old writer.new result (responder_line (seen_responder responder.now)) }
 {
     match responder {
         ResponderId::ByName(name) => write_named("responder", name, writer),
@@ -42,8 +41,7 @@ fn write_responder<W: Write>(responder: &ResponderId<'_>, writer: &mut W) -> io:
 }
 
 fn write_status<W: Write>(status: CertStatus, writer: &mut W) -> io::Result<()>
-    ensures { OnOk result (Appends (W.contents writer.old) (W.contents writer.new)
-        (status_text status)) }
+    ensures { Writes W.contents writer.old writer.new result (status_text status) }
 {
     match status {
         CertStatus::Good => writer.write_all(b" good"),
@@ -53,8 +51,7 @@ fn write_status<W: Write>(status: CertStatus, writer: &mut W) -> io::Result<()>
 }
 
 fn write_next<W: Write>(next_update: Option<i64>, writer: &mut W) -> io::Result<()>
-    ensures { OnOk result (Appends (W.contents writer.old) (W.contents writer.new)
-        (next_text next_update)) }
+    ensures { Writes W.contents writer.old writer.new result (next_text next_update) }
 {
     match next_update {
         None => writer.write_all(b" -\n"),
@@ -63,8 +60,7 @@ fn write_next<W: Write>(next_update: Option<i64>, writer: &mut W) -> io::Result<
 }
 
 fn write_single<W: Write>(single: &SingleResponse<'_>, writer: &mut W) -> io::Result<()>
-    ensures { OnOk result (Appends (W.contents writer.old) (W.contents writer.new)
-        (single_line (seen_single single.now))) }
+    ensures { Writes W.contents writer.old writer.new result (single_line (seen_single single.now)) }
 {
     writer.write_all(b"single ")?;
     write_hex(single.id.serial, writer)?;
@@ -74,8 +70,7 @@ fn write_single<W: Write>(single: &SingleResponse<'_>, writer: &mut W) -> io::Re
 }
 
 fn write_singles<W: Write>(singles: Singles<'_>, writer: &mut W) -> io::Result<()>
-    ensures { OnOk result (Appends (W.contents writer.old) (W.contents writer.new)
-        (flat_map single_line (singles_left singles.entry))) }
+    ensures { Writes W.contents writer.old writer.new result (flat_map single_line (singles_left singles.entry)) }
 {
     let mut others = singles;
     while let Some(single) = others.next() {
@@ -85,8 +80,7 @@ fn write_singles<W: Write>(singles: Singles<'_>, writer: &mut W) -> io::Result<(
 }
 
 fn write_head<W: Write>(response: &Response<'_>, writer: &mut W) -> io::Result<()>
-    ensures { OnOk result (Appends (W.contents writer.old) (W.contents writer.new)
-        (head_lines (seen_response response.now))) }
+    ensures { Writes W.contents writer.old writer.new result (head_lines (seen_response response.now)) }
 {
     write_title(writer)?;
     write_responder(&response.responder, writer)?;
@@ -96,8 +90,7 @@ fn write_head<W: Write>(response: &Response<'_>, writer: &mut W) -> io::Result<(
 /// Writes what the response says, a line each: who answers and when, and then its single responses, which are read anew one by one. It
 /// takes no memory.
 pub fn response_to<W: Write>(response: &Response<'_>, writer: &mut W) -> io::Result<()>
-    ensures { OnOk result (Appends (W.contents writer.old) (W.contents writer.new)
-        (response_text (seen_response response.now))) }
+    ensures { Writes W.contents writer.old writer.new result (response_text (seen_response response.now)) }
 {
     write_head(response, writer)?;
     write_singles(response.responses, writer)

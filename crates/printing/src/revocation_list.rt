@@ -1,10 +1,10 @@
 //! What a revocation list says, a line each.
-ghost use Rattle.std.specs.Prelude.{◌≡◌, OnOk};
+ghost use Rattle.std.specs.Prelude.{◌≡◌};
 ghost use Rattle.std.specs.List.{flat_map};
-ghost use Rattle.std.specs.Io.KnownBytes.{Appends};
 ghost use Rattle.crl.specs.CertificateList.{seen_list};
 ghost use Rattle.crl.specs.Entry.{entries_left, seen_entry};
 ghost use Rattle.printing.specs.CrlText.{crl_text, entry_line, number_lines, opening_lines, scope_lines, span_lines, title_line};
+ghost use Rattle.printing.specs.Written.{Writes};
 
 use crate::certificate::{write_named, write_octets};
 use crate::text::write_hex;
@@ -13,8 +13,7 @@ use std::io;
 use std::io::Write;
 
 fn write_scope<W: Write>(scope: Scope, writer: &mut W) -> io::Result<()>
-    ensures { OnOk result (Appends (W.contents writer.old) (W.contents writer.new)
-        (scope_lines scope)) }
+    ensures { Writes W.contents writer.old writer.new result (scope_lines scope) }
 {
     match scope {
         Scope::All => Ok(()),
@@ -24,8 +23,7 @@ fn write_scope<W: Write>(scope: Scope, writer: &mut W) -> io::Result<()>
 }
 
 fn write_span<W: Write>(from: i64, until: i64, writer: &mut W) -> io::Result<()>
-    ensures { OnOk result (Appends (W.contents writer.old) (W.contents writer.new)
-        (span_lines from until)) }
+    ensures { Writes W.contents writer.old writer.new result (span_lines from until) }
 {
     writeln!(writer, "from {from}")?;
     writeln!(writer, "until {until}")
@@ -33,22 +31,20 @@ fn write_span<W: Write>(from: i64, until: i64, writer: &mut W) -> io::Result<()>
 
 #[tactic(auto, unfolding(crate::specs::CrlText::title_line))]
 fn write_title<W: Write>(writer: &mut W) -> io::Result<()>
-    ensures { OnOk result (Appends (W.contents writer.old) (W.contents writer.new) title_line) }
+    ensures { Writes W.contents writer.old writer.new result title_line }
 {
     writer.write_all(b"crl\n")
 }
 
 fn write_opening<W: Write>(list: &Crl<'_>, writer: &mut W) -> io::Result<()>
-    ensures { OnOk result (Appends (W.contents writer.old) (W.contents writer.new)
-        (opening_lines (seen_list list.now))) }
+    ensures { Writes W.contents writer.old writer.new result (opening_lines (seen_list list.now)) }
 {
     write_title(writer)?;
     write_named("issuer", &list.issuer, writer)
 }
 
 fn write_number<W: Write>(list: &Crl<'_>, writer: &mut W) -> io::Result<()>
-    ensures { OnOk result (Appends (W.contents writer.old) (W.contents writer.new)
-        (number_lines (seen_list list.now))) }
+    ensures { Writes W.contents writer.old writer.new result (number_lines (seen_list list.now)) }
 {
     write_octets("number", list.number, writer)?;
     write_scope(list.scope, writer)?;
@@ -56,8 +52,7 @@ fn write_number<W: Write>(list: &Crl<'_>, writer: &mut W) -> io::Result<()>
 }
 
 fn write_entry<W: Write>(entry: Entry<'_>, writer: &mut W) -> io::Result<()>
-    ensures { OnOk result (Appends (W.contents writer.old) (W.contents writer.new)
-        (entry_line (seen_entry entry.entry))) }
+    ensures { Writes W.contents writer.old writer.new result (entry_line (seen_entry entry.entry)) }
 {
     writer.write_all(b"revoked ")?;
     write_hex(entry.serial, writer)?;
@@ -65,8 +60,7 @@ fn write_entry<W: Write>(entry: Entry<'_>, writer: &mut W) -> io::Result<()>
 }
 
 fn write_entries<W: Write>(entries: Entries<'_>, writer: &mut W) -> io::Result<()>
-    ensures { OnOk result (Appends (W.contents writer.old) (W.contents writer.new)
-        (flat_map entry_line (entries_left entries.entry))) }
+    ensures { Writes W.contents writer.old writer.new result (flat_map entry_line (entries_left entries.entry)) }
 {
     let mut others = entries;
     while let Some(entry) = others.next() {
@@ -78,8 +72,7 @@ fn write_entries<W: Write>(entries: Entries<'_>, writer: &mut W) -> io::Result<(
 /// Writes what the revocation list says, a line each: its fields, and then its entries as they stand. The entries are read anew
 /// one by one, so that it takes no memory.
 pub fn crl_to<W: Write>(list: &Crl<'_>, writer: &mut W) -> io::Result<()>
-    ensures { OnOk result (Appends (W.contents writer.old) (W.contents writer.new)
-        (crl_text (seen_list list.now))) }
+    ensures { Writes W.contents writer.old writer.new result (crl_text (seen_list list.now)) }
 {
     write_opening(list, writer)?;
     write_number(list, writer)?;

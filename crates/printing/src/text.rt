@@ -1,9 +1,9 @@
 //! Octets as text: in hexadecimal, or as the characters that they are.
-ghost use Rattle.std.specs.Prelude.{◌≡◌, ◌*◌, ◌≤◌, ◌∷◌, length, OnOk};
-ghost use Rattle.std.specs.Io.KnownBytes.{Appends};
+ghost use Rattle.std.specs.Prelude.{◌≡◌, ◌*◌, ◌≤◌, ◌∷◌, length};
 ghost use Rattle.hex.specs.Hex.{encode_lower};
 ghost use Rattle.printing.specs.Printed.{shown_contents};
 ghost use Rattle.printing.specs.EscapedText.{escaped, escaped_octet, is_plain, spaced_text};
+ghost use Rattle.printing.specs.Written.{Writes};
 
 use std::io;
 use std::io::Write;
@@ -14,8 +14,7 @@ const CHUNK: usize = 64;
 // The digits of a few octets, in one write.
 pub(crate) fn write_digits<W: Write>(octets: &[u8], writer: &mut W) -> io::Result<()>
     requires { length octets.now ≤ CHUNK }
-    ensures { OnOk result (Appends (W.contents writer.old) (W.contents writer.new)
-        (encode_lower octets.now)) }
+    ensures { Writes W.contents writer.old writer.new result (encode_lower octets.now) }
 {
     let mut room = [0u8; 2 * CHUNK];
     let digits = &mut room[..2 * octets.len()];
@@ -25,8 +24,7 @@ pub(crate) fn write_digits<W: Write>(octets: &[u8], writer: &mut W) -> io::Resul
 }
 
 pub(crate) fn write_hex<W: Write>(octets: &[u8], writer: &mut W) -> io::Result<()>
-    ensures { OnOk result (Appends (W.contents writer.old) (W.contents writer.new)
-        (encode_lower octets.now)) }
+    ensures { Writes W.contents writer.old writer.new result (encode_lower octets.now) }
 {
     let mut rest = octets;
     while !rest.is_empty() {
@@ -39,8 +37,7 @@ pub(crate) fn write_hex<W: Write>(octets: &[u8], writer: &mut W) -> io::Result<(
 
 // A space and the contents, where there are any.
 pub(crate) fn write_contents<W: Write>(contents: &[u8], writer: &mut W) -> io::Result<()>
-    ensures { OnOk result (Appends (W.contents writer.old) (W.contents writer.new)
-        (shown_contents contents.now)) }
+    ensures { Writes W.contents writer.old writer.new result (shown_contents contents.now) }
 {
     if contents.is_empty() {
         return Ok(());
@@ -57,8 +54,7 @@ fn is_plain(octet: u8) -> bool
 }
 
 fn write_octet<W: Write>(octet: u8, writer: &mut W) -> io::Result<()>
-    ensures { OnOk result (Appends (W.contents writer.old) (W.contents writer.new)
-        (escaped_octet octet)) }
+    ensures { Writes W.contents writer.old writer.new result (escaped_octet octet) }
 {
     if is_plain(octet) {
         return writer.write_all(&[octet]);
@@ -69,8 +65,7 @@ fn write_octet<W: Write>(octet: u8, writer: &mut W) -> io::Result<()>
 
 /// Writes the octets as text: those that print as they are, but for separators, others as a backslash and two digits.
 pub(crate) fn write_escaped<W: Write>(octets: &[u8], writer: &mut W) -> io::Result<()>
-    ensures { OnOk result (Appends (W.contents writer.old) (W.contents writer.new)
-        (escaped octets.now)) }
+    ensures { Writes W.contents writer.old writer.new result (escaped octets.now) }
 {
     'octets: for octet in octets {
         write_octet(*octet, writer)?;
@@ -80,8 +75,7 @@ pub(crate) fn write_escaped<W: Write>(octets: &[u8], writer: &mut W) -> io::Resu
 
 // A space and the text, where there is any.
 pub(crate) fn write_spaced_text<W: Write>(octets: &[u8], writer: &mut W) -> io::Result<()>
-    ensures { OnOk result (Appends (W.contents writer.old) (W.contents writer.new)
-        (spaced_text octets.now)) }
+    ensures { Writes W.contents writer.old writer.new result (spaced_text octets.now) }
 {
     if octets.is_empty() {
         return Ok(());

@@ -8,6 +8,7 @@ ghost use Rattle.asn.specs.Place.{remaining};
 ghost use Rattle.asn.specs.Shows.{Shows};
 ghost use Rattle.printing.specs.Printed.{indent, shown_contents, line, lines_of, lines_of_all};
 ghost use Rattle.printing.specs.Unwritten.{IsUnwritten};
+ghost use Rattle.printing.specs.Written.{Writes};
 
 use crate::text::{write_contents, write_digits};
 use asn::{Cursor, Fault, Tlv, whole};
@@ -30,8 +31,7 @@ pub enum TreeFault {
 const SPACES: &[u8; 64] = b"                                                                ";
 
 fn write_indent<W: Write>(level: usize, writer: &mut W) -> io::Result<()>
-    ensures { OnOk result (Appends (W.contents writer.old) (W.contents writer.new)
-        (indent level)) }
+    ensures { Writes W.contents writer.old writer.new result (indent level) }
 {
     for _ in 0..level / 32 {
         writer.write_all(SPACES)?;
@@ -47,8 +47,7 @@ fn write_line<W: Write>(
     shown: &[u8],
     writer: &mut W,
 ) -> io::Result<()>
-    ensures { OnOk result (Appends (W.contents writer.old) (W.contents writer.new)
-        (line level identifier size (shown_contents shown.now))) }
+    ensures { Writes W.contents writer.old writer.new result (line level identifier size (shown_contents shown.now)) }
 {
     write_indent(level, writer)?;
     write_digits(&[identifier], writer)?;
