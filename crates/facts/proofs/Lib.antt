@@ -1,3 +1,4 @@
+mod AnyOrder
 mod Ascending
 mod ByPrefix
 mod Finding

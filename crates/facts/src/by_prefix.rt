@@ -4,6 +4,7 @@ ghost use Rattle.std.specs.Prelude.{◌≡◌, ℕ, List, IfOk, IsTrue, map};
 ghost use Rattle.std.specs.Ordering.{nat_cmp};
 ghost use Rattle.std.specs.declared.cmp.Ordering.TheVariants.{Less};
 ghost use Rattle.std.specs.Cmp.Lexicographic.{slice_cmp};
+ghost use Rattle.std.specs.List.Sorted.{IsPermutation};
 ghost use Rattle.facts.specs.Listed.{IsAscending, first_reason, seen_listed};
 ghost use Rattle.facts.specs.Prefixed.{seen_prefixed};
 
@@ -44,6 +45,15 @@ pub(crate) fn without_prefixes<'a>(
     Ok(left)
 }
 
+/// Arranged by their prefixes, those with one prefix in any order. It takes no memory.
+pub(crate) fn arranged_by_prefix(all: Vec<Prefixed<'_>>) -> Vec<Prefixed<'_>>
+    ensures { IsPermutation all.entry.items result.items }
+{
+    let mut all = all;
+    all.sort_unstable_by_key(|entry| entry.prefix);
+    all
+}
+
 /// Sorted by their prefixes; those with one prefix stay in their order.
 pub(crate) fn sorted_by_prefix(all: Vec<Prefixed<'_>>) -> Result<Vec<Prefixed<'_>>, AllocError>
     ensures { IfOk result (λ sorted. (serial : List ℕ) →
@@ -66,8 +76,8 @@ fn precedes(one: &Prefixed<'_>, other: &Prefixed<'_>) -> bool
     one.prefix == other.prefix && serial.cmp(next).is_lt()
 }
 
-/// Whether the serial numbers ascend.
-pub(crate) fn ascend(all: &[Prefixed<'_>]) -> bool
+/// Whether the serial numbers ascend, told by their prefixes where these differ.
+pub(crate) fn prefixes_ascend(all: &[Prefixed<'_>]) -> bool
     ensures { IsTrue result → IsAscending (map seen_prefixed all.now) }
 {
     for place in 1..all.len() {

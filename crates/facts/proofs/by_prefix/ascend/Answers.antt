@@ -1,6 +1,0 @@
-use Rattle.std.proofs.Common.{arith}
-use Rattle.facts.proofs.Ascending.{rises_all}
-use Rattle.facts.proofs.by_prefix.ascend.Goals as goal
-
-pub returns : goal.returns
-returns c = λ _. rises_all c.args.all.now (λ k d below. c.loop-place.invariant k d (omega (arith, below)))
