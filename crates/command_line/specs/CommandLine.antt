@@ -109,11 +109,11 @@ HasFlaw entered ArgumentMissing = HasNoLine entered
 HasFlaw entered OtherKind = HasOtherKind entered
 HasFlaw entered NoMemory = Unit {0}
 
--- the same of the rows of a subcommand that takes a kind
+-- the same of the rows of a subcommand that takes a kind, and no memory
 abbrev pub IsFlaw : List Text → List Row → Flaw → Type 0
 IsFlaw ids rows ArgumentMissing = Lack ids rows
 IsFlaw ids rows OtherKind = kind_in rows ≡ None
-IsFlaw ids rows NoMemory = Unit {0}
+IsFlaw ids rows NoMemory = ⊥
 
 -- and of one that asks
 abbrev pub IsFlawOfQuestion : List Text → List Row → Flaw → Type 0

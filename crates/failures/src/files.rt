@@ -16,21 +16,21 @@ use std::{fs, io};
 
 /// Where files come from.
 ///
-/// What a file holds is the source's own matter: no contract can look at a disk. All that is known of a source is that it
-/// answers what the file of that name holds.
+/// What a file holds, and whether it can be read, is the source's own matter: no contract can look at a disk. All that is known of a
+/// source is that it answers what the file of that name holds, and says that a file cannot be read only where it cannot.
 pub trait Source {
-    ghost use Rattle.std.specs.Prelude.{ℕ, List};
+    ghost use Rattle.std.specs.Prelude.{ℕ, List, Option, Some};
 
-    /// Whether the file of this name holds these octets.
-    ghost holds: { Self → List ℕ → List ℕ → Type 0 };
+    /// Whether the file of this name holds these octets; of none, whether it cannot be read.
+    ghost holds: { Self → List ℕ → Option (List ℕ) → Type 0 };
 
     /// The octets of the file.
     fn octets_of<'a>(&self, file: &'a str) -> Result<Vec<u8>, Failure<'a>>
-        ensures reads { IfOk result (λ octets. holds self.now file.entry.now octets.items) }
-        ensures fails { IfErr result (IsUnread file.entry.now) };
+        ensures reads { IfOk result (λ octets. holds self.now file.entry.now (Some octets.items)) }
+        ensures fails { IfErr result (IsUnread (holds self.now) file.entry.now) };
 }
 
-/// The files of the system, of which no contract says what they hold.
+/// The files of the system, of which no contract says what they hold, and whether they can be read.
 impl<R: Files + AllocGlobal> Source for R {
     ghost use Rattle.std.specs.Prelude.{⊤};
 

@@ -2,3 +2,4 @@ mod Believing
 mod Refusing
 mod Questions
 mod Seeing
+mod Unanswered

@@ -17,8 +17,8 @@ use Rattle.judging.specs.declared.asking.Asked.{Asked}
 use Rattle.judging.specs.Asked.{AreAsked, IsAsked, IsQueryOf, path_texts, purpose_contents}
 use Rattle.judging.specs.Believed.{accepted_by}
 use Rattle.judging.specs.Delivered.{IsCertificateText}
-use Rattle.judging.specs.Judged.{IsCompared, IsComparedOf, IsFailureOfCheck, IsFailureOfComparison, IsJudged, IsJudgedOf, IsNotFoundOf}
-use Rattle.judging.specs.Standing.{IsNotFound, Standing}
+use Rattle.judging.specs.Judged.{IsCompared, IsComparedOf, IsFailureOfCheck, IsFailureOfComparison, IsJudged, IsJudgedOf, IsNotCompared, IsNotJudged}
+use Rattle.judging.specs.Standing.{Leaving, Standing}
 
 -- texts are those of one list of certificates
 same_certificates : (texts : List (List ℕ)) (some others : List Certificate) → AreTexts texts some → AreTexts texts others → some ≡ others
@@ -75,13 +75,13 @@ is_asked holds question it query are of =
     }
 
 -- the verdict and the comparison of what is asked are those that are asked for
-pub judged_asked : {E : Type 0} (holds : Holding) (stands leaves : Standing) (question : Question) (it : Asked) (result : Result Verdict E) → AreAsked holds question it
+pub judged_asked : {E : Type 0} (holds : Holding) (stands : Standing) (leaves : Leaving) (question : Question) (it : Asked) (result : Result Verdict E) → AreAsked holds question it
     → IfOk result (IsJudgedOf stands leaves question.store.now it) → IfOk result (IsJudged holds stands leaves question)
 judged_asked holds stands leaves question it (Ok verdict) are (query, of, judged) =
     record { accepts = accepted_by it.verifier; query = query; asked = is_asked holds question it query are of; judged = judged }
 judged_asked holds stands leaves question it (Err e) are judged = tt
 
-pub compared_asked : {E : Type 0} (holds : Holding) (stands leaves : Standing) (question : Question) (other : List ℕ) (it : Asked) (result : Result Comparison E) → AreAsked holds question it
+pub compared_asked : {E : Type 0} (holds : Holding) (stands : Standing) (leaves : Leaving) (question : Question) (other : List ℕ) (it : Asked) (result : Result Comparison E) → AreAsked holds question it
     → IfOk result (IsComparedOf stands leaves question.store.now other it) → IfOk result (IsCompared holds stands leaves question other)
 compared_asked holds stands leaves question other it (Ok comparison) are (query, of, compared) =
     record { accepts = accepted_by it.verifier; query = query; asked = is_asked holds question it query are of; compared = compared }
@@ -96,12 +96,12 @@ query_in holds question it are = (
   record { moment = are.moment; purpose = are.purpose; anchor = (it.anchor.items, are.anchor.0, are.anchor.1.1); path = are.path.1 },
 )
 
-pub check_fails : {T : Type 0} (holds : Holding) (question : Question) (it : Asked) (result : Result T Failure) → AreAsked holds question it
-    → IfErr result (IsNotFound question.store.now) → IfErr result (IsFailureOfCheck holds question)
-check_fails holds question it (Ok x) are fails = tt
-check_fails holds question it (Err failure) are fails = inr (query_in holds question it are, fails)
+pub check_fails : {T : Type 0} (holds : Holding) (stands : Standing) (leaves : Leaving) (question : Question) (it : Asked) (result : Result T Failure) → AreAsked holds question it
+    → IfErr result (IsNotJudged stands leaves question.store.now) → IfErr result (IsFailureOfCheck holds stands leaves question)
+check_fails holds stands leaves question it (Ok x) are fails = tt
+check_fails holds stands leaves question it (Err failure) are fails = inr (query_in holds question it are, fails)
 
-pub comparison_fails : {T : Type 0} (holds : Holding) (question : Question) (other : List ℕ) (it : Asked) (result : Result T Failure) → AreAsked holds question it
-    → IfErr result (IsNotFoundOf question.store.now other) → IfErr result (IsFailureOfComparison holds question other)
-comparison_fails holds question other it (Ok x) are fails = tt
-comparison_fails holds question other it (Err failure) are fails = inr (query_in holds question it are, fails)
+pub comparison_fails : {T : Type 0} (holds : Holding) (stands : Standing) (leaves : Leaving) (question : Question) (other : List ℕ) (it : Asked) (result : Result T Failure) → AreAsked holds question it
+    → IfErr result (IsNotCompared stands leaves question.store.now other) → IfErr result (IsFailureOfComparison holds stands leaves question other)
+comparison_fails holds stands leaves question other it (Ok x) are fails = tt
+comparison_fails holds stands leaves question other it (Err failure) are fails = inr (query_in holds question it are, fails)

@@ -14,7 +14,7 @@ use Rattle.path.specs.Query.{Query, Accepts}
 use Rattle.relying.specs.Asking.{Looks, LooksAtBoth}
 use Rattle.relying.specs.Run.{Ran, Runs, Takes}
 use Rattle.relying.specs.declared.fault.DeliverFault.{DeliverFault}
-use Rattle.judging.specs.Standing.{Seen, Standing, seen_of}
+use Rattle.judging.specs.Standing.{Leaving, Seen, Standing, database, seen_of}
 use Rattle.judging.specs.Delivered.{HasTaken, IsTakenAt}
 use Rattle.judging.specs.Judged.{HasCompared, HasJudged, IsComparedBy, IsJudgedBy}
 
@@ -23,8 +23,8 @@ pub judged : (leaves : Seen → Type 0) (accepts : Accepts) (query : Query) (old
     → (HasCleanDisk new → Looks {A = Verdict} old new (λ held found. IsVerdict accepts query held found) (Ok verdict)) → HasJudged leaves accepts query (seen_of old) verdict
 judged leaves accepts query old new verdict left looks = (seen_of new, left, λ intact held stands. (looks intact).1 held stands)
 
-pub judged_by : (stands leaves : Standing) (path : List ℕ) (accepts : Accepts) (query : Query) (old : State) {E : Type 0} (result : Result Verdict E)
-    → stands path (seen_of old) → (HasCleanDisk old → IsStore old.now) → IfOk result (HasJudged (leaves path) accepts query (seen_of old))
+pub judged_by : (stands : Standing) (leaves : Leaving) (path : List ℕ) (accepts : Accepts) (query : Query) (old : State) {E : Type 0} (result : Result Verdict E)
+    → stands path (database (seen_of old)) → (HasCleanDisk old → IsStore old.now) → IfOk result (HasJudged (leaves path) accepts query (seen_of old))
     → IfOk result (IsJudgedBy stands leaves path accepts query)
 judged_by stands leaves path accepts query old (Ok verdict) stood is judged = (seen_of old, (stood, λ intact. is intact), judged)
 judged_by stands leaves path accepts query old (Err e) stood is judged = tt
@@ -36,8 +36,8 @@ pub compared : (leaves others_leave : Seen → Type 0) (accepts : Accepts) (quer
 compared leaves others_leave accepts query old new other_old other_new comparison left other_left looks =
     (seen_of new, seen_of other_new, left, other_left, λ intact other_intact held others one other. (looks intact other_intact).2 held others one other)
 
-pub compared_by : (stands leaves : Standing) (path beside : List ℕ) (accepts : Accepts) (query : Query) (old other_old : State) {E : Type 0} (result : Result Comparison E)
-    → stands path (seen_of old) → (HasCleanDisk old → IsStore old.now) → stands beside (seen_of other_old) → (HasCleanDisk other_old → IsStore other_old.now)
+pub compared_by : (stands : Standing) (leaves : Leaving) (path beside : List ℕ) (accepts : Accepts) (query : Query) (old other_old : State) {E : Type 0} (result : Result Comparison E)
+    → stands path (database (seen_of old)) → (HasCleanDisk old → IsStore old.now) → stands beside (database (seen_of other_old)) → (HasCleanDisk other_old → IsStore other_old.now)
     → IfOk result (HasCompared (leaves path) (leaves beside) accepts query (seen_of old) (seen_of other_old))
     → IfOk result (IsComparedBy stands leaves path beside accepts query)
 compared_by stands leaves path beside accepts query old other_old (Ok comparison) stood is other_stood other_is compared =
@@ -70,8 +70,8 @@ all_taken leaves accepts issuer statement old new said answers (Ok counts) same 
     taken leaves accepts issuer statement old new answers counts (sym same ∙ told) left ran
 all_taken leaves accepts issuer statement old new said answers (Err e) same told left ran = tt
 
-pub taken_at : {E : Type 0} (stands leaves : Standing) (path : List ℕ) (accepts : Accepts) (issuer statement : List ℕ) (old : State) (result : Result Counts E)
-    → stands path (seen_of old) → (HasCleanDisk old → IsStore old.now) → IfOk result (HasTaken (leaves path) accepts issuer statement (seen_of old))
+pub taken_at : {E : Type 0} (stands : Standing) (leaves : Leaving) (path : List ℕ) (accepts : Accepts) (issuer statement : List ℕ) (old : State) (result : Result Counts E)
+    → stands path (database (seen_of old)) → (HasCleanDisk old → IsStore old.now) → IfOk result (HasTaken (leaves path) accepts issuer statement (seen_of old))
     → IfOk result (IsTakenAt stands leaves path accepts issuer statement)
 taken_at stands leaves path accepts issuer statement old (Ok counts) stood is taken = (seen_of old, (stood, λ intact. is intact), taken)
 taken_at stands leaves path accepts issuer statement old (Err e) stood is taken = tt

@@ -9,8 +9,8 @@ ghost use Rattle.verdicts.specs.View.{seen_query};
 ghost use Rattle.judging.specs.Asked.{AreCertificateTexts, path_texts};
 ghost use Rattle.judging.specs.Believed.{accepted_by};
 ghost use Rattle.judging.specs.Delivered.{IsCertificateText};
-ghost use Rattle.judging.specs.Judged.{HasJudged, IsFailureOfCheck, IsJudged, IsJudgedBy, IsJudgedOf};
-ghost use Rattle.judging.specs.Standing.{IsNotFound, IsNotMade, seen_of};
+ghost use Rattle.judging.specs.Judged.{HasJudged, IsFailureOfCheck, IsJudged, IsJudgedBy, IsJudgedOf, IsNotJudged, WasJudged};
+ghost use Rattle.judging.specs.Standing.{IsNoAnswer, seen_of, told_of_party};
 
 use crate::asking::{Asked, query_of, read_asked, texts_of};
 use crate::sharing::Shared;
@@ -27,7 +27,7 @@ use verifiers::{ListVerifier, Verifier};
 
 // What a party's fault is for a run.
 pub(crate) fn not_judged<'a>(fault: Fault) -> Failure<'a>
-    ensures { IsNotMade result }
+    ensures { result ≡ told_of_party fault }
 {
     match fault {
         Fault::Store(fault) => failed(fault),
@@ -45,7 +45,7 @@ fn judge_at<'a, S: Stores, V: Verifier + Drop>(
 ) -> Result<Verdict, Failure<'a>>
     ensures judged { IfOk result (HasJudged (S.leaves source.now path.now) (V.accepts node.verifier)
         (seen_query query.now) (seen_of (file_state node.store.conn))) }
-    ensures fails { IfErr result IsNotMade }
+    ensures fails { IfErr result (IsNoAnswer (S.leaves source.now path.now) (seen_of (file_state node.store.conn))) }
 {
     let mut node = node;
     let verdict = node.verdict(alloc, query);
@@ -66,7 +66,7 @@ fn judge_by<'a, S: Stores>(
 ) -> Result<Verdict, Failure<'a>>
     ensures judged { IfOk result (IsJudgedBy (S.stands source.now) (S.leaves source.now)
         path.entry.now (accepted_by verifier.now) (seen_query query.now)) }
-    ensures fails { IfErr result (IsNotFound path.entry.now) }
+    ensures fails { IfErr result (IsNotJudged (S.stands source.now) (S.leaves source.now) path.entry.now) }
 {
     let store = source.open_store(path)?;
     let node = Node::new(Shared { list: verifier }, store);
@@ -83,7 +83,7 @@ fn judge_asked<'a, S: Stores>(
     requires anchor { IsCertificateText asked.now.anchor.items }
     requires path { AreCertificateTexts (path_texts asked.now) }
     ensures judged { IfOk result (IsJudgedOf (S.stands source.now) (S.leaves source.now) path.entry.now asked.now) }
-    ensures fails { IfErr result (IsNotFound path.entry.now) }
+    ensures fails { IfErr result (IsNotJudged (S.stands source.now) (S.leaves source.now) path.entry.now) }
 {
     let Ok(texts) = texts_of(alloc, asked.path.as_slice()) else {
         return Err(Failure::NoMemory);
@@ -102,7 +102,7 @@ fn judge<'a, S: Source + Stores>(
     question: &Question<'a>,
 ) -> Result<Verdict, Failure<'a>>
     ensures judged { IfOk result (IsJudged (S.holds source.now) (S.stands source.now) (S.leaves source.now) question.now) }
-    ensures fails { IfErr result (IsFailureOfCheck (S.holds source.now) question.now) }
+    ensures fails { IfErr result (IsFailureOfCheck (S.holds source.now) (S.stands source.now) (S.leaves source.now) question.now) }
 {
     let asked = read_asked(source, alloc, question)?;
     judge_asked(source, alloc, question.store, &asked)
@@ -117,7 +117,8 @@ pub fn check<'a, S: Source + Stores, O: Write>(
 ) -> Result<Verdict, Failure<'a>>
     ensures judged { IfOk result (IsJudged (S.holds source.now) (S.stands source.now) (S.leaves source.now) question.now) }
     ensures written { IfOk result (λ verdict. Appends (O.contents out.old) (O.contents out.new) (verdict_line verdict)) }
-    ensures fails { IfErr result (OrUnwritable (IsFailureOfCheck (S.holds source.now) question.now)) }
+    ensures fails { IfErr result (OrUnwritable (IsFailureOfCheck (S.holds source.now) (S.stands source.now) (S.leaves source.now) question.now)
+        (WasJudged (S.holds source.now) (S.stands source.now) (S.leaves source.now) question.now)) }
     ensures quiet { IfErr result (λ failure. UnlessLate failure (out.new ≡ out.old)) }
 {
     let verdict = judge(source, alloc, question)?;

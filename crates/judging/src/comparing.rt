@@ -9,8 +9,8 @@ ghost use Rattle.verdicts.specs.View.{seen_query};
 ghost use Rattle.judging.specs.Asked.{AreCertificateTexts, path_texts};
 ghost use Rattle.judging.specs.Believed.{accepted_by};
 ghost use Rattle.judging.specs.Delivered.{IsCertificateText};
-ghost use Rattle.judging.specs.Judged.{HasCompared, IsCompared, IsComparedBy, IsComparedOf, IsFailureOfComparison, IsNotFoundOf};
-ghost use Rattle.judging.specs.Standing.{IsNotMade, seen_of};
+ghost use Rattle.judging.specs.Judged.{HasCompared, IsCompared, IsComparedBy, IsComparedOf, IsFailureOfComparison, IsNoComparison, IsNotCompared, WereCompared};
+ghost use Rattle.judging.specs.Standing.{seen_of};
 
 use crate::asking::{Asked, query_of, read_asked, texts_of};
 use crate::checking::not_judged;
@@ -47,7 +47,8 @@ fn compare_at<'a, S: Stores>(
     ensures compared { IfOk result (HasCompared (S.leaves source.now paths.now.path.now)
         (S.leaves source.now paths.now.other.now) (accepted_by verifier.now)
         (seen_query query.now) (seen_of (file_state store.conn)) (seen_of (file_state beside.conn))) }
-    ensures fails { IfErr result IsNotMade }
+    ensures fails { IfErr result (IsNoComparison (S.leaves source.now paths.now.path.now)
+        (S.leaves source.now paths.now.other.now) (seen_of (file_state store.conn)) (seen_of (file_state beside.conn))) }
 {
     let shared = Shared { list: verifier };
     let mut one = Node::new(shared, store);
@@ -71,7 +72,8 @@ fn compare_by<'a, S: Stores>(
 ) -> Result<Comparison, Failure<'a>>
     ensures compared { IfOk result (IsComparedBy (S.stands source.now) (S.leaves source.now)
         paths.now.path.now paths.now.other.now (accepted_by verifier.now) (seen_query query.now)) }
-    ensures fails { IfErr result (IsNotFoundOf paths.now.path.now paths.now.other.now) }
+    ensures fails { IfErr result (IsNotCompared (S.stands source.now) (S.leaves source.now)
+        paths.now.path.now paths.now.other.now) }
 {
     let store = source.open_store(paths.path)?;
     let beside = source.open_store(paths.other)?;
@@ -89,7 +91,8 @@ fn compare_asked<'a, S: Stores>(
     requires path { AreCertificateTexts (path_texts asked.now) }
     ensures compared { IfOk result (IsComparedOf (S.stands source.now) (S.leaves source.now)
         paths.now.path.now paths.now.other.now asked.now) }
-    ensures fails { IfErr result (IsNotFoundOf paths.now.path.now paths.now.other.now) }
+    ensures fails { IfErr result (IsNotCompared (S.stands source.now) (S.leaves source.now)
+        paths.now.path.now paths.now.other.now) }
 {
     let Ok(texts) = texts_of(alloc, asked.path.as_slice()) else {
         return Err(Failure::NoMemory);
@@ -110,7 +113,8 @@ fn compare_verdicts<'a, S: Source + Stores>(
 ) -> Result<Comparison, Failure<'a>>
     ensures compared { IfOk result (IsCompared (S.holds source.now) (S.stands source.now)
         (S.leaves source.now) question.now other.entry.now) }
-    ensures fails { IfErr result (IsFailureOfComparison (S.holds source.now) question.now other.entry.now) }
+    ensures fails { IfErr result (IsFailureOfComparison (S.holds source.now) (S.stands source.now)
+        (S.leaves source.now) question.now other.entry.now) }
 {
     let asked = read_asked(source, alloc, question)?;
     let paths = Pair {
@@ -132,7 +136,9 @@ pub fn compare<'a, S: Source + Stores, O: Write>(
     ensures compared { IfOk result (IsCompared (S.holds source.now) (S.stands source.now)
         (S.leaves source.now) question.now other.entry.now) }
     ensures written { IfOk result (λ comparison. Appends (O.contents out.old) (O.contents out.new) (comparison_line comparison)) }
-    ensures fails { IfErr result (OrUnwritable (IsFailureOfComparison (S.holds source.now) question.now other.entry.now)) }
+    ensures fails { IfErr result (OrUnwritable (IsFailureOfComparison (S.holds source.now) (S.stands source.now)
+        (S.leaves source.now) question.now other.entry.now) (WereCompared (S.holds source.now)
+        (S.stands source.now) (S.leaves source.now) question.now other.entry.now)) }
     ensures quiet { IfErr result (λ failure. UnlessLate failure (out.new ≡ out.old)) }
 {
     let comparison = compare_verdicts(source, alloc, question, other)?;

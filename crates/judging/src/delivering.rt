@@ -1,5 +1,5 @@
 //! Deliveries.
-ghost use Rattle.std.specs.Prelude.{◌≡◌, ◌∷◌, [], IfErr, IfOk, Ok, OnOk};
+ghost use Rattle.std.specs.Prelude.{◌≡◌, ◌∷◌, [], IfErr, IfOk, Ok, OnOk, Some};
 ghost use Rattle.sqlite.specs.Files.{file_state};
 ghost use Rattle.cert.specs.Certificate.{seen_certificate};
 ghost use Rattle.statements.specs.OcspFact.{genuine_statement};
@@ -7,8 +7,8 @@ ghost use Rattle.failures.specs.Failures.{IsJust, IsNoCertificate, OrUnwritable}
 ghost use Rattle.failures.specs.Report.{UnlessLate, Writes};
 ghost use Rattle.questions.specs.InOrder.{FailsFirst};
 ghost use Rattle.judging.specs.Believed.{accepted_by};
-ghost use Rattle.judging.specs.Delivered.{HasTaken, HoldsIssuer, IsCertificateText, IsDelivered, IsDeliveredFor, IsDeliveredText, IsDenied, IsFailureFor, IsFailureOfDelivery, IsGenuine, IsGenuineUnder, IsNoStatement, IsNoStatementOf, IsNoStatementUnder, IsTakenAt};
-ghost use Rattle.judging.specs.Standing.{IsNotMade, seen_of};
+ghost use Rattle.judging.specs.Delivered.{HasTaken, HoldsIssuer, IsCertificateText, IsDelivered, IsDeliveredFor, IsDeliveredText, IsDenied, IsFailureFor, IsFailureOfDelivery, IsGenuine, IsGenuineUnder, IsNoStatement, IsNoStatementOf, IsNoStatementUnder, IsNotTaken, IsTakenAt, IsUncounted, WasDelivered};
+ghost use Rattle.judging.specs.Standing.{IsNoAnswer, seen_of};
 
 use crate::sharing::Shared;
 use crate::stores::{Stores, failed};
@@ -42,7 +42,7 @@ pub struct Delivery<'a> {
 // The counts of an answer, or what it is for a run.
 fn counts_of<'a>(answer: Answer) -> Result<Counts, Failure<'a>>
     ensures counts { IfOk result (λ counts. answer ≡ Ok counts) }
-    ensures fails { IfErr result IsNotMade }
+    ensures fails { IfErr result (IsUncounted (answer ∷ [])) }
 {
     match answer {
         Ok(counts) => Ok(counts),
@@ -59,7 +59,7 @@ fn counts_of<'a>(answer: Answer) -> Result<Counts, Failure<'a>>
 // The counts of the one delivery of a run.
 fn counts_in<'a>(answers: &[Answer]) -> Result<Counts, Failure<'a>>
     ensures counts { IfOk result (λ counts. answers.now ≡ Ok counts ∷ []) }
-    ensures fails { IfErr result IsNotMade }
+    ensures fails { IfErr result (IsUncounted answers.now) }
 {
     match answers {
         [answer] => counts_of(*answer),
@@ -78,7 +78,7 @@ fn deliver_at<'a, S: Stores, V: Verifier + Drop>(
 ) -> Result<Counts, Failure<'a>>
     ensures taken { IfOk result (HasTaken (S.leaves source.now path.now) (V.accepts node.verifier)
         issuer.now statement.now (seen_of (file_state node.store.conn))) }
-    ensures fails { IfErr result IsNotMade }
+    ensures fails { IfErr result (IsNoAnswer (S.leaves source.now path.now) (seen_of (file_state node.store.conn))) }
 {
     let events = [Event::Deliver(issuer, statement)];
     match node.run(alloc, &events) {
@@ -122,7 +122,7 @@ fn read_statement<'a, S: Source, V: Verifier>(
     issuer: &Certificate<'_>,
     file: &'a str,
 ) -> Result<Vec<u8>, Failure<'a>>
-    ensures reads { IfOk result (λ octets. S.holds source.now file.entry.now octets.items) }
+    ensures reads { IfOk result (λ octets. S.holds source.now file.entry.now (Some octets.items)) }
     ensures genuine { IfOk result (λ octets. IsGenuine (genuine_statement (V.accepts verifier.now)
         (seen_certificate issuer.now) octets.items)) }
     ensures fails { IfErr result (IsNoStatement (S.holds source.now) (V.accepts verifier.now)
@@ -142,7 +142,7 @@ fn read_statement_of<'a, S: Source, V: Verifier>(
     words: Delivery<'a>,
 ) -> Result<Vec<u8>, Failure<'a>>
     ensures genuine { IfOk result (λ octets. IsGenuineUnder (V.accepts verifier.now) issuer.now octets.items) }
-    ensures reads { IfOk result (λ octets. S.holds source.now words.entry.file.now octets.items) }
+    ensures reads { IfOk result (λ octets. S.holds source.now words.entry.file.now (Some octets.items)) }
     ensures fails { IfErr result (FailsFirst (IsNoCertificate (IsJust issuer.now) words.entry.issuer.now)
         (IsCertificateText issuer.now)
         (IsNoStatementUnder (S.holds source.now) (V.accepts verifier.now) issuer.now words.entry.file.now)) }
@@ -158,9 +158,9 @@ fn read_delivery<'a, S: Source, V: Verifier>(
     verifier: &V,
     words: Delivery<'a>,
 ) -> Result<(Vec<u8>, Vec<u8>), Failure<'a>>
-    ensures issuer { IfOk result (λ read. S.holds source.now words.entry.issuer.now read.0.items) }
+    ensures issuer { IfOk result (λ read. S.holds source.now words.entry.issuer.now (Some read.0.items)) }
     ensures genuine { IfOk result (λ read. IsGenuineUnder (V.accepts verifier.now) read.0.items read.1.items) }
-    ensures statement { IfOk result (λ read. S.holds source.now words.entry.file.now read.1.items) }
+    ensures statement { IfOk result (λ read. S.holds source.now words.entry.file.now (Some read.1.items)) }
     ensures fails { IfErr result (FailsFirst (IsNoCertificate (S.holds source.now) words.entry.issuer.now)
         (HoldsIssuer (S.holds source.now) words.entry.issuer.now)
         (IsNoStatementOf (S.holds source.now) (V.accepts verifier.now) words.entry.issuer.now words.entry.file.now)) }
@@ -181,7 +181,7 @@ fn take_at<'a, S: Stores>(
 ) -> Result<Counts, Failure<'a>>
     ensures taken { IfOk result (IsTakenAt (S.stands source.now) (S.leaves source.now)
         path.entry.now (accepted_by verifier.now) issuer.now statement.now) }
-    ensures fails { IfErr result IsNotMade }
+    ensures fails { IfErr result (IsNotTaken (S.stands source.now) (S.leaves source.now) path.entry.now) }
 {
     let store = source.open_or_make_store(path)?;
     let node = Node::new(Shared { list: verifier }, store);
@@ -197,7 +197,7 @@ fn take_for<'a, S: Source + Stores>(
 ) -> Result<Counts, Failure<'a>>
     ensures delivered { IfOk result (IsDeliveredFor (S.holds source.now) (S.stands source.now)
         (S.leaves source.now) (accepted_by verifier.now) words.entry) }
-    ensures fails { IfErr result (IsFailureFor (S.holds source.now) (accepted_by verifier.now) words.entry) }
+    ensures fails { IfErr result (IsFailureFor (S.holds source.now) (S.stands source.now) (S.leaves source.now) (accepted_by verifier.now) words.entry) }
 {
     let (issuer, statement) = match read_delivery(source, alloc, verifier, words) {
         Ok(read) => read,
@@ -220,7 +220,7 @@ fn take<'a, S: Source + Stores>(
     words: Delivery<'a>,
 ) -> Result<Counts, Failure<'a>>
     ensures delivered { IfOk result (IsDelivered (S.holds source.now) (S.stands source.now) (S.leaves source.now) words.entry) }
-    ensures fails { IfErr result (IsFailureOfDelivery (S.holds source.now) words.entry) }
+    ensures fails { IfErr result (IsFailureOfDelivery (S.holds source.now) (S.stands source.now) (S.leaves source.now) words.entry) }
 {
     let prints = match read_verdicts(source, alloc, words.verdicts) {
         Ok(prints) => prints,
@@ -240,7 +240,8 @@ pub fn deliver<'a, S: Source + Stores, O: Write>(
 ) -> Result<(), Failure<'a>>
     ensures done { OnOk result (Writes (IsDeliveredText (S.holds source.now) (S.stands source.now) (S.leaves source.now) words.entry)
         (O.contents out.old) (O.contents out.new)) }
-    ensures fails { IfErr result (OrUnwritable (IsFailureOfDelivery (S.holds source.now) words.entry)) }
+    ensures fails { IfErr result (OrUnwritable (IsFailureOfDelivery (S.holds source.now) (S.stands source.now) (S.leaves source.now) words.entry)
+        (WasDelivered (S.holds source.now) (S.stands source.now) (S.leaves source.now) words.entry)) }
     ensures quiet { IfErr result (λ failure. UnlessLate failure (out.new ≡ out.old)) }
 {
     let counts = take(source, alloc, words)?;

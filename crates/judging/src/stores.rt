@@ -1,9 +1,9 @@
 //! Stores at paths.
-ghost use Rattle.std.specs.Prelude.{IfErr, IfOk};
+ghost use Rattle.std.specs.Prelude.{◌≡◌, IfErr, IfOk};
 ghost use Rattle.sqlite.specs.Files.{file_state};
 ghost use Rattle.sqlite.specs.State.{HasCleanDisk};
 ghost use Rattle.adoption.specs.Inspects.{IsStore};
-ghost use Rattle.judging.specs.Standing.{IsNotFound, IsNotMade, seen_of};
+ghost use Rattle.judging.specs.Standing.{IsNotFound, IsNotMade, database, seen_of, told_of};
 
 use failures::Failure;
 use sqlite_std_file::File;
@@ -14,28 +14,29 @@ use tables::StoreFault;
 /// Where stores stand.
 ///
 /// What stands at a path is the system's own matter: no contract can look at a disk. All that is known is that what is opened is what
-/// stands there, and that what is closed is left there.
+/// stands there, that what is closed is left there, and that no store is opened only for what is met there in its place.
 pub trait Stores {
     ghost use Rattle.std.specs.Prelude.{ℕ, List};
-    ghost use Rattle.judging.specs.Standing.{Seen};
+    ghost use Rattle.judging.specs.Standing.{Met, Seen, database};
 
-    /// Whether this was seen of the database of the path when it was opened.
-    ghost stands: { Self → List ℕ → Seen → Type 0 };
+    /// Whether this was met where the store of the path was looked for: its database, as it was seen when it was opened; no file that can
+    /// be read; or a fault of the store.
+    ghost stands: { Self → List ℕ → Met → Type 0 };
 
-    /// Whether this was seen of it when it was closed.
+    /// Whether this was seen of the database of the path when it was closed.
     ghost leaves: { Self → List ℕ → Seen → Type 0 };
 
     /// The store that stands at the path; `Unreadable` where there is no file that can be read.
     fn open_store<'a>(&self, path: &'a str) -> Result<Store<File>, Failure<'a>>
-        ensures stands { IfOk result (λ store. stands self.now path.entry.now (seen_of (file_state store.conn))) }
+        ensures stands { IfOk result (λ store. stands self.now path.entry.now (database (seen_of (file_state store.conn)))) }
         ensures store { IfOk result (λ store. HasCleanDisk (file_state store.conn) → IsStore (file_state store.conn).now) }
-        ensures fails { IfErr result (IsNotFound path.entry.now) };
+        ensures fails { IfErr result (IsNotFound (stands self.now) path.entry.now) };
 
     /// The same; where no file is there, a store is made that holds nothing.
     fn open_or_make_store<'a>(&self, path: &'a str) -> Result<Store<File>, Failure<'a>>
-        ensures stands { IfOk result (λ store. stands self.now path.entry.now (seen_of (file_state store.conn))) }
+        ensures stands { IfOk result (λ store. stands self.now path.entry.now (database (seen_of (file_state store.conn)))) }
         ensures store { IfOk result (λ store. HasCleanDisk (file_state store.conn) → IsStore (file_state store.conn).now) }
-        ensures fails { IfErr result IsNotMade };
+        ensures fails { IfErr result (IsNotMade (stands self.now) path.entry.now) };
 
     /// Closes a store of the path. What was committed to it is safe however that ends.
     fn close_store(&self, path: &str, store: Store<File>)
@@ -44,7 +45,7 @@ pub trait Stores {
 
 // What a store's fault is for a run.
 pub(crate) fn failed<'a>(fault: StoreFault) -> Failure<'a>
-    ensures { IsNotMade result }
+    ensures { result ≡ told_of fault }
 {
     match fault {
         StoreFault::Memory => Failure::NoMemory,
@@ -57,7 +58,7 @@ pub(crate) fn failed<'a>(fault: StoreFault) -> Failure<'a>
 // The store at the path.
 fn open<'a>(rt: &HostRuntime, path: &str) -> Result<Store<File>, Failure<'a>>
     ensures store { IfOk result (λ store. HasCleanDisk (file_state store.conn) → IsStore (file_state store.conn).now) }
-    ensures fails { IfErr result IsNotMade }
+    ensures fails { IfErr result (λ failure. (fault : StoreFault) × (failure ≡ told_of fault)) }
 {
     match Store::open(rt, path) {
         Ok(store) => Ok(store),
@@ -68,7 +69,7 @@ fn open<'a>(rt: &HostRuntime, path: &str) -> Result<Store<File>, Failure<'a>>
 // A store that is made at the path.
 fn make<'a>(rt: &HostRuntime, path: &str) -> Result<Store<File>, Failure<'a>>
     ensures store { IfOk result (λ store. HasCleanDisk (file_state store.conn) → IsStore (file_state store.conn).now) }
-    ensures fails { IfErr result IsNotMade }
+    ensures fails { IfErr result (λ failure. (fault : StoreFault) × (failure ≡ told_of fault)) }
 {
     match Store::make(rt, path) {
         Ok(store) => Ok(store),

@@ -7,7 +7,7 @@ use Rattle.command_line.specs.CommandLine.{AreRefusedWith}
 use Rattle.failures.specs.declared.failure.Failure.TheVariants.{NoMemory, Unwritable}
 use Rattle.failures.specs.Failures.{Holding}
 use Rattle.failures.specs.Report.{report_line, status_of}
-use Rattle.judging.specs.Standing.{Standing}
+use Rattle.judging.specs.Standing.{Leaving, Standing}
 use Rattle.program.specs.Outcome.{HasAnswered, IsHelp, IsMistake}
 use Rattle.program.specs.Ended.{HasEnded, IsAnswering, IsFailing, IsUnexplained}
 use Rattle.program.proofs.Statuses.{not_both}
@@ -28,19 +28,19 @@ pub either : (status : ℕ) → (status ≡ 0) ⊎ IsFailing status → IsAnswer
 either status (inl done) = inl (inl done)
 either status (inr fails) = inr fails
 
-pub helped : (holds : Holding) (stands leaves : Standing) (words : List Text) (kind : ErrorKind) (old new : Option (List ℕ)) (status : ℕ) (same : Type 0)
+pub helped : (holds : Holding) (stands : Standing) (leaves : Leaving) (words : List Text) (kind : ErrorKind) (old new : Option (List ℕ)) (status : ℕ) (same : Type 0)
     → (kind ≡ OutOfMemory) ⊎ AreRefusedWith words kind → (status ≡ 0) ⊎ IsFailing status → (status ≡ 0 → IsHelp kind × same)
     → IsAnswering status → HasAnswered holds stands leaves words old new status × same
 helped holds stands leaves words kind old new status same refused (inl done) help answers =
     (inr (kind, refused_help words kind refused (help done).0, (help done).0, done), (help done).1)
 helped holds stands leaves words kind old new status same refused (inr fails) help answers = absurd (not_both status answers fails)
 
-pub unexplained : (holds : Holding) (words : List Text) (kind : ErrorKind) (status : ℕ) (unchanged : Type 0) (Told : List ℕ → Type 0)
-    → (kind ≡ OutOfMemory) ⊎ AreRefusedWith words kind → IsUnexplained kind unchanged Told status → HasEnded holds words unchanged Told status
-unexplained holds words kind status unchanged Told refused (inl (failure, inl memory, told, quiet, line)) = inl (failure, inr (inl memory), told, quiet, line)
-unexplained holds words kind status unchanged Told refused (inl (failure, inr (help, late), told, quiet, line)) =
+pub unexplained : (holds : Holding) (stands : Standing) (leaves : Leaving) (words : List Text) (kind : ErrorKind) (status : ℕ) (unchanged : Type 0) (Told : List ℕ → Type 0)
+    → (kind ≡ OutOfMemory) ⊎ AreRefusedWith words kind → IsUnexplained kind unchanged Told status → HasEnded holds stands leaves words unchanged Told status
+unexplained holds stands leaves words kind status unchanged Told refused (inl (failure, inl memory, told, quiet, line)) = inl (failure, inr (inl memory), told, quiet, line)
+unexplained holds stands leaves words kind status unchanged Told refused (inl (failure, inr (help, late), told, quiet, line)) =
     inl (failure, inr (inr (kind, refused_help words kind refused help, help, late)), told, quiet, line)
-unexplained holds words kind status unchanged Told refused (inr (mistake, told, quiet)) = inr ((kind, refused_mistake words kind refused mistake, mistake), told, quiet)
+unexplained holds stands leaves words kind status unchanged Told refused (inr (mistake, told, quiet)) = inr ((kind, refused_mistake words kind refused mistake, mistake), told, quiet)
 
 -- ---- what clap answers in place of a line
 

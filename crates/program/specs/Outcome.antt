@@ -13,11 +13,11 @@ use Rattle.command_line.specs.declared.line.Line.TheVariants.{Tree, Show, Prints
 use Rattle.failures.specs.Failures.{Holding, IsNoValue, OrUnwritable}
 use Rattle.failures.specs.declared.failure.Failure.{Failure}
 use Rattle.failures.specs.declared.failure.Failure.TheVariants.{NoMemory, Unwritable}
-use Rattle.judging.specs.Delivered.{IsDeliveredText, IsFailureOfDelivery}
-use Rattle.judging.specs.Judged.{IsCompared, IsFailureOfCheck, IsFailureOfComparison, IsJudged}
-use Rattle.judging.specs.Standing.{Standing}
+use Rattle.judging.specs.Delivered.{IsDeliveredText, IsFailureOfDelivery, WasDelivered}
+use Rattle.judging.specs.Judged.{IsCompared, IsFailureOfCheck, IsFailureOfComparison, IsJudged, WasJudged, WereCompared}
+use Rattle.judging.specs.Standing.{Leaving, Standing}
 use Rattle.judging.specs.Status.{comparison_status, verdict_status}
-use Rattle.showing.specs.Shown.{ArePrintsUnder, IsFailureOfPrints, IsNotShown, IsShownText, IsTreeText}
+use Rattle.showing.specs.Shown.{ArePrintsUnder, HoldUnder, HoldsKind, HoldsValue, IsFailureOfPrints, IsNotShown, IsShownText, IsTreeText}
 
 -- ---- answers
 
@@ -33,7 +33,7 @@ IsComparisonText Is status text =
     × (text ≡ comparison_line comparison)
 
 -- The text that the line asks for, and the status that comes with it. Files hold so, and stores stand and are left so.
-abbrev pub IsAnswer : Holding → Standing → Standing → Line → ℕ → List ℕ → Type 0
+abbrev pub IsAnswer : Holding → Standing → Leaving → Line → ℕ → List ℕ → Type 0
 IsAnswer holds stands leaves (Tree file) status text =
     (status ≡ 0) × IsTreeText holds file.now text
 IsAnswer holds stands leaves (Show kind file) status text =
@@ -50,24 +50,31 @@ IsAnswer holds stands leaves (Compare question other) status text =
     IsComparisonText (IsCompared holds stands leaves question other.now) status text
 
 -- that text was written, and nothing else
-abbrev pub IsDone : Holding → Standing → Standing → Line → Option (List ℕ) → Option (List ℕ) → ℕ → Type 0
+abbrev pub IsDone : Holding → Standing → Leaving → Line → Option (List ℕ) → Option (List ℕ) → ℕ → Type 0
 IsDone holds stands leaves line old new status =
     (text : List ℕ) × IsAnswer holds stands leaves line status text × Appends old new text
 
 -- ---- failures
 
--- the first failure on what the line names, or standard output failed
-abbrev pub IsFailureOf : Holding → Line → Failure → Type 0
-IsFailureOf holds (Tree file) = OrUnwritable (IsNoValue holds file.now)
-IsFailureOf holds (Show kind file) = OrUnwritable (IsNotShown holds kind file.now)
-IsFailureOf holds (Prints issuer kind file) =
-    OrUnwritable (IsFailureOfPrints holds issuer.now kind file.now)
-IsFailureOf holds (Deliver store verdicts issuer file) =
-    OrUnwritable (IsFailureOfDelivery holds
+-- the first failure on what the line names; or what it asks for was found, and standard output failed
+abbrev pub IsFailureOf : Holding → Standing → Leaving → Line → Failure → Type 0
+IsFailureOf holds stands leaves (Tree file) =
+    OrUnwritable (IsNoValue holds file.now) (HoldsValue holds file.now)
+IsFailureOf holds stands leaves (Show kind file) =
+    OrUnwritable (IsNotShown holds kind file.now) (HoldsKind holds kind file.now)
+IsFailureOf holds stands leaves (Prints issuer kind file) =
+    OrUnwritable (IsFailureOfPrints holds issuer.now kind file.now) (HoldUnder holds issuer.now kind file.now)
+IsFailureOf holds stands leaves (Deliver store verdicts issuer file) =
+    OrUnwritable (IsFailureOfDelivery holds stands leaves
     (record { store = store; verdicts = verdicts; issuer = issuer; file = file }))
-IsFailureOf holds (Check question) = OrUnwritable (IsFailureOfCheck holds question)
-IsFailureOf holds (Compare question other) =
-    OrUnwritable (IsFailureOfComparison holds question other.now)
+    (WasDelivered holds stands leaves
+    (record { store = store; verdicts = verdicts; issuer = issuer; file = file }))
+IsFailureOf holds stands leaves (Check question) =
+    OrUnwritable (IsFailureOfCheck holds stands leaves question)
+    (WasJudged holds stands leaves question)
+IsFailureOf holds stands leaves (Compare question other) =
+    OrUnwritable (IsFailureOfComparison holds stands leaves question other.now)
+    (WereCompared holds stands leaves question other.now)
 
 -- ---- words
 
@@ -81,15 +88,15 @@ IsMistake kind = (kind ≢ OutOfMemory) × (IsHelp kind → ⊥)
 -- ---- a run
 
 -- what the words ask for was written, or they ask for help
-abbrev pub HasAnswered : Holding → Standing → Standing → List Text → Option (List ℕ) → Option (List ℕ) → ℕ → Type 0
+abbrev pub HasAnswered : Holding → Standing → Leaving → List Text → Option (List ℕ) → Option (List ℕ) → ℕ → Type 0
 HasAnswered holds stands leaves words old new status =
     ((line : Line) × Reads words line × IsDone holds stands leaves line old new status)
     ⊎ ((kind : ErrorKind) × AreRefusedWith words kind × IsHelp kind × (status ≡ 0))
 
 -- The words are a line, and this failed; or memory ran out while they were read, or the text of help could not be written.
-abbrev pub HasFailed : Holding → List Text → Failure → Type 0
-HasFailed holds words failure =
-    ((line : Line) × Reads words line × IsFailureOf holds line failure)
+abbrev pub HasFailed : Holding → Standing → Leaving → List Text → Failure → Type 0
+HasFailed holds stands leaves words failure =
+    ((line : Line) × Reads words line × IsFailureOf holds stands leaves line failure)
     ⊎ (failure ≡ NoMemory)
     ⊎ ((kind : ErrorKind) × AreRefusedWith words kind × IsHelp kind × (failure ≡ Unwritable))
 

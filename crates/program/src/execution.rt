@@ -45,7 +45,7 @@ pub fn execute<S: Source + Stores, O: Write, E: Write>(
         (map (λ w. w.now) words.now) (O.contents out.old) (O.contents out.new) result
         × (err.new ≡ err.old) }
     ensures failed { IsFailing result → HasEndedSo (S.holds source.now)
-        (map (λ w. w.now) words.now) (out.new ≡ out.old) result }
+        (S.stands source.now) (S.leaves source.now) (map (λ w. w.now) words.now) (out.new ≡ out.old) result }
 {
     executed(source, alloc, words, out, err).status
 }
@@ -64,7 +64,7 @@ pub fn executed<S: Source + Stores, O: Write, E: Write>(
         (map (λ w. w.now) words.now) (O.contents out.old) (O.contents out.new) result.status
         × (err.new ≡ err.old) }
     ensures failed { IsFailing result.status → HasEnded (S.holds source.now)
-        (map (λ w. w.now) words.now) (out.new ≡ out.old)
+        (S.stands source.now) (S.leaves source.now) (map (λ w. w.now) words.now) (out.new ≡ out.old)
         (λ line. OnOk result.told (Appends (E.contents err.old) (E.contents err.new) line))
         result.status }
 {
@@ -101,7 +101,7 @@ fn run<'a, S: Source + Stores, O: Write>(
     ensures done { IfOk result (IsDone (S.holds source.now) (S.stands source.now)
         (S.leaves source.now) line.now (O.contents out.old) (O.contents out.new)) }
     ensures status { IfOk result IsAnswering }
-    ensures fails { IfErr result (IsFailureOf (S.holds source.now) line.now) }
+    ensures fails { IfErr result (IsFailureOf (S.holds source.now) (S.stands source.now) (S.leaves source.now) line.now) }
     ensures quiet { IfErr result (λ failure. UnlessLate failure (out.new ≡ out.old)) }
 {
     let status = answer(source, alloc, line, out)?;
@@ -120,7 +120,7 @@ fn answer<'a, S: Source + Stores, O: Write>(
     ensures done { IfOk result (IsDone (S.holds source.now) (S.stands source.now)
         (S.leaves source.now) line.now (O.contents out.old) (O.contents out.new)) }
     ensures status { IfOk result IsAnswering }
-    ensures fails { IfErr result (IsFailureOf (S.holds source.now) line.now) }
+    ensures fails { IfErr result (IsFailureOf (S.holds source.now) (S.stands source.now) (S.leaves source.now) line.now) }
     ensures quiet { IfErr result (λ failure. UnlessLate failure (out.new ≡ out.old)) }
 {
     match line {

@@ -112,17 +112,21 @@ other_in octets values left rule at begins few other =
       at_is = other.at_is;
     }
 
+-- whatever the file, memory may run out
+of_memory : (octets file : List ℕ) (failure : Failure) → failure ≡ NoMemory → IsFailureOnPath (IsJust octets) file failure
+of_memory octets file failure is = subst (IsFailureOnPath (IsJust octets) file) (sym is) tt
+
 pub refused_among : (octets : List ℕ) (values : List (List ℕ)) (stopped : Option (ℕ × ReadFault)) (file : List ℕ) (failure : Failure) → WereRead octets values stopped → IsFailureAmong values file failure
     → IsFailureOnPath (IsJust octets) file failure
 refused_among octets values stopped file (NoCertificate named rule at) read (same, other) = (same, (octets, refl, other_in octets values read.left rule at read.begins read.few other))
-refused_among octets values stopped file (Refused named fault) read fails = absurd fails
-refused_among octets values stopped file (NoRevocationList named rule at) read fails = fails
-refused_among octets values stopped file (NoResponse named rule at) read fails = fails
-refused_among octets values stopped file (NotGenuine named fault) read fails = fails
-refused_among octets values stopped file (BadLine named line) read fails = fails
-refused_among octets values stopped file BadTime read fails = fails
-refused_among octets values stopped file BadPurpose read fails = fails
-refused_among octets values stopped file (Unreadable named) read fails = fails
-refused_among octets values stopped file Unwritable read fails = fails
-refused_among octets values stopped file (StoreFailed number) read fails = fails
-refused_among octets values stopped file NoMemory read fails = fails
+refused_among octets values stopped file (Refused named fault) read fails = of_memory octets file (Refused named fault) fails
+refused_among octets values stopped file (NoRevocationList named rule at) read fails = of_memory octets file (NoRevocationList named rule at) fails
+refused_among octets values stopped file (NoResponse named rule at) read fails = of_memory octets file (NoResponse named rule at) fails
+refused_among octets values stopped file (NotGenuine named fault) read fails = of_memory octets file (NotGenuine named fault) fails
+refused_among octets values stopped file (BadLine named line) read fails = of_memory octets file (BadLine named line) fails
+refused_among octets values stopped file BadTime read fails = of_memory octets file BadTime fails
+refused_among octets values stopped file BadPurpose read fails = of_memory octets file BadPurpose fails
+refused_among octets values stopped file (Unreadable named) read fails = of_memory octets file (Unreadable named) fails
+refused_among octets values stopped file Unwritable read fails = of_memory octets file Unwritable fails
+refused_among octets values stopped file (StoreFailed number) read fails = of_memory octets file (StoreFailed number) fails
+refused_among octets values stopped file NoMemory read fails = of_memory octets file NoMemory fails

@@ -7,9 +7,8 @@ use Rattle.der.specs.declared.fault.Fault.TheVariants.{Refused as Breaks, Memory
 use Rattle.stream.specs.declared.reading.ReadFault.{ReadFault}
 use Rattle.stream.specs.declared.reading.ReadFault.TheVariants.{Fault, Limit, Io}
 use Rattle.path_files.specs.Sequence.{joined}
-use Rattle.failures.specs.Failures.{IsUnread}
 use Rattle.failures.specs.declared.failure.Failure.{Failure}
-use Rattle.failures.specs.declared.failure.Failure.TheVariants.{NoCertificate, Refused}
+use Rattle.failures.specs.declared.failure.Failure.TheVariants.{NoCertificate, NoMemory, Refused}
 use Rattle.questions.specs.PathText.{AreTexts, Begins, most}
 
 -- each is the value of a certificate
@@ -20,7 +19,7 @@ AreRead values = (certificates : List Certificate) × AreTexts values certificat
 abbrev pub IsFailureAt : List ℕ → ℕ → List ℕ → Failure → Type 0
 IsFailureAt value start file (NoCertificate named rule at) =
     (named.now ≡ file) × ((offset : ℕ) × (certificate value ≡ Err (rule, offset)) × (at ≡ start + offset))
-IsFailureAt value start file failure = IsUnread file failure
+IsFailureAt value start file failure = failure ≡ NoMemory
 
 -- The first of the values that is no certificate, and its first fault. The place counts from the first of them.
 pub record IsOtherAmong (values : List (List ℕ)) (rule : CertRule) (at : ℕ) : Type 0 where
@@ -35,7 +34,7 @@ pub record IsOtherAmong (values : List (List ℕ)) (rule : CertRule) (at : ℕ) 
 
 abbrev pub IsFailureAmong : List (List ℕ) → List ℕ → Failure → Type 0
 IsFailureAmong values file (NoCertificate named rule at) = (named.now ≡ file) × IsOtherAmong values rule at
-IsFailureAmong values file failure = IsUnread file failure
+IsFailureAmong values file failure = failure ≡ NoMemory
 
 -- Why no value was read behind those that were: as many were as are looked at, or nothing is left, or what is left begins with none.
 abbrev pub EndBehind : List (List ℕ) → List ℕ → Option (ℕ × ReadFault) → Type 0
@@ -53,11 +52,11 @@ pub record WereRead (octets : List ℕ) (values : List (List ℕ)) (stopped : Op
   pub few : length values ≤ most
   pub end : EndBehind values left stopped
 
--- a failure for the fault of the value that starts at that place
+-- a failure for the fault of the value that starts at that place: memory ran out where no rule is broken
 abbrev pub IsToldOf : List ℕ → ℕ → ReadFault → Failure → Type 0
 IsToldOf file place (Fault (Breaks rule at)) (Refused named told) =
     (named.now ≡ file) × (told ≡ Breaks rule (place + at))
-IsToldOf file place fault failure = IsUnread file failure
+IsToldOf file place fault failure = failure ≡ NoMemory
 
 -- the place of the fault is one that can be told
 abbrev pub MayBeTold : ℕ → ReadFault → Type 0

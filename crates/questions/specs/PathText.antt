@@ -1,5 +1,5 @@
 -- The certificates of a path in files, several in a row.
-use Rattle.std.specs.Prelude.{◌≡◌, ◌≢◌, ◌⊎◌, ◌<◌, ◌≤◌, ◌+◌, ℕ, List, [], ◌∷◌, ◌++◌, length, map, Ok, Err}
+use Rattle.std.specs.Prelude.{◌≡◌, ◌≢◌, ◌⊎◌, ◌<◌, ◌≤◌, ◌+◌, ℕ, List, [], ◌∷◌, ◌++◌, length, map, Some, Ok, Err}
 use Rattle.cert.specs.Certificate.{Certificate, certificate}
 use Rattle.cert.specs.declared.fault.CertRule.{CertRule}
 use Rattle.der.specs.FirstFault.{FirstFaultIn}
@@ -43,7 +43,7 @@ pub record AreCertificates (octets : List ℕ) (certificates : List Certificate)
 -- the file holds them
 abbrev pub HoldsCertificates : Holding → List ℕ → List Certificate → Type 0
 HoldsCertificates holds file certificates =
-    (octets : List ℕ) × holds file octets × AreCertificates octets certificates
+    (octets : List ℕ) × holds file (Some octets) × AreCertificates octets certificates
 
 -- the files hold them, one file after the other
 abbrev pub HoldPath : Holding → List (List ℕ) → List Certificate → Type 0
@@ -95,10 +95,10 @@ pub record HoldsNoValue (octets : List ℕ) (fault : Fault) : Type 0 where
 -- a failure on a file of certificates: it names that file, and its fault is the first, value by value
 abbrev pub IsFailureOnPath : Holding → List ℕ → Failure → Type 0
 IsFailureOnPath holds file (Refused named fault) =
-    (named.now ≡ file) × ((octets : List ℕ) × holds file octets × HoldsNoValue octets fault)
+    (named.now ≡ file) × ((octets : List ℕ) × holds file (Some octets) × HoldsNoValue octets fault)
 IsFailureOnPath holds file (NoCertificate named rule at) =
-    (named.now ≡ file) × ((octets : List ℕ) × holds file octets × HoldsOther octets rule at)
-IsFailureOnPath holds file failure = IsUnread file failure
+    (named.now ≡ file) × ((octets : List ℕ) × holds file (Some octets) × HoldsOther octets rule at)
+IsFailureOnPath holds file failure = IsUnread holds file failure
 
 -- a failure on the first of these files that is refused
 abbrev pub IsFailureOfPath : Holding → List (List ℕ) → Failure → Type 0

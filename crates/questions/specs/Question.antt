@@ -18,7 +18,7 @@ use Rattle.questions.specs.PathText.{HoldPath, IsFailureOfPath}
 -- the file names these fingerprints
 abbrev pub HoldsVerdicts : Holding → List ℕ → List (List ℕ) → Type 0
 HoldsVerdicts holds file prints =
-    (octets : List ℕ) × holds file octets × Name (lines_of octets) prints
+    (octets : List ℕ) × holds file (Some octets) × Name (lines_of octets) prints
 
 -- a signature is accepted exactly where its fingerprint is one of these
 abbrev pub AcceptsJust : List (List ℕ) → Accepts → Type 0
@@ -30,8 +30,8 @@ AcceptsJust prints accepts =
 -- a failure on a file of verdicts
 abbrev pub IsFailureOnVerdicts : Holding → List ℕ → Failure → Type 0
 IsFailureOnVerdicts holds file (BadLine named line) =
-    (named.now ≡ file) × ((octets : List ℕ) × holds file octets × IsFirstBadLine octets line)
-IsFailureOnVerdicts holds file failure = IsUnread file failure
+    (named.now ≡ file) × ((octets : List ℕ) × holds file (Some octets) × IsFirstBadLine octets line)
+IsFailureOnVerdicts holds file failure = IsUnread holds file failure
 
 -- ---- moments and purposes
 
@@ -52,7 +52,7 @@ IsBadPurpose asked failure = failure ≡ NoMemory
 
 -- the file holds the octets, and they are those of a certificate
 abbrev pub HoldsText : Holding → List ℕ → List ℕ → Type 0
-HoldsText holds file octets = holds file octets × ((read : Certificate) × (certificate octets ≡ Ok read))
+HoldsText holds file octets = holds file (Some octets) × ((read : Certificate) × (certificate octets ≡ Ok read))
 
 -- ---- the question
 

@@ -10,7 +10,7 @@ use std::alloc::Global;
 /// That the value, which starts at this place of the file, is a certificate.
 ///
 /// A certificate is refused at an octet of its text or at its end, so that a place in the file is never past the greatest; where it
-/// were, the file would be told as one that cannot be read.
+/// were, no memory would hold the file.
 fn judge<'a>(alloc: Global, file: &'a str, value: &[u8], start: usize) -> Result<(), Failure<'a>>
     ensures reads { OnOk result (AreRead (value.now ∷ [])) }
     ensures fails { IfErr result (IsFailureAt value.now start file.entry.now) }
@@ -23,7 +23,7 @@ fn judge<'a>(alloc: Global, file: &'a str, value: &[u8], start: usize) -> Result
         CertFault::Memory => Err(Failure::NoMemory),
         CertFault::Refused(rule, offset) => match start.checked_add(offset) {
             Some(at) => Err(Failure::NoCertificate { file, rule, at }),
-            None => Err(Failure::Unreadable { file }),
+            None => Err(Failure::NoMemory),
         },
     }
 }

@@ -21,7 +21,8 @@ fn values_of(alloc: Global, octets: &[u8]) -> PathOctets
     path_octets(alloc, &mut left, MOST)
 }
 
-/// Why the file is refused, where the value that starts at this place is.
+/// Why the file is refused, where the value that starts at this place is. Octets in memory are read without fail, so that nothing but
+/// memory is wanted where no rule is broken.
 fn failure_of<'a>(file: &'a str, place: u64, fault: ReadFault) -> Failure<'a>
     requires { MayBeTold place fault }
     ensures { IsToldOf file.entry.now place fault result }
@@ -31,9 +32,8 @@ fn failure_of<'a>(file: &'a str, place: u64, fault: ReadFault) -> Failure<'a>
             file,
             fault: Fault::Refused(rule, place as usize + at),
         },
-        ReadFault::Fault(Fault::Memory) => Failure::NoMemory,
+        ReadFault::Fault(Fault::Memory) | ReadFault::Io => Failure::NoMemory,
         ReadFault::Limit => unreachable!(),
-        ReadFault::Io => Failure::Unreadable { file },
     }
 }
 

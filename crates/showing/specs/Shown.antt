@@ -1,5 +1,5 @@
 -- What is written of a file.
-use Rattle.std.specs.Prelude.{◌≡◌, ◌⊎◌, ℕ, List}
+use Rattle.std.specs.Prelude.{◌≡◌, ◌⊎◌, ℕ, List, Some}
 use Rattle.command_line.specs.declared.line.Kind.{Kind}
 use Rattle.command_line.specs.declared.line.Kind.TheVariants.{Certificate, RevocationList, Response}
 use Rattle.asn.specs.Value.{Value}
@@ -19,7 +19,7 @@ use Rattle.failures.specs.Failures.{Holding, HoldsCertificate, HoldsList, HoldsR
 -- the lines of the value whose encoding the file holds
 abbrev pub IsTreeText : Holding → List ℕ → List ℕ → Type 0
 IsTreeText holds file text =
-    (octets : List ℕ) × (value : Value) × holds file octets × Encodes octets value
+    (octets : List ℕ) × (value : Value) × holds file (Some octets) × Encodes octets value
     × (text ≡ lines_of 0 value)
 
 -- the lines of the certificate, the revocation list or the response in the file
@@ -47,6 +47,26 @@ abbrev pub ArePrintsUnder : Holding → List ℕ → Kind → List ℕ → List 
 ArePrintsUnder holds issuer kind file text =
     (signer : Fields) × HoldsCertificate holds issuer signer
     × ArePrints holds signer.key_info kind file text
+
+-- ---- what is found
+
+-- the file holds a DER value
+abbrev pub HoldsValue : Holding → List ℕ → Type 0
+HoldsValue holds file =
+    (octets : List ℕ) × (value : Value) × holds file (Some octets) × Encodes octets value
+
+-- a value of that kind
+abbrev pub HoldsKind : Holding → Kind → List ℕ → Type 0
+HoldsKind holds Certificate file = (read : Fields) × HoldsCertificate holds file read
+HoldsKind holds RevocationList file = (read : CertificateList) × HoldsList holds file read
+HoldsKind holds Response file = (read : OcspResponse) × HoldsResponse holds file read
+
+-- and the issuer's file a certificate
+abbrev pub HoldUnder : Holding → List ℕ → Kind → List ℕ → Type 0
+HoldUnder holds issuer kind file =
+    ((signer : Fields) × HoldsCertificate holds issuer signer) × HoldsKind holds kind file
+
+-- ---- what is wrong
 
 -- a failure on a file that is to hold a value of that kind
 abbrev pub IsNotShown : Holding → Kind → List ℕ → Failure → Type 0

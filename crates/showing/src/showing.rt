@@ -11,7 +11,7 @@ ghost use Rattle.ocsp.specs.OcspResponse.{OcspResponse, ocsp_response};
 ghost use Rattle.printing.specs.ResponseText.{response_text};
 ghost use Rattle.failures.specs.Failures.{IsJust, IsNoCertificate, IsNoList, IsNoResponse, IsNoValue, OrUnwritable};
 ghost use Rattle.failures.specs.Report.{UnlessLate, Writes};
-ghost use Rattle.showing.specs.Shown.{ArePrints, ArePrintsUnder, IsFailureOfPrints, IsNotShown, IsShownText, IsTreeText};
+ghost use Rattle.showing.specs.Shown.{ArePrints, ArePrintsUnder, HoldUnder, HoldsKind, HoldsValue, IsFailureOfPrints, IsNotShown, IsShownText, IsTreeText};
 
 use cert::SubjectPublicKeyInfo;
 use command_line::Kind;
@@ -31,7 +31,8 @@ pub fn tree<'a, S: Source, O: Write>(
 ) -> Result<(), Failure<'a>>
     ensures done { OnOk result (Writes (IsTreeText (S.holds source.now) file.entry.now)
         (O.contents out.old) (O.contents out.new)) }
-    ensures fails { IfErr result (OrUnwritable (IsNoValue (S.holds source.now) file.entry.now)) }
+    ensures fails { IfErr result (OrUnwritable (IsNoValue (S.holds source.now) file.entry.now)
+        (HoldsValue (S.holds source.now) file.entry.now)) }
     ensures quiet { IfErr result (λ failure. UnlessLate failure (out.new ≡ out.old)) }
 {
     let octets = source.octets_of(file)?;
@@ -52,7 +53,8 @@ pub fn show<'a, S: Source, O: Write>(
 ) -> Result<(), Failure<'a>>
     ensures done { OnOk result (Writes (IsShownText (S.holds source.now) kind file.entry.now)
         (O.contents out.old) (O.contents out.new)) }
-    ensures fails { IfErr result (OrUnwritable (IsNotShown (S.holds source.now) kind file.entry.now)) }
+    ensures fails { IfErr result (OrUnwritable (IsNotShown (S.holds source.now) kind file.entry.now)
+        (HoldsKind (S.holds source.now) kind file.entry.now)) }
     ensures quiet { IfErr result (λ failure. UnlessLate failure (out.new ≡ out.old)) }
 {
     let octets = source.octets_of(file)?;
@@ -71,7 +73,8 @@ fn show_certificate<'a, O: Write>(
 ) -> Result<(), Failure<'a>>
     ensures done { OnOk result ((read : CertificateFields) × (certificate octets.now ≡ Ok read)
         × Appends (O.contents out.old) (O.contents out.new) (certificate_text read)) }
-    ensures fails { IfErr result (OrUnwritable (IsNoCertificate (IsJust octets.now) file.entry.now)) }
+    ensures fails { IfErr result (OrUnwritable (IsNoCertificate (IsJust octets.now) file.entry.now)
+        ((read : CertificateFields) × (certificate octets.now ≡ Ok read))) }
     ensures quiet { IfErr result (λ failure. UnlessLate failure (out.new ≡ out.old)) }
 {
     let certificate = read_certificate(alloc, file, octets)?;
@@ -86,7 +89,8 @@ fn show_list<'a, O: Write>(
 ) -> Result<(), Failure<'a>>
     ensures done { OnOk result ((read : CertificateList) × (certificate_list octets.now ≡ Ok read)
         × Appends (O.contents out.old) (O.contents out.new) (crl_text read)) }
-    ensures fails { IfErr result (OrUnwritable (IsNoList (IsJust octets.now) file.entry.now)) }
+    ensures fails { IfErr result (OrUnwritable (IsNoList (IsJust octets.now) file.entry.now)
+        ((read : CertificateList) × (certificate_list octets.now ≡ Ok read))) }
     ensures quiet { IfErr result (λ failure. UnlessLate failure (out.new ≡ out.old)) }
 {
     let list = read_list(alloc, file, octets)?;
@@ -101,7 +105,8 @@ fn show_response<'a, O: Write>(
 ) -> Result<(), Failure<'a>>
     ensures done { OnOk result ((read : OcspResponse) × (ocsp_response octets.now ≡ Ok read)
         × Appends (O.contents out.old) (O.contents out.new) (response_text read)) }
-    ensures fails { IfErr result (OrUnwritable (IsNoResponse (IsJust octets.now) file.entry.now)) }
+    ensures fails { IfErr result (OrUnwritable (IsNoResponse (IsJust octets.now) file.entry.now)
+        ((read : OcspResponse) × (ocsp_response octets.now ≡ Ok read))) }
     ensures quiet { IfErr result (λ failure. UnlessLate failure (out.new ≡ out.old)) }
 {
     let response = read_response(alloc, file, octets)?;
@@ -123,7 +128,8 @@ pub fn prints<'a, S: Source, O: Write>(
         (O.contents out.old) (O.contents out.new)) }
     ensures fails { IfErr result
         (OrUnwritable
-        (IsFailureOfPrints (S.holds source.now) issuer.entry.now kind file.entry.now)) }
+        (IsFailureOfPrints (S.holds source.now) issuer.entry.now kind file.entry.now)
+        (HoldUnder (S.holds source.now) issuer.entry.now kind file.entry.now)) }
     ensures quiet { IfErr result (λ failure. UnlessLate failure (out.new ≡ out.old)) }
 {
     let octets = source.octets_of(issuer)?;
@@ -144,7 +150,8 @@ fn print_under<'a, S: Source, O: Write>(
     ensures done { OnOk result
         (Writes (ArePrints (S.holds source.now) (seen_key_info key_info.now) kind file.entry.now)
         (O.contents out.old) (O.contents out.new)) }
-    ensures fails { IfErr result (OrUnwritable (IsNotShown (S.holds source.now) kind file.entry.now)) }
+    ensures fails { IfErr result (OrUnwritable (IsNotShown (S.holds source.now) kind file.entry.now)
+        (HoldsKind (S.holds source.now) kind file.entry.now)) }
     ensures quiet { IfErr result (λ failure. UnlessLate failure (out.new ≡ out.old)) }
 {
     let octets = source.octets_of(file)?;
@@ -165,7 +172,8 @@ fn print_certificate<'a, O: Write>(
     ensures done { OnOk result ((read : CertificateFields) × (certificate octets.now ≡ Ok read)
         × Appends (O.contents out.old) (O.contents out.new)
         (certificate_print_line (seen_key_info key_info.now) read)) }
-    ensures fails { IfErr result (OrUnwritable (IsNoCertificate (IsJust octets.now) file.entry.now)) }
+    ensures fails { IfErr result (OrUnwritable (IsNoCertificate (IsJust octets.now) file.entry.now)
+        ((read : CertificateFields) × (certificate octets.now ≡ Ok read))) }
     ensures quiet { IfErr result (λ failure. UnlessLate failure (out.new ≡ out.old)) }
 {
     let certificate = read_certificate(alloc, file, octets)?;
@@ -182,7 +190,8 @@ fn print_list<'a, O: Write>(
     ensures done { OnOk result ((read : CertificateList) × (certificate_list octets.now ≡ Ok read)
         × Appends (O.contents out.old) (O.contents out.new)
         (crl_print_line (seen_key_info key_info.now) read)) }
-    ensures fails { IfErr result (OrUnwritable (IsNoList (IsJust octets.now) file.entry.now)) }
+    ensures fails { IfErr result (OrUnwritable (IsNoList (IsJust octets.now) file.entry.now)
+        ((read : CertificateList) × (certificate_list octets.now ≡ Ok read))) }
     ensures quiet { IfErr result (λ failure. UnlessLate failure (out.new ≡ out.old)) }
 {
     let list = read_list(alloc, file, octets)?;
@@ -199,7 +208,8 @@ fn print_response<'a, O: Write>(
     ensures done { OnOk result ((read : OcspResponse) × (ocsp_response octets.now ≡ Ok read)
         × Appends (O.contents out.old) (O.contents out.new)
         (response_print_lines (seen_key_info key_info.now) read)) }
-    ensures fails { IfErr result (OrUnwritable (IsNoResponse (IsJust octets.now) file.entry.now)) }
+    ensures fails { IfErr result (OrUnwritable (IsNoResponse (IsJust octets.now) file.entry.now)
+        ((read : OcspResponse) × (ocsp_response octets.now ≡ Ok read))) }
     ensures quiet { IfErr result (λ failure. UnlessLate failure (out.new ≡ out.old)) }
 {
     let response = read_response(alloc, file, octets)?;

@@ -8,4 +8,4 @@ returns-clause-judged g c =
 
 pub returns-clause-fails : goal.returns-clause-fails
 returns-clause-fails g c =
-    check_fails (g.S.Source.holds c.args.source.now) c.args.question.now c.in_ok-asked.asked c.judge_asked.result c.in_ok-asked.ensures.reads c.judge_asked.ensures.fails
+    check_fails (g.S.Source.holds c.args.source.now) (g.S.Stores.stands c.args.source.now) (g.S.Stores.leaves c.args.source.now) c.args.question.now c.in_ok-asked.asked c.judge_asked.result c.in_ok-asked.ensures.reads c.judge_asked.ensures.fails

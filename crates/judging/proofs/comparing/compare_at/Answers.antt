@@ -2,6 +2,7 @@ use Rattle.sqlite.specs.Files.{file_state}
 use Rattle.verdicts.specs.View.{seen_query}
 use Rattle.judging.specs.Believed.{accepted_by}
 use Rattle.judging.proofs.Seeing.{compared}
+use Rattle.judging.proofs.Unanswered.{not_compared}
 use Rattle.judging.proofs.comparing.compare_at.Goals as goal
 
 pub returns-in-Ok-clause-compared : goal.returns-in-Ok-clause-compared
@@ -10,3 +11,11 @@ returns-in-Ok-clause-compared g c =
     (file_state c.args.store.conn) (file_state c.compare-comparison.new.one.store.conn) (file_state c.args.beside.conn) (file_state c.compare-comparison.new.other.store.conn) c.in-Ok.comparison
     (rw c.into_store.ensures at c.close_store.ensures.leaves) (rw c.into_store-2.ensures at c.close_store-2.ensures.leaves)
     (rw (c.new-one.ensures.verifier, c.new-one.ensures.store, c.new-other.ensures.store) at c.in-Ok.ensures.looks)
+
+pub returns-in-Err-clause-fails : goal.returns-in-Err-clause-fails
+returns-in-Err-clause-fails g c =
+    not_compared (g.S.Stores.leaves c.args.source.now c.args.paths.now.path.now) (g.S.Stores.leaves c.args.source.now c.args.paths.now.other.now)
+    (file_state c.args.store.conn) (file_state c.compare-comparison.new.one.store.conn) (file_state c.args.beside.conn) (file_state c.compare-comparison.new.other.store.conn)
+    c.in-Err.fault c.not_judged.result c.not_judged.ensures
+    (rw c.into_store.ensures at c.close_store.ensures.leaves) (rw c.into_store-2.ensures at c.close_store-2.ensures.leaves)
+    (rw (c.new-one.ensures.store, c.new-other.ensures.store) at c.in-Err.ensures.looks)

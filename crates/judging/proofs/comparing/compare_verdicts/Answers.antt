@@ -8,4 +8,4 @@ returns-clause-compared g c =
 
 pub returns-clause-fails : goal.returns-clause-fails
 returns-clause-fails g c =
-    comparison_fails (g.S.Source.holds c.args.source.now) c.args.question.now c.args.other.now c.in_ok-asked.asked c.compare_asked.result c.in_ok-asked.ensures.reads c.compare_asked.ensures.fails
+    comparison_fails (g.S.Source.holds c.args.source.now) (g.S.Stores.stands c.args.source.now) (g.S.Stores.leaves c.args.source.now) c.args.question.now c.args.other.now c.in_ok-asked.asked c.compare_asked.result c.in_ok-asked.ensures.reads c.compare_asked.ensures.fails

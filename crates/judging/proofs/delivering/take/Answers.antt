@@ -10,5 +10,5 @@ returns-clause-delivered g c =
 
 pub returns-clause-fails : goal.returns-clause-fails
 returns-clause-fails g c =
-    fails_believed (g.S.Source.holds c.args.source.now) (accepted_by c.new-verifier.result) c.args.words c.in-Ok.prints.items
+    fails_believed (g.S.Source.holds c.args.source.now) (g.S.Stores.stands c.args.source.now) (g.S.Stores.leaves c.args.source.now) (accepted_by c.new-verifier.result) c.args.words c.in-Ok.prints.items
     c.take_for.result c.in-Ok.ensures.reads (believes_just c.new-verifier.result c.in-Ok.prints.items c.new-verifier.ensures) c.take_for.ensures.fails

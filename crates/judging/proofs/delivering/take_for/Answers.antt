@@ -4,7 +4,7 @@ use Rattle.judging.proofs.delivering.take_for.Goals as goal
 
 pub returns-in-Err-clause-fails : goal.returns-in-Err-clause-fails
 returns-in-Err-clause-fails g c =
-    read_fails (g.S.Source.holds c.args.source.now) (accepted_by c.args.verifier.now) c.args.words c.in-Err.failure c.in-Err.ensures.fails
+    read_fails (g.S.Source.holds c.args.source.now) (g.S.Stores.stands c.args.source.now) (g.S.Stores.leaves c.args.source.now) (accepted_by c.args.verifier.now) c.args.words c.in-Err.failure c.in-Err.ensures.fails
 
 pub returns-clause-delivered : goal.returns-clause-delivered
 returns-clause-delivered g c =
@@ -14,5 +14,5 @@ returns-clause-delivered g c =
 
 pub returns-clause-fails : goal.returns-clause-fails
 returns-clause-fails g c =
-    store_fails (g.S.Source.holds c.args.source.now) (accepted_by c.args.verifier.now) c.args.words
+    store_fails (g.S.Source.holds c.args.source.now) (g.S.Stores.stands c.args.source.now) (g.S.Stores.leaves c.args.source.now) (accepted_by c.args.verifier.now) c.args.words
     c.in-Ok.read.0.items c.in-Ok.read.1.items c.take_at.result c.in-Ok.ensures.issuer c.in-Ok.ensures.statement c.in-Ok.ensures.genuine c.take_at.ensures.fails

@@ -19,7 +19,7 @@ returns-in-Ok-clause-answered g c =
 
 pub returns-in-Ok-clause-failed : goal.returns-in-Ok-clause-failed
 returns-in-Ok-clause-failed g c =
-    failed (g.S.Source.holds c.args.source.now) (map (λ w. w.now) c.args.words.now) c.in-Ok.line c.run.result c.finish.result.status (c.finish.new.err ≡ c.args.err.now) (c.run.new.out ≡ c.args.out.now)
+    failed (g.S.Source.holds c.args.source.now) (g.S.Stores.stands c.args.source.now) (g.S.Stores.leaves c.args.source.now) (map (λ w. w.now) c.args.words.now) c.in-Ok.line c.run.result c.finish.result.status (c.finish.new.err ≡ c.args.err.now) (c.run.new.out ≡ c.args.out.now)
     (λ line. OnOk c.finish.result.told (Appends (g.E.Write.contents c.args.err.now) (g.E.Write.contents c.finish.new.err) line))
     c.in-Ok.ensures.reads c.run.ensures.status c.run.ensures.fails c.run.ensures.quiet c.finish.ensures.done c.finish.ensures.failed
 
@@ -34,6 +34,6 @@ returns-in-Err-clause-answered g c =
 
 pub returns-in-Err-clause-failed : goal.returns-in-Err-clause-failed
 returns-in-Err-clause-failed g c = λ failing.
-    unexplained (g.S.Source.holds c.args.source.now) (map (λ w. w.now) c.args.words.now) (kind_of c.in-Err.error) c.explain.result.status (c.explain.new.out ≡ c.args.out.now)
+    unexplained (g.S.Source.holds c.args.source.now) (g.S.Stores.stands c.args.source.now) (g.S.Stores.leaves c.args.source.now) (map (λ w. w.now) c.args.words.now) (kind_of c.in-Err.error) c.explain.result.status (c.explain.new.out ≡ c.args.out.now)
     (λ line. OnOk c.explain.result.told (Appends (g.E.Write.contents c.args.err.now) (g.E.Write.contents c.explain.new.err) line))
     c.in-Err.ensures.refuses (c.explain.ensures.failed failing)
