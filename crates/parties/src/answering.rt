@@ -31,6 +31,13 @@ const CONTRADICTED: Answer = Ok(Counts {
 
 const REFUSED: Answer = Err(Statement(BadSignature));
 
+/// Of two that say something else at the same time the first.
+const FIRST_OF_TWO: Answer = Ok(Counts {
+    stored: 1,
+    kept: 0,
+    contradicted: 1,
+});
+
 /// A path, the first being the anchor, a moment, and the verdict.
 type Judged = (&'static [&'static str], i64, Verdict);
 
@@ -48,6 +55,26 @@ const BELOW: &[&str] = &["ca(R,R)", "ca(A,R)", "ee(T,A)"];
 pub const FIFTH: Told = Some(("ca(R,R)", "crl(R,5)", &[]));
 
 pub const REVOKING: Told = Some(("ca(R,R)", "crl(R,6,[05 1])", &[]));
+
+/// A leaf of another serial number.
+const SIXTH: &[&str] = &["ca(R,R)", "ee(T,R){serial 06}"];
+
+/// 2^159 - 1, of 20 octets.
+const LESSER: Told = Some((
+    "ca(R,R)",
+    "crl(R,0,[05 1]){number 7FFFFFFFFFFFFFFFFFFFFFFFFFFFFFFFFFFFFFFF}",
+    &[],
+));
+
+/// 2^159, of 21.
+const GREATER: Told = Some((
+    "ca(R,R)",
+    "crl(R,0){number 008000000000000000000000000000000000000000}",
+    &[],
+));
+
+/// A serial number twice.
+const TWICE: Told = Some(("ca(R,R)", "crl(R,5,[05 1][05 4][06 0])", &[]));
 
 const LISTS: &[Row] = &[
     (&[], Says(&[], &[(LEAF, MIDDLE, Unknown(1))])),
@@ -88,6 +115,52 @@ const LISTS: &[Row] = &[
         ],
         Says(&[STORED, KEPT, REFUSED], &[(LEAF, MIDDLE, Valid)]),
     ),
+    (
+        &[LESSER, GREATER, LESSER],
+        Says(&[STORED, STORED, KEPT], &[(LEAF, MIDDLE, Valid)]),
+    ),
+    (
+        &[
+            FIFTH,
+            Some(("ca(R,R)", "crl(R,5){next 250701000001Z}", &[])),
+        ],
+        Says(
+            &[STORED, CONTRADICTED],
+            &[
+                (LEAF, 1_751_328_000, Valid),
+                (LEAF, 1_751_328_001, Unknown(1)),
+            ],
+        ),
+    ),
+    (
+        &[
+            Some(("ca(R,R)", "crl(R,5,[05 1])", &[])),
+            Some(("ca(R,R)", "crl(R,5,[05 1][05 4])", &[])),
+        ],
+        Says(&[STORED, KEPT], &[(LEAF, MIDDLE, Revoked(1, 1))]),
+    ),
+    (
+        &[
+            TWICE,
+            Some(("ca(R,R)", "crl(R,5,[06 0][05 1])", &[])),
+            Some(("ca(R,R)", "crl(R,5,[05 1])", &[])),
+            Some(("ca(A,A)", "crl(A,1,[05 1])", &[])),
+        ],
+        Says(
+            &[STORED, KEPT, CONTRADICTED, STORED],
+            &[
+                (LEAF, MIDDLE, Revoked(1, 1)),
+                (SIXTH, MIDDLE, Revoked(1, 0)),
+            ],
+        ),
+    ),
+    (
+        &[TWICE, Some(("ca(R,R)", "crl(R,6)", &[]))],
+        Says(
+            &[STORED, STORED],
+            &[(LEAF, MIDDLE, Valid), (SIXTH, MIDDLE, Valid)],
+        ),
+    ),
 ];
 
 /// By a delegate whose certificate ends on 2025-06-10.
@@ -99,6 +172,9 @@ const DELEGATED: Told = Some((
 
 /// From 2025-06-15 on, and for a day.
 const OPEN: &str = "ocsp(R,05 good){from 20250615000000Z}{open}";
+
+/// What it says of a certificate first counts.
+const BOTH: Told = Some(("ca(R,R)", "ocsp(R,05 good,05 revoked 1)", &[]));
 
 const RESPONSES: &[Row] = &[
     (
@@ -133,6 +209,18 @@ const RESPONSES: &[Row] = &[
             &[],
         ))],
         Says(&[STORED], &[(LEAF, MIDDLE, Unknown(1))]),
+    ),
+    (&[BOTH], Says(&[FIRST_OF_TWO], &[(LEAF, MIDDLE, Valid)])),
+    (
+        &[
+            BOTH,
+            Some((
+                "ca(R,R)",
+                "ocsp(R,05 revoked 4){produced 20250601000001Z}",
+                &[],
+            )),
+        ],
+        Says(&[FIRST_OF_TWO, STORED], &[(LEAF, MIDDLE, Revoked(1, 4))]),
     ),
 ];
 

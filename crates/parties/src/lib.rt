@@ -1,4 +1,5 @@
-//! Tests of relying parties over disks in memory: what they take, what they say after it, also behind a restart, and where they agree.
+//! Tests of relying parties over disks in memory: what they take, what they say after it, also behind a restart and over a store of
+//! version 1, and where they agree.
 #![tactic(auto)]
 
 #[cfg(test)]
@@ -13,3 +14,5 @@ mod memory;
 mod path_file;
 #[cfg(test)]
 mod telling;
+#[cfg(test)]
+mod version_1;
