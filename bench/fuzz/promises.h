@@ -1,0 +1,29 @@
+/* What the header promises of its calls, held against what they answered. */
+#ifndef PROMISES_H
+#define PROMISES_H
+
+#include <stdbool.h>
+#include <stddef.h>
+#include <stdint.h>
+
+#include "x509check.h"
+
+/* Each answers the promise that is broken, in words, or a null pointer. */
+
+/* Of whether a text of so many octets is DER. */
+const char *broken_of_check(const uint8_t *octets, size_t length, const struct x509check_answer *answer);
+
+/* Of a certificate, where memory was there. */
+const char *broken_of_certificate(const uint8_t *octets, size_t length, const struct x509check_certificate *answer);
+
+/* Of the fingerprint of a certificate that was read. */
+const char *broken_of_fingerprint(const uint8_t *octets, const struct x509check_fields *fields,
+                                  const uint8_t fingerprint[X509CHECK_FINGERPRINT_LENGTH]);
+
+bool is_same_answer(const struct x509check_answer *one, const struct x509check_answer *other);
+bool is_same_certificate(const struct x509check_certificate *one, const struct x509check_certificate *other);
+
+/* Whether it is that of a call that was refused memory. */
+bool is_want_of_memory(const struct x509check_certificate *answer);
+
+#endif
