@@ -4,7 +4,7 @@ use Rattle.der.specs.Value.{Value, Values, primitive, constructed, none, more}
 use Rattle.der.specs.Identifier.{is_constructed}
 use Rattle.der.specs.Encoding.{EncodesAt}
 use Rattle.asn.specs.Part.{IsPartOf}
-use Rattle.asn.specs.Place.{Place, tag, inside}
+use Rattle.asn.specs.Place.{Place, tag, body_place}
 use Rattle.asn.specs.Members.{members}
 use Rattle.asn.specs.Layout.{AreMembersAt, AreParts}
 use Rattle.asn.proofs.MemberLemmas.{holds}
@@ -40,6 +40,6 @@ members_stand text place form whole = by whole.value whole.encodes
         let h = holds whole.depth (constructed identifier values) place encodes in
         both text (whole.depth + 1) _ values (members place).values h.2 (members_are_parts text whole.depth identifier values place whole.stands encodes)
 
-pub contents_stand : (text : List ℕ) (place : Place) → IsEncodedPart text place → IsPartOf text (inside place).at (inside place).octets
-unfolding inside
+pub contents_stand : (text : List ℕ) (place : Place) → IsEncodedPart text place → IsPartOf text (body_place place).at (body_place place).octets
+unfolding body_place
 contents_stand text place whole = contents_part text whole.depth place.at place.octets whole.value whole.encodes whole.stands

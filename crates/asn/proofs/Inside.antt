@@ -6,7 +6,7 @@ use Rattle.std.proofs.lemmas.List.{append-nil}
 use Rattle.der.specs.Length.{header_len, contents_of, contents_limit}
 use Rattle.asn.specs.Part.{contents}
 use Rattle.asn.specs.declared.tlv.Tlv.{Tlv}
-use Rattle.asn.specs.Place.{Place, part, inside}
+use Rattle.asn.specs.Place.{Place, seen_tlv, body_place}
 use Rattle.der.proofs.Laws.{two_octets, parts_of, front_of}
 use Rattle.asn.proofs.Views.{body_len}
 
@@ -22,15 +22,15 @@ contents_at tlv =
 abbrev pub contents_place : Tlv → Place
 contents_place tlv = record { octets = tlv.body.now; at = tlv.at + (length tlv.whole.now - length tlv.body.now) }
 
-pub inside_is : (tlv : Tlv) → contents_place tlv ≡ inside (part tlv)
-unfolding inside
+pub inside_is : (tlv : Tlv) → contents_place tlv ≡ body_place (seen_tlv tlv)
+unfolding body_place
 inside_is tlv =
     ap (λ (w : List ℕ). record { octets = w; at = tlv.at + (length tlv.whole.now - length tlv.body.now) }) (body_of tlv)
     ∙ ap (λ (k : ℕ). record { octets = contents_of tlv.whole.now; at = k }) (contents_at tlv)
 
 -- the contents stand where the offset says
-pub stands_inside : (tlv : Tlv) (at : ℕ) → at ≡ (inside (part tlv)).at → record { octets = tlv.body.now; at = at } ≡ inside (part tlv)
-unfolding inside
+pub stands_inside : (tlv : Tlv) (at : ℕ) → at ≡ (body_place (seen_tlv tlv)).at → record { octets = tlv.body.now; at = at } ≡ body_place (seen_tlv tlv)
+unfolding body_place
 stands_inside tlv at e =
     ap (λ (k : ℕ). record { octets = tlv.body.now; at = k }) e
     ∙ ap (λ (w : List ℕ). record { octets = w; at = tlv.at + header_len tlv.whole.now }) (body_of tlv)

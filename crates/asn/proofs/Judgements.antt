@@ -8,7 +8,7 @@ use Rattle.der.specs.declared.fault.Fault.TheVariants.{Refused}
 use Rattle.der.specs.Laws.{AreOctets, Decision}
 use Rattle.der.proofs.Laws.{decide, never_both, one_fault, are_octets, first_within}
 use Rattle.asn.specs.Part.{IsWhole, contents}
-use Rattle.asn.specs.Place.{Place, body, inside}
+use Rattle.asn.specs.Place.{Place, body, body_place}
 use Rattle.asn.specs.Judgement.{answer_of, judgement_of, judgement, placed, nested, outermost}
 
 answers_ok : (text : List ℕ) (d : Decision text) (v : Value) → Encodes text v → answer_of text d ≡ Ok tt
@@ -66,15 +66,15 @@ placed_ok : (r : Result (Unit {0}) (Rule × ℕ)) (place inner : Place) → plac
 placed_ok (Ok u) place inner e = (u, refl, cc)
 placed_ok (Err fault) place inner e = absurd cc
 
-pub nested_ok : (value inner : Place) → AreOctets (body value) → nested value ≡ Ok inner → (inner ≡ inside value) × IsWhole (body value)
-unfolding nested judgement inside contents
+pub nested_ok : (value inner : Place) → AreOctets (body value) → nested value ≡ Ok inner → (inner ≡ body_place value) × IsWhole (body value)
+unfolding nested judgement body_place contents
 nested_ok value inner fits e =
-    let p = placed_ok (judgement (inside value).octets) (inside value) inner e in
+    let p = placed_ok (judgement (body_place value).octets) (body_place value) inner e in
     (p.2, value_of_judgement (body value) (are_octets (body value)) p.0 fits p.1)
 
-pub nested_again : (value : Place) → IsWhole (body value) → nested value ≡ Ok (inside value)
-unfolding nested inside contents
-nested_again value (inner, encodes) = ap (λ (r : Result (Unit {0}) (Rule × ℕ)). placed r (inside value)) (judgement_ok (body value) inner encodes)
+pub nested_again : (value : Place) → IsWhole (body value) → nested value ≡ Ok (body_place value)
+unfolding nested body_place contents
+nested_again value (inner, encodes) = ap (λ (r : Result (Unit {0}) (Rule × ℕ)). placed r (body_place value)) (judgement_ok (body value) inner encodes)
 
 -- the same of the whole input
 pub outermost_ok : (text : List ℕ) (value : Place) → AreOctets text → outermost text ≡ Ok value → (value ≡ record { octets = text; at = 0 }) × IsWhole text

@@ -6,7 +6,7 @@ use Rattle.der.specs.Length.{header_len, contents_len, contents_of, end_of}
 use Rattle.der.specs.Encoding.{EncodesAt, EncodesAllAt}
 use Rattle.der.proofs.Laws.{parts_of, front_of, read_front, encoded_long}
 use Rattle.asn.specs.Part.{contents}
-use Rattle.asn.specs.Place.{Place, body, inside, ends, front, behind, values}
+use Rattle.asn.specs.Place.{Place, body, body_place, ends, front, behind, values}
 use Rattle.asn.specs.Members.{members_at}
 use Rattle.asn.specs.Layout.{AreMembersAt, Holds}
 use Rattle.asn.specs.Size.{octets_of_all}
@@ -48,7 +48,7 @@ are_members (more v vs) depth text at (x, rest, e, sp, sps) =
     subst (AreMembersAt depth at (more v vs)) (sym parts_are) (refl, sp, are_members vs depth rest (at + length x) sps)
 
 pub holds : (depth : ℕ) (v : Value) (place : Place) → EncodesAt depth place.octets v → Holds depth v place
-unfolding contents members_at inside
+unfolding contents members_at body_place
 holds depth (primitive i c) place sp =
     let f = front_of depth place.octets place.octets [] i c (sym (append-nil place.octets)) (parts_of (primitive i c) depth place.octets sp).2 in
     (f.identifier, sp.2, f.contents_is)

@@ -5,7 +5,7 @@ use Rattle.std.proofs.lemmas.List.{get_or-drop}
 use Rattle.der.specs.Laws.{AreOctets}
 use Rattle.der.specs.Length.{header_len, contents_len, end_of}
 use Rattle.asn.specs.Part.{contents}
-use Rattle.asn.specs.Place.{Place, body, inside, ends, front, behind, parts, values}
+use Rattle.asn.specs.Place.{Place, body, body_place, ends, front, behind, parts, values}
 use Rattle.asn.specs.Members.{members, members_at}
 
 octets_take : (n : ℕ) (text : List ℕ) → AreOctets text → AreOctets (take n text)
@@ -38,8 +38,8 @@ parts_octets (suc n) text are = by_end (parts_octets n (behind text) (octets_beh
 
 -- the members of a value
 pub members_octets : (value : Place) → AreOctets value.octets → AllByRecursion (λ member. AreOctets member.octets) (members value).values
-unfolding members_at inside values
-members_octets value are = parts_octets _ (inside value) (octets_inside value.octets are)
+unfolding members_at body_place values
+members_octets value are = parts_octets _ (body_place value) (octets_inside value.octets are)
 
 -- its contents
 pub body_octets : (value : Place) → AreOctets value.octets → AreOctets (body value)
@@ -47,6 +47,6 @@ unfolding contents
 body_octets value are = octets_inside value.octets are
 
 -- and the value that its contents are
-pub inside_octets : (value : Place) → AreOctets value.octets → AreOctets (inside value).octets
-unfolding inside
+pub inside_octets : (value : Place) → AreOctets value.octets → AreOctets (body_place value).octets
+unfolding body_place
 inside_octets value are = octets_inside value.octets are

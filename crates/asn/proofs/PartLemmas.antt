@@ -6,7 +6,7 @@ use Rattle.der.specs.Length.{header_len, contents_len, contents_of}
 use Rattle.der.specs.Encoding.{EncodesAt, EncodesAllAt}
 use Rattle.der.proofs.Laws.{parts_of, front_of, read_front, encoded_long}
 use Rattle.asn.specs.Part.{IsPartOf}
-use Rattle.asn.specs.Place.{Place, inside, values, behind}
+use Rattle.asn.specs.Place.{Place, body_place, values, behind}
 use Rattle.asn.specs.Members.{members, members_at}
 use Rattle.asn.specs.Layout.{AreParts}
 use Rattle.asn.proofs.PlaceLemmas.{values_none, values_more}
@@ -51,7 +51,7 @@ contents_part source depth at x v sp p =
 
 -- the members of a primitive value are none that anyone asks for; those of a constructed one are parts
 pub members_are_parts : (source : List ℕ) (depth i : ℕ) (vs : Values) (place : Place) → IsPartOf source place.at place.octets → EncodesAt depth place.octets (constructed i vs) → AreParts source (members place).values
-unfolding members_at inside
+unfolding members_at body_place
 members_are_parts source depth i vs place p sp =
     let f = front_of depth place.octets place.octets [] i sp.3.0 (sym (append-nil place.octets)) (parts_of (constructed i vs) depth place.octets sp).2 in
     are_parts vs (depth + 1) (contents_of place.octets) (place.at + header_len place.octets) source (rw f.contents_is sp.3.1)

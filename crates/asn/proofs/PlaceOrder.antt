@@ -2,7 +2,7 @@
 use Rattle.std.proofs.Common.{◌≡◌, ℕ, zero, suc, ◌<◌, ◌≤◌, List, [], ◌∷◌, ◌++◌, length, refl, arith, true, false, Bool, subst}
 use Rattle.std.specs.List.{AllByRecursion}
 use Rattle.der.proofs.Laws.{two_octets}
-use Rattle.asn.specs.Place.{Place, ends, front, behind, parts, values, inside}
+use Rattle.asn.specs.Place.{Place, ends, front, behind, parts, values, body_place}
 use Rattle.asn.specs.Members.{members, members_at}
 
 -- the places stand at this offset or behind it, each behind the one before
@@ -44,4 +44,4 @@ values_before text before behind place e = stand_before text.at before behind pl
 
 pub members_before : (value : Place) (before behind : List Place) (place : Place) → (members value).values ≡ before ++ place ∷ behind → AllByRecursion (λ earlier. earlier.at < place.at) before
 unfolding members_at
-members_before value before behind place e = values_before (inside value) before behind place e
+members_before value before behind place e = values_before (body_place value) before behind place e

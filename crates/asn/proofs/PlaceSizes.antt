@@ -4,7 +4,7 @@ use Rattle.std.specs.List.{AllByRecursion}
 use Rattle.std.proofs.lemmas.List.{length-take, length-drop}
 use Rattle.der.specs.Length.{end_of}
 use Rattle.asn.specs.Part.{contents}
-use Rattle.asn.specs.Place.{Place, body, inside, ends, front, behind, parts, values}
+use Rattle.asn.specs.Place.{Place, body, body_place, ends, front, behind, parts, values}
 use Rattle.asn.specs.Members.{members, members_at}
 use Rattle.asn.proofs.Views.{contents_shorter}
 
@@ -50,12 +50,12 @@ values_short text = parts_short (length text.octets) text
 
 -- the same of the members of a value
 pub members_count : (place : Place) → length (members place).values ≤ length place.octets
-unfolding members_at inside
-members_count place = let h = values_count (inside place) in let c = contents_shorter place.octets in omega arith
+unfolding members_at body_place
+members_count place = let h = values_count (body_place place) in let c = contents_shorter place.octets in omega arith
 
 pub members_short : (place : Place) → AllByRecursion (λ member. length member.octets ≤ length place.octets) (members place).values
-unfolding members_at inside
-members_short place = weaker (length (inside place).octets) (length place.octets) ((members place).values) (contents_shorter place.octets) (values_short (inside place))
+unfolding members_at body_place
+members_short place = weaker (length (body_place place).octets) (length place.octets) ((members place).values) (contents_shorter place.octets) (values_short (body_place place))
 
 pub body_short : (place : Place) → length (body place) ≤ length place.octets
 unfolding contents

@@ -1,7 +1,7 @@
 -- The values inside a value have the same octets wherever it stands.
 use Rattle.std.proofs.Common.{◌≡◌, ℕ, zero, suc, ◌+◌, Bool, true, false, List, [], ◌∷◌, take, drop, length, if◌then◌else◌, refl, ap, ◌∙◌}
 use Rattle.der.specs.Length.{header_len, contents_of, end_of}
-use Rattle.asn.specs.Place.{Place, is_empty, ends, front, behind, parts, values, inside}
+use Rattle.asn.specs.Place.{Place, is_empty, ends, front, behind, parts, values, body_place}
 use Rattle.asn.specs.Members.{members_at, members, octets_of_each}
 
 abbrev parts_at : ℕ → List ℕ → ℕ → List (List ℕ)
@@ -21,7 +21,7 @@ parts_same (suc most) octets a b = by (is_empty octets) (parts_same most (drop (
     by false rest = ap (λ others. take (end_of octets) octets ∷ others) rest
 
 pub members_same : (one other : Place) → one.octets ≡ other.octets → octets_of_each (members one).values ≡ octets_of_each (members other).values
-unfolding members_at inside values
+unfolding members_at body_place values
 members_same one other same =
     ap (λ octets. parts_at (length (contents_of octets)) (contents_of octets) (one.at + header_len octets)) same
     ∙ parts_same (length (contents_of other.octets)) (contents_of other.octets) (one.at + header_len other.octets) (other.at + header_len other.octets)

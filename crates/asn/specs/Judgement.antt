@@ -4,7 +4,7 @@ use Rattle.std.proofs.Common.{inl, inr}
 use Rattle.der.specs.declared.fault.Rule.{Rule}
 use Rattle.der.specs.Laws.{AreOctets, Decision}
 use Rattle.der.proofs.Laws.{decide, are_octets}
-use Rattle.asn.specs.Place.{Place, inside}
+use Rattle.asn.specs.Place.{Place, body_place}
 
 -- octets encode a value or have a first fault, which is decided: the answer
 abbrev pub answer_of : (text : List ℕ) → Decision text → Result (Unit {0}) (Rule × ℕ)
@@ -30,4 +30,4 @@ outermost text = placed (judgement text) (record { octets = text; at = 0 })
 
 -- the value that the contents of a value are, which is at depth 1 again
 unfoldable pub nested : Place → Result Place (Rule × ℕ)
-nested value = placed (judgement (inside value).octets) (inside value)
+nested value = placed (judgement (body_place value).octets) (body_place value)

@@ -5,7 +5,7 @@ use Rattle.der.specs.Identifier.{is_constructed}
 use Rattle.der.specs.Length.{header_len}
 use Rattle.der.specs.Encoding.{EncodesAt}
 use Rattle.asn.specs.Part.{IsPartOf}
-use Rattle.asn.specs.Place.{Place, tag, body, inside}
+use Rattle.asn.specs.Place.{Place, tag, body, body_place}
 use Rattle.asn.specs.Members.{members}
 use Rattle.asn.specs.Time.{IsTime}
 
@@ -85,4 +85,4 @@ abbrev pub ContentsArePart : Type 0
 ContentsArePart =
     (source : List ℕ) (depth : ℕ) (value : Value) (place : Place) →
     IsPartOf source place.at place.octets → EncodesAt depth place.octets value →
-    IsPartOf source (inside place).at (inside place).octets
+    IsPartOf source (body_place place).at (body_place place).octets

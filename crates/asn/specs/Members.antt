@@ -1,6 +1,6 @@
 -- The values inside a constructed value.
 use Rattle.std.specs.Prelude.{ℕ, ◌+◌, ◌==◌, Bool, true, false, List, [], ◌∷◌, length, map}
-use Rattle.asn.specs.Place.{Place, tag, remaining, inside, values}
+use Rattle.asn.specs.Place.{Place, tag, remaining, body_place, values}
 use Rattle.asn.specs.declared.tlv.Cursor.{Cursor}
 
 -- values in order, and the offset of the end of the value round them
@@ -17,7 +17,7 @@ left cursor = members_at (remaining cursor)
 
 -- the values in a constructed value
 abbrev pub members : Place → Members
-members value = members_at (inside value)
+members value = members_at (body_place value)
 
 -- a value, and then these
 abbrev pub with_first : Place → Members → Members

@@ -10,8 +10,8 @@ pub record Place : Type 0 where
   pub at : ℕ
 
 -- where a value stands
-abbrev pub part : Tlv → Place
-part tlv = record { octets = tlv.whole.now; at = tlv.at }
+abbrev pub seen_tlv : Tlv → Place
+seen_tlv tlv = record { octets = tlv.whole.now; at = tlv.at }
 
 -- where the values stand that a cursor has left
 abbrev pub remaining : Cursor → Place
@@ -25,8 +25,8 @@ abbrev pub body : Place → List ℕ
 body value = contents value.octets
 
 -- where the contents of a value stand
-unfoldable pub inside : Place → Place
-inside value = record { octets = contents_of value.octets; at = value.at + header_len value.octets }
+unfoldable pub body_place : Place → Place
+body_place value = record { octets = contents_of value.octets; at = value.at + header_len value.octets }
 
 -- The words below speak of a text of values, one after the other: whether there is none, the first, those behind it.
 abbrev pub is_empty : List ℕ → Bool

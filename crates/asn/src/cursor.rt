@@ -7,7 +7,7 @@ ghost use Rattle.der.specs.Length.{contents_limit};
 ghost use Rattle.der.specs.Encoding.{EncodesAt, EncodesAllAt, Encodes};
 ghost use Rattle.der.specs.FirstFault.{IsFirstFault};
 ghost use Rattle.asn.specs.Part.{IsWhole, BeginsEncoded};
-ghost use Rattle.asn.specs.Place.{part, remaining, ends, front, behind, inside, Splits};
+ghost use Rattle.asn.specs.Place.{seen_tlv, remaining, ends, front, behind, body_place, Splits};
 ghost use Rattle.asn.specs.Members.{left, members, with_first, none_left, next_at};
 ghost use Rattle.asn.specs.Shows.{Shows, ShowsInside, ShowsNext};
 
@@ -19,8 +19,8 @@ use der::{Fault, Header, check, is_constructed_form};
 pub(crate) fn front_of<'a>(octets: &'a [u8], at: usize) -> (Tlv<'a>, &'a [u8])
     requires encoded { ∥ BeginsEncoded octets.now ∥₁ }
     requires fits { at + length octets.now < 2 ^ 64 }
-    ensures splits { Splits (record { octets = octets.now; at = at }) (part result.0) (record { octets = result.1.now; at = at + length result.0.whole.now }) }
-    ensures first { part result.0 ≡ front (record { octets = octets.now; at = at }) }
+    ensures splits { Splits (record { octets = octets.now; at = at }) (seen_tlv result.0) (record { octets = result.1.now; at = at + length result.0.whole.now }) }
+    ensures first { seen_tlv result.0 ≡ front (record { octets = octets.now; at = at }) }
     ensures others { record { octets = result.1.now; at = at + length result.0.whole.now } ≡ behind (record { octets = octets.now; at = at }) }
     ensures value { (depth : ℕ) (value : Value) (front rest : List ℕ) → octets.now ≡ front ++ rest
         → EncodesAt depth front value → (result.0.whole.now ≡ front) × (result.1.now ≡ rest) }
@@ -44,7 +44,7 @@ pub(crate) fn front_of<'a>(octets: &'a [u8], at: usize) -> (Tlv<'a>, &'a [u8])
 pub(crate) fn whole_at(octets: &[u8], at: usize) -> Tlv<'_>
     requires encoded { ∥ IsWhole octets.now ∥₁ }
     requires fits { at + length octets.now < 2 ^ 64 }
-    ensures place { part result ≡ record { octets = octets.now; at = at } }
+    ensures place { seen_tlv result ≡ record { octets = octets.now; at = at } }
     ensures shows { (value : Value) → Encodes octets.now value → Shows 1 value result }
 {
     let (tlv, _) = front_of(octets, at);
@@ -56,7 +56,7 @@ pub(crate) fn whole_at(octets: &[u8], at: usize) -> Tlv<'_>
 pub fn whole(octets: &[u8]) -> Result<Tlv<'_>, Fault>
     ensures accepts { IsOk result ↔ ((value : Value) × Encodes octets.now value) }
     ensures refuses { IfErr result (λ fault. IsFirstFault octets.now fault) }
-    ensures place { IfOk result (λ tlv. part tlv ≡ record { octets = octets.now; at = 0 }) }
+    ensures place { IfOk result (λ tlv. seen_tlv tlv ≡ record { octets = octets.now; at = 0 }) }
     ensures shows { IfOk result (λ tlv. (value : Value) → Encodes octets.now value → Shows 1 value tlv) }
 {
     check(octets)?;
@@ -66,7 +66,7 @@ pub fn whole(octets: &[u8]) -> Result<Tlv<'_>, Fault>
 impl<'a> Tlv<'a> {
     /// The same value as a text of its own: its offset is 0, and those of the values inside count from it.
     pub fn alone(&self) -> Tlv<'a>
-        ensures place { part result ≡ record { octets = self.now.whole.now; at = 0 } }
+        ensures place { seen_tlv result ≡ record { octets = self.now.whole.now; at = 0 } }
         ensures same { (result.tag ≡ self.now.tag) × (result.body.now ≡ self.now.body.now) }
     {
         Tlv {
@@ -78,9 +78,9 @@ impl<'a> Tlv<'a> {
     }
 
     /// The offset of the contents octets in the text handed to `whole`.
-    #[tactic(auto, unfolding(crate::specs::Place::inside))]
+    #[tactic(auto, unfolding(crate::specs::Place::body_place))]
     pub fn body_at(&self) -> usize
-        ensures place { result ≡ (inside (part self.now)).at }
+        ensures place { result ≡ (body_place (seen_tlv self.now)).at }
         ensures end { result + length self.now.body.now ≡ self.now.at + length self.now.whole.now }
     {
         let header = self.whole.len() - self.body.len();
@@ -90,11 +90,11 @@ impl<'a> Tlv<'a> {
     /// The values inside this one, in order; `None` where it is primitive.
     pub fn inside(&self) -> Option<Cursor<'a>>
         ensures constructed { IsSome result ↔ (is_constructed self.now.tag ≡ true) }
-        ensures place { IfSome result (λ cursor. remaining cursor ≡ inside (part self.now)) }
+        ensures place { IfSome result (λ cursor. remaining cursor ≡ body_place (seen_tlv self.now)) }
         ensures body { IfSome result (λ cursor. (remaining cursor).octets ≡ self.now.body.now) }
         ensures shorter { IfSome result (λ cursor. length (remaining cursor).octets < length self.now.whole.now) }
         ensures bounded { IfSome result (λ cursor. length (remaining cursor).octets < contents_limit) }
-        ensures left { IfSome result (λ cursor. left cursor ≡ members (part self.now)) }
+        ensures left { IfSome result (λ cursor. left cursor ≡ members (seen_tlv self.now)) }
         ensures shows { (depth : ℕ) (value : Value) → Shows depth value self.now → ShowsInside depth value result }
     {
         if is_constructed_form(self.tag) {
@@ -129,9 +129,9 @@ impl<'a> Cursor<'a> {
 
     /// The next value; `None`, and the cursor as it was, where none is left.
     pub fn next(&mut self) -> Option<Tlv<'a>>
-        ensures step { MatchOption result ((left self.old).values ≡ []) (λ tlv. left self.old ≡ with_first (part tlv) (left self.new)) }
+        ensures step { MatchOption result ((left self.old).values ≡ []) (λ tlv. left self.old ≡ with_first (seen_tlv tlv) (left self.new)) }
         ensures none { IfNone result (self.new ≡ self.old) }
-        ensures splits { IfSome result (λ tlv. Splits (remaining self.old) (part tlv) (remaining self.new)) }
+        ensures splits { IfSome result (λ tlv. Splits (remaining self.old) (seen_tlv tlv) (remaining self.new)) }
         ensures shows { (depth : ℕ) (values : Values) → EncodesAllAt depth (remaining self.old).octets values → ShowsNext depth values result self.new }
     {
         if self.end() {

@@ -2,7 +2,7 @@
 
 ghost use Rattle.std.specs.Prelude.{◌≤◌, length, IfErr, OnOk};
 ghost use Rattle.asn.specs.Part.{IsWhole};
-ghost use Rattle.asn.specs.Place.{part};
+ghost use Rattle.asn.specs.Place.{seen_tlv};
 ghost use Rattle.asn.specs.Walk.{Gives};
 ghost use Rattle.asn.specs.Judgement.{judgement, nested, outermost};
 
@@ -28,7 +28,7 @@ impl<'a> Tlv<'a> {
     /// place. See `whole`.
     #[tactic(auto, unfolding(crate::specs::Judgement::outermost))]
     pub fn outermost(octets: &'a [u8]) -> Result<Tlv<'a>, (Rule, usize)>
-        ensures { Gives part result (outermost octets.now) }
+        ensures { Gives seen_tlv result (outermost octets.now) }
     {
         match judge(octets) {
             Ok(()) => Ok(whole_at(octets, 0)),
@@ -40,7 +40,7 @@ impl<'a> Tlv<'a> {
     /// to `whole`. Depth is counted anew, from 1. Time is linear in the contents; no memory is taken.
     #[tactic(auto, unfolding(crate::specs::Judgement::nested))]
     pub fn nested(&self) -> Result<Tlv<'a>, (Rule, usize)>
-        ensures { Gives part result (nested (part self.now)) }
+        ensures { Gives seen_tlv result (nested (seen_tlv self.now)) }
     {
         let base = self.body_at();
         match judge(self.body) {

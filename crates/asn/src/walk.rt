@@ -3,7 +3,7 @@
 ghost use Rattle.std.specs.Prelude.{◌≡◌, ◌<◌, true, length, IfOk, IfSome, OnErr};
 ghost use Rattle.der.specs.Identifier.{is_constructed};
 ghost use Rattle.der.specs.Length.{contents_limit};
-ghost use Rattle.asn.specs.Place.{part, remaining};
+ghost use Rattle.asn.specs.Place.{seen_tlv, remaining};
 ghost use Rattle.asn.specs.Members.{left, members, begins};
 ghost use Rattle.asn.specs.Walk.{Gives, seen, is_a, required, choice, optional, any, next_or, ended, some, seconds, time, default_false};
 
@@ -26,7 +26,7 @@ impl<'a> Cursor<'a> {
     /// the enclosing value where none is left.
     #[tactic(auto, unfolding(crate::specs::Walk::required, crate::specs::Members::next_at, crate::specs::Walk::any))]
     pub fn required<F: Copy>(&mut self, tag: u8, fault: F) -> Result<Tlv<'a>, (F, usize)>
-        ensures walk { Gives (λ tlv. (part tlv, left self.new)) result (required tag fault (left self.old)) }
+        ensures walk { Gives (λ tlv. (seen_tlv tlv, left self.new)) result (required tag fault (left self.old)) }
         ensures tag { IfOk result (λ tlv. tlv.tag ≡ tag) }
         ensures passed { left self.new ≡ (any (left self.old)).1 }
     {
@@ -41,7 +41,7 @@ impl<'a> Cursor<'a> {
     /// end of the enclosing value where none is left.
     #[tactic(auto, unfolding(crate::specs::Walk::choice, crate::specs::Walk::check_that))]
     pub fn choice<F: Copy>(&mut self, tags: &[u8], fault: F) -> Result<Tlv<'a>, (F, usize)>
-        ensures walk { Gives (λ tlv. (part tlv, left self.new)) result (choice tags.now fault (left self.old)) }
+        ensures walk { Gives (λ tlv. (seen_tlv tlv, left self.new)) result (choice tags.now fault (left self.old)) }
         ensures passed { left self.new ≡ (any (left self.old)).1 }
     {
         let value = self.next_or(fault)?;
@@ -66,7 +66,7 @@ impl<'a> Cursor<'a> {
     /// Takes the next value where it has this identifier octet; else the cursor stays as it was.
     #[tactic(auto, unfolding(crate::specs::Walk::optional, crate::specs::Members::begins))]
     pub fn optional(&mut self, tag: u8) -> Option<Tlv<'a>>
-        ensures walk { optional tag (left self.old) ≡ (seen part result, left self.new) }
+        ensures walk { optional tag (left self.old) ≡ (seen seen_tlv result, left self.new) }
         ensures tag { IfSome result (λ tlv. tlv.tag ≡ tag) }
     {
         if self.begins(tag) { self.next() } else { None }
@@ -90,7 +90,7 @@ impl<'a> Cursor<'a> {
     /// Takes the next value, of any kind, where there is one.
     #[tactic(auto, unfolding(crate::specs::Walk::any))]
     pub fn any(&mut self) -> Option<Tlv<'a>>
-        ensures { any (left self.old) ≡ (seen part result, left self.new) }
+        ensures { any (left self.old) ≡ (seen seen_tlv result, left self.new) }
     {
         self.next()
     }
@@ -98,7 +98,7 @@ impl<'a> Cursor<'a> {
     /// Takes the next value, of any kind; the fault, at the end of the enclosing value, where none is left.
     #[tactic(auto, unfolding(crate::specs::Walk::next_or, crate::specs::Members::next_at, crate::specs::Walk::any))]
     pub fn next_or<F: Copy>(&mut self, fault: F) -> Result<Tlv<'a>, (F, usize)>
-        ensures walk { Gives (λ tlv. (part tlv, left self.new)) result (next_or fault (left self.old)) }
+        ensures walk { Gives (λ tlv. (seen_tlv tlv, left self.new)) result (next_or fault (left self.old)) }
         ensures passed { left self.new ≡ (any (left self.old)).1 }
     {
         let at = self.at();
@@ -136,7 +136,7 @@ impl<'a> Tlv<'a> {
     /// The fault, at this value, where it has another identifier octet.
     #[tactic(auto, unfolding(crate::specs::Walk::is_a))]
     pub fn is_a<F: Copy>(&self, tag: u8, fault: F) -> Result<(), (F, usize)>
-        ensures walk { Gives (λ _. tt) result (is_a tag fault (part self.now)) }
+        ensures walk { Gives (λ _. tt) result (is_a tag fault (seen_tlv self.now)) }
         ensures tag { IfOk result (λ _. self.now.tag ≡ tag) }
     {
         if self.tag == tag {
@@ -149,7 +149,7 @@ impl<'a> Tlv<'a> {
     /// The seconds of the time that this value is (as `seconds_of_time`); the fault, at this value, where it is none.
     #[tactic(auto, unfolding(crate::specs::Walk::seconds))]
     pub fn seconds<F: Copy>(&self, fault: F) -> Result<i64, (F, usize)>
-        ensures { Gives (λ moment. moment) result (seconds fault (part self.now)) }
+        ensures { Gives (λ moment. moment) result (seconds fault (seen_tlv self.now)) }
     {
         match seconds_of_time(self.tag, self.body) {
             Some(moment) => Ok(moment),
@@ -160,7 +160,7 @@ impl<'a> Tlv<'a> {
     /// The values inside a value whose identifier octet has the constructed flag, in order.
     pub fn members(&self) -> Cursor<'a>
         requires { is_constructed self.now.tag ≡ true }
-        ensures left { left result ≡ members (part self.now) }
+        ensures left { left result ≡ members (seen_tlv self.now) }
         ensures bounded { length (remaining result).octets < contents_limit }
     {
         match self.inside() {

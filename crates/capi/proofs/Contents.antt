@@ -2,16 +2,16 @@
 use Rattle.std.proofs.Common.{◌≡◌, ℕ, ◌+◌, ◌-◌, ◌<◌, ◌≤◌, List, [], ◌∷◌, ◌++◌, length, take, drop, refl, sym, ap, ◌∙◌, arith, append_assoc, subst}
 use Rattle.std.proofs.lemmas.List.{length-append, length-drop, take_all}
 use Rattle.asn.specs.Part.{IsPartOf, contents}
-use Rattle.asn.specs.Place.{part, body, inside}
+use Rattle.asn.specs.Place.{seen_tlv, body, body_place}
 use Rattle.asn.specs.declared.tlv.Tlv.{Tlv}
 use Rattle.cert.specs.BitString.{bits_in}
 
 -- the contents of a value stand where the values inside would
-pub body_stands : (text : List ℕ) (value : Tlv) → IsPartOf text (inside (part value)).at (inside (part value)).octets → IsPartOf text (inside (part value)).at value.body.now
-unfolding inside contents
-body_stands text value stands = subst (IsPartOf text (inside (part value)).at) (sym value.body_is) stands
+pub body_stands : (text : List ℕ) (value : Tlv) → IsPartOf text (body_place (seen_tlv value)).at (body_place (seen_tlv value)).octets → IsPartOf text (body_place (seen_tlv value)).at value.body.now
+unfolding body_place contents
+body_stands text value stands = subst (IsPartOf text (body_place (seen_tlv value)).at) (sym value.body_is) stands
 
-pub body_is : (value : Tlv) → value.body.now ≡ body (part value)
+pub body_is : (value : Tlv) → value.body.now ≡ body (seen_tlv value)
 body_is value = value.body_is
 
 -- the octets behind the first
@@ -28,7 +28,7 @@ none_behind : (xs : List ℕ) → length xs < 1 → xs ≡ drop 1 xs
 none_behind [] none = refl
 none_behind (x ∷ xs) none = absurd (omega arith)
 
-pub no_bits : (value : Tlv) → length value.body.now < 1 → value.body.now ≡ bits_in (body (part value))
+pub no_bits : (value : Tlv) → length value.body.now < 1 → value.body.now ≡ bits_in (body (seen_tlv value))
 no_bits value none = none_behind value.body.now none ∙ ap bits_in (body_is value)
 
 -- the octets behind the count of unused bits
@@ -42,10 +42,10 @@ behind_count : (text : List ℕ) (at : ℕ) (xs : List ℕ) → 1 ≤ length xs 
 behind_count text at [] some stands = absurd (omega arith)
 behind_count text at (x ∷ xs) some stands = behind_first text at x xs stands
 
-pub bits_stand : (text : List ℕ) (value : Tlv) (at : ℕ) → at ≡ (inside (part value)).at → 1 ≤ length value.body.now → IsPartOf text (inside (part value)).at (inside (part value)).octets → IsPartOf text (at + 1) (cut value.body.now)
+pub bits_stand : (text : List ℕ) (value : Tlv) (at : ℕ) → at ≡ (body_place (seen_tlv value)).at → 1 ≤ length value.body.now → IsPartOf text (body_place (seen_tlv value)).at (body_place (seen_tlv value)).octets → IsPartOf text (at + 1) (cut value.body.now)
 bits_stand text value at e some stands =
     let there : IsPartOf text at value.body.now = subst (λ (k : ℕ). IsPartOf text k value.body.now) (sym e) (body_stands text value stands) in
     subst (IsPartOf text (at + 1)) (sym (cut_is value.body.now)) (behind_count text at value.body.now some there)
 
-pub bits_are : (value : Tlv) → cut value.body.now ≡ bits_in (body (part value))
+pub bits_are : (value : Tlv) → cut value.body.now ≡ bits_in (body (seen_tlv value))
 bits_are value = cut_is value.body.now ∙ ap bits_in (body_is value)

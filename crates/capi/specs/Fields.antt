@@ -11,7 +11,7 @@ use Rattle.cert.specs.BasicConstraints.{BasicConstraints}
 use Rattle.cert.specs.Extensions.{Extensions}
 use Rattle.cert.specs.Certificate.{Certificate}
 use Rattle.cert.specs.CertificateForms.{IsCertificateAt}
-use Rattle.asn.specs.Place.{inside}
+use Rattle.asn.specs.Place.{body_place}
 use Rattle.der.specs.Fault.{rule_number}
 use Rattle.capi.specs.declared.answer.CertificateAnswer.{CertificateAnswer}
 use Rattle.capi.specs.declared.fields.Part.{Part}
@@ -75,7 +75,7 @@ pub record TellsFields (text : List ℕ) (told : code.Fields) (certificate : Cer
 -- each part begins where its component does, or the contents or the bits of that
 pub record AreAt (told : code.Fields) (places : Places) : Type 0 where
   pub tbs : told.tbs.offset ≡ places.outer.tbs.at
-  pub serial : told.serial.offset ≡ (inside places.head.serial).at
+  pub serial : told.serial.offset ≡ (body_place places.head.serial).at
   pub algorithm : told.algorithm.offset ≡ places.head.algorithm.at
   pub issuer : told.issuer.offset ≡ places.head.issuer.at
   pub subject : told.subject.offset ≡ places.subject.name.at

@@ -1,7 +1,7 @@
 -- Where the components of a certificate stand (RFC 5280, 4.1).
 use Rattle.std.specs.Prelude.{◌≡◌, ◌+◌, ℕ, List, length, take, Result, Ok}
 use Rattle.asn.specs.Part.{IsPartOf}
-use Rattle.asn.specs.Place.{Place, part, body, inside}
+use Rattle.asn.specs.Place.{Place, seen_tlv, body, body_place}
 use Rattle.asn.specs.Members.{Members, members}
 use Rattle.asn.specs.Walk.{◌>>=◌, is_a, next_or, optional}
 use Rattle.cert.specs.declared.fault.CertRule.{CertRule}
@@ -20,7 +20,7 @@ pub record Outer : Type 0 where
   pub signature : Place
 
 abbrev pub seen_outer : outer.Outer → Outer
-seen_outer read = record { tbs = part read.tbs; signature = part read.signature }
+seen_outer read = record { tbs = seen_tlv read.tbs; signature = seen_tlv read.signature }
 
 unfoldable pub outer_places : Place → Result Outer (CertRule × ℕ)
 outer_places value = do
@@ -37,7 +37,7 @@ pub record Head : Type 0 where
   pub issuer : Place
 
 abbrev pub seen_head : head.Head → Head
-seen_head read = record { serial = part read.serial; algorithm = part read.algorithm; issuer = part read.issuer }
+seen_head read = record { serial = seen_tlv read.serial; algorithm = seen_tlv read.algorithm; issuer = seen_tlv read.issuer }
 
 unfoldable pub head_places : Members → Result (Head × Members) (CertRule × ℕ)
 head_places left = do
@@ -52,7 +52,7 @@ pub record Subject : Type 0 where
   pub key_info : Place
 
 abbrev pub seen_subject : subject.Subject → Subject
-seen_subject read = record { name = part read.name; key_info = part read.key_info }
+seen_subject read = record { name = seen_tlv read.name; key_info = seen_tlv read.key_info }
 
 unfoldable pub subject_places : Members → Result Subject (CertRule × ℕ)
 subject_places left = do
@@ -76,7 +76,7 @@ pub record Places : Type 0 where
   pub key : Place
 
 abbrev pub seen_places : code.Places → Places
-seen_places read = record { outer = seen_outer read.outer; head = seen_head read.head; subject = seen_subject read.subject; key = part read.key }
+seen_places read = record { outer = seen_outer read.outer; head = seen_head read.head; subject = seen_subject read.subject; key = seen_tlv read.key }
 
 unfoldable pub places : Place → Result Places (CertRule × ℕ)
 places value = do
@@ -95,7 +95,7 @@ StandsIn text place = IsPartOf text place.at place.octets
 pub record ArePlacesOf (text : List ℕ) (places : Places) (certificate : Certificate) : Type 0 where
   pub tbs_stands : StandsIn text places.outer.tbs
   pub tbs_is : certificate.tbs ≡ places.outer.tbs.octets
-  pub serial_stands : StandsIn text (inside places.head.serial)
+  pub serial_stands : StandsIn text (body_place places.head.serial)
   pub serial_is : certificate.serial ≡ body places.head.serial
   pub algorithm_stands : StandsIn text places.head.algorithm
   pub algorithm_is : certificate.algorithm ≡ places.head.algorithm.octets
@@ -105,9 +105,9 @@ pub record ArePlacesOf (text : List ℕ) (places : Places) (certificate : Certif
   pub subject_is : certificate.subject.octets ≡ places.subject.name.octets
   pub key_info_stands : StandsIn text places.subject.key_info
   pub key_info_is : certificate.key_info.whole ≡ places.subject.key_info.octets
-  pub key_stands : StandsIn text (inside places.key)
+  pub key_stands : StandsIn text (body_place places.key)
   pub key_is : certificate.key_info.key ≡ bits_in (body places.key)
-  pub signature_stands : StandsIn text (inside places.outer.signature)
+  pub signature_stands : StandsIn text (body_place places.outer.signature)
   pub signature_is : certificate.signature ≡ bits_in (body places.outer.signature)
 
 -- the components of a certificate by its layout
@@ -123,4 +123,4 @@ components value fields layout =
 
 -- where the bits of a BIT STRING begin, behind the count of unused bits
 abbrev pub bits_at : Place → ℕ
-bits_at value = (inside value).at + length (take 1 (body value))
+bits_at value = (body_place value).at + length (take 1 (body value))

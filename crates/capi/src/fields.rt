@@ -53,7 +53,7 @@ pub struct Fields {
 impl Part {
     ghost use Rattle.std.specs.Prelude.{◌≡◌, ◌<◌, ◌≤◌, ◌+◌, ◌^◌, ℕ, List, length};
     ghost use Rattle.asn.specs.Part.{IsPartOf};
-    ghost use Rattle.asn.specs.Place.{part, body, inside};
+    ghost use Rattle.asn.specs.Place.{seen_tlv, body, body_place};
     ghost use Rattle.cert.specs.BitString.{bits_in};
     ghost use Rattle.capi.specs.Parts.{IsPart};
     ghost use Rattle.capi.specs.Places.{bits_at};
@@ -79,18 +79,18 @@ impl Part {
 
     /// The contents of the value.
     fn contents(value: Tlv<'_>) -> Part
-        ensures part { (text : List ℕ) → IsPartOf text (inside (part value.entry)).at (inside (part value.entry)).octets
-            → IsPart text result (body (part value.entry)) }
-        ensures place { result.offset ≡ (inside (part value.entry)).at }
+        ensures part { (text : List ℕ) → IsPartOf text (body_place (seen_tlv value.entry)).at (body_place (seen_tlv value.entry)).octets
+            → IsPart text result (body (seen_tlv value.entry)) }
+        ensures place { result.offset ≡ (body_place (seen_tlv value.entry)).at }
     {
         Part::at(value.body_at(), value.body)
     }
 
     /// The contents of the BIT STRING, behind the count of unused bits.
     fn bits(value: Tlv<'_>) -> Part
-        ensures part { (text : List ℕ) → IsPartOf text (inside (part value.entry)).at (inside (part value.entry)).octets
-            → IsPart text result (bits_in (body (part value.entry))) }
-        ensures place { result.offset ≡ bits_at (part value.entry) }
+        ensures part { (text : List ℕ) → IsPartOf text (body_place (seen_tlv value.entry)).at (body_place (seen_tlv value.entry)).octets
+            → IsPart text result (bits_in (body (seen_tlv value.entry))) }
+        ensures place { result.offset ≡ bits_at (seen_tlv value.entry) }
     {
         match value.body {
             [] => Part::at(value.body_at(), value.body),

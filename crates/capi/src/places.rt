@@ -1,6 +1,6 @@
 //! Where the components of a certificate stand.
 
-ghost use Rattle.asn.specs.Place.{part};
+ghost use Rattle.asn.specs.Place.{seen_tlv};
 ghost use Rattle.asn.specs.Members.{left};
 ghost use Rattle.asn.specs.Walk.{Gives};
 ghost use Rattle.capi.specs.Places.{outer_places, seen_outer, head_places, seen_head, subject_places, seen_subject, key_place, places, seen_places};
@@ -43,7 +43,7 @@ pub(crate) struct Places<'a> {
 impl<'a> Outer<'a> {
     #[tactic(auto, unfolding(crate::specs::Places::outer_places))]
     fn of(value: Tlv<'a>) -> Result<Outer<'a>, Refusal>
-        ensures { Gives seen_outer result (outer_places (part value.entry)) }
+        ensures { Gives seen_outer result (outer_places (seen_tlv value.entry)) }
     {
         value.is_a(0x30, CertRule::Layout)?;
         let mut members = value.members();
@@ -87,7 +87,7 @@ impl<'a> Subject<'a> {
 /// subjectPublicKey in a subjectPublicKeyInfo.
 #[tactic(auto, unfolding(crate::specs::Places::key_place))]
 fn key_of<'a>(value: Tlv<'a>) -> Result<Tlv<'a>, Refusal>
-    ensures { Gives part result (key_place (part value.entry)) }
+    ensures { Gives seen_tlv result (key_place (seen_tlv value.entry)) }
 {
     value.is_a(0x30, CertRule::Layout)?;
     let mut members = value.members();
@@ -99,7 +99,7 @@ impl<'a> Places<'a> {
     /// The components of the certificate that the value is. A certificate has them all.
     #[tactic(auto, unfolding(crate::specs::Places::places))]
     pub(crate) fn of(value: Tlv<'a>) -> Result<Places<'a>, Refusal>
-        ensures { Gives seen_places result (places (part value.entry)) }
+        ensures { Gives seen_places result (places (seen_tlv value.entry)) }
     {
         let outer = Outer::of(value)?;
         outer.tbs.is_a(0x30, CertRule::Layout)?;

@@ -2,10 +2,10 @@
 use Rattle.std.proofs.Common.{◌≡◌, ℕ, true, List, length, is_some, Ok, arith, refl, sym, subst}
 use Rattle.std.specs.List.{AllZip}
 use Rattle.asn.specs.DerLaws.{AreOctets}
-use Rattle.asn.specs.Place.{Place, tag, body, inside}
+use Rattle.asn.specs.Place.{Place, tag, body, body_place}
 use Rattle.asn.specs.Members.{members}
 use Rattle.asn.proofs.Laws.{bind_ok, ok_is, check_again, is_a_ok, is_a_again}
-use Rattle.names.specs.NameFault.TheVariants.{NameLayout}
+use Rattle.names.specs.NameRule.TheVariants.{NameLayout}
 use Rattle.names.specs.GeneralLayout.{GeneralName, directory_name, dns_name, ip_address, other_name, form_of_identifier, general}
 use Rattle.names.specs.GeneralForms.{IsGeneralName}
 use Rattle.names.proofs.Laws.{general_names_are_read}
@@ -60,5 +60,5 @@ pub alternative_names_are : (octet_string : Place) (names : List GeneralName) �
 unfolding alternative_names
 alternative_names_are octet_string names are =
     let served = are.served in
-    rw (contained_again octet_string are.whole, is_a_again 0x30 ExtensionValue (inside octet_string) are.sequence)
-    (some_items_again one_more_name IsGeneralName (RoomBelow 4096) name_again ExtensionValue (members (inside octet_string)) names record { one = are.some; are_items = are.each; room = λ k high. omega arith })
+    rw (contained_again octet_string are.whole, is_a_again 0x30 ExtensionValue (body_place octet_string) are.sequence)
+    (some_items_again one_more_name IsGeneralName (RoomBelow 4096) name_again ExtensionValue (members (body_place octet_string)) names record { one = are.some; are_items = are.each; room = λ k high. omega arith })

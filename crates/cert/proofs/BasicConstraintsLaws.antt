@@ -1,7 +1,7 @@
 -- The walk of basic constraints finds what the standard calls them, and nothing else.
 use Rattle.std.proofs.Common.{◌≡◌, min, pos, ℕ, Bool, true, false, List, [], ◌∷◌, ◌++◌, Option, Some, None, Ok, refl, sym, ap, ◌∙◌, subst}
 use Rattle.asn.specs.DerLaws.{AreOctets}
-use Rattle.asn.specs.Place.{Place, tag, body, inside}
+use Rattle.asn.specs.Place.{Place, tag, body, body_place}
 use Rattle.asn.specs.Members.{Members, members, begins, begins_in}
 use Rattle.asn.specs.Walk.{optional}
 use Rattle.asn.specs.Integer.{binary_value, integer_value}
@@ -87,7 +87,7 @@ are_basic_constraints octet_string fields fits e =
 pub basic_constraints_are : (octet_string : Place) (fields : BasicConstraints) → AreOctets (body octet_string) → IsBasicConstraints octet_string fields → basic_constraints octet_string ≡ Ok fields
 unfolding basic_constraints
 basic_constraints_are octet_string fields fits is =
-    let inner : Members = members (inside octet_string) in
+    let inner : Members = members (body_place octet_string) in
     let left : List Place → Members = λ values. record { values = values; end = inner.end } in
     let octets = last_octets is.flags is.numbers (subst AllOctets is.members_are (members_octets octet_string fits)) in
-    rw (contained_again octet_string is.whole, is_a_again 0x30 ExtensionValue (inside octet_string) is.sequence, default_false_again ExtensionValue inner is.flags is.numbers fields.ca is.members_are is.ca (no_flag is.numbers fields.path_length is.path_length), path_length_again (left is.numbers) is.numbers fields.path_length octets refl is.path_length, ended_again ExtensionValue (left []) refl) refl
+    rw (contained_again octet_string is.whole, is_a_again 0x30 ExtensionValue (body_place octet_string) is.sequence, default_false_again ExtensionValue inner is.flags is.numbers fields.ca is.members_are is.ca (no_flag is.numbers fields.path_length is.path_length), path_length_again (left is.numbers) is.numbers fields.path_length octets refl is.path_length, ended_again ExtensionValue (left []) refl) refl

@@ -4,7 +4,7 @@ use Rattle.asn.specs.Value.{Value}
 use Rattle.asn.specs.DerLaws.{AreOctets}
 use Rattle.asn.specs.Rule.{Rule}
 use Rattle.asn.specs.Part.{IsWhole, contents}
-use Rattle.asn.specs.Place.{Place, body, inside}
+use Rattle.asn.specs.Place.{Place, body, body_place}
 use Rattle.asn.specs.Judgement.{nested}
 use Rattle.asn.specs.Layout.{IsEncodingOf}
 use Rattle.asn.proofs.Laws.{nested_ok, nested_again}
@@ -14,12 +14,12 @@ pub as_der_ok : {A : Type 0} (r : Result A (Rule × ℕ)) (x : A) → as_der r �
 as_der_ok (Ok y) x e = cc
 as_der_ok (Err fault) x e = absurd cc
 
-pub contained_ok : (octet_string value : Place) → AreOctets (body octet_string) → as_der (nested octet_string) ≡ Ok value → (value ≡ inside octet_string) × IsWhole (body octet_string)
+pub contained_ok : (octet_string value : Place) → AreOctets (body octet_string) → as_der (nested octet_string) ≡ Ok value → (value ≡ body_place octet_string) × IsWhole (body octet_string)
 contained_ok octet_string value fits e = nested_ok octet_string value fits (as_der_ok (nested octet_string) value e)
 
-pub contained_again : (octet_string : Place) → IsWhole (body octet_string) → as_der (nested octet_string) ≡ Ok (inside octet_string)
+pub contained_again : (octet_string : Place) → IsWhole (body octet_string) → as_der (nested octet_string) ≡ Ok (body_place octet_string)
 contained_again octet_string whole = ap as_der (nested_again octet_string whole)
 
-pub encoding_inside : (octet_string : Place) → IsWhole (body octet_string) → (value : Value) × IsEncodingOf value (inside octet_string)
-unfolding inside contents
+pub encoding_inside : (octet_string : Place) → IsWhole (body octet_string) → (value : Value) × IsEncodingOf value (body_place octet_string)
+unfolding body_place contents
 encoding_inside octet_string (value, encodes) = (value, record { depth = 1; encodes = encodes })

@@ -3,7 +3,7 @@ use Rattle.std.proofs.Common.{◌≡◌, ℕ, List, [], ◌∷◌, Ok, refl, sym
 use Rattle.asn.specs.Value.{Value, primitive}
 use Rattle.asn.specs.Contents.{IsBitString}
 use Rattle.asn.specs.DerLaws.{AreOctets}
-use Rattle.asn.specs.Place.{Place, tag, body, inside}
+use Rattle.asn.specs.Place.{Place, tag, body, body_place}
 use Rattle.asn.specs.Layout.{IsEncodingOf}
 use Rattle.asn.proofs.Laws.{bind_ok, ok_is, is_a_ok, is_a_again, as_primitive}
 use Rattle.cert.specs.declared.fault.CertRule.{CertRule}
@@ -29,10 +29,10 @@ is_key_usage octet_string bits fits e =
     let value = bind_ok _ _ bits e in
     let string = bind_ok _ _ bits value.2 in
     let held = contained_ok octet_string value.0 fits value.1 in
-    let is : tag (inside octet_string) ≡ 0x03 = subst (λ (p : Place). tag p ≡ 0x03) held.0 (is_a_ok _ _ _ _ string.1) in
+    let is : tag (body_place octet_string) ≡ 0x03 = subst (λ (p : Place). tag p ≡ 0x03) held.0 (is_a_ok _ _ _ _ string.1) in
     let encoded = encoding_inside octet_string held.1 in
-    let count = has_count encoded.0 (inside octet_string) encoded.1 is in
-    let same : bits_in (body (inside octet_string)) ≡ bits = ap (λ (p : Place). bits_in (body p)) (sym held.0) ∙ ok_is {E = CertRule × ℕ} (bits_in (body value.0)) bits string.2 in
+    let count = has_count encoded.0 (body_place octet_string) encoded.1 is in
+    let same : bits_in (body (body_place octet_string)) ≡ bits = ap (λ (p : Place). bits_in (body p)) (sym held.0) ∙ ok_is {E = CertRule × ℕ} (bits_in (body value.0)) bits string.2 in
     record {
       whole = held.1;
       unused = count.0;
@@ -43,4 +43,4 @@ is_key_usage octet_string bits fits e =
 pub key_usage_is : (octet_string : Place) (bits : List ℕ) → IsKeyUsage octet_string bits → key_usage octet_string ≡ Ok bits
 unfolding key_usage
 key_usage_is octet_string bits is =
-    rw (contained_again octet_string is.whole, is_a_again 0x03 ExtensionValue (inside octet_string) is.bit_string, is.contents) refl
+    rw (contained_again octet_string is.whole, is_a_again 0x03 ExtensionValue (body_place octet_string) is.bit_string, is.contents) refl

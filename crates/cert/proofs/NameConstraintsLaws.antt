@@ -1,7 +1,7 @@
 -- The walk of name constraints finds what the standard calls them, and nothing else.
 use Rattle.std.proofs.Common.{◌≡◌, ◌+◌, ◌-◌, ◌≤◌, ℕ, true, false, not, ◌||◌, List, [], ◌∷◌, ◌++◌, length, Option, Some, None, Ok, append-nil, arith, refl, sym, ap, ◌∙◌, subst}
 use Rattle.asn.specs.DerLaws.{AreOctets}
-use Rattle.asn.specs.Place.{Place, tag, body, inside}
+use Rattle.asn.specs.Place.{Place, tag, body, body_place}
 use Rattle.asn.specs.Members.{Members, members, begins, begins_in, next_at}
 use Rattle.asn.specs.Walk.{check_that, optional}
 use Rattle.asn.proofs.Laws.{bind_ok, ok_is, check_again, is_a_ok, is_a_again, next_or_ok, next_or_again, TakesOptional, optional_is, optional_there, optional_absent, ended_ok, ended_again}
@@ -136,7 +136,7 @@ are_name_constraints octet_string fields fits e =
 pub name_constraints_are : (octet_string : Place) (fields : NameConstraints) → IsNameConstraints octet_string fields → name_constraints octet_string ≡ Ok fields
 unfolding name_constraints
 name_constraints_are octet_string fields is =
-    let inner : Members = members (inside octet_string) in
+    let inner : Members = members (body_place octet_string) in
     let left : List Place → Members = λ values. record { values = values; end = inner.end } in
     let served = is.served in
-    rw (contained_again octet_string is.whole, is_a_again 0x30 ExtensionValue (inside octet_string) is.sequence, subtrees_again 4096 0xA0 inner is.permitted_lists is.excluded_lists fields.permitted is.members_are is.permitted (omega arith) (not_permitted is.excluded_lists fields.excluded is.excluded), subtrees_again (4096 - length fields.permitted) 0xA1 (left is.excluded_lists) is.excluded_lists [] fields.excluded (sym (append-nil is.excluded_lists)) is.excluded (omega arith) refl, ended_again ExtensionValue (left []) refl) refl
+    rw (contained_again octet_string is.whole, is_a_again 0x30 ExtensionValue (body_place octet_string) is.sequence, subtrees_again 4096 0xA0 inner is.permitted_lists is.excluded_lists fields.permitted is.members_are is.permitted (omega arith) (not_permitted is.excluded_lists fields.excluded is.excluded), subtrees_again (4096 - length fields.permitted) 0xA1 (left is.excluded_lists) is.excluded_lists [] fields.excluded (sym (append-nil is.excluded_lists)) is.excluded (omega arith) refl, ended_again ExtensionValue (left []) refl) refl

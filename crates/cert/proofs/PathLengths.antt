@@ -7,7 +7,7 @@ use Rattle.asn.specs.DerLaws.{AreOctets}
 use Rattle.asn.specs.Integer.{binary_value, integer_value}
 use Rattle.asn.specs.NumberLaws.{binary_value_below}
 use Rattle.asn.specs.Part.{contents}
-use Rattle.asn.specs.Place.{Place, body, inside, ends, front, behind, parts, values}
+use Rattle.asn.specs.Place.{Place, body, body_place, ends, front, behind, parts, values}
 use Rattle.asn.specs.Members.{members, members_at}
 use Rattle.cert.specs.BasicConstraints.{is_negative}
 
@@ -76,9 +76,9 @@ pub contents_octets : (place : Place) → AreOctets place.octets → AreOctets (
 unfolding contents
 contents_octets place each = octets_take _ _ (octets_drop _ place.octets each)
 
-pub members_octets : (octet_string : Place) → AreOctets (body octet_string) → AllOctets (members (inside octet_string)).values
-unfolding contents inside members_at values
-members_octets octet_string each = parts_octets _ (inside (inside octet_string)) (octets_take _ _ (octets_drop _ (inside octet_string).octets each))
+pub members_octets : (octet_string : Place) → AreOctets (body octet_string) → AllOctets (members (body_place octet_string)).values
+unfolding contents body_place members_at values
+members_octets octet_string each = parts_octets _ (body_place (body_place octet_string)) (octets_take _ _ (octets_drop _ (body_place octet_string).octets each))
 
 pub last_octets : (places others : List Place) → AllOctets (places ++ others) → AllOctets others
 last_octets [] others each = each

@@ -2,7 +2,7 @@
 use Rattle.std.proofs.Common.{◌≡◌, ℕ, List, Ok, refl, sym, subst}
 use Rattle.std.specs.List.{AllZip}
 use Rattle.asn.specs.DerLaws.{AreOctets}
-use Rattle.asn.specs.Place.{Place, tag, body, inside}
+use Rattle.asn.specs.Place.{Place, tag, body, body_place}
 use Rattle.asn.specs.Members.{members}
 use Rattle.asn.proofs.Laws.{bind_ok, ok_is, is_a_ok, is_a_again}
 use Rattle.cert.specs.declared.fault.CertRule.{CertRule}
@@ -43,5 +43,5 @@ are_purposes octet_string oids fits e =
 pub purposes_are : (octet_string : Place) (oids : List (List ℕ)) → ArePurposes octet_string oids → purposes octet_string ≡ Ok oids
 unfolding purposes
 purposes_are octet_string oids are =
-    rw (contained_again octet_string are.whole, is_a_again 0x30 ExtensionValue (inside octet_string) are.sequence)
-    (some_items_again one_more_purpose IsPurpose AnyRoom purpose_again ExtensionValue (members (inside octet_string)) oids record { one = are.some; are_items = are.each; room = λ k high. tt })
+    rw (contained_again octet_string are.whole, is_a_again 0x30 ExtensionValue (body_place octet_string) are.sequence)
+    (some_items_again one_more_purpose IsPurpose AnyRoom purpose_again ExtensionValue (members (body_place octet_string)) oids record { one = are.some; are_items = are.each; room = λ k high. tt })

@@ -3,12 +3,12 @@ use Rattle.std.proofs.Common.{◌≡◌, ◌<◌, ℕ, Result, Ok, Err}
 use Rattle.std.specs.Prelude.{nat_lt}
 use Rattle.std.proofs.lemmas.Bool.{ltb-true, lt-ltb}
 use Rattle.asn.proofs.Laws.{check_ok, check_again}
-use Rattle.names.specs.NameFault.{NameFault}
+use Rattle.names.specs.NameRule.{NameRule}
 use Rattle.cert.specs.declared.fault.CertRule.TheVariants.{Limit}
 use Rattle.cert.specs.Fault.{as_name}
 use Rattle.cert.specs.Limit.{has_room}
 
-pub as_name_ok : {A : Type 0} (r : Result A (NameFault × ℕ)) (x : A) → as_name r ≡ Ok x → r ≡ Ok x
+pub as_name_ok : {A : Type 0} (r : Result A (NameRule × ℕ)) (x : A) → as_name r ≡ Ok x → r ≡ Ok x
 as_name_ok (Ok y) x e = cc
 as_name_ok (Err fault) x e = absurd cc
 

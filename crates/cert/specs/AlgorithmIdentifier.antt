@@ -3,7 +3,7 @@
 use Rattle.std.specs.Prelude.{◌≡◌, ◌↔◌, ℕ, List, ◌∷◌, Result, Ok}
 use Rattle.asn.specs.Value.{Value, Values, primitive, constructed, more}
 use Rattle.asn.specs.Encoding.{EncodesAt}
-use Rattle.asn.specs.Place.{Place, part, tag, body}
+use Rattle.asn.specs.Place.{Place, seen_tlv, tag, body}
 use Rattle.asn.specs.Members.{members, AtMostOne}
 use Rattle.asn.specs.Walk.{◌>>=◌, is_a, required, any, ended}
 use Rattle.asn.specs.Layout.{AtMostOneValue}
@@ -17,7 +17,7 @@ pub record AlgorithmIdentifier : Type 0 where
   pub oid : List ℕ
 
 abbrev pub seen_algorithm : code.AlgorithmIdentifier → AlgorithmIdentifier
-seen_algorithm read = record { whole = part read.whole; oid = oid_contents read.oid }
+seen_algorithm read = record { whole = seen_tlv read.whole; oid = oid_contents read.oid }
 
 -- The checks in their order. The fault is that of the layout round the value.
 unfoldable pub algorithm_identifier : {F : Type 0} → F → Place → Result AlgorithmIdentifier (F × ℕ)

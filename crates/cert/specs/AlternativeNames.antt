@@ -3,11 +3,11 @@ use Rattle.std.specs.Prelude.{◌≡◌, ◌<◌, ◌≤◌, ◌↔◌, ℕ, Lis
 use Rattle.std.specs.List.{AllZip}
 use Rattle.asn.specs.DerLaws.{AreOctets}
 use Rattle.asn.specs.Part.{IsWhole}
-use Rattle.asn.specs.Place.{Place, tag, body, inside}
+use Rattle.asn.specs.Place.{Place, tag, body, body_place}
 use Rattle.asn.specs.Members.{members}
 use Rattle.asn.specs.Walk.{◌>>=◌, check_that, is_a, some, each}
 use Rattle.asn.specs.Judgement.{nested}
-use Rattle.names.specs.NameFault.TheVariants.{NameLayout}
+use Rattle.names.specs.NameRule.TheVariants.{NameLayout}
 use Rattle.names.specs.GeneralLayout.{GeneralName, form_of_identifier, general}
 use Rattle.names.specs.GeneralForms.{IsGeneralName}
 use Rattle.cert.specs.Fault.{as_der, as_name}
@@ -39,10 +39,10 @@ alternative_names octet_string = do
 -- served.
 pub record AreAlternativeNames (octet_string : Place) (names : List GeneralName) : Type 0 where
   pub whole : IsWhole (body octet_string)
-  pub sequence : tag (inside octet_string) ≡ 0x30
+  pub sequence : tag (body_place octet_string) ≡ 0x30
   pub some : 0 < length names
   pub served : length names ≤ 4096
-  pub each : AllZip IsGeneralName (members (inside octet_string)).values names
+  pub each : AllZip IsGeneralName (members (body_place octet_string)).values names
 
 abbrev pub AlternativeNamesAreExact : Type 0
 AlternativeNamesAreExact =

@@ -3,7 +3,7 @@
 use Rattle.std.specs.Prelude.{◌≡◌, ◌↔◌, ℕ, Bool, false, nat_le, min, pos, List, [], ◌∷◌, ◌++◌, Option, Some, None, Result, Ok, Err, if◌then◌else◌}
 use Rattle.asn.specs.DerLaws.{AreOctets}
 use Rattle.asn.specs.Part.{IsWhole}
-use Rattle.asn.specs.Place.{Place, tag, body, inside}
+use Rattle.asn.specs.Place.{Place, tag, body, body_place}
 use Rattle.asn.specs.Members.{Members, members}
 use Rattle.asn.specs.Walk.{◌>>=◌, is_a, optional, default_false, ended}
 use Rattle.asn.specs.Judgement.{nested}
@@ -66,8 +66,8 @@ pub record IsBasicConstraints (octet_string : Place) (fields : BasicConstraints)
   pub whole : IsWhole (body octet_string)
   pub flags : List Place
   pub numbers : List Place
-  pub sequence : tag (inside octet_string) ≡ 0x30
-  pub members_are : (members (inside octet_string)).values ≡ flags ++ numbers
+  pub sequence : tag (body_place octet_string) ≡ 0x30
+  pub members_are : (members (body_place octet_string)).values ≡ flags ++ numbers
   pub ca : IsDefaultFalse flags fields.ca
   pub path_length : IsPathLength numbers fields.path_length
 

@@ -3,7 +3,7 @@
 use Rattle.std.specs.Prelude.{◌≡◌, ◌↔◌, ℕ, Bool, List, [], ◌∷◌, ◌++◌, Result, Ok}
 use Rattle.asn.specs.Value.{Value, primitive, constructed, none, more}
 use Rattle.asn.specs.Encoding.{EncodesAt}
-use Rattle.asn.specs.Place.{Place, part, tag, body}
+use Rattle.asn.specs.Place.{Place, seen_tlv, tag, body}
 use Rattle.asn.specs.Members.{members}
 use Rattle.asn.specs.Walk.{◌>>=◌, is_a, required, default_false, ended}
 use Rattle.asn.specs.Layout.{IsDefaultFalse, with_default_false}
@@ -19,7 +19,7 @@ pub record Extension : Type 0 where
   pub value : Place
 
 abbrev pub seen_extension : code.Extension → Extension
-seen_extension read = record { whole = part read.whole; oid = oid_contents read.oid; critical = read.critical; value = part read.value }
+seen_extension read = record { whole = seen_tlv read.whole; oid = oid_contents read.oid; critical = read.critical; value = seen_tlv read.value }
 
 -- The checks in their order. The fault is that of the layout round the value.
 unfoldable pub extension : {F : Type 0} → F → Place → Result Extension (F × ℕ)

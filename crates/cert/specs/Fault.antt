@@ -1,7 +1,7 @@
 -- The numbers and names of the rules, and how faults of the layers below are passed on.
 use Rattle.std.specs.Prelude.{◌≡◌, ℕ, List, codes, Option, Some, None, Result, Ok, Err}
 use Rattle.asn.specs.Rule.{Rule}
-use Rattle.names.specs.NameFault.{NameFault}
+use Rattle.names.specs.NameRule.{NameRule}
 use Rattle.names.specs.Fault.{fault_number, fault_name}
 use Rattle.cert.specs.declared.fault.CertFault.{CertFault}
 use Rattle.cert.specs.declared.fault.CertFault.TheVariants.{Refused, Memory}
@@ -55,7 +55,7 @@ abbrev pub as_der : {A : Type 0} → Result A (Rule × ℕ) → Result A (CertRu
 as_der (Ok x) = Ok x
 as_der (Err fault) = Err (Der fault.0, fault.1)
 
-abbrev pub as_name : {A : Type 0} → Result A (NameFault × ℕ) → Result A (CertRule × ℕ)
+abbrev pub as_name : {A : Type 0} → Result A (NameRule × ℕ) → Result A (CertRule × ℕ)
 as_name (Ok x) = Ok x
 as_name (Err fault) = Err (Name fault.0, fault.1)
 

@@ -3,7 +3,7 @@
 use Rattle.std.specs.Prelude.{◌≡◌, ◌↔◌, ◌==◌, ℕ, Bool, List, ◌∷◌, Result, Ok}
 use Rattle.asn.specs.DerLaws.{AreOctets}
 use Rattle.asn.specs.Part.{IsWhole}
-use Rattle.asn.specs.Place.{Place, tag, body, inside}
+use Rattle.asn.specs.Place.{Place, tag, body, body_place}
 use Rattle.asn.specs.Walk.{◌>>=◌, is_a}
 use Rattle.asn.specs.Judgement.{nested}
 use Rattle.names.specs.Ip.{bit}
@@ -32,8 +32,8 @@ key_usage octet_string = do
 pub record IsKeyUsage (octet_string : Place) (bits : List ℕ) : Type 0 where
   pub whole : IsWhole (body octet_string)
   pub unused : ℕ
-  pub bit_string : tag (inside octet_string) ≡ 0x03
-  pub contents : body (inside octet_string) ≡ unused ∷ bits
+  pub bit_string : tag (body_place octet_string) ≡ 0x03
+  pub contents : body (body_place octet_string) ≡ unused ∷ bits
 
 abbrev pub KeyUsageIsExact : Type 0
 KeyUsageIsExact =

@@ -4,7 +4,7 @@ use Rattle.std.specs.Prelude.{◌≡◌, ◌+◌, ◌<◌, ◌≤◌, ◌↔◌,
 use Rattle.std.specs.List.{AllZip}
 use Rattle.asn.specs.DerLaws.{AreOctets}
 use Rattle.asn.specs.Part.{IsWhole}
-use Rattle.asn.specs.Place.{Place, tag, body, inside}
+use Rattle.asn.specs.Place.{Place, tag, body, body_place}
 use Rattle.asn.specs.Members.{Members, members, begins, next_at}
 use Rattle.asn.specs.Walk.{◌>>=◌, check_that, is_a, optional, next_or, some, ended, each}
 use Rattle.asn.specs.Judgement.{nested}
@@ -94,8 +94,8 @@ pub record IsNameConstraints (octet_string : Place) (fields : NameConstraints) :
   pub whole : IsWhole (body octet_string)
   pub permitted_lists : List Place
   pub excluded_lists : List Place
-  pub sequence : tag (inside octet_string) ≡ 0x30
-  pub members_are : (members (inside octet_string)).values ≡ permitted_lists ++ excluded_lists
+  pub sequence : tag (body_place octet_string) ≡ 0x30
+  pub members_are : (members (body_place octet_string)).values ≡ permitted_lists ++ excluded_lists
   pub permitted : AreSubtrees 0xA0 permitted_lists fields.permitted
   pub excluded : AreSubtrees 0xA1 excluded_lists fields.excluded
   pub served : length fields.permitted + length fields.excluded ≤ 4096

@@ -3,7 +3,7 @@ use Rattle.std.specs.Prelude.{◌≡◌, ◌<◌, ◌↔◌, ℕ, List, [], ◌�
 use Rattle.std.specs.List.{AllZip}
 use Rattle.asn.specs.DerLaws.{AreOctets}
 use Rattle.asn.specs.Part.{IsWhole}
-use Rattle.asn.specs.Place.{Place, tag, body, inside}
+use Rattle.asn.specs.Place.{Place, tag, body, body_place}
 use Rattle.asn.specs.Members.{members}
 use Rattle.asn.specs.Walk.{◌>>=◌, is_a, some, each}
 use Rattle.asn.specs.Judgement.{nested}
@@ -32,9 +32,9 @@ IsPurpose value oid = (tag value ≡ 0x06) × (body value ≡ oid)
 -- The contents of the OCTET STRING are a SEQUENCE of these purposes, one for one, and there is one.
 pub record ArePurposes (octet_string : Place) (oids : List (List ℕ)) : Type 0 where
   pub whole : IsWhole (body octet_string)
-  pub sequence : tag (inside octet_string) ≡ 0x30
+  pub sequence : tag (body_place octet_string) ≡ 0x30
   pub some : 0 < length oids
-  pub each : AllZip IsPurpose (members (inside octet_string)).values oids
+  pub each : AllZip IsPurpose (members (body_place octet_string)).values oids
 
 abbrev pub PurposesAreExact : Type 0
 PurposesAreExact =

@@ -1,6 +1,6 @@
 //! Algorithm identifiers (RFC 5280, 4.1.1.2).
 
-ghost use Rattle.asn.specs.Place.{part};
+ghost use Rattle.asn.specs.Place.{seen_tlv};
 ghost use Rattle.asn.specs.Walk.{Gives};
 ghost use Rattle.cert.specs.AlgorithmIdentifier.{algorithm_identifier, seen_algorithm};
 
@@ -19,7 +19,7 @@ impl<'a> AlgorithmIdentifier<'a> {
     /// over, or at the end of this one where the OBJECT IDENTIFIER is missing. The parameters are not looked at.
     #[tactic(auto, unfolding(crate::specs::AlgorithmIdentifier::algorithm_identifier))]
     pub fn read<F: Copy>(value: Tlv<'a>, layout: F) -> Result<AlgorithmIdentifier<'a>, (F, usize)>
-        ensures { Gives seen_algorithm result (algorithm_identifier layout (part value.entry)) }
+        ensures { Gives seen_algorithm result (algorithm_identifier layout (seen_tlv value.entry)) }
     {
         value.is_a(0x30, layout)?;
         let mut members = value.members();

@@ -1,7 +1,7 @@
 //! subjectAltName: further names of a certificate's subject (RFC 5280, 4.2.1.6).
 
 ghost use Rattle.std.specs.Prelude.{[], map};
-ghost use Rattle.asn.specs.Place.{part};
+ghost use Rattle.asn.specs.Place.{seen_tlv};
 ghost use Rattle.asn.specs.Members.{left};
 ghost use Rattle.asn.specs.Walk.{Gives, each};
 ghost use Rattle.names.specs.GeneralLayout.{general};
@@ -13,17 +13,17 @@ use crate::contained::contained_value;
 use crate::fault::{CertFault, CertRule, Refusal, name_refusal};
 use crate::limit::{MOST_NAMES, check_room};
 use asn::{Cursor, Tlv};
-use names::{General, NameFault, form_of_tag};
+use names::{General, NameRule, form_of_tag};
 use std::alloc::Global;
 
 /// The fault `NameLayout`, at the value, where it has the identifier of no general name.
 #[tactic(auto, unfolding(crate::specs::AlternativeNames::has_form, asn::specs::Walk::check_that))]
 fn check_form(value: Tlv<'_>) -> Result<(), Refusal>
-    ensures { Gives (λ _. tt) result (has_form (part value.entry)) }
+    ensures { Gives (λ _. tt) result (has_form (seen_tlv value.entry)) }
 {
     match form_of_tag(value.tag) {
         Some(_) => Ok(()),
-        None => Err((CertRule::Name(NameFault::NameLayout), value.at)),
+        None => Err((CertRule::Name(NameRule::NameLayout), value.at)),
     }
 }
 
@@ -31,7 +31,7 @@ fn check_form(value: Tlv<'_>) -> Result<(), Refusal>
 #[tactic(auto, unfolding(crate::specs::AlternativeNames::one_more_name))]
 fn push_name<'a>(all: &mut Vec<General<'a>>, value: Tlv<'a>) -> Result<(), CertFault>
     ensures { GivesUnlessFull (λ _. map general_name all.new.items) result
-        (one_more_name (map general_name all.old.items) (part value.entry)) }
+        (one_more_name (map general_name all.old.items) (seen_tlv value.entry)) }
 {
     check_form(value)?;
     check_room(MOST_NAMES, all.len(), value.at)?;
@@ -67,7 +67,7 @@ pub(crate) fn read_alternative_names<'a>(
     alloc: Global,
     octet_string: Tlv<'a>,
 ) -> Result<Vec<General<'a>>, CertFault>
-    ensures { GivesUnlessFull (λ all. map general_name all.items) result (alternative_names (part octet_string.entry)) }
+    ensures { GivesUnlessFull (λ all. map general_name all.items) result (alternative_names (seen_tlv octet_string.entry)) }
 {
     let value = contained_value(octet_string)?;
     value.is_a(0x30, CertRule::ExtensionValue)?;

@@ -1,7 +1,7 @@
 //! basicConstraints: whether a certificate is that of an authority, and how long a path from it may be (RFC 5280, 4.2.1.9).
 
 ghost use Rattle.std.specs.Prelude.{◌≡◌};
-ghost use Rattle.asn.specs.Place.{part};
+ghost use Rattle.asn.specs.Place.{seen_tlv};
 ghost use Rattle.asn.specs.Members.{left};
 ghost use Rattle.asn.specs.Walk.{Gives};
 ghost use Rattle.cert.specs.BasicConstraints.{is_negative, saturated, path_length, basic_constraints, seen_basic_constraints};
@@ -62,7 +62,7 @@ impl BasicConstraints {
     /// length without `ca` is accepted.
     #[tactic(auto, unfolding(crate::specs::BasicConstraints::basic_constraints))]
     pub fn read(octet_string: Tlv<'_>) -> Result<BasicConstraints, Refusal>
-        ensures { Gives seen_basic_constraints result (basic_constraints (part octet_string.entry)) }
+        ensures { Gives seen_basic_constraints result (basic_constraints (seen_tlv octet_string.entry)) }
     {
         let value = contained_value(octet_string)?;
         value.is_a(0x30, CertRule::ExtensionValue)?;

@@ -1,7 +1,7 @@
 //! Certificates (RFC 5280, 4.1).
 
 ghost use Rattle.std.specs.Prelude.{◌≡◌, IsTrue, ◌↔◌};
-ghost use Rattle.asn.specs.Place.{part};
+ghost use Rattle.asn.specs.Place.{seen_tlv};
 ghost use Rattle.asn.specs.Members.{left};
 ghost use Rattle.asn.specs.Walk.{Gives};
 ghost use Rattle.asn.specs.Judgement.{outermost as asn_outermost};
@@ -83,7 +83,7 @@ impl<'a> TbsCertificate<'a> {
     #[tactic(auto, unfolding(crate::specs::Certificate::tbs_certificate))]
     fn read(alloc: Global, value: Tlv<'a>) -> Result<TbsCertificate<'a>, CertFault>
         requires { value.tag ≡ 48 }
-        ensures { GivesUnlessFull seen_tbs result (tbs_certificate (part value.entry)) }
+        ensures { GivesUnlessFull seen_tbs result (tbs_certificate (seen_tlv value.entry)) }
     {
         let mut members = value.members();
         let head = TbsHead::take(&mut members)?;
@@ -117,7 +117,7 @@ fn take_same_algorithm(
 /// signatureValue BIT STRING, whose bits must be whole octets
 #[tactic(auto, unfolding(crate::specs::Certificate::signature_value, asn::specs::Walk::check_that))]
 fn signature_at(value: Tlv<'_>) -> Result<&[u8], Refusal>
-    ensures { Gives (λ octets. octets.now) result (signature_value (part value.entry)) }
+    ensures { Gives (λ octets. octets.now) result (signature_value (seen_tlv value.entry)) }
 {
     if is_of_whole_octets(value.body) {
         Ok(bits_of(value.body))
@@ -136,7 +136,7 @@ fn take_signature<'a>(members: &mut Cursor<'a>) -> Result<&'a [u8], Refusal>
 /// Certificate ::= SEQUENCE { tbsCertificate TBSCertificate, signatureAlgorithm AlgorithmIdentifier, signatureValue BIT STRING }
 #[tactic(auto, unfolding(crate::specs::Certificate::certificate_at))]
 fn read_certificate<'a>(alloc: Global, value: Tlv<'a>) -> Result<Certificate<'a>, CertFault>
-    ensures { GivesUnlessFull seen_certificate result (certificate_at (part value.entry)) }
+    ensures { GivesUnlessFull seen_certificate result (certificate_at (seen_tlv value.entry)) }
 {
     value.is_a(0x30, CertRule::Layout)?;
     let mut members = value.members();
@@ -162,7 +162,7 @@ fn read_certificate<'a>(alloc: Global, value: Tlv<'a>) -> Result<Certificate<'a>
 
 /// The one value that the octets are the encoding of, with its fault as one of a certificate.
 fn outermost(octets: &[u8]) -> Result<Tlv<'_>, Refusal>
-    ensures { Gives part result (as_der (asn_outermost octets.now)) }
+    ensures { Gives seen_tlv result (as_der (asn_outermost octets.now)) }
 {
     match Tlv::outermost(octets) {
         Ok(value) => Ok(value),
@@ -185,7 +185,7 @@ impl<'a> Certificate<'a> {
 
     /// As `read`, of a value in the text handed to `asn::whole`, with faults at their offsets in that text.
     pub fn at(alloc: Global, value: Tlv<'a>) -> Result<Certificate<'a>, CertFault>
-        ensures { GivesUnlessFull seen_certificate result (certificate_at (part value.entry)) }
+        ensures { GivesUnlessFull seen_certificate result (certificate_at (seen_tlv value.entry)) }
     {
         read_certificate(alloc, value)
     }

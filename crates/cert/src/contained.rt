@@ -1,6 +1,6 @@
 //! The value that the OCTET STRING of an extension holds (RFC 5280, 4.2).
 
-ghost use Rattle.asn.specs.Place.{part};
+ghost use Rattle.asn.specs.Place.{seen_tlv};
 ghost use Rattle.asn.specs.Walk.{Gives};
 ghost use Rattle.asn.specs.Judgement.{nested};
 ghost use Rattle.cert.specs.Fault.{as_der};
@@ -11,7 +11,7 @@ use asn::Tlv;
 /// The one value that the contents are the encoding of; else the first fault in them, as `Der`, with its offset in the text
 /// handed to `asn::whole`.
 pub(crate) fn contained_value(octet_string: Tlv<'_>) -> Result<Tlv<'_>, Refusal>
-    ensures { Gives part result (as_der (nested (part octet_string.entry))) }
+    ensures { Gives seen_tlv result (as_der (nested (seen_tlv octet_string.entry))) }
 {
     match octet_string.nested() {
         Ok(value) => Ok(value),

@@ -1,6 +1,6 @@
 //! Extensions (RFC 5280, 4.2).
 
-ghost use Rattle.asn.specs.Place.{part};
+ghost use Rattle.asn.specs.Place.{seen_tlv};
 ghost use Rattle.asn.specs.Walk.{Gives};
 ghost use Rattle.cert.specs.Extension.{extension, seen_extension};
 
@@ -23,7 +23,7 @@ impl<'a> Extension<'a> {
     /// not looked at.
     #[tactic(auto, unfolding(crate::specs::Extension::extension))]
     pub fn read<F: Copy>(value: Tlv<'a>, layout: F) -> Result<Extension<'a>, (F, usize)>
-        ensures { Gives seen_extension result (extension layout (part value.entry)) }
+        ensures { Gives seen_extension result (extension layout (seen_tlv value.entry)) }
     {
         value.is_a(0x30, layout)?;
         let mut members = value.members();

@@ -2,7 +2,7 @@
 
 ghost use Rattle.std.specs.Prelude.{◌≡◌, OnErr, OnOk, Err};
 ghost use Rattle.cert.specs.declared.fault.CertFault.TheVariants.{Memory};
-ghost use Rattle.asn.specs.Place.{part};
+ghost use Rattle.asn.specs.Place.{seen_tlv};
 ghost use Rattle.asn.specs.Members.{left};
 ghost use Rattle.asn.specs.Oid.{oid_contents};
 ghost use Rattle.asn.specs.Walk.{each};
@@ -69,7 +69,7 @@ impl<'a> Extensions<'a> {
         kind: ExtensionKind,
         octet_string: Tlv<'a>,
     ) -> Result<(), CertFault>
-        ensures { GivesUnlessFull (λ _. seen_extensions self.new) result (told_by kind (part octet_string.entry) (seen_extensions self.old)) }
+        ensures { GivesUnlessFull (λ _. seen_extensions self.new) result (told_by kind (seen_tlv octet_string.entry) (seen_extensions self.old)) }
     {
         match kind {
             ExtensionKind::KeyUsage => self.key_usage = Some(KeyUsage::read(octet_string)?),
@@ -114,7 +114,7 @@ impl<'a> Taken<'a> {
     /// Takes one more extension, which must be of a type that none of the earlier ones has.
     #[tactic(auto, unfolding(crate::specs::Extensions::one_extension, asn::specs::Walk::check_that))]
     fn take(&mut self, alloc: Global, value: Tlv<'a>) -> Result<(), CertFault>
-        ensures { GivesUnlessFull (λ _. seen_taken self.new) result (one_extension (seen_taken self.old) (part value.entry)) }
+        ensures { GivesUnlessFull (λ _. seen_taken self.new) result (one_extension (seen_taken self.old) (seen_tlv value.entry)) }
     {
         let extension = Extension::read(value, CertRule::Layout)?;
         if !self.types.insert(extension.oid.contents())? {
@@ -152,7 +152,7 @@ impl<'a> Extensions<'a> {
     #[tactic(auto, unfolding(crate::specs::Extensions::extensions))]
     pub(crate) fn read(alloc: Global, value: Tlv<'a>) -> Result<Extensions<'a>, CertFault>
         requires { value.tag ≡ 48 }
-        ensures { GivesUnlessFull seen_extensions result (extensions (part value.entry)) }
+        ensures { GivesUnlessFull seen_extensions result (extensions (seen_tlv value.entry)) }
     {
         let members = value.members();
         members.some(CertRule::Layout)?;

@@ -6,7 +6,7 @@ ghost use Rattle.cert.specs.declared.fault.CertFault.TheVariants.{Memory, Refuse
 ghost use Rattle.cert.specs.declared.fault.CertRule.TheVariants.{Name};
 
 use asn::Rule;
-use names::NameFault;
+use names::NameRule;
 use std::alloc::{AllocError, AllocFailed};
 use thiserror::Error;
 
@@ -18,7 +18,7 @@ pub enum CertRule {
     Der(Rule),
     /// A name, a general name or the base of a subtree is none.
     #[error("{0}")]
-    Name(NameFault),
+    Name(NameRule),
     /// A value with an identifier that the layout does not have there, a value that is missing, or one left over.
     #[error("value that the layout does not have there")]
     Layout,
@@ -58,7 +58,7 @@ pub enum CertRule {
 pub type Refusal = (CertRule, usize);
 
 /// A fault in a name, as one of a certificate.
-pub(crate) fn name_refusal(refusal: (NameFault, usize)) -> Refusal
+pub(crate) fn name_refusal(refusal: (NameRule, usize)) -> Refusal
     ensures { result ≡ (Name refusal.0, refusal.1) }
 {
     let (fault, at) = refusal;

@@ -1,7 +1,7 @@
 //! Public keys of subjects (RFC 5280, 4.1.2.7).
 
 ghost use Rattle.std.specs.Prelude.{◌≡◌};
-ghost use Rattle.asn.specs.Place.{part};
+ghost use Rattle.asn.specs.Place.{seen_tlv};
 ghost use Rattle.asn.specs.Walk.{Gives};
 ghost use Rattle.cert.specs.SubjectPublicKeyInfo.{key_info, seen_key_info};
 
@@ -24,7 +24,7 @@ impl<'a> SubjectPublicKeyInfo<'a> {
     /// the value where one is missing. How many bits are unused is not looked at.
     #[tactic(auto, unfolding(crate::specs::SubjectPublicKeyInfo::key_info))]
     pub fn read(value: Tlv<'a>) -> Result<SubjectPublicKeyInfo<'a>, Refusal>
-        ensures { Gives seen_key_info result (key_info (part value.entry)) }
+        ensures { Gives seen_key_info result (key_info (seen_tlv value.entry)) }
     {
         value.is_a(0x30, CertRule::Layout)?;
         let mut members = value.members();

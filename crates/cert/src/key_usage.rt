@@ -1,7 +1,7 @@
 //! keyUsage: what the key of a certificate may be used for (RFC 5280, 4.2.1.3).
 
 ghost use Rattle.std.specs.Prelude.{◌≡◌};
-ghost use Rattle.asn.specs.Place.{part};
+ghost use Rattle.asn.specs.Place.{seen_tlv};
 ghost use Rattle.asn.specs.Walk.{Gives};
 ghost use Rattle.cert.specs.KeyUsage.{has_bit, key_usage, seen_key_usage};
 
@@ -23,7 +23,7 @@ impl<'a> KeyUsage<'a> {
     /// that is no BIT STRING. Bits may be zero to the last one, and there may be none.
     #[tactic(auto, unfolding(crate::specs::KeyUsage::key_usage))]
     pub fn read(octet_string: Tlv<'a>) -> Result<KeyUsage<'a>, Refusal>
-        ensures { Gives seen_key_usage result (key_usage (part octet_string.entry)) }
+        ensures { Gives seen_key_usage result (key_usage (seen_tlv octet_string.entry)) }
     {
         let value = contained_value(octet_string)?;
         value.is_a(0x03, CertRule::ExtensionValue)?;

@@ -22,7 +22,7 @@ pub struct NameConstraints<'a> {
 }
 
 impl<'a> NameConstraints<'a> {
-    ghost use Rattle.asn.specs.Place.{part};
+    ghost use Rattle.asn.specs.Place.{seen_tlv};
     ghost use Rattle.cert.specs.Fault.{GivesUnlessFull};
     ghost use Rattle.cert.specs.NameConstraints.{name_constraints, seen_name_constraints};
 
@@ -33,7 +33,7 @@ impl<'a> NameConstraints<'a> {
     /// missing.
     #[tactic(auto, unfolding(crate::specs::NameConstraints::name_constraints))]
     pub fn read(alloc: Global, octet_string: Tlv<'a>) -> Result<NameConstraints<'a>, CertFault>
-        ensures { GivesUnlessFull seen_name_constraints result (name_constraints (part octet_string.entry)) }
+        ensures { GivesUnlessFull seen_name_constraints result (name_constraints (seen_tlv octet_string.entry)) }
     {
         let value = contained_value(octet_string)?;
         value.is_a(0x30, CertRule::ExtensionValue)?;

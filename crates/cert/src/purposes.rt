@@ -1,7 +1,7 @@
 //! extKeyUsage: the purposes that a certificate is for (RFC 5280, 4.2.1.12).
 
 ghost use Rattle.std.specs.Prelude.{[], map};
-ghost use Rattle.asn.specs.Place.{part};
+ghost use Rattle.asn.specs.Place.{seen_tlv};
 ghost use Rattle.asn.specs.Members.{left};
 ghost use Rattle.asn.specs.Walk.{each};
 ghost use Rattle.asn.specs.Oid.{oid_contents};
@@ -17,7 +17,7 @@ use std::alloc::Global;
 #[tactic(auto, unfolding(crate::specs::Purposes::one_more_purpose))]
 fn push_purpose<'a>(all: &mut Vec<Oid<'a>>, value: Tlv<'a>) -> Result<(), CertFault>
     ensures { GivesUnlessFull (λ _. map oid_contents all.new.items) result
-        (one_more_purpose (map oid_contents all.old.items) (part value.entry)) }
+        (one_more_purpose (map oid_contents all.old.items) (seen_tlv value.entry)) }
 {
     value.is_a(0x06, CertRule::ExtensionValue)?;
     all.push(Oid::new(value.body))?;
@@ -51,7 +51,7 @@ pub(crate) fn read_purposes<'a>(
     alloc: Global,
     octet_string: Tlv<'a>,
 ) -> Result<Vec<Oid<'a>>, CertFault>
-    ensures { GivesUnlessFull (λ all. map oid_contents all.items) result (purposes (part octet_string.entry)) }
+    ensures { GivesUnlessFull (λ all. map oid_contents all.items) result (purposes (seen_tlv octet_string.entry)) }
 {
     let value = contained_value(octet_string)?;
     value.is_a(0x30, CertRule::ExtensionValue)?;

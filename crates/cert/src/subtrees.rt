@@ -1,7 +1,7 @@
 //! The subtrees of nameConstraints (RFC 5280, 4.2.1.10).
 
 ghost use Rattle.std.specs.Prelude.{◌≤◌, [], IfOk, map, vec_len};
-ghost use Rattle.asn.specs.Place.{part};
+ghost use Rattle.asn.specs.Place.{seen_tlv};
 ghost use Rattle.asn.specs.Members.{left};
 ghost use Rattle.asn.specs.Walk.{Gives, each};
 ghost use Rattle.names.specs.GeneralLayout.{base};
@@ -48,7 +48,7 @@ fn push_subtree<'a>(
     value: Tlv<'a>,
 ) -> Result<(), CertFault>
     ensures walk { GivesUnlessFull (λ _. map subtree_base all.new.items) result
-        (one_more_subtree most (map subtree_base all.old.items) (part value.entry)) }
+        (one_more_subtree most (map subtree_base all.old.items) (seen_tlv value.entry)) }
     ensures served { vec_len all.old ≤ most → vec_len all.new ≤ most }
 {
     value.is_a(0x30, CertRule::ExtensionValue)?;

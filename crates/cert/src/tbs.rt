@@ -1,7 +1,7 @@
 //! The signed part of a certificate (RFC 5280, 4.1.2).
 
 ghost use Rattle.std.specs.Prelude.{◌≡◌};
-ghost use Rattle.asn.specs.Place.{part};
+ghost use Rattle.asn.specs.Place.{seen_tlv};
 ghost use Rattle.asn.specs.Members.{left};
 ghost use Rattle.asn.specs.Walk.{Gives};
 ghost use Rattle.names.specs.GeneralView.{name_contents};
@@ -46,7 +46,7 @@ pub fn is_serial_number(contents: &[u8]) -> bool
 /// CertificateSerialNumber ::= INTEGER, here of 1 to 32 octets and of any sign
 #[tactic(auto, unfolding(crate::specs::TbsCertificate::serial_number, asn::specs::Walk::check_that))]
 fn serial_at(value: Tlv<'_>) -> Result<&[u8], Refusal>
-    ensures { Gives (λ contents. contents.now) result (serial_number (part value.entry)) }
+    ensures { Gives (λ contents. contents.now) result (serial_number (seen_tlv value.entry)) }
 {
     if is_serial_number(value.body) {
         Ok(value.body)
@@ -58,7 +58,7 @@ fn serial_at(value: Tlv<'_>) -> Result<&[u8], Refusal>
 /// The name that stands there, with its fault as one of a certificate.
 #[tactic(auto, unfolding(crate::specs::TbsCertificate::distinguished_name))]
 fn name_at(value: Tlv<'_>) -> Result<Name<'_>, Refusal>
-    ensures { Gives name_contents result (distinguished_name (part value.entry)) }
+    ensures { Gives name_contents result (distinguished_name (seen_tlv value.entry)) }
 {
     Name::at(value).map_err(name_refusal)
 }
@@ -66,7 +66,7 @@ fn name_at(value: Tlv<'_>) -> Result<Name<'_>, Refusal>
 /// The issuer, whose name is not empty.
 #[tactic(auto, unfolding(crate::specs::TbsCertificate::issuer, asn::specs::Walk::check_that))]
 fn issuer_at(value: Tlv<'_>) -> Result<Name<'_>, Refusal>
-    ensures { Gives name_contents result (issuer (part value.entry)) }
+    ensures { Gives name_contents result (issuer (seen_tlv value.entry)) }
 {
     let issuer = name_at(value)?;
     if issuer.is_empty() {

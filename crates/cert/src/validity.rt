@@ -1,6 +1,6 @@
 //! The times from which and until which a certificate holds (RFC 5280, 4.1.2.5).
 
-ghost use Rattle.asn.specs.Place.{part};
+ghost use Rattle.asn.specs.Place.{seen_tlv};
 ghost use Rattle.asn.specs.Walk.{Gives};
 ghost use Rattle.cert.specs.Validity.{validity, seen_validity};
 
@@ -20,7 +20,7 @@ impl Validity {
     /// is not looked at.
     #[tactic(auto, unfolding(crate::specs::Validity::validity))]
     pub fn read(value: Tlv<'_>) -> Result<Validity, Refusal>
-        ensures { Gives seen_validity result (validity (part value.entry)) }
+        ensures { Gives seen_validity result (validity (seen_tlv value.entry)) }
     {
         value.is_a(0x30, CertRule::Layout)?;
         let mut members = value.members();

@@ -7,7 +7,7 @@ use crate::building::{
 use crate::holds;
 use asn::Rule;
 use cert::{CertFault, CertRule, Certificate, Version};
-use names::{Form, NameFault};
+use names::{Form, NameRule};
 use std::alloc::{AllocError, Global};
 use std::test::Fail;
 
@@ -129,28 +129,28 @@ const REFUSED: &[(&str, usize, &[u8], CertRule, usize)] = &[
         "an RDN that is a SEQUENCE",
         ISSUER,
         b"\x30\x02\x30\x00",
-        CertRule::Name(NameFault::NameLayout),
+        CertRule::Name(NameRule::NameLayout),
         20,
     ),
     (
         "an RDN with two common names",
         ISSUER,
         b"\x30\x14\x31\x12\x30\x07\x06\x03\x55\x04\x03\x0C\x00\x30\x07\x06\x03\x55\x04\x03\x13\x00",
-        CertRule::Name(NameFault::RdnRepeat),
+        CertRule::Name(NameRule::RdnRepeat),
         31,
     ),
     (
         "an RDN out of order",
         ISSUER,
         b"\x30\x14\x31\x12\x30\x07\x06\x03\x55\x04\x06\x13\x00\x30\x07\x06\x03\x55\x04\x03\x13\x00",
-        CertRule::Name(NameFault::SetOrder),
+        CertRule::Name(NameRule::SetOrder),
         31,
     ),
     (
         "a PrintableString with an octet above 127",
         ISSUER,
         b"\x30\x0C\x31\x0A\x30\x08\x06\x03\x55\x04\x03\x13\x01\x80",
-        CertRule::Name(NameFault::Text),
+        CertRule::Name(NameRule::Text),
         29,
     ),
     (
@@ -185,7 +185,7 @@ const REFUSED: &[(&str, usize, &[u8], CertRule, usize)] = &[
         "a subject with an RDN that is a SEQUENCE",
         SUBJECT,
         b"\x30\x02\x30\x00",
-        CertRule::Name(NameFault::NameLayout),
+        CertRule::Name(NameRule::NameLayout),
         66,
     ),
     ("a NULL for the key", KEY, b"\x05\x00", CertRule::Layout, 78),
@@ -347,14 +347,14 @@ const REFUSED: &[(&str, usize, &[u8], CertRule, usize)] = &[
         "subjectAltName with an empty label",
         TAIL,
         b"\xA3\x13\x30\x11\x30\x0F\x06\x03\x55\x1D\x11\x04\x08\x30\x06\x82\x04\x61\x2E\x2E\x62",
-        CertRule::Name(NameFault::DnsForm),
+        CertRule::Name(NameRule::DnsForm),
         105,
     ),
     (
         "subjectAltName with an address of 5 octets",
         TAIL,
         b"\xA3\x14\x30\x12\x30\x10\x06\x03\x55\x1D\x11\x04\x09\x30\x07\x87\x05\x0A\x00\x00\x00\x01",
-        CertRule::Name(NameFault::IpForm),
+        CertRule::Name(NameRule::IpForm),
         105,
     ),
     (
@@ -375,7 +375,7 @@ const REFUSED: &[(&str, usize, &[u8], CertRule, usize)] = &[
         "nameConstraints with a mask of 255.0.255.0",
         TAIL,
         b"\xA3\x1B\x30\x19\x30\x17\x06\x03\x55\x1D\x1E\x04\x10\x30\x0E\xA0\x0C\x30\x0A\x87\x08\x0A\x00\x00\x00\xFF\x00\xFF\x00",
-        CertRule::Name(NameFault::MaskForm),
+        CertRule::Name(NameRule::MaskForm),
         109,
     ),
     (

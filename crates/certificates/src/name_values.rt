@@ -4,7 +4,7 @@ use crate::building::{is_refused_in, push_value, with_extension};
 use crate::values::octet_string;
 use asn::Rule;
 use cert::{CertFault, CertRule, Certificate, NameConstraints};
-use names::{Form, General, NameFault, Subtree};
+use names::{Form, General, NameRule, Subtree};
 use std::alloc::{AllocError, Global};
 use std::test::Fail;
 
@@ -45,44 +45,44 @@ fn alternative_names_are_read_in_order(rt: HostRuntime) -> Result<(), Fail> {
 const REFUSED_ALTERNATIVE_NAMES: &[(&[u8], CertRule, usize, &str)] = &[
     (
         b"\x04\x08\x30\x06\x82\x04a..b",
-        CertRule::Name(NameFault::DnsForm),
+        CertRule::Name(NameRule::DnsForm),
         4,
         "an empty label",
     ),
     (
         b"\x04\x09\x30\x07\x87\x05\x01\x02\x03\x04\x05",
-        CertRule::Name(NameFault::IpForm),
+        CertRule::Name(NameRule::IpForm),
         4,
         "an address of 5 octets",
     ),
     (b"\x04\x02\x30\x00", CertRule::ExtensionValue, 4, "none"),
     (
         b"\x04\x04\x30\x02\x05\x00",
-        CertRule::Name(NameFault::NameLayout),
+        CertRule::Name(NameRule::NameLayout),
         4,
         "NULL",
     ),
     (
         b"\x04\x04\x30\x02\x84\x00",
-        CertRule::Name(NameFault::NameLayout),
+        CertRule::Name(NameRule::NameLayout),
         4,
         "a primitive directoryName",
     ),
     (
         b"\x04\x07\x30\x05\x86\x01x\x05\x00",
-        CertRule::Name(NameFault::NameLayout),
+        CertRule::Name(NameRule::NameLayout),
         7,
         "NULL behind a name",
     ),
     (
         b"\x04\x06\x30\x04\xA4\x02\x05\x00",
-        CertRule::Name(NameFault::NameLayout),
+        CertRule::Name(NameRule::NameLayout),
         6,
         "NULL in a directoryName",
     ),
     (
         b"\x04\x0C\x30\x0A\x82\x04a..b\x87\x02\x01\x02",
-        CertRule::Name(NameFault::DnsForm),
+        CertRule::Name(NameRule::DnsForm),
         4,
         "two faults",
     ),
@@ -107,13 +107,13 @@ const REFUSED_ALTERNATIVE_NAMES: &[(&[u8], CertRule, usize, &str)] = &[
     ),
     (
         b"\x30\x0C\x05\x00\x04\x08\x30\x06\x82\x04a..b",
-        CertRule::Name(NameFault::DnsForm),
+        CertRule::Name(NameRule::DnsForm),
         8,
         "an empty label, further in",
     ),
     (
         b"\x30\x0A\x05\x00\x04\x06\x30\x04\xA4\x02\x05\x00",
-        CertRule::Name(NameFault::NameLayout),
+        CertRule::Name(NameRule::NameLayout),
         10,
         "NULL in a directoryName, further in",
     ),
@@ -162,13 +162,13 @@ const COUNTS_OF_NAMES: &[(usize, &[u8], Option<(CertRule, usize)>, &str)] = &[
     (
         4096,
         b"\x05\x00",
-        Some((CertRule::Name(NameFault::NameLayout), 12_296)),
+        Some((CertRule::Name(NameRule::NameLayout), 12_296)),
         "a wrong identifier before the limit",
     ),
     (
         4095,
         b"\x82\x04a..b",
-        Some((CertRule::Name(NameFault::DnsForm), 12_293)),
+        Some((CertRule::Name(NameRule::DnsForm), 12_293)),
         "a fault in the 4,096th",
     ),
 ];
@@ -288,43 +288,43 @@ const REFUSED_NAME_CONSTRAINTS: &[(&[u8], CertRule, usize, &str)] = &[
     ),
     (
         b"\x04\x08\x30\x06\xA0\x04\x30\x02\x05\x00",
-        CertRule::Name(NameFault::NameLayout),
+        CertRule::Name(NameRule::NameLayout),
         8,
         "NULL for the base",
     ),
     (
         b"\x04\x09\x30\x07\xA0\x05\x30\x03\x80\x01\x00",
-        CertRule::Name(NameFault::NameLayout),
+        CertRule::Name(NameRule::NameLayout),
         8,
         "a minimum for the base",
     ),
     (
         b"\x04\x0F\x30\x0D\xA0\x0B\x30\x09\x87\x07\x0A\x00\x00\xFF\x00\x00\x00",
-        CertRule::Name(NameFault::IpForm),
+        CertRule::Name(NameRule::IpForm),
         8,
         "an address base of 7 octets",
     ),
     (
         b"\x04\x10\x30\x0E\xA0\x0C\x30\x0A\x87\x08\x0A\x00\x00\x00\xFF\x00\xFF\x00",
-        CertRule::Name(NameFault::MaskForm),
+        CertRule::Name(NameRule::MaskForm),
         8,
         "a mask with a hole",
     ),
     (
         b"\x04\x09\x30\x07\xA0\x05\x30\x03\x82\x01.",
-        CertRule::Name(NameFault::DnsForm),
+        CertRule::Name(NameRule::DnsForm),
         8,
         "a dot",
     ),
     (
         b"\x04\x0C\x30\x0A\xA0\x08\x30\x06\x82\x01.\x80\x01\x00",
-        CertRule::Name(NameFault::DnsForm),
+        CertRule::Name(NameRule::DnsForm),
         8,
         "a dot and a minimum",
     ),
     (
         b"\x04\x0A\x30\x08\xA0\x06\x30\x04\xA4\x02\x05\x00",
-        CertRule::Name(NameFault::NameLayout),
+        CertRule::Name(NameRule::NameLayout),
         10,
         "NULL in a directory base",
     ),

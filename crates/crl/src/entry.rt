@@ -1,6 +1,6 @@
 //! Entries of a list (RFC 5280, 5.1.2.6).
 
-ghost use Rattle.asn.specs.Place.{part};
+ghost use Rattle.asn.specs.Place.{seen_tlv};
 ghost use Rattle.asn.specs.Walk.{Gives};
 ghost use Rattle.crl.specs.Entry.{entry, entry_again, seen_entry};
 ghost use Rattle.revocation.specs.Fault.{GivesUnlessFull};
@@ -25,7 +25,7 @@ impl<'a> Entry<'a> {
     /// The entry that the value is, or the first fault.
     #[tactic(auto, unfolding(crate::specs::Entry::entry))]
     pub(crate) fn read(alloc: Global, value: Tlv<'a>) -> Result<Entry<'a>, StatementFault>
-        ensures { GivesUnlessFull seen_entry result (entry (part value.entry)) }
+        ensures { GivesUnlessFull seen_entry result (entry (seen_tlv value.entry)) }
     {
         value.is_a(0x30, StatementRule::Layout)?;
         let mut members = value.members();
@@ -43,7 +43,7 @@ impl<'a> Entry<'a> {
     /// The same of an entry that was read once, without memory.
     #[tactic(auto, unfolding(crate::specs::Entry::entry_again))]
     pub(crate) fn again(value: Tlv<'a>) -> Result<Entry<'a>, Refusal>
-        ensures { Gives seen_entry result (entry_again (part value.entry)) }
+        ensures { Gives seen_entry result (entry_again (seen_tlv value.entry)) }
     {
         value.is_a(0x30, StatementRule::Layout)?;
         let mut members = value.members();

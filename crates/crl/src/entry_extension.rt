@@ -1,7 +1,7 @@
 //! The extensions of an entry (RFC 5280, 5.3).
 
 ghost use Rattle.std.specs.Prelude.{◌≡◌, IfSome};
-ghost use Rattle.asn.specs.Place.{part};
+ghost use Rattle.asn.specs.Place.{seen_tlv};
 ghost use Rattle.asn.specs.Members.{left};
 ghost use Rattle.asn.specs.Oid.{oid_contents};
 ghost use Rattle.asn.specs.Walk.{Gives, seen, each};
@@ -100,7 +100,7 @@ impl<'a> TakenOfEntry<'a> {
     /// Takes one more extension, which must be of a type that none of the earlier ones has.
     #[tactic(auto, unfolding(crate::specs::EntryExtension::one_extension))]
     fn take(&mut self, value: Tlv<'a>) -> Result<(), StatementFault>
-        ensures { GivesUnlessFull (λ _. seen_taken self.new) result (one_extension (seen_taken self.old) (part value.entry)) }
+        ensures { GivesUnlessFull (λ _. seen_taken self.new) result (one_extension (seen_taken self.old) (seen_tlv value.entry)) }
     {
         let extension = new_extension(&mut self.types, value)?;
         self.reason = tell_reason(extension, self.reason)?;
@@ -144,7 +144,7 @@ pub(crate) fn take_reason(alloc: Global, members: &mut Cursor<'_>) -> Result<u8,
 /// The reason once one more extension was read, of an entry that was read once.
 #[tactic(auto, unfolding(crate::specs::EntryExtension::reason_after))]
 fn reason_with(before: u8, value: Tlv<'_>) -> u8
-    ensures { result ≡ reason_after before (part value.entry) }
+    ensures { result ≡ reason_after before (seen_tlv value.entry) }
 {
     match Extension::read(value, StatementRule::Layout) {
         Ok(extension) => tell_reason(extension, before).unwrap_or(before),
@@ -155,7 +155,7 @@ fn reason_with(before: u8, value: Tlv<'_>) -> u8
 /// The number of the reason in the extensions of an entry that was read once. It takes no memory.
 pub(crate) fn reason_in_list(list: Option<Tlv<'_>>) -> u8
     requires { IfSome list (λ list. list.tag ≡ 48) }
-    ensures { result ≡ reason_given (seen part list.entry) }
+    ensures { result ≡ reason_given (seen seen_tlv list.entry) }
 {
     let Some(list) = list else {
         return 0;

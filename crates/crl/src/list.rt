@@ -1,7 +1,7 @@
 //! Certificate revocation lists (RFC 5280, 5.1).
 
 ghost use Rattle.std.specs.Prelude.{◌≡◌, ◌==◌, Some};
-ghost use Rattle.asn.specs.Place.{part};
+ghost use Rattle.asn.specs.Place.{seen_tlv};
 ghost use Rattle.asn.specs.Members.{left};
 ghost use Rattle.asn.specs.Walk.{Gives};
 ghost use Rattle.crl.specs.CertificateList.{certificate_list, certificate_list_at, list_head, seen_head, seen_list, seen_tbs, tbs_cert_list, version_2};
@@ -98,7 +98,7 @@ impl<'a> TbsCertList<'a> {
     #[tactic(auto, unfolding(crate::specs::CertificateList::tbs_cert_list))]
     fn read(alloc: Global, value: Tlv<'a>) -> Result<TbsCertList<'a>, StatementFault>
         requires { value.tag ≡ 48 }
-        ensures { GivesUnlessFull seen_tbs result (tbs_cert_list (part value.entry)) }
+        ensures { GivesUnlessFull seen_tbs result (tbs_cert_list (seen_tlv value.entry)) }
     {
         let mut members = value.members();
         let head = ListHead::take(&mut members)?;
@@ -116,7 +116,7 @@ impl<'a> TbsCertList<'a> {
 /// CertificateList ::= SEQUENCE { tbsCertList TBSCertList, signatureAlgorithm AlgorithmIdentifier, signatureValue BIT STRING }
 #[tactic(auto, unfolding(crate::specs::CertificateList::certificate_list_at))]
 fn read_list<'a>(alloc: Global, value: Tlv<'a>) -> Result<Crl<'a>, StatementFault>
-    ensures { GivesUnlessFull seen_list result (certificate_list_at (part value.entry)) }
+    ensures { GivesUnlessFull seen_list result (certificate_list_at (seen_tlv value.entry)) }
 {
     value.is_a(0x30, StatementRule::Layout)?;
     let mut members = value.members();

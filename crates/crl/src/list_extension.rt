@@ -1,7 +1,7 @@
 //! The extensions of a list (RFC 5280, 5.2).
 
 ghost use Rattle.std.specs.Prelude.{◌≡◌};
-ghost use Rattle.asn.specs.Place.{part};
+ghost use Rattle.asn.specs.Place.{seen_tlv};
 ghost use Rattle.asn.specs.Members.{left, members};
 ghost use Rattle.asn.specs.Oid.{oid_contents};
 ghost use Rattle.asn.specs.Walk.{Gives, each};
@@ -94,7 +94,7 @@ impl<'a> TakenOfList<'a> {
     /// Takes one more extension, which must be of a type that none of the earlier ones has.
     #[tactic(auto, unfolding(crate::specs::ListExtension::one_extension))]
     fn take(&mut self, value: Tlv<'a>) -> Result<(), StatementFault>
-        ensures { GivesUnlessFull (λ _. seen_taken self.new) result (one_extension (seen_taken self.old) (part value.entry)) }
+        ensures { GivesUnlessFull (λ _. seen_taken self.new) result (one_extension (seen_taken self.old) (seen_tlv value.entry)) }
     {
         let extension = new_extension(&mut self.types, value)?;
         self.said = self.said.with(extension)?;
@@ -132,9 +132,9 @@ pub(crate) struct Named<'a> {
 }
 
 /// The offset of the end of the value.
-#[tactic(auto, unfolding(asn::specs::Members::members_at, asn::specs::Place::inside, asn::specs::Part::contents))]
+#[tactic(auto, unfolding(asn::specs::Members::members_at, asn::specs::Place::body_place, asn::specs::Part::contents))]
 fn end_of(list: Tlv<'_>) -> usize
-    ensures { result ≡ (members (part list.entry)).end }
+    ensures { result ≡ (members (seen_tlv list.entry)).end }
 {
     list.body_at() + list.body.len()
 }
@@ -144,7 +144,7 @@ impl<'a> Named<'a> {
     #[tactic(auto, unfolding(crate::specs::ListExtension::extensions))]
     fn read(alloc: Global, list: Tlv<'a>) -> Result<Named<'a>, StatementFault>
         requires { list.tag ≡ 48 }
-        ensures { GivesUnlessFull seen_named result (extensions (part list.entry)) }
+        ensures { GivesUnlessFull seen_named result (extensions (seen_tlv list.entry)) }
     {
         let members = list.members();
         members.some(StatementRule::Layout)?;

@@ -1,6 +1,6 @@
 //! The parts that lists alone are made of.
 
-ghost use Rattle.asn.specs.Place.{part};
+ghost use Rattle.asn.specs.Place.{seen_tlv};
 ghost use Rattle.asn.specs.Members.{left};
 ghost use Rattle.asn.specs.Walk.{Gives};
 ghost use Rattle.names.specs.GeneralView.{name_contents};
@@ -16,7 +16,7 @@ use revocation::{Refusal, StatementRule, name_at};
 /// The issuer, whose name is not empty.
 #[tactic(auto, unfolding(crate::specs::Parts::issuer, asn::specs::Walk::check_that))]
 fn issuer_at(value: Tlv<'_>) -> Result<Name<'_>, Refusal>
-    ensures { Gives name_contents result (issuer (part value.entry)) }
+    ensures { Gives name_contents result (issuer (seen_tlv value.entry)) }
 {
     let issuer = name_at(value)?;
     if issuer.is_empty() {

@@ -5,12 +5,12 @@ use Rattle.std.specs.List.{AllByRecursion}
 use Rattle.std.proofs.lemmas.Bool.{both_ways, eqb-true, or_parts, and_from, and_parts, cases_lt, lt-ltb, le-ltb, not-true, false_from_ne_true}
 use Rattle.std.proofs.lemmas.Slice.Eq.{bytes_eq-Decides}
 use Rattle.asn.specs.Length.{header_len, contents_len, end_of}
-use Rattle.asn.specs.Place.{Place, tag, body, inside, ends, front, behind, parts, values}
+use Rattle.asn.specs.Place.{Place, tag, body, body_place, ends, front, behind, parts, values}
 use Rattle.asn.specs.Members.{Members, members, members_at, with_first}
 use Rattle.asn.specs.Walk.{◌>>=◌, each, check_that}
 use Rattle.asn.proofs.Laws.{bind_ok, check_ok, each_next}
-use Rattle.distinguished_names.specs.declared.fault.NameFault.{NameFault}
-use Rattle.distinguished_names.specs.declared.fault.NameFault.TheVariants.{RdnRepeat, SetOrder, Text}
+use Rattle.distinguished_names.specs.declared.fault.NameRule.{NameRule}
+use Rattle.distinguished_names.specs.declared.fault.NameRule.TheVariants.{RdnRepeat, SetOrder, Text}
 use Rattle.distinguished_names.specs.AttributeValue.{ComparedValue}
 use Rattle.distinguished_names.specs.DistinguishedName.{Entry, value_at}
 use Rattle.distinguished_names.specs.NameLayout.{AttributePlaces, attribute_members, attribute_order, attribute, has_kind, has_kind_in, has_kind_before, is_less, is_string}
@@ -48,7 +48,7 @@ parts_upward (suc most) text = first_upward text (parts most (behind text)) (end
 
 members_upward : (place : Place) → (at : ℕ) × Upward at (members place).values
 unfolding members_at values
-members_upward place = (_, parts_upward _ (inside place))
+members_upward place = (_, parts_upward _ (body_place place))
 
 -- what reading says of each attribute
 abbrev IsChecked : List Place → Place → Type 0
@@ -92,7 +92,7 @@ before_apart kind at (d ∷ ds) others p below lt e =
 
 entry_kind : (place : Place) (fields : AttributePlaces) → attribute_members place ≡ Ok fields → (entry_at place).0 ≡ body fields.kind
 unfolding entry_at
-entry_kind place fields e = ap (λ (r : Result AttributePlaces (NameFault × ℕ)). (entry_in r).0) e
+entry_kind place fields e = ap (λ (r : Result AttributePlaces (NameRule × ℕ)). (entry_in r).0) e
 
 has_kind_itself : (kind : List ℕ) (place : Place) (fields : AttributePlaces) → attribute_members place ≡ Ok fields → body fields.kind ≡ kind → has_kind kind place ≡ true
 unfolding has_kind

@@ -9,8 +9,8 @@ use Rattle.asn.specs.Place.{Place, tag, body}
 use Rattle.asn.specs.Members.{Members, members}
 use Rattle.asn.specs.Walk.{Leads}
 use Rattle.asn.proofs.Laws.{bind_ok, ok_is, is_a_ok, is_a_again, required_ok, required_again, next_or_ok, next_or_again, ended_ok, ended_again, some_ok, some_again, check_ok, check_again, each_ok, each_again, members_before}
-use Rattle.distinguished_names.specs.declared.fault.NameFault.{NameFault}
-use Rattle.distinguished_names.specs.declared.fault.NameFault.TheVariants.{NameLayout, RdnRepeat, SetOrder, Text}
+use Rattle.distinguished_names.specs.declared.fault.NameRule.{NameRule}
+use Rattle.distinguished_names.specs.declared.fault.NameRule.TheVariants.{NameLayout, RdnRepeat, SetOrder, Text}
 use Rattle.distinguished_names.specs.NameLayout.{AttributePlaces, attribute_members, has_kind, has_kind_before, is_less, is_string, attribute_order, attribute, attributes, rdn, one_more_rdn, name}
 use Rattle.distinguished_names.specs.NameForms.{IsStringOf, IsAttributeAt, HaveOtherTypes, IsRdnAt, IsName, NameIsExact}
 use Rattle.distinguished_names.proofs.Strings.{all_ascii, ascii_all}
@@ -57,7 +57,7 @@ members_ok place parts e =
     let first = required_ok _ _ _ _ kind.1 in
     let second = next_or_ok _ _ _ value.1 in
     let end = ended_ok _ _ _ done.1 in
-    subst (HoldsMembers place) (ok_is {E = NameFault × ℕ} _ parts done.2) record {
+    subst (HoldsMembers place) (ok_is {E = NameRule × ℕ} _ parts done.2) record {
       sequence = is_a_ok _ _ _ _ sequence.1;
       members_are = first.values ∙ ap (◌∷◌ kind.0.0) (second.values ∙ ap (◌∷◌ value.0.0) end);
       identifier = first.tag_is;
@@ -133,7 +133,7 @@ next_ok all before place octets e =
       };
       new = is_not _ (check_ok _ _ _ _ new.1);
       order = is_not _ (check_ok _ _ _ _ new.2);
-      octets_are = ok_is {E = NameFault × ℕ} _ octets string.2;
+      octets_are = ok_is {E = NameRule × ℕ} _ octets string.2;
     }
 
 next_again : (all : List Place) (before : List ℕ) (place : Place) (octets : List ℕ) → IsNext all before place octets → attribute all before place ≡ Ok octets

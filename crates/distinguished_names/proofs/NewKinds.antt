@@ -5,14 +5,14 @@ use Rattle.std.specs.List.{AllByRecursion}
 use Rattle.std.proofs.lemmas.Bool.{both_ways, eq-eqb}
 use Rattle.std.proofs.lemmas.Slice.Eq.{bytes_eq-Decides}
 use Rattle.asn.specs.Identifier.{is_constructed}
-use Rattle.asn.specs.Place.{Place, body, remaining, part, Splits}
+use Rattle.asn.specs.Place.{Place, body, remaining, seen_tlv, Splits}
 use Rattle.asn.specs.Members.{Members, members, left, with_first, next_in, next_at, none_in, none_left}
 use Rattle.asn.specs.Walk.{◌>>=◌, is_a, required, next_or, ended}
 use Rattle.asn.specs.declared.tlv.Cursor.{Cursor}
 use Rattle.asn.specs.declared.tlv.Tlv.{Tlv}
 use Rattle.asn.proofs.Laws.{bind_ok, ok_is, is_a_ok, required_ok}
-use Rattle.distinguished_names.specs.declared.fault.NameFault.{NameFault}
-use Rattle.distinguished_names.specs.declared.fault.NameFault.TheVariants.{NameLayout}
+use Rattle.distinguished_names.specs.declared.fault.NameRule.{NameRule}
+use Rattle.distinguished_names.specs.declared.fault.NameRule.TheVariants.{NameLayout}
 use Rattle.distinguished_names.specs.NameLayout.{AttributePlaces, attribute_members, has_kind, has_kind_in, has_kind_before}
 use Rattle.distinguished_names.specs.Repetition.{Placed, kind_at, first_body, placed_at, kinds_left, IsNew, AreNew, IsRest}
 
@@ -27,11 +27,11 @@ kind_of_members place parts e =
     let c = bind_ok (required 6 NameLayout (members place)) (λ kind. next_or NameLayout kind.1 >>= λ value. ended NameLayout value.1 >>= λ done. Ok (record { kind = kind.0; value = value.0 })) parts b.2 in
     let d = bind_ok (next_or NameLayout c.0.1) (λ value. ended NameLayout value.1 >>= λ done. Ok (record { kind = c.0.0; value = value.0 })) parts c.2 in
     let f = bind_ok (ended NameLayout d.0.1) (λ done. Ok (record { kind = c.0.0; value = d.0.0 })) parts d.2 in
-    let same : record { kind = c.0.0; value = d.0.0 } ≡ parts = ok_is {E = NameFault × ℕ} (record { kind = c.0.0; value = d.0.0 }) parts f.2 in
+    let same : record { kind = c.0.0; value = d.0.0 } ≡ parts = ok_is {E = NameRule × ℕ} (record { kind = c.0.0; value = d.0.0 }) parts f.2 in
     ap (λ (t : ℕ). if is_constructed t then first_body (members place).values else []) (is_a_ok 0x30 NameLayout place b.0 b.1)
     ∙ (ap first_body (required_ok 6 NameLayout (members place) c.0 c.1).values ∙ same_kind c.0.0 d.0.0 parts same)
 
-has_kind_by : (kind : List ℕ) (place : Place) (r : Result AttributePlaces (NameFault × ℕ)) → attribute_members place ≡ r → has_kind_in kind r ≡ true → kind_at place ≡ kind
+has_kind_by : (kind : List ℕ) (place : Place) (r : Result AttributePlaces (NameRule × ℕ)) → attribute_members place ≡ r → has_kind_in kind r ≡ true → kind_at place ≡ kind
 has_kind_by kind place (Ok parts) e h = kind_of_members place parts e ∙ (bytes_eq-Decides (body parts.kind) kind).0 h
 has_kind_by kind place (Err fault) e h = absurd cc
 
@@ -74,7 +74,7 @@ unfolding kinds_left none_left
 none_left_new all limit rest e = all_new_in all limit (left rest).values e
 
 -- one attribute is taken
-pub kinds_step : (old new : Cursor) (tlv : Tlv) → left old ≡ with_first (part tlv) (left new) → kinds_left old ≡ placed_at (part tlv) ∷ kinds_left new
+pub kinds_step : (old new : Cursor) (tlv : Tlv) → left old ≡ with_first (seen_tlv tlv) (left new) → kinds_left old ≡ placed_at (seen_tlv tlv) ∷ kinds_left new
 unfolding kinds_left
 kinds_step old new tlv step = ap (λ (m : Members). map placed_at m.values) step
 
@@ -89,13 +89,13 @@ rest_more all rest others x at next h is lt up = record {
   below = below_more h.earlier x at next h.below lt up;
 }
 
-pub rest_step : (all : List Placed) (old new : Cursor) (tlv : Tlv) → IsRest all (kinds_left old) (remaining old).at → left old ≡ with_first (part tlv) (left new)
-    → Splits (remaining old) (part tlv) (remaining new) → IsRest all (kinds_left new) (remaining new).at
+pub rest_step : (all : List Placed) (old new : Cursor) (tlv : Tlv) → IsRest all (kinds_left old) (remaining old).at → left old ≡ with_first (seen_tlv tlv) (left new)
+    → Splits (remaining old) (seen_tlv tlv) (remaining new) → IsRest all (kinds_left new) (remaining new).at
 rest_step all old new tlv h step splits =
     let here = splits.value_at in
     let there = splits.rest_at in
     let some = splits.some in
-    rest_more all (kinds_left old) (kinds_left new) (placed_at (part tlv)) (remaining old).at (remaining new).at h (kinds_step old new tlv step) (omega arith) (omega arith)
+    rest_more all (kinds_left old) (kinds_left new) (placed_at (seen_tlv tlv)) (remaining old).at (remaining new).at h (kinds_step old new tlv step) (omega arith) (omega arith)
 
 pub rest_begins : (all : List Placed) (at : ℕ) → IsRest all all at
 rest_begins all at = record { earlier = []; joined = refl; below = tt }
@@ -105,15 +105,15 @@ nothing_new all [] = tt
 nothing_new all (x ∷ xs) = λ below. absurd (omega arith)
 
 -- what is known of the first attribute, and of those behind it
-pub new_first : (all : Cursor) (old new : Cursor) (tlv : Tlv) (clear : ℕ) → left old ≡ with_first (part tlv) (left new) → AreNew (kinds_left all) clear (kinds_left old)
-    → tlv.at < clear → has_kind_before (kind_at (part tlv)) tlv.at (left all).values ≡ false
+pub new_first : (all : Cursor) (old new : Cursor) (tlv : Tlv) (clear : ℕ) → left old ≡ with_first (seen_tlv tlv) (left new) → AreNew (kinds_left all) clear (kinds_left old)
+    → tlv.at < clear → has_kind_before (kind_at (seen_tlv tlv)) tlv.at (left all).values ≡ false
 unfolding kinds_left
 new_first all old new tlv clear step are below =
-    let here : AreNew (kinds_left all) clear (placed_at (part tlv) ∷ kinds_left new) = subst (AreNew (kinds_left all) clear) (kinds_step old new tlv step) are in
-    is_new (kind_at (part tlv)) tlv.at (left all).values (here below).0
+    let here : AreNew (kinds_left all) clear (placed_at (seen_tlv tlv) ∷ kinds_left new) = subst (AreNew (kinds_left all) clear) (kinds_step old new tlv step) are in
+    is_new (kind_at (seen_tlv tlv)) tlv.at (left all).values (here below).0
 
-pub new_others : (all : Cursor) (old new : Cursor) (tlv : Tlv) (clear : ℕ) → left old ≡ with_first (part tlv) (left new) → AreNew (kinds_left all) clear (kinds_left old)
+pub new_others : (all : Cursor) (old new : Cursor) (tlv : Tlv) (clear : ℕ) → left old ≡ with_first (seen_tlv tlv) (left new) → AreNew (kinds_left all) clear (kinds_left old)
     → tlv.at < clear → AreNew (kinds_left all) clear (kinds_left new)
 new_others all old new tlv clear step are below =
-    let here : AreNew (kinds_left all) clear (placed_at (part tlv) ∷ kinds_left new) = subst (AreNew (kinds_left all) clear) (kinds_step old new tlv step) are in
+    let here : AreNew (kinds_left all) clear (placed_at (seen_tlv tlv) ∷ kinds_left new) = subst (AreNew (kinds_left all) clear) (kinds_step old new tlv step) are in
     (here below).1

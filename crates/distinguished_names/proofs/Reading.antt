@@ -5,8 +5,8 @@ use Rattle.asn.specs.Place.{Place, tag, body}
 use Rattle.asn.specs.Members.{Members, members, with_first}
 use Rattle.asn.specs.Walk.{◌>>=◌, each, is_a, some, check_that}
 use Rattle.asn.proofs.Laws.{bind_ok, is_a_ok, each_next}
-use Rattle.distinguished_names.specs.declared.fault.NameFault.{NameFault}
-use Rattle.distinguished_names.specs.declared.fault.NameFault.TheVariants.{NameLayout, Text}
+use Rattle.distinguished_names.specs.declared.fault.NameRule.{NameRule}
+use Rattle.distinguished_names.specs.declared.fault.NameRule.TheVariants.{NameLayout, Text}
 use Rattle.distinguished_names.specs.NameLayout.{attribute_members, attribute_order, is_string, attribute, attributes, rdn, one_more_rdn, name}
 use Rattle.distinguished_names.specs.NameParts.{IsAttribute, AreAttributes, IsRdn, AreRdns}
 use Rattle.distinguished_names.proofs.Distinct.{set_distinct}
@@ -54,5 +54,5 @@ first_rdn old new place e are =
     let all : AreRdns (place ∷ new.values) = subst (λ (m : Members). AreRdns m.values) e are in
     (all.0, all.1)
 
-pub no_fault : (place : Place) (fault : NameFault × ℕ) → attribute_members place ≡ Err fault → IsAttribute place → ⊥
+pub no_fault : (place : Place) (fault : NameRule × ℕ) → attribute_members place ≡ Err fault → IsAttribute place → ⊥
 no_fault place fault e (parts, read) = let both : Err fault ≡ Ok parts = sym e ∙ read in cc

@@ -6,8 +6,8 @@ use Rattle.asn.specs.Place.{Place, tag, body, remaining, values}
 use Rattle.asn.specs.Members.{members, members_at}
 use Rattle.asn.specs.Walk.{◌>>=◌, is_a, required, next_or, ended}
 use Rattle.asn.proofs.Laws.{bind_ok, ok_is, required_ok, next_or_ok, values_count, values_short, members_count, members_short, body_short}
-use Rattle.distinguished_names.specs.declared.fault.NameFault.{NameFault}
-use Rattle.distinguished_names.specs.declared.fault.NameFault.TheVariants.{NameLayout}
+use Rattle.distinguished_names.specs.declared.fault.NameRule.{NameRule}
+use Rattle.distinguished_names.specs.declared.fault.NameRule.TheVariants.{NameLayout}
 use Rattle.distinguished_names.specs.declared.rdn_sequence.RdnSequence.{RdnSequence}
 use Rattle.distinguished_names.specs.AttributeValue.{is_text}
 use Rattle.distinguished_names.specs.NameLayout.{AttributePlaces, attribute_members}
@@ -34,7 +34,7 @@ parts_short place parts e =
     let v = bind_ok (next_or NameLayout k.0.1) (λ value. ended NameLayout value.1 >>= λ done. Ok (record { kind = k.0.0; value = value.0 })) parts k.2 in
     let d = bind_ok (ended NameLayout v.0.1) (λ done. Ok (record { kind = k.0.0; value = v.0.0 })) parts v.2 in
     let made : AttributePlaces = record { kind = k.0.0; value = v.0.0 } in
-    let same : made ≡ parts = ok_is {E = NameFault × ℕ} made parts d.2 in
+    let same : made ≡ parts = ok_is {E = NameRule × ℕ} made parts d.2 in
     let takes = required_ok 6 NameLayout (members place) k.0 k.1 in
     let h = heads (length place.octets) ((members place).values) k.0.1.values v.0.1.values k.0.0 v.0.0 takes.values (next_or_ok NameLayout k.0.1 v.0 v.1).values (members_short place) in
     (rw (← same) h.0, rw (← same) h.1)
@@ -46,7 +46,7 @@ entry_fits parts kind value =
     let p = prepared_short (body parts.value) in
     record { type_fits = omega arith; value_fits = value_fits (is_text (tag parts.value)) _ _ (omega arith) (omega arith) }
 
-read_fits : (place : Place) (r : Result AttributePlaces (NameFault × ℕ)) → attribute_members place ≡ r → length place.octets < 2 ^ 31 → EntryFits (entry_in r)
+read_fits : (place : Place) (r : Result AttributePlaces (NameRule × ℕ)) → attribute_members place ≡ r → length place.octets < 2 ^ 31 → EntryFits (entry_in r)
 read_fits place (Err fault) e short = record { type_fits = lit< tt; value_fits = lit< tt }
 read_fits place (Ok parts) e short =
     let s = parts_short place parts e in

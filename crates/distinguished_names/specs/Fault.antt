@@ -1,9 +1,9 @@
 -- The numbers and names of faults.
 use Rattle.std.specs.Prelude.{ℕ, List, codes}
-use Rattle.distinguished_names.specs.declared.fault.NameFault.{NameFault}
-use Rattle.distinguished_names.specs.declared.fault.NameFault.TheVariants.{NameLayout, RdnRepeat, SetOrder, Text, DnsForm, IpForm, MaskForm}
+use Rattle.distinguished_names.specs.declared.fault.NameRule.{NameRule}
+use Rattle.distinguished_names.specs.declared.fault.NameRule.TheVariants.{NameLayout, RdnRepeat, SetOrder, Text, DnsForm, IpForm, MaskForm}
 
-abbrev pub fault_number : NameFault → ℕ
+abbrev pub fault_number : NameRule → ℕ
 fault_number NameLayout = 11
 fault_number RdnRepeat = 12
 fault_number SetOrder = 13
@@ -12,7 +12,7 @@ fault_number DnsForm = 15
 fault_number IpForm = 16
 fault_number MaskForm = 17
 
-abbrev pub fault_name : NameFault → List ℕ
+abbrev pub fault_name : NameRule → List ℕ
 fault_name NameLayout = codes "NameLayout"
 fault_name RdnRepeat = codes "RdnRepeat"
 fault_name SetOrder = codes "SetOrder"

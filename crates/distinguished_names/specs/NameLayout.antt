@@ -8,8 +8,8 @@ use Rattle.std.specs.Cmp.Lexicographic.{slice_cmp}
 use Rattle.asn.specs.Place.{Place, tag, body}
 use Rattle.asn.specs.Members.{members}
 use Rattle.asn.specs.Walk.{◌>>=◌, is_a, required, next_or, ended, some, check_that, each}
-use Rattle.distinguished_names.specs.declared.fault.NameFault.{NameFault}
-use Rattle.distinguished_names.specs.declared.fault.NameFault.TheVariants.{NameLayout, RdnRepeat, SetOrder, Text}
+use Rattle.distinguished_names.specs.declared.fault.NameRule.{NameRule}
+use Rattle.distinguished_names.specs.declared.fault.NameRule.TheVariants.{NameLayout, RdnRepeat, SetOrder, Text}
 
 -- where the type and the value of an attribute stand
 pub record AttributePlaces : Type 0 where
@@ -17,7 +17,7 @@ pub record AttributePlaces : Type 0 where
   pub value : Place
 
 -- AttributeTypeAndValue ::= SEQUENCE { type OBJECT IDENTIFIER, value ANY }
-unfoldable pub attribute_members : Place → Result AttributePlaces (NameFault × ℕ)
+unfoldable pub attribute_members : Place → Result AttributePlaces (NameRule × ℕ)
 attribute_members place = do
   sequence ← is_a 0x30 NameLayout place
   kind ← required 6 NameLayout (members place)
@@ -26,7 +26,7 @@ attribute_members place = do
   Ok (record { kind = kind.0; value = value.0 })
 
 -- the attribute at this place has the type
-abbrev pub has_kind_in : List ℕ → Result AttributePlaces (NameFault × ℕ) → Bool
+abbrev pub has_kind_in : List ℕ → Result AttributePlaces (NameRule × ℕ) → Bool
 has_kind_in kind (Ok attribute) = bytes_eq (body attribute.kind) kind
 has_kind_in kind (Err fault) = false
 
@@ -51,13 +51,13 @@ is_string identifier contents =
 
 -- an attribute of this type stands in its order: no earlier one has the type, and its octets are not less than those of the
 -- one before
-unfoldable pub attribute_order : List Place → List ℕ → List ℕ → Place → Result (Unit {0}) (NameFault × ℕ)
+unfoldable pub attribute_order : List Place → List ℕ → List ℕ → Place → Result (Unit {0}) (NameRule × ℕ)
 attribute_order all before kind place = do
   new ← check_that (not (has_kind_before kind place.at all)) RdnRepeat place.at
   check_that (not (is_less place.octets before)) SetOrder place.at
 
 -- an attribute of an RDN, behind one with those octets (none for the first), and its own octets
-unfoldable pub attribute : List Place → List ℕ → Place → Result (List ℕ) (NameFault × ℕ)
+unfoldable pub attribute : List Place → List ℕ → Place → Result (List ℕ) (NameRule × ℕ)
 attribute all before place = do
   parts ← attribute_members place
   ordered ← attribute_order all before (body parts.kind) place
@@ -65,22 +65,22 @@ attribute all before place = do
   Ok place.octets
 
 -- the attributes of an RDN, in order
-unfoldable pub attributes : List Place → Result (Unit {0}) (NameFault × ℕ)
+unfoldable pub attributes : List Place → Result (Unit {0}) (NameRule × ℕ)
 attributes all = each (attribute all) [] all >>= λ last. Ok tt
 
 -- RelativeDistinguishedName ::= SET SIZE (1..MAX) OF AttributeTypeAndValue
-unfoldable pub rdn : Place → Result (Unit {0}) (NameFault × ℕ)
+unfoldable pub rdn : Place → Result (Unit {0}) (NameRule × ℕ)
 rdn place = do
   set ← is_a 0x31 NameLayout place
   one ← some NameLayout (members place)
   attributes ((members place).values)
 
 -- a walk over RDNs
-abbrev pub one_more_rdn : Unit {0} → Place → Result (Unit {0}) (NameFault × ℕ)
+abbrev pub one_more_rdn : Unit {0} → Place → Result (Unit {0}) (NameRule × ℕ)
 one_more_rdn earlier place = rdn place
 
 -- Name ::= CHOICE { rdnSequence SEQUENCE OF RelativeDistinguishedName }
-unfoldable pub name : Place → Result (Unit {0}) (NameFault × ℕ)
+unfoldable pub name : Place → Result (Unit {0}) (NameRule × ℕ)
 name place = do
   sequence ← is_a 0x30 NameLayout place
   each one_more_rdn tt ((members place).values)

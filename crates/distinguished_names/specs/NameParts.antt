@@ -3,7 +3,7 @@ use Rattle.std.specs.Prelude.{◌≡◌, ℕ, List, [], ◌∷◌, map, Result, 
 use Rattle.asn.specs.Identifier.{is_constructed}
 use Rattle.asn.specs.Place.{Place, tag, body}
 use Rattle.asn.specs.Members.{members}
-use Rattle.distinguished_names.specs.declared.fault.NameFault.{NameFault}
+use Rattle.distinguished_names.specs.declared.fault.NameRule.{NameRule}
 use Rattle.distinguished_names.specs.AttributeValue.{compared, Other}
 use Rattle.distinguished_names.specs.DistinguishedName.{Entry, RdnMap, rdn_map, value_at}
 use Rattle.distinguished_names.specs.NameLayout.{AttributePlaces, attribute_members}
@@ -20,7 +20,7 @@ AreAttributes (place ∷ places) = IsAttribute place × AreAttributes places
 abbrev pub entry_of_parts : AttributePlaces → Entry
 entry_of_parts parts = (body parts.kind, compared (tag parts.value) (body parts.value))
 
-abbrev pub entry_in : Result AttributePlaces (NameFault × ℕ) → Entry
+abbrev pub entry_in : Result AttributePlaces (NameRule × ℕ) → Entry
 entry_in (Ok parts) = entry_of_parts parts
 entry_in (Err fault) = ([], Other [])
 

@@ -4,7 +4,7 @@ ghost use Rattle.std.specs.Prelude.{◌≡◌, ◌↔◌, ◌<◌, ℕ, List, Is
 ghost use Rattle.std.specs.List.{list_all};
 ghost use Rattle.std.specs.Str.{is_utf8};
 ghost use Rattle.std.specs.Char.{is_ascii};
-ghost use Rattle.asn.specs.Place.{part};
+ghost use Rattle.asn.specs.Place.{seen_tlv};
 ghost use Rattle.asn.specs.Members.{left};
 ghost use Rattle.asn.specs.Walk.{Gives};
 ghost use Rattle.distinguished_names.specs.AttributeValue.{compared_value, is_text};
@@ -14,7 +14,7 @@ ghost use Rattle.distinguished_names.specs.NameParts.{entry_of_parts};
 ghost use Rattle.distinguished_names.specs.NameView.{entry_of};
 ghost use Rattle.distinguished_names.specs.Repetition.{kind_at};
 
-use crate::fault::{NameFault, Refusal};
+use crate::fault::{NameRule, Refusal};
 use asn::{Cursor, Tlv};
 use preparation::same_prepared;
 
@@ -47,13 +47,13 @@ impl<'a> AttributeMembers<'a> {
     #[inline(always)]
     #[tactic(auto, unfolding(crate::specs::NameLayout::attribute_members))]
     pub(crate) fn read(attribute: Tlv<'a>) -> Result<AttributeMembers<'a>, Refusal>
-        ensures { Gives seen_members result (attribute_members (part attribute.entry)) }
+        ensures { Gives seen_members result (attribute_members (seen_tlv attribute.entry)) }
     {
-        attribute.is_a(0x30, NameFault::NameLayout)?;
+        attribute.is_a(0x30, NameRule::NameLayout)?;
         let mut members = attribute.members();
-        let kind = members.required(0x06, NameFault::NameLayout)?;
-        let value = members.next_or(NameFault::NameLayout)?;
-        members.ended(NameFault::NameLayout)?;
+        let kind = members.required(0x06, NameRule::NameLayout)?;
+        let value = members.next_or(NameRule::NameLayout)?;
+        members.ended(NameRule::NameLayout)?;
         Ok(AttributeMembers { kind, value })
     }
 
@@ -72,7 +72,7 @@ impl<'a> AttributeMembers<'a> {
 /// Whether the attribute has the type.
 #[tactic(auto, unfolding(crate::specs::NameLayout::has_kind))]
 fn is_of_kind(attribute: Tlv<'_>, kind: &[u8]) -> bool
-    ensures { result ≡ has_kind kind.now (part attribute.entry) }
+    ensures { result ≡ has_kind kind.now (seen_tlv attribute.entry) }
 {
     match AttributeMembers::read(attribute) {
         Ok(members) => members.kind.body == kind,
@@ -148,13 +148,13 @@ fn check_order(
     tlv: Tlv<'_>,
 ) -> Result<(), Refusal>
     requires { tlv.at < clear → has_kind_before kind.now tlv.at (left all).values ≡ false }
-    ensures { Gives (λ _. tt) result (attribute_order ((left all.entry).values) before.now kind.now (part tlv.entry)) }
+    ensures { Gives (λ _. tt) result (attribute_order ((left all.entry).values) before.now kind.now (seen_tlv tlv.entry)) }
 {
     if repeats_unless_clear(all, clear, tlv.at, kind) {
-        return Err((NameFault::RdnRepeat, tlv.at));
+        return Err((NameRule::RdnRepeat, tlv.at));
     }
     if is_before(tlv.whole, before) {
-        return Err((NameFault::SetOrder, tlv.at));
+        return Err((NameRule::SetOrder, tlv.at));
     }
     Ok(())
 }
@@ -175,15 +175,15 @@ pub(crate) fn read_attribute<'a>(
     before: &[u8],
     tlv: Tlv<'a>,
 ) -> Result<&'a [u8], Refusal>
-    requires { tlv.at < clear → has_kind_before (kind_at (part tlv)) tlv.at (left all).values ≡ false }
-    ensures { Gives (λ octets. octets.now) result (attribute ((left all.entry).values) before.now (part tlv.entry)) }
+    requires { tlv.at < clear → has_kind_before (kind_at (seen_tlv tlv)) tlv.at (left all).values ≡ false }
+    ensures { Gives (λ octets. octets.now) result (attribute ((left all.entry).values) before.now (seen_tlv tlv.entry)) }
 {
     let members = AttributeMembers::read(tlv)?;
     check_order(all, clear, before, members.kind.body, tlv)?;
     if is_well_formed_text(members.value.tag, members.value.body) {
         Ok(tlv.whole)
     } else {
-        Err((NameFault::Text, members.value.at))
+        Err((NameRule::Text, members.value.at))
     }
 }
 

@@ -7,7 +7,7 @@ use thiserror::Error;
 
 /// What is wrong with a name, a general name or the base of a subtree.
 #[derive(Clone, Copy, Debug, PartialEq, Eq, Error)]
-pub enum NameFault {
+pub enum NameRule {
     /// A value with another identifier octet, a value that is missing, or one that is left over.
     #[error("not the layout of a name")]
     NameLayout,
@@ -32,21 +32,21 @@ pub enum NameFault {
 }
 
 /// What was refused, and the offset of the value, counted from the first octet of the value that was handed in.
-pub type Refusal = (NameFault, usize);
+pub type Refusal = (NameRule, usize);
 
-impl NameFault {
+impl NameRule {
     /// The number by which the product names the fault, from 11 to 17.
     pub fn number(self) -> u8
         ensures { result ≡ fault_number self }
     {
         match self {
-            NameFault::NameLayout => 11,
-            NameFault::RdnRepeat => 12,
-            NameFault::SetOrder => 13,
-            NameFault::Text => 14,
-            NameFault::DnsForm => 15,
-            NameFault::IpForm => 16,
-            NameFault::MaskForm => 17,
+            NameRule::NameLayout => 11,
+            NameRule::RdnRepeat => 12,
+            NameRule::SetOrder => 13,
+            NameRule::Text => 14,
+            NameRule::DnsForm => 15,
+            NameRule::IpForm => 16,
+            NameRule::MaskForm => 17,
         }
     }
 
@@ -55,13 +55,13 @@ impl NameFault {
         ensures { result.now ≡ fault_name self }
     {
         match self {
-            NameFault::NameLayout => "NameLayout",
-            NameFault::RdnRepeat => "RdnRepeat",
-            NameFault::SetOrder => "SetOrder",
-            NameFault::Text => "Text",
-            NameFault::DnsForm => "DnsForm",
-            NameFault::IpForm => "IpForm",
-            NameFault::MaskForm => "MaskForm",
+            NameRule::NameLayout => "NameLayout",
+            NameRule::RdnRepeat => "RdnRepeat",
+            NameRule::SetOrder => "SetOrder",
+            NameRule::Text => "Text",
+            NameRule::DnsForm => "DnsForm",
+            NameRule::IpForm => "IpForm",
+            NameRule::MaskForm => "MaskForm",
         }
     }
 }

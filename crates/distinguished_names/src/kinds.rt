@@ -1,7 +1,7 @@
 //! The types of the attributes of an RDN, in order.
 
 ghost use Rattle.std.specs.Prelude.{◌≡◌, ◌∷◌, [], MatchOption};
-ghost use Rattle.asn.specs.Place.{part};
+ghost use Rattle.asn.specs.Place.{seen_tlv};
 ghost use Rattle.asn.specs.Members.{left};
 ghost use Rattle.distinguished_names.specs.Repetition.{comes_before, first_body, kind_at, kinds_of};
 
@@ -44,7 +44,7 @@ fn first_body<'a>(members: Cursor<'a>) -> &'a [u8]
 
 #[tactic(auto, unfolding(crate::specs::Repetition::kind_at))]
 fn kind_of<'a>(attribute: Tlv<'a>) -> &'a [u8]
-    ensures { result.now ≡ kind_at (part attribute.entry) }
+    ensures { result.now ≡ kind_at (seen_tlv attribute.entry) }
 {
     match attribute.inside() {
         Some(members) => first_body(members),

@@ -1,7 +1,7 @@
 //! Distinguished names (X.501, 9.2; RFC 5280, 4.1.2.4): read from octets, compared and turned into keys.
 
 ghost use Rattle.std.specs.Prelude.{◌≡◌, ◌↔◌, ◌<◌, ℕ, [], length, IsTrue, IfOk, OnOk};
-ghost use Rattle.asn.specs.Place.{part, remaining};
+ghost use Rattle.asn.specs.Place.{seen_tlv, remaining};
 ghost use Rattle.asn.specs.Length.{contents_limit};
 ghost use Rattle.asn.specs.Members.{left, members, octets_of_each};
 ghost use Rattle.asn.specs.Walk.{Gives, each};
@@ -15,7 +15,7 @@ ghost use Rattle.distinguished_names.specs.NameComparison.{NameIsComparedByLayou
 ghost use Rattle.distinguished_names.specs.Repetition.{kinds_left, AreNew, IsRest};
 
 use crate::attribute::read_attribute;
-use crate::fault::{NameFault, Refusal};
+use crate::fault::{NameRule, Refusal};
 use crate::kinds::Kinds;
 use crate::rdn_sequence::RdnSequence;
 use crate::repetition::new_until;
@@ -67,11 +67,11 @@ fn read_attributes(all: Cursor<'_>) -> Result<(), Refusal>
 /// RelativeDistinguishedName ::= SET SIZE (1..MAX) OF AttributeTypeAndValue
 #[tactic(auto, unfolding(crate::specs::NameLayout::rdn))]
 fn read_rdn(tlv: Tlv<'_>) -> Result<(), Refusal>
-    ensures { Gives (λ _. tt) result (rdn (part tlv.entry)) }
+    ensures { Gives (λ _. tt) result (rdn (seen_tlv tlv.entry)) }
 {
-    tlv.is_a(0x31, NameFault::NameLayout)?;
+    tlv.is_a(0x31, NameRule::NameLayout)?;
     let attributes = tlv.members();
-    attributes.some(NameFault::NameLayout)?;
+    attributes.some(NameRule::NameLayout)?;
     read_attributes(attributes)
 }
 
@@ -89,11 +89,11 @@ fn read_rdns(rdns: Cursor<'_>) -> Result<(), Refusal>
 /// Name ::= CHOICE { rdnSequence SEQUENCE OF RelativeDistinguishedName }
 #[tactic(auto, unfolding(crate::specs::NameLayout::name))]
 fn read_name(tlv: Tlv<'_>) -> Result<Cursor<'_>, Refusal>
-    ensures walk { Gives (λ _. tt) result (name (part tlv.entry)) }
-    ensures rdns { IfOk result (λ rdns. left rdns ≡ members (part tlv.entry)) }
+    ensures walk { Gives (λ _. tt) result (name (seen_tlv tlv.entry)) }
+    ensures rdns { IfOk result (λ rdns. left rdns ≡ members (seen_tlv tlv.entry)) }
     ensures short { IfOk result (λ rdns. length (remaining rdns).octets < contents_limit) }
 {
-    tlv.is_a(0x30, NameFault::NameLayout)?;
+    tlv.is_a(0x30, NameRule::NameLayout)?;
     let rdns = tlv.members();
     read_rdns(rdns)?;
     Ok(rdns)
@@ -104,9 +104,9 @@ impl<'a> Name<'a> {
 
     /// As `read`, with faults at their offsets in the text handed to `asn::whole`.
     pub fn at(tlv: Tlv<'a>) -> Result<Name<'a>, Refusal>
-        ensures walk { Gives (λ _. tt) result (name (part tlv.entry)) }
+        ensures walk { Gives (λ _. tt) result (name (seen_tlv tlv.entry)) }
         ensures raw { IfOk result (λ found. raw_of found ≡ tlv.entry.whole.now) }
-        ensures rdns { IfOk result (λ found. rdns_of found ≡ rdns_at (part tlv.entry)) }
+        ensures rdns { IfOk result (λ found. rdns_of found ≡ rdns_at (seen_tlv tlv.entry)) }
     {
         let rdns = read_name(tlv)?;
         Ok(Name {

@@ -5,14 +5,14 @@ use Rattle.asn.specs.DerLaws.{AreOctets}
 use Rattle.asn.specs.Rule.{Rule}
 use Rattle.asn.specs.Encoding.{EncodesAt}
 use Rattle.asn.specs.Part.{IsPartOf}
-use Rattle.asn.specs.Place.{Place, tag, body, inside}
+use Rattle.asn.specs.Place.{Place, tag, body, body_place}
 use Rattle.asn.specs.Members.{Members, members, begins, next_at}
 use Rattle.asn.specs.Judgement.{judgement, placed, nested}
 use Rattle.asn.specs.Walk.{check_that, is_a, required, optional, next_or, ended, some, default_false, each}
 use Rattle.asn.proofs.Laws.{IsEncodedPart, contents_stand, judgement_within, nested_ok}
-use Rattle.names.specs.NameFault.{NameFault}
+use Rattle.names.specs.NameRule.{NameRule}
 use Rattle.names.specs.GeneralLayout.{GeneralName, SubtreeBase, form_of_identifier, general, base}
-use Rattle.names.specs.NameFault.TheVariants.{NameLayout}
+use Rattle.names.specs.NameRule.TheVariants.{NameLayout}
 use Rattle.asn.specs.Identifier.{is_constructed}
 use Rattle.cert.specs.declared.fault.CertRule.TheVariants as R
 use Rattle.cert.specs.declared.extension_kind.ExtensionKind.{ExtensionKind}
@@ -35,7 +35,7 @@ pub der_within : {A : Type 0} (text : List ℕ) (P : A → Type 0) (r : Result A
 der_within text P (Ok x) is = is
 der_within text P (Err fault) is = is
 
-pub named_within : {A : Type 0} (text : List ℕ) (P : A → Type 0) (r : Result A (NameFault × ℕ)) → Within text P r → Within text P (as_name r)
+pub named_within : {A : Type 0} (text : List ℕ) (P : A → Type 0) (r : Result A (NameRule × ℕ)) → Within text P r → Within text P (as_name r)
 named_within text P (Ok x) is = is
 named_within text P (Err fault) is = is
 
@@ -45,20 +45,20 @@ room_within text most count at low = check_within text (nat_lt count most) R.Lim
 
 -- the value that the contents of an OCTET STRING are
 nested_within : (text : List ℕ) (value : Place) → AreOctets text → IsEncodedPart text value → Within text (IsEncodedPart text) (as_der (nested value))
-unfolding nested inside Rattle.asn.specs.Part.contents
-nested_within text value octets is = der_within text (IsEncodedPart text) (nested value) (by (judgement (inside value).octets) refl)
+unfolding nested body_place Rattle.asn.specs.Part.contents
+nested_within text value octets is = der_within text (IsEncodedPart text) (nested value) (by (judgement (body_place value).octets) refl)
   where
-    stands : IsPartOf text (inside value).at (inside value).octets
+    stands : IsPartOf text (body_place value).at (body_place value).octets
     stands = contents_stand text value is
 
-    by : (r : Result (Unit {0}) (Rule × ℕ)) → judgement (inside value).octets ≡ r → Within text (IsEncodedPart text) (nested value)
+    by : (r : Result (Unit {0}) (Rule × ℕ)) → judgement (body_place value).octets ≡ r → Within text (IsEncodedPart text) (nested value)
     by (Ok u) e =
-        let read : nested value ≡ Ok (inside value) = ap (λ r. placed r (inside value)) e in
-        let whole = (nested_ok value (inside value) (part_octets text (inside value).at (inside value).octets octets stands) read).1 in
+        let read : nested value ≡ Ok (body_place value) = ap (λ r. placed r (body_place value)) e in
+        let whole = (nested_ok value (body_place value) (part_octets text (body_place value).at (body_place value).octets octets stands) read).1 in
         subst (Within text (IsEncodedPart text)) (sym read) (record { stands = stands; depth = 1; value = whole.0; encodes = whole.1 })
     by (Err fault) e =
-        let low = judgement_within (inside value).octets fault.0 fault.1 e in
-        subst (Within text (IsEncodedPart text)) (sym (ap (λ r. placed r (inside value)) e)) (omega (arith, low, part_ends text (inside value).at (inside value).octets stands))
+        let low = judgement_within (body_place value).octets fault.0 fault.1 e in
+        subst (Within text (IsEncodedPart text)) (sym (ap (λ r. placed r (body_place value)) e)) (omega (arith, low, part_ends text (body_place value).at (body_place value).octets stands))
 
 -- what each kind of value says
 usage_within : (text : List ℕ) (value : Place) → AreOctets text → IsEncodedPart text value → Within text Any (key_usage value)

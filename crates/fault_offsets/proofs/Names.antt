@@ -5,7 +5,7 @@ use Rattle.asn.specs.Place.{Place, tag, body}
 use Rattle.asn.specs.Members.{members}
 use Rattle.asn.specs.Walk.{check_that, is_a, required, next_or, ended, some, each}
 use Rattle.asn.proofs.Laws.{IsEncodedPart}
-use Rattle.names.specs.NameFault.TheVariants.{NameLayout, RdnRepeat, SetOrder, Text, DnsForm, IpForm}
+use Rattle.names.specs.NameRule.TheVariants.{NameLayout, RdnRepeat, SetOrder, Text, DnsForm, IpForm}
 use Rattle.names.specs.NameLayout.{AttributePlaces, attribute_members, has_kind_before, is_less, is_string, attribute_order, attribute, attributes, rdn, one_more_rdn, name}
 use Rattle.names.specs.Bases.{DomainNames, AddressRange, is_dns_name, is_ip_address, names_of_base, range_of_base}
 use Rattle.names.specs.declared.general.Form.{Form}

@@ -3,7 +3,7 @@ use Rattle.std.specs.Prelude.{◌≡◌, ◌≤◌, ℕ, List, length, Err}
 use Rattle.asn.specs.DerLaws.{AreOctets}
 use Rattle.asn.specs.Part.{IsPartOf, IsEncoded}
 use Rattle.asn.specs.Place.{Place}
-use Rattle.names.specs.NameFault.{NameFault}
+use Rattle.names.specs.NameRule.{NameRule}
 use Rattle.names.specs.NameLayout.{name}
 use Rattle.names.specs.GeneralLayout.{general, base}
 use Rattle.cert.specs.declared.fault.CertRule.{CertRule}
@@ -18,16 +18,16 @@ pub record StandsIn (text : List ℕ) (value : Place) : Type 0 where
 -- a name (RFC 5280, 4.1.2.4)
 abbrev pub NameFaultIsWithin : Type 0
 NameFaultIsWithin =
-    (text : List ℕ) (value : Place) (fault : NameFault) (at : ℕ) → StandsIn text value → name value ≡ Err (fault, at) → at ≤ length text
+    (text : List ℕ) (value : Place) (fault : NameRule) (at : ℕ) → StandsIn text value → name value ≡ Err (fault, at) → at ≤ length text
 
 -- a general name (4.2.1.6), and the base of a subtree (4.2.1.10)
 abbrev pub GeneralNameFaultIsWithin : Type 0
 GeneralNameFaultIsWithin =
-    (text : List ℕ) (value : Place) (fault : NameFault) (at : ℕ) → StandsIn text value → general value ≡ Err (fault, at) → at ≤ length text
+    (text : List ℕ) (value : Place) (fault : NameRule) (at : ℕ) → StandsIn text value → general value ≡ Err (fault, at) → at ≤ length text
 
 abbrev pub SubtreeFaultIsWithin : Type 0
 SubtreeFaultIsWithin =
-    (text : List ℕ) (value : Place) (fault : NameFault) (at : ℕ) → StandsIn text value → base value ≡ Err (fault, at) → at ≤ length text
+    (text : List ℕ) (value : Place) (fault : NameRule) (at : ℕ) → StandsIn text value → base value ≡ Err (fault, at) → at ≤ length text
 
 -- a certificate (4.1)
 abbrev pub CertificateFaultIsWithin : Type 0

@@ -7,7 +7,7 @@ use Rattle.asn.specs.Place.{Place, tag, body}
 use Rattle.asn.specs.Members.{members}
 use Rattle.asn.specs.Walk.{◌>>=◌, next_or, ended, check_that}
 use Rattle.asn.proofs.Laws.{bind_ok, ok_is, check_ok, check_again, next_or_ok, next_or_again, ended_ok, ended_again}
-use Rattle.distinguished_names.specs.declared.fault.NameFault.TheVariants.{NameLayout, DnsForm, IpForm}
+use Rattle.distinguished_names.specs.declared.fault.NameRule.TheVariants.{NameLayout, DnsForm, IpForm}
 use Rattle.names.specs.declared.general.Form.{Form}
 use Rattle.names.specs.declared.general.Form.TheVariants as F
 use Rattle.names.specs.declared.ip.IpFault.{IpFault}

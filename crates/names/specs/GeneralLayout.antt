@@ -3,8 +3,8 @@ use Rattle.std.specs.Prelude.{ℕ, ◌==◌, List, Option, Some, None, Result, O
 use Rattle.asn.specs.Place.{Place, tag, body}
 use Rattle.asn.specs.Members.{members}
 use Rattle.asn.specs.Walk.{◌>>=◌, next_or, ended, check_that}
-use Rattle.distinguished_names.specs.declared.fault.NameFault.{NameFault}
-use Rattle.distinguished_names.specs.declared.fault.NameFault.TheVariants.{NameLayout, DnsForm, IpForm, MaskForm}
+use Rattle.distinguished_names.specs.declared.fault.NameRule.{NameRule}
+use Rattle.distinguished_names.specs.declared.fault.NameRule.TheVariants.{NameLayout, DnsForm, IpForm, MaskForm}
 use Rattle.names.specs.declared.general.Form.{Form}
 use Rattle.names.specs.declared.general.Form.TheVariants as F
 use Rattle.names.specs.declared.ip.IpFault.{IpFault}
@@ -51,7 +51,7 @@ form_of_identifier identifier =
     else (if identifier == 0x88 then Some (F.Other 8) else None))))))))
 
 -- directoryName [4] EXPLICIT Name
-unfoldable pub explicit_name : Place → Result NameContents (NameFault × ℕ)
+unfoldable pub explicit_name : Place → Result NameContents (NameRule × ℕ)
 explicit_name value = do
   first ← next_or NameLayout (members value)
   read ← name first.0
@@ -59,46 +59,46 @@ explicit_name value = do
   Ok (contents_at first.0)
 
 -- dNSName [2] IA5String
-unfoldable pub dns_name_at : Place → Result GeneralName (NameFault × ℕ)
+unfoldable pub dns_name_at : Place → Result GeneralName (NameRule × ℕ)
 dns_name_at value = do
   form ← check_that (is_dns_name (body value)) DnsForm value.at
   Ok (dns_name (body value))
 
 -- iPAddress [7] OCTET STRING
-unfoldable pub ip_address_at : Place → Result GeneralName (NameFault × ℕ)
+unfoldable pub ip_address_at : Place → Result GeneralName (NameRule × ℕ)
 ip_address_at value = do
   form ← check_that (is_ip_address (body value)) IpForm value.at
   Ok (ip_address (body value))
 
 -- a general name of this form
-abbrev pub general_of : Option Form → Place → Result GeneralName (NameFault × ℕ)
+abbrev pub general_of : Option Form → Place → Result GeneralName (NameRule × ℕ)
 general_of None value = Err (NameLayout, value.at)
 general_of (Some F.Directory) value = explicit_name value >>= λ contents. Ok (directory_name contents)
 general_of (Some F.Dns) value = dns_name_at value
 general_of (Some F.Ip) value = ip_address_at value
 general_of (Some (F.Other number)) value = Ok (other_name number (body value))
 
-unfoldable pub general : Place → Result GeneralName (NameFault × ℕ)
+unfoldable pub general : Place → Result GeneralName (NameRule × ℕ)
 general value = general_of (form_of_identifier (tag value)) value
 
 -- the bases of constraints on DNS names and on IP addresses
-abbrev pub dns_base_of : ℕ → Option DomainNames → Result SubtreeBase (NameFault × ℕ)
+abbrev pub dns_base_of : ℕ → Option DomainNames → Result SubtreeBase (NameRule × ℕ)
 dns_base_of at None = Err (DnsForm, at)
 dns_base_of at (Some names) = Ok (dns_base names)
 
-unfoldable pub dns_base_at : Place → Result SubtreeBase (NameFault × ℕ)
+unfoldable pub dns_base_at : Place → Result SubtreeBase (NameRule × ℕ)
 dns_base_at value = dns_base_of value.at (names_of_base (body value))
 
-abbrev pub ip_base_of : ℕ → Result AddressRange IpFault → Result SubtreeBase (NameFault × ℕ)
+abbrev pub ip_base_of : ℕ → Result AddressRange IpFault → Result SubtreeBase (NameRule × ℕ)
 ip_base_of at (Ok range) = Ok (ip_base range)
 ip_base_of at (Err I.Length) = Err (IpForm, at)
 ip_base_of at (Err I.Mask) = Err (MaskForm, at)
 
-unfoldable pub ip_base_at : Place → Result SubtreeBase (NameFault × ℕ)
+unfoldable pub ip_base_at : Place → Result SubtreeBase (NameRule × ℕ)
 ip_base_at value = ip_base_of value.at (range_of_base (body value))
 
 -- a base of this form
-abbrev pub base_of : Option Form → Place → Result SubtreeBase (NameFault × ℕ)
+abbrev pub base_of : Option Form → Place → Result SubtreeBase (NameRule × ℕ)
 base_of None value = Err (NameLayout, value.at)
 base_of (Some F.Directory) value = explicit_name value >>= λ contents. Ok (directory_base contents)
 base_of (Some F.Dns) value = dns_base_at value
@@ -106,5 +106,5 @@ base_of (Some F.Ip) value = ip_base_at value
 base_of (Some (F.Other number)) value = Ok (other_base number (body value))
 
 -- the base of a GeneralSubtree
-unfoldable pub base : Place → Result SubtreeBase (NameFault × ℕ)
+unfoldable pub base : Place → Result SubtreeBase (NameRule × ℕ)
 base value = base_of (form_of_identifier (tag value)) value

@@ -17,4 +17,4 @@ pub use Rattle.distinguished_names.specs.DistinguishedName
 pub use Rattle.distinguished_names.specs.NameParts
 pub use Rattle.distinguished_names.specs.NameOctets
 pub use Rattle.distinguished_names.specs.NameKey
-pub use Rattle.distinguished_names.specs.declared.fault.NameFault
+pub use Rattle.distinguished_names.specs.declared.fault.NameRule

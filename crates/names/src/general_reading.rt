@@ -1,7 +1,7 @@
 //! Reading general names, and the bases of subtrees (RFC 5280, 4.2.1.6 and 4.2.1.10).
 
 ghost use Rattle.std.specs.Prelude.{◌≡◌, IfSome};
-ghost use Rattle.asn.specs.Place.{part};
+ghost use Rattle.asn.specs.Place.{seen_tlv};
 ghost use Rattle.asn.specs.Walk.{Gives};
 ghost use Rattle.names.specs.GeneralLayout.{form_of_identifier, explicit_name, general, dns_name_at, ip_address_at, base, dns_base_at, ip_base_at};
 ghost use Rattle.names.specs.Bases.{DnsNameTestIsExact, NamesOfBaseAreExact, AddressTestIsExact, RangeOfBaseIsExact, RefusedBaseIsExact};
@@ -14,7 +14,7 @@ use crate::general::{Form, General};
 use crate::ip::{IpFault, IpRange, is_ip_address};
 use crate::subtree::Subtree;
 use asn::Tlv;
-use distinguished_names::{Name, NameFault, Refusal};
+use distinguished_names::{Name, NameRule, Refusal};
 
 const DIRECTORY_NAME: u8 = 0xA4;
 
@@ -43,36 +43,36 @@ pub fn form_of_tag(tag: u8) -> Option<Form>
 #[tactic(auto, unfolding(crate::specs::GeneralLayout::explicit_name))]
 fn read_explicit_name(value: Tlv<'_>) -> Result<Name<'_>, Refusal>
     requires { value.tag ≡ DIRECTORY_NAME }
-    ensures { Gives name_contents result (explicit_name (part value.entry)) }
+    ensures { Gives name_contents result (explicit_name (seen_tlv value.entry)) }
 {
     let mut names = value.members();
-    let first = names.next_or(NameFault::NameLayout)?;
+    let first = names.next_or(NameRule::NameLayout)?;
     let name = Name::at(first)?;
-    names.ended(NameFault::NameLayout)?;
+    names.ended(NameRule::NameLayout)?;
     Ok(name)
 }
 
 /// dNSName [2] IA5String
 #[tactic(auto, unfolding(crate::specs::GeneralLayout::dns_name_at, asn::specs::Walk::check_that))]
 fn read_dns_name(value: Tlv<'_>) -> Result<General<'_>, Refusal>
-    ensures { Gives general_name result (dns_name_at (part value.entry)) }
+    ensures { Gives general_name result (dns_name_at (seen_tlv value.entry)) }
 {
     if is_dns_name(value.body) {
         Ok(General::Dns(value.body))
     } else {
-        Err((NameFault::DnsForm, value.at))
+        Err((NameRule::DnsForm, value.at))
     }
 }
 
 /// iPAddress [7] OCTET STRING
 #[tactic(auto, unfolding(crate::specs::GeneralLayout::ip_address_at, asn::specs::Walk::check_that))]
 fn read_ip_address(value: Tlv<'_>) -> Result<General<'_>, Refusal>
-    ensures { Gives general_name result (ip_address_at (part value.entry)) }
+    ensures { Gives general_name result (ip_address_at (seen_tlv value.entry)) }
 {
     if is_ip_address(value.body) {
         Ok(General::Ip(value.body))
     } else {
-        Err((NameFault::IpForm, value.at))
+        Err((NameRule::IpForm, value.at))
     }
 }
 
@@ -80,14 +80,14 @@ impl<'a> General<'a> {
     /// As `read`, with faults at their offsets in the text handed to `asn::whole`.
     #[tactic(auto, unfolding(crate::specs::GeneralLayout::general))]
     pub fn at(value: Tlv<'a>) -> Result<General<'a>, Refusal>
-        ensures { Gives general_name result (general (part value.entry)) }
+        ensures { Gives general_name result (general (seen_tlv value.entry)) }
     {
         match form_of_tag(value.tag) {
             Some(Form::Directory) => Ok(General::Directory(read_explicit_name(value)?)),
             Some(Form::Dns) => read_dns_name(value),
             Some(Form::Ip) => read_ip_address(value),
             Some(Form::Other(number)) => Ok(General::Other(number, value.body)),
-            None => Err((NameFault::NameLayout, value.at)),
+            None => Err((NameRule::NameLayout, value.at)),
         }
     }
 
@@ -103,23 +103,23 @@ impl<'a> General<'a> {
 /// The base of a dNSName constraint.
 #[tactic(auto, unfolding(crate::specs::GeneralLayout::dns_base_at))]
 fn read_dns_base(value: Tlv<'_>) -> Result<Subtree<'_>, Refusal>
-    ensures { Gives subtree_base result (dns_base_at (part value.entry)) }
+    ensures { Gives subtree_base result (dns_base_at (seen_tlv value.entry)) }
 {
     match Domain::of_base(value.body) {
         Some(domain) => Ok(Subtree::Dns(domain)),
-        None => Err((NameFault::DnsForm, value.at)),
+        None => Err((NameRule::DnsForm, value.at)),
     }
 }
 
 /// The base of an iPAddress constraint.
 #[tactic(auto, unfolding(crate::specs::GeneralLayout::ip_base_at))]
 fn read_ip_base(value: Tlv<'_>) -> Result<Subtree<'_>, Refusal>
-    ensures { Gives subtree_base result (ip_base_at (part value.entry)) }
+    ensures { Gives subtree_base result (ip_base_at (seen_tlv value.entry)) }
 {
     match IpRange::of_base(value.body) {
         Ok(range) => Ok(Subtree::Ip(range)),
-        Err(IpFault::Length) => Err((NameFault::IpForm, value.at)),
-        Err(IpFault::Mask) => Err((NameFault::MaskForm, value.at)),
+        Err(IpFault::Length) => Err((NameRule::IpForm, value.at)),
+        Err(IpFault::Mask) => Err((NameRule::MaskForm, value.at)),
     }
 }
 
@@ -127,14 +127,14 @@ impl<'a> Subtree<'a> {
     /// As `read_base`, with faults at their offsets in the text handed to `asn::whole`.
     #[tactic(auto, unfolding(crate::specs::GeneralLayout::base))]
     pub fn base_at(value: Tlv<'a>) -> Result<Subtree<'a>, Refusal>
-        ensures { Gives subtree_base result (base (part value.entry)) }
+        ensures { Gives subtree_base result (base (seen_tlv value.entry)) }
     {
         match form_of_tag(value.tag) {
             Some(Form::Directory) => Ok(Subtree::Directory(read_explicit_name(value)?)),
             Some(Form::Dns) => read_dns_base(value),
             Some(Form::Ip) => read_ip_base(value),
             Some(Form::Other(number)) => Ok(Subtree::Other(number, value.body)),
-            None => Err((NameFault::NameLayout, value.at)),
+            None => Err((NameRule::NameLayout, value.at)),
         }
     }
 

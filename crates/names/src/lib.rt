@@ -8,7 +8,7 @@ mod ip;
 mod subtree;
 
 pub use distinguished_names::{
-    Attribute, Name, NameFault, Refusal, is_text, key_laws, name_laws, preparation_laws,
+    Attribute, Name, NameRule, Refusal, is_text, key_laws, name_laws, preparation_laws,
     prepared_text, same_prepared,
 };
 pub use dns::{Domain, domain_laws, is_dns_name};

@@ -2,7 +2,7 @@
 
 use asn::{Oid, whole};
 use names::{
-    Attribute, Name, NameFault, Refusal, key_laws, name_laws, preparation_laws, prepared_text,
+    Attribute, Name, NameRule, Refusal, key_laws, name_laws, preparation_laws, prepared_text,
     same_prepared,
 };
 use std::alloc::{AllocError, Global};
@@ -67,7 +67,7 @@ fn texts_are_well_formed(rt: HostRuntime) -> Result<(), Fail> {
     for (tag, contents, want) in TEXTS.iter() {
         let octets = name_of(rt.alloc(), &[(1, COMMON_NAME, *tag, *contents)])?;
         let refusal = Name::read(whole(&octets)?).err();
-        let wanted = (!*want).then_some((NameFault::Text, 11));
+        let wanted = (!*want).then_some((NameRule::Text, 11));
         assert!(rt; refusal == wanted, "tag {tag}");
     }
     Ok(())
@@ -167,14 +167,14 @@ fn rows_are_spelled(rt: HostRuntime) -> Result<(), Fail> {
     Ok(())
 }
 
-const FAULTS: &[(NameFault, u8, &str)] = &[
-    (NameFault::NameLayout, 11, "NameLayout"),
-    (NameFault::RdnRepeat, 12, "RdnRepeat"),
-    (NameFault::SetOrder, 13, "SetOrder"),
-    (NameFault::Text, 14, "Text"),
-    (NameFault::DnsForm, 15, "DnsForm"),
-    (NameFault::IpForm, 16, "IpForm"),
-    (NameFault::MaskForm, 17, "MaskForm"),
+const FAULTS: &[(NameRule, u8, &str)] = &[
+    (NameRule::NameLayout, 11, "NameLayout"),
+    (NameRule::RdnRepeat, 12, "RdnRepeat"),
+    (NameRule::SetOrder, 13, "SetOrder"),
+    (NameRule::Text, 14, "Text"),
+    (NameRule::DnsForm, 15, "DnsForm"),
+    (NameRule::IpForm, 16, "IpForm"),
+    (NameRule::MaskForm, 17, "MaskForm"),
 ];
 
 #[test]

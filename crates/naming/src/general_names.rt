@@ -1,7 +1,7 @@
 //! That the definitions are those of RFC 5280: values written by hand, and what they say.
 
 use asn::whole;
-use names::{Domain, Form, General, NameFault, Refusal, Subtree, coverage_laws, general_laws};
+use names::{Domain, Form, General, NameRule, Refusal, Subtree, coverage_laws, general_laws};
 use std::test::Fail;
 
 /// The name of one RDN, with the common name A.
@@ -19,7 +19,7 @@ const LABEL_OF_63: &[u8] =
 const LABEL_OF_64: &[u8] =
     b"\x82\x40aaaaaaaaaaaaaaaaaaaaaaaaaaaaaaaaaaaaaaaaaaaaaaaaaaaaaaaaaaaaaaaa";
 
-const LAYOUT: NameFault = NameFault::NameLayout;
+const LAYOUT: NameRule = NameRule::NameLayout;
 
 /// A form, and contents; of a directory name its octets.
 type Said<'a> = (Form, &'a [u8]);
@@ -110,21 +110,21 @@ fn general_names_of_each_form_are_read(rt: HostRuntime) -> Result<(), Fail> {
 
 /// Octets that are no general name, and the fault.
 const REFUSED_NAMES: &[(&str, &[u8], Refusal)] = &[
-    ("an empty label", b"\x82\x04a..b", (NameFault::DnsForm, 0)),
-    ("a leading dot", b"\x82\x02.a", (NameFault::DnsForm, 0)),
-    ("an empty dNSName", b"\x82\x00", (NameFault::DnsForm, 0)),
-    ("a label of 64", LABEL_OF_64, (NameFault::DnsForm, 0)),
+    ("an empty label", b"\x82\x04a..b", (NameRule::DnsForm, 0)),
+    ("a leading dot", b"\x82\x02.a", (NameRule::DnsForm, 0)),
+    ("an empty dNSName", b"\x82\x00", (NameRule::DnsForm, 0)),
+    ("a label of 64", LABEL_OF_64, (NameRule::DnsForm, 0)),
     (
         "5 octets",
         &[0x87, 0x05, 0xC0, 0x00, 0x02, 0x01, 0x00],
-        (NameFault::IpForm, 0),
+        (NameRule::IpForm, 0),
     ),
     (
         "an address and a mask",
         &[0x87, 0x08, 0x0A, 0, 0, 0, 0xFF, 0, 0, 0],
-        (NameFault::IpForm, 0),
+        (NameRule::IpForm, 0),
     ),
-    ("an empty iPAddress", &[0x87, 0x00], (NameFault::IpForm, 0)),
+    ("an empty iPAddress", &[0x87, 0x00], (NameRule::IpForm, 0)),
     ("no name", &[0xA4, 0x00], (LAYOUT, 2)),
     (
         "two names",
@@ -153,7 +153,7 @@ const REFUSED_NAMES: &[(&str, &[u8], Refusal)] = &[
             0xA4, 0x0E, 0x30, 0x0C, 0x31, 0x0A, 0x30, 0x08, 0x06, 0x03, 0x55, 0x04, 0x03, 0x13,
             0x01, 0xFF,
         ],
-        (NameFault::Text, 13),
+        (NameRule::Text, 13),
     ),
     ("a primitive directoryName", &[0x84, 0x00], (LAYOUT, 0)),
     ("a constructed dNSName", &[0xA2, 0x00], (LAYOUT, 0)),
@@ -326,38 +326,38 @@ fn bases_of_subtrees_are_read(rt: HostRuntime) -> Result<(), Fail> {
 
 /// Octets that are no base, and the fault.
 const REFUSED_BASES: &[(&str, &[u8], Refusal)] = &[
-    ("a dot", b"\x82\x01.", (NameFault::DnsForm, 0)),
-    ("an empty label", b"\x82\x04a..b", (NameFault::DnsForm, 0)),
-    ("two leading dots", b"\x82\x03..a", (NameFault::DnsForm, 0)),
+    ("a dot", b"\x82\x01.", (NameRule::DnsForm, 0)),
+    ("an empty label", b"\x82\x04a..b", (NameRule::DnsForm, 0)),
+    ("two leading dots", b"\x82\x03..a", (NameRule::DnsForm, 0)),
     (
         "an address alone",
         &[0x87, 0x04, 0xC0, 0x00, 0x02, 0x01],
-        (NameFault::IpForm, 0),
+        (NameRule::IpForm, 0),
     ),
     (
         "5 octets",
         &[0x87, 0x05, 0xC0, 0x00, 0x02, 0x01, 0x00],
-        (NameFault::IpForm, 0),
+        (NameRule::IpForm, 0),
     ),
     (
         "16 octets",
         &[0x87, 0x10, 0, 0, 0, 0, 0, 0, 0, 0, 0, 0, 0, 0, 0, 0, 0, 0],
-        (NameFault::IpForm, 0),
+        (NameRule::IpForm, 0),
     ),
     (
         "an octet of zeros",
         &[0x87, 0x08, 0x0A, 0, 0, 0, 0xFF, 0x00, 0xFF, 0x00],
-        (NameFault::MaskForm, 0),
+        (NameRule::MaskForm, 0),
     ),
     (
         "a hole of one bit",
         &[0x87, 0x08, 0x0A, 0, 0, 0, 0xFD, 0x00, 0x00, 0x00],
-        (NameFault::MaskForm, 0),
+        (NameRule::MaskForm, 0),
     ),
     (
         "the last bit alone",
         &[0x87, 0x08, 0x0A, 0, 0, 0, 0x00, 0x00, 0x00, 0x01],
-        (NameFault::MaskForm, 0),
+        (NameRule::MaskForm, 0),
     ),
     ("no name", &[0xA4, 0x00], (LAYOUT, 2)),
     (

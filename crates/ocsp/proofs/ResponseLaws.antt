@@ -6,7 +6,7 @@ use Rattle.std.proofs.lemmas.Bool.{eqb-true}
 use Rattle.std.proofs.lemmas.Slice.Eq.{bytes_eq-Decides}
 use Rattle.asn.specs.DerLaws.{AreOctets}
 use Rattle.asn.specs.Part.{IsWhole}
-use Rattle.asn.specs.Place.{Place, tag, body, inside}
+use Rattle.asn.specs.Place.{Place, tag, body, body_place}
 use Rattle.asn.specs.Members.{Members, members, begins}
 use Rattle.asn.specs.Walk.{is_a, required, optional, next_or, or_fault, ended, check_that}
 use Rattle.asn.specs.Judgement.{nested, outermost}
@@ -318,12 +318,12 @@ unfolding basic_type
 type_again left kind others e t is =
     rw (required_again 0x06 Layout left kind others e t, check_again (bytes_eq (body kind) id_basic) ResponseType kind.at ((bytes_eq-Decides (body kind) id_basic).1 is)) refl
 
-contained_is : (value : Place) (fields : OcspResponse) → AreOctets value.octets → contained_response value ≡ Ok fields → IsWhole (body value) × IsBasicResponse (inside value) fields
+contained_is : (value : Place) (fields : OcspResponse) → AreOctets value.octets → contained_response value ≡ Ok fields → IsWhole (body value) × IsBasicResponse (body_place value) fields
 unfolding contained_response
 contained_is value fields fits e =
-    let found = bind_ok {A = Place} (as_der (nested value)) (λ inside. basic_response inside) fields e in
+    let found = bind_ok {A = Place} (as_der (nested value)) (λ inner. basic_response inner) fields e in
     let whole = contained_ok value found.0 (body_octets value fits) found.1 in
-    (whole.1, is_basic (inside value) fields (subst (λ v. basic_response v ≡ Ok fields) whole.0 found.2))
+    (whole.1, is_basic (body_place value) fields (subst (λ v. basic_response v ≡ Ok fields) whole.0 found.2))
 
 are_bytes : (value : Place) (fields : OcspResponse) → AreOctets value.octets → response_bytes value ≡ Ok fields → AreResponseBytes value fields
 unfolding response_bytes
@@ -350,9 +350,9 @@ are_bytes value fields fits e =
       basic_is = contained.1;
     }
 
-contained_back : (value : Place) (fields : OcspResponse) → IsWhole (body value) → IsBasicResponse (inside value) fields → contained_response value ≡ Ok fields
+contained_back : (value : Place) (fields : OcspResponse) → IsWhole (body value) → IsBasicResponse (body_place value) fields → contained_response value ≡ Ok fields
 unfolding contained_response
-contained_back value fields whole is = rw (contained_again value whole) (basic_is (inside value) fields is)
+contained_back value fields whole is = rw (contained_again value whole) (basic_is (body_place value) fields is)
 
 bytes_are : (value : Place) (fields : OcspResponse) → AreResponseBytes value fields → response_bytes value ≡ Ok fields
 unfolding response_bytes

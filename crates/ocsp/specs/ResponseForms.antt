@@ -4,7 +4,7 @@ use Rattle.std.specs.List.{AllZip}
 use Rattle.asn.specs.Value.{Value}
 use Rattle.asn.specs.Encoding.{Encodes}
 use Rattle.asn.specs.DerLaws.{AreOctets}
-use Rattle.asn.specs.Place.{Place, tag, body, inside}
+use Rattle.asn.specs.Place.{Place, tag, body, body_place}
 use Rattle.asn.specs.Members.{members}
 use Rattle.cert.specs.AlgorithmIdentifier.{AlgorithmIdentifier, IsAlgorithmIdentifier}
 use Rattle.cert.specs.CertificateForms.{IsNameOf, IsSignature}
@@ -14,8 +14,8 @@ use Rattle.ocsp.specs.OcspResponse.{OcspResponse, ResponseData, ocsp_response}
 
 -- ResponderID ::= CHOICE { byName [1] EXPLICIT Name, byKey [2] EXPLICIT KeyHash }, KeyHash ::= OCTET STRING
 abbrev pub IsResponderId : Place → Responder → Type 0
-IsResponderId value (by_name name) = (inside : Place) × IsTagged 0xA1 value inside × IsNameOf inside name
-IsResponderId value (by_key hash) = (inside : Place) × IsTagged 0xA2 value inside × (tag inside ≡ 0x04) × (hash ≡ body inside)
+IsResponderId value (by_name name) = (inner : Place) × IsTagged 0xA1 value inner × IsNameOf inner name
+IsResponderId value (by_key hash) = (inner : Place) × IsTagged 0xA2 value inner × (tag inner ≡ 0x04) × (hash ≡ body inner)
 
 -- ResponseData ::= SEQUENCE { version, responderID, producedAt, responses, responseExtensions }, of version 1, which DER leaves out;
 -- at most 256 single responses are served
@@ -73,7 +73,7 @@ pub record AreResponseBytes (value : Place) (fields : OcspResponse) : Type 0 whe
   pub kind_is : body kind ≡ 43 ∷ 6 ∷ 1 ∷ 5 ∷ 5 ∷ 7 ∷ 48 ∷ 1 ∷ 1 ∷ []
   pub octet_string : tag response ≡ 0x04
   pub der : Encodes (body response) basic
-  pub basic_is : IsBasicResponse (inside response) fields
+  pub basic_is : IsBasicResponse (body_place response) fields
 
 -- OCSPResponse ::= SEQUENCE { responseStatus ENUMERATED, responseBytes [0] EXPLICIT ResponseBytes OPTIONAL }, of status
 -- successful(0), which has responseBytes

@@ -1,6 +1,6 @@
 //! Which certificate a single response is about (RFC 6960, 4.1.1).
 
-ghost use Rattle.asn.specs.Place.{part};
+ghost use Rattle.asn.specs.Place.{seen_tlv};
 ghost use Rattle.asn.specs.Walk.{Gives};
 ghost use Rattle.ocsp.specs.CertificateId.{cert_id, seen_id};
 
@@ -25,7 +25,7 @@ impl<'a> CertId<'a> {
     /// The CertID that the value is, or the first fault.
     #[tactic(auto, unfolding(crate::specs::CertificateId::cert_id))]
     pub(crate) fn read(value: Tlv<'a>) -> Result<CertId<'a>, Refusal>
-        ensures { Gives seen_id result (cert_id (part value.entry)) }
+        ensures { Gives seen_id result (cert_id (seen_tlv value.entry)) }
     {
         value.is_a(0x30, StatementRule::Layout)?;
         let mut members = value.members();

@@ -1,7 +1,7 @@
 //! What a single response says of its certificate (RFC 6960, 4.2.1).
 
 ghost use Rattle.std.specs.Prelude.{◌≡◌};
-ghost use Rattle.asn.specs.Place.{part};
+ghost use Rattle.asn.specs.Place.{seen_tlv};
 ghost use Rattle.asn.specs.Members.{left};
 ghost use Rattle.asn.specs.Walk.{Gives};
 ghost use Rattle.revocation.specs.Parts.{component};
@@ -36,7 +36,7 @@ fn reason_of(contents: &[u8]) -> Option<u8>
 /// CRLReason ::= ENUMERATED
 #[tactic(auto, unfolding(crate::specs::CertificateStatus::reason))]
 fn reason_at(value: Tlv<'_>) -> Result<u8, Refusal>
-    ensures { Gives (λ code. code) result (reason (part value.entry)) }
+    ensures { Gives (λ code. code) result (reason (seen_tlv value.entry)) }
 {
     match reason_of(value.body) {
         Some(code) => Ok(code),
@@ -68,7 +68,7 @@ fn take_reason(members: &mut Cursor<'_>) -> Result<u8, Refusal>
 /// RevokedInfo ::= SEQUENCE { revocationTime GeneralizedTime, revocationReason [0] EXPLICIT CRLReason OPTIONAL }
 #[tactic(auto, unfolding(crate::specs::CertificateStatus::revoked_info))]
 fn revoked_at(value: Tlv<'_>) -> Result<CertStatus, Refusal>
-    ensures { Gives (λ status. status) result (revoked_info (part value.entry)) }
+    ensures { Gives (λ status. status) result (revoked_info (seen_tlv value.entry)) }
 {
     value.is_a(0xA1, StatementRule::Layout)?;
     let mut members = value.members();
@@ -81,7 +81,7 @@ fn revoked_at(value: Tlv<'_>) -> Result<CertStatus, Refusal>
 /// The status that a NULL says.
 #[tactic(auto, unfolding(crate::specs::CertificateStatus::null, asn::specs::Walk::check_that))]
 fn null_at(status: CertStatus, value: Tlv<'_>) -> Result<CertStatus, Refusal>
-    ensures { Gives (λ status. status) result (null status (part value.entry)) }
+    ensures { Gives (λ status. status) result (null status (seen_tlv value.entry)) }
 {
     match value.body {
         [] => Ok(status),
@@ -91,7 +91,7 @@ fn null_at(status: CertStatus, value: Tlv<'_>) -> Result<CertStatus, Refusal>
 
 #[tactic(auto, unfolding(crate::specs::CertificateStatus::status_at))]
 fn status_at(value: Tlv<'_>) -> Result<CertStatus, Refusal>
-    ensures { Gives (λ status. status) result (status_at (part value.entry)) }
+    ensures { Gives (λ status. status) result (status_at (seen_tlv value.entry)) }
 {
     match value.tag {
         0x80 => null_at(CertStatus::Good, value),

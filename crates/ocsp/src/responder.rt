@@ -1,6 +1,6 @@
 //! Who answers (RFC 6960, 4.2.1).
 
-ghost use Rattle.asn.specs.Place.{part};
+ghost use Rattle.asn.specs.Place.{seen_tlv};
 ghost use Rattle.asn.specs.Members.{left};
 ghost use Rattle.asn.specs.Walk.{Gives};
 ghost use Rattle.names.specs.GeneralView.{name_contents};
@@ -30,7 +30,7 @@ impl<'a> ResponderId<'a> {
     /// byName [1] EXPLICIT Name
     #[tactic(auto, unfolding(crate::specs::Responder::named_responder))]
     fn named(value: Tlv<'a>) -> Result<ResponderId<'a>, Refusal>
-        ensures { Gives seen_responder result (named_responder (part value.entry)) }
+        ensures { Gives seen_responder result (named_responder (seen_tlv value.entry)) }
     {
         value.is_a(0xA1, StatementRule::Layout)?;
         let mut members = value.members();
@@ -42,7 +42,7 @@ impl<'a> ResponderId<'a> {
     /// byKey [2] EXPLICIT KeyHash
     #[tactic(auto, unfolding(crate::specs::Responder::keyed_responder))]
     fn keyed(value: Tlv<'a>) -> Result<ResponderId<'a>, Refusal>
-        ensures { Gives seen_responder result (keyed_responder (part value.entry)) }
+        ensures { Gives seen_responder result (keyed_responder (seen_tlv value.entry)) }
     {
         value.is_a(0xA2, StatementRule::Layout)?;
         let mut members = value.members();
@@ -53,7 +53,7 @@ impl<'a> ResponderId<'a> {
 
     #[tactic(auto, unfolding(crate::specs::Responder::responder_at))]
     fn read(value: Tlv<'a>) -> Result<ResponderId<'a>, Refusal>
-        ensures { Gives seen_responder result (responder_at (part value.entry)) }
+        ensures { Gives seen_responder result (responder_at (seen_tlv value.entry)) }
     {
         match value.tag {
             0xA1 => ResponderId::named(value),

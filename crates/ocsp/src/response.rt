@@ -1,7 +1,7 @@
 //! Responses (RFC 6960, 4.2.1).
 
 ghost use Rattle.std.specs.Prelude.{◌≡◌};
-ghost use Rattle.asn.specs.Place.{part};
+ghost use Rattle.asn.specs.Place.{seen_tlv};
 ghost use Rattle.asn.specs.Members.{left};
 ghost use Rattle.asn.specs.Walk.{Gives};
 ghost use Rattle.asn.specs.Judgement.{nested};
@@ -52,7 +52,7 @@ impl<'a> ResponseData<'a> {
     #[tactic(auto, unfolding(crate::specs::OcspResponse::response_data))]
     fn read(alloc: Global, value: Tlv<'a>) -> Result<ResponseData<'a>, StatementFault>
         requires { value.tag ≡ 48 }
-        ensures { GivesUnlessFull seen_data result (response_data (part value.entry)) }
+        ensures { GivesUnlessFull seen_data result (response_data (seen_tlv value.entry)) }
     {
         let mut members = value.members();
         let responder = ResponderId::take(&mut members)?;
@@ -99,7 +99,7 @@ impl<'a> Signed<'a> {
 /// [0] EXPLICIT SEQUENCE OF Certificate OPTIONAL }
 #[tactic(auto, unfolding(crate::specs::OcspResponse::basic_response))]
 fn read_basic<'a>(alloc: Global, value: Tlv<'a>) -> Result<Response<'a>, StatementFault>
-    ensures { GivesUnlessFull seen_response result (basic_response (part value.entry)) }
+    ensures { GivesUnlessFull seen_response result (basic_response (seen_tlv value.entry)) }
 {
     value.is_a(0x30, StatementRule::Layout)?;
     let mut members = value.members();
@@ -119,7 +119,7 @@ fn read_basic<'a>(alloc: Global, value: Tlv<'a>) -> Result<Response<'a>, Stateme
 
 /// The value that the OCTET STRING holds.
 fn contained_value(octet_string: Tlv<'_>) -> Result<Tlv<'_>, Refusal>
-    ensures { Gives part result (as_der (nested (part octet_string.entry))) }
+    ensures { Gives seen_tlv result (as_der (nested (seen_tlv octet_string.entry))) }
 {
     match octet_string.nested() {
         Ok(value) => Ok(value),
@@ -158,7 +158,7 @@ fn take_type(members: &mut Cursor<'_>) -> Result<(), Refusal>
 /// ResponseBytes ::= SEQUENCE { responseType OBJECT IDENTIFIER, response OCTET STRING }
 #[tactic(auto, unfolding(crate::specs::OcspResponse::response_bytes))]
 fn read_bytes<'a>(alloc: Global, value: Tlv<'a>) -> Result<Response<'a>, StatementFault>
-    ensures { GivesUnlessFull seen_response result (response_bytes (part value.entry)) }
+    ensures { GivesUnlessFull seen_response result (response_bytes (seen_tlv value.entry)) }
 {
     value.is_a(0x30, StatementRule::Layout)?;
     let mut members = value.members();
@@ -171,7 +171,7 @@ fn read_bytes<'a>(alloc: Global, value: Tlv<'a>) -> Result<Response<'a>, Stateme
 /// [0] EXPLICIT ResponseBytes
 #[tactic(auto, unfolding(crate::specs::OcspResponse::explicit_bytes, revocation::specs::Parts::component))]
 fn read_explicit<'a>(alloc: Global, value: Tlv<'a>) -> Result<Response<'a>, StatementFault>
-    ensures { GivesUnlessFull seen_response result (explicit_bytes (part value.entry)) }
+    ensures { GivesUnlessFull seen_response result (explicit_bytes (seen_tlv value.entry)) }
 {
     value.is_a(0xA0, StatementRule::Layout)?;
     let mut members = value.members();
@@ -184,7 +184,7 @@ fn read_explicit<'a>(alloc: Global, value: Tlv<'a>) -> Result<Response<'a>, Stat
 /// OCSPResponseStatus ::= ENUMERATED, which has to be successful(0)
 #[tactic(auto, unfolding(crate::specs::OcspResponse::successful, asn::specs::Walk::check_that))]
 fn check_status(value: Tlv<'_>) -> Result<(), Refusal>
-    ensures { Gives (λ _. tt) result (successful (part value.entry)) }
+    ensures { Gives (λ _. tt) result (successful (seen_tlv value.entry)) }
 {
     match value.body {
         [0] => Ok(()),
@@ -197,7 +197,7 @@ fn check_status(value: Tlv<'_>) -> Result<(), Refusal>
 /// successful response has responseBytes
 #[tactic(auto, unfolding(crate::specs::OcspResponse::ocsp_response_at, revocation::specs::Parts::component))]
 fn read_response<'a>(alloc: Global, value: Tlv<'a>) -> Result<Response<'a>, StatementFault>
-    ensures { GivesUnlessFull seen_response result (ocsp_response_at (part value.entry)) }
+    ensures { GivesUnlessFull seen_response result (ocsp_response_at (seen_tlv value.entry)) }
 {
     value.is_a(0x30, StatementRule::Layout)?;
     let mut members = value.members();

@@ -2,7 +2,7 @@
 
 ghost use Rattle.std.specs.Prelude.{◌≡◌};
 ghost use Rattle.std.specs.FinSet.{empty};
-ghost use Rattle.asn.specs.Place.{part};
+ghost use Rattle.asn.specs.Place.{seen_tlv};
 ghost use Rattle.asn.specs.Members.{left};
 ghost use Rattle.asn.specs.Walk.{each};
 ghost use Rattle.cert.specs.OidSet.{oids_in};
@@ -17,7 +17,7 @@ use std::alloc::Global;
 /// Checks one more extension, which must be of a type that none of the earlier ones has, and not critical.
 #[tactic(auto, unfolding(crate::specs::ResponseExtensions::one_extension, asn::specs::Walk::check_that))]
 fn check_extension<'a>(types: &mut OidSet<'a>, value: Tlv<'a>) -> Result<(), StatementFault>
-    ensures { GivesUnlessFull (λ _. oids_in types.new) result (one_extension (oids_in types.old) (part value.entry)) }
+    ensures { GivesUnlessFull (λ _. oids_in types.new) result (one_extension (oids_in types.old) (seen_tlv value.entry)) }
 {
     let extension = new_extension(types, value)?;
     if extension.critical {
@@ -45,7 +45,7 @@ fn check_all<'a>(alloc: Global, members: Cursor<'a>) -> Result<OidSet<'a>, State
 #[tactic(auto, unfolding(crate::specs::ResponseExtensions::extensions))]
 fn check_list(alloc: Global, list: Tlv<'_>) -> Result<(), StatementFault>
     requires { list.tag ≡ 48 }
-    ensures { GivesUnlessFull (λ _. tt) result (extensions (part list.entry)) }
+    ensures { GivesUnlessFull (λ _. tt) result (extensions (seen_tlv list.entry)) }
 {
     let members = list.members();
     members.some(StatementRule::Layout)?;

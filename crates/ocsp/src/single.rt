@@ -1,6 +1,6 @@
 //! Single responses (RFC 6960, 4.2.1).
 
-ghost use Rattle.asn.specs.Place.{part};
+ghost use Rattle.asn.specs.Place.{seen_tlv};
 ghost use Rattle.asn.specs.Members.{left};
 ghost use Rattle.asn.specs.Walk.{Gives};
 ghost use Rattle.revocation.specs.Fault.{GivesUnlessFull};
@@ -54,7 +54,7 @@ impl<'a> SingleResponse<'a> {
     /// The components up to nextUpdate, and what stands behind them.
     #[tactic(auto, unfolding(crate::specs::Single::single_fields))]
     fn fields(value: Tlv<'a>) -> Result<(SingleResponse<'a>, Cursor<'a>), Refusal>
-        ensures { Gives (λ read. (seen_single read.0, left read.1)) result (single_fields (part value.entry)) }
+        ensures { Gives (λ read. (seen_single read.0, left read.1)) result (single_fields (seen_tlv value.entry)) }
     {
         value.is_a(0x30, StatementRule::Layout)?;
         let mut members = value.members();
@@ -74,7 +74,7 @@ impl<'a> SingleResponse<'a> {
     /// The single response that the value is, or the first fault.
     #[tactic(auto, unfolding(crate::specs::Single::single))]
     pub(crate) fn read(alloc: Global, value: Tlv<'a>) -> Result<SingleResponse<'a>, StatementFault>
-        ensures { GivesUnlessFull seen_single result (single (part value.entry)) }
+        ensures { GivesUnlessFull seen_single result (single (seen_tlv value.entry)) }
     {
         let (read, behind) = SingleResponse::fields(value)?;
         let mut members = behind;
@@ -86,7 +86,7 @@ impl<'a> SingleResponse<'a> {
     /// The same of a single response that was read once, without memory.
     #[tactic(auto, unfolding(crate::specs::Single::single_again))]
     pub(crate) fn again(value: Tlv<'a>) -> Result<SingleResponse<'a>, Refusal>
-        ensures { Gives seen_single result (single_again (part value.entry)) }
+        ensures { Gives seen_single result (single_again (seen_tlv value.entry)) }
     {
         let (read, _) = SingleResponse::fields(value)?;
         Ok(read)

@@ -1,7 +1,7 @@
 //! The single responses of a response, one after the other (RFC 6960, 4.2.1).
 
 ghost use Rattle.std.specs.Prelude.{◌≡◌, ◌<◌, ◌∷◌, [], MatchOption, OnOk, nat_lt};
-ghost use Rattle.asn.specs.Place.{part};
+ghost use Rattle.asn.specs.Place.{seen_tlv};
 ghost use Rattle.asn.specs.Members.{left};
 ghost use Rattle.asn.specs.Walk.{Gives, check_that};
 ghost use Rattle.revocation.specs.Fault.{GivesUnlessFull};
@@ -55,7 +55,7 @@ fn read_behind<'a>(
     before: usize,
     value: Tlv<'a>,
 ) -> Result<SingleResponse<'a>, StatementFault>
-    ensures walk { GivesUnlessFull seen_single result (single_behind before (part value.entry)) }
+    ensures walk { GivesUnlessFull seen_single result (single_behind before (seen_tlv value.entry)) }
     ensures room { OnOk result (before < 256) }
 {
     value.is_a(0x30, StatementRule::Layout)?;

@@ -1,7 +1,7 @@
 //! Distinguished names as text.
 ghost use Rattle.std.specs.Prelude.{◌≡◌};
 ghost use Rattle.std.specs.List.{flat_map};
-ghost use Rattle.asn.specs.Place.{part};
+ghost use Rattle.asn.specs.Place.{seen_tlv};
 ghost use Rattle.asn.specs.Members.{left};
 ghost use Rattle.names.specs.NameOctets.{raw_of};
 ghost use Rattle.printing.specs.NameText.{attribute_text, attributes_text, name_text, next_attribute_text, rdn_text, rdns_text, value_text};
@@ -16,7 +16,7 @@ use std::io::Write;
 
 // The value of an attribute: a text, or all octets of another value.
 fn write_value<W: Write>(value: Tlv<'_>, writer: &mut W) -> io::Result<()>
-    ensures { Writes W.contents writer.old writer.new result (value_text (part value.entry)) }
+    ensures { Writes W.contents writer.old writer.new result (value_text (seen_tlv value.entry)) }
 {
     if is_text(value.tag) {
         return write_escaped(value.body, writer);
@@ -27,7 +27,7 @@ fn write_value<W: Write>(value: Tlv<'_>, writer: &mut W) -> io::Result<()>
 
 // AttributeTypeAndValue ::= SEQUENCE { type OBJECT IDENTIFIER, value ANY }
 fn write_attribute<W: Write>(attribute: Tlv<'_>, writer: &mut W) -> io::Result<()>
-    ensures { Writes W.contents writer.old writer.new result (attribute_text (part attribute.entry)) }
+    ensures { Writes W.contents writer.old writer.new result (attribute_text (seen_tlv attribute.entry)) }
 {
     let Some(mut members) = attribute.inside() else {
         return Ok(());
@@ -58,7 +58,7 @@ fn write_attributes<W: Write>(attributes: Cursor<'_>, writer: &mut W) -> io::Res
 
 // RelativeDistinguishedName ::= SET OF AttributeTypeAndValue
 fn write_rdn<W: Write>(rdn: Tlv<'_>, writer: &mut W) -> io::Result<()>
-    ensures { Writes W.contents writer.old writer.new result (rdn_text (part rdn.entry)) }
+    ensures { Writes W.contents writer.old writer.new result (rdn_text (seen_tlv rdn.entry)) }
 {
     writer.write_all(b"/")?;
     match rdn.inside() {

@@ -5,11 +5,11 @@ use Rattle.std.proofs.lemmas.Bool.{and_parts, and_from, ltb-true, lt-ltb, eqb-tr
 use Rattle.asn.specs.DerLaws.{AreOctets}
 use Rattle.asn.specs.Rule.{Rule}
 use Rattle.asn.specs.Part.{IsWhole}
-use Rattle.asn.specs.Place.{Place, tag, body, inside}
+use Rattle.asn.specs.Place.{Place, tag, body, body_place}
 use Rattle.asn.specs.Members.{Members}
 use Rattle.asn.specs.Judgement.{nested}
 use Rattle.asn.proofs.Laws.{bind_ok, ok_is, check_ok, check_again, Takes, required_ok, required_again, nested_ok, nested_again}
-use Rattle.names.specs.NameFault.{NameFault}
+use Rattle.names.specs.NameRule.{NameRule}
 use Rattle.names.specs.NameLayout.{name}
 use Rattle.names.specs.GeneralLayout.{NameContents, contents_at}
 use Rattle.names.proofs.Laws.{name_is_exact}
@@ -29,15 +29,15 @@ pub as_der_ok : {A : Type 0} (r : Result A (Rule × ℕ)) (x : A) → as_der r �
 as_der_ok (Ok y) x e = cc
 as_der_ok (Err fault) x e = absurd cc
 
-as_name_ok : {A : Type 0} (r : Result A (NameFault × ℕ)) (x : A) → as_name r ≡ Ok x → r ≡ Ok x
+as_name_ok : {A : Type 0} (r : Result A (NameRule × ℕ)) (x : A) → as_name r ≡ Ok x → r ≡ Ok x
 as_name_ok (Ok y) x e = cc
 as_name_ok (Err fault) x e = absurd cc
 
 -- the value that an OCTET STRING holds
-pub contained_ok : (octet_string value : Place) → AreOctets (body octet_string) → as_der (nested octet_string) ≡ Ok value → (value ≡ inside octet_string) × IsWhole (body octet_string)
+pub contained_ok : (octet_string value : Place) → AreOctets (body octet_string) → as_der (nested octet_string) ≡ Ok value → (value ≡ body_place octet_string) × IsWhole (body octet_string)
 contained_ok octet_string value fits e = nested_ok octet_string value fits (as_der_ok (nested octet_string) value e)
 
-pub contained_again : (octet_string : Place) → IsWhole (body octet_string) → as_der (nested octet_string) ≡ Ok (inside octet_string)
+pub contained_again : (octet_string : Place) → IsWhole (body octet_string) → as_der (nested octet_string) ≡ Ok (body_place octet_string)
 contained_again octet_string whole = ap as_der (nested_again octet_string whole)
 
 -- a component that is there

@@ -6,7 +6,7 @@ ghost use Rattle.revocation.specs.declared.fault.StatementFault.TheVariants.{Mem
 ghost use Rattle.revocation.specs.declared.fault.StatementRule.TheVariants.{Name};
 
 use asn::Rule;
-use names::NameFault;
+use names::NameRule;
 use std::alloc::{AllocError, AllocFailed};
 use thiserror::Error;
 
@@ -18,7 +18,7 @@ pub enum StatementRule {
     Der(Rule),
     /// The issuer's name is none.
     #[error("{0}")]
-    Name(NameFault),
+    Name(NameRule),
     /// A value with an identifier that the layout does not have there, a value that is missing, or one left over.
     #[error("value that the layout does not have there")]
     Layout,
@@ -67,7 +67,7 @@ pub enum StatementRule {
 pub type Refusal = (StatementRule, usize);
 
 /// A fault in a name, as one of a statement.
-pub(crate) fn name_refusal(refusal: (NameFault, usize)) -> Refusal
+pub(crate) fn name_refusal(refusal: (NameRule, usize)) -> Refusal
     ensures { result ≡ (Name refusal.0, refusal.1) }
 {
     let (fault, at) = refusal;

@@ -1,7 +1,7 @@
 //! The parts that statements of both kinds are made of.
 
 ghost use Rattle.std.specs.Prelude.{◌≡◌};
-ghost use Rattle.asn.specs.Place.{part};
+ghost use Rattle.asn.specs.Place.{seen_tlv};
 ghost use Rattle.asn.specs.Members.{left};
 ghost use Rattle.asn.specs.Walk.{Gives};
 ghost use Rattle.asn.specs.Judgement.{outermost as asn_outermost};
@@ -20,7 +20,7 @@ use names::Name;
 
 /// The value that the octets are; else the fault `Der`. Time is linear in the octets; no memory is taken.
 pub fn outermost(octets: &[u8]) -> Result<Tlv<'_>, Refusal>
-    ensures { Gives part result (as_der (asn_outermost octets.now)) }
+    ensures { Gives seen_tlv result (as_der (asn_outermost octets.now)) }
 {
     match Tlv::outermost(octets) {
         Ok(value) => Ok(value),
@@ -31,7 +31,7 @@ pub fn outermost(octets: &[u8]) -> Result<Tlv<'_>, Refusal>
 /// CertificateSerialNumber ::= INTEGER, here of 1 to 32 octets and of any sign
 #[tactic(auto, unfolding(crate::specs::Parts::serial_number, asn::specs::Walk::check_that))]
 fn serial_at(value: Tlv<'_>) -> Result<&[u8], Refusal>
-    ensures { Gives (λ contents. contents.now) result (serial_number (part value.entry)) }
+    ensures { Gives (λ contents. contents.now) result (serial_number (seen_tlv value.entry)) }
 {
     if is_serial_number(value.body) {
         Ok(value.body)
@@ -51,7 +51,7 @@ pub fn take_serial<'a>(members: &mut Cursor<'a>) -> Result<&'a [u8], Refusal>
 /// The name that stands there, with its fault as one of a statement.
 #[tactic(auto, unfolding(crate::specs::Parts::distinguished_name))]
 pub fn name_at(value: Tlv<'_>) -> Result<Name<'_>, Refusal>
-    ensures { Gives name_contents result (distinguished_name (part value.entry)) }
+    ensures { Gives name_contents result (distinguished_name (seen_tlv value.entry)) }
 {
     Name::at(value).map_err(name_refusal)
 }
@@ -70,7 +70,7 @@ pub fn take_algorithm<'a>(members: &mut Cursor<'a>) -> Result<AlgorithmIdentifie
 /// A BIT STRING whose bits must be whole octets.
 #[tactic(auto, unfolding(crate::specs::Parts::signature_value, asn::specs::Walk::check_that))]
 fn signature_at(value: Tlv<'_>) -> Result<&[u8], Refusal>
-    ensures { Gives (λ octets. octets.now) result (signature_value (part value.entry)) }
+    ensures { Gives (λ octets. octets.now) result (signature_value (seen_tlv value.entry)) }
 {
     if is_of_whole_octets(value.body) {
         Ok(bits_of(value.body))
@@ -94,7 +94,7 @@ pub fn new_extension<'a>(
     types: &mut OidSet<'a>,
     value: Tlv<'a>,
 ) -> Result<Extension<'a>, StatementFault>
-    ensures { GivesUnlessFull (λ read. (seen_extension read, oids_in types.new)) result (new_extension (oids_in types.old) (part value.entry)) }
+    ensures { GivesUnlessFull (λ read. (seen_extension read, oids_in types.new)) result (new_extension (oids_in types.old) (seen_tlv value.entry)) }
 {
     let extension = Extension::read(value, StatementRule::Layout)?;
     if !types.insert(extension.oid.contents())? {

@@ -137,7 +137,7 @@ fn repeats_are_found_in_batches(rt: HostRuntime) -> Result<(), Fail> {
             marked: None,
         };
         let octets = large.name(rt.alloc())?;
-        let want = place.map(|at| (NameFault::RdnRepeat, at));
+        let want = place.map(|at| (NameRule::RdnRepeat, at));
         assert!(rt; Name::read(whole(&octets)?).err() == want, "{what}");
     }
     Ok(())

@@ -73,23 +73,23 @@ const LAYOUT_ROWS: &[(&str, &[u8], usize)] = &[
 fn layouts_are_refused(rt: HostRuntime) -> Result<(), Fail> {
     for (what, octets, at) in LAYOUT_ROWS.iter() {
         let refusal = Name::read(whole(octets)?).err();
-        assert!(rt; refusal == Some((NameFault::NameLayout, *at)), "{what}");
+        assert!(rt; refusal == Some((NameRule::NameLayout, *at)), "{what}");
     }
     Ok(())
 }
 
 /// Attributes, and the fault and its place. The first stands at offset 4; one with a value of n octets takes 9 + n.
-const ATTRIBUTE_ROWS: &[(&str, &[Row<'_>], NameFault, usize)] = &[
+const ATTRIBUTE_ROWS: &[(&str, &[Row<'_>], NameRule, usize)] = &[
     (
         "a type twice",
         &[(1, COMMON_NAME, UTF8, b"A"), (1, COMMON_NAME, UTF8, b"B")],
-        NameFault::RdnRepeat,
+        NameRule::RdnRepeat,
         14,
     ),
     (
         "an attribute twice",
         &[(1, COMMON_NAME, UTF8, b"A"), (1, COMMON_NAME, UTF8, b"A")],
-        NameFault::RdnRepeat,
+        NameRule::RdnRepeat,
         14,
     ),
     (
@@ -99,13 +99,13 @@ const ATTRIBUTE_ROWS: &[(&str, &[Row<'_>], NameFault, usize)] = &[
             (1, ORGANIZATION, UTF8, b"BC"),
             (1, COMMON_NAME, UTF8, b"ABC"),
         ],
-        NameFault::RdnRepeat,
+        NameRule::RdnRepeat,
         25,
     ),
     (
         "a type twice, in lesser octets",
         &[(1, COMMON_NAME, UTF8, b"B"), (1, COMMON_NAME, UTF8, b"A")],
-        NameFault::RdnRepeat,
+        NameRule::RdnRepeat,
         14,
     ),
     (
@@ -114,7 +114,7 @@ const ATTRIBUTE_ROWS: &[(&str, &[Row<'_>], NameFault, usize)] = &[
             (1, COMMON_NAME, UTF8, b"A"),
             (1, COMMON_NAME, PRINTABLE, &[0x80]),
         ],
-        NameFault::RdnRepeat,
+        NameRule::RdnRepeat,
         14,
     ),
     (
@@ -124,13 +124,13 @@ const ATTRIBUTE_ROWS: &[(&str, &[Row<'_>], NameFault, usize)] = &[
             (2, COMMON_NAME, UTF8, b"A"),
             (2, COMMON_NAME, UTF8, b"B"),
         ],
-        NameFault::RdnRepeat,
+        NameRule::RdnRepeat,
         27,
     ),
     (
         "a lesser type",
         &[(1, ORGANIZATION, UTF8, b"A"), (1, COMMON_NAME, UTF8, b"A")],
-        NameFault::SetOrder,
+        NameRule::SetOrder,
         14,
     ),
     (
@@ -139,7 +139,7 @@ const ATTRIBUTE_ROWS: &[(&str, &[Row<'_>], NameFault, usize)] = &[
             (1, COMMON_NAME, UTF8, b"ABC"),
             (1, ORGANIZATION, UTF8, b"A"),
         ],
-        NameFault::SetOrder,
+        NameRule::SetOrder,
         16,
     ),
     (
@@ -149,7 +149,7 @@ const ATTRIBUTE_ROWS: &[(&str, &[Row<'_>], NameFault, usize)] = &[
             (1, ORGANIZATION, UTF8, b"A"),
             (1, COUNTRY, UTF8, b"A"),
         ],
-        NameFault::SetOrder,
+        NameRule::SetOrder,
         24,
     ),
     (
@@ -158,7 +158,7 @@ const ATTRIBUTE_ROWS: &[(&str, &[Row<'_>], NameFault, usize)] = &[
             (1, ORGANIZATION, UTF8, b"A"),
             (1, COMMON_NAME, PRINTABLE, &[0x80]),
         ],
-        NameFault::SetOrder,
+        NameRule::SetOrder,
         14,
     ),
     (
@@ -168,31 +168,31 @@ const ATTRIBUTE_ROWS: &[(&str, &[Row<'_>], NameFault, usize)] = &[
             (2, ORGANIZATION, UTF8, b"A"),
             (2, COMMON_NAME, UTF8, b"A"),
         ],
-        NameFault::SetOrder,
+        NameRule::SetOrder,
         27,
     ),
     (
         "a PrintableString",
         &[(1, COMMON_NAME, PRINTABLE, &[0x80])],
-        NameFault::Text,
+        NameRule::Text,
         11,
     ),
     (
         "an IA5String",
         &[(1, COMMON_NAME, IA5, &[0x41, 0xFF])],
-        NameFault::Text,
+        NameRule::Text,
         11,
     ),
     (
         "a UTF8String that is cut",
         &[(1, COMMON_NAME, UTF8, &[0xC3])],
-        NameFault::Text,
+        NameRule::Text,
         11,
     ),
     (
         "a UTF8String with half a pair",
         &[(1, COMMON_NAME, UTF8, &[0xED, 0xA0, 0x80])],
-        NameFault::Text,
+        NameRule::Text,
         11,
     ),
     (
@@ -201,7 +201,7 @@ const ATTRIBUTE_ROWS: &[(&str, &[Row<'_>], NameFault, usize)] = &[
             (1, COMMON_NAME, UTF8, b"A"),
             (1, ORGANIZATION, PRINTABLE, &[0x80]),
         ],
-        NameFault::Text,
+        NameRule::Text,
         21,
     ),
     (
@@ -210,7 +210,7 @@ const ATTRIBUTE_ROWS: &[(&str, &[Row<'_>], NameFault, usize)] = &[
             (1, COMMON_NAME, UTF8, b"A"),
             (2, ORGANIZATION, IA5, &[0x80]),
         ],
-        NameFault::Text,
+        NameRule::Text,
         23,
     ),
     (
@@ -219,7 +219,7 @@ const ATTRIBUTE_ROWS: &[(&str, &[Row<'_>], NameFault, usize)] = &[
             (1, COMMON_NAME, PRINTABLE, &[0x80]),
             (1, COMMON_NAME, UTF8, b"AB"),
         ],
-        NameFault::Text,
+        NameRule::Text,
         11,
     ),
     (
@@ -228,7 +228,7 @@ const ATTRIBUTE_ROWS: &[(&str, &[Row<'_>], NameFault, usize)] = &[
             (1, ORGANIZATION, PRINTABLE, &[0x80]),
             (1, COMMON_NAME, UTF8, b"A"),
         ],
-        NameFault::Text,
+        NameRule::Text,
         11,
     ),
 ];
@@ -303,18 +303,18 @@ fn read_last(octets: &[u8]) -> Result<Result<Name<'_>, Refusal>, Fail> {
 }
 
 /// Attributes of a name behind a number, and the fault and its place in the name.
-const INNER_ROWS: &[(&[Row<'_>], NameFault, usize)] = &[
+const INNER_ROWS: &[(&[Row<'_>], NameRule, usize)] = &[
     (
         &[(1, COMMON_NAME, UTF8, b"A"), (1, COMMON_NAME, UTF8, b"B")],
-        NameFault::RdnRepeat,
+        NameRule::RdnRepeat,
         14,
     ),
     (
         &[(1, ORGANIZATION, UTF8, b"A"), (1, COMMON_NAME, UTF8, b"A")],
-        NameFault::SetOrder,
+        NameRule::SetOrder,
         14,
     ),
-    (&[(1, COMMON_NAME, PRINTABLE, &[0x80])], NameFault::Text, 11),
+    (&[(1, COMMON_NAME, PRINTABLE, &[0x80])], NameRule::Text, 11),
 ];
 
 #[test]
@@ -332,7 +332,7 @@ fn places_count_from_the_name(rt: HostRuntime) -> Result<(), Fail> {
     for (what, octets, at) in LAYOUT_ROWS.iter() {
         let octets = beside_a_number(rt.alloc(), octets)?;
         let refusal = read_last(&octets)?.err();
-        assert!(rt; refusal == Some((NameFault::NameLayout, *at)), "{what}");
+        assert!(rt; refusal == Some((NameRule::NameLayout, *at)), "{what}");
     }
     Ok(())
 }
@@ -349,7 +349,7 @@ fn places_count_from_the_whole_text(rt: HostRuntime) -> Result<(), Fail> {
     let other = names.next().ok_or("a second name")?;
     let refusal = Name::at(other).err();
     assert!(rt;
-        refusal == Some((NameFault::NameLayout, 6)),
+        refusal == Some((NameRule::NameLayout, 6)),
         "a NULL in a name"
     );
     Ok(())

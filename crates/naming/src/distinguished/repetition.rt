@@ -3,7 +3,7 @@
 use super::*;
 
 /// What `read` answers where it refuses.
-type Want = Option<(NameFault, usize)>;
+type Want = Option<(NameRule, usize)>;
 
 /// Attributes, and the fault and its place. The first stands at offset 4; one with a type of three octets and a value of n
 /// takes 9 + n.
@@ -57,7 +57,7 @@ const ROWS: &[(&str, &[Row<'static>], Want)] = &[
             (1, TYPE_1, UTF8, b""),
             (1, SHORT_TYPE, UTF8, b"ab"),
         ],
-        Some((NameFault::RdnRepeat, 22)),
+        Some((NameRule::RdnRepeat, 22)),
     ),
     (
         "the same types in another RDN",
@@ -77,7 +77,7 @@ const ROWS: &[(&str, &[Row<'static>], Want)] = &[
             (1, TYPE_1, UTF8, b"a"),
             (1, TYPE_2, UTF8, b"a"),
         ],
-        Some((NameFault::RdnRepeat, 22)),
+        Some((NameRule::RdnRepeat, 22)),
     ),
     (
         "the second run repeats in its middle",
@@ -89,7 +89,7 @@ const ROWS: &[(&str, &[Row<'static>], Want)] = &[
             (1, TYPE_5, UTF8, b"a"),
             (1, TYPE_3, UTF8, b"ab"),
         ],
-        Some((NameFault::RdnRepeat, 32)),
+        Some((NameRule::RdnRepeat, 32)),
     ),
     (
         "the last run repeats the first",
@@ -101,7 +101,7 @@ const ROWS: &[(&str, &[Row<'static>], Want)] = &[
             (1, TYPE_3, UTF8, b"ab"),
             (1, TYPE_4, UTF8, b"ab"),
         ],
-        Some((NameFault::RdnRepeat, 53)),
+        Some((NameRule::RdnRepeat, 53)),
     ),
     (
         "the last run repeats the one before",
@@ -113,7 +113,7 @@ const ROWS: &[(&str, &[Row<'static>], Want)] = &[
             (1, TYPE_3, UTF8, b"ab"),
             (1, TYPE_5, UTF8, b"ab"),
         ],
-        Some((NameFault::RdnRepeat, 53)),
+        Some((NameRule::RdnRepeat, 53)),
     ),
     (
         "both types of the second run",
@@ -123,7 +123,7 @@ const ROWS: &[(&str, &[Row<'static>], Want)] = &[
             (1, TYPE_1, UTF8, b"a"),
             (1, TYPE_4, UTF8, b"a"),
         ],
-        Some((NameFault::RdnRepeat, 22)),
+        Some((NameRule::RdnRepeat, 22)),
     ),
     (
         "two of the last run, the later of the first run",
@@ -134,7 +134,7 @@ const ROWS: &[(&str, &[Row<'static>], Want)] = &[
             (1, TYPE_2, UTF8, b"ab"),
             (1, TYPE_4, UTF8, b"ab"),
         ],
-        Some((NameFault::RdnRepeat, 34)),
+        Some((NameRule::RdnRepeat, 34)),
     ),
     (
         "two runs repeat",
@@ -145,7 +145,7 @@ const ROWS: &[(&str, &[Row<'static>], Want)] = &[
             (1, TYPE_4, UTF8, b"a"),
             (1, TYPE_2, UTF8, b"ab"),
         ],
-        Some((NameFault::RdnRepeat, 32)),
+        Some((NameRule::RdnRepeat, 32)),
     ),
     (
         "within a run, after another",
@@ -155,7 +155,7 @@ const ROWS: &[(&str, &[Row<'static>], Want)] = &[
             (1, TYPE_3, UTF8, b"a"),
             (1, TYPE_3, UTF8, b"b"),
         ],
-        Some((NameFault::RdnRepeat, 33)),
+        Some((NameRule::RdnRepeat, 33)),
     ),
     (
         "lesser octets before a repeat",
@@ -165,7 +165,7 @@ const ROWS: &[(&str, &[Row<'static>], Want)] = &[
             (1, TYPE_3, UTF8, b""),
             (1, TYPE_4, UTF8, b"a"),
         ],
-        Some((NameFault::SetOrder, 22)),
+        Some((NameRule::SetOrder, 22)),
     ),
     (
         "a repeat in lesser octets",
@@ -174,7 +174,7 @@ const ROWS: &[(&str, &[Row<'static>], Want)] = &[
             (1, TYPE_4, UTF8, b"a"),
             (1, TYPE_2, UTF8, b""),
         ],
-        Some((NameFault::RdnRepeat, 24)),
+        Some((NameRule::RdnRepeat, 24)),
     ),
     (
         "a repeat before lesser octets",
@@ -184,7 +184,7 @@ const ROWS: &[(&str, &[Row<'static>], Want)] = &[
             (1, TYPE_2, UTF8, b"a"),
             (1, TYPE_3, UTF8, b""),
         ],
-        Some((NameFault::RdnRepeat, 23)),
+        Some((NameRule::RdnRepeat, 23)),
     ),
     (
         "no string before a repeat",
@@ -193,7 +193,7 @@ const ROWS: &[(&str, &[Row<'static>], Want)] = &[
             (1, TYPE_2, PRINTABLE, &[0x80]),
             (1, TYPE_1, UTF8, b"ab"),
         ],
-        Some((NameFault::Text, 20)),
+        Some((NameRule::Text, 20)),
     ),
     (
         "a repeat before no string",
@@ -203,7 +203,7 @@ const ROWS: &[(&str, &[Row<'static>], Want)] = &[
             (1, TYPE_1, UTF8, b"ab"),
             (1, TYPE_3, PRINTABLE, &[0x80, 0x80, 0x80]),
         ],
-        Some((NameFault::RdnRepeat, 23)),
+        Some((NameRule::RdnRepeat, 23)),
     ),
     (
         "a repeat that is no string",
@@ -212,7 +212,7 @@ const ROWS: &[(&str, &[Row<'static>], Want)] = &[
             (1, TYPE_2, UTF8, b"a"),
             (1, TYPE_1, PRINTABLE, &[0x80, 0x80]),
         ],
-        Some((NameFault::RdnRepeat, 23)),
+        Some((NameRule::RdnRepeat, 23)),
     ),
 ];
 
@@ -221,17 +221,17 @@ const LAYOUT_ROWS: &[(&str, &[u8], Want)] = &[
     (
         "no attribute before a repeat",
         b"\x30\x20\x31\x1E\x30\x07\x06\x03\x55\x04\x01\x0C\x00\x30\x07\x06\x03\x55\x04\x04\x0C\x00\x05\x00\x30\x08\x06\x03\x55\x04\x01\x0C\x01\x61",
-        Some((NameFault::NameLayout, 22)),
+        Some((NameRule::NameLayout, 22)),
     ),
     (
         "a repeat before no attribute",
         b"\x30\x20\x31\x1E\x30\x07\x06\x03\x55\x04\x02\x0C\x00\x30\x07\x06\x03\x55\x04\x04\x0C\x00\x30\x08\x06\x03\x55\x04\x02\x0C\x01\x61\x05\x00",
-        Some((NameFault::RdnRepeat, 22)),
+        Some((NameRule::RdnRepeat, 22)),
     ),
     (
         "no attribute inside a run, before a repeat",
         b"\x30\x20\x31\x1E\x30\x07\x06\x03\x55\x04\x02\x0C\x00\x05\x00\x30\x07\x06\x03\x55\x04\x04\x0C\x00\x30\x08\x06\x03\x55\x04\x02\x0C\x01\x61",
-        Some((NameFault::NameLayout, 13)),
+        Some((NameRule::NameLayout, 13)),
     ),
 ];
 

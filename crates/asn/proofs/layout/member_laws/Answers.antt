@@ -1,4 +1,4 @@
-use Rattle.asn.specs.Place.{inside}
+use Rattle.asn.specs.Place.{body_place}
 use Rattle.asn.proofs.MemberLemmas.{holds}
 use Rattle.asn.proofs.PartLemmas.{members_are_parts, contents_part}
 use Rattle.asn.proofs.layout.member_laws.Goals as goal
@@ -10,5 +10,5 @@ pub returns-clause-members : goal.returns-clause-members
 returns-clause-members c = members_are_parts
 
 pub returns-clause-contents : goal.returns-clause-contents
-unfolding inside
+unfolding body_place
 returns-clause-contents c = λ source depth value place part encodes. contents_part source depth place.at place.octets value encodes part

@@ -1,5 +1,5 @@
 use Rattle.std.proofs.Common.{arith, ◌≡◌, ◌∙◌, ℕ, Ok, sym, ap, subst}
-use Rattle.asn.specs.Place.{Place, part}
+use Rattle.asn.specs.Place.{Place, seen_tlv}
 use Rattle.asn.specs.DerLaws.{AreOctets}
 use Rattle.asn.proofs.Laws.{outermost_ok, ok_is}
 use Rattle.cert.specs.Certificate.{seen_certificate}
@@ -14,14 +14,14 @@ pub returns-in-Err : goal.returns-in-Err
 returns-in-Err c = not_der c.args.octets.now c.in-Err.rule c.in-Err.at c.in-Err.ensures
 
 pub returns-in-Err-at : goal.returns-in-Err-at
-returns-in-Err-at c = rw (read_at c.args.octets.now (part c.in-Ok.value) c.in-Ok.ensures) c.in-Err-at.ensures
+returns-in-Err-at c = rw (read_at c.args.octets.now (seen_tlv c.in-Ok.value) c.in-Ok.ensures) c.in-Err-at.ensures
 
 pub unreachable-requires : goal.unreachable-requires
 unreachable-requires c =
     let text = c.args.octets.now in
     let octets : AreOctets text = λ k. omega (arith, c.type_inv.octets k) in
-    let value_is = (outermost_ok text (part c.in-Ok.value) octets c.in-Ok.ensures).0 in
-    let read = read_at text (part c.in-Ok.value) c.in-Ok.ensures ∙ c.in-Ok-at.ensures in
+    let value_is = (outermost_ok text (seen_tlv c.in-Ok.value) octets c.in-Ok.ensures).0 in
+    let read = read_at text (seen_tlv c.in-Ok.value) c.in-Ok.ensures ∙ c.in-Ok-at.ensures in
     let found = stand text (seen_certificate c.in-Ok-at.certificate) octets read in
     let both = sym (sym (ap places value_is) ∙ c.in-Err-of.ensures) ∙ found.1 in
     absurd cc
@@ -30,8 +30,8 @@ pub returns : goal.returns
 returns c =
     let text = c.args.octets.now in
     let octets : AreOctets text = λ k. omega (arith, c.type_inv.octets k) in
-    let value_is = (outermost_ok text (part c.in-Ok.value) octets c.in-Ok.ensures).0 in
-    let read = read_at text (part c.in-Ok.value) c.in-Ok.ensures ∙ c.in-Ok-at.ensures in
+    let value_is = (outermost_ok text (seen_tlv c.in-Ok.value) octets c.in-Ok.ensures).0 in
+    let read = read_at text (seen_tlv c.in-Ok.value) c.in-Ok.ensures ∙ c.in-Ok-at.ensures in
     let certificate_seen = seen_certificate c.in-Ok-at.certificate in
     let found = stand text certificate_seen octets read in
     let both : Ok found.0 ≡ Ok (seen_places c.in-Ok-of.places) = sym found.1 ∙ sym (ap places value_is) ∙ c.in-Ok-of.ensures in

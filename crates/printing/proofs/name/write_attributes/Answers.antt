@@ -1,5 +1,5 @@
 use Rattle.std.proofs.Common.{◌++◌, ap, refl}
-use Rattle.asn.specs.Place.{part}
+use Rattle.asn.specs.Place.{seen_tlv}
 use Rattle.asn.specs.Members.{Members}
 use Rattle.printing.specs.NameText.{next_attribute_text}
 use Rattle.printing.proofs.Appending.{appends_both}
@@ -9,7 +9,7 @@ use Rattle.printing.proofs.name.write_attributes.Goals as goal
 pub loop-attribute-preserved : goal.loop-attribute-preserved
 loop-attribute-preserved g c =
     let was = c.loop-attribute.invariant in
-    let place = part c.in-Some-next.attribute in
+    let place = seen_tlv c.in-Some-next.attribute in
     let step = ap (λ (m : Members). m.values) c.in-Some-next.ensures.step in
     record {
       text = was.text ++ next_attribute_text place;

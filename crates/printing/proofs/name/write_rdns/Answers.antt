@@ -1,5 +1,5 @@
 use Rattle.std.proofs.Common.{◌++◌, ap, refl}
-use Rattle.asn.specs.Place.{part}
+use Rattle.asn.specs.Place.{seen_tlv}
 use Rattle.asn.specs.Members.{Members}
 use Rattle.printing.specs.NameText.{rdn_text}
 use Rattle.printing.proofs.Appending.{appends_both}
@@ -9,7 +9,7 @@ use Rattle.printing.proofs.name.write_rdns.Goals as goal
 pub loop-rdn-preserved : goal.loop-rdn-preserved
 loop-rdn-preserved g c =
     let was = c.loop-rdn.invariant in
-    let place = part c.in-Some.rdn in
+    let place = seen_tlv c.in-Some.rdn in
     let step = ap (λ (m : Members). m.values) c.in-Some.ensures.step in
     record {
       text = was.text ++ rdn_text place;

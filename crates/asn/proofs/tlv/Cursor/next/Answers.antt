@@ -2,7 +2,7 @@ use Rattle.std.proofs.Common.{◌∙◌, ◌≡◌, ◌+◌, List, ℕ, ◌∷�
 use Rattle.std.proofs.Math.Logic.{∥∥₁_map}
 use Rattle.std.proofs.lemmas.List.{length-append}
 use Rattle.asn.specs.Members.{members_at}
-use Rattle.asn.specs.Place.{Place, part, behind, values}
+use Rattle.asn.specs.Place.{Place, seen_tlv, behind, values}
 use Rattle.asn.proofs.PlaceLemmas.{values_none, values_more}
 use Rattle.asn.proofs.Splits.{ends_is, empty_is, some_left}
 use Rattle.asn.proofs.Views.{begins_with_first, next_values}
@@ -39,9 +39,9 @@ returns-clause-step c =
     let old = c.args.self.now in
     let more = values_more old.octets.now old.at (sym c.end.ensures.ends ∙ c.if-end.false) in
     let e = more ∙ ap (λ (p : Place). p ∷ values (behind (record { octets = old.octets.now; at = old.at }))) (sym c.front_of.ensures.first)
-    ∙ ap (λ (p : Place). part c.front_of.result.0 ∷ values p) (sym c.front_of.ensures.others) in
+    ∙ ap (λ (p : Place). seen_tlv c.front_of.result.0 ∷ values p) (sym c.front_of.ensures.others) in
     let n : old.at + length old.octets.now ≡ (old.at + length c.front_of.result.0.whole.now) + length c.front_of.result.1.now = omega (arith, ap length c.front_of.ensures.splits.octets, length-append c.front_of.result.0.whole.now c.front_of.result.1.now) in
-    ap (λ (vs : List Place). record { values = vs; end = old.at + length old.octets.now }) e ∙ ap (λ (k : ℕ). record { values = part c.front_of.result.0 ∷ values (record { octets = c.front_of.result.1.now; at = old.at + length c.front_of.result.0.whole.now }); end = k }) n
+    ap (λ (vs : List Place). record { values = vs; end = old.at + length old.octets.now }) e ∙ ap (λ (k : ℕ). record { values = seen_tlv c.front_of.result.0 ∷ values (record { octets = c.front_of.result.1.now; at = old.at + length c.front_of.result.0.whole.now }); end = k }) n
 
 pub returns-clause-shows : goal.returns-clause-shows
 returns-clause-shows c = λ depth vs are.

@@ -1,6 +1,6 @@
 use Rattle.std.proofs.Common.{refl, map, sym, ap, ◌∙◌, subst, arith}
 use Rattle.asn.specs.Members.{Members, octets_of_each}
-use Rattle.asn.specs.Place.{part}
+use Rattle.asn.specs.Place.{seen_tlv}
 use Rattle.asn.proofs.Laws.{members_same}
 use Rattle.distinguished_names.specs.NameParts.{AreRdns, map_at, rdns_at}
 use Rattle.distinguished_names.specs.NameView.{sequence_of}
@@ -10,13 +10,13 @@ use Rattle.distinguished_names.proofs.name.Name.at.Goals as goal
 
 pub invariant_of-result : goal.invariant_of-result
 invariant_of-result c = record {
-  read = ∣ subst (λ (m : Members). AreRdns m.values) (sym c.in_ok-rdns.ensures.rdns) (rdns_read (part c.args.tlv) tt c.in_ok-rdns.ensures.walk) ∣₁;
+  read = ∣ subst (λ (m : Members). AreRdns m.values) (sym c.in_ok-rdns.ensures.rdns) (rdns_read (seen_tlv c.args.tlv) tt c.in_ok-rdns.ensures.walk) ∣₁;
   short = let s = c.in_ok-rdns.ensures.short in omega arith;
 }
 
 pub invariant_of-result-2 : goal.invariant_of-result-2
 invariant_of-result-2 c =
-    let value = part c.args.tlv in
+    let value = seen_tlv c.args.tlv in
     record { members = ap (λ (m : Members). octets_of_each m.values) c.in_ok-rdns.ensures.rdns ∙ members_same value (record { octets = value.octets; at = 0 }) refl }
 
 pub returns-clause-raw : goal.returns-clause-raw

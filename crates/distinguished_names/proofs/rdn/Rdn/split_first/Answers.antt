@@ -2,7 +2,7 @@ use Rattle.std.proofs.Common.{◌∷◌, map, sym, ap, ◌∙◌}
 use Rattle.std.proofs.Math.Logic.{∥∥₁_elim, ∥∥₁_map}
 use Rattle.std.proofs.Props.{props}
 use Rattle.asn.specs.Members.{Members, left}
-use Rattle.asn.specs.Place.{part}
+use Rattle.asn.specs.Place.{seen_tlv}
 use Rattle.distinguished_names.specs.DistinguishedName.{Entry}
 use Rattle.distinguished_names.specs.NameParts.{entry_in, entry_at}
 use Rattle.distinguished_names.specs.NameView.{entries_of}
@@ -12,15 +12,15 @@ use Rattle.distinguished_names.proofs.rdn.Rdn.split_first.Goals as goal
 
 pub invariant_of-result : goal.invariant_of-result
 invariant_of-result c = record {
-  read = ∥∥₁_map c.args.self.now.read (λ are. (first_attribute (left c.args.self.now.attributes) (left c.next.new.self) (part c.in_ok-attribute.attribute) c.in_ok-attribute.ensures.step are).1);
-  distinct = others_distinct (left c.args.self.now.attributes) (left c.next.new.self) (part c.in_ok-attribute.attribute) c.in_ok-attribute.ensures.step c.args.self.now.distinct;
+  read = ∥∥₁_map c.args.self.now.read (λ are. (first_attribute (left c.args.self.now.attributes) (left c.next.new.self) (seen_tlv c.in_ok-attribute.attribute) c.in_ok-attribute.ensures.step are).1);
+  distinct = others_distinct (left c.args.self.now.attributes) (left c.next.new.self) (seen_tlv c.in_ok-attribute.attribute) c.in_ok-attribute.ensures.step c.args.self.now.distinct;
 }
 
 pub unreachable-requires : goal.unreachable-requires
 unreachable-requires c =
     ∥∥₁_elim c.args.self.now.read (hlevel props) (λ are.
-    no_fault (part c.in_ok-attribute.attribute) c.in-Err.field-0 c.in-Err.ensures
-    (first_attribute (left c.args.self.now.attributes) (left c.next.new.self) (part c.in_ok-attribute.attribute) c.in_ok-attribute.ensures.step are).0)
+    no_fault (seen_tlv c.in_ok-attribute.attribute) c.in-Err.field-0 c.in-Err.ensures
+    (first_attribute (left c.args.self.now.attributes) (left c.next.new.self) (seen_tlv c.in_ok-attribute.attribute) c.in_ok-attribute.ensures.step are).0)
 
 pub returns : goal.returns
 unfolding entries_of entry_at

@@ -4,7 +4,7 @@ use Rattle.std.proofs.Props.{props}
 use Rattle.std.proofs.lemmas.List.{length-append}
 use Rattle.asn.specs.Identifier.{is_constructed}
 use Rattle.asn.specs.Members.{Members, left}
-use Rattle.asn.specs.Place.{part}
+use Rattle.asn.specs.Place.{seen_tlv}
 use Rattle.distinguished_names.specs.DistinguishedName.{rdn_map}
 use Rattle.distinguished_names.specs.NameParts.{AreAttributes, are_distinct, entry_at, map_at}
 use Rattle.distinguished_names.specs.NameView.{entries_of, sequence_of}
@@ -14,23 +14,23 @@ use Rattle.distinguished_names.proofs.rdn_sequence.RdnSequence.split_first.Goals
 pub invariant_of-result : goal.invariant_of-result
 invariant_of-result c = record {
   read = ∥∥₁_map c.args.self.now.read (λ are.
-      let f = first_rdn (left c.args.self.now.rdns) (left c.next.new.self) (part c.in_ok-rdn.rdn) c.in_ok-rdn.ensures.step are in
+      let f = first_rdn (left c.args.self.now.rdns) (left c.next.new.self) (seen_tlv c.in_ok-rdn.rdn) c.in_ok-rdn.ensures.step are in
       subst (λ (m : Members). AreAttributes m.values) (sym c.in-Some.ensures.left) f.0.1);
   distinct = ∥∥₁_elim c.args.self.now.read (hlevel props) (λ are.
-      let f = first_rdn (left c.args.self.now.rdns) (left c.next.new.self) (part c.in_ok-rdn.rdn) c.in_ok-rdn.ensures.step are in
+      let f = first_rdn (left c.args.self.now.rdns) (left c.next.new.self) (seen_tlv c.in_ok-rdn.rdn) c.in_ok-rdn.ensures.step are in
       subst (λ (m : Members). IsTrue (are_distinct (map entry_at m.values))) (sym c.in-Some.ensures.left) f.0.2);
 }
 
 pub invariant_of-result-in-Some : goal.invariant_of-result-in-Some
 invariant_of-result-in-Some c = record {
-  read = ∥∥₁_map c.args.self.now.read (λ are. (first_rdn (left c.args.self.now.rdns) (left c.next.new.self) (part c.in_ok-rdn.rdn) c.in_ok-rdn.ensures.step are).1);
-  short = omega (arith, c.args.self.now.short, ap length c.in_ok-rdn.ensures.splits.octets, length-append (part c.in_ok-rdn.rdn).octets c.next.new.self.octets.now);
+  read = ∥∥₁_map c.args.self.now.read (λ are. (first_rdn (left c.args.self.now.rdns) (left c.next.new.self) (seen_tlv c.in_ok-rdn.rdn) c.in_ok-rdn.ensures.step are).1);
+  short = omega (arith, c.args.self.now.short, ap length c.in_ok-rdn.ensures.splits.octets, length-append (seen_tlv c.in_ok-rdn.rdn).octets c.next.new.self.octets.now);
 }
 
 pub unreachable-requires : goal.unreachable-requires
 unreachable-requires c =
     ∥∥₁_elim c.args.self.now.read (hlevel props) (λ are.
-    let f = first_rdn (left c.args.self.now.rdns) (left c.next.new.self) (part c.in_ok-rdn.rdn) c.in_ok-rdn.ensures.step are in
+    let f = first_rdn (left c.args.self.now.rdns) (left c.next.new.self) (seen_tlv c.in_ok-rdn.rdn) c.in_ok-rdn.ensures.step are in
     let form : is_constructed c.in_ok-rdn.rdn.tag ≡ true = ap is_constructed c.in_ok-rdn.rdn.tag_is ∙ f.0.0 in
     let wrong : false ≡ true = c.in-None.ensures.constructed.1 form in
     cc)
