@@ -2,6 +2,7 @@
 use Rattle.std.proofs.Common.{◌≡◌, List, [], ◌∷◌, ◌++◌, Option, option_map, Contains, refl, sym, ap, subst, ◌∙◌, inl, inr}
 use Rattle.std.specs.List.{AllByRecursion}
 use Rattle.std.proofs.lemmas.List.Elements.{Contains-append_left, Contains-append_right, Contains-append_cases}
+use Rattle.cert.specs.Place.{body}
 use Rattle.facts.specs.declared.scope.Scope.TheVariants.{All}
 use Rattle.facts.specs.Statement.{Holdings, CrlSlot, OcspSlot, CrlFact, OcspFact}
 use Rattle.path.specs.Query.{Query, Accepts}
@@ -69,8 +70,8 @@ same_crl one other slot consistent same = same_by_mark (λ (fact : CrlFact). fac
 pub same_of_newest : SameNewestIsTheSame
 same_of_newest one other link consistent newest =
     same_answers _ _ _ _ _ _
-    (ap (option_map (answer_for link.certificate.serial)) (same_crl one other (crl_slot link All) consistent.all newest.all))
-    (ap (option_map (answer_for link.certificate.serial)) (same_crl one other (crl_slot link (kind_of link.certificate)) consistent.own newest.own))
+    (ap (option_map (answer_for (body link.certificate.serial))) (same_crl one other (crl_slot link All) consistent.all newest.all))
+    (ap (option_map (answer_for (body link.certificate.serial))) (same_crl one other (crl_slot link (kind_of link.certificate)) consistent.own newest.own))
     (same_by_mark (λ (fact : OcspFact). fact.times) (one.ocsp (ocsp_slot link)) (other.ocsp (ocsp_slot link)) consistent.ocsp newest.ocsp)
 
 all_same : (one other : Holdings) (links : List Link) → AllByRecursion (HeldIsConsistent one other) links → AllByRecursion (HoldSameNewestOf one other) links

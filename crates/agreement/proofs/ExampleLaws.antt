@@ -6,6 +6,7 @@ use Rattle.std.proofs.lemmas.List.Elements.{All-contains, All-from_recursion}
 use Rattle.std.proofs.lemmas.Slice.Eq.{bytes_eq-Decides}
 use Rattle.sha1.specs.Sha1.{sha1}
 use Rattle.names.specs.NameKey.{name_key}
+use Rattle.cert.specs.Part.{contents}
 use Rattle.facts.specs.Fact.{Fact}
 use Rattle.facts.specs.Statement.{CrlSlot, CrlFact, OcspSlot, OcspFact, same_crl_slot, same_ocsp_slot}
 use Rattle.path.specs.declared.reason.Outcome.TheVariants.{Good, Bad}
@@ -74,11 +75,11 @@ valid_verdict party v same is = subst (λ accepts. IsVerdict accepts query party
 
 -- lists of R on T, and responses, by what they compute to
 one_holds : HoldSameNewest query one.held other.held
-unfolding name_key
+unfolding name_key contents
 one_holds = (record { all = refl; own = refl; ocsp = rw (itself (sha1 (82 ∷ []))) refl }, tt)
 
 pub all_premises_hold : AllPremisesHold
-unfolding name_key
+unfolding name_key contents
 all_premises_hold = record {
   one_verifier = refl;
   one_ran = record { taken = refl; newest = newest accepts_all one.taken };
@@ -105,11 +106,11 @@ abbrev holds_5_with_entry : Party
 holds_5_with_entry = starting accepts_all (given_crl (crl_with_entry 5) ∷ [])
 
 valid_by_5 : IsVerdict accepts_all query holds_5.held Valid
-unfolding name_key
+unfolding name_key contents
 valid_by_5 = valid_verdict holds_5 Valid refl refl
 
 pub needs_consistency : NeedsConsistency
-unfolding name_key
+unfolding name_key contents
 needs_consistency = record {
   a = holds_5;
   b = holds_5_with_entry;
@@ -147,7 +148,7 @@ nothing_seen : IsIssued (λ slot. crl) (λ slot. good_at) planted
 nothing_seen = record { crls = (ours accepts_all [] tt).crls; responses = (ours accepts_all [] tt).responses }
 
 pub needs_holds_newest : NeedsHoldsNewest
-unfolding name_key
+unfolding name_key contents
 needs_holds_newest = record {
   a = holds_5;
   b = planted;
@@ -166,7 +167,7 @@ needs_holds_newest = record {
 }
 
 pub needs_one_verifier : NeedsOneVerifier
-unfolding name_key
+unfolding name_key contents
 needs_one_verifier = record {
   a = holds_5;
   b = starting accepts_none (given_crl (crl 5) ∷ []);
@@ -188,7 +189,7 @@ all_one : {A : Type 0} (x : A) (xs : List A) → AllByRecursion (λ y. y ≡ x) 
 all_one x xs all f g in_f in_g = All-contains (λ y. y ≡ x) xs f (All-from_recursion (λ y. y ≡ x) xs all) in_f ∙ sym (All-contains (λ y. y ≡ x) xs g (All-from_recursion (λ y. y ≡ x) xs all) in_g)
 
 pub strangers_do_not_matter : StrangersDoNotMatter
-unfolding name_key
+unfolding name_key contents
 strangers_do_not_matter = record {
   not_all = λ all. true≢false (sym (ap (λ (f : CrlFact). is_some (f.reasons (5 ∷ []))) (all.crls stranger_slot (crl 1) (crl_with_entry 1) (0, lit< tt, refl) (1, lit< tt, refl) refl)));
   consistent = (

@@ -2,6 +2,7 @@
 use Rattle.std.proofs.Common.{◌==◌, Bool, true, false, [], ◌∷◌, Option, Some, None, refl, ap, true≢false}
 use Rattle.sha1.specs.Sha1.{sha1}
 use Rattle.names.specs.NameKey.{name_key}
+use Rattle.cert.specs.Part.{contents}
 use Rattle.agreement.specs.declared.verdict.Verdict.{Verdict}
 use Rattle.agreement.specs.declared.verdict.Verdict.TheVariants.{Valid}
 use Rattle.agreement.specs.Status.{Answers, CrlAnswer}
@@ -9,7 +10,7 @@ use Rattle.agreement.specs.KnownVerdicts.{KnownVerdicts, NamesFirstDifference}
 use Rattle.agreement.proofs.ExampleLaws.{itself}
 
 pub known_verdicts : KnownVerdicts
-unfolding name_key
+unfolding name_key contents
 known_verdicts = record {
   invalid = refl;
   nothing_held = refl;
@@ -55,7 +56,7 @@ is_five None = false
 is_five (Some crl) = crl.number == 5
 
 pub names_first_difference : NamesFirstDifference
-unfolding name_key
+unfolding name_key contents
 names_first_difference = (
   refl,
   refl,

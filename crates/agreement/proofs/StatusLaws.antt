@@ -3,6 +3,7 @@ use Rattle.std.proofs.Common.{◌≡◌, ◌⊎◌, ◌&&◌, ℤ, ◌≤ℤ◌,
 use Rattle.std.specs.Bool.{passes}
 use Rattle.std.proofs.lemmas.Bool.{and_parts, and_from}
 use Rattle.std.proofs.lemmas.Bool.Decides.{Decides-and, Decides-or, Decides-like}
+use Rattle.cert.specs.Place.{body}
 use Rattle.facts.specs.declared.scope.Scope.{Scope}
 use Rattle.facts.specs.declared.scope.Scope.TheVariants.{All}
 use Rattle.facts.specs.declared.single.Status.{Status}
@@ -40,7 +41,7 @@ module _ (held : Holdings) (moment : ℤ) (link : Link) where
   test crl = may_sign_crls link && is_current crl.window moment
 
   abbrev answer : CrlFact → CrlAnswer
-  answer fact = answer_for link.certificate.serial fact
+  answer fact = answer_for (body link.certificate.serial) fact
 
   counted : (scope : Scope) (found : CrlAnswer) → crl_that_counts moment may_sign (crl_answer held link scope) ≡ Some found
       → (fact : CrlFact) × CountsIn scope fact × (answer fact ≡ found)
@@ -63,7 +64,7 @@ module _ (held : Holdings) (moment : ℤ) (link : Link) where
   )
 
   abbrev Lists : Scope → Type 0
-  Lists scope = (fact : CrlFact) × CountsIn scope fact × IsSome (fact.reasons link.certificate.serial)
+  Lists scope = (fact : CrlFact) × CountsIn scope fact × IsSome (fact.reasons (body link.certificate.serial))
 
   crl_lists : (scope : Scope) → Decides (is_some (listed_reason moment may_sign (crl_answer held link scope))) (Lists scope)
   crl_lists scope = (

@@ -4,6 +4,8 @@ use Rattle.std.specs.Str.{bytes_eq}
 use Rattle.sha1.specs.Sha1.{sha1}
 use Rattle.cert.specs.declared.version.Version.TheVariants.{V3}
 use Rattle.cert.specs.Extensions.{Extensions, no_extensions}
+use Rattle.cert.specs.Place.{Place}
+use Rattle.cert.specs.AlgorithmIdentifier.{AlgorithmIdentifier}
 use Rattle.cert.specs.Certificate.{Certificate}
 use Rattle.facts.specs.declared.scope.Scope.TheVariants as Scope
 use Rattle.facts.specs.declared.single.Status.TheVariants as said
@@ -19,20 +21,27 @@ use Rattle.agreement.specs.Agreement.{AllAreConsistent, HoldSameNewest, IssuersA
 
 -- ---- a path of one certificate below its anchor, with serial 05
 
+-- what an example's certificate does not tell
+abbrev pub nowhere : Place
+nowhere = record { octets = []; at = 0 }
+
+abbrev pub no_algorithm : AlgorithmIdentifier
+no_algorithm = record { value = nowhere; oid = [] }
+
 -- a certificate that is valid for long, whose key and issuer field are of one octet; all names are empty, and match
 abbrev pub plain : ℕ → ℕ → ℕ → Extensions → Certificate
 plain key issuer serial extensions = record {
   octets = [];
-  tbs = [];
+  tbs = nowhere;
   version = V3;
-  serial = serial ∷ [];
-  algorithm = [];
-  issuer = record { octets = issuer ∷ []; rdns = [] };
+  serial = record { octets = 0x02 ∷ 1 ∷ serial ∷ []; at = 0 };
+  algorithm = no_algorithm;
+  issuer = record { octets = issuer ∷ []; at = 0; rdns = [] };
   validity = record { not_before = pos 0; not_after = pos 4000000000 };
-  subject = record { octets = key ∷ []; rdns = [] };
-  key_info = record { whole = key ∷ []; key = key ∷ [] };
+  subject = record { octets = key ∷ []; at = 0; rdns = [] };
+  key_info = record { value = record { octets = key ∷ []; at = 0 }; algorithm = no_algorithm; key = record { value = nowhere; octets = key ∷ [] } };
   extensions = extensions;
-  signature = [];
+  signature = record { value = nowhere; octets = [] };
 }
 
 -- the anchor R, 82, and below it T, 84

@@ -1,6 +1,7 @@
 -- Paths as revocation sees them (RFC 5280, 6.1 and 6.3): each certificate with the one above it, and the slots that speak of it.
 use Rattle.std.specs.Prelude.{ℕ, suc, Bool, false, List, [], ◌∷◌, Option, Some, None, if◌then◌else◌}
 use Rattle.sha1.specs.Sha1.{sha1}
+use Rattle.cert.specs.Place.{body}
 use Rattle.cert.specs.BasicConstraints.{BasicConstraints}
 use Rattle.cert.specs.Certificate.{Certificate}
 use Rattle.facts.specs.declared.scope.Scope.{Scope}
@@ -42,5 +43,5 @@ abbrev pub ocsp_slot : Link → OcspSlot
 ocsp_slot link = record {
   issuer = identity_of link.issuer;
   name_hash = sha1 link.certificate.issuer.octets;
-  serial = link.certificate.serial;
+  serial = body link.certificate.serial;
 }

@@ -1,11 +1,11 @@
 -- What reaches a relying party, and what it holds after (RFC 5280, 5.2.3 and 6.3.3 (a); RFC 6960, 2.4).
-use Rattle.std.specs.Prelude.{◌≡◌, ℕ, List, [], ◌∷◌, ◌++◌, Option, Some, None, Result, Ok, Err, if◌then◌else◌}
+use Rattle.std.specs.Prelude.{◌≡◌, ℕ, List, [], ◌∷◌, ◌++◌, Result, Ok, Err}
 use Rattle.std.specs.Option.{option_to_list}
 use Rattle.std.specs.List.{filter_map}
 use Rattle.cert.specs.declared.fault.CertRule.{CertRule}
 use Rattle.cert.specs.Certificate.{Certificate, certificate}
 use Rattle.facts.specs.Fact.{Fact}
-use Rattle.facts.specs.Statement.{Holdings, CrlSlot, CrlFact, OcspSlot, OcspFact, same_crl_slot, same_ocsp_slot}
+use Rattle.facts.specs.Statement.{Holdings, CrlSlot, CrlFact, OcspSlot, OcspFact}
 use Rattle.path.specs.Query.{Accepts}
 use Rattle.revocation.specs.declared.fault.StatementFault.{StatementFault}
 use Rattle.statements.specs.OcspFact.{genuine_statement}

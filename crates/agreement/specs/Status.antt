@@ -1,6 +1,7 @@
 -- Whether a certificate is revoked, and whether a statement speaks of it (RFC 5280, 6.3.3; RFC 6960, 2.2 and 3.2).
 use Rattle.std.specs.Prelude.{◌≡◌, ◌⊎◌, ◌==◌, ◌||◌, ◌&&◌, ℕ, ℤ, ◌≤ℤ◌, int_le, Bool, true, false, List, Option, Some, None, option_map, option_and_then, is_some, if◌then◌else◌, IsTrue, IsSome}
 use Rattle.std.specs.Option.{option_or}
+use Rattle.cert.specs.Place.{body}
 use Rattle.cert.specs.KeyUsage.{has_bit}
 use Rattle.facts.specs.declared.scope.Scope.{Scope}
 use Rattle.facts.specs.declared.scope.Scope.TheVariants.{All}
@@ -37,7 +38,7 @@ abbrev pub answer_for : List ℕ → CrlFact → CrlAnswer
 answer_for serial fact = record { number = fact.number; window = fact.window; entry = fact.reasons serial }
 
 abbrev pub crl_answer : Holdings → Link → Scope → Option CrlAnswer
-crl_answer held link scope = option_map (answer_for link.certificate.serial) (held.crl (crl_slot link scope))
+crl_answer held link scope = option_map (answer_for (body link.certificate.serial)) (held.crl (crl_slot link scope))
 
 -- the list of all certificates, that of the certificate's own kind, and the response
 pub record Answers : Type 0 where
@@ -124,7 +125,7 @@ pub record OcspCounts (held : Holdings) (moment : ℤ) (link : Link) (fact : Ocs
 -- a statement that counts says that it is revoked
 abbrev pub SomeRevokes : Holdings → ℤ → Link → Type 0
 SomeRevokes held moment link =
-    ((fact : CrlFact) × CrlCounts held moment link fact × IsSome (fact.reasons link.certificate.serial))
+    ((fact : CrlFact) × CrlCounts held moment link fact × IsSome (fact.reasons (body link.certificate.serial)))
     ⊎ ((fact : OcspFact) × OcspCounts held moment link fact × IsSome (reason_of_status fact.status))
 
 -- revoked, and why

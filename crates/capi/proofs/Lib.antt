@@ -1,4 +1,3 @@
 mod Contents
 mod Usage
 mod Standing
-mod WholeTexts

@@ -4,21 +4,20 @@ use Rattle.cert.specs.declared.fault.CertRule.{CertRule}
 use Rattle.cert.specs.declared.fault.CertRule.TheVariants.{Der}
 use Rattle.cert.specs.declared.fault.CertFault.{CertFault}
 use Rattle.cert.specs.declared.fault.CertFault.TheVariants.{Refused, Memory}
-use Rattle.cert.specs.Fault.{cert_rule_number, FailsUnlessFull}
+use Rattle.cert.specs.Fault.{cert_rule_number}
 use Rattle.cert.specs.Version.{version_number}
 use Rattle.cert.specs.KeyUsage.{has_bit}
 use Rattle.cert.specs.BasicConstraints.{BasicConstraints}
 use Rattle.cert.specs.Extensions.{Extensions}
 use Rattle.cert.specs.Certificate.{Certificate}
-use Rattle.cert.specs.CertificateForms.{IsCertificateAt}
-use Rattle.asn.specs.Place.{body_place}
+use Rattle.asn.specs.Part.{IsPartOf}
+use Rattle.asn.specs.Place.{body, body_place}
 use Rattle.der.specs.Fault.{rule_number}
 use Rattle.capi.specs.declared.answer.CertificateAnswer.{CertificateAnswer}
 use Rattle.capi.specs.declared.fields.Part.{Part}
 use Rattle.capi.specs.declared.fields.Fields as code
 use Rattle.capi.specs.declared.fields.ExtensionFields as extension
-use Rattle.capi.specs.Parts.{IsPart}
-use Rattle.capi.specs.Places.{Places, components, bits_at}
+use Rattle.capi.specs.Parts.{IsPart, StandsIn, bits_at}
 
 -- basicConstraints (4.2.1.9): cA, and the path length where it is there
 abbrev pub is_ca : Option BasicConstraints → Bool
@@ -62,32 +61,37 @@ pub record TellsFields (text : List ℕ) (told : code.Fields) (certificate : Cer
   pub version : told.version ≡ version_number certificate.version
   pub not_before : told.not_before ≡ certificate.validity.not_before
   pub not_after : told.not_after ≡ certificate.validity.not_after
-  pub tbs : IsPart text told.tbs certificate.tbs
-  pub serial : IsPart text told.serial certificate.serial
-  pub algorithm : IsPart text told.algorithm certificate.algorithm
+  pub tbs : IsPart text told.tbs certificate.tbs.octets
+  pub serial : IsPart text told.serial (body certificate.serial)
+  pub algorithm : IsPart text told.algorithm certificate.algorithm.value.octets
   pub issuer : IsPart text told.issuer certificate.issuer.octets
   pub subject : IsPart text told.subject certificate.subject.octets
-  pub subject_public_key_info : IsPart text told.subject_public_key_info certificate.key_info.whole
-  pub key : IsPart text told.key certificate.key_info.key
-  pub signature : IsPart text told.signature certificate.signature
+  pub subject_public_key_info : IsPart text told.subject_public_key_info certificate.key_info.value.octets
+  pub key : IsPart text told.key certificate.key_info.key.octets
+  pub signature : IsPart text told.signature certificate.signature.octets
   pub extensions : TellsExtensions told.extensions certificate.extensions
 
--- each part begins where its component does, or the contents or the bits of that
-pub record AreAt (told : code.Fields) (places : Places) : Type 0 where
-  pub tbs : told.tbs.offset ≡ places.outer.tbs.at
-  pub serial : told.serial.offset ≡ (body_place places.head.serial).at
-  pub algorithm : told.algorithm.offset ≡ places.head.algorithm.at
-  pub issuer : told.issuer.offset ≡ places.head.issuer.at
-  pub subject : told.subject.offset ≡ places.subject.name.at
-  pub subject_public_key_info : told.subject_public_key_info.offset ≡ places.subject.key_info.at
-  pub key : told.key.offset ≡ bits_at places.key
-  pub signature : told.signature.offset ≡ bits_at places.outer.signature
+-- each part begins where its component does in the layout of the certificate, or the contents or the bits of that
+pub record AreAtComponents (told : code.Fields) (certificate : Certificate) : Type 0 where
+  pub tbs : told.tbs.offset ≡ certificate.tbs.at
+  pub serial : told.serial.offset ≡ (body_place certificate.serial).at
+  pub algorithm : told.algorithm.offset ≡ certificate.algorithm.value.at
+  pub issuer : told.issuer.offset ≡ certificate.issuer.at
+  pub subject : told.subject.offset ≡ certificate.subject.at
+  pub subject_public_key_info : told.subject_public_key_info.offset ≡ certificate.key_info.value.at
+  pub key : told.key.offset ≡ bits_at certificate.key_info.key.value
+  pub signature : told.signature.offset ≡ bits_at certificate.signature.value
 
--- the components are those of the certificate's layout in the text
-abbrev pub AreAtComponents : List ℕ → code.Fields → Certificate → Type 0
-AreAtComponents text told certificate =
-    (layout : IsCertificateAt (record { octets = text; at = 0 }) certificate) →
-    AreAt told (components (record { octets = text; at = 0 }) certificate layout)
+-- the components of a certificate are parts of the text
+pub record ComponentsStandIn (text : List ℕ) (certificate : Certificate) : Type 0 where
+  pub tbs : StandsIn text certificate.tbs
+  pub serial : StandsIn text (body_place certificate.serial)
+  pub algorithm : StandsIn text certificate.algorithm.value
+  pub issuer : IsPartOf text certificate.issuer.at certificate.issuer.octets
+  pub subject : IsPartOf text certificate.subject.at certificate.subject.octets
+  pub key_info : StandsIn text certificate.key_info.value
+  pub key : StandsIn text (body_place certificate.key_info.key.value)
+  pub signature : StandsIn text (body_place certificate.signature.value)
 
 -- where the fault is one of DER, the number of the rule of DER that is broken
 abbrev pub der_number : CertRule → ℕ
@@ -146,18 +150,12 @@ pub record TellsCertificate (text : List ℕ) (answer : CertificateAnswer) (cert
   pub der_fault : answer.der_fault ≡ 0
   pub offset : answer.offset ≡ 0
   pub fields : TellsFields text answer.fields certificate
-  pub places : AreAtComponents text answer.fields certificate
+  pub places : AreAtComponents answer.fields certificate
 
 -- The answer tells what reading the text gives, unless memory was refused.
 abbrev pub Tells : List ℕ → CertificateAnswer → Result Certificate (CertRule × ℕ) → Type 0
 Tells text answer (Ok certificate) = (answer ≡ no_memory) ⊎ TellsCertificate text answer certificate
 Tells text answer (Err (rule, at)) = (answer ≡ no_memory) ⊎ TellsRefusal answer rule at
-
--- The fields that were read are those of the certificate, or it is the fault of reading the text.
-abbrev pub IsReadAs : List ℕ → Result code.Fields CertFault → Result Certificate (CertRule × ℕ) → Type 0
-IsReadAs text (Ok told) walk =
-    (certificate : Certificate) × (walk ≡ Ok certificate) × TellsFields text told certificate × AreAtComponents text told certificate
-IsReadAs text (Err fault) walk = FailsUnlessFull fault walk
 
 -- The answer tells of a fault.
 abbrev pub IsRefusalOf : CertificateAnswer → CertFault → Type 0

@@ -1,8 +1,8 @@
 //! The fields of a certificate as numbers and parts of the text.
 
-use crate::places::Places;
 use asn::Tlv;
 use cert::{BasicConstraints, Certificate, Extensions, KeyUsage};
+use names::Name;
 
 /// Octets of the text that was handed in.
 #[derive(Clone, Copy, Debug, PartialEq, Eq, Default)]
@@ -55,8 +55,8 @@ impl Part {
     ghost use Rattle.asn.specs.Part.{IsPartOf};
     ghost use Rattle.asn.specs.Place.{seen_tlv, body, body_place};
     ghost use Rattle.cert.specs.BitString.{bits_in};
-    ghost use Rattle.capi.specs.Parts.{IsPart};
-    ghost use Rattle.capi.specs.Places.{bits_at};
+    ghost use Rattle.names.specs.GeneralView.{name_contents};
+    ghost use Rattle.capi.specs.Parts.{IsPart, StandsIn, bits_at};
 
     /// The octets that stand at this offset.
     fn at(offset: usize, octets: &[u8]) -> Part
@@ -71,16 +71,24 @@ impl Part {
 
     /// The whole value.
     fn whole(value: Tlv<'_>) -> Part
-        ensures part { (text : List ℕ) → IsPartOf text value.entry.at value.entry.whole.now → IsPart text result value.entry.whole.now }
+        ensures part { (text : List ℕ) → StandsIn text (seen_tlv value.entry) → IsPart text result value.entry.whole.now }
         ensures place { result.offset ≡ value.entry.at }
     {
         Part::at(value.at, value.whole)
     }
 
+    /// The whole name.
+    fn name(name: &Name<'_>) -> Part
+        ensures part { (text : List ℕ) → IsPartOf text (name_contents name.now).at (name_contents name.now).octets
+            → IsPart text result (name_contents name.now).octets }
+        ensures place { result.offset ≡ (name_contents name.now).at }
+    {
+        Part::at(name.offset(), name.raw())
+    }
+
     /// The contents of the value.
     fn contents(value: Tlv<'_>) -> Part
-        ensures part { (text : List ℕ) → IsPartOf text (body_place (seen_tlv value.entry)).at (body_place (seen_tlv value.entry)).octets
-            → IsPart text result (body (seen_tlv value.entry)) }
+        ensures part { (text : List ℕ) → StandsIn text (body_place (seen_tlv value.entry)) → IsPart text result (body (seen_tlv value.entry)) }
         ensures place { result.offset ≡ (body_place (seen_tlv value.entry)).at }
     {
         Part::at(value.body_at(), value.body)
@@ -88,8 +96,7 @@ impl Part {
 
     /// The contents of the BIT STRING, behind the count of unused bits.
     fn bits(value: Tlv<'_>) -> Part
-        ensures part { (text : List ℕ) → IsPartOf text (body_place (seen_tlv value.entry)).at (body_place (seen_tlv value.entry)).octets
-            → IsPart text result (bits_in (body (seen_tlv value.entry))) }
+        ensures part { (text : List ℕ) → StandsIn text (body_place (seen_tlv value.entry)) → IsPart text result (bits_in (body (seen_tlv value.entry))) }
         ensures place { result.offset ≡ bits_at (seen_tlv value.entry) }
     {
         match value.body {
@@ -155,27 +162,27 @@ impl ExtensionFields {
 impl Fields {
     ghost use Rattle.std.specs.Prelude.{ℕ, List};
     ghost use Rattle.cert.specs.Certificate.{seen_certificate};
-    ghost use Rattle.capi.specs.Places.{seen_places, ArePlacesOf};
-    ghost use Rattle.capi.specs.Fields.{TellsFields, AreAt};
+    ghost use Rattle.capi.specs.Fields.{TellsFields, AreAtComponents, ComponentsStandIn};
 
-    /// The fields of a certificate whose components stand there.
-    pub(crate) fn of(certificate: &Certificate<'_>, places: Places<'_>) -> Fields
-        ensures parts { (text : List ℕ) → ArePlacesOf text (seen_places places.entry) (seen_certificate certificate.now)
+    /// The fields of the certificate, with the offsets of its components.
+    pub(crate) fn of(certificate: &Certificate<'_>) -> Fields
+        ensures parts { (text : List ℕ) → ComponentsStandIn text (seen_certificate certificate.now)
             → TellsFields text result (seen_certificate certificate.now) }
-        ensures places { AreAt result (seen_places places.entry) }
+        ensures places { AreAtComponents result (seen_certificate certificate.now) }
     {
+        let key_info = certificate.subject_public_key_info;
         Fields {
             version: u32::from(certificate.version.number()),
             not_before: certificate.validity.not_before,
             not_after: certificate.validity.not_after,
-            tbs: Part::whole(places.outer.tbs),
-            serial: Part::contents(places.head.serial),
-            algorithm: Part::whole(places.head.algorithm),
-            issuer: Part::whole(places.head.issuer),
-            subject: Part::whole(places.subject.name),
-            subject_public_key_info: Part::whole(places.subject.key_info),
-            key: Part::bits(places.key),
-            signature: Part::bits(places.outer.signature),
+            tbs: Part::whole(certificate.tbs),
+            serial: Part::contents(certificate.serial),
+            algorithm: Part::whole(certificate.algorithm.value),
+            issuer: Part::name(&certificate.issuer),
+            subject: Part::name(&certificate.subject),
+            subject_public_key_info: Part::whole(key_info.value),
+            key: Part::bits(key_info.key.value),
+            signature: Part::bits(certificate.signature.value),
             extensions: ExtensionFields::of(&certificate.extensions),
         }
     }

@@ -5,7 +5,6 @@ mod answer;
 mod checking;
 mod fields;
 mod fingerprint_call;
-mod places;
 mod reading;
 
 pub use answer::{Answer, CertificateAnswer};

@@ -2,32 +2,12 @@
 
 ghost use Rattle.std.specs.Prelude.{◌≡◌};
 ghost use Rattle.cert.specs.Certificate.{certificate};
-ghost use Rattle.capi.specs.Fields.{Tells, der_number, IsReadAs, IsRefusalOf};
+ghost use Rattle.capi.specs.Fields.{Tells, der_number, IsRefusalOf};
 
 use crate::answer::CertificateAnswer;
 use crate::fields::Fields;
-use crate::places::Places;
-use asn::Tlv;
 use cert::{CertFault, CertRule, Certificate};
 use std::alloc::Global;
-
-/// The fields of the certificate that the octets are, as `Certificate::read` says.
-fn read_fields(alloc: Global, octets: &[u8]) -> Result<Fields, CertFault>
-    ensures { IsReadAs octets.now result (certificate octets.now) }
-{
-    let value = match Tlv::outermost(octets) {
-        Ok(value) => value,
-        Err((rule, at)) => return Err(CertFault::Refused(CertRule::Der(rule), at)),
-    };
-    let certificate = match Certificate::at(alloc, value) {
-        Ok(certificate) => certificate,
-        Err(fault) => return Err(fault),
-    };
-    match Places::of(value) {
-        Ok(places) => Ok(Fields::of(&certificate, places)),
-        Err(_) => unreachable!(),
-    }
-}
 
 /// The number of the rule of DER that is broken, or 0.
 fn der_fault(rule: CertRule) -> u32
@@ -62,12 +42,12 @@ fn refusal(fault: CertFault) -> CertificateAnswer
 pub extern "C" fn x509check_read_certificate(alloc: Global, octets: &[u8]) -> CertificateAnswer
     ensures { Tells octets.now result (certificate octets.now) }
 {
-    match read_fields(alloc, octets) {
-        Ok(fields) => CertificateAnswer {
+    match Certificate::read(alloc, octets) {
+        Ok(certificate) => CertificateAnswer {
             fault: 0,
             der_fault: 0,
             offset: 0,
-            fields,
+            fields: Fields::of(&certificate),
         },
         Err(fault) => refusal(fault),
     }

@@ -43,7 +43,7 @@ has_algorithm value place fields encoded is =
       optional = as_at_most_one first.4 is.optional;
     }
 
-pub algorithm_has : (value : Value) (place : Place) (fields : AlgorithmIdentifier) → IsEncodingOf value place → fields.whole ≡ place → HasAlgorithmLayout value fields.oid → IsAlgorithmIdentifier place fields
+pub algorithm_has : (value : Value) (place : Place) (fields : AlgorithmIdentifier) → IsEncodingOf value place → fields.value ≡ place → HasAlgorithmLayout value fields.oid → IsAlgorithmIdentifier place fields
 algorithm_has value place fields encoded whole has =
     let inside = of_constructed encoded has.sequence in
     let first = of_more inside.1 refl in

@@ -18,7 +18,7 @@ use Rattle.cert.specs.Fault.{as_der}
 use Rattle.cert.specs.AlgorithmIdentifier.{AlgorithmIdentifier, algorithm_identifier, IsAlgorithmIdentifier}
 use Rattle.cert.specs.Validity.{validity, IsValidity}
 use Rattle.cert.specs.SubjectPublicKeyInfo.{key_info, IsSubjectPublicKeyInfo}
-use Rattle.cert.specs.BitString.{bits_in, has_no_unused_bits}
+use Rattle.cert.specs.BitString.{BitString, bit_string_at, bits_in, has_no_unused_bits}
 use Rattle.cert.specs.Version.{is_v3, IsVersion}
 use Rattle.cert.specs.Extensions.{Extensions, no_extensions}
 use Rattle.cert.specs.TbsCertificate.{TbsHead, Subject, component, serial_number, distinguished_name, issuer, unique_id, tbs_head, tbs_subject}
@@ -102,13 +102,12 @@ optional_extensions_again version left (explicit ∷ other ∷ tagged) found fit
 -- the components up to the validity
 record TakesHead (left : Members) (head : TbsHead) (others : Members) : Type 0 where
   versions : List Place
-  serial : Place
   signature : Place
   issuer : Place
   validity : Place
-  values : left.values ≡ versions ++ serial ∷ signature ∷ issuer ∷ validity ∷ others.values
+  values : left.values ≡ versions ++ head.serial ∷ signature ∷ issuer ∷ validity ∷ others.values
   version_is : IsVersion versions head.version
-  serial_is : IsSerialNumber serial head.serial
+  serial_is : IsSerialNumber head.serial (body head.serial)
   signature_is : IsAlgorithmIdentifier signature head.signature
   issuer_is : IsNameOf issuer head.issuer
   issuer_named : head.issuer.rdns ≢ []
@@ -128,16 +127,16 @@ head_ok left x e =
     let fourth = component_ok 0x30 Rattle.cert.specs.TbsCertificate.issuer signature.0.1 issuer.0 issuer.1 in
     let fifth = component_ok 0x30 validity issuer.0.1 validity_found.0 validity_found.1 in
     let named = issuer_ok fourth.value issuer.0.0 fourth.read_is in
+    let integer = serial_ok second.value serial.0.0 second.took.tag_is second.read_is in
     let P : TbsHead × Members → Type 0 = λ y. TakesHead left y.0 y.1 in
     subst P (ok_is {E = CertRule × ℕ} _ x validity_found.2) record {
       versions = first.versions;
-      serial = second.value;
       signature = third.value;
       issuer = fourth.value;
       validity = fifth.value;
-      values = first.values ∙ ap (◌++◌ first.versions) (second.took.values ∙ ap (◌∷◌ second.value) (third.took.values ∙ ap (◌∷◌ third.value) (fourth.took.values ∙ ap (◌∷◌ fourth.value) fifth.took.values)));
+      values = first.values ∙ ap (◌++◌ first.versions) (second.took.values ∙ ap (λ s. s ∷ serial.0.1.values) integer.0 ∙ ap (◌∷◌ serial.0.0) (third.took.values ∙ ap (◌∷◌ third.value) (fourth.took.values ∙ ap (◌∷◌ fourth.value) fifth.took.values)));
       version_is = first.is_version;
-      serial_is = serial_ok second.value serial.0.0 second.took.tag_is second.read_is;
+      serial_is = integer.1;
       signature_is = is_algorithm R.Layout third.value signature.0.0 third.read_is;
       issuer_is = named.0;
       issuer_named = named.1;
@@ -151,13 +150,13 @@ head_again : (left others : Members) (head : TbsHead) → TakesHead left head ot
 unfolding tbs_head
 head_again left others head is end =
     let next : List Place → Members = λ values. record { values = values; end = left.end } in
-    let after_version = is.serial ∷ is.signature ∷ is.issuer ∷ is.validity ∷ others.values in
+    let after_version = head.serial ∷ is.signature ∷ is.issuer ∷ is.validity ∷ others.values in
     let after_serial = is.signature ∷ is.issuer ∷ is.validity ∷ others.values in
     let after_signature = is.issuer ∷ is.validity ∷ others.values in
     let after_issuer = is.validity ∷ others.values in
     rw (
-      version_again left is.versions after_version head.version is.values is.version_is (no_version is.serial after_serial is.serial_is.integer),
-      component_again 0x02 serial_number (next after_version) is.serial after_serial head.serial refl is.serial_is.integer (serial_again is.serial head.serial is.serial_is),
+      version_again left is.versions after_version head.version is.values is.version_is (no_version head.serial after_serial is.serial_is.integer),
+      component_again 0x02 serial_number (next after_version) head.serial after_serial head.serial refl is.serial_is.integer (serial_again head.serial is.serial_is),
       component_again 0x30 (algorithm_identifier R.Layout) (next after_serial) is.signature after_signature head.signature refl is.signature_is.sequence (algorithm_is R.Layout is.signature head.signature is.signature_is),
       component_again 0x30 issuer (next after_signature) is.issuer after_issuer head.issuer refl is.issuer_is.is_name.sequence (issuer_again is.issuer head.issuer is.issuer_is is.issuer_named),
       component_again 0x30 validity (next after_issuer) is.validity others.values head.validity refl is.validity_is.sequence (validity_is is.validity head.validity is.validity_is),
@@ -236,10 +235,10 @@ octets_behind front left others e fits = all_behind Octets front others (subst (
 -- the members, from the values that the three steps took
 in_order : {left behind_head behind_subject others : Members} {head : TbsHead} {version : Version} {subject : Subject} {found : Extensions} (first : TakesHead left head behind_head) (second : TakesSubject version behind_head subject behind_subject) (third : TakesExtensions version behind_subject found others)
     → others.values ≡ []
-    → left.values ≡ first.versions ++ (first.serial ∷ first.signature ∷ first.issuer ∷ first.validity ∷ (second.name ∷ second.key_info ∷ second.issuer_ids ++ (second.subject_ids ++ third.tagged)))
-in_order first second third none =
+    → left.values ≡ first.versions ++ (head.serial ∷ first.signature ∷ first.issuer ∷ first.validity ∷ (second.name ∷ second.key_info ∷ second.issuer_ids ++ (second.subject_ids ++ third.tagged)))
+in_order {head = head} first second third none =
     first.values
-    ∙ ap (λ vs. first.versions ++ (first.serial ∷ first.signature ∷ first.issuer ∷ first.validity ∷ vs))
+    ∙ ap (λ vs. first.versions ++ (head.serial ∷ first.signature ∷ first.issuer ∷ first.validity ∷ vs))
     (second.values
     ∙ ap (λ vs. second.name ∷ second.key_info ∷ second.issuer_ids ++ (second.subject_ids ++ vs))
     (third.values ∙ ap (◌++◌ third.tagged) none ∙ append-nil third.tagged))
@@ -253,13 +252,12 @@ is_tbs value fields fits e =
     let done = bind_ok _ _ fields extensions.2 in
     let first = head_ok (members value) head.0 head.1 in
     let second = subject_ok head.0.0.version head.0.1 subject.0 subject.1 in
-    let behind_head = (octets_behind first.versions ((members value).values) (first.serial ∷ first.signature ∷ first.issuer ∷ first.validity ∷ head.0.1.values) first.values (members_octets value fits)).1.1.1.1 in
+    let behind_head = (octets_behind first.versions ((members value).values) (head.0.0.serial ∷ first.signature ∷ first.issuer ∷ first.validity ∷ head.0.1.values) first.values (members_octets value fits)).1.1.1.1 in
     let behind_key = (subst (AllByRecursion Octets) second.values behind_head).1.1 in
     let behind_ids = all_behind Octets second.subject_ids subject.0.1.values (all_behind Octets second.issuer_ids (second.subject_ids ++ subject.0.1.values) behind_key) in
     let third = optional_extensions_ok head.0.0.version subject.0.1 extensions.0 behind_ids extensions.1 in
     subst (IsTbsCertificate value) (ok_is {E = CertRule × ℕ} _ fields done.2) record {
       versions = first.versions;
-      serial = first.serial;
       signature = first.signature;
       issuer = first.issuer;
       validity = first.validity;
@@ -289,7 +287,6 @@ tbs_is value fields fits is =
     let after_head = is.subject ∷ is.key_info ∷ is.issuer_ids ++ (is.subject_ids ++ is.extensions) in
     let head : TakesHead (members value) fields.head (next after_head) = record {
       versions = is.versions;
-      serial = is.serial;
       signature = is.signature;
       issuer = is.issuer;
       validity = is.validity;
@@ -312,7 +309,7 @@ tbs_is value fields fits is =
       issuer_id_is = is.issuer_id_is;
       subject_id_is = is.subject_id_is;
     } in
-    let behind_head = (octets_behind is.versions ((members value).values) (is.serial ∷ is.signature ∷ is.issuer ∷ is.validity ∷ after_head) is.members_are (members_octets value fits)).1.1.1.1 in
+    let behind_head = (octets_behind is.versions ((members value).values) (fields.head.serial ∷ is.signature ∷ is.issuer ∷ is.validity ∷ after_head) is.members_are (members_octets value fits)).1.1.1.1 in
     let behind_ids = all_behind Octets is.subject_ids is.extensions (all_behind Octets is.issuer_ids (is.subject_ids ++ is.extensions) behind_head.1.1) in
     rw (
       head_again (members value) (next after_head) fields.head head refl,
@@ -322,30 +319,31 @@ tbs_is value fields fits is =
     ) refl
 
 -- the signature
-signature_ok : (value : Place) (octets : List ℕ) → tag value ≡ 0x03 → signature_value value ≡ Ok octets → IsSignature value octets
+signature_ok : (value : Place) (read : BitString) → tag value ≡ 0x03 → signature_value value ≡ Ok read → (value ≡ read.value) × IsSignature read.value read.octets
 unfolding signature_value
-signature_ok value octets t e =
-    let whole = bind_ok _ _ octets e in
-    record { bit_string = t; contents = by (body value) (check_ok _ _ _ _ whole.1) ∙ ap (◌∷◌ 0) (ok_is {E = CertRule × ℕ} (bits_in (body value)) octets whole.2) }
+signature_ok value read t e =
+    let whole = bind_ok _ _ read e in
+    let P : BitString → Type 0 = λ b. (value ≡ b.value) × IsSignature b.value b.octets in
+    subst P (ok_is {E = CertRule × ℕ} (bit_string_at value) read whole.2) (refl, record { bit_string = t; contents = by (body value) (check_ok _ _ _ _ whole.1) })
   where
     by : (contents : List ℕ) → has_no_unused_bits contents ≡ true → contents ≡ 0 ∷ bits_in contents
     by [] f = absurd cc
     by (unused ∷ bits) f = ap (λ (n : ℕ). n ∷ bits) (eqb-true unused 0 f)
 
-signature_again : (value : Place) (octets : List ℕ) → IsSignature value octets → signature_value value ≡ Ok octets
+signature_again : (read : BitString) → IsSignature read.value read.octets → signature_value read.value ≡ Ok read
 unfolding signature_value
-signature_again value octets is =
-    let whole = check_again (has_no_unused_bits (body value)) R.SignatureBits value.at (ap has_no_unused_bits is.contents) in
+signature_again read is =
+    let whole = check_again (has_no_unused_bits (body read.value)) R.SignatureBits read.value.at (ap has_no_unused_bits is.contents) in
     rw (whole, is.contents) refl
 
 -- signatureAlgorithm
-same_ok : (inner : AlgorithmIdentifier) (value : Place) (u : Unit {0}) → same_algorithm inner value ≡ Ok u → value.octets ≡ inner.whole.octets
+same_ok : (inner : AlgorithmIdentifier) (value : Place) (u : Unit {0}) → same_algorithm inner value ≡ Ok u → value.octets ≡ inner.value.octets
 unfolding same_algorithm
-same_ok inner value u e = (bytes_eq-Decides value.octets inner.whole.octets).0 (check_ok _ _ _ _ e)
+same_ok inner value u e = (bytes_eq-Decides value.octets inner.value.octets).0 (check_ok _ _ _ _ e)
 
-same_again : (inner : AlgorithmIdentifier) (value : Place) → value.octets ≡ inner.whole.octets → same_algorithm inner value ≡ Ok tt
+same_again : (inner : AlgorithmIdentifier) (value : Place) → value.octets ≡ inner.value.octets → same_algorithm inner value ≡ Ok tt
 unfolding same_algorithm
-same_again inner value same = check_again (bytes_eq value.octets inner.whole.octets) R.AlgorithmsDiffer value.at ((bytes_eq-Decides value.octets inner.whole.octets).1 same)
+same_again inner value same = check_again (bytes_eq value.octets inner.value.octets) R.AlgorithmsDiffer value.at ((bytes_eq-Decides value.octets inner.value.octets).1 same)
 
 -- the whole certificate
 pub is_certificate_at : (value : Place) (fields : Certificate) → AreOctets value.octets → certificate_at value ≡ Ok fields → IsCertificateAt value fields
@@ -360,20 +358,20 @@ is_certificate_at value fields fits e =
     let first = required_ok _ _ _ _ signed.1 in
     let second = component_ok 0x30 (same_algorithm tbs.0.head.signature) signed.0.1 algorithm.0 algorithm.1 in
     let third = component_ok 0x03 signature_value algorithm.0.1 signature.0 signature.1 in
+    let bits = signature_ok third.value signature.0.0 third.took.tag_is third.read_is in
     let signed_fits = (subst (AllByRecursion Octets) first.values (members_octets value fits)).0 in
     record {
       signed = signed.0.0;
       algorithm = second.value;
-      signature = third.value;
+      signature = signature.0.0;
       tbs = tbs.0;
-      octets = signature.0.0;
       sequence = is_a_ok _ _ _ _ sequence.1;
-      members_are = first.values ∙ ap (◌∷◌ signed.0.0) (second.took.values ∙ ap (◌∷◌ second.value) (third.took.values ∙ ap (◌∷◌ third.value) (ended_ok _ _ _ done.1)));
+      members_are = first.values ∙ ap (◌∷◌ signed.0.0) (second.took.values ∙ ap (◌∷◌ second.value) (third.took.values ∙ ap (λ s. s ∷ signature.0.1.values) bits.0 ∙ ap (◌∷◌ signature.0.0.value) (ended_ok _ _ _ done.1)));
       signed_sequence = first.tag_is;
       signed_is = is_tbs signed.0.0 tbs.0 signed_fits tbs.1;
       same_algorithm = same_ok tbs.0.head.signature second.value algorithm.0.0 second.read_is;
       algorithm_sequence = second.took.tag_is;
-      signature_is = signature_ok third.value signature.0.0 third.took.tag_is third.read_is;
+      signature_is = bits.1;
       fields_are = sym (ok_is {E = CertRule × ℕ} _ fields done.2);
     }
 
@@ -384,10 +382,10 @@ certificate_at_is value fields fits is =
     let signed_fits = (subst (AllByRecursion Octets) is.members_are (members_octets value fits)).0 in
     rw (
       is_a_again 0x30 R.Layout value is.sequence,
-      required_again 0x30 R.Layout (members value) is.signed (is.algorithm ∷ is.signature ∷ []) is.members_are is.signed_sequence,
+      required_again 0x30 R.Layout (members value) is.signed (is.algorithm ∷ is.signature.value ∷ []) is.members_are is.signed_sequence,
       tbs_is is.signed is.tbs signed_fits is.signed_is,
-      component_again 0x30 (same_algorithm is.tbs.head.signature) (next (is.algorithm ∷ is.signature ∷ [])) is.algorithm (is.signature ∷ []) tt refl is.algorithm_sequence (same_again is.tbs.head.signature is.algorithm is.same_algorithm),
-      component_again 0x03 signature_value (next (is.signature ∷ [])) is.signature [] is.octets refl is.signature_is.bit_string (signature_again is.signature is.octets is.signature_is),
+      component_again 0x30 (same_algorithm is.tbs.head.signature) (next (is.algorithm ∷ is.signature.value ∷ [])) is.algorithm (is.signature.value ∷ []) tt refl is.algorithm_sequence (same_again is.tbs.head.signature is.algorithm is.same_algorithm),
+      component_again 0x03 signature_value (next (is.signature.value ∷ [])) is.signature.value [] is.signature refl is.signature_is.bit_string (signature_again is.signature is.signature_is),
       ended_again R.Layout (next []) refl,
       ← is.fields_are,
     ) refl

@@ -21,7 +21,6 @@ is_key_info value fields e =
     subst (IsSubjectPublicKeyInfo value) (ok_is {E = CertRule × ℕ} _ fields done.2) record {
       algorithm = algorithm.0.0;
       key = key.0.0;
-      identified = read.0;
       sequence = is_a_ok _ _ _ _ sequence.1;
       members_are = first.values ∙ ap (◌∷◌ algorithm.0.0) (last.values ∙ ap (◌∷◌ key.0.0) (ended_ok _ _ _ done.1));
       algorithm_is = is_algorithm _ _ _ read.1;
@@ -34,4 +33,4 @@ pub key_info_is : (value : Place) (fields : SubjectPublicKeyInfo) → IsSubjectP
 unfolding key_info
 key_info_is value fields is =
     let left : List Place → Members = λ values. record { values = values; end = (members value).end } in
-    rw (is_a_again 0x30 Layout value is.sequence, required_again 0x30 Layout (members value) is.algorithm (is.key ∷ []) is.members_are is.algorithm_is.sequence, algorithm_is Layout is.algorithm is.identified is.algorithm_is, required_again 0x03 Layout (left (is.key ∷ [])) is.key [] refl is.bit_string, ended_again Layout (left []) refl, ← is.whole, ← is.bits) refl
+    rw (is_a_again 0x30 Layout value is.sequence, required_again 0x30 Layout (members value) is.algorithm (is.key ∷ []) is.members_are is.algorithm_is.sequence, algorithm_is Layout is.algorithm fields.algorithm is.algorithm_is, required_again 0x03 Layout (left (is.key ∷ [])) is.key [] refl is.bit_string, ended_again Layout (left []) refl, ← is.whole, ← is.bits) refl

@@ -39,22 +39,23 @@ unfolding component
 component_again identifier read left value others found e t r = rw (required_again identifier R.Layout left value others e t, r) refl
 
 -- serialNumber
-pub serial_ok : (value : Place) (serial : List ℕ) → tag value ≡ 0x02 → serial_number value ≡ Ok serial → IsSerialNumber value serial
+pub serial_ok : (value serial : Place) → tag value ≡ 0x02 → serial_number value ≡ Ok serial → (value ≡ serial) × IsSerialNumber serial (body serial)
 unfolding serial_number
 serial_ok value serial t e =
     let short = bind_ok _ _ serial e in
     let both = and_parts (nat_lt 0 (length (body value))) (nat_lt (length (body value)) 33) (check_ok _ _ _ _ short.1) in
     let low = ltb-true 0 (length (body value)) both.0 in
     let high = ltb-true (length (body value)) 33 both.1 in
-    record { integer = t; some = low; short = omega arith; contents = sym (ok_is {E = CertRule × ℕ} (body value) serial short.2) }
+    let same = ok_is {E = CertRule × ℕ} value serial short.2 in
+    (same, subst (λ s. IsSerialNumber s (body s)) same (record { integer = t; some = low; short = omega arith; contents = refl }))
 
-pub serial_again : (value : Place) (serial : List ℕ) → IsSerialNumber value serial → serial_number value ≡ Ok serial
+pub serial_again : (value : Place) → IsSerialNumber value (body value) → serial_number value ≡ Ok value
 unfolding serial_number
-serial_again value serial is =
+serial_again value is =
     let some = is.some in
     let short = is.short in
     let fits = and_from (nat_lt 0 (length (body value))) (nat_lt (length (body value)) 33) (lt-ltb 0 (length (body value)) some) (lt-ltb (length (body value)) 33 (omega arith)) in
-    rw (check_again (is_serial (body value)) R.Serial value.at fits, ← is.contents) refl
+    rw (check_again (is_serial (body value)) R.Serial value.at fits) refl
 
 -- names
 pub name_ok : (value : Place) (contents : NameContents) → distinguished_name value ≡ Ok contents → IsNameOf value contents

@@ -13,11 +13,11 @@ use Rattle.cert.specs.declared.fault.CertRule.TheVariants.{Layout}
 
 -- where the whole value stands, and the contents octets of the OBJECT IDENTIFIER
 pub record AlgorithmIdentifier : Type 0 where
-  pub whole : Place
+  pub value : Place
   pub oid : List ℕ
 
 abbrev pub seen_algorithm : code.AlgorithmIdentifier → AlgorithmIdentifier
-seen_algorithm read = record { whole = seen_tlv read.whole; oid = oid_contents read.oid }
+seen_algorithm read = record { value = seen_tlv read.value; oid = oid_contents read.oid }
 
 -- The checks in their order. The fault is that of the layout round the value.
 unfoldable pub algorithm_identifier : {F : Type 0} → F → Place → Result AlgorithmIdentifier (F × ℕ)
@@ -25,7 +25,7 @@ algorithm_identifier layout value = do
   sequence ← is_a 0x30 layout value
   algorithm ← required 0x06 layout (members value)
   done ← ended layout (any algorithm.1).1
-  Ok (record { whole = value; oid = body algorithm.0 })
+  Ok (record { value = value; oid = body algorithm.0 })
 
 -- The place is a SEQUENCE of an OBJECT IDENTIFIER and at most one more value, of any kind.
 pub record IsAlgorithmIdentifier (value : Place) (fields : AlgorithmIdentifier) : Type 0 where
@@ -35,7 +35,7 @@ pub record IsAlgorithmIdentifier (value : Place) (fields : AlgorithmIdentifier) 
   pub members_are : (members value).values ≡ algorithm ∷ parameters
   pub identifier : tag algorithm ≡ 0x06
   pub optional : AtMostOne parameters
-  pub whole : fields.whole ≡ value
+  pub whole : fields.value ≡ value
   pub oid : fields.oid ≡ body algorithm
 
 -- The same of a value.
@@ -53,4 +53,4 @@ abbrev pub AlgorithmIdentifierHasLayout : Type 0
 AlgorithmIdentifierHasLayout =
     (depth : ℕ) (value : Value) (place : Place) (fields : AlgorithmIdentifier) →
     EncodesAt depth place.octets value →
-    (algorithm_identifier Layout place ≡ Ok fields) ↔ ((fields.whole ≡ place) × HasAlgorithmLayout value fields.oid)
+    (algorithm_identifier Layout place ≡ Ok fields) ↔ ((fields.value ≡ place) × HasAlgorithmLayout value fields.oid)

@@ -1,7 +1,7 @@
 -- Certificates (RFC 5280, 4.1): SEQUENCE { tbsCertificate, signatureAlgorithm, signatureValue BIT STRING }
 use Rattle.std.specs.Prelude.{ℕ, Bool, List, Option, Some, None, Result, Ok}
 use Rattle.std.specs.Str.{bytes_eq}
-use Rattle.asn.specs.Place.{Place, body}
+use Rattle.asn.specs.Place.{Place, seen_tlv, body}
 use Rattle.asn.specs.Members.{Members, members}
 use Rattle.asn.specs.Walk.{◌>>=◌, is_a, required, optional, ended, check_that}
 use Rattle.asn.specs.Judgement.{outermost}
@@ -14,10 +14,10 @@ use Rattle.cert.specs.declared.version.Version.{Version}
 use Rattle.cert.specs.declared.certificate.Certificate as code
 use Rattle.cert.specs.declared.certificate.TbsCertificate as signed_part
 use Rattle.cert.specs.Fault.{as_der}
-use Rattle.cert.specs.AlgorithmIdentifier.{AlgorithmIdentifier}
+use Rattle.cert.specs.AlgorithmIdentifier.{AlgorithmIdentifier, seen_algorithm}
 use Rattle.cert.specs.Validity.{Validity, seen_validity}
 use Rattle.cert.specs.SubjectPublicKeyInfo.{SubjectPublicKeyInfo, seen_key_info}
-use Rattle.cert.specs.BitString.{bits_in, has_no_unused_bits}
+use Rattle.cert.specs.BitString.{BitString, bit_string_at, seen_bit_string, has_no_unused_bits}
 use Rattle.cert.specs.Version.{is_v3}
 use Rattle.cert.specs.Extensions.{Extensions, no_extensions, extensions, seen_extensions}
 use Rattle.cert.specs.TbsCertificate.{TbsHead, Subject, component, tbs_head, tbs_subject, seen_head, seen_subject}
@@ -55,48 +55,48 @@ tbs_certificate value = do
 
 -- signatureAlgorithm (4.1.1.2): the same octets as the algorithm identifier in the signed part
 unfoldable pub same_algorithm : AlgorithmIdentifier → Place → Result (Unit {0}) (CertRule × ℕ)
-same_algorithm inner value = check_that (bytes_eq value.octets inner.whole.octets) R.AlgorithmsDiffer value.at
+same_algorithm inner value = check_that (bytes_eq value.octets inner.value.octets) R.AlgorithmsDiffer value.at
 
 -- signatureValue (4.1.1.3): a BIT STRING of octets, with no bit unused
-unfoldable pub signature_value : Place → Result (List ℕ) (CertRule × ℕ)
-signature_value value = check_that (has_no_unused_bits (body value)) R.SignatureBits value.at >>= λ whole. Ok (bits_in (body value))
+unfoldable pub signature_value : Place → Result BitString (CertRule × ℕ)
+signature_value value = check_that (has_no_unused_bits (body value)) R.SignatureBits value.at >>= λ whole. Ok (bit_string_at value)
 
--- The fields of a certificate.
+-- The fields of a certificate. What is a part of its octets is told with its place.
 pub record Certificate : Type 0 where
   pub octets : List ℕ
-  pub tbs : List ℕ
+  pub tbs : Place
   pub version : Version
-  pub serial : List ℕ
-  pub algorithm : List ℕ
+  pub serial : Place
+  pub algorithm : AlgorithmIdentifier
   pub issuer : NameContents
   pub validity : Validity
   pub subject : NameContents
   pub key_info : SubjectPublicKeyInfo
   pub extensions : Extensions
-  pub signature : List ℕ
+  pub signature : BitString
 
 abbrev pub seen_certificate : code.Certificate → Certificate
 seen_certificate read = record {
   octets = read.octets.now;
-  tbs = read.tbs.now;
+  tbs = seen_tlv read.tbs;
   version = read.version;
-  serial = read.serial.now;
-  algorithm = read.algorithm.now;
+  serial = seen_tlv read.serial;
+  algorithm = seen_algorithm read.algorithm;
   issuer = name_contents read.issuer;
   validity = seen_validity read.validity;
   subject = name_contents read.subject;
   key_info = seen_key_info read.subject_public_key_info;
   extensions = seen_extensions read.extensions;
-  signature = read.signature.now;
+  signature = seen_bit_string read.signature;
 }
 
-abbrev pub certificate_with : List ℕ → Place → TbsCertificate → List ℕ → Certificate
+abbrev pub certificate_with : List ℕ → Place → TbsCertificate → BitString → Certificate
 certificate_with octets signed tbs signature = record {
   octets = octets;
-  tbs = signed.octets;
+  tbs = signed;
   version = tbs.head.version;
   serial = tbs.head.serial;
-  algorithm = tbs.head.signature.whole.octets;
+  algorithm = tbs.head.signature;
   issuer = tbs.head.issuer;
   validity = tbs.head.validity;
   subject = tbs.subject.name;

@@ -10,6 +10,7 @@ use Rattle.names.specs.NameForms.{IsName}
 use Rattle.cert.specs.declared.version.Version.{Version}
 use Rattle.cert.specs.declared.version.Version.TheVariants.{V1, V3}
 use Rattle.cert.specs.AlgorithmIdentifier.{IsAlgorithmIdentifier}
+use Rattle.cert.specs.BitString.{BitString}
 use Rattle.cert.specs.Validity.{IsValidity}
 use Rattle.cert.specs.SubjectPublicKeyInfo.{IsSubjectPublicKeyInfo}
 use Rattle.cert.specs.Version.{IsVersion}
@@ -53,7 +54,6 @@ AreOptionalExtensions (value ∷ other ∷ values) version extensions = ⊥
 -- issuerUniqueID [1], subjectUniqueID [2], extensions [3] } (4.1.2)
 pub record IsTbsCertificate (value : Place) (fields : TbsCertificate) : Type 0 where
   pub versions : List Place
-  pub serial : Place
   pub signature : Place
   pub issuer : Place
   pub validity : Place
@@ -64,9 +64,9 @@ pub record IsTbsCertificate (value : Place) (fields : TbsCertificate) : Type 0 w
   pub extensions : List Place
   pub members_are :
       (members value).values
-      ≡ versions ++ (serial ∷ signature ∷ issuer ∷ validity ∷ subject ∷ key_info ∷ issuer_ids ++ (subject_ids ++ extensions))
+      ≡ versions ++ (fields.head.serial ∷ signature ∷ issuer ∷ validity ∷ subject ∷ key_info ∷ issuer_ids ++ (subject_ids ++ extensions))
   pub version_is : IsVersion versions fields.head.version
-  pub serial_is : IsSerialNumber serial fields.head.serial
+  pub serial_is : IsSerialNumber fields.head.serial (body fields.head.serial)
   pub signature_is : IsAlgorithmIdentifier signature fields.head.signature
   pub issuer_is : IsNameOf issuer fields.head.issuer
   pub issuer_named : fields.head.issuer.rdns ≢ []
@@ -86,18 +86,17 @@ pub record IsSignature (value : Place) (octets : List ℕ) : Type 0 where
 pub record IsCertificateAt (value : Place) (fields : Certificate) : Type 0 where
   pub signed : Place
   pub algorithm : Place
-  pub signature : Place
+  pub signature : BitString
   pub tbs : TbsCertificate
-  pub octets : List ℕ
   pub sequence : tag value ≡ 0x30
-  pub members_are : (members value).values ≡ signed ∷ algorithm ∷ signature ∷ []
+  pub members_are : (members value).values ≡ signed ∷ algorithm ∷ signature.value ∷ []
   pub signed_sequence : tag signed ≡ 0x30
   pub signed_is : IsTbsCertificate signed tbs
   -- signatureAlgorithm (4.1.1.2) is the algorithm identifier of the signed part
-  pub same_algorithm : algorithm.octets ≡ tbs.head.signature.whole.octets
+  pub same_algorithm : algorithm.octets ≡ tbs.head.signature.value.octets
   pub algorithm_sequence : tag algorithm ≡ 0x30
-  pub signature_is : IsSignature signature octets
-  pub fields_are : fields ≡ certificate_with value.octets signed tbs octets
+  pub signature_is : IsSignature signature.value signature.octets
+  pub fields_are : fields ≡ certificate_with value.octets signed tbs signature
 
 -- The octets are DER (X.690), and have the layout of a certificate with these fields.
 pub record IsCertificate (octets : List ℕ) (fields : Certificate) : Type 0 where

@@ -1,6 +1,6 @@
 -- The signed part of a certificate, without its extensions (RFC 5280, 4.1.2).
 use Rattle.std.specs.Prelude.{ℕ, ◌&&◌, nat_lt, Bool, true, false, not, List, [], ◌∷◌, length, Option, Some, None, Result, Ok}
-use Rattle.asn.specs.Place.{Place, body}
+use Rattle.asn.specs.Place.{Place, seen_tlv, body}
 use Rattle.asn.specs.Members.{Members}
 use Rattle.asn.specs.Walk.{◌>>=◌, required, optional, check_that}
 use Rattle.names.specs.DistinguishedName.{RdnMap}
@@ -29,8 +29,8 @@ component identifier read left = do
 abbrev pub is_serial : List ℕ → Bool
 is_serial contents = nat_lt 0 (length contents) && nat_lt (length contents) 33
 
-unfoldable pub serial_number : Place → Result (List ℕ) (CertRule × ℕ)
-serial_number value = check_that (is_serial (body value)) R.Serial value.at >>= λ short. Ok (body value)
+unfoldable pub serial_number : Place → Result Place (CertRule × ℕ)
+serial_number value = check_that (is_serial (body value)) R.Serial value.at >>= λ short. Ok value
 
 -- a name (4.1.2.4, 4.1.2.6)
 unfoldable pub distinguished_name : Place → Result NameContents (CertRule × ℕ)
@@ -58,13 +58,13 @@ unique_id identifier version left = unique_id_in version (optional identifier le
 -- The components up to the validity.
 pub record TbsHead : Type 0 where
   pub version : Version
-  pub serial : List ℕ
+  pub serial : Place
   pub signature : AlgorithmIdentifier
   pub issuer : NameContents
   pub validity : Validity
 
 abbrev pub seen_head : head.TbsHead → TbsHead
-seen_head read = record { version = read.version; serial = read.serial.now; signature = seen_algorithm read.signature; issuer = name_contents read.issuer; validity = seen_validity read.validity }
+seen_head read = record { version = read.version; serial = seen_tlv read.serial; signature = seen_algorithm read.signature; issuer = name_contents read.issuer; validity = seen_validity read.validity }
 
 unfoldable pub tbs_head : Members → Result (TbsHead × Members) (CertRule × ℕ)
 tbs_head left = do

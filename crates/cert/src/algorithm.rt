@@ -10,7 +10,7 @@ use asn::{Oid, Tlv};
 #[derive(Clone, Copy)]
 pub struct AlgorithmIdentifier<'a> {
     /// The whole value, parameters and all.
-    pub whole: Tlv<'a>,
+    pub value: Tlv<'a>,
     pub oid: Oid<'a>,
 }
 
@@ -27,7 +27,7 @@ impl<'a> AlgorithmIdentifier<'a> {
         members.any();
         members.ended(layout)?;
         Ok(AlgorithmIdentifier {
-            whole: value,
+            value,
             oid: Oid::new(algorithm.body),
         })
     }

@@ -7,13 +7,14 @@ ghost use Rattle.asn.specs.Walk.{Gives};
 ghost use Rattle.asn.specs.Judgement.{outermost as asn_outermost};
 ghost use Rattle.names.specs.DistinguishedName.{NamesMatch};
 ghost use Rattle.cert.specs.AlgorithmIdentifier.{seen_algorithm};
+ghost use Rattle.cert.specs.BitString.{seen_bit_string};
 ghost use Rattle.cert.specs.Certificate.{optional_extensions, tbs_certificate, seen_tbs, same_algorithm, signature_value, certificate_at, certificate, seen_certificate, is_self_issued};
 ghost use Rattle.cert.specs.Extensions.{seen_extensions};
 ghost use Rattle.cert.specs.Fault.{GivesUnlessFull, as_der};
 ghost use Rattle.cert.specs.TbsCertificate.{component};
 
 use crate::algorithm::AlgorithmIdentifier;
-use crate::bit_string::{bits_of, is_of_whole_octets};
+use crate::bit_string::{BitString, is_of_whole_octets};
 use crate::extensions::Extensions;
 use crate::fault::{CertFault, CertRule, Refusal};
 use crate::key_info::SubjectPublicKeyInfo;
@@ -29,13 +30,13 @@ use std::alloc::Global;
 pub struct Certificate<'a> {
     /// The whole certificate.
     pub octets: &'a [u8],
-    /// tbsCertificate: the whole encoding of the signed part.
-    pub tbs: &'a [u8],
+    /// tbsCertificate: the signed part.
+    pub tbs: Tlv<'a>,
     pub version: Version,
-    /// The contents of serialNumber: 1 to 32 octets, of any sign.
-    pub serial: &'a [u8],
-    /// The whole algorithm identifier of the signature, which stands in the signed part and behind it.
-    pub algorithm: &'a [u8],
+    /// serialNumber: an INTEGER whose contents are 1 to 32 octets, of any sign.
+    pub serial: Tlv<'a>,
+    /// The algorithm of the signature, where the signed part names it. The same octets stand behind that part.
+    pub algorithm: AlgorithmIdentifier<'a>,
     /// A name that is not empty.
     pub issuer: Name<'a>,
     pub validity: Validity,
@@ -43,8 +44,8 @@ pub struct Certificate<'a> {
     pub subject_public_key_info: SubjectPublicKeyInfo<'a>,
     /// What the extensions say; where there are none, what no extensions say.
     pub extensions: Extensions<'a>,
-    /// The octets of signatureValue.
-    pub signature: &'a [u8],
+    /// signatureValue, in which no bit is unused.
+    pub signature: BitString<'a>,
 }
 
 /// extensions [3] EXPLICIT Extensions OPTIONAL, in v3 alone
@@ -107,7 +108,7 @@ fn take_same_algorithm(
     ensures { Gives (λ _. (tt, left members.new)) result (component 0x30 (same_algorithm (seen_algorithm inner.entry)) (left members.old)) }
 {
     let value = members.required(0x30, CertRule::Layout)?;
-    if value.whole == inner.whole.whole {
+    if value.whole == inner.value.whole {
         Ok(())
     } else {
         Err((CertRule::AlgorithmsDiffer, value.at))
@@ -116,19 +117,19 @@ fn take_same_algorithm(
 
 /// signatureValue BIT STRING, whose bits must be whole octets
 #[tactic(auto, unfolding(crate::specs::Certificate::signature_value, asn::specs::Walk::check_that))]
-fn signature_at(value: Tlv<'_>) -> Result<&[u8], Refusal>
-    ensures { Gives (λ octets. octets.now) result (signature_value (seen_tlv value.entry)) }
+fn signature_at(value: Tlv<'_>) -> Result<BitString<'_>, Refusal>
+    ensures { Gives seen_bit_string result (signature_value (seen_tlv value.entry)) }
 {
     if is_of_whole_octets(value.body) {
-        Ok(bits_of(value.body))
+        Ok(BitString { value })
     } else {
         Err((CertRule::SignatureBits, value.at))
     }
 }
 
 #[tactic(auto, unfolding(crate::specs::TbsCertificate::component))]
-fn take_signature<'a>(members: &mut Cursor<'a>) -> Result<&'a [u8], Refusal>
-    ensures { Gives (λ octets. (octets.now, left members.new)) result (component 0x03 signature_value (left members.old)) }
+fn take_signature<'a>(members: &mut Cursor<'a>) -> Result<BitString<'a>, Refusal>
+    ensures { Gives (λ read. (seen_bit_string read, left members.new)) result (component 0x03 signature_value (left members.old)) }
 {
     signature_at(members.required(0x03, CertRule::Layout)?)
 }
@@ -147,10 +148,10 @@ fn read_certificate<'a>(alloc: Global, value: Tlv<'a>) -> Result<Certificate<'a>
     members.ended(CertRule::Layout)?;
     Ok(Certificate {
         octets: value.whole,
-        tbs: signed.whole,
+        tbs: signed,
         version: tbs.head.version,
         serial: tbs.head.serial,
-        algorithm: tbs.head.signature.whole.whole,
+        algorithm: tbs.head.signature,
         issuer: tbs.head.issuer,
         validity: tbs.head.validity,
         subject: tbs.subject.name,

@@ -6,17 +6,19 @@ ghost use Rattle.asn.specs.Walk.{Gives};
 ghost use Rattle.cert.specs.SubjectPublicKeyInfo.{key_info, seen_key_info};
 
 use crate::algorithm::AlgorithmIdentifier;
-use crate::bit_string::bits_of;
+use crate::bit_string::BitString;
 use crate::fault::{CertRule, Refusal};
 use asn::Tlv;
 
 /// SubjectPublicKeyInfo ::= SEQUENCE { algorithm AlgorithmIdentifier, subjectPublicKey BIT STRING }
 #[derive(Clone, Copy)]
 pub struct SubjectPublicKeyInfo<'a> {
-    /// The whole encoding.
-    pub whole: &'a [u8],
-    /// The octets of subjectPublicKey, without the count of unused bits.
-    pub key: &'a [u8],
+    /// The whole value.
+    pub value: Tlv<'a>,
+    /// The algorithm that the key is of.
+    pub algorithm: AlgorithmIdentifier<'a>,
+    /// subjectPublicKey.
+    pub key: BitString<'a>,
 }
 
 impl<'a> SubjectPublicKeyInfo<'a> {
@@ -29,12 +31,13 @@ impl<'a> SubjectPublicKeyInfo<'a> {
         value.is_a(0x30, CertRule::Layout)?;
         let mut members = value.members();
         let algorithm = members.required(0x30, CertRule::Layout)?;
-        AlgorithmIdentifier::read(algorithm, CertRule::Layout)?;
+        let algorithm = AlgorithmIdentifier::read(algorithm, CertRule::Layout)?;
         let key = members.required(0x03, CertRule::Layout)?;
         members.ended(CertRule::Layout)?;
         Ok(SubjectPublicKeyInfo {
-            whole: value.whole,
-            key: bits_of(key.body),
+            value,
+            algorithm,
+            key: BitString { value: key },
         })
     }
 }

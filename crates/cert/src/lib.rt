@@ -25,7 +25,7 @@ mod version;
 
 pub use algorithm::AlgorithmIdentifier;
 pub use basic_constraints::BasicConstraints;
-pub use bit_string::{bits_of, is_of_whole_octets};
+pub use bit_string::{BitString, bits_of, is_of_whole_octets};
 pub use certificate::Certificate;
 pub use extension::Extension;
 pub use extension_kind::{ExtensionKind, certificate_extension_number};

@@ -23,7 +23,7 @@ use names::Name;
 #[derive(Clone, Copy)]
 pub(crate) struct TbsHead<'a> {
     pub(crate) version: Version,
-    pub(crate) serial: &'a [u8],
+    pub(crate) serial: Tlv<'a>,
     pub(crate) signature: AlgorithmIdentifier<'a>,
     pub(crate) issuer: Name<'a>,
     pub(crate) validity: Validity,
@@ -45,11 +45,11 @@ pub fn is_serial_number(contents: &[u8]) -> bool
 
 /// CertificateSerialNumber ::= INTEGER, here of 1 to 32 octets and of any sign
 #[tactic(auto, unfolding(crate::specs::TbsCertificate::serial_number, asn::specs::Walk::check_that))]
-fn serial_at(value: Tlv<'_>) -> Result<&[u8], Refusal>
-    ensures { Gives (λ contents. contents.now) result (serial_number (seen_tlv value.entry)) }
+fn serial_at(value: Tlv<'_>) -> Result<Tlv<'_>, Refusal>
+    ensures { Gives seen_tlv result (serial_number (seen_tlv value.entry)) }
 {
     if is_serial_number(value.body) {
-        Ok(value.body)
+        Ok(value)
     } else {
         Err((CertRule::Serial, value.at))
     }
@@ -76,8 +76,8 @@ fn issuer_at(value: Tlv<'_>) -> Result<Name<'_>, Refusal>
 }
 
 #[tactic(auto, unfolding(crate::specs::TbsCertificate::component))]
-fn take_serial<'a>(members: &mut Cursor<'a>) -> Result<&'a [u8], Refusal>
-    ensures { Gives (λ contents. (contents.now, left members.new)) result (component 0x02 serial_number (left members.old)) }
+fn take_serial<'a>(members: &mut Cursor<'a>) -> Result<Tlv<'a>, Refusal>
+    ensures { Gives (λ serial. (seen_tlv serial, left members.new)) result (component 0x02 serial_number (left members.old)) }
 {
     serial_at(members.required(0x02, CertRule::Layout)?)
 }

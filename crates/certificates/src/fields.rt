@@ -504,19 +504,62 @@ fn the_fields_of_a_plain_certificate_are_read(rt: HostRuntime) -> Result<(), Fai
     let read = Certificate::read(alloc, &octets).map_err(|_| "a certificate")?;
     assert!(rt; octets.len() == 100, "100 octets");
     holds(&rt, read.octets == octets.as_slice(), "its octets");
-    holds(&rt, read.tbs == &octets[2..90], "the signed part");
+    holds(&rt, read.tbs.whole == &octets[2..90], "the signed part");
     holds(&rt, read.version == Version::V3, "v3");
-    holds(&rt, read.serial == b"\x05".as_slice(), "the serial number");
-    holds(&rt, read.algorithm == PLAIN[ALGORITHM], "the algorithm");
+    holds(
+        &rt,
+        read.serial.body == b"\x05".as_slice(),
+        "the serial number",
+    );
+    holds(
+        &rt,
+        read.algorithm.value.whole == PLAIN[ALGORITHM],
+        "the algorithm",
+    );
     holds(&rt, read.issuer.raw() == PLAIN[ISSUER], "the issuer");
     holds(&rt, read.validity.not_before == 1_735_689_600, "notBefore");
     holds(&rt, read.validity.not_after == 1_767_225_600, "notAfter");
     holds(&rt, read.subject.raw() == PLAIN[SUBJECT], "the subject");
     let key_info = &read.subject_public_key_info;
-    holds(&rt, key_info.whole == PLAIN[KEY], "subjectPublicKeyInfo");
-    holds(&rt, key_info.key == b"K".as_slice(), "the key");
-    holds(&rt, read.signature == b"\xEE".as_slice(), "the signature");
+    holds(
+        &rt,
+        key_info.value.whole == PLAIN[KEY],
+        "subjectPublicKeyInfo",
+    );
+    holds(&rt, key_info.key.octets() == b"K".as_slice(), "the key");
+    holds(
+        &rt,
+        read.signature.octets() == b"\xEE".as_slice(),
+        "the signature",
+    );
     holds(&rt, !read.self_issued(), "not self-issued");
+    Ok(())
+}
+
+/// The offsets are counted by hand.
+#[test]
+fn the_fields_of_a_plain_certificate_have_their_places(rt: HostRuntime) -> Result<(), Fail> {
+    let alloc = rt.alloc();
+    let octets = certificate_of(alloc, &PLAIN)?;
+    let read = Certificate::read(alloc, &octets).map_err(|_| "a certificate")?;
+    let key_info = &read.subject_public_key_info;
+    let rows: [(usize, usize, &str); 9] = [
+        (read.tbs.at, 2, "the signed part"),
+        (read.serial.at, 9, "the serial number"),
+        (read.algorithm.value.at, 12, "the algorithm"),
+        (read.issuer.offset(), 18, "the issuer"),
+        (read.subject.offset(), 64, "the subject"),
+        (key_info.value.at, 78, "subjectPublicKeyInfo"),
+        (key_info.algorithm.value.at, 80, "the algorithm of the key"),
+        (key_info.key.value.at, 86, "the key"),
+        (read.signature.value.at, 96, "the signature"),
+    ];
+    for (found, at, what) in rows {
+        assert!(rt; found == at, "{what}");
+    }
+    let oid: &[u8] = &[0x2A, 0x03];
+    holds(&rt, read.algorithm.oid.is(oid), "the type of the algorithm");
+    holds(&rt, key_info.algorithm.oid.is(oid), "the type of the key");
     Ok(())
 }
 

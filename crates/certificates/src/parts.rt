@@ -20,7 +20,7 @@ fn algorithm_identifiers_are_read(rt: HostRuntime) -> Result<(), Fail> {
     for (octets, what) in ALGORITHMS.iter() {
         match AlgorithmIdentifier::read(whole(octets)?, 'x') {
             Ok(found) => {
-                let is_so = found.oid.is(&[0x2A, 0x03]) && found.whole.whole == *octets;
+                let is_so = found.oid.is(&[0x2A, 0x03]) && found.value.whole == *octets;
                 assert!(rt; is_so, "{what}");
             }
             Err(_) => return Err(Fail::from(*what)),

@@ -312,15 +312,15 @@ tbs_is value fields fits is =
     ) refl
 
 -- the whole list
-algorithm_ok : (inner : AlgorithmIdentifier) (value : Place) (u : Unit {0}) → same_algorithm inner value ≡ Ok u → value.octets ≡ inner.whole.octets
+algorithm_ok : (inner : AlgorithmIdentifier) (value : Place) (u : Unit {0}) → same_algorithm inner value ≡ Ok u → value.octets ≡ inner.value.octets
 unfolding same_algorithm
-algorithm_ok inner value u e = (bytes_eq-Decides value.octets inner.whole.octets).0 (check_ok _ _ _ u e)
+algorithm_ok inner value u e = (bytes_eq-Decides value.octets inner.value.octets).0 (check_ok _ _ _ u e)
 
-algorithm_again : (inner : AlgorithmIdentifier) (value : Place) → value.octets ≡ inner.whole.octets → same_algorithm inner value ≡ Ok tt
+algorithm_again : (inner : AlgorithmIdentifier) (value : Place) → value.octets ≡ inner.value.octets → same_algorithm inner value ≡ Ok tt
 unfolding same_algorithm
-algorithm_again inner value same = check_again (bytes_eq value.octets inner.whole.octets) Layout value.at ((bytes_eq-Decides value.octets inner.whole.octets).1 same)
+algorithm_again inner value same = check_again (bytes_eq value.octets inner.value.octets) Layout value.at ((bytes_eq-Decides value.octets inner.value.octets).1 same)
 
-list_of : (value signed algorithm signature : Place) (tbs : TbsCertList) (octets : List ℕ) → tag value ≡ 0x30 → (members value).values ≡ signed ∷ algorithm ∷ signature ∷ [] → IsTbsCertList signed tbs → tag algorithm ≡ 0x30 → algorithm.octets ≡ tbs.head.signature.whole.octets → IsSignature signature octets → IsCertificateListAt value (list_with signed tbs octets)
+list_of : (value signed algorithm signature : Place) (tbs : TbsCertList) (octets : List ℕ) → tag value ≡ 0x30 → (members value).values ≡ signed ∷ algorithm ∷ signature ∷ [] → IsTbsCertList signed tbs → tag algorithm ≡ 0x30 → algorithm.octets ≡ tbs.head.signature.value.octets → IsSignature signature octets → IsCertificateListAt value (list_with signed tbs octets)
 list_of value signed algorithm signature tbs octets sequence values signed_is algorithm_sequence same signature_is = record {
   signed = signed;
   algorithm = algorithm;
@@ -376,7 +376,7 @@ unfolding certificate_list_at
 list_at_is value fields fits is =
     let next : List Place → Members = λ values. record { values = values; end = (members value).end } in
     let signed_fits = (subst (AllByRecursion Octets) is.members_are (members_octets value fits)).0 in
-    let algorithm : fields.algorithm ≡ is.tbs.head.signature.whole.octets = is.algorithm_octets ∙ is.same_algorithm in
+    let algorithm : fields.algorithm ≡ is.tbs.head.signature.value.octets = is.algorithm_octets ∙ is.same_algorithm in
     rw (
       is_a_again 0x30 Layout value is.sequence,
       required_again 0x30 Layout (members value) is.signed (is.algorithm ∷ is.signature ∷ []) is.members_are is.signed_is.sequence,

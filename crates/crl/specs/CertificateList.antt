@@ -100,7 +100,7 @@ seen_list read = record {
 abbrev pub list_with : Place → TbsCertList → List ℕ → CertificateList
 list_with signed tbs signature = record {
   tbs = signed.octets;
-  algorithm = tbs.head.signature.whole.octets;
+  algorithm = tbs.head.signature.value.octets;
   issuer = tbs.head.issuer;
   this_update = tbs.head.this_update;
   next_update = tbs.head.next_update;

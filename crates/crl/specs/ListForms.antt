@@ -93,7 +93,7 @@ pub record IsCertificateListAt (value : Place) (fields : CertificateList) : Type
   pub signed_is : IsTbsCertList signed tbs
   -- signatureAlgorithm (5.1.1.2) is the algorithm identifier of the signed part
   pub algorithm_sequence : tag algorithm ≡ 0x30
-  pub same_algorithm : algorithm.octets ≡ tbs.head.signature.whole.octets
+  pub same_algorithm : algorithm.octets ≡ tbs.head.signature.value.octets
   pub signature_is : IsSignature signature fields.signature
   -- the fields, of which the first two are whole encodings
   pub tbs_are : fields.tbs ≡ signed.octets

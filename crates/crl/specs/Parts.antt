@@ -19,4 +19,4 @@ issuer value = do
 
 -- signatureAlgorithm (5.1.1.2): the same octets as the algorithm identifier in the signed part
 unfoldable pub same_algorithm : AlgorithmIdentifier → Place → Result (Unit {0}) (StatementRule × ℕ)
-same_algorithm inner value = check_that (bytes_eq value.octets inner.whole.octets) Layout value.at
+same_algorithm inner value = check_that (bytes_eq value.octets inner.value.octets) Layout value.at

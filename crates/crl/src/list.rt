@@ -127,7 +127,7 @@ fn read_list<'a>(alloc: Global, value: Tlv<'a>) -> Result<Crl<'a>, StatementFaul
     members.ended(StatementRule::Layout)?;
     Ok(Crl {
         tbs: signed.whole,
-        algorithm: tbs.head.signature.whole.whole,
+        algorithm: tbs.head.signature.value.whole,
         issuer: tbs.head.issuer,
         this_update: tbs.head.this_update,
         next_update: tbs.head.next_update,

@@ -41,7 +41,7 @@ pub(crate) fn take_same_algorithm(
     ensures { Gives (λ _. (tt, left members.new)) result (component 0x30 (same_algorithm (seen_algorithm inner.entry)) (left members.old)) }
 {
     let value = members.required(0x30, StatementRule::Layout)?;
-    if value.whole == inner.whole.whole {
+    if value.whole == inner.value.whole {
         Ok(())
     } else {
         Err((StatementRule::Layout, value.at))

@@ -9,6 +9,10 @@ use Rattle.distinguished_names.specs.NameKey.{name_key}
 unfoldable pub raw_of : Name → List ℕ
 raw_of name = name.raw.now
 
+-- its offset in the whole input
+unfoldable pub offset_of : Name → ℕ
+offset_of name = name.offset
+
 -- its sets of attributes, as they are compared
 unfoldable pub rdns_of : Name → List RdnMap
 rdns_of name = sequence_of name.rdns

@@ -26,6 +26,7 @@ use std::alloc::{AllocError, Global};
 #[derive(Clone, Copy)]
 pub struct Name<'a> {
     pub(crate) raw: &'a [u8],
+    pub(crate) offset: usize,
     pub(crate) rdns: RdnSequence<'a>,
     pub ghost members: { octets_of_each (left rdns.rdns).values ≡ octets_of_each (members (record { octets = raw.now; at = 0 })).values },
 }
@@ -100,17 +101,19 @@ fn read_name(tlv: Tlv<'_>) -> Result<Cursor<'_>, Refusal>
 }
 
 impl<'a> Name<'a> {
-    ghost use Rattle.distinguished_names.specs.NameOctets.{raw_of, rdns_of};
+    ghost use Rattle.distinguished_names.specs.NameOctets.{raw_of, offset_of, rdns_of};
 
     /// As `read`, with faults at their offsets in the text handed to `asn::whole`.
     pub fn at(tlv: Tlv<'a>) -> Result<Name<'a>, Refusal>
         ensures walk { Gives (λ _. tt) result (name (seen_tlv tlv.entry)) }
         ensures raw { IfOk result (λ found. raw_of found ≡ tlv.entry.whole.now) }
+        ensures offset { IfOk result (λ found. offset_of found ≡ tlv.entry.at) }
         ensures rdns { IfOk result (λ found. rdns_of found ≡ rdns_at (seen_tlv tlv.entry)) }
     {
         let rdns = read_name(tlv)?;
         Ok(Name {
             raw: tlv.whole,
+            offset: tlv.at,
             rdns: RdnSequence { rdns },
         })
     }
@@ -121,6 +124,7 @@ impl<'a> Name<'a> {
     pub fn read(value: Tlv<'a>) -> Result<Name<'a>, Refusal>
         ensures walk { Gives (λ _. tt) result (name (record { octets = value.entry.whole.now; at = 0 })) }
         ensures raw { IfOk result (λ found. raw_of found ≡ value.entry.whole.now) }
+        ensures offset { IfOk result (λ found. offset_of found ≡ 0) }
         ensures rdns { IfOk result (λ found. rdns_of found ≡ rdns_at (record { octets = value.entry.whole.now; at = 0 })) }
     {
         Name::at(value.alone())
@@ -132,6 +136,14 @@ impl<'a> Name<'a> {
         ensures { result.now ≡ raw_of self.now }
     {
         self.raw
+    }
+
+    /// The offset of the name in the text handed to `asn::whole`; 0 where it was read by itself, by `read`.
+    #[tactic(auto, unfolding(crate::specs::NameOctets::offset_of))]
+    pub fn offset(&self) -> usize
+        ensures { result ≡ offset_of self.now }
+    {
+        self.offset
     }
 
     /// The RDNs in order, each a SET of attributes: the members of the name.

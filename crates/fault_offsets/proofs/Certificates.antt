@@ -140,7 +140,7 @@ tbs_within text value octets sequence is =
 -- the whole
 same_within : (text : List ℕ) (inner : AlgorithmIdentifier) (value : Place) → IsEncodedPart text value → Within text Any (same_algorithm inner value)
 unfolding same_algorithm
-same_within text inner value is = check_within text (bytes_eq value.octets inner.whole.octets) R.AlgorithmsDiffer value.at (begins_at text value is)
+same_within text inner value is = check_within text (bytes_eq value.octets inner.value.octets) R.AlgorithmsDiffer value.at (begins_at text value is)
 
 signature_within : (text : List ℕ) (value : Place) → IsEncodedPart text value → Within text Any (signature_value value)
 unfolding signature_value

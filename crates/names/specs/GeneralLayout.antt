@@ -14,13 +14,14 @@ use Rattle.distinguished_names.specs.NameLayout.{name}
 use Rattle.distinguished_names.specs.NameParts.{rdns_at}
 use Rattle.names.specs.Bases.{DomainNames, AddressRange, is_dns_name, is_ip_address, names_of_base, range_of_base}
 
--- a name: its whole encoding, and its sets of attributes, as they are compared
+-- a name: its whole encoding, its offset in the whole input, and its sets of attributes, as they are compared
 pub record NameContents : Type 0 where
   pub octets : List ℕ
+  pub at : ℕ
   pub rdns : List RdnMap
 
 abbrev pub contents_at : Place → NameContents
-contents_at place = record { octets = place.octets; rdns = rdns_at place }
+contents_at place = record { octets = place.octets; at = place.at; rdns = rdns_at place }
 
 -- what a general name says; another name is the number of its form, with its contents
 pub data GeneralName : Type 0 where

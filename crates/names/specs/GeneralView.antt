@@ -4,12 +4,12 @@ use Rattle.names.specs.declared.general.General.{General}
 use Rattle.names.specs.declared.general.General.TheVariants as G
 use Rattle.names.specs.declared.subtree.Subtree.{Subtree}
 use Rattle.names.specs.declared.subtree.Subtree.TheVariants as S
-use Rattle.distinguished_names.specs.NameOctets.{raw_of, rdns_of}
+use Rattle.distinguished_names.specs.NameOctets.{raw_of, offset_of, rdns_of}
 use Rattle.names.specs.Bases.{domain_names, address_range}
 use Rattle.names.specs.GeneralLayout.{NameContents, GeneralName, SubtreeBase, directory_name, dns_name, ip_address, other_name, directory_base, dns_base, ip_base, other_base}
 
 abbrev pub name_contents : Name → NameContents
-name_contents name = record { octets = raw_of name; rdns = rdns_of name }
+name_contents name = record { octets = raw_of name; at = offset_of name; rdns = rdns_of name }
 
 abbrev pub general_name : General → GeneralName
 general_name (G.Directory name) = directory_name (name_contents name)

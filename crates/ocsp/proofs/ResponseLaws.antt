@@ -208,7 +208,7 @@ record TakesSigned (left : Members) (found : Signed) : Type 0 where
   tagged : List Place
   identifier : AlgorithmIdentifier
   values : left.values ≡ algorithm ∷ signature ∷ tagged
-  algorithm_octets : found.algorithm ≡ identifier.whole.octets
+  algorithm_octets : found.algorithm ≡ identifier.value.octets
   algorithm_is : algorithm_identifier Layout algorithm ≡ Ok identifier
   bit_string : tag signature ≡ 0x03
   signature_is : signature_value signature ≡ Ok found.signature
@@ -270,7 +270,7 @@ is_basic value fields e =
       responses = refl;
     }
 
-signed_again : (value : Place) (fields : OcspResponse) (left : Members) → (is : IsBasicResponse value fields) → left.values ≡ is.algorithm ∷ is.signature ∷ is.certs → signature_part left ≡ Ok (record { algorithm = is.identifier.whole.octets; signature = fields.signature; certs = fields.certs })
+signed_again : (value : Place) (fields : OcspResponse) (left : Members) → (is : IsBasicResponse value fields) → left.values ≡ is.algorithm ∷ is.signature ∷ is.certs → signature_part left ≡ Ok (record { algorithm = is.identifier.value.octets; signature = fields.signature; certs = fields.certs })
 unfolding signature_part
 signed_again value fields left is e =
     let next : List Place → Members = λ values. record { values = values; end = left.end } in
@@ -286,7 +286,7 @@ basic_is : (value : Place) (fields : OcspResponse) → IsBasicResponse value fie
 unfolding basic_response
 basic_is value fields is =
     let behind : Members = record { values = is.algorithm ∷ is.signature ∷ is.certs; end = (members value).end } in
-    let algorithm : fields.algorithm ≡ is.identifier.whole.octets = is.algorithm_octets ∙ sym (ap (λ (p : Place). p.octets) is.algorithm_is.whole) in
+    let algorithm : fields.algorithm ≡ is.identifier.value.octets = is.algorithm_octets ∙ sym (ap (λ (p : Place). p.octets) is.algorithm_is.whole) in
     rw (
       is_a_again 0x30 Layout value is.sequence,
       required_again 0x30 Layout (members value) is.signed behind.values is.members_are is.signed_is.sequence,

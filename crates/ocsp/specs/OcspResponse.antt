@@ -105,7 +105,7 @@ signature_part left = do
   signature ← component 0x03 signature_value algorithm.1
   certs ← certs signature.1
   done ← ended Layout certs.1
-  Ok (record { algorithm = algorithm.0.whole.octets; signature = signature.0; certs = certs.0 })
+  Ok (record { algorithm = algorithm.0.value.octets; signature = signature.0; certs = certs.0 })
 
 -- and the whole.
 abbrev pub response_with : Place → ResponseData → Signed → OcspResponse

@@ -88,7 +88,7 @@ impl<'a> Signed<'a> {
         let certs = Certs::take(&mut members)?;
         members.ended(StatementRule::Layout)?;
         Ok(Signed {
-            algorithm: algorithm.whole.whole,
+            algorithm: algorithm.value.whole,
             signature,
             certs,
         })

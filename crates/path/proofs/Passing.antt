@@ -184,7 +184,7 @@ bound_more laws q k below held before =
 pub keeps_more : Laws → (q : Query) (k : ℕ) (issuer : NameContents) (key : List ℕ) (room : Option ℕ) (held : Constraints) (forms : FormSet) → Keeps q k issuer key room held forms
     → k < count q → count q ≤ 128 → (k + 1 < count q → IsWithinPathLength q (k + 1))
     → (forms' : FormSet) → ((number : ℕ) → has_number forms' number ≡ ((has_number forms number || are_about (constraints_at q (k + 1)).permitted (F.Other number)) || are_about (constraints_at q (k + 1)).excluded (F.Other number)))
-    → Keeps q (k + 1) (certificate_at q (k + 1)).subject (certificate_at q (k + 1)).key_info.whole
+    → Keeps q (k + 1) (certificate_at q (k + 1)).subject (certificate_at q (k + 1)).key_info.value.octets
     (lesser (spent room (is_self_issued (certificate_at q (k + 1)))) (path_length_of (certificate_at q (k + 1)))) (narrowed_by (constraints_at q (k + 1)) held) forms'
 keeps_more laws q k issuer key room held forms is below few allow forms' more =
     record {
@@ -233,12 +233,12 @@ pub keeps_passed : {V : Type 0} {v w : Progress V} → v ≡ w → (issuer : Nam
     → (self : Bool) → self ≡ is_self_issued c → (limit room' : Option ℕ) → limit ≡ path_length_of c → room' ≡ lesser (spent room self) limit
     → (held' : Constraints) → held' ≡ narrowed_by c.extensions.name_constraints v.constraints
     → (forms' : FormSet) → ((number : ℕ) → has_number forms' number ≡ ((has_number forms number || are_about c.extensions.name_constraints.permitted (F.Other number)) || are_about c.extensions.name_constraints.excluded (F.Other number)))
-    → Keeps v.query (v.done + 1) c.subject c.key_info.whole room' held' forms'
+    → Keeps v.query (v.done + 1) c.subject c.key_info.value.octets room' held' forms'
 keeps_passed {V} {v} {w} e issuer key room forms is below served allow c at self es limit room' el er held' eh forms' more =
     let here = here_of e c at in
     let allow' = subst (λ (u : Progress V). u.done + 1 < count u.query → IsWithinPathLength u.query (u.done + 1)) (sym e) allow in
     let few = subst (λ (u : Progress V). IsServed u.query) (sym e) served in
     let all = keeps_more laws_of_names v.query v.done issuer key room v.constraints forms is (below_of e below) few.few allow' forms'
     (subst (λ (d : Certificate). (number : ℕ) → has_number forms' number ≡ ((has_number forms number || are_about d.extensions.name_constraints.permitted (F.Other number)) || are_about d.extensions.name_constraints.excluded (F.Other number))) here more) in
-    let all' = subst (λ (d : Certificate). Keeps v.query (v.done + 1) d.subject d.key_info.whole (lesser (spent room (is_self_issued d)) (path_length_of d)) (narrowed_by d.extensions.name_constraints v.constraints) forms') (sym here) all in
+    let all' = subst (λ (d : Certificate). Keeps v.query (v.done + 1) d.subject d.key_info.value.octets (lesser (spent room (is_self_issued d)) (path_length_of d)) (narrowed_by d.extensions.name_constraints v.constraints) forms') (sym here) all in
     rw (er, el, es, eh) all'

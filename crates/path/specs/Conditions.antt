@@ -20,7 +20,7 @@ IsNotRepeated q j = (i : ℕ) → 1 ≤ i → i < j → (certificate_at q i).oct
 
 -- the signature is accepted under the key of the issuer (6.1.3 (a) (1))
 abbrev pub IsSignedByIssuer : Accepts → Certificate → List ℕ → Type 0
-IsSignedByIssuer accepts c key = IsTrue (accepts c.algorithm key c.tbs c.signature)
+IsSignedByIssuer accepts c key = IsTrue (accepts c.algorithm.value.octets key c.tbs.octets c.signature.octets)
 
 -- the issuer has the name (6.1.3 (a) (4))
 abbrev pub IsNamedByIssuer : Certificate → NameContents → Type 0
@@ -64,7 +64,7 @@ IsWithinPathLength q j =
 -- the condition whose breach is the reason, on certificate j
 abbrev pub MeetsCondition : Accepts → Query → ℕ → Reason → Type 0
 MeetsCondition accepts q j Repeated = IsNotRepeated q j
-MeetsCondition accepts q j Signature = IsSignedByIssuer accepts (certificate_at q j) (certificate_at q (j - 1)).key_info.whole
+MeetsCondition accepts q j Signature = IsSignedByIssuer accepts (certificate_at q j) (certificate_at q (j - 1)).key_info.value.octets
 MeetsCondition accepts q j NotYet = HasBegun (certificate_at q j) q.moment
 MeetsCondition accepts q j Expired = HasNotExpired (certificate_at q j) q.moment
 MeetsCondition accepts q j Issuer = IsNamedByIssuer (certificate_at q j) (certificate_at q (j - 1)).subject

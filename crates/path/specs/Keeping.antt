@@ -46,7 +46,7 @@ pub record Keeps (q : Query) (k : ℕ) (issuer : NameContents) (key : List ℕ) 
   pub within : k ≤ count q
   pub few : k ≤ 128
   pub issuer_is : issuer ≡ (certificate_at q k).subject
-  pub key_is : key ≡ (certificate_at q k).key_info.whole
+  pub key_is : key ≡ (certificate_at q k).key_info.value.octets
   pub room_is : k < count q → RoomIs q k k room
   pub directory_is : ListIs q k F.Directory held.directory
   pub dns_is : ListIs q k F.Dns held.dns

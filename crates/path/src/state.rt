@@ -151,7 +151,7 @@ impl<'p, 'c, V: Verifier> State<'p, 'c, V> {
             purpose,
             done: 0,
             issuer: anchor.subject,
-            key: anchor.subject_public_key_info.whole,
+            key: anchor.subject_public_key_info.value.whole,
             room: None,
             constraints: Constraints::none(alloc),
             forms: FormSet::new(),
@@ -216,10 +216,10 @@ impl<'p, 'c, V: Verifier> State<'p, 'c, V> {
     {
         let certificate = self.certificate();
         self.verifier.judge(
-            certificate.algorithm,
+            certificate.algorithm.value.whole,
             self.key,
-            certificate.tbs,
-            certificate.signature,
+            certificate.tbs.whole,
+            certificate.signature.octets(),
         )
     }
 
@@ -314,7 +314,7 @@ impl<'p, 'c, V: Verifier> State<'p, 'c, V> {
         let self_issued = certificate.self_issued();
         self.room = next_room(self.room, self_issued, path_length(certificate));
         self.issuer = certificate.subject;
-        self.key = certificate.subject_public_key_info.whole;
+        self.key = certificate.subject_public_key_info.value.whole;
         self.done += 1;
         Ok(())
     }

@@ -2,6 +2,7 @@
 use Rattle.std.specs.Prelude.{ℕ, Bool, true, false, List, [], ◌++◌, Option, Some, None, codes}
 use Rattle.std.specs.List.{flat_map}
 use Rattle.std.specs.Fmt.{decimal, signed_decimal}
+use Rattle.asn.specs.Place.{body}
 use Rattle.names.specs.GeneralLayout.{GeneralName, SubtreeBase}
 use Rattle.cert.specs.Certificate.{Certificate}
 use Rattle.cert.specs.Validity.{Validity}
@@ -83,11 +84,11 @@ extension_lines said =
 abbrev pub field_lines : Certificate → List ℕ
 field_lines certificate =
     version_lines certificate.version
-    ++ octets_line (codes "serial") certificate.serial
+    ++ octets_line (codes "serial") (body certificate.serial)
     ++ name_line (codes "issuer") certificate.issuer.octets
     ++ name_line (codes "subject") certificate.subject.octets
     ++ validity_lines certificate.validity
-    ++ octets_line (codes "key") certificate.key_info.key
+    ++ octets_line (codes "key") certificate.key_info.key.octets
 
 abbrev pub certificate_text : Certificate → List ℕ
 certificate_text certificate = field_lines certificate ++ extension_lines certificate.extensions

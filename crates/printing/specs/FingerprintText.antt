@@ -16,7 +16,7 @@ fingerprint_line print words = encode_lower print ++ codes " " ++ words ++ codes
 -- of a certificate: is its signature one of its signed part under this key? (RFC 5280, 6.1.3 (a) (1))
 abbrev pub certificate_print : SubjectPublicKeyInfo → Certificate → List ℕ
 certificate_print key_info certificate =
-    fingerprint_of certificate.algorithm key_info.whole certificate.tbs certificate.signature
+    fingerprint_of certificate.algorithm.value.octets key_info.value.octets certificate.tbs.octets certificate.signature.octets
 
 -- the line of a certificate under its issuer's key
 abbrev pub certificate_print_line : SubjectPublicKeyInfo → Certificate → List ℕ
@@ -25,7 +25,7 @@ certificate_print_line key_info certificate =
 
 -- of a revocation list, likewise (6.3.3 (g))
 abbrev pub crl_print : SubjectPublicKeyInfo → CertificateList → List ℕ
-crl_print key_info list = fingerprint_of list.algorithm key_info.whole list.tbs list.signature
+crl_print key_info list = fingerprint_of list.algorithm key_info.value.octets list.tbs list.signature
 
 abbrev pub crl_print_line : SubjectPublicKeyInfo → CertificateList → List ℕ
 crl_print_line key_info list = fingerprint_line (crl_print key_info list) (codes "crl issuer")
@@ -33,7 +33,7 @@ crl_print_line key_info list = fingerprint_line (crl_print key_info list) (codes
 -- of a response, likewise (RFC 6960, 3.2)
 abbrev pub response_print : SubjectPublicKeyInfo → OcspResponse → List ℕ
 response_print key_info response =
-    fingerprint_of response.algorithm key_info.whole response.tbs response.signature
+    fingerprint_of response.algorithm key_info.value.octets response.tbs response.signature
 
 -- the line of the n-th certificate that comes with a response, and that of the response under that certificate's key
 unfoldable pub delegate_words : ℕ → List ℕ

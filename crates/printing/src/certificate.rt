@@ -2,10 +2,12 @@
 ghost use Rattle.std.specs.Prelude.{◌≡◌, codes, map, option_map};
 ghost use Rattle.std.specs.List.{flat_map};
 ghost use Rattle.asn.specs.Oid.{oid_contents};
+ghost use Rattle.asn.specs.Place.{body, seen_tlv};
 ghost use Rattle.asn.specs.Walk.{seen};
 ghost use Rattle.names.specs.NameOctets.{raw_of};
 ghost use Rattle.names.specs.GeneralView.{general_name, subtree_base};
 ghost use Rattle.cert.specs.BasicConstraints.{seen_basic_constraints};
+ghost use Rattle.cert.specs.BitString.{seen_bit_string};
 ghost use Rattle.cert.specs.Certificate.{seen_certificate};
 ghost use Rattle.cert.specs.Extensions.{seen_extensions};
 ghost use Rattle.cert.specs.KeyUsage.{seen_key_usage};
@@ -17,8 +19,8 @@ use crate::general::{write_base, write_general};
 use crate::name::write_name;
 use crate::oid_text::write_oid;
 use crate::text::write_contents;
-use asn::Oid;
-use cert::{BasicConstraints, Certificate, Extensions, KeyUsage, Validity, Version};
+use asn::{Oid, Tlv};
+use cert::{BasicConstraints, BitString, Certificate, Extensions, KeyUsage, Validity, Version};
 use names::{General, Name, Subtree};
 use std::io;
 use std::io::Write;
@@ -53,16 +55,28 @@ fn write_validity<W: Write>(validity: &Validity, writer: &mut W) -> io::Result<(
     writeln!(writer, "until {}", validity.not_after)
 }
 
+fn write_serial<W: Write>(serial: Tlv<'_>, writer: &mut W) -> io::Result<()>
+    ensures { Writes W.contents writer.old writer.new result (octets_line (codes "serial") (body (seen_tlv serial.entry))) }
+{
+    write_octets("serial", serial.body, writer)
+}
+
+fn write_key<W: Write>(key: BitString<'_>, writer: &mut W) -> io::Result<()>
+    ensures { Writes W.contents writer.old writer.new result (octets_line (codes "key") (seen_bit_string key.entry).octets) }
+{
+    write_octets("key", key.octets(), writer)
+}
+
 // The lines up to the key.
 fn write_fields<W: Write>(certificate: &Certificate<'_>, writer: &mut W) -> io::Result<()>
     ensures { Writes W.contents writer.old writer.new result (field_lines (seen_certificate certificate.now)) }
 {
     write_version(certificate.version, writer)?;
-    write_octets("serial", certificate.serial, writer)?;
+    write_serial(certificate.serial, writer)?;
     write_named("issuer", &certificate.issuer, writer)?;
     write_named("subject", &certificate.subject, writer)?;
     write_validity(&certificate.validity, writer)?;
-    write_octets("key", certificate.subject_public_key_info.key, writer)
+    write_key(certificate.subject_public_key_info.key, writer)
 }
 
 fn write_basic<W: Write>(constraints: Option<BasicConstraints>, writer: &mut W) -> io::Result<()>

@@ -55,10 +55,10 @@ fn print_of(certificate: &Certificate<'_>, key_info: &SubjectPublicKeyInfo<'_>) 
         (seen_certificate certificate.now) }
 {
     fingerprint(
-        certificate.algorithm,
-        key_info.whole,
-        certificate.tbs,
-        certificate.signature,
+        certificate.algorithm.value.whole,
+        key_info.value.whole,
+        certificate.tbs.whole,
+        certificate.signature.octets(),
     )
 }
 
@@ -82,7 +82,8 @@ pub fn certificate_print_to<W: Write>(
 fn print_of_list(list: &Crl<'_>, key_info: &SubjectPublicKeyInfo<'_>) -> [u8; 32]
     ensures { result ≡ crl_print (seen_key_info key_info.now) (seen_list list.now) }
 {
-    fingerprint(list.algorithm, key_info.whole, list.tbs, list.signature)
+    let key_info = key_info.value.whole;
+    fingerprint(list.algorithm, key_info, list.tbs, list.signature)
 }
 
 /// Writes the line of the revocation list's fingerprint under the key of its issuer. It takes no memory.
@@ -103,7 +104,7 @@ fn print_of_response(response: &Response<'_>, key_info: &SubjectPublicKeyInfo<'_
 {
     fingerprint(
         response.algorithm,
-        key_info.whole,
+        key_info.value.whole,
         response.tbs,
         response.signature,
     )

@@ -117,14 +117,14 @@ fn says_the_fields(rt: HostRuntime) -> Result<(), Fail> {
     holds(&rt, read.version == Version::V1, "the version");
     holds(
         &rt,
-        read.serial == b"\x01\x02".as_slice(),
+        read.serial.body == b"\x01\x02".as_slice(),
         "the serial number",
     );
     holds(&rt, read.issuer.raw() == issuer.as_slice(), "the issuer");
     holds(&rt, read.subject.raw() == subject.as_slice(), "the subject");
     holds(
         &rt,
-        read.subject_public_key_info.whole == key.as_slice(),
+        read.subject_public_key_info.value.whole == key.as_slice(),
         "the key",
     );
     holds(&rt, read.validity.not_before == 1_735_689_600, "notBefore");

@@ -10,7 +10,8 @@ use verifiers::{ListVerifier, Verifier, fingerprint};
 
 /// The toy signature is accepted, whatever the algorithm, and not under another key, of another message, nor another signature.
 fn is_signed_by(read: &Certificate<'_>, key: &[u8], other: &[u8]) -> bool {
-    let (algorithm, message, signature) = (read.algorithm, read.tbs, read.signature);
+    let (algorithm, message) = (read.algorithm.value.whole, read.tbs.whole);
+    let signature = read.signature.octets();
     ToyVerifier.judge(algorithm, key, message, signature)
         && ToyVerifier.judge(b"", key, message, signature)
         && !ToyVerifier.judge(algorithm, other, message, signature)
@@ -39,7 +40,8 @@ fn accepts<V: Verifier>(alloc: Global, verifier: &V, text: &str, key: &str) -> R
     let octets = certificate(alloc, text)?;
     let read = read_certificate(alloc, &octets)?;
     let key = key_info(alloc, key)?;
-    Ok(verifier.judge(read.algorithm, &key, read.tbs, read.signature))
+    let (algorithm, message) = (read.algorithm.value.whole, read.tbs.whole);
+    Ok(verifier.judge(algorithm, &key, message, read.signature.octets()))
 }
 
 /// The fingerprint of the signature of `ee(T,R)`, which an independent script gives.
@@ -52,8 +54,9 @@ fn believes_a_list(rt: HostRuntime) -> Result<(), Fail> {
     let read = read_certificate(alloc, &octets)?;
     let root = certificate(alloc, "ca(R,R)")?;
     let issuer = read_certificate(alloc, &root)?;
-    let key = issuer.subject_public_key_info.whole;
-    let print = fingerprint(read.algorithm, key, read.tbs, read.signature);
+    let key = issuer.subject_public_key_info.value.whole;
+    let (algorithm, message) = (read.algorithm.value.whole, read.tbs.whole);
+    let print = fingerprint(algorithm, key, message, read.signature.octets());
     let printed = hex::encode(alloc, print.as_slice())?;
     holds(&rt, printed.as_str() == PRINT, "the fingerprint");
     let verifier = ListVerifier::new(vec![in alloc; print]?);

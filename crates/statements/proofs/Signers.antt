@@ -56,7 +56,7 @@ module _ (accepts : Accepts) (issuer : Certificate) (response : OcspResponse) wh
   authorized_0 c e =
       let named = both (is_named_by response.responder c) (is_issued accepts issuer c && (may_respond c && signs accepts response c)) e in
       let issued = both (is_issued accepts issuer c) (may_respond c && signs accepts response c) named.1 in
-      let by = both (matching c.issuer.rdns issuer.subject.rdns) (accepts c.algorithm issuer.key_info.whole c.tbs c.signature) issued.0 in
+      let by = both (matching c.issuer.rdns issuer.subject.rdns) (accepts c.algorithm.value.octets issuer.key_info.value.octets c.tbs.octets c.signature.octets) issued.0 in
       let may = both (may_respond c) (signs accepts response c) issued.1 in
       let purpose = both (list_any is_signing c.extensions.purposes) (c.extensions.no_check && (not c.extensions.needs_policy_processing && length c.extensions.unrecognised == 0)) may.0 in
       let check = both c.extensions.no_check (not c.extensions.needs_policy_processing && length c.extensions.unrecognised == 0) purpose.1 in
@@ -75,7 +75,7 @@ module _ (accepts : Accepts) (issuer : Certificate) (response : OcspResponse) wh
   authorized_1 : (c : Certificate) → IsAuthorizedResponder accepts issuer response c → is_responder accepts issuer response c ≡ true
   unfolding is_responder
   authorized_1 c is =
-      let signed : accepts c.algorithm issuer.key_info.whole c.tbs c.signature ≡ true = is.signed in
+      let signed : accepts c.algorithm.value.octets issuer.key_info.value.octets c.tbs.octets c.signature.octets ≡ true = is.signed in
       let signs_it : signs accepts response c ≡ true = is.signs_it in
       rw (named_1 response.responder c is.named, (matching_is_exact c.issuer.rdns issuer.subject.rdns).1 is.issued, signed, lists_1 c.extensions.purposes is.purpose, is.no_check, is.no_policy, empty_1 c.extensions.unrecognised is.known, signs_it) refl
 

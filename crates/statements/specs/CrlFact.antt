@@ -22,7 +22,7 @@ IsNamed issuer list = NamesMatch list.issuer.rdns issuer.subject.rdns
 
 -- and its signature is accepted under the issuer's key
 abbrev pub is_signed : Accepts → Certificate → CertificateList → Bool
-is_signed accepts issuer list = accepts list.algorithm issuer.key_info.whole list.tbs list.signature
+is_signed accepts issuer list = accepts list.algorithm issuer.key_info.value.octets list.tbs list.signature
 
 -- what it is numbered within: the issuer and the scope
 abbrev pub slot_of : Certificate → CertificateList → CrlSlot

@@ -5,4 +5,4 @@ use Rattle.facts.specs.Statement.{IssuerIdentity}
 
 -- by the name and the key of the subject (RFC 5280, 4.1.2.6 and 4.1.2.7)
 abbrev pub identity_of : Certificate → IssuerIdentity
-identity_of certificate = record { name = name_key certificate.subject.rdns; key_info = certificate.key_info.whole }
+identity_of certificate = record { name = name_key certificate.subject.rdns; key_info = certificate.key_info.value.octets }

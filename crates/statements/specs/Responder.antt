@@ -12,7 +12,7 @@ use Rattle.statements.specs.Genuine.{Accepts}
 
 -- the SHA-1 of the key: of subjectPublicKey without tag, length and count of unused bits (RFC 6960, 4.1.1 and 4.2.1)
 abbrev pub key_hash : Certificate → List ℕ
-key_hash c = sha1 c.key_info.key
+key_hash c = sha1 c.key_info.key.octets
 
 -- the responder id names the certificate: by its subject, or by the hash of its key
 abbrev pub IsNamedBy : Responder → Certificate → Type 0
@@ -21,7 +21,7 @@ IsNamedBy (by_key hash) c = hash ≡ key_hash c
 
 -- the response is signed under the certificate's key
 abbrev pub signs : Accepts → OcspResponse → Certificate → Bool
-signs accepts response c = accepts response.algorithm c.key_info.whole response.tbs response.signature
+signs accepts response c = accepts response.algorithm c.key_info.value.octets response.tbs response.signature
 
 -- id-kp-OCSPSigning (RFC 6960, 4.2.2.2): 1.3.6.1.5.5.7.3.9
 abbrev pub ocsp_signing : List ℕ
@@ -33,7 +33,7 @@ ocsp_signing = 0x2B ∷ 0x06 ∷ 0x01 ∷ 0x05 ∷ 0x05 ∷ 0x07 ∷ 0x03 ∷ 0x
 pub record IsAuthorizedResponder (accepts : Accepts) (issuer : Certificate) (response : OcspResponse) (c : Certificate) : Type 0 where
   pub named : IsNamedBy response.responder c
   pub issued : NamesMatch c.issuer.rdns issuer.subject.rdns
-  pub signed : IsTrue (accepts c.algorithm issuer.key_info.whole c.tbs c.signature)
+  pub signed : IsTrue (accepts c.algorithm.value.octets issuer.key_info.value.octets c.tbs.octets c.signature.octets)
   pub purpose : Contains c.extensions.purposes ocsp_signing
   pub no_check : c.extensions.no_check ≡ true
   pub no_policy : c.extensions.needs_policy_processing ≡ false
@@ -67,7 +67,7 @@ is_named_by (by_key hash) c = bytes_eq hash (key_hash c)
 -- the issuer issued it
 abbrev pub is_issued : Accepts → Certificate → Certificate → Bool
 is_issued accepts issuer c =
-    matching c.issuer.rdns issuer.subject.rdns && accepts c.algorithm issuer.key_info.whole c.tbs c.signature
+    matching c.issuer.rdns issuer.subject.rdns && accepts c.algorithm.value.octets issuer.key_info.value.octets c.tbs.octets c.signature.octets
 
 abbrev pub is_signing : List ℕ → Bool
 is_signing purpose = bytes_eq purpose ocsp_signing

@@ -29,7 +29,7 @@ fn check_issuer<V: Verifier>(
     if !list.issuer.matches(&issuer.subject) {
         return Err(StatementFault::OtherIssuer);
     }
-    let key_info = issuer.subject_public_key_info.whole;
+    let key_info = issuer.subject_public_key_info.value.whole;
     if !verifier.judge(list.algorithm, key_info, list.tbs, list.signature) {
         return Err(StatementFault::BadSignature);
     }

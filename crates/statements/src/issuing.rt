@@ -16,6 +16,6 @@ pub fn issuer_of<'a>(alloc: Global, certificate: &Certificate<'a>) -> Result<Iss
     let name = certificate.subject.key(alloc)?;
     Ok(Issuer {
         name: NameKey::from_octets(name),
-        key_info: certificate.subject_public_key_info.whole,
+        key_info: certificate.subject_public_key_info.value.whole,
     })
 }

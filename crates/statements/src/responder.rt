@@ -21,7 +21,7 @@ const OCSP_SIGNING: &[u8] = b"\x2B\x06\x01\x05\x05\x07\x03\x09";
 pub(crate) fn hash_of_key(certificate: &Certificate<'_>) -> [u8; 20]
     ensures { result ≡ key_hash (seen_certificate certificate.now) }
 {
-    Sha1::digest(certificate.subject_public_key_info.key)
+    Sha1::digest(certificate.subject_public_key_info.key.octets())
 }
 
 /// Whether the responder id names the certificate.
@@ -42,7 +42,7 @@ fn has_signed<V: Verifier>(
 ) -> bool
     ensures { result ≡ signs (V.accepts verifier.now) (seen_response response.now) (seen_certificate certificate.now) }
 {
-    let key_info = certificate.subject_public_key_info.whole;
+    let key_info = certificate.subject_public_key_info.value.whole;
     verifier.judge(
         response.algorithm,
         key_info,
@@ -71,13 +71,13 @@ fn is_of_issuer<V: Verifier>(
 ) -> bool
     ensures { result ≡ is_issued (V.accepts verifier.now) (seen_certificate issuer.now) (seen_certificate certificate.now) }
 {
-    let key_info = issuer.subject_public_key_info.whole;
+    let key_info = issuer.subject_public_key_info.value.whole;
     certificate.issuer.matches(&issuer.subject)
         && verifier.judge(
-            certificate.algorithm,
+            certificate.algorithm.value.whole,
             key_info,
-            certificate.tbs,
-            certificate.signature,
+            certificate.tbs.whole,
+            certificate.signature.octets(),
         )
 }
 

@@ -2,6 +2,7 @@
 use Rattle.std.proofs.Common.{◌≡◌, ℕ, ◌+◌, Bool, true, List, Option, Some, None, option_map, refl, sym, ap, ◌∙◌, if◌then◌else◌}
 use Rattle.std.proofs.lemmas.Option.{none-some, same_Some}
 use Rattle.sha1.specs.Sha1.{sha1}
+use Rattle.asn.specs.Place.{body}
 use Rattle.cert.specs.Certificate.{Certificate}
 use Rattle.facts.specs.declared.scope.Scope.{Scope}
 use Rattle.facts.specs.declared.scope.Scope.TheVariants.{All}
@@ -23,16 +24,20 @@ as_answer serial None (Some crl) is = absurd (none-some (seen_crl crl) (sym is))
 as_answer serial (Some fact) None is = absurd (none-some (part_of serial fact) is)
 as_answer serial (Some fact) (Some crl) is = ap (λ part. Some (answer_in part)) (same_Some (seen_crl crl) (part_of serial fact) is)
 
-pub answers_are : (held : Holdings) (issuer : IssuerIdentity) (certificate : Certificate) (kind : Scope) (hash : List ℕ) (all own : Option CrlAnswer) (ocsp : Option OcspFact)
-    → kind ≡ kind_of certificate → hash ≡ sha1 certificate.issuer.octets
-    → all ≡ list_held held issuer All certificate.serial → own ≡ list_held held issuer kind certificate.serial
-    → ocsp ≡ held.ocsp (record { issuer = issuer; name_hash = hash; serial = certificate.serial })
+pub answers_are : (held : Holdings) (issuer : IssuerIdentity) (certificate : Certificate) (kind : Scope) (serial hash : List ℕ) (all own : Option CrlAnswer) (ocsp : Option OcspFact)
+    → kind ≡ kind_of certificate → serial ≡ body certificate.serial → hash ≡ sha1 certificate.issuer.octets
+    → all ≡ list_held held issuer All serial → own ≡ list_held held issuer kind serial
+    → ocsp ≡ held.ocsp (record { issuer = issuer; name_hash = hash; serial = serial })
     → ◌≡◌ {A = Answers} (record { all = all; own = own; ocsp = ocsp }) (answers_held held issuer certificate)
-answers_are held issuer certificate kind hash all own ocsp kind_is hash_is all_is own_is ocsp_is =
-    let of_kind : own ≡ list_held held issuer (kind_of certificate) certificate.serial = own_is ∙ ap (λ k. list_held held issuer k certificate.serial) kind_is in
-    let by_hash : ocsp ≡ held.ocsp (record { issuer = issuer; name_hash = sha1 certificate.issuer.octets; serial = certificate.serial }) =
-    ocsp_is ∙ ap (λ h. held.ocsp (record { issuer = issuer; name_hash = h; serial = certificate.serial })) hash_is in
-    λ i. record { all = all_is i; own = of_kind i; ocsp = by_hash i }
+answers_are held issuer certificate kind serial hash all own ocsp kind_is serial_is hash_is all_is own_is ocsp_is =
+    let of_all : all ≡ list_held held issuer All (body certificate.serial) = all_is ∙ ap (λ s. list_held held issuer All s) serial_is in
+    let of_kind : own ≡ list_held held issuer (kind_of certificate) (body certificate.serial) =
+    own_is ∙ ap (λ k. list_held held issuer k serial) kind_is ∙ ap (λ s. list_held held issuer (kind_of certificate) s) serial_is in
+    let by_hash : ocsp ≡ held.ocsp (record { issuer = issuer; name_hash = sha1 certificate.issuer.octets; serial = body certificate.serial }) =
+    ocsp_is
+    ∙ ap (λ h. held.ocsp (record { issuer = issuer; name_hash = h; serial = serial })) hash_is
+    ∙ ap (λ s. held.ocsp (record { issuer = issuer; name_hash = sha1 certificate.issuer.octets; serial = s })) serial_is in
+    λ i. record { all = of_all i; own = of_kind i; ocsp = by_hash i }
 
 pub evidence_is : (held : Holdings) (link : Link) (issuer : IssuerIdentity) (may_sign : Bool) (answers : Answers) → issuer ≡ identity_of link.issuer → may_sign ≡ may_sign_crls link
     → answers ≡ answers_held held issuer link.certificate → ◌≡◌ {A = Evidence} (record { number = link.number; may_sign_crls = may_sign; answers = answers }) (evidence_of held link)

@@ -1,6 +1,7 @@
 -- What is held of a certificate, by its issuer.
 use Rattle.std.specs.Prelude.{ℕ, List, Option, option_map}
 use Rattle.sha1.specs.Sha1.{sha1}
+use Rattle.asn.specs.Place.{body}
 use Rattle.cert.specs.Certificate.{Certificate}
 use Rattle.facts.specs.declared.scope.Scope.{Scope}
 use Rattle.facts.specs.declared.scope.Scope.TheVariants.{All}
@@ -15,7 +16,7 @@ list_held held issuer scope serial = option_map (answer_for serial) (held.crl (r
 -- the answers on a certificate of the issuer
 abbrev pub answers_held : Holdings → IssuerIdentity → Certificate → Answers
 answers_held held issuer certificate = record {
-  all = list_held held issuer All certificate.serial;
-  own = list_held held issuer (kind_of certificate) certificate.serial;
-  ocsp = held.ocsp (record { issuer = issuer; name_hash = sha1 certificate.issuer.octets; serial = certificate.serial });
+  all = list_held held issuer All (body certificate.serial);
+  own = list_held held issuer (kind_of certificate) (body certificate.serial);
+  ocsp = held.ocsp (record { issuer = issuer; name_hash = sha1 certificate.issuer.octets; serial = body certificate.serial });
 }

@@ -100,12 +100,12 @@ fn look_up<S: Alter>(
     ensures survives { CommitsNothing (state S.Store tx.old.conn.now) (state S.Store tx.new.conn.now) }
 {
     let kind = kind_of(certificate);
-    let (all, own) = match look_up_lists(tx, issuer, kind, certificate.serial) {
+    let (all, own) = match look_up_lists(tx, issuer, kind, certificate.serial.body) {
         Ok(lists) => lists,
         Err(fault) => return Err(fault),
     };
     let name_hash = Sha1::digest(certificate.issuer.raw());
-    match ocsp(tx, issuer, &name_hash, certificate.serial) {
+    match ocsp(tx, issuer, &name_hash, certificate.serial.body) {
         Ok(ocsp) => Ok(Answers { all, own, ocsp }),
         Err(fault) => Err(fault),
     }

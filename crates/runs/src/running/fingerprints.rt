@@ -107,8 +107,9 @@ fn accepts(
     let issuer = read_certificate(alloc, issuer.as_slice())?;
     let octets = octets_of(alloc, digits)?;
     let read = read_certificate(alloc, octets.as_slice())?;
-    let key_info = issuer.subject_public_key_info.whole;
-    Ok(verifier.judge(read.algorithm, key_info, read.tbs, read.signature))
+    let key_info = issuer.subject_public_key_info.value.whole;
+    let (algorithm, message) = (read.algorithm.value.whole, read.tbs.whole);
+    Ok(verifier.judge(algorithm, key_info, message, read.signature.octets()))
 }
 
 #[test]

@@ -4,7 +4,7 @@ use Rattle.asn.specs.Place.{seen_tlv}
 use Rattle.asn.proofs.Laws.{members_same}
 use Rattle.distinguished_names.specs.NameParts.{AreRdns, map_at, rdns_at}
 use Rattle.distinguished_names.specs.NameView.{sequence_of}
-use Rattle.distinguished_names.specs.NameOctets.{raw_of, rdns_of}
+use Rattle.distinguished_names.specs.NameOctets.{raw_of, offset_of, rdns_of}
 use Rattle.distinguished_names.proofs.Reading.{rdns_read}
 use Rattle.distinguished_names.proofs.name.Name.at.Goals as goal
 
@@ -22,6 +22,10 @@ invariant_of-result-2 c =
 pub returns-clause-raw : goal.returns-clause-raw
 unfolding raw_of
 returns-clause-raw c = refl
+
+pub returns-clause-offset : goal.returns-clause-offset
+unfolding offset_of
+returns-clause-offset c = refl
 
 pub returns-clause-rdns : goal.returns-clause-rdns
 unfolding rdns_of sequence_of rdns_at
