@@ -1,7 +1,7 @@
 -- Two decimal digits spell one number, and a content spells one time.
 use Rattle.std.proofs.Common.{◌≡◌, ◌≤◌, ◌<◌, ◌+◌, ◌*◌, ◌/◌, ◌%◌, ℕ, ℤ, List, [], ◌∷◌, length, slice_index, drop, arith, refl, ap, sym, ◌∙◌, inl, inr, ◌⊎◌, Option, Some, None, IfNone}
 use Rattle.asn.specs.Time.{IsUtcTime, IsGeneralizedTime, IsTime, IsTwoDigits, IsTimeInYear}
-use Rattle.asn.specs.declared.time.TheConstants.{UTC_TIME, GENERALIZED_TIME}
+use Rattle.asn.specs.declared.identifier.TheConstants.{UTC_TIME, GENERALIZED_TIME}
 
 pub IfNone-weaker : {T : Type 0} (o : Option T) (P Q : Type 0) → (P → Q) → IfNone o P → IfNone o Q
 IfNone-weaker None P Q weaker p = weaker p

@@ -3,6 +3,7 @@ pub mod Place
 pub mod Members
 pub mod Shows
 pub mod Walk
+pub mod Reading
 pub mod Judgement
 pub mod Layout
 pub mod ListLayout

@@ -3,6 +3,7 @@
 #![tactic(auto)]
 
 mod cursor;
+mod identifier;
 mod layout;
 mod nested;
 mod number;
@@ -13,8 +14,12 @@ mod walk;
 
 pub use cursor::whole;
 pub use der::{Fault, Rule, check};
+pub use identifier::{
+    BIT_STRING, BOOLEAN, ENUMERATED, GENERALIZED_TIME, IA5_STRING, INTEGER, OBJECT_IDENTIFIER,
+    OCTET_STRING, PRINTABLE_STRING, SEQUENCE, SET, UTC_TIME, UTF8_STRING,
+};
 pub use layout::{member_laws, size_laws};
 pub use number::Number20;
 pub use oid::Oid;
-pub use time::{GENERALIZED_TIME, UTC_TIME, seconds_of_time, time_laws};
+pub use time::{seconds_of_time, time_laws};
 pub use tlv::{Cursor, Tlv};

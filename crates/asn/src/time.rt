@@ -5,13 +5,8 @@ ghost use Rattle.std.specs.Prelude.{pos, ◌+ℤ◌, ◌*ℤ◌, IfSome, IfNone}
 ghost use Rattle.asn.specs.Time.{IsTwoDigits, IsTimeInYear, IsTime, seconds_in, TimesAreUnique, TimeIsExact};
 ghost use Rattle.jiff_core.specs.Calendar.{IsCivilDate, IsEpochDay, days_from_civil};
 
+use crate::identifier::{GENERALIZED_TIME, UTC_TIME};
 use jiff::civil::Date;
-
-/// The universal tag number of UTCTime (X.680 47).
-pub const UTC_TIME: u8 = 23;
-
-/// The universal tag number of GeneralizedTime (X.680 46).
-pub const GENERALIZED_TIME: u8 = 24;
 
 /// The number that the two octets from `at` on spell in decimal digits.
 fn two_digit_number(text: &[u8], at: usize) -> Option<u8>
@@ -98,8 +93,8 @@ fn seconds_of_generalized_time(text: &[u8]) -> Option<i64>
     seconds_in_year(century * 100 + year_of_century, &text[4..])
 }
 
-/// The seconds from 1970-01-01T00:00:00Z of the content of a UTCTime or a GeneralizedTime, which
-/// `tag` tells apart by its universal tag number.
+/// The seconds from 1970-01-01T00:00:00Z of the content of a UTCTime (X.680 47) or a GeneralizedTime (X.680 46), which `tag`
+/// tells apart by its identifier octet.
 ///
 /// Each year from 0000 to 9999 of the Gregorian calendar is served. There is no second 60.
 pub fn seconds_of_time(tag: u8, octets: &[u8]) -> Option<i64>

@@ -7,7 +7,8 @@ ghost use Rattle.asn.specs.Place.{seen_tlv, remaining};
 ghost use Rattle.asn.specs.Members.{left, members, begins};
 ghost use Rattle.asn.specs.Walk.{Gives, seen, is_a, required, choice, optional, any, next_or, ended, some, seconds, time, default_false};
 
-use crate::time::{GENERALIZED_TIME, UTC_TIME, seconds_of_time};
+use crate::identifier::{BOOLEAN, GENERALIZED_TIME, UTC_TIME};
+use crate::time::seconds_of_time;
 use crate::tlv::{Cursor, Tlv};
 
 // A step that looks at the next value stands behind it, where there is one, whether it takes the value or refuses it.
@@ -78,7 +79,7 @@ impl<'a> Cursor<'a> {
         ensures walk { Gives (λ flag. (flag, left self.new)) result (default_false fault (left self.old)) }
         ensures passed { OnErr result (left self.new ≡ (any (left self.old)).1) }
     {
-        match self.optional(0x01) {
+        match self.optional(BOOLEAN) {
             None => Ok(false),
             Some(flag) => match flag.body {
                 [0xFF] => Ok(true),

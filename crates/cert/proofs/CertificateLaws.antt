@@ -9,7 +9,7 @@ use Rattle.asn.specs.Place.{Place, tag, body}
 use Rattle.asn.specs.Members.{Members, members, begins, begins_in}
 use Rattle.asn.specs.Walk.{optional}
 use Rattle.asn.specs.Judgement.{outermost}
-use Rattle.asn.proofs.Laws.{bind_ok, ok_is, check_ok, check_again, is_a_ok, is_a_again, required_ok, required_again, TakesOptional, optional_is, optional_there, optional_absent, ended_ok, ended_again, members_octets, outermost_ok, outermost_again}
+use Rattle.asn.proofs.Laws.{bind_ok, ok_is, check_ok, check_again, is_a_ok, is_a_again, next_or_ok, next_or_again, TakesOptional, optional_is, optional_there, optional_absent, ended_ok, ended_again, members_octets, outermost_ok, outermost_again}
 use Rattle.cert.specs.declared.fault.CertRule.{CertRule}
 use Rattle.cert.specs.declared.fault.CertRule.TheVariants as R
 use Rattle.cert.specs.declared.version.Version.{Version}
@@ -21,7 +21,7 @@ use Rattle.cert.specs.SubjectPublicKeyInfo.{key_info, IsSubjectPublicKeyInfo}
 use Rattle.cert.specs.BitString.{BitString, bit_string_at, bits_in, has_no_unused_bits}
 use Rattle.cert.specs.Version.{is_v3, IsVersion}
 use Rattle.cert.specs.Extensions.{Extensions, no_extensions}
-use Rattle.cert.specs.TbsCertificate.{TbsHead, Subject, component, serial_number, distinguished_name, issuer, unique_id, tbs_head, tbs_subject}
+use Rattle.cert.specs.TbsCertificate.{TbsHead, Subject, next_read, component, serial_number, distinguished_name, issuer, unique_id, tbs_head, tbs_subject}
 use Rattle.cert.specs.Certificate.{TbsCertificate, Certificate, extensions_in, optional_extensions, tbs_certificate, same_algorithm, signature_value, certificate_at, certificate}
 use Rattle.cert.specs.CertificateForms.{IsSerialNumber, IsNameOf, IsUniqueId, AreTaggedExtensions, AreOptionalExtensions, IsTbsCertificate, IsSignature, IsCertificateAt, CertificateIsExact, CertificateIsUnique}
 use Rattle.cert.proofs.ContainedValues.{as_der_ok}
@@ -30,7 +30,7 @@ use Rattle.cert.proofs.ValidityLaws.{is_validity, validity_is}
 use Rattle.cert.proofs.KeyInfoLaws.{is_key_info, key_info_is}
 use Rattle.cert.proofs.VersionLaws.{version_ok, version_again}
 use Rattle.cert.proofs.ExtensionListLaws.{all_behind, are_extensions, extensions_are}
-use Rattle.cert.proofs.TbsLaws.{component_ok, component_again, serial_ok, serial_again, name_ok, name_again, issuer_ok, issuer_again, unique_id_ok, unique_id_again}
+use Rattle.cert.proofs.TbsLaws.{next_read_ok, next_read_again, component_ok, component_again, serial_ok, serial_again, name_ok, name_again, issuer_ok, issuer_again, unique_id_ok, unique_id_again}
 
 -- extensions
 v3_ok : (version : Version) → is_v3 version ≡ true → version ≡ V3
@@ -60,9 +60,10 @@ of_extensions version left (Some explicit) others x fits took e =
     let list = bind_ok _ _ x served.2 in
     let read = bind_ok _ _ x list.2 in
     let done = bind_ok _ _ x read.2 in
-    let inner = required_ok _ _ _ _ list.1 in
+    let inner = next_or_ok _ _ _ list.1 in
     let explicit_fits = (subst (AllByRecursion Octets) took.values fits).0 in
     let list_fits = (subst (AllByRecursion Octets) inner.values (members_octets explicit explicit_fits)).0 in
+    let are = are_extensions list.0.0 read.0 list_fits read.1 in
     let P : Extensions × Members → Type 0 = λ y. TakesExtensions version left y.0 y.1 in
     subst P (ok_is {E = CertRule × ℕ} (read.0, others) x done.2) record {
       tagged = explicit ∷ [];
@@ -73,8 +74,8 @@ of_extensions version left (Some explicit) others x fits took e =
         explicit = took.tag_is;
         version_3 = v3_ok version (check_ok _ _ _ _ served.1);
         members_are = inner.values ∙ ap (◌∷◌ list.0.0) (ended_ok _ _ _ done.1);
-        sequence = inner.tag_is;
-        extensions_are = are_extensions list.0.0 read.0 list_fits read.1;
+        sequence = are.0;
+        extensions_are = are.1;
       };
     }
 
@@ -85,7 +86,7 @@ optional_extensions_ok version left x fits e = of_extensions version left (optio
 tagged_again : (explicit : Place) (others : Members) (version : Version) (found : Extensions) → AreOctets explicit.octets → AreTaggedExtensions explicit version found → extensions_in version (Some explicit) others ≡ Ok (found, others)
 tagged_again explicit others version found fits is =
     let list_fits = (subst (AllByRecursion Octets) is.members_are (members_octets explicit fits)).0 in
-    rw (check_again (is_v3 version) R.Version explicit.at (v3_again version is.version_3), required_again 0x30 R.Layout (members explicit) is.list [] is.members_are is.sequence, extensions_are is.list found list_fits is.extensions_are, ended_again R.Layout (record { values = []; end = (members explicit).end }) refl) refl
+    rw (check_again (is_v3 version) R.Version explicit.at (v3_again version is.version_3), next_or_again R.Layout (members explicit) is.list [] is.members_are, extensions_are is.list found list_fits is.sequence is.extensions_are, ended_again R.Layout (record { values = []; end = (members explicit).end }) refl) refl
 
 begins_none : (identifier : ℕ) (left : Members) → left.values ≡ [] → begins identifier left ≡ false
 unfolding begins
@@ -123,9 +124,9 @@ head_ok left x e =
     let validity_found = bind_ok _ _ x issuer.2 in
     let first = version_ok left version.0 version.1 in
     let second = component_ok 0x02 serial_number version.0.1 serial.0 serial.1 in
-    let third = component_ok 0x30 (algorithm_identifier R.Layout) serial.0.1 signature.0 signature.1 in
+    let third = next_read_ok (algorithm_identifier R.Layout) serial.0.1 signature.0 signature.1 in
     let fourth = component_ok 0x30 Rattle.cert.specs.TbsCertificate.issuer signature.0.1 issuer.0 issuer.1 in
-    let fifth = component_ok 0x30 validity issuer.0.1 validity_found.0 validity_found.1 in
+    let fifth = next_read_ok validity issuer.0.1 validity_found.0 validity_found.1 in
     let named = issuer_ok fourth.value issuer.0.0 fourth.read_is in
     let integer = serial_ok second.value serial.0.0 second.took.tag_is second.read_is in
     let P : TbsHead × Members → Type 0 = λ y. TakesHead left y.0 y.1 in
@@ -157,9 +158,9 @@ head_again left others head is end =
     rw (
       version_again left is.versions after_version head.version is.values is.version_is (no_version head.serial after_serial is.serial_is.integer),
       component_again 0x02 serial_number (next after_version) head.serial after_serial head.serial refl is.serial_is.integer (serial_again head.serial is.serial_is),
-      component_again 0x30 (algorithm_identifier R.Layout) (next after_serial) is.signature after_signature head.signature refl is.signature_is.sequence (algorithm_is R.Layout is.signature head.signature is.signature_is),
+      next_read_again (algorithm_identifier R.Layout) (next after_serial) is.signature after_signature head.signature refl (algorithm_is R.Layout is.signature head.signature is.signature_is),
       component_again 0x30 issuer (next after_signature) is.issuer after_issuer head.issuer refl is.issuer_is.is_name.sequence (issuer_again is.issuer head.issuer is.issuer_is is.issuer_named),
-      component_again 0x30 validity (next after_issuer) is.validity others.values head.validity refl is.validity_is.sequence (validity_is is.validity head.validity is.validity_is),
+      next_read_again validity (next after_issuer) is.validity others.values head.validity refl (validity_is is.validity head.validity is.validity_is),
       ← end,
     ) refl
 
@@ -183,7 +184,7 @@ subject_ok version left x e =
     let issuer_id = bind_ok _ _ x key.2 in
     let subject_id = bind_ok _ _ x issuer_id.2 in
     let first = component_ok 0x30 distinguished_name left name.0 name.1 in
-    let second = component_ok 0x30 key_info name.0.1 key.0 key.1 in
+    let second = next_read_ok key_info name.0.1 key.0 key.1 in
     let third = unique_id_ok 0x81 version key.0.1 issuer_id.0 issuer_id.1 in
     let fourth = unique_id_ok 0x82 version issuer_id.0 subject_id.0 subject_id.1 in
     let P : Subject × Members → Type 0 = λ y. TakesSubject version left y.0 y.1 in
@@ -222,7 +223,7 @@ subject_again version left subject tagged found others is same are end =
     let are = subst (λ t. AreOptionalExtensions t version found) (sym same) are in
     rw (
       component_again 0x30 distinguished_name left is.name (is.key_info ∷ after_key) subject.name is.values is.name_is.is_name.sequence (name_again is.name subject.name is.name_is),
-      component_again 0x30 key_info (next (is.key_info ∷ after_key)) is.key_info after_key subject.key_info refl is.key_info_is.sequence (key_info_is is.key_info subject.key_info is.key_info_is),
+      next_read_again key_info (next (is.key_info ∷ after_key)) is.key_info after_key subject.key_info refl (key_info_is is.key_info subject.key_info is.key_info_is),
       unique_id_again 0x81 version (next after_key) is.issuer_ids after_issuer_id refl is.issuer_id_is (no_issuer_id is.subject_ids others.values version found is.subject_id_is are),
       unique_id_again 0x82 version (next after_issuer_id) is.subject_ids others.values refl is.subject_id_is (no_id 0x82 others.values version found refl are),
       ← end,
@@ -243,46 +244,49 @@ in_order {head = head} first second third none =
     ∙ ap (λ vs. second.name ∷ second.key_info ∷ second.issuer_ids ++ (second.subject_ids ++ vs))
     (third.values ∙ ap (◌++◌ third.tagged) none ∙ append-nil third.tagged))
 
-pub is_tbs : (value : Place) (fields : TbsCertificate) → AreOctets value.octets → tbs_certificate value ≡ Ok fields → IsTbsCertificate value fields
+pub is_tbs : (value : Place) (fields : TbsCertificate) → AreOctets value.octets → tbs_certificate value ≡ Ok fields → (tag value ≡ 0x30) × IsTbsCertificate value fields
 unfolding tbs_certificate
 is_tbs value fields fits e =
-    let head = bind_ok _ _ fields e in
+    let sequence = bind_ok _ _ fields e in
+    let head = bind_ok _ _ fields sequence.2 in
     let subject = bind_ok _ _ fields head.2 in
     let extensions = bind_ok _ _ fields subject.2 in
     let done = bind_ok _ _ fields extensions.2 in
     let first = head_ok (members value) head.0 head.1 in
     let second = subject_ok head.0.0.version head.0.1 subject.0 subject.1 in
     let behind_head = (octets_behind first.versions ((members value).values) (head.0.0.serial ∷ first.signature ∷ first.issuer ∷ first.validity ∷ head.0.1.values) first.values (members_octets value fits)).1.1.1.1 in
-    let behind_key = (subst (AllByRecursion Octets) second.values behind_head).1.1 in
+    let behind_key = (subst (AllByRecursion Octets) {y = second.name ∷ second.key_info ∷ second.issuer_ids ++ (second.subject_ids ++ subject.0.1.values)} second.values behind_head).1.1 in
     let behind_ids = all_behind Octets second.subject_ids subject.0.1.values (all_behind Octets second.issuer_ids (second.subject_ids ++ subject.0.1.values) behind_key) in
-    let third = optional_extensions_ok head.0.0.version subject.0.1 extensions.0 behind_ids extensions.1 in
-    subst (IsTbsCertificate value) (ok_is {E = CertRule × ℕ} _ fields done.2) record {
-      versions = first.versions;
-      signature = first.signature;
-      issuer = first.issuer;
-      validity = first.validity;
-      subject = second.name;
-      key_info = second.key_info;
-      issuer_ids = second.issuer_ids;
-      subject_ids = second.subject_ids;
-      extensions = third.tagged;
-      members_are = in_order first second third (ended_ok _ _ _ done.1);
-      version_is = first.version_is;
-      serial_is = first.serial_is;
-      signature_is = first.signature_is;
-      issuer_is = first.issuer_is;
-      issuer_named = first.issuer_named;
-      validity_is = first.validity_is;
-      subject_is = second.name_is;
-      key_info_is = second.key_info_is;
-      issuer_id_is = second.issuer_id_is;
-      subject_id_is = second.subject_id_is;
-      extensions_are = third.are;
-    }
+    let third = optional_extensions_ok head.0.0.version subject.0.1 extensions.0 behind_ids extensions.1 in (
+      is_a_ok _ _ _ _ sequence.1,
+      subst (IsTbsCertificate value) (ok_is {E = CertRule × ℕ} _ fields done.2) record {
+        versions = first.versions;
+        signature = first.signature;
+        issuer = first.issuer;
+        validity = first.validity;
+        subject = second.name;
+        key_info = second.key_info;
+        issuer_ids = second.issuer_ids;
+        subject_ids = second.subject_ids;
+        extensions = third.tagged;
+        members_are = in_order first second third (ended_ok _ _ _ done.1);
+        version_is = first.version_is;
+        serial_is = first.serial_is;
+        signature_is = first.signature_is;
+        issuer_is = first.issuer_is;
+        issuer_named = first.issuer_named;
+        validity_is = first.validity_is;
+        subject_is = second.name_is;
+        key_info_is = second.key_info_is;
+        issuer_id_is = second.issuer_id_is;
+        subject_id_is = second.subject_id_is;
+        extensions_are = third.are;
+      },
+    )
 
-pub tbs_is : (value : Place) (fields : TbsCertificate) → AreOctets value.octets → IsTbsCertificate value fields → tbs_certificate value ≡ Ok fields
+pub tbs_is : (value : Place) (fields : TbsCertificate) → AreOctets value.octets → tag value ≡ 0x30 → IsTbsCertificate value fields → tbs_certificate value ≡ Ok fields
 unfolding tbs_certificate
-tbs_is value fields fits is =
+tbs_is value fields fits sequence is =
     let next : List Place → Members = λ values. record { values = values; end = (members value).end } in
     let after_head = is.subject ∷ is.key_info ∷ is.issuer_ids ++ (is.subject_ids ++ is.extensions) in
     let head : TakesHead (members value) fields.head (next after_head) = record {
@@ -312,6 +316,7 @@ tbs_is value fields fits is =
     let behind_head = (octets_behind is.versions ((members value).values) (fields.head.serial ∷ is.signature ∷ is.issuer ∷ is.validity ∷ after_head) is.members_are (members_octets value fits)).1.1.1.1 in
     let behind_ids = all_behind Octets is.subject_ids is.extensions (all_behind Octets is.issuer_ids (is.subject_ids ++ is.extensions) behind_head.1.1) in
     rw (
+      is_a_again 0x30 R.Layout value sequence,
       head_again (members value) (next after_head) fields.head head refl,
       subject_again fields.head.version (next after_head) fields.subject is.extensions fields.extensions (next is.extensions) subject refl is.extensions_are refl,
       optional_extensions_again fields.head.version (next is.extensions) is.extensions fields.extensions behind_ids refl is.extensions_are,
@@ -355,11 +360,12 @@ is_certificate_at value fields fits e =
     let algorithm = bind_ok _ _ fields tbs.2 in
     let signature = bind_ok _ _ fields algorithm.2 in
     let done = bind_ok _ _ fields signature.2 in
-    let first = required_ok _ _ _ _ signed.1 in
+    let first = next_or_ok _ _ _ signed.1 in
     let second = component_ok 0x30 (same_algorithm tbs.0.head.signature) signed.0.1 algorithm.0 algorithm.1 in
     let third = component_ok 0x03 signature_value algorithm.0.1 signature.0 signature.1 in
     let bits = signature_ok third.value signature.0.0 third.took.tag_is third.read_is in
     let signed_fits = (subst (AllByRecursion Octets) first.values (members_octets value fits)).0 in
+    let part = is_tbs signed.0.0 tbs.0 signed_fits tbs.1 in
     record {
       signed = signed.0.0;
       algorithm = second.value;
@@ -367,8 +373,8 @@ is_certificate_at value fields fits e =
       tbs = tbs.0;
       sequence = is_a_ok _ _ _ _ sequence.1;
       members_are = first.values ∙ ap (◌∷◌ signed.0.0) (second.took.values ∙ ap (◌∷◌ second.value) (third.took.values ∙ ap (λ s. s ∷ signature.0.1.values) bits.0 ∙ ap (◌∷◌ signature.0.0.value) (ended_ok _ _ _ done.1)));
-      signed_sequence = first.tag_is;
-      signed_is = is_tbs signed.0.0 tbs.0 signed_fits tbs.1;
+      signed_sequence = part.0;
+      signed_is = part.1;
       same_algorithm = same_ok tbs.0.head.signature second.value algorithm.0.0 second.read_is;
       algorithm_sequence = second.took.tag_is;
       signature_is = bits.1;
@@ -382,8 +388,8 @@ certificate_at_is value fields fits is =
     let signed_fits = (subst (AllByRecursion Octets) is.members_are (members_octets value fits)).0 in
     rw (
       is_a_again 0x30 R.Layout value is.sequence,
-      required_again 0x30 R.Layout (members value) is.signed (is.algorithm ∷ is.signature.value ∷ []) is.members_are is.signed_sequence,
-      tbs_is is.signed is.tbs signed_fits is.signed_is,
+      next_or_again R.Layout (members value) is.signed (is.algorithm ∷ is.signature.value ∷ []) is.members_are,
+      tbs_is is.signed is.tbs signed_fits is.signed_sequence is.signed_is,
       component_again 0x30 (same_algorithm is.tbs.head.signature) (next (is.algorithm ∷ is.signature.value ∷ [])) is.algorithm (is.signature.value ∷ []) tt refl is.algorithm_sequence (same_again is.tbs.head.signature is.algorithm is.same_algorithm),
       component_again 0x03 signature_value (next (is.signature.value ∷ [])) is.signature.value [] is.signature refl is.signature_is.bit_string (signature_again is.signature is.signature_is),
       ended_again R.Layout (next []) refl,

@@ -3,10 +3,10 @@ use Rattle.std.proofs.Common.{◌≡◌, ◌≢◌, ℕ, Bool, true, false, not,
 use Rattle.std.specs.List.{AllByRecursion, AllZip}
 use Rattle.std.specs.FinSet.{empty, contains, insert}
 use Rattle.asn.specs.DerLaws.{AreOctets}
-use Rattle.asn.specs.Place.{Place, body}
+use Rattle.asn.specs.Place.{Place, tag, body}
 use Rattle.asn.specs.Members.{members}
 use Rattle.asn.specs.Walk.{each, Leads}
-use Rattle.asn.proofs.Laws.{bind_ok, ok_is, check_ok, check_again, some_ok, some_again, each_ok, members_octets, body_octets}
+use Rattle.asn.proofs.Laws.{bind_ok, ok_is, check_ok, check_again, is_a_ok, is_a_again, some_ok, some_again, each_ok, members_octets, body_octets}
 use Rattle.cert.specs.declared.fault.CertRule.{CertRule}
 use Rattle.cert.specs.declared.fault.CertRule.TheVariants.{Layout, ExtensionRepeated}
 use Rattle.cert.specs.Extension.{Extension, IsExtension}
@@ -110,30 +110,33 @@ not_none : (values : List Place) (list : List Told) (value : Place) (others : Li
 not_none values [] value others e zip = λ none. absurd (subst (λ vs. AllZip Tells vs []) e zip)
 not_none values (one ∷ list) value others e zip = λ none. absurd cc
 
-pub are_extensions : (value : Place) (fields : Extensions) → AreOctets value.octets → extensions value ≡ Ok fields → AreExtensions value fields
+pub are_extensions : (value : Place) (fields : Extensions) → AreOctets value.octets → extensions value ≡ Ok fields → (tag value ≡ 0x30) × AreExtensions value fields
 unfolding extensions
 are_extensions value fields fits e =
-    let some = bind_ok _ _ fields e in
+    let sequence = bind_ok _ _ fields e in
+    let some = bind_ok _ _ fields sequence.2 in
     let taken = bind_ok _ _ fields some.2 in
     let first = some_ok _ _ _ some.1 in
     let leads = each_ok one_extension StepIn step_ok nothing_taken ((members value).values) taken.0 taken.1 in
-    let reads = reads_of nothing_taken ((members value).values) taken.0 leads (members_octets value fits) in
-    record {
-      list = reads.list;
-      some = not_none ((members value).values) reads.list first.0 first.1 first.2 reads.each;
-      each = reads.each;
-      types = new_pairs empty reads.list reads.new;
-      fields_are = sym (ok_is {E = CertRule × ℕ} _ fields taken.2) ∙ reads.told_is;
-    }
+    let reads = reads_of nothing_taken ((members value).values) taken.0 leads (members_octets value fits) in (
+      is_a_ok _ _ _ _ sequence.1,
+      record {
+        list = reads.list;
+        some = not_none ((members value).values) reads.list first.0 first.1 first.2 reads.each;
+        each = reads.each;
+        types = new_pairs empty reads.list reads.new;
+        fields_are = sym (ok_is {E = CertRule × ℕ} _ fields taken.2) ∙ reads.told_is;
+      },
+    )
 
 is_some_of : (values : List Place) (list : List Told) → AllZip Tells values list → list ≢ [] → (value : Place) × (others : List Place) × (values ≡ value ∷ others)
 is_some_of [] [] zip some = absurd (some refl)
 is_some_of [] (one ∷ list) zip some = absurd zip
 is_some_of (value ∷ others) list zip some = (value, others, refl)
 
-pub extensions_are : (value : Place) (fields : Extensions) → AreOctets value.octets → AreExtensions value fields → extensions value ≡ Ok fields
+pub extensions_are : (value : Place) (fields : Extensions) → AreOctets value.octets → tag value ≡ 0x30 → AreExtensions value fields → extensions value ≡ Ok fields
 unfolding extensions
-extensions_are value fields fits is =
+extensions_are value fields fits sequence is =
     let first = is_some_of ((members value).values) is.list is.each is.some in
     let taken = each_taken nothing_taken ((members value).values) is.list is.each (pairs_are_new is.list is.types) (members_octets value fits) in
-    rw (some_again Layout (members value) first.0 first.1 first.2, taken) (ap Ok (taken_told nothing_taken is.list ∙ sym is.fields_are))
+    rw (is_a_again 0x30 Layout value sequence, some_again Layout (members value) first.0 first.1 first.2, taken) (ap Ok (taken_told nothing_taken is.list ∙ sym is.fields_are))

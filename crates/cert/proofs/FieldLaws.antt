@@ -338,9 +338,11 @@ types_differ (one ∷ list) pairs =
 
 pub extensions_by_field : ExtensionsAreByField
 extensions_by_field value fields fits e =
-    let are = are_extensions value fields fits e in
+    let read = are_extensions value fields fits e in
+    let are = read.1 in
     record {
       list = map extension_in are.list;
+      sequence = read.0;
       each = extensions_are_in ((members value).values) are.list are.each;
       types = types_differ are.list are.types;
       fields_are = subst (AreFieldsOf (map extension_in are.list)) (sym are.fields_are) (fields_of are.list (say_so ((members value).values) are.list are.each) are.types);

@@ -2,7 +2,7 @@
 use Rattle.std.proofs.Common.{◌≡◌, ℕ, List, [], ◌∷◌, Ok, refl, ap, ◌∙◌, subst}
 use Rattle.asn.specs.Place.{Place}
 use Rattle.asn.specs.Members.{Members, members}
-use Rattle.asn.proofs.Laws.{bind_ok, ok_is, is_a_ok, is_a_again, required_ok, required_again, ended_ok, ended_again}
+use Rattle.asn.proofs.Laws.{bind_ok, ok_is, is_a_ok, is_a_again, required_ok, required_again, next_or_ok, next_or_again, ended_ok, ended_again}
 use Rattle.cert.specs.declared.fault.CertRule.{CertRule}
 use Rattle.cert.specs.declared.fault.CertRule.TheVariants.{Layout}
 use Rattle.cert.specs.SubjectPublicKeyInfo.{SubjectPublicKeyInfo, key_info, IsSubjectPublicKeyInfo}
@@ -16,7 +16,7 @@ is_key_info value fields e =
     let read = bind_ok _ _ fields algorithm.2 in
     let key = bind_ok _ _ fields read.2 in
     let done = bind_ok _ _ fields key.2 in
-    let first = required_ok _ _ _ _ algorithm.1 in
+    let first = next_or_ok _ _ _ algorithm.1 in
     let last = required_ok _ _ _ _ key.1 in
     subst (IsSubjectPublicKeyInfo value) (ok_is {E = CertRule × ℕ} _ fields done.2) record {
       algorithm = algorithm.0.0;
@@ -33,4 +33,4 @@ pub key_info_is : (value : Place) (fields : SubjectPublicKeyInfo) → IsSubjectP
 unfolding key_info
 key_info_is value fields is =
     let left : List Place → Members = λ values. record { values = values; end = (members value).end } in
-    rw (is_a_again 0x30 Layout value is.sequence, required_again 0x30 Layout (members value) is.algorithm (is.key ∷ []) is.members_are is.algorithm_is.sequence, algorithm_is Layout is.algorithm fields.algorithm is.algorithm_is, required_again 0x03 Layout (left (is.key ∷ [])) is.key [] refl is.bit_string, ended_again Layout (left []) refl, ← is.whole, ← is.bits) refl
+    rw (is_a_again 0x30 Layout value is.sequence, next_or_again Layout (members value) is.algorithm (is.key ∷ []) is.members_are, algorithm_is Layout is.algorithm fields.algorithm is.algorithm_is, required_again 0x03 Layout (left (is.key ∷ [])) is.key [] refl is.bit_string, ended_again Layout (left []) refl, ← is.whole, ← is.bits) refl

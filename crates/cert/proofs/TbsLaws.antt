@@ -4,7 +4,7 @@ use Rattle.std.proofs.lemmas.Bool.{and_parts, and_from, ltb-true, lt-ltb}
 use Rattle.asn.specs.Place.{Place, tag, body}
 use Rattle.asn.specs.Members.{Members, begins, begins_in}
 use Rattle.asn.specs.Walk.{optional}
-use Rattle.asn.proofs.Laws.{bind_ok, ok_is, check_ok, check_again, Takes, required_ok, required_again, TakesOptional, optional_is, optional_there, optional_absent}
+use Rattle.asn.proofs.Laws.{bind_ok, ok_is, check_ok, check_again, Takes, required_ok, required_again, TakesNext, next_or_ok, next_or_again, TakesOptional, optional_is, optional_there, optional_absent}
 use Rattle.names.specs.DistinguishedName.{RdnMap}
 use Rattle.names.specs.NameLayout.{name}
 use Rattle.names.specs.GeneralLayout.{NameContents, contents_at}
@@ -15,9 +15,28 @@ use Rattle.cert.specs.declared.version.Version.{Version}
 use Rattle.cert.specs.declared.version.Version.TheVariants.{V1, V2, V3}
 use Rattle.cert.specs.Fault.{as_name}
 use Rattle.cert.specs.Version.{is_v1}
-use Rattle.cert.specs.TbsCertificate.{component, is_serial, serial_number, distinguished_name, is_empty_name, issuer, unique_id_in, unique_id}
+use Rattle.cert.specs.TbsCertificate.{next_read, component, is_serial, serial_number, distinguished_name, is_empty_name, issuer, unique_id_in, unique_id}
 use Rattle.cert.proofs.Rooms.{as_name_ok}
 use Rattle.cert.specs.CertificateForms.{IsSerialNumber, IsNameOf, IsUniqueId}
+
+-- a value that is there, whatever it is
+pub record TakesRead {A : Type 0} (read : Place → Result A (CertRule × ℕ)) (left : Members) (found : A) (others : Members) : Type 0 where
+  pub value : Place
+  pub took : TakesNext left value others
+  pub read_is : read value ≡ Ok found
+
+pub next_read_ok : {A : Type 0} (read : Place → Result A (CertRule × ℕ)) (left : Members) (x : A × Members) → next_read read left ≡ Ok x → TakesRead read left x.0 x.1
+unfolding next_read
+next_read_ok {A = A} read left x e =
+    let value = bind_ok _ _ x e in
+    let found = bind_ok (read value.0.0) _ x value.2 in
+    let P : A × Members → Type 0 = λ y. TakesRead read left y.0 y.1 in
+    subst P (ok_is {E = CertRule × ℕ} (found.0, value.0.1) x found.2)
+    record { value = value.0.0; took = next_or_ok R.Layout left value.0 value.1; read_is = found.1 }
+
+pub next_read_again : {A : Type 0} (read : Place → Result A (CertRule × ℕ)) (left : Members) (value : Place) (others : List Place) (found : A) → left.values ≡ value ∷ others → read value ≡ Ok found → next_read read left ≡ Ok (found, record { values = others; end = left.end })
+unfolding next_read
+next_read_again read left value others found e r = rw (next_or_again R.Layout left value others e, r) refl
 
 -- a component that is there
 pub record TakesComponent {A : Type 0} (identifier : ℕ) (read : Place → Result A (CertRule × ℕ)) (left : Members) (found : A) (others : Members) : Type 0 where

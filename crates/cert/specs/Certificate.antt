@@ -3,7 +3,7 @@ use Rattle.std.specs.Prelude.{ℕ, Bool, List, Option, Some, None, Result, Ok}
 use Rattle.std.specs.Str.{bytes_eq}
 use Rattle.asn.specs.Place.{Place, seen_tlv, body}
 use Rattle.asn.specs.Members.{Members, members}
-use Rattle.asn.specs.Walk.{◌>>=◌, is_a, required, optional, ended, check_that}
+use Rattle.asn.specs.Walk.{◌>>=◌, is_a, next_or, optional, ended, check_that}
 use Rattle.asn.specs.Judgement.{outermost}
 use Rattle.names.specs.DistinguishedName.{matching}
 use Rattle.names.specs.GeneralLayout.{NameContents}
@@ -27,7 +27,7 @@ abbrev pub extensions_in : Version → Option Place → Members → Result (Exte
 extensions_in version None left = Ok (no_extensions, left)
 extensions_in version (Some explicit) left = do
   served ← check_that (is_v3 version) R.Version explicit.at
-  list ← required 0x30 R.Layout (members explicit)
+  list ← next_or R.Layout (members explicit)
   read ← extensions list.0
   done ← ended R.Layout list.1
   Ok (read, left)
@@ -47,6 +47,7 @@ seen_tbs read = record { head = seen_head read.head; subject = seen_subject read
 
 unfoldable pub tbs_certificate : Place → Result TbsCertificate (CertRule × ℕ)
 tbs_certificate value = do
+  sequence ← is_a 0x30 R.Layout value
   head ← tbs_head (members value)
   subject ← tbs_subject head.0.version head.1
   extensions ← optional_extensions head.0.version subject.1
@@ -109,7 +110,7 @@ certificate_with octets signed tbs signature = record {
 unfoldable pub certificate_at : Place → Result Certificate (CertRule × ℕ)
 certificate_at value = do
   sequence ← is_a 0x30 R.Layout value
-  signed ← required 0x30 R.Layout (members value)
+  signed ← next_or R.Layout (members value)
   tbs ← tbs_certificate signed.0
   algorithm ← component 0x30 (same_algorithm tbs.head.signature) signed.1
   signature ← component 0x03 signature_value algorithm.1

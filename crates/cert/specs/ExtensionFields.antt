@@ -2,7 +2,7 @@
 use Rattle.std.specs.Prelude.{◌≡◌, ◌≢◌, ◌↔◌, ◌⊎◌, ◌==◌, ◌&&◌, ℕ, Bool, true, false, not, List, [], ◌∷◌, map, Option, Some, None, Ok}
 use Rattle.std.specs.List.{AllByRecursion, AllZip, AllPairs, Contains, filter, list_any}
 use Rattle.asn.specs.DerLaws.{AreOctets}
-use Rattle.asn.specs.Place.{Place}
+use Rattle.asn.specs.Place.{Place, tag}
 use Rattle.asn.specs.Members.{members}
 use Rattle.cert.specs.Extension.{Extension, IsExtension}
 use Rattle.cert.specs.Extensions.{Extensions, extensions}
@@ -63,8 +63,9 @@ pub record AreFieldsOf (list : List Extension) (fields : Extensions) : Type 0 wh
   -- the types of those that are critical and not recognised, in their order
   pub unrecognised : fields.unrecognised ≡ map (λ e. e.oid) (filter (λ e. e.critical && not (has_recognised_type e.oid)) list)
 
--- The members of the value are extensions, no two of one type, and these are their fields.
+-- The value is a SEQUENCE of extensions, no two of one type, and these are their fields.
 pub record AreExtensionsByField (value : Place) (fields : Extensions) : Type 0 where
+  pub sequence : tag value ≡ 0x30
   pub list : List Extension
   pub each : AllZip IsExtension (members value).values list
   pub types : AllPairs (λ one other. one.oid ≢ other.oid) list

@@ -4,7 +4,7 @@ use Rattle.std.specs.Str.{bytes_eq}
 use Rattle.std.specs.FinSet.{empty, contains, insert}
 use Rattle.asn.specs.Place.{Place}
 use Rattle.asn.specs.Members.{members}
-use Rattle.asn.specs.Walk.{◌>>=◌, seen, check_that, some, each}
+use Rattle.asn.specs.Walk.{◌>>=◌, seen, check_that, is_a, some, each}
 use Rattle.asn.specs.Oid.{oid_contents}
 use Rattle.names.specs.GeneralLayout.{GeneralName}
 use Rattle.names.specs.GeneralView.{general_name}
@@ -202,6 +202,7 @@ one_extension earlier value = do
 -- Extensions ::= SEQUENCE SIZE (1..MAX) OF Extension
 unfoldable pub extensions : Place → Result Extensions (CertRule × ℕ)
 extensions value = do
+  sequence ← is_a 0x30 Layout value
   one ← some Layout (members value)
   taken ← each one_extension nothing_taken ((members value).values)
   Ok (taken.told)

@@ -3,7 +3,7 @@
 use Rattle.std.specs.Prelude.{◌≡◌, ◌↔◌, ℕ, [], ◌∷◌, Result, Ok}
 use Rattle.asn.specs.Place.{Place, seen_tlv, tag}
 use Rattle.asn.specs.Members.{members}
-use Rattle.asn.specs.Walk.{◌>>=◌, is_a, required, ended}
+use Rattle.asn.specs.Walk.{◌>>=◌, is_a, required, next_or, ended}
 use Rattle.cert.specs.declared.fault.CertRule.{CertRule}
 use Rattle.cert.specs.declared.fault.CertRule.TheVariants.{Layout}
 use Rattle.cert.specs.declared.key_info.SubjectPublicKeyInfo as code
@@ -23,7 +23,7 @@ seen_key_info read = record { value = seen_tlv read.value; algorithm = seen_algo
 unfoldable pub key_info : Place → Result SubjectPublicKeyInfo (CertRule × ℕ)
 key_info value = do
   sequence ← is_a 0x30 Layout value
-  algorithm ← required 0x30 Layout (members value)
+  algorithm ← next_or Layout (members value)
   read ← algorithm_identifier Layout algorithm.0
   key ← required 0x03 Layout algorithm.1
   done ← ended Layout key.1

@@ -2,7 +2,7 @@
 use Rattle.std.specs.Prelude.{ℕ, ◌&&◌, nat_lt, Bool, true, false, not, List, [], ◌∷◌, length, Option, Some, None, Result, Ok}
 use Rattle.asn.specs.Place.{Place, seen_tlv, body}
 use Rattle.asn.specs.Members.{Members}
-use Rattle.asn.specs.Walk.{◌>>=◌, required, optional, check_that}
+use Rattle.asn.specs.Walk.{◌>>=◌, required, next_or, optional, check_that}
 use Rattle.names.specs.DistinguishedName.{RdnMap}
 use Rattle.names.specs.NameLayout.{name}
 use Rattle.names.specs.GeneralLayout.{NameContents, contents_at}
@@ -18,7 +18,14 @@ use Rattle.cert.specs.Validity.{Validity, validity, seen_validity}
 use Rattle.cert.specs.SubjectPublicKeyInfo.{SubjectPublicKeyInfo, key_info, seen_key_info}
 use Rattle.cert.specs.Version.{is_v1, version}
 
--- the next value, which has this identifier and is read so
+-- the next value, by a reader that looks at its identifier
+unfoldable pub next_read : {A : Type 0} → (Place → Result A (CertRule × ℕ)) → Members → Result (A × Members) (CertRule × ℕ)
+next_read read left = do
+  value ← next_or R.Layout left
+  found ← read value.0
+  Ok (found, value.1)
+
+-- the next value, which has this identifier, by a reader that looks at what is inside alone, or that names another fault
 unfoldable pub component : {A : Type 0} → ℕ → (Place → Result A (CertRule × ℕ)) → Members → Result (A × Members) (CertRule × ℕ)
 component identifier read left = do
   value ← required identifier R.Layout left
@@ -70,9 +77,9 @@ unfoldable pub tbs_head : Members → Result (TbsHead × Members) (CertRule × �
 tbs_head left = do
   version ← version left
   serial ← component 0x02 serial_number version.1
-  signature ← component 0x30 (algorithm_identifier R.Layout) serial.1
+  signature ← next_read (algorithm_identifier R.Layout) serial.1
   issuer ← component 0x30 issuer signature.1
-  validity ← component 0x30 validity issuer.1
+  validity ← next_read validity issuer.1
   Ok (record { version = version.0; serial = serial.0; signature = signature.0; issuer = issuer.0; validity = validity.0 }, validity.1)
 
 -- The components from the subject to the extensions.
@@ -86,7 +93,7 @@ seen_subject read = record { name = name_contents read.name; key_info = seen_key
 unfoldable pub tbs_subject : Version → Members → Result (Subject × Members) (CertRule × ℕ)
 tbs_subject version left = do
   name ← component 0x30 distinguished_name left
-  key_info ← component 0x30 key_info name.1
+  key_info ← next_read key_info name.1
   issuer_id ← unique_id 0x81 version key_info.1
   subject_id ← unique_id 0x82 version issuer_id
   Ok (record { name = name.0; key_info = key_info.0 }, subject_id)

@@ -1,10 +1,9 @@
 //! Algorithm identifiers (RFC 5280, 4.1.1.2).
 
-ghost use Rattle.asn.specs.Place.{seen_tlv};
-ghost use Rattle.asn.specs.Walk.{Gives};
+ghost use Rattle.asn.specs.Reading.{seen_tlv, Gives};
 ghost use Rattle.cert.specs.AlgorithmIdentifier.{algorithm_identifier, seen_algorithm};
 
-use asn::{Oid, Tlv};
+use asn::{OBJECT_IDENTIFIER, Oid, SEQUENCE, Tlv};
 
 /// AlgorithmIdentifier ::= SEQUENCE { algorithm OBJECT IDENTIFIER, parameters ANY DEFINED BY algorithm OPTIONAL }
 #[derive(Clone, Copy)]
@@ -21,9 +20,9 @@ impl<'a> AlgorithmIdentifier<'a> {
     pub fn read<F: Copy>(value: Tlv<'a>, layout: F) -> Result<AlgorithmIdentifier<'a>, (F, usize)>
         ensures { Gives seen_algorithm result (algorithm_identifier layout (seen_tlv value.entry)) }
     {
-        value.is_a(0x30, layout)?;
+        value.is_a(SEQUENCE, layout)?;
         let mut members = value.members();
-        let algorithm = members.required(0x06, layout)?;
+        let algorithm = members.required(OBJECT_IDENTIFIER, layout)?;
         members.any();
         members.ended(layout)?;
         Ok(AlgorithmIdentifier {

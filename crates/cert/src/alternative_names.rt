@@ -1,9 +1,7 @@
 //! subjectAltName: further names of a certificate's subject (RFC 5280, 4.2.1.6).
 
 ghost use Rattle.std.specs.Prelude.{[], map};
-ghost use Rattle.asn.specs.Place.{seen_tlv};
-ghost use Rattle.asn.specs.Members.{left};
-ghost use Rattle.asn.specs.Walk.{Gives, each};
+ghost use Rattle.asn.specs.Reading.{seen_tlv, left, Gives, each};
 ghost use Rattle.names.specs.GeneralLayout.{general};
 ghost use Rattle.names.specs.GeneralView.{general_name};
 ghost use Rattle.cert.specs.Fault.{as_name, GivesUnlessFull};
@@ -12,7 +10,7 @@ ghost use Rattle.cert.specs.AlternativeNames.{has_form, one_more_name, alternati
 use crate::contained::contained_value;
 use crate::fault::{CertFault, CertRule, Refusal, name_refusal};
 use crate::limit::{MOST_NAMES, check_room};
-use asn::{Cursor, Tlv};
+use asn::{Cursor, SEQUENCE, Tlv};
 use names::{General, NameRule, form_of_tag};
 use std::alloc::Global;
 
@@ -70,7 +68,7 @@ pub(crate) fn read_alternative_names<'a>(
     ensures { GivesUnlessFull (λ all. map general_name all.items) result (alternative_names (seen_tlv octet_string.entry)) }
 {
     let value = contained_value(octet_string)?;
-    value.is_a(0x30, CertRule::ExtensionValue)?;
+    value.is_a(SEQUENCE, CertRule::ExtensionValue)?;
     let members = value.members();
     members.some(CertRule::ExtensionValue)?;
     name_list(alloc, members)

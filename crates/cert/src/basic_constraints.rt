@@ -1,14 +1,12 @@
 //! basicConstraints: whether a certificate is that of an authority, and how long a path from it may be (RFC 5280, 4.2.1.9).
 
 ghost use Rattle.std.specs.Prelude.{◌≡◌};
-ghost use Rattle.asn.specs.Place.{seen_tlv};
-ghost use Rattle.asn.specs.Members.{left};
-ghost use Rattle.asn.specs.Walk.{Gives};
+ghost use Rattle.asn.specs.Reading.{seen_tlv, left, Gives};
 ghost use Rattle.cert.specs.BasicConstraints.{is_negative, saturated, path_length, basic_constraints, seen_basic_constraints};
 
 use crate::contained::contained_value;
 use crate::fault::{CertRule, Refusal};
-use asn::{Cursor, Tlv};
+use asn::{Cursor, INTEGER, SEQUENCE, Tlv};
 
 /// BasicConstraints ::= SEQUENCE { cA BOOLEAN DEFAULT FALSE, pathLenConstraint INTEGER (0..MAX) OPTIONAL }
 #[derive(Clone, Copy, Debug, PartialEq, Eq)]
@@ -44,7 +42,7 @@ fn saturated_number(octets: &[u8]) -> u32
 fn take_path_length(members: &mut Cursor<'_>) -> Result<Option<u32>, Refusal>
     ensures { Gives (λ number. (number, left members.new)) result (path_length (left members.old)) }
 {
-    match members.optional(0x02) {
+    match members.optional(INTEGER) {
         None => Ok(None),
         Some(number) => {
             if is_negative_number(number.body) {
@@ -65,7 +63,7 @@ impl BasicConstraints {
         ensures { Gives seen_basic_constraints result (basic_constraints (seen_tlv octet_string.entry)) }
     {
         let value = contained_value(octet_string)?;
-        value.is_a(0x30, CertRule::ExtensionValue)?;
+        value.is_a(SEQUENCE, CertRule::ExtensionValue)?;
         let mut members = value.members();
         let ca = members.default_false(CertRule::ExtensionValue)?;
         let path_length = take_path_length(&mut members)?;

@@ -1,9 +1,7 @@
 //! Certificates (RFC 5280, 4.1).
 
 ghost use Rattle.std.specs.Prelude.{◌≡◌, IsTrue, ◌↔◌};
-ghost use Rattle.asn.specs.Place.{seen_tlv};
-ghost use Rattle.asn.specs.Members.{left};
-ghost use Rattle.asn.specs.Walk.{Gives};
+ghost use Rattle.asn.specs.Reading.{seen_tlv, left, Gives};
 ghost use Rattle.asn.specs.Judgement.{outermost as asn_outermost};
 ghost use Rattle.names.specs.DistinguishedName.{NamesMatch};
 ghost use Rattle.cert.specs.AlgorithmIdentifier.{seen_algorithm};
@@ -21,7 +19,7 @@ use crate::key_info::SubjectPublicKeyInfo;
 use crate::tbs::{Subject, TbsHead};
 use crate::validity::Validity;
 use crate::version::Version;
-use asn::{Cursor, Tlv};
+use asn::{BIT_STRING, Cursor, SEQUENCE, Tlv};
 use names::Name;
 use std::alloc::Global;
 
@@ -64,7 +62,7 @@ fn take_extensions<'a>(
         return Err(CertFault::Refused(CertRule::Version, explicit.at));
     }
     let mut inside = explicit.members();
-    let list = inside.required(0x30, CertRule::Layout)?;
+    let list = inside.next_or(CertRule::Layout)?;
     let extensions = Extensions::read(alloc, list)?;
     inside.ended(CertRule::Layout)?;
     Ok(extensions)
@@ -83,9 +81,9 @@ impl<'a> TbsCertificate<'a> {
     /// issuerUniqueID [1], subjectUniqueID [2], extensions [3] }
     #[tactic(auto, unfolding(crate::specs::Certificate::tbs_certificate))]
     fn read(alloc: Global, value: Tlv<'a>) -> Result<TbsCertificate<'a>, CertFault>
-        requires { value.tag ≡ 48 }
         ensures { GivesUnlessFull seen_tbs result (tbs_certificate (seen_tlv value.entry)) }
     {
+        value.is_a(SEQUENCE, CertRule::Layout)?;
         let mut members = value.members();
         let head = TbsHead::take(&mut members)?;
         let subject = Subject::take(head.version, &mut members)?;
@@ -107,7 +105,7 @@ fn take_same_algorithm(
 ) -> Result<(), Refusal>
     ensures { Gives (λ _. (tt, left members.new)) result (component 0x30 (same_algorithm (seen_algorithm inner.entry)) (left members.old)) }
 {
-    let value = members.required(0x30, CertRule::Layout)?;
+    let value = members.required(SEQUENCE, CertRule::Layout)?;
     if value.whole == inner.value.whole {
         Ok(())
     } else {
@@ -131,17 +129,18 @@ fn signature_at(value: Tlv<'_>) -> Result<BitString<'_>, Refusal>
 fn take_signature<'a>(members: &mut Cursor<'a>) -> Result<BitString<'a>, Refusal>
     ensures { Gives (λ read. (seen_bit_string read, left members.new)) result (component 0x03 signature_value (left members.old)) }
 {
-    signature_at(members.required(0x03, CertRule::Layout)?)
+    signature_at(members.required(BIT_STRING, CertRule::Layout)?)
 }
 
 /// Certificate ::= SEQUENCE { tbsCertificate TBSCertificate, signatureAlgorithm AlgorithmIdentifier, signatureValue BIT STRING }
+#[inline(always)]
 #[tactic(auto, unfolding(crate::specs::Certificate::certificate_at))]
 fn read_certificate<'a>(alloc: Global, value: Tlv<'a>) -> Result<Certificate<'a>, CertFault>
     ensures { GivesUnlessFull seen_certificate result (certificate_at (seen_tlv value.entry)) }
 {
-    value.is_a(0x30, CertRule::Layout)?;
+    value.is_a(SEQUENCE, CertRule::Layout)?;
     let mut members = value.members();
-    let signed = members.required(0x30, CertRule::Layout)?;
+    let signed = members.next_or(CertRule::Layout)?;
     let tbs = TbsCertificate::read(alloc, signed)?;
     take_same_algorithm(tbs.head.signature, &mut members)?;
     let signature = take_signature(&mut members)?;
@@ -176,6 +175,7 @@ impl<'a> Certificate<'a> {
     ///
     /// Time is that of n log n for n octets. Memory is taken for the lists in `extensions`, and, while it reads, for the
     /// types of the extensions past the sixteenth; `CertFault::Memory` is answered only where that was refused.
+    #[inline(always)]
     #[tactic(auto, unfolding(crate::specs::Certificate::certificate))]
     pub fn read(alloc: Global, octets: &'a [u8]) -> Result<Certificate<'a>, CertFault>
         ensures { GivesUnlessFull seen_certificate result (certificate octets.now) }

@@ -1,7 +1,6 @@
 //! The value that the OCTET STRING of an extension holds (RFC 5280, 4.2).
 
-ghost use Rattle.asn.specs.Place.{seen_tlv};
-ghost use Rattle.asn.specs.Walk.{Gives};
+ghost use Rattle.asn.specs.Reading.{seen_tlv, Gives};
 ghost use Rattle.asn.specs.Judgement.{nested};
 ghost use Rattle.cert.specs.Fault.{as_der};
 

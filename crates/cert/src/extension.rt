@@ -1,10 +1,9 @@
 //! Extensions (RFC 5280, 4.2).
 
-ghost use Rattle.asn.specs.Place.{seen_tlv};
-ghost use Rattle.asn.specs.Walk.{Gives};
+ghost use Rattle.asn.specs.Reading.{seen_tlv, Gives};
 ghost use Rattle.cert.specs.Extension.{extension, seen_extension};
 
-use asn::{Oid, Tlv};
+use asn::{OBJECT_IDENTIFIER, OCTET_STRING, Oid, SEQUENCE, Tlv};
 
 /// Extension ::= SEQUENCE { extnID OBJECT IDENTIFIER, critical BOOLEAN DEFAULT FALSE, extnValue OCTET STRING }
 #[derive(Clone, Copy)]
@@ -25,11 +24,11 @@ impl<'a> Extension<'a> {
     pub fn read<F: Copy>(value: Tlv<'a>, layout: F) -> Result<Extension<'a>, (F, usize)>
         ensures { Gives seen_extension result (extension layout (seen_tlv value.entry)) }
     {
-        value.is_a(0x30, layout)?;
+        value.is_a(SEQUENCE, layout)?;
         let mut members = value.members();
-        let oid = members.required(0x06, layout)?;
+        let oid = members.required(OBJECT_IDENTIFIER, layout)?;
         let critical = members.default_false(layout)?;
-        let octet_string = members.required(0x04, layout)?;
+        let octet_string = members.required(OCTET_STRING, layout)?;
         members.ended(layout)?;
         Ok(Extension {
             whole: value,

@@ -2,10 +2,8 @@
 
 ghost use Rattle.std.specs.Prelude.{◌≡◌, OnErr, OnOk, Err};
 ghost use Rattle.cert.specs.declared.fault.CertFault.TheVariants.{Memory};
-ghost use Rattle.asn.specs.Place.{seen_tlv};
-ghost use Rattle.asn.specs.Members.{left};
+ghost use Rattle.asn.specs.Reading.{seen_tlv, left, each};
 ghost use Rattle.asn.specs.Oid.{oid_contents};
-ghost use Rattle.asn.specs.Walk.{each};
 ghost use Rattle.cert.specs.Extension.{seen_extension};
 ghost use Rattle.cert.specs.Extensions.{seen_extensions, no_extensions, kind_of, listed, noted, told_by, one_extension, nothing_taken, seen_taken, extensions};
 ghost use Rattle.cert.specs.Fault.{GivesUnlessFull};
@@ -19,7 +17,7 @@ use crate::key_usage::KeyUsage;
 use crate::name_constraints::NameConstraints;
 use crate::oid_set::OidSet;
 use crate::purposes::read_purposes;
-use asn::{Cursor, Oid, Tlv};
+use asn::{Cursor, Oid, SEQUENCE, Tlv};
 use names::General;
 use std::alloc::Global;
 
@@ -147,13 +145,14 @@ fn take_all<'a>(alloc: Global, members: Cursor<'a>) -> Result<Taken<'a>, CertFau
 impl<'a> Extensions<'a> {
     /// Extensions ::= SEQUENCE SIZE (1..MAX) OF Extension
     ///
-    /// What the extensions in the SEQUENCE say, or the first fault. Time is that of n log n for n octets; memory is taken
-    /// for the lists, and while they are read for the types, where there are more than 16.
+    /// What the extensions say; else the first fault: `Layout` at a value that is no SEQUENCE, or at the end of one that is
+    /// empty, or the fault of an extension. Time is that of n log n for n octets; memory is taken for the lists, and while
+    /// they are read for the types, where there are more than 16.
     #[tactic(auto, unfolding(crate::specs::Extensions::extensions))]
     pub(crate) fn read(alloc: Global, value: Tlv<'a>) -> Result<Extensions<'a>, CertFault>
-        requires { value.tag ≡ 48 }
         ensures { GivesUnlessFull seen_extensions result (extensions (seen_tlv value.entry)) }
     {
+        value.is_a(SEQUENCE, CertRule::Layout)?;
         let members = value.members();
         members.some(CertRule::Layout)?;
         let taken = take_all(alloc, members)?;

@@ -1,14 +1,13 @@
 //! Public keys of subjects (RFC 5280, 4.1.2.7).
 
 ghost use Rattle.std.specs.Prelude.{◌≡◌};
-ghost use Rattle.asn.specs.Place.{seen_tlv};
-ghost use Rattle.asn.specs.Walk.{Gives};
+ghost use Rattle.asn.specs.Reading.{seen_tlv, Gives};
 ghost use Rattle.cert.specs.SubjectPublicKeyInfo.{key_info, seen_key_info};
 
 use crate::algorithm::AlgorithmIdentifier;
 use crate::bit_string::BitString;
 use crate::fault::{CertRule, Refusal};
-use asn::Tlv;
+use asn::{BIT_STRING, SEQUENCE, Tlv};
 
 /// SubjectPublicKeyInfo ::= SEQUENCE { algorithm AlgorithmIdentifier, subjectPublicKey BIT STRING }
 #[derive(Clone, Copy)]
@@ -28,11 +27,11 @@ impl<'a> SubjectPublicKeyInfo<'a> {
     pub fn read(value: Tlv<'a>) -> Result<SubjectPublicKeyInfo<'a>, Refusal>
         ensures { Gives seen_key_info result (key_info (seen_tlv value.entry)) }
     {
-        value.is_a(0x30, CertRule::Layout)?;
+        value.is_a(SEQUENCE, CertRule::Layout)?;
         let mut members = value.members();
-        let algorithm = members.required(0x30, CertRule::Layout)?;
+        let algorithm = members.next_or(CertRule::Layout)?;
         let algorithm = AlgorithmIdentifier::read(algorithm, CertRule::Layout)?;
-        let key = members.required(0x03, CertRule::Layout)?;
+        let key = members.required(BIT_STRING, CertRule::Layout)?;
         members.ended(CertRule::Layout)?;
         Ok(SubjectPublicKeyInfo {
             value,

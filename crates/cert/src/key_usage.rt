@@ -1,14 +1,13 @@
 //! keyUsage: what the key of a certificate may be used for (RFC 5280, 4.2.1.3).
 
 ghost use Rattle.std.specs.Prelude.{◌≡◌};
-ghost use Rattle.asn.specs.Place.{seen_tlv};
-ghost use Rattle.asn.specs.Walk.{Gives};
+ghost use Rattle.asn.specs.Reading.{seen_tlv, Gives};
 ghost use Rattle.cert.specs.KeyUsage.{has_bit, key_usage, seen_key_usage};
 
 use crate::bit_string::bits_of;
 use crate::contained::contained_value;
 use crate::fault::{CertRule, Refusal};
-use asn::Tlv;
+use asn::{BIT_STRING, Tlv};
 
 /// KeyUsage ::= BIT STRING { digitalSignature (0), nonRepudiation (1), keyEncipherment (2), dataEncipherment (3),
 /// keyAgreement (4), keyCertSign (5), cRLSign (6), encipherOnly (7), decipherOnly (8) }
@@ -26,7 +25,7 @@ impl<'a> KeyUsage<'a> {
         ensures { Gives seen_key_usage result (key_usage (seen_tlv octet_string.entry)) }
     {
         let value = contained_value(octet_string)?;
-        value.is_a(0x03, CertRule::ExtensionValue)?;
+        value.is_a(BIT_STRING, CertRule::ExtensionValue)?;
         Ok(KeyUsage {
             bits: bits_of(value.body),
         })

@@ -1,7 +1,7 @@
 //! How much of a list is served.
 
 ghost use Rattle.std.specs.Prelude.{◌<◌, OnOk};
-ghost use Rattle.asn.specs.Walk.{Gives};
+ghost use Rattle.asn.specs.Reading.{Gives};
 ghost use Rattle.cert.specs.Limit.{has_room};
 
 use crate::fault::{CertRule, Refusal};

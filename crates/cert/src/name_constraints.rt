@@ -6,7 +6,7 @@ use crate::contained::contained_value;
 use crate::fault::{CertFault, CertRule};
 use crate::limit::MOST_NAMES;
 use crate::subtrees::{take_excluded, take_permitted};
-use asn::Tlv;
+use asn::{SEQUENCE, Tlv};
 use names::Subtree;
 use std::alloc::Global;
 
@@ -22,7 +22,7 @@ pub struct NameConstraints<'a> {
 }
 
 impl<'a> NameConstraints<'a> {
-    ghost use Rattle.asn.specs.Place.{seen_tlv};
+    ghost use Rattle.asn.specs.Reading.{seen_tlv};
     ghost use Rattle.cert.specs.Fault.{GivesUnlessFull};
     ghost use Rattle.cert.specs.NameConstraints.{name_constraints, seen_name_constraints};
 
@@ -36,7 +36,7 @@ impl<'a> NameConstraints<'a> {
         ensures { GivesUnlessFull seen_name_constraints result (name_constraints (seen_tlv octet_string.entry)) }
     {
         let value = contained_value(octet_string)?;
-        value.is_a(0x30, CertRule::ExtensionValue)?;
+        value.is_a(SEQUENCE, CertRule::ExtensionValue)?;
         let mut members = value.members();
         let permitted = take_permitted(alloc, &mut members)?;
         let excluded = take_excluded(alloc, MOST_NAMES - permitted.len(), &mut members)?;

@@ -1,16 +1,14 @@
 //! extKeyUsage: the purposes that a certificate is for (RFC 5280, 4.2.1.12).
 
 ghost use Rattle.std.specs.Prelude.{[], map};
-ghost use Rattle.asn.specs.Place.{seen_tlv};
-ghost use Rattle.asn.specs.Members.{left};
-ghost use Rattle.asn.specs.Walk.{each};
+ghost use Rattle.asn.specs.Reading.{seen_tlv, left, each};
 ghost use Rattle.asn.specs.Oid.{oid_contents};
 ghost use Rattle.cert.specs.Fault.{GivesUnlessFull};
 ghost use Rattle.cert.specs.Purposes.{one_more_purpose, purposes};
 
 use crate::contained::contained_value;
 use crate::fault::{CertFault, CertRule};
-use asn::{Cursor, Oid, Tlv};
+use asn::{Cursor, OBJECT_IDENTIFIER, Oid, SEQUENCE, Tlv};
 use std::alloc::Global;
 
 /// Adds the purpose that the value is.
@@ -19,7 +17,7 @@ fn push_purpose<'a>(all: &mut Vec<Oid<'a>>, value: Tlv<'a>) -> Result<(), CertFa
     ensures { GivesUnlessFull (λ _. map oid_contents all.new.items) result
         (one_more_purpose (map oid_contents all.old.items) (seen_tlv value.entry)) }
 {
-    value.is_a(0x06, CertRule::ExtensionValue)?;
+    value.is_a(OBJECT_IDENTIFIER, CertRule::ExtensionValue)?;
     all.push(Oid::new(value.body))?;
     Ok(())
 }
@@ -54,7 +52,7 @@ pub(crate) fn read_purposes<'a>(
     ensures { GivesUnlessFull (λ all. map oid_contents all.items) result (purposes (seen_tlv octet_string.entry)) }
 {
     let value = contained_value(octet_string)?;
-    value.is_a(0x30, CertRule::ExtensionValue)?;
+    value.is_a(SEQUENCE, CertRule::ExtensionValue)?;
     let members = value.members();
     members.some(CertRule::ExtensionValue)?;
     purpose_list(alloc, members)

@@ -1,9 +1,7 @@
 //! The subtrees of nameConstraints (RFC 5280, 4.2.1.10).
 
 ghost use Rattle.std.specs.Prelude.{◌≤◌, [], IfOk, map, vec_len};
-ghost use Rattle.asn.specs.Place.{seen_tlv};
-ghost use Rattle.asn.specs.Members.{left};
-ghost use Rattle.asn.specs.Walk.{Gives, each};
+ghost use Rattle.asn.specs.Reading.{seen_tlv, left, Gives, each};
 ghost use Rattle.names.specs.GeneralLayout.{base};
 ghost use Rattle.names.specs.GeneralView.{subtree_base};
 ghost use Rattle.cert.specs.Fault.{as_name, GivesUnlessFull};
@@ -11,7 +9,7 @@ ghost use Rattle.cert.specs.NameConstraints.{no_bounds, subtree, one_more_subtre
 
 use crate::fault::{CertFault, CertRule, Refusal, name_refusal};
 use crate::limit::{MOST_NAMES, check_room};
-use asn::{Cursor, Tlv};
+use asn::{Cursor, SEQUENCE, Tlv};
 use names::Subtree;
 use std::alloc::Global;
 
@@ -51,7 +49,7 @@ fn push_subtree<'a>(
         (one_more_subtree most (map subtree_base all.old.items) (seen_tlv value.entry)) }
     ensures served { vec_len all.old ≤ most → vec_len all.new ≤ most }
 {
-    value.is_a(0x30, CertRule::ExtensionValue)?;
+    value.is_a(SEQUENCE, CertRule::ExtensionValue)?;
     check_room(most, all.len(), value.at)?;
     let base = read_subtree(value.members())?;
     all.push(base)?;

@@ -1,14 +1,12 @@
 //! The signed part of a certificate (RFC 5280, 4.1.2).
 
 ghost use Rattle.std.specs.Prelude.{◌≡◌};
-ghost use Rattle.asn.specs.Place.{seen_tlv};
-ghost use Rattle.asn.specs.Members.{left};
-ghost use Rattle.asn.specs.Walk.{Gives};
+ghost use Rattle.asn.specs.Reading.{seen_tlv, left, Gives};
 ghost use Rattle.names.specs.GeneralView.{name_contents};
 ghost use Rattle.cert.specs.AlgorithmIdentifier.{algorithm_identifier, seen_algorithm};
 ghost use Rattle.cert.specs.declared.fault.CertRule.TheVariants.{Layout};
 ghost use Rattle.cert.specs.SubjectPublicKeyInfo.{key_info, seen_key_info};
-ghost use Rattle.cert.specs.TbsCertificate.{component, is_serial, serial_number, distinguished_name, issuer, unique_id, tbs_head, seen_head, tbs_subject, seen_subject};
+ghost use Rattle.cert.specs.TbsCertificate.{next_read, component, is_serial, serial_number, distinguished_name, issuer, unique_id, tbs_head, seen_head, tbs_subject, seen_subject};
 ghost use Rattle.cert.specs.Validity.{validity, seen_validity};
 
 use crate::algorithm::AlgorithmIdentifier;
@@ -16,7 +14,7 @@ use crate::fault::{CertRule, Refusal, name_refusal};
 use crate::key_info::SubjectPublicKeyInfo;
 use crate::validity::Validity;
 use crate::version::Version;
-use asn::{Cursor, Tlv};
+use asn::{Cursor, INTEGER, SEQUENCE, Tlv};
 use names::Name;
 
 /// The components up to the validity.
@@ -79,42 +77,42 @@ fn issuer_at(value: Tlv<'_>) -> Result<Name<'_>, Refusal>
 fn take_serial<'a>(members: &mut Cursor<'a>) -> Result<Tlv<'a>, Refusal>
     ensures { Gives (λ serial. (seen_tlv serial, left members.new)) result (component 0x02 serial_number (left members.old)) }
 {
-    serial_at(members.required(0x02, CertRule::Layout)?)
+    serial_at(members.required(INTEGER, CertRule::Layout)?)
 }
 
-#[tactic(auto, unfolding(crate::specs::TbsCertificate::component))]
+#[tactic(auto, unfolding(crate::specs::TbsCertificate::next_read))]
 fn take_algorithm<'a>(members: &mut Cursor<'a>) -> Result<AlgorithmIdentifier<'a>, Refusal>
-    ensures { Gives (λ read. (seen_algorithm read, left members.new)) result (component 0x30 (algorithm_identifier Layout) (left members.old)) }
+    ensures { Gives (λ read. (seen_algorithm read, left members.new)) result (next_read (algorithm_identifier Layout) (left members.old)) }
 {
-    AlgorithmIdentifier::read(members.required(0x30, CertRule::Layout)?, CertRule::Layout)
+    AlgorithmIdentifier::read(members.next_or(CertRule::Layout)?, CertRule::Layout)
 }
 
 #[tactic(auto, unfolding(crate::specs::TbsCertificate::component))]
 fn take_name<'a>(members: &mut Cursor<'a>) -> Result<Name<'a>, Refusal>
     ensures { Gives (λ read. (name_contents read, left members.new)) result (component 0x30 distinguished_name (left members.old)) }
 {
-    name_at(members.required(0x30, CertRule::Layout)?)
+    name_at(members.required(SEQUENCE, CertRule::Layout)?)
 }
 
 #[tactic(auto, unfolding(crate::specs::TbsCertificate::component))]
 fn take_issuer<'a>(members: &mut Cursor<'a>) -> Result<Name<'a>, Refusal>
     ensures { Gives (λ read. (name_contents read, left members.new)) result (component 0x30 issuer (left members.old)) }
 {
-    issuer_at(members.required(0x30, CertRule::Layout)?)
+    issuer_at(members.required(SEQUENCE, CertRule::Layout)?)
 }
 
-#[tactic(auto, unfolding(crate::specs::TbsCertificate::component))]
+#[tactic(auto, unfolding(crate::specs::TbsCertificate::next_read))]
 fn take_validity(members: &mut Cursor<'_>) -> Result<Validity, Refusal>
-    ensures { Gives (λ read. (seen_validity read, left members.new)) result (component 0x30 validity (left members.old)) }
+    ensures { Gives (λ read. (seen_validity read, left members.new)) result (next_read validity (left members.old)) }
 {
-    Validity::read(members.required(0x30, CertRule::Layout)?)
+    Validity::read(members.next_or(CertRule::Layout)?)
 }
 
-#[tactic(auto, unfolding(crate::specs::TbsCertificate::component))]
+#[tactic(auto, unfolding(crate::specs::TbsCertificate::next_read))]
 fn take_key_info<'a>(members: &mut Cursor<'a>) -> Result<SubjectPublicKeyInfo<'a>, Refusal>
-    ensures { Gives (λ read. (seen_key_info read, left members.new)) result (component 0x30 key_info (left members.old)) }
+    ensures { Gives (λ read. (seen_key_info read, left members.new)) result (next_read key_info (left members.old)) }
 {
-    SubjectPublicKeyInfo::read(members.required(0x30, CertRule::Layout)?)
+    SubjectPublicKeyInfo::read(members.next_or(CertRule::Layout)?)
 }
 
 /// Passes over UniqueIdentifier ::= BIT STRING under the tag, which is there from v2 on; the fault, at it, in v1.

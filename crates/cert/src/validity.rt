@@ -1,11 +1,10 @@
 //! The times from which and until which a certificate holds (RFC 5280, 4.1.2.5).
 
-ghost use Rattle.asn.specs.Place.{seen_tlv};
-ghost use Rattle.asn.specs.Walk.{Gives};
+ghost use Rattle.asn.specs.Reading.{seen_tlv, Gives};
 ghost use Rattle.cert.specs.Validity.{validity, seen_validity};
 
 use crate::fault::{CertRule, Refusal};
-use asn::Tlv;
+use asn::{SEQUENCE, Tlv};
 
 /// Validity ::= SEQUENCE { notBefore Time, notAfter Time }, each in seconds from 1970-01-01T00:00:00Z
 #[derive(Clone, Copy, Debug, PartialEq, Eq)]
@@ -22,7 +21,7 @@ impl Validity {
     pub fn read(value: Tlv<'_>) -> Result<Validity, Refusal>
         ensures { Gives seen_validity result (validity (seen_tlv value.entry)) }
     {
-        value.is_a(0x30, CertRule::Layout)?;
+        value.is_a(SEQUENCE, CertRule::Layout)?;
         let mut members = value.members();
         let not_before = members.time(CertRule::Layout, CertRule::Time)?;
         let not_after = members.time(CertRule::Layout, CertRule::Time)?;

@@ -1,12 +1,11 @@
 //! Versions of certificates (RFC 5280, 4.1.2.1).
 
 ghost use Rattle.std.specs.Prelude.{◌≡◌};
-ghost use Rattle.asn.specs.Members.{left};
-ghost use Rattle.asn.specs.Walk.{Gives};
+ghost use Rattle.asn.specs.Reading.{left, Gives};
 ghost use Rattle.cert.specs.Version.{is_v1, is_v3, version, version_of, version_number};
 
 use crate::fault::{CertRule, Refusal};
-use asn::Cursor;
+use asn::{Cursor, INTEGER};
 
 /// Version ::= INTEGER { v1(0), v2(1), v3(2) }
 #[derive(Clone, Copy, Debug, PartialEq, Eq)]
@@ -60,7 +59,7 @@ impl Version {
             return Ok(Version::V1);
         };
         let mut inside = explicit.members();
-        let number = inside.required(0x02, CertRule::Layout)?;
+        let number = inside.required(INTEGER, CertRule::Layout)?;
         let Some(version) = version_of_contents(number.body) else {
             return Err((CertRule::Version, number.at));
         };

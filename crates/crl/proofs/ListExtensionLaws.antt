@@ -14,10 +14,10 @@ use Rattle.asn.specs.Contents.{IsContents}
 use Rattle.asn.specs.Length.{length_octets}
 use Rattle.asn.specs.Encoding.{encoding_of, Encodes}
 use Rattle.asn.specs.Integer.{binary_value}
-use Rattle.asn.specs.Place.{Place, tag, body}
+use Rattle.asn.specs.Place.{Place, body}
 use Rattle.asn.specs.Members.{members}
-use Rattle.asn.specs.Walk.{◌>>=◌, each, check_that, or_fault, some, Leads}
-use Rattle.asn.proofs.Laws.{bind_ok, ok_is, check_ok, check_again, some_again, each_ok, members_octets, body_octets}
+use Rattle.asn.specs.Walk.{◌>>=◌, is_a, each, check_that, or_fault, some, Leads}
+use Rattle.asn.proofs.Laws.{bind_ok, ok_is, check_ok, check_again, is_a_ok, is_a_again, some_again, each_ok, members_octets, body_octets}
 use Rattle.cert.specs.Extension.{Extension, IsExtension}
 use Rattle.cert.specs.Extensions.{certificate_extension}
 use Rattle.cert.specs.OidSet.{Oids}
@@ -388,10 +388,11 @@ is_there list o contents e kept = by (some_or_none 20 list) where
 named_from : List ℕ → Scope → Named
 named_from number scope = record { number = number; scope = scope }
 
-pub has_extensions : (list : Place) (fields : Named) → AreOctets list.octets → tag list ≡ 0x30 → extensions list ≡ Ok fields → HasListExtensions list fields
+pub has_extensions : (list : Place) (fields : Named) → AreOctets list.octets → extensions list ≡ Ok fields → HasListExtensions list fields
 unfolding extensions named_from
-has_extensions list fields fits t e =
-    let one = bind_ok {A = Unit {0}} (some R.Layout (members list)) _ fields e in
+has_extensions list fields fits e =
+    let sequence = bind_ok {A = Unit {0}} (is_a 0x30 R.Layout list) _ fields e in
+    let one = bind_ok {A = Unit {0}} (some R.Layout (members list)) _ fields sequence.2 in
     let taken = bind_ok {A = TakenOfList} (each one_extension nothing_taken ((members list).values)) _ fields one.2 in
     let number = bind_ok {A = List ℕ} (or_fault taken.0.said.number R.NoNumber (members list).end) _ fields taken.2 in
     let is = some_is taken.0.said.number R.NoNumber (members list).end number.0 number.1 in
@@ -399,7 +400,7 @@ has_extensions list fields fits t e =
     let found = named_from number.0 taken.0.said.scope in
     subst (HasListExtensions list) {x = found} (ok_is {E = StatementRule × ℕ} found fields number.2) record {
       extensions = reads.list;
-      sequence = t;
+      sequence = is_a_ok 0x30 R.Layout list sequence.0 sequence.1;
       each = reads.each;
       types = new_pairs type_of empty reads.list reads.new;
       numbered = is_there reads.list taken.0.said.number number.0 is reads.number_kept;
@@ -423,4 +424,4 @@ extensions_has list fields fits is =
       scope = λ absent. sym (is.about_all absent);
     } in
     let taken = each_again nothing_taken ((members list).values) is.extensions fields is.each (members_octets list fits) (pairs_are_new type_of is.extensions is.types) all lacks in
-    rw (some_again R.Layout (members list) first.0 first.1 first.2, taken.1, taken.2, taken.3) refl
+    rw (is_a_again 0x30 R.Layout list is.sequence, some_again R.Layout (members list) first.0 first.1 first.2, taken.1, taken.2, taken.3) refl

@@ -19,8 +19,8 @@ use Rattle.cert.specs.CertificateForms.{IsNameOf, IsSignature}
 use Rattle.cert.specs.TbsCertificate.{is_empty_name}
 use Rattle.cert.proofs.Laws.{is_algorithm, algorithm_is}
 use Rattle.revocation.specs.Fault.{as_der}
-use Rattle.revocation.specs.Parts.{component, signature_value}
-use Rattle.revocation.proofs.Laws.{as_der_ok, component_ok, component_again, name_ok, name_again, signature_ok, signature_again}
+use Rattle.revocation.specs.Parts.{component, next_read, signature_value}
+use Rattle.revocation.proofs.Laws.{as_der_ok, next_read_ok, next_read_again, component_ok, component_again, name_ok, name_again, signature_ok, signature_again}
 use Rattle.revocation.specs.declared.fault.StatementRule.{StatementRule}
 use Rattle.revocation.specs.declared.fault.StatementRule.TheVariants.{Layout, NotV2, NoNumber, NoNextUpdate}
 use Rattle.crl.specs.Parts.{issuer, same_algorithm}
@@ -110,12 +110,12 @@ head_ok : (left : Members) (x : ListHead × Members) → list_head left ≡ Ok x
 unfolding list_head
 head_ok left x e =
     let second = bind_ok {A = Members} (version_2 left) _ x e in
-    let signature = bind_ok {A = AlgorithmIdentifier × Members} (component 0x30 (algorithm_identifier Layout) second.0) _ x second.2 in
+    let signature = bind_ok {A = AlgorithmIdentifier × Members} (next_read (algorithm_identifier Layout) second.0) _ x second.2 in
     let name = bind_ok {A = NameContents × Members} (component 0x30 issuer signature.0.1) (λ name. time Layout Layout name.1 >>= head_end signature.0 name) x signature.2 in
     let this = bind_ok {A = ℤ × Members} (time Layout Layout name.0.1) (head_end signature.0 name.0) x name.2 in
     let next = bind_ok {A = ℤ × Members} (time NoNextUpdate Layout this.0.1) (λ next. Ok (head_from signature.0 name.0 this.0 next)) x this.2 in
     let a = version_ok left second.0 second.1 in
-    let b = component_ok 0x30 (algorithm_identifier Layout) second.0 signature.0 signature.1 in
+    let b = next_read_ok (algorithm_identifier Layout) second.0 signature.0 signature.1 in
     let c = component_ok 0x30 issuer signature.0.1 name.0 name.1 in
     let d = time_ok Layout Layout name.0.1 this.0 this.1 in
     let f = time_ok NoNextUpdate Layout this.0.1 next.0 next.1 in
@@ -147,7 +147,7 @@ head_again left version signature name this next others head e is =
     let rest : List Place → Members = λ values. record { values = values; end = left.end } in
     rw (
       version_again left version (signature ∷ name ∷ this ∷ next ∷ others) e is.version_integer is.version_2_is,
-      component_again 0x30 (algorithm_identifier Layout) (rest (signature ∷ name ∷ this ∷ next ∷ others)) signature (name ∷ this ∷ next ∷ others) head.signature refl is.signature_is.sequence (algorithm_is Layout signature head.signature is.signature_is),
+      next_read_again (algorithm_identifier Layout) (rest (signature ∷ name ∷ this ∷ next ∷ others)) signature (name ∷ this ∷ next ∷ others) head.signature refl (algorithm_is Layout signature head.signature is.signature_is),
       component_again 0x30 issuer (rest (name ∷ this ∷ next ∷ others)) name (this ∷ next ∷ others) head.issuer refl is.issuer_is.is_name.sequence (issuer_again name head.issuer is.issuer_is is.issuer_named),
       time_again Layout Layout (rest (this ∷ next ∷ others)) this (next ∷ others) head.this_update refl is.this_update_is,
       time_again NoNextUpdate Layout (rest (next ∷ others)) next others head.next_update refl is.next_update_is,
@@ -196,7 +196,6 @@ record TakesExtensions (left : Members) (found : Named) (others : Members) : Typ
   values : left.values ≡ explicit ∷ others.values
   tagged : tag explicit ≡ 0xA0
   one_inside : (members explicit).values ≡ list ∷ []
-  sequence : tag list ≡ 0x30
   read : extensions list ≡ Ok found
 
 abbrev extensions_end : Members → Members → Named → Result (Named × Members) (StatementRule × ℕ)
@@ -207,11 +206,11 @@ unfolding list_extensions
 extensions_ok left x e =
     let any = bind_ok {A = Unit {0}} (some NoNumber left) _ x e in
     let explicit = bind_ok {A = Place × Members} (required 0xA0 Layout left) _ x any.2 in
-    let list = bind_ok {A = Place × Members} (required 0x30 Layout (members explicit.0.0)) (λ list. extensions list.0 >>= extensions_end explicit.0.1 list.1) x explicit.2 in
+    let list = bind_ok {A = Place × Members} (next_or Layout (members explicit.0.0)) (λ list. extensions list.0 >>= extensions_end explicit.0.1 list.1) x explicit.2 in
     let said = bind_ok {A = Named} (extensions list.0.0) (extensions_end explicit.0.1 list.0.1) x list.2 in
     let done = bind_ok {A = Unit {0}} (ended Layout list.0.1) (λ done. Ok (said.0, explicit.0.1)) x said.2 in
     let outer = required_ok 0xA0 Layout left explicit.0 explicit.1 in
-    let inner = required_ok 0x30 Layout (members explicit.0.0) list.0 list.1 in
+    let inner = next_or_ok Layout (members explicit.0.0) list.0 list.1 in
     let P : Named × Members → Type 0 = λ y. TakesExtensions left y.0 y.1 in
     subst P {x = (said.0, explicit.0.1)} (ok_is {E = StatementRule × ℕ} (said.0, explicit.0.1) x done.2) record {
       explicit = explicit.0.0;
@@ -219,17 +218,16 @@ extensions_ok left x e =
       values = outer.values;
       tagged = outer.tag_is;
       one_inside = inner.values ∙ ap (◌∷◌ list.0.0) (ended_ok Layout list.0.1 done.0 done.1);
-      sequence = inner.tag_is;
       read = said.1;
     }
 
-extensions_again : (left : Members) (explicit list : Place) (found : Named) → left.values ≡ explicit ∷ [] → tag explicit ≡ 0xA0 → (members explicit).values ≡ list ∷ [] → tag list ≡ 0x30 → extensions list ≡ Ok found → list_extensions left ≡ Ok (found, record { values = []; end = left.end })
+extensions_again : (left : Members) (explicit list : Place) (found : Named) → left.values ≡ explicit ∷ [] → tag explicit ≡ 0xA0 → (members explicit).values ≡ list ∷ [] → extensions list ≡ Ok found → list_extensions left ≡ Ok (found, record { values = []; end = left.end })
 unfolding list_extensions
-extensions_again left explicit list found e tagged inside sequence read =
+extensions_again left explicit list found e tagged inside read =
     rw (
       some_again NoNumber left explicit [] e,
       required_again 0xA0 Layout left explicit [] e tagged,
-      required_again 0x30 Layout (members explicit) list [] inside sequence,
+      next_or_again Layout (members explicit) list [] inside,
       read,
       ended_again Layout (record { values = []; end = (members explicit).end }) refl,
     ) refl
@@ -252,10 +250,11 @@ tbs_from head list named = record { head = head.0; entries = list.0; named = nam
 abbrev tbs_end : ListHead × Members → List Entry × Members → Named × Members → Result TbsCertList (StatementRule × ℕ)
 tbs_end head list named = ended Layout named.1 >>= λ done. Ok (tbs_from head list named)
 
-is_tbs : (value : Place) (fields : TbsCertList) → AreOctets value.octets → tag value ≡ 0x30 → tbs_cert_list value ≡ Ok fields → IsTbsCertList value fields
+is_tbs : (value : Place) (fields : TbsCertList) → AreOctets value.octets → tbs_cert_list value ≡ Ok fields → IsTbsCertList value fields
 unfolding tbs_cert_list
-is_tbs value fields fits t e =
-    let head = bind_ok {A = ListHead × Members} (list_head (members value)) _ fields e in
+is_tbs value fields fits e =
+    let sequence = bind_ok {A = Unit {0}} (is_a 0x30 Layout value) _ fields e in
+    let head = bind_ok {A = ListHead × Members} (list_head (members value)) _ fields sequence.2 in
     let list = bind_ok {A = List Entry × Members} (revoked head.0.1) (λ list. list_extensions list.1 >>= tbs_end head.0 list) fields head.2 in
     let named = bind_ok {A = Named × Members} (list_extensions list.0.1) (tbs_end head.0 list.0) fields list.2 in
     let done = bind_ok {A = Unit {0}} (ended Layout named.0.1) (λ done. Ok (tbs_from head.0 list.0 named.0)) fields named.2 in
@@ -274,7 +273,7 @@ is_tbs value fields fits t e =
       revoked = second.lists;
       explicit = third.explicit;
       extensions = third.list;
-      sequence = t;
+      sequence = is_a_ok 0x30 Layout value sequence.0 sequence.1;
       members_are = values;
       version_integer = first.is.version_integer;
       version_2 = first.is.version_2_is;
@@ -286,7 +285,7 @@ is_tbs value fields fits t e =
       revoked_are = second.are;
       tagged = third.tagged;
       one_inside = third.one_inside;
-      extensions_are = has_extensions third.list named.0.0 list_fits third.sequence third.read;
+      extensions_are = has_extensions third.list named.0.0 list_fits third.read;
     }
 
 tbs_is : (value : Place) (fields : TbsCertList) → AreOctets value.octets → IsTbsCertList value fields → tbs_cert_list value ≡ Ok fields
@@ -305,9 +304,10 @@ tbs_is value fields fits is =
     let list = revoked_again behind is.revoked is.explicit fields.entries refl is.tagged is.revoked_are in
     let list_fits = extensions_octets value is.version is.signature is.issuer is.this_update is.next_update is.explicit is.extensions is.revoked fits is.members_are is.one_inside in
     rw (
+      is_a_again 0x30 Layout value is.sequence,
       head_again (members value) is.version is.signature is.issuer is.this_update is.next_update behind.values fields.head is.members_are head,
       list.1,
-      extensions_again list.0 is.explicit is.extensions fields.named list.2 is.tagged is.one_inside is.extensions_are.sequence (extensions_has is.extensions fields.named list_fits is.extensions_are),
+      extensions_again list.0 is.explicit is.extensions fields.named list.2 is.tagged is.one_inside (extensions_has is.extensions fields.named list_fits is.extensions_are),
       ended_again Layout (record { values = []; end = list.0.end }) refl,
     ) refl
 
@@ -353,12 +353,12 @@ is_list_at : (value : Place) (fields : CertificateList) → AreOctets value.octe
 unfolding certificate_list_at
 is_list_at value fields fits e =
     let sequence = bind_ok {A = Unit {0}} (is_a 0x30 Layout value) _ fields e in
-    let signed = bind_ok {A = Place × Members} (required 0x30 Layout (members value)) _ fields sequence.2 in
+    let signed = bind_ok {A = Place × Members} (next_or Layout (members value)) _ fields sequence.2 in
     let tbs = bind_ok {A = TbsCertList} (tbs_cert_list signed.0.0) (λ tbs. list_behind signed.0.0 tbs signed.0.1) fields signed.2 in
     let algorithm = bind_ok {A = Unit {0} × Members} (component 0x30 (same_algorithm tbs.0.head.signature) signed.0.1) (λ algorithm. component 0x03 signature_value algorithm.1 >>= list_end signed.0.0 tbs.0) fields tbs.2 in
     let signature = bind_ok {A = List ℕ × Members} (component 0x03 signature_value algorithm.0.1) (list_end signed.0.0 tbs.0) fields algorithm.2 in
     let done = bind_ok {A = Unit {0}} (ended Layout signature.0.1) (λ done. Ok (list_with signed.0.0 tbs.0 signature.0.0)) fields signature.2 in
-    let first = required_ok 0x30 Layout (members value) signed.0 signed.1 in
+    let first = next_or_ok Layout (members value) signed.0 signed.1 in
     let second = component_ok 0x30 (same_algorithm tbs.0.head.signature) signed.0.1 algorithm.0 algorithm.1 in
     let third = component_ok 0x03 signature_value algorithm.0.1 signature.0 signature.1 in
     let same = algorithm_ok tbs.0.head.signature second.value algorithm.0.0 second.read_is in
@@ -366,7 +366,7 @@ is_list_at value fields fits e =
     let signed_fits = (subst (AllByRecursion Octets) first.values (members_octets value fits)).0 in
     let values = in_order (members value).values signed.0.1.values algorithm.0.1.values [] signed.0.0 second.value third.value first.values second.took.values last in
     let found = list_with signed.0.0 tbs.0 signature.0.0 in
-    let tbs_is = is_tbs signed.0.0 tbs.0 signed_fits first.tag_is tbs.1 in
+    let tbs_is = is_tbs signed.0.0 tbs.0 signed_fits tbs.1 in
     let signature_is = signature_ok third.value signature.0.0 third.took.tag_is third.read_is in
     subst (IsCertificateListAt value) {x = found} (ok_is {E = StatementRule × ℕ} found fields done.2)
     (list_of value signed.0.0 second.value third.value tbs.0 signature.0.0 (is_a_ok 0x30 Layout value sequence.0 sequence.1) values tbs_is second.took.tag_is same signature_is)
@@ -379,7 +379,7 @@ list_at_is value fields fits is =
     let algorithm : fields.algorithm ≡ is.tbs.head.signature.value.octets = is.algorithm_octets ∙ is.same_algorithm in
     rw (
       is_a_again 0x30 Layout value is.sequence,
-      required_again 0x30 Layout (members value) is.signed (is.algorithm ∷ is.signature ∷ []) is.members_are is.signed_is.sequence,
+      next_or_again Layout (members value) is.signed (is.algorithm ∷ is.signature ∷ []) is.members_are,
       tbs_is is.signed is.tbs signed_fits is.signed_is,
       component_again 0x30 (same_algorithm is.tbs.head.signature) (next (is.algorithm ∷ is.signature ∷ [])) is.algorithm (is.signature ∷ []) tt refl is.algorithm_sequence (algorithm_again is.tbs.head.signature is.algorithm is.same_algorithm),
       component_again 0x03 signature_value (next (is.signature ∷ [])) is.signature [] fields.signature refl is.signature_is.bit_string (signature_again is.signature fields.signature is.signature_is),

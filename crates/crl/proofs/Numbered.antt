@@ -2,7 +2,7 @@
 use Rattle.std.proofs.Common.{◌≡◌, ℕ, Bool, true, false, not, ◌&&◌, ◌==◌, List, [], ◌∷◌, Option, Some, None, Result, Ok, IfSome, IsTrue, length, refl, subst}
 use Rattle.asn.specs.Place.{Place, body}
 use Rattle.asn.specs.Members.{Members, members}
-use Rattle.asn.specs.Walk.{◌>>=◌, each, or_fault, check_that, some, required, ended, is_a}
+use Rattle.asn.specs.Walk.{◌>>=◌, each, or_fault, check_that, some, required, next_or, ended, is_a}
 use Rattle.asn.proofs.Laws.{bind_ok, ok_is}
 use Rattle.cert.specs.Extension.{Extension}
 use Rattle.revocation.specs.declared.fault.StatementRule.{StatementRule}
@@ -80,7 +80,8 @@ unfolding extensions
 extensions_known list x e =
     let inside = members list in
     let ends : TakenOfList → Result Named (StatementRule × ℕ) = λ taken. named taken.said inside.end in
-    let one = bind_ok (some R.Layout inside) (λ one. each one_extension nothing_taken inside.values >>= ends) x e in
+    let sequence = bind_ok (is_a 0x30 R.Layout list) (λ sequence. some R.Layout inside >>= λ one. each one_extension nothing_taken inside.values >>= ends) x e in
+    let one = bind_ok (some R.Layout inside) (λ one. each one_extension nothing_taken inside.values >>= ends) x sequence.2 in
     let taken = bind_ok (each one_extension nothing_taken inside.values) ends x one.2 in
     named_known taken.0.said inside.end x taken.2 (each_known nothing_taken taken.0 inside.values taken.1 tt)
 
@@ -88,10 +89,10 @@ list_extensions_known : (left : Members) (x : Named × Members) → list_extensi
 unfolding list_extensions
 list_extensions_known left x e =
     let ends : Members → Members → Named → Result (Named × Members) (StatementRule × ℕ) = λ others rest said. ended R.Layout rest >>= λ done. Ok (said, others) in
-    let inside : Place → Members → Result (Named × Members) (StatementRule × ℕ) = λ explicit others. required 0x30 R.Layout (members explicit) >>= λ list. extensions list.0 >>= ends others list.1 in
+    let inside : Place → Members → Result (Named × Members) (StatementRule × ℕ) = λ explicit others. next_or R.Layout (members explicit) >>= λ list. extensions list.0 >>= ends others list.1 in
     let any = bind_ok (some R.NoNumber left) (λ any. required 0xA0 R.Layout left >>= λ explicit. inside explicit.0 explicit.1) x e in
     let explicit = bind_ok (required 0xA0 R.Layout left) (λ explicit. inside explicit.0 explicit.1) x any.2 in
-    let list = bind_ok (required 0x30 R.Layout (members explicit.0.0)) (λ list. extensions list.0 >>= ends explicit.0.1 list.1) x explicit.2 in
+    let list = bind_ok (next_or R.Layout (members explicit.0.0)) (λ list. extensions list.0 >>= ends explicit.0.1 list.1) x explicit.2 in
     let said = bind_ok (extensions list.0.0) (ends explicit.0.1 list.0.1) x list.2 in
     let done = bind_ok (ended R.Layout list.0.1) (λ done. Ok (said.0, explicit.0.1)) x said.2 in
     subst (λ (x : Named × Members). IsTrue (is_crl_number x.0.number)) {x = (said.0, explicit.0.1)} (ok_is {E = StatementRule × ℕ} (said.0, explicit.0.1) x done.2) (extensions_known list.0.0 said.0 said.1)
@@ -101,7 +102,9 @@ unfolding tbs_cert_list
 tbs_known value x e =
     let whole : ListHead → List Entry → Named → TbsCertList = λ head entries named. record { head = head; entries = entries; named = named } in
     let ends : ListHead → List Entry → Named × Members → Result TbsCertList (StatementRule × ℕ) = λ head entries named. ended R.Layout named.1 >>= λ done. Ok (whole head entries named.0) in
-    let head = bind_ok (list_head (members value)) (λ head. revoked head.1 >>= λ entries. list_extensions entries.1 >>= ends head.0 entries.0) x e in
+    let behind : ListHead × Members → Result TbsCertList (StatementRule × ℕ) = λ head. revoked head.1 >>= λ entries. list_extensions entries.1 >>= ends head.0 entries.0 in
+    let sequence = bind_ok (is_a 0x30 R.Layout value) (λ sequence. list_head (members value) >>= behind) x e in
+    let head = bind_ok (list_head (members value)) behind x sequence.2 in
     let entries = bind_ok (revoked head.0.1) (λ entries. list_extensions entries.1 >>= ends head.0.0 entries.0) x head.2 in
     let named = bind_ok (list_extensions entries.0.1) (ends head.0.0 entries.0.0) x entries.2 in
     let done = bind_ok (ended R.Layout named.0.1) (λ done. Ok (whole head.0.0 entries.0.0 named.0.0)) x named.2 in
@@ -112,8 +115,8 @@ unfolding certificate_list_at
 list_known value x e =
     let ends : Place → TbsCertList → List ℕ × Members → Result CertificateList (StatementRule × ℕ) = λ signed tbs signature. ended R.Layout signature.1 >>= λ done. Ok (list_with signed tbs signature.0) in
     let behind : Place → TbsCertList → Members → Result CertificateList (StatementRule × ℕ) = λ signed tbs left. component 0x30 (same_algorithm tbs.head.signature) left >>= λ algorithm. component 0x03 signature_value algorithm.1 >>= ends signed tbs in
-    let sequence = bind_ok (is_a 0x30 R.Layout value) (λ sequence. required 0x30 R.Layout (members value) >>= λ signed. tbs_cert_list signed.0 >>= λ tbs. behind signed.0 tbs signed.1) x e in
-    let signed = bind_ok (required 0x30 R.Layout (members value)) (λ signed. tbs_cert_list signed.0 >>= λ tbs. behind signed.0 tbs signed.1) x sequence.2 in
+    let sequence = bind_ok (is_a 0x30 R.Layout value) (λ sequence. next_or R.Layout (members value) >>= λ signed. tbs_cert_list signed.0 >>= λ tbs. behind signed.0 tbs signed.1) x e in
+    let signed = bind_ok (next_or R.Layout (members value)) (λ signed. tbs_cert_list signed.0 >>= λ tbs. behind signed.0 tbs signed.1) x sequence.2 in
     let tbs = bind_ok (tbs_cert_list signed.0.0) (λ tbs. behind signed.0.0 tbs signed.0.1) x signed.2 in
     let algorithm = bind_ok (component 0x30 (same_algorithm tbs.0.head.signature) signed.0.1) (λ algorithm. component 0x03 signature_value algorithm.1 >>= ends signed.0.0 tbs.0) x tbs.2 in
     let signature = bind_ok (component 0x03 signature_value algorithm.0.1) (ends signed.0.0 tbs.0) x algorithm.2 in

@@ -3,7 +3,7 @@ use Rattle.std.specs.Prelude.{◌≡◌, ℕ, ℤ, ◌==◌, ◌&&◌, List, [],
 use Rattle.std.specs.Str.{bytes_eq}
 use Rattle.asn.specs.Place.{Place, tag, body}
 use Rattle.asn.specs.Members.{Members, members}
-use Rattle.asn.specs.Walk.{◌>>=◌, is_a, required, optional, next_or, time, ended, check_that}
+use Rattle.asn.specs.Walk.{◌>>=◌, is_a, optional, next_or, time, ended, check_that}
 use Rattle.asn.specs.Judgement.{outermost}
 use Rattle.names.specs.GeneralLayout.{NameContents}
 use Rattle.names.specs.GeneralView.{name_contents}
@@ -15,7 +15,7 @@ use Rattle.crl.specs.declared.list.TbsCertList as signed_part
 use Rattle.revocation.specs.declared.fault.StatementRule.{StatementRule}
 use Rattle.revocation.specs.declared.fault.StatementRule.TheVariants.{Layout, NotV2, NoNextUpdate}
 use Rattle.revocation.specs.Fault.{as_der}
-use Rattle.revocation.specs.Parts.{component, signature_value}
+use Rattle.revocation.specs.Parts.{component, next_read, signature_value}
 use Rattle.crl.specs.Parts.{issuer, same_algorithm}
 use Rattle.crl.specs.CrlNumber.{is_crl_number}
 use Rattle.crl.specs.Entry.{Entry, entries, entries_left}
@@ -41,7 +41,7 @@ seen_head read = record { signature = seen_algorithm read.signature; issuer = na
 unfoldable pub list_head : Members → Result (ListHead × Members) (StatementRule × ℕ)
 list_head left = do
   second ← version_2 left
-  signature ← component 0x30 (algorithm_identifier Layout) second
+  signature ← next_read (algorithm_identifier Layout) second
   issuer ← component 0x30 issuer signature.1
   this_update ← time Layout Layout issuer.1
   next_update ← time NoNextUpdate Layout this_update.1
@@ -66,6 +66,7 @@ seen_tbs read = record { head = seen_head read.head; entries = entries_left read
 
 unfoldable pub tbs_cert_list : Place → Result TbsCertList (StatementRule × ℕ)
 tbs_cert_list value = do
+  sequence ← is_a 0x30 Layout value
   head ← list_head (members value)
   entries ← revoked head.1
   named ← list_extensions entries.1
@@ -114,7 +115,7 @@ list_with signed tbs signature = record {
 unfoldable pub certificate_list_at : Place → Result CertificateList (StatementRule × ℕ)
 certificate_list_at value = do
   sequence ← is_a 0x30 Layout value
-  signed ← required 0x30 Layout (members value)
+  signed ← next_or Layout (members value)
   tbs ← tbs_cert_list signed.0
   algorithm ← component 0x30 (same_algorithm tbs.head.signature) signed.1
   signature ← component 0x03 signature_value algorithm.1

@@ -3,7 +3,7 @@ use Rattle.std.specs.Prelude.{ℕ, ◌==◌, not, List, Option, Some, None, Resu
 use Rattle.std.specs.FinSet.{empty}
 use Rattle.asn.specs.Place.{Place, body}
 use Rattle.asn.specs.Members.{Members, members}
-use Rattle.asn.specs.Walk.{◌>>=◌, seen, check_that, or_fault, required, some, ended, each}
+use Rattle.asn.specs.Walk.{◌>>=◌, seen, check_that, or_fault, is_a, required, next_or, some, ended, each}
 use Rattle.cert.specs.Extension.{Extension}
 use Rattle.cert.specs.Extensions.{certificate_extension}
 use Rattle.cert.specs.OidSet.{Oids, oids_in}
@@ -92,6 +92,7 @@ named said end = or_fault said.number R.NoNumber end >>= λ number. Ok (record {
 
 unfoldable pub extensions : Place → Result Named (StatementRule × ℕ)
 extensions list = do
+  sequence ← is_a 0x30 R.Layout list
   one ← some R.Layout (members list)
   taken ← each one_extension nothing_taken ((members list).values)
   named taken.said (members list).end
@@ -101,7 +102,7 @@ unfoldable pub list_extensions : Members → Result (Named × Members) (Statemen
 list_extensions left = do
   any ← some R.NoNumber left
   explicit ← required 0xA0 R.Layout left
-  list ← required 0x30 R.Layout (members explicit.0)
+  list ← next_or R.Layout (members explicit.0)
   said ← extensions list.0
   done ← ended R.Layout list.1
   Ok (said, explicit.1)

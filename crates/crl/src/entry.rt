@@ -1,12 +1,11 @@
 //! Entries of a list (RFC 5280, 5.1.2.6).
 
-ghost use Rattle.asn.specs.Place.{seen_tlv};
-ghost use Rattle.asn.specs.Walk.{Gives};
+ghost use Rattle.asn.specs.Reading.{seen_tlv, Gives};
 ghost use Rattle.crl.specs.Entry.{entry, entry_again, seen_entry};
 ghost use Rattle.revocation.specs.Fault.{GivesUnlessFull};
 
 use crate::entry_extension::{reason_in_list, take_reason};
-use asn::Tlv;
+use asn::{SEQUENCE, Tlv};
 use revocation::{Refusal, StatementFault, StatementRule, take_serial};
 use std::alloc::Global;
 
@@ -27,7 +26,7 @@ impl<'a> Entry<'a> {
     pub(crate) fn read(alloc: Global, value: Tlv<'a>) -> Result<Entry<'a>, StatementFault>
         ensures { GivesUnlessFull seen_entry result (entry (seen_tlv value.entry)) }
     {
-        value.is_a(0x30, StatementRule::Layout)?;
+        value.is_a(SEQUENCE, StatementRule::Layout)?;
         let mut members = value.members();
         let serial = take_serial(&mut members)?;
         let revocation_date = members.time(StatementRule::Layout, StatementRule::Layout)?;
@@ -45,11 +44,11 @@ impl<'a> Entry<'a> {
     pub(crate) fn again(value: Tlv<'a>) -> Result<Entry<'a>, Refusal>
         ensures { Gives seen_entry result (entry_again (seen_tlv value.entry)) }
     {
-        value.is_a(0x30, StatementRule::Layout)?;
+        value.is_a(SEQUENCE, StatementRule::Layout)?;
         let mut members = value.members();
         let serial = take_serial(&mut members)?;
         let revocation_date = members.time(StatementRule::Layout, StatementRule::Layout)?;
-        let extensions = members.optional(0x30);
+        let extensions = members.optional(SEQUENCE);
         members.ended(StatementRule::Layout)?;
         Ok(Entry {
             serial,

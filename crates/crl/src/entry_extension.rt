@@ -1,15 +1,13 @@
 //! The extensions of an entry (RFC 5280, 5.3).
 
 ghost use Rattle.std.specs.Prelude.{◌≡◌, IfSome};
-ghost use Rattle.asn.specs.Place.{seen_tlv};
-ghost use Rattle.asn.specs.Members.{left};
+ghost use Rattle.asn.specs.Reading.{seen_tlv, left, Gives, seen, each};
 ghost use Rattle.asn.specs.Oid.{oid_contents};
-ghost use Rattle.asn.specs.Walk.{Gives, seen, each};
 ghost use Rattle.cert.specs.Extension.{seen_extension};
 ghost use Rattle.crl.specs.EntryExtension.{kind_of, nothing_taken, one_extension, optional_reason, reason_after, reason_code, reason_behind, reason_given, reason_in, reason_told, seen_taken};
 ghost use Rattle.revocation.specs.Fault.{GivesUnlessFull};
 
-use asn::{Cursor, Tlv};
+use asn::{Cursor, ENUMERATED, SEQUENCE, Tlv};
 use cert::{Extension, OidSet, certificate_extension_number};
 use revocation::{Refusal, StatementFault, StatementRule, is_reason, new_extension};
 use std::alloc::Global;
@@ -53,7 +51,7 @@ fn reason_of(octets: &[u8]) -> Option<u8>
     let [identifier, size, code] = octets else {
         return None;
     };
-    if *identifier == 0x0A && *size == 1 && is_reason(*code) {
+    if *identifier == ENUMERATED && *size == 1 && is_reason(*code) {
         Some(*code)
     } else {
         None
@@ -132,7 +130,7 @@ fn take_all<'a>(alloc: Global, members: Cursor<'a>) -> Result<TakenOfEntry<'a>, 
 pub(crate) fn take_reason(alloc: Global, members: &mut Cursor<'_>) -> Result<u8, StatementFault>
     ensures { GivesUnlessFull (λ reason. (reason, left members.new)) result (optional_reason (left members.old)) }
 {
-    let Some(list) = members.optional(0x30) else {
+    let Some(list) = members.optional(SEQUENCE) else {
         return Ok(0);
     };
     let extensions = list.members();

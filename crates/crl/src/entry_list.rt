@@ -1,13 +1,13 @@
 //! The entries of a list, one after the other (RFC 5280, 5.1.2.6).
 
 ghost use Rattle.std.specs.Prelude.{◌≡◌, ◌∷◌, [], MatchOption};
-ghost use Rattle.asn.specs.Members.{left};
+ghost use Rattle.asn.specs.Reading.{left};
 ghost use Rattle.crl.specs.CertificateList.{revoked};
 ghost use Rattle.crl.specs.Entry.{checked, entries, entries_left, seen_entry};
 ghost use Rattle.revocation.specs.Fault.{GivesUnlessFull};
 
 use crate::entry::Entry;
-use asn::Cursor;
+use asn::{Cursor, SEQUENCE};
 use revocation::StatementFault;
 use std::alloc::Global;
 
@@ -51,7 +51,7 @@ pub(crate) fn take_entries<'a>(
 ) -> Result<Entries<'a>, StatementFault>
     ensures { GivesUnlessFull (λ read. (entries_left read, left members.new)) result (revoked (left members.old)) }
 {
-    let Some(list) = members.optional(0x30) else {
+    let Some(list) = members.optional(SEQUENCE) else {
         return Ok(Entries { members: None });
     };
     let entries = list.members();

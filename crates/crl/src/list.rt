@@ -1,9 +1,7 @@
 //! Certificate revocation lists (RFC 5280, 5.1).
 
 ghost use Rattle.std.specs.Prelude.{◌≡◌, ◌==◌, Some};
-ghost use Rattle.asn.specs.Place.{seen_tlv};
-ghost use Rattle.asn.specs.Members.{left};
-ghost use Rattle.asn.specs.Walk.{Gives};
+ghost use Rattle.asn.specs.Reading.{seen_tlv, left, Gives};
 ghost use Rattle.crl.specs.CertificateList.{certificate_list, certificate_list_at, list_head, seen_head, seen_list, seen_tbs, tbs_cert_list, version_2};
 ghost use Rattle.crl.specs.Entry.{entries_left, reason_listed};
 ghost use Rattle.revocation.specs.Fault.{GivesUnlessFull};
@@ -11,7 +9,7 @@ ghost use Rattle.revocation.specs.Fault.{GivesUnlessFull};
 use crate::entry_list::{Entries, take_entries};
 use crate::list_extension::Named;
 use crate::parts::{take_issuer, take_same_algorithm};
-use asn::{Cursor, Tlv};
+use asn::{Cursor, INTEGER, SEQUENCE, Tlv};
 use cert::AlgorithmIdentifier;
 use facts::Scope;
 use names::Name;
@@ -58,7 +56,7 @@ fn take_version(members: &mut Cursor<'_>) -> Result<(), Refusal>
     ensures { Gives (λ _. left members.new) result (version_2 (left members.old)) }
 {
     let value = members.next_or(StatementRule::Layout)?;
-    if value.tag == 0x02 && value.body == [1].as_slice() {
+    if value.tag == INTEGER && value.body == [1].as_slice() {
         Ok(())
     } else {
         Err((StatementRule::NotV2, value.at))
@@ -97,9 +95,9 @@ impl<'a> TbsCertList<'a> {
     /// TBSCertList ::= SEQUENCE { version, signature, issuer, thisUpdate, nextUpdate, revokedCertificates, crlExtensions [0] }
     #[tactic(auto, unfolding(crate::specs::CertificateList::tbs_cert_list))]
     fn read(alloc: Global, value: Tlv<'a>) -> Result<TbsCertList<'a>, StatementFault>
-        requires { value.tag ≡ 48 }
         ensures { GivesUnlessFull seen_tbs result (tbs_cert_list (seen_tlv value.entry)) }
     {
+        value.is_a(SEQUENCE, StatementRule::Layout)?;
         let mut members = value.members();
         let head = ListHead::take(&mut members)?;
         let revoked = take_entries(alloc, &mut members)?;
@@ -118,9 +116,9 @@ impl<'a> TbsCertList<'a> {
 fn read_list<'a>(alloc: Global, value: Tlv<'a>) -> Result<Crl<'a>, StatementFault>
     ensures { GivesUnlessFull seen_list result (certificate_list_at (seen_tlv value.entry)) }
 {
-    value.is_a(0x30, StatementRule::Layout)?;
+    value.is_a(SEQUENCE, StatementRule::Layout)?;
     let mut members = value.members();
-    let signed = members.required(0x30, StatementRule::Layout)?;
+    let signed = members.next_or(StatementRule::Layout)?;
     let tbs = TbsCertList::read(alloc, signed)?;
     take_same_algorithm(tbs.head.signature, &mut members)?;
     let signature = take_signature(&mut members)?;

@@ -1,17 +1,15 @@
 //! The extensions of a list (RFC 5280, 5.2).
 
 ghost use Rattle.std.specs.Prelude.{◌≡◌};
-ghost use Rattle.asn.specs.Place.{seen_tlv};
-ghost use Rattle.asn.specs.Members.{left, members};
+ghost use Rattle.asn.specs.Reading.{seen_tlv, left, members, Gives, each};
 ghost use Rattle.asn.specs.Oid.{oid_contents};
-ghost use Rattle.asn.specs.Walk.{Gives, each};
 ghost use Rattle.cert.specs.Extension.{seen_extension};
 ghost use Rattle.crl.specs.ListExtension.{extensions, kind_of, list_extensions, nothing_taken, one_extension, said_by, seen_named, seen_said, seen_taken};
 ghost use Rattle.revocation.specs.Fault.{GivesUnlessFull};
 
 use crate::issuer_scope::scope_of;
 use crate::number::number_of;
-use asn::{Cursor, Tlv};
+use asn::{Cursor, SEQUENCE, Tlv};
 use cert::{Extension, OidSet, certificate_extension_number};
 use facts::Scope;
 use revocation::{Refusal, StatementFault, StatementRule, new_extension};
@@ -143,9 +141,9 @@ impl<'a> Named<'a> {
     /// Extensions ::= SEQUENCE SIZE (1..MAX) OF Extension, one of which is the number
     #[tactic(auto, unfolding(crate::specs::ListExtension::extensions))]
     fn read(alloc: Global, list: Tlv<'a>) -> Result<Named<'a>, StatementFault>
-        requires { list.tag ≡ 48 }
         ensures { GivesUnlessFull seen_named result (extensions (seen_tlv list.entry)) }
     {
+        list.is_a(SEQUENCE, StatementRule::Layout)?;
         let members = list.members();
         members.some(StatementRule::Layout)?;
         let taken = take_all(alloc, members)?;
@@ -166,7 +164,7 @@ impl<'a> Named<'a> {
         members.some(StatementRule::NoNumber)?;
         let explicit = members.required(0xA0, StatementRule::Layout)?;
         let mut inside = explicit.members();
-        let list = inside.required(0x30, StatementRule::Layout)?;
+        let list = inside.next_or(StatementRule::Layout)?;
         let named = Named::read(alloc, list)?;
         inside.ended(StatementRule::Layout)?;
         Ok(named)

@@ -1,9 +1,11 @@
 //! CRL numbers (RFC 5280, 5.2.3).
 
 ghost use Rattle.std.specs.Prelude.{◌≡◌};
-ghost use Rattle.asn.specs.Walk.{seen};
+ghost use Rattle.asn.specs.Reading.{seen};
 ghost use Rattle.crl.specs.CertificateList.{ListsAreNumbered};
 ghost use Rattle.crl.specs.CrlNumber.{NumberTestIsExact, is_crl_number, number_in};
+
+use asn::INTEGER;
 
 /// Whether these are the contents of an INTEGER from 0 to 2^160 - 1.
 #[tactic(auto, unfolding(crate::specs::CrlNumber::is_crl_number))]
@@ -26,7 +28,7 @@ pub(crate) fn number_of(octets: &[u8]) -> Option<&[u8]>
     let [identifier, size, contents @ ..] = octets else {
         return None;
     };
-    if *identifier == 0x02 && usize::from(*size) == contents.len() && is_number(contents) {
+    if *identifier == INTEGER && usize::from(*size) == contents.len() && is_number(contents) {
         Some(contents)
     } else {
         None

@@ -1,14 +1,12 @@
 //! The parts that lists alone are made of.
 
-ghost use Rattle.asn.specs.Place.{seen_tlv};
-ghost use Rattle.asn.specs.Members.{left};
-ghost use Rattle.asn.specs.Walk.{Gives};
+ghost use Rattle.asn.specs.Reading.{seen_tlv, left, Gives};
 ghost use Rattle.names.specs.GeneralView.{name_contents};
 ghost use Rattle.cert.specs.AlgorithmIdentifier.{seen_algorithm};
 ghost use Rattle.revocation.specs.Parts.{component};
 ghost use Rattle.crl.specs.Parts.{issuer, same_algorithm};
 
-use asn::{Cursor, Tlv};
+use asn::{Cursor, SEQUENCE, Tlv};
 use cert::AlgorithmIdentifier;
 use names::Name;
 use revocation::{Refusal, StatementRule, name_at};
@@ -29,7 +27,7 @@ fn issuer_at(value: Tlv<'_>) -> Result<Name<'_>, Refusal>
 pub(crate) fn take_issuer<'a>(members: &mut Cursor<'a>) -> Result<Name<'a>, Refusal>
     ensures { Gives (λ read. (name_contents read, left members.new)) result (component 0x30 issuer (left members.old)) }
 {
-    issuer_at(members.required(0x30, StatementRule::Layout)?)
+    issuer_at(members.required(SEQUENCE, StatementRule::Layout)?)
 }
 
 /// Takes signatureAlgorithm, which has the octets of the algorithm identifier in the signed part.
@@ -40,7 +38,7 @@ pub(crate) fn take_same_algorithm(
 ) -> Result<(), Refusal>
     ensures { Gives (λ _. (tt, left members.new)) result (component 0x30 (same_algorithm (seen_algorithm inner.entry)) (left members.old)) }
 {
-    let value = members.required(0x30, StatementRule::Layout)?;
+    let value = members.required(SEQUENCE, StatementRule::Layout)?;
     if value.whole == inner.value.whole {
         Ok(())
     } else {

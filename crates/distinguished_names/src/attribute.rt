@@ -4,9 +4,7 @@ ghost use Rattle.std.specs.Prelude.{◌≡◌, ◌↔◌, ◌<◌, ℕ, List, Is
 ghost use Rattle.std.specs.List.{list_all};
 ghost use Rattle.std.specs.Str.{is_utf8};
 ghost use Rattle.std.specs.Char.{is_ascii};
-ghost use Rattle.asn.specs.Place.{seen_tlv};
-ghost use Rattle.asn.specs.Members.{left};
-ghost use Rattle.asn.specs.Walk.{Gives};
+ghost use Rattle.asn.specs.Reading.{seen_tlv, left, Gives};
 ghost use Rattle.distinguished_names.specs.AttributeValue.{compared_value, is_text};
 ghost use Rattle.distinguished_names.specs.NameLayout.{attribute_members, attribute, attribute_order, has_kind, has_kind_before, is_less, is_string};
 ghost use Rattle.distinguished_names.specs.AttributeView.{seen_members};
@@ -15,14 +13,8 @@ ghost use Rattle.distinguished_names.specs.NameView.{entry_of};
 ghost use Rattle.distinguished_names.specs.Repetition.{kind_at};
 
 use crate::fault::{NameRule, Refusal};
-use asn::{Cursor, Tlv};
+use asn::{Cursor, IA5_STRING, OBJECT_IDENTIFIER, PRINTABLE_STRING, SEQUENCE, Tlv, UTF8_STRING};
 use preparation::same_prepared;
-
-const UTF8_STRING: u8 = 12;
-
-const PRINTABLE_STRING: u8 = 19;
-
-const IA5_STRING: u8 = 22;
 
 /// The type of an attribute and its value.
 #[derive(Clone, Copy, Default)]
@@ -49,9 +41,9 @@ impl<'a> AttributeMembers<'a> {
     pub(crate) fn read(attribute: Tlv<'a>) -> Result<AttributeMembers<'a>, Refusal>
         ensures { Gives seen_members result (attribute_members (seen_tlv attribute.entry)) }
     {
-        attribute.is_a(0x30, NameRule::NameLayout)?;
+        attribute.is_a(SEQUENCE, NameRule::NameLayout)?;
         let mut members = attribute.members();
-        let kind = members.required(0x06, NameRule::NameLayout)?;
+        let kind = members.required(OBJECT_IDENTIFIER, NameRule::NameLayout)?;
         let value = members.next_or(NameRule::NameLayout)?;
         members.ended(NameRule::NameLayout)?;
         Ok(AttributeMembers { kind, value })

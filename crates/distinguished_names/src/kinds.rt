@@ -1,8 +1,7 @@
 //! The types of the attributes of an RDN, in order.
 
 ghost use Rattle.std.specs.Prelude.{◌≡◌, ◌∷◌, [], MatchOption};
-ghost use Rattle.asn.specs.Place.{seen_tlv};
-ghost use Rattle.asn.specs.Members.{left};
+ghost use Rattle.asn.specs.Reading.{seen_tlv, left};
 ghost use Rattle.distinguished_names.specs.Repetition.{comes_before, first_body, kind_at, kinds_of};
 
 use asn::{Cursor, Tlv};

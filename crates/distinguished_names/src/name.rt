@@ -1,10 +1,9 @@
 //! Distinguished names (X.501, 9.2; RFC 5280, 4.1.2.4): read from octets, compared and turned into keys.
 
 ghost use Rattle.std.specs.Prelude.{◌≡◌, ◌↔◌, ◌<◌, ℕ, [], length, IsTrue, IfOk, OnOk};
-ghost use Rattle.asn.specs.Place.{seen_tlv, remaining};
+ghost use Rattle.asn.specs.Reading.{seen_tlv, remaining, left, members, Gives, each};
 ghost use Rattle.asn.specs.Length.{contents_limit};
-ghost use Rattle.asn.specs.Members.{left, members, octets_of_each};
-ghost use Rattle.asn.specs.Walk.{Gives, each};
+ghost use Rattle.asn.specs.Members.{octets_of_each};
 ghost use Rattle.asn.specs.Oid.{oid_contents};
 ghost use Rattle.distinguished_names.specs.DistinguishedName.{NamesMatch, IsWithin, HasKind, matching, is_within, MatchingIsExact, WithinIsExact};
 ghost use Rattle.distinguished_names.specs.NameKey.{name_key};
@@ -19,7 +18,7 @@ use crate::fault::{NameRule, Refusal};
 use crate::kinds::Kinds;
 use crate::rdn_sequence::RdnSequence;
 use crate::repetition::new_until;
-use asn::{Cursor, Oid, Tlv};
+use asn::{Cursor, Oid, SEQUENCE, SET, Tlv};
 use std::alloc::{AllocError, Global};
 
 /// A distinguished name. It borrows its octets and takes no memory.
@@ -70,7 +69,7 @@ fn read_attributes(all: Cursor<'_>) -> Result<(), Refusal>
 fn read_rdn(tlv: Tlv<'_>) -> Result<(), Refusal>
     ensures { Gives (λ _. tt) result (rdn (seen_tlv tlv.entry)) }
 {
-    tlv.is_a(0x31, NameRule::NameLayout)?;
+    tlv.is_a(SET, NameRule::NameLayout)?;
     let attributes = tlv.members();
     attributes.some(NameRule::NameLayout)?;
     read_attributes(attributes)
@@ -94,7 +93,7 @@ fn read_name(tlv: Tlv<'_>) -> Result<Cursor<'_>, Refusal>
     ensures rdns { IfOk result (λ rdns. left rdns ≡ members (seen_tlv tlv.entry)) }
     ensures short { IfOk result (λ rdns. length (remaining rdns).octets < contents_limit) }
 {
-    tlv.is_a(0x30, NameRule::NameLayout)?;
+    tlv.is_a(SEQUENCE, NameRule::NameLayout)?;
     let rdns = tlv.members();
     read_rdns(rdns)?;
     Ok(rdns)

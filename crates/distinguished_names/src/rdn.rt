@@ -4,7 +4,7 @@ ghost use Rattle.std.specs.Prelude.{◌≡◌, ◌↔◌, ◌∷◌, ◌++◌, [
 ghost use Rattle.std.specs.List.{AllByRecursion};
 ghost use Rattle.distinguished_names.specs.AttributeValue.{compared_value};
 ghost use Rattle.distinguished_names.specs.DistinguishedName.{AgreeAt, value_at};
-ghost use Rattle.asn.specs.Members.{left};
+ghost use Rattle.asn.specs.Reading.{left};
 ghost use Rattle.distinguished_names.specs.NameParts.{AreAttributes, are_distinct, entry_at};
 
 use crate::attribute::{Attribute, AttributeMembers};

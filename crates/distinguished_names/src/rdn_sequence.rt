@@ -2,8 +2,7 @@
 
 ghost use Rattle.std.specs.Prelude.{◌≡◌, ◌↔◌, ◌<◌, ◌^◌, ◌++◌, ◌∷◌, [], length, IsTrue, MatchOption};
 ghost use Rattle.distinguished_names.specs.DistinguishedName.{NamesMatch, IsWithin, HasKind, matching, is_within};
-ghost use Rattle.asn.specs.Members.{left};
-ghost use Rattle.asn.specs.Place.{remaining};
+ghost use Rattle.asn.specs.Reading.{remaining, left};
 ghost use Rattle.distinguished_names.specs.NameParts.{AreRdns};
 
 use crate::rdn::Rdn;

@@ -6,7 +6,7 @@ use Rattle.asn.specs.Identifier.{is_constructed}
 use Rattle.asn.specs.Place.{Place, tag, body}
 use Rattle.asn.specs.Members.{Members, members}
 use Rattle.asn.specs.Judgement.{judgement, outermost, placed}
-use Rattle.asn.specs.Walk.{check_that, is_a, required, optional, any, ended, or_fault, time}
+use Rattle.asn.specs.Walk.{check_that, is_a, required, next_or, optional, any, ended, or_fault, time}
 use Rattle.asn.proofs.Laws.{IsEncodedPart, judgement_within, outermost_ok}
 use Rattle.names.specs.NameLayout.{name}
 use Rattle.names.specs.GeneralLayout.{general, base}
@@ -20,11 +20,11 @@ use Rattle.cert.specs.SubjectPublicKeyInfo.{key_info}
 use Rattle.cert.specs.BitString.{has_no_unused_bits}
 use Rattle.cert.specs.Version.{is_v1, is_v3, version, version_in, version_of}
 use Rattle.cert.specs.Extensions.{extensions}
-use Rattle.cert.specs.TbsCertificate.{component, is_serial, serial_number, distinguished_name, is_empty_name, issuer, unique_id, unique_id_in, tbs_head, tbs_subject}
+use Rattle.cert.specs.TbsCertificate.{next_read, component, is_serial, serial_number, distinguished_name, is_empty_name, issuer, unique_id, unique_id_in, tbs_head, tbs_subject}
 use Rattle.cert.specs.Certificate.{extensions_in, optional_extensions, tbs_certificate, same_algorithm, signature_value, certificate_at, certificate}
 use Rattle.fault_offsets.specs.Offsets.{NameFaultIsWithin, GeneralNameFaultIsWithin, SubtreeFaultIsWithin, CertificateFaultIsWithin}
 use Rattle.fault_offsets.proofs.Standing.{begins_at, encoded_part, Left, members_left}
-use Rattle.fault_offsets.proofs.Steps.{Within, Any, and_then, refused, NextIs, StandsWhereThere, check_within, is_a_within, required_within, optional_stands, any_left, ended_within, or_fault_within, time_within}
+use Rattle.fault_offsets.proofs.Steps.{Within, Any, and_then, refused, Next, NextIs, StandsWhereThere, check_within, is_a_within, required_within, next_within, optional_stands, any_left, ended_within, or_fault_within, time_within}
 use Rattle.fault_offsets.proofs.Names.{name_within, general_within, base_within}
 use Rattle.fault_offsets.proofs.Extensions.{der_within, named_within, extensions_within}
 
@@ -52,7 +52,7 @@ key_within : (text : List ℕ) (value : Place) → IsEncodedPart text value → 
 unfolding key_info
 key_within text value is =
     and_then text (λ _. tag value ≡ 0x30) Any (is_a 0x30 R.Layout value) _ (is_a_within text 0x30 R.Layout value is) (λ _ sequence.
-    and_then text (NextIs text 0x30) Any (required 0x30 R.Layout (members value)) _ (required_within text 0x30 R.Layout (members value) (members_left text value (ap is_constructed sequence) is)) (λ algorithm first.
+    and_then text (Next text) Any (next_or R.Layout (members value)) _ (next_within text R.Layout (members value) (members_left text value (ap is_constructed sequence) is)) (λ algorithm first.
     and_then text Any Any (algorithm_identifier R.Layout algorithm.0) _ (algorithm_within text algorithm.0 first.value) (λ _ _.
     and_then text (NextIs text 0x03) Any (required 0x03 R.Layout algorithm.1) _ (required_within text 0x03 R.Layout algorithm.1 first.left) (λ key second.
     and_then text Any Any (ended R.Layout key.1) _ (ended_within text R.Layout key.1 second.left) (λ _ _. tt)))))
@@ -67,6 +67,13 @@ version_within text left is = let o = optional_stands text 0xA0 left is in by (o
         and_then text (NextIs text 0x02) (Behind text) (required 0x02 R.Layout (members explicit)) _ (required_within text 0x02 R.Layout (members explicit) (members_left text explicit (ap is_constructed here.1) here.0)) (λ number first.
         and_then text Any (Behind text) (or_fault (version_of (body number.0)) R.Version number.0.at) _ (or_fault_within text (version_of (body number.0)) R.Version number.0.at (begins_at text number.0 first.value)) (λ _ _.
         and_then text Any (Behind text) (ended R.Layout number.1) _ (ended_within text R.Layout number.1 first.left) (λ _ _. rest)))
+
+next_read_within : {A : Type 0} (text : List ℕ) (read : Place → Result A (CertRule × ℕ)) → ((value : Place) → IsEncodedPart text value → Within text Any (read value))
+    → (left : Members) → Left text left → Within text (Behind text) (next_read read left)
+unfolding next_read
+next_read_within text read one left is =
+    and_then text (Next text) (Behind text) (next_or R.Layout left) _ (next_within text R.Layout left is) (λ value first.
+    and_then text Any (Behind text) (read value.0) _ (one value.0 first.value) (λ _ _. first.left))
 
 component_within : {A : Type 0} (text : List ℕ) (identifier : ℕ) (read : Place → Result A (CertRule × ℕ)) → ((value : Place) → IsEncodedPart text value → Within text Any (read value))
     → (left : Members) → Left text left → Within text (Behind text) (component identifier read left)
@@ -105,15 +112,15 @@ unfolding tbs_head
 head_within text left is =
     and_then text (Behind text) (Behind text) (version left) _ (version_within text left is) (λ version a.
     and_then text (Behind text) (Behind text) (component 0x02 serial_number version.1) _ (component_within text 0x02 serial_number (serial_within text) version.1 a) (λ serial b.
-    and_then text (Behind text) (Behind text) (component 0x30 (algorithm_identifier R.Layout) serial.1) _ (component_within text 0x30 (algorithm_identifier R.Layout) (algorithm_within text) serial.1 b) (λ signature c.
+    and_then text (Behind text) (Behind text) (next_read (algorithm_identifier R.Layout) serial.1) _ (next_read_within text (algorithm_identifier R.Layout) (algorithm_within text) serial.1 b) (λ signature c.
     and_then text (Behind text) (Behind text) (component 0x30 issuer signature.1) _ (component_within text 0x30 issuer (issuer_within text) signature.1 c) (λ issuer d.
-    and_then text (Behind text) (Behind text) (component 0x30 validity issuer.1) _ (component_within text 0x30 validity (validity_within text) issuer.1 d) (λ validity e. e)))))
+    and_then text (Behind text) (Behind text) (next_read validity issuer.1) _ (next_read_within text validity (validity_within text) issuer.1 d) (λ validity e. e)))))
 
 subject_within : (text : List ℕ) (read : Version) (left : Members) → Left text left → Within text (Behind text) (tbs_subject read left)
 unfolding tbs_subject
 subject_within text read left is =
     and_then text (Behind text) (Behind text) (component 0x30 distinguished_name left) _ (component_within text 0x30 distinguished_name (distinguished_within text) left is) (λ name a.
-    and_then text (Behind text) (Behind text) (component 0x30 key_info name.1) _ (component_within text 0x30 key_info (key_within text) name.1 a) (λ key b.
+    and_then text (Behind text) (Behind text) (next_read key_info name.1) _ (next_read_within text key_info (key_within text) name.1 a) (λ key b.
     and_then text (Left text) (Behind text) (unique_id 0x81 read key.1) _ (unique_id_within text 0x81 read key.1 b) (λ issuer_id c.
     and_then text (Left text) (Behind text) (unique_id 0x82 read issuer_id) _ (unique_id_within text 0x82 read issuer_id c) (λ subject_id d. d))))
 
@@ -125,17 +132,18 @@ optional_within text read left octets is = let o = optional_stands text 0xA3 lef
     by None others here rest = rest
     by (Some explicit) others here rest =
         and_then text Any (Behind text) (check_that (is_v3 read) R.Version explicit.at) _ (check_within text (is_v3 read) R.Version explicit.at (begins_at text explicit here.0)) (λ _ _.
-        and_then text (NextIs text 0x30) (Behind text) (required 0x30 R.Layout (members explicit)) _ (required_within text 0x30 R.Layout (members explicit) (members_left text explicit (ap is_constructed here.1) here.0)) (λ list first.
-        and_then text Any (Behind text) (extensions list.0) _ (extensions_within text list.0 octets first.identifier_is first.value) (λ _ _.
+        and_then text (Next text) (Behind text) (next_or R.Layout (members explicit)) _ (next_within text R.Layout (members explicit) (members_left text explicit (ap is_constructed here.1) here.0)) (λ list first.
+        and_then text Any (Behind text) (extensions list.0) _ (extensions_within text list.0 octets first.value) (λ _ _.
         and_then text Any (Behind text) (ended R.Layout list.1) _ (ended_within text R.Layout list.1 first.left) (λ _ _. rest))))
 
-tbs_within : (text : List ℕ) (value : Place) → AreOctets text → tag value ≡ 0x30 → IsEncodedPart text value → Within text Any (tbs_certificate value)
+tbs_within : (text : List ℕ) (value : Place) → AreOctets text → IsEncodedPart text value → Within text Any (tbs_certificate value)
 unfolding tbs_certificate
-tbs_within text value octets sequence is =
+tbs_within text value octets is =
+    and_then text (λ _. tag value ≡ 0x30) Any (is_a 0x30 R.Layout value) _ (is_a_within text 0x30 R.Layout value is) (λ _ sequence.
     and_then text (Behind text) Any (tbs_head (members value)) _ (head_within text (members value) (members_left text value (ap is_constructed sequence) is)) (λ head a.
     and_then text (Behind text) Any (tbs_subject head.0.version head.1) _ (subject_within text head.0.version head.1 a) (λ subject b.
     and_then text (Behind text) Any (optional_extensions head.0.version subject.1) _ (optional_within text head.0.version subject.1 octets b) (λ extensions c.
-    and_then text Any Any (ended R.Layout extensions.1) _ (ended_within text R.Layout extensions.1 c) (λ _ _. tt))))
+    and_then text Any Any (ended R.Layout extensions.1) _ (ended_within text R.Layout extensions.1 c) (λ _ _. tt)))))
 
 -- the whole
 same_within : (text : List ℕ) (inner : AlgorithmIdentifier) (value : Place) → IsEncodedPart text value → Within text Any (same_algorithm inner value)
@@ -151,8 +159,8 @@ at_within : (text : List ℕ) (value : Place) → AreOctets text → IsEncodedPa
 unfolding certificate_at
 at_within text value octets is =
     and_then text (λ _. tag value ≡ 0x30) Any (is_a 0x30 R.Layout value) _ (is_a_within text 0x30 R.Layout value is) (λ _ sequence.
-    and_then text (NextIs text 0x30) Any (required 0x30 R.Layout (members value)) _ (required_within text 0x30 R.Layout (members value) (members_left text value (ap is_constructed sequence) is)) (λ signed first.
-    and_then text Any Any (tbs_certificate signed.0) _ (tbs_within text signed.0 octets first.identifier_is first.value) (λ tbs _.
+    and_then text (Next text) Any (next_or R.Layout (members value)) _ (next_within text R.Layout (members value) (members_left text value (ap is_constructed sequence) is)) (λ signed first.
+    and_then text Any Any (tbs_certificate signed.0) _ (tbs_within text signed.0 octets first.value) (λ tbs _.
     and_then text (Behind text) Any (component 0x30 (same_algorithm tbs.head.signature) signed.1) _ (component_within text 0x30 (same_algorithm tbs.head.signature) (same_within text tbs.head.signature) signed.1 first.left) (λ algorithm a.
     and_then text (Behind text) Any (component 0x03 signature_value algorithm.1) _ (component_within text 0x03 signature_value (signature_within text) algorithm.1 a) (λ signature b.
     and_then text Any Any (ended R.Layout signature.1) _ (ended_within text R.Layout signature.1 b) (λ _ _. tt))))))

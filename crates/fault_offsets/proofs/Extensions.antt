@@ -196,9 +196,10 @@ one_within text octets earlier value is =
     and_then text Any Any (told_by (kind_of read.oid) read.value earlier.told) _
     (and_then text Any Any (saying_of (kind_of read.oid) read.value) _ (saying_within text (kind_of read.oid) read.value octets stands.value) (λ _ _. tt)) (λ _ _. tt)))
 
-pub extensions_within : (text : List ℕ) (value : Place) → AreOctets text → tag value ≡ 0x30 → IsEncodedPart text value → Within text Any (extensions value)
+pub extensions_within : (text : List ℕ) (value : Place) → AreOctets text → IsEncodedPart text value → Within text Any (extensions value)
 unfolding extensions
-extensions_within text value octets sequence is =
+extensions_within text value octets is =
+    and_then text (λ _. tag value ≡ 0x30) Any (is_a 0x30 R.Layout value) _ (is_a_within text 0x30 R.Layout value is) (λ _ sequence.
     let left = members_left text value (ap is_constructed sequence) is in
     and_then text Any Any (some R.Layout (members value)) _ (some_within text R.Layout (members value) left) (λ _ _.
-    and_then text Any Any (each one_extension nothing_taken ((members value).values)) _ (each_within text one_extension (one_within text octets) nothing_taken ((members value).values) left.parts) (λ _ _. tt))
+    and_then text Any Any (each one_extension nothing_taken ((members value).values)) _ (each_within text one_extension (one_within text octets) nothing_taken ((members value).values) left.parts) (λ _ _. tt)))

@@ -3,7 +3,7 @@
 ghost use Rattle.std.specs.Prelude.{◌≡◌, ◌↔◌, IsTrue, IsSome, IfSome};
 ghost use Rattle.std.specs.List.{list_all, slice_split};
 ghost use Rattle.names.specs.Dns.{IsDnsName, IsBaseOf, IsInDomain, is_dot, is_label, is_label_octet, ends_in_labels, ends_in_more_labels, is_in_domain, is_domain_inside};
-ghost use Rattle.asn.specs.Walk.{seen};
+ghost use Rattle.asn.specs.Reading.{seen};
 ghost use Rattle.names.specs.Bases.{is_dns_name, domain_names, names_of_base};
 ghost use Rattle.names.specs.Laws.{DomainTestIsExact, DomainInsideIsSound, SharedDomainsAreNested};
 

@@ -1,8 +1,7 @@
 //! Reading general names, and the bases of subtrees (RFC 5280, 4.2.1.6 and 4.2.1.10).
 
 ghost use Rattle.std.specs.Prelude.{◌≡◌, IfSome};
-ghost use Rattle.asn.specs.Place.{seen_tlv};
-ghost use Rattle.asn.specs.Walk.{Gives};
+ghost use Rattle.asn.specs.Reading.{seen_tlv, Gives};
 ghost use Rattle.names.specs.GeneralLayout.{form_of_identifier, explicit_name, general, dns_name_at, ip_address_at, base, dns_base_at, ip_base_at};
 ghost use Rattle.names.specs.Bases.{DnsNameTestIsExact, NamesOfBaseAreExact, AddressTestIsExact, RangeOfBaseIsExact, RefusedBaseIsExact};
 ghost use Rattle.names.specs.GeneralCoverage.{CoverageTestIsExact, CoverageIsOfContents, InsideIsOfContents, NameFormIsOfContents, BaseFormIsOfContents, FormTestIsOfContents, BaseInsideIsSound, SharedBasesAreNested, CoveredIsOfForm, CoveredIsProcessed, BaseFormTestIsExact};

@@ -2,7 +2,7 @@
 
 ghost use Rattle.std.specs.Prelude.{◌≡◌, ◌≤◌, ◌<◌, ◌*◌, ◌↔◌, ℕ, IsTrue, IsOk, IfOk, IfErr, IfSome, IfNone, MatchOption, length};
 ghost use Rattle.names.specs.Ip.{IsIpAddress, IsMaskOf, HasHole, IsRangeOf, IsRefusedFor, IsInRange, bit, agree, is_in_range, is_range_inside};
-ghost use Rattle.asn.specs.Walk.{Gives};
+ghost use Rattle.asn.specs.Reading.{Gives};
 ghost use Rattle.names.specs.Bases.{is_ip_address, address_range, range_of_base};
 ghost use Rattle.names.specs.Laws.{RangeTestIsExact, RangeInsideIsSound, SharedRangesAreNested};
 

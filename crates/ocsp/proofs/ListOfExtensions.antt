@@ -3,10 +3,10 @@ use Rattle.std.proofs.Common.{◌≡◌, ◌≢◌, ℕ, Bool, true, false, not,
 use Rattle.std.specs.List.{AllByRecursion, AllZip}
 use Rattle.std.specs.FinSet.{empty, contains, insert}
 use Rattle.std.proofs.lemmas.List.Elements.{recursion_from_All, All-from_recursion}
-use Rattle.asn.specs.Place.{Place, tag}
+use Rattle.asn.specs.Place.{Place}
 use Rattle.asn.specs.Members.{Members, members, begins}
-use Rattle.asn.specs.Walk.{each, check_that, some, optional, required, ended, Leads}
-use Rattle.asn.proofs.Laws.{bind_ok, ok_is, check_ok, check_again, some_ok, some_again, each_ok, required_ok, required_again, ended_ok, ended_again, TakesOptional, optional_is, optional_there, optional_absent}
+use Rattle.asn.specs.Walk.{is_a, each, check_that, some, optional, next_or, ended, Leads}
+use Rattle.asn.proofs.Laws.{bind_ok, ok_is, check_ok, check_again, is_a_ok, is_a_again, some_ok, some_again, each_ok, next_or_ok, next_or_again, ended_ok, ended_again, TakesOptional, optional_is, optional_there, optional_absent}
 use Rattle.cert.specs.Extension.{Extension, IsExtension}
 use Rattle.cert.specs.OidSet.{Oids}
 use Rattle.revocation.specs.Parts.{new_extension}
@@ -89,16 +89,17 @@ is_some_of [] [] zip some = absurd (some refl)
 is_some_of [] (one ∷ list) zip some = absurd zip
 is_some_of (value ∷ others) list zip some = (value, others, refl)
 
-are_uncritical : (list : Place) (u : Unit {0}) → tag list ≡ 0x30 → extensions list ≡ Ok u → AreUncritical list
+are_uncritical : (list : Place) (u : Unit {0}) → extensions list ≡ Ok u → AreUncritical list
 unfolding extensions
-are_uncritical list u t e =
-    let one = bind_ok {A = Unit {0}} (some Layout (members list)) _ u e in
+are_uncritical list u e =
+    let sequence = bind_ok {A = Unit {0}} (is_a 0x30 Layout list) _ u e in
+    let one = bind_ok {A = Unit {0}} (some Layout (members list)) _ u sequence.2 in
     let types = bind_ok {A = Oids} (each one_extension empty ((members list).values)) _ u one.2 in
     let first = some_ok _ _ _ one.1 in
     let reads = reads_of empty ((members list).values) types.0 (each_ok one_extension Step step_ok empty ((members list).values) types.0 types.1) in
     record {
       extensions = reads.list;
-      sequence = t;
+      sequence = is_a_ok _ _ _ _ sequence.1;
       some = not_none ((members list).values) reads.list first.0 first.1 first.2 reads.each;
       each = reads.each;
       types = new_pairs type_of empty reads.list reads.new;
@@ -110,7 +111,7 @@ unfolding extensions
 uncritical_are list is =
     let first = is_some_of ((members list).values) is.extensions is.each is.some in
     let types = each_again empty ((members list).values) is.extensions is.each (pairs_are_new type_of is.extensions is.types) (recursion_from_All IsUncritical is.extensions is.uncritical) in
-    rw (some_again Layout (members list) first.0 first.1 first.2, types.1) refl
+    rw (is_a_again 0x30 Layout list is.sequence, some_again Layout (members list) first.0 first.1 first.2, types.1) refl
 
 -- the extensions that may stand at the end of a SEQUENCE
 pub record TakesExtensions (left others : Members) : Type 0 where
@@ -124,10 +125,10 @@ of_extensions left None others x took e =
     subst P (ok_is {E = StatementRule × ℕ} others x e)
     record { tagged = []; values = sym (ap (λ (m : Members). m.values) took.0); are = tt }
 of_extensions left (Some explicit) others x took e =
-    let list = bind_ok {A = Place × Members} (required 0x30 Layout (members explicit)) _ x e in
+    let list = bind_ok {A = Place × Members} (next_or Layout (members explicit)) _ x e in
     let read = bind_ok {A = Unit {0}} (extensions list.0.0) _ x list.2 in
     let one = bind_ok {A = Unit {0}} (ended Layout list.0.1) _ x read.2 in
-    let inner = required_ok _ _ _ _ list.1 in
+    let inner = next_or_ok _ _ _ list.1 in
     let P : Members → Type 0 = λ m. TakesExtensions left m in
     subst P (ok_is {E = StatementRule × ℕ} others x one.2) record {
       tagged = explicit ∷ [];
@@ -135,7 +136,7 @@ of_extensions left (Some explicit) others x took e =
       are = (
         list.0.0,
         record { explicit = took.tag_is; members_are = inner.values ∙ ap (◌∷◌ list.0.0) (ended_ok _ _ _ one.1) },
-        are_uncritical list.0.0 read.0 inner.tag_is read.1,
+        are_uncritical list.0.0 read.0 read.1,
       );
     }
 
@@ -155,7 +156,7 @@ extensions_again left (explicit ∷ []) e (list, is_tagged, is) =
       next [],
       rw (
         optional_there 0xA1 left explicit [] e is_tagged.explicit,
-        required_again 0x30 Layout (members explicit) list [] is_tagged.members_are is.sequence,
+        next_or_again Layout (members explicit) list [] is_tagged.members_are,
         uncritical_are list is,
         ended_again Layout (record { values = []; end = (members explicit).end }) refl,
       ) refl,

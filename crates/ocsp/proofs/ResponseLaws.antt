@@ -15,8 +15,8 @@ use Rattle.names.specs.GeneralLayout.{NameContents}
 use Rattle.cert.specs.AlgorithmIdentifier.{AlgorithmIdentifier, algorithm_identifier}
 use Rattle.cert.proofs.Laws.{is_algorithm, algorithm_is}
 use Rattle.revocation.specs.Fault.{as_der}
-use Rattle.revocation.specs.Parts.{component, distinguished_name, signature_value}
-use Rattle.revocation.proofs.Laws.{as_der_ok, contained_ok, contained_again, component_ok, component_again, name_ok, name_again, signature_ok, signature_again}
+use Rattle.revocation.specs.Parts.{component, next_read, distinguished_name, signature_value}
+use Rattle.revocation.proofs.Laws.{as_der_ok, contained_ok, contained_again, next_read_ok, next_read_again, component_ok, component_again, name_ok, name_again, signature_ok, signature_again}
 use Rattle.revocation.specs.declared.fault.StatementRule.{StatementRule}
 use Rattle.revocation.specs.declared.fault.StatementRule.TheVariants.{Layout, NotSuccessful, ResponseType}
 use Rattle.ocsp.specs.GeneralizedTime.{generalized_time}
@@ -108,10 +108,11 @@ responder_again left value others found e is = rw (next_or_again Layout left val
 data_from : Responder → ℤ → List SingleResponse → ResponseData
 data_from responder produced_at responses = record { responder = responder; produced_at = produced_at; responses = responses }
 
-is_data : (value : Place) (fields : ResponseData) → tag value ≡ 0x30 → response_data value ≡ Ok fields → IsResponseData value fields
+is_data : (value : Place) (fields : ResponseData) → response_data value ≡ Ok fields → IsResponseData value fields
 unfolding response_data data_from
-is_data value fields t e =
-    let who = bind_ok {A = Responder × Members} (responder (members value)) _ fields e in
+is_data value fields e =
+    let sequence = bind_ok {A = Unit {0}} (is_a 0x30 Layout value) _ fields e in
+    let who = bind_ok {A = Responder × Members} (responder (members value)) _ fields sequence.2 in
     let moment = bind_ok {A = ℤ × Members} (generalized_time who.0.1) _ fields who.2 in
     let list = bind_ok {A = List SingleResponse × Members} (component 0x30 all_singles moment.0.1) _ fields moment.2 in
     let left = bind_ok {A = Members} (optional_extensions list.0.1) _ fields list.2 in
@@ -128,7 +129,7 @@ is_data value fields t e =
       produced_at = second.value;
       responses = third.value;
       extensions = fourth.tagged;
-      sequence = t;
+      sequence = is_a_ok _ _ _ _ sequence.1;
       members_are = in_order (members value).values who.0.1.values moment.0.1.values fourth.tagged first.value second.value third.value first.values second.values (last_in_order moment.0.1.values list.0.1.values fourth.tagged third.value third.took.values behind);
       responder_is = first.is;
       produced_at_is = second.is;
@@ -144,6 +145,7 @@ data_is value fields is =
     let next : List Place → Members = λ values. record { values = values; end = (members value).end } in
     let left = extensions_again (next is.extensions) is.extensions refl is.extensions_are in
     rw (
+      is_a_again 0x30 Layout value is.sequence,
       responder_again (members value) is.responder (is.produced_at ∷ is.responses ∷ is.extensions) fields.responder is.members_are is.responder_is,
       moment_again (next (is.produced_at ∷ is.responses ∷ is.extensions)) is.produced_at (is.responses ∷ is.extensions) fields.produced_at refl is.produced_at_is,
       component_again 0x30 all_singles (next (is.responses ∷ is.extensions)) is.responses is.extensions fields.responses refl is.responses_sequence (all_again (members is.responses).values fields.responses is.responses_are is.few),
@@ -217,11 +219,11 @@ record TakesSigned (left : Members) (found : Signed) : Type 0 where
 signed_ok : (left : Members) (found : Signed) → signature_part left ≡ Ok found → TakesSigned left found
 unfolding signature_part
 signed_ok left found e =
-    let algorithm = bind_ok {A = AlgorithmIdentifier × Members} (component 0x30 (algorithm_identifier Layout) left) _ found e in
+    let algorithm = bind_ok {A = AlgorithmIdentifier × Members} (next_read (algorithm_identifier Layout) left) _ found e in
     let signature = bind_ok {A = List ℕ × Members} (component 0x03 signature_value algorithm.0.1) _ found algorithm.2 in
     let given = bind_ok {A = List (List ℕ) × Members} (certs signature.0.1) _ found signature.2 in
     let done = bind_ok {A = Unit {0}} (ended Layout given.0.1) _ found given.2 in
-    let first = component_ok 0x30 (algorithm_identifier Layout) left algorithm.0 algorithm.1 in
+    let first = next_read_ok (algorithm_identifier Layout) left algorithm.0 algorithm.1 in
     let second = component_ok 0x03 signature_value algorithm.0.1 signature.0 signature.1 in
     let third = certs_ok signature.0.1 given.0 given.1 in
     let behind = at_the_end signature.0.1.values third.tagged given.0.1.values third.values (ended_ok _ _ _ done.1) in
@@ -243,10 +245,10 @@ is_basic : (value : Place) (fields : OcspResponse) → basic_response value ≡ 
 unfolding basic_response
 is_basic value fields e =
     let sequence = bind_ok {A = Unit {0}} (is_a 0x30 Layout value) _ fields e in
-    let signed = bind_ok {A = Place × Members} (required 0x30 Layout (members value)) _ fields sequence.2 in
+    let signed = bind_ok {A = Place × Members} (next_or Layout (members value)) _ fields sequence.2 in
     let tbs = bind_ok {A = ResponseData} (response_data signed.0.0) _ fields signed.2 in
     let behind = bind_ok {A = Signed} (signature_part signed.0.1) _ fields tbs.2 in
-    let first = required_ok _ _ _ _ signed.1 in
+    let first = next_or_ok _ _ _ signed.1 in
     let second = signed_ok signed.0.1 behind.0 behind.1 in
     let algorithm = is_algorithm Layout second.algorithm second.identifier second.algorithm_is in
     let found = response_with signed.0.0 tbs.0 behind.0 in
@@ -259,7 +261,7 @@ is_basic value fields e =
       identifier = second.identifier;
       sequence = is_a_ok _ _ _ _ sequence.1;
       members_are = first.values ∙ ap (◌∷◌ signed.0.0) second.values;
-      signed_is = is_data signed.0.0 tbs.0 first.tag_is tbs.1;
+      signed_is = is_data signed.0.0 tbs.0 tbs.1;
       algorithm_is = algorithm;
       signature_is = signature_ok second.signature behind.0.signature second.bit_string second.signature_is;
       certs_are = second.certs_are;
@@ -276,7 +278,7 @@ signed_again value fields left is e =
     let next : List Place → Members = λ values. record { values = values; end = left.end } in
     let given = certs_again (next is.certs) is.certs fields.certs refl is.certs_are in
     rw (
-      component_again 0x30 (algorithm_identifier Layout) left is.algorithm (is.signature ∷ is.certs) is.identifier e is.algorithm_is.sequence (algorithm_is Layout is.algorithm is.identifier is.algorithm_is),
+      next_read_again (algorithm_identifier Layout) left is.algorithm (is.signature ∷ is.certs) is.identifier e (algorithm_is Layout is.algorithm is.identifier is.algorithm_is),
       component_again 0x03 signature_value (next (is.signature ∷ is.certs)) is.signature is.certs fields.signature refl is.signature_is.bit_string (signature_again is.signature fields.signature is.signature_is),
       given.1,
       ended_again Layout given.0 given.2,
@@ -289,7 +291,7 @@ basic_is value fields is =
     let algorithm : fields.algorithm ≡ is.identifier.value.octets = is.algorithm_octets ∙ sym (ap (λ (p : Place). p.octets) is.algorithm_is.whole) in
     rw (
       is_a_again 0x30 Layout value is.sequence,
-      required_again 0x30 Layout (members value) is.signed behind.values is.members_are is.signed_is.sequence,
+      next_or_again Layout (members value) is.signed behind.values is.members_are,
       data_is is.signed is.tbs is.signed_is,
       signed_again value fields behind is refl,
       ← is.tbs_are,
@@ -390,9 +392,9 @@ explicit_ok : (value : Place) (fields : OcspResponse) → AreOctets value.octets
 unfolding explicit_bytes
 explicit_ok value fields fits e =
     let tagged = bind_ok {A = Unit {0}} (is_a 0xA0 Layout value) _ fields e in
-    let response = bind_ok {A = OcspResponse × Members} (component 0x30 response_bytes (members value)) _ fields tagged.2 in
+    let response = bind_ok {A = OcspResponse × Members} (next_read response_bytes (members value)) _ fields tagged.2 in
     let one = bind_ok {A = Unit {0}} (ended Layout response.0.1) _ fields response.2 in
-    let inner = component_ok 0x30 response_bytes (members value) response.0 response.1 in
+    let inner = next_read_ok response_bytes (members value) response.0 response.1 in
     let bytes_fit = (subst (AllByRecursion Octets) inner.took.values (members_octets value fits)).0 in (
       inner.value,
       record { explicit = is_a_ok _ _ _ _ tagged.1; members_are = inner.took.values ∙ ap (◌∷◌ inner.value) (ended_ok _ _ _ one.1) },
@@ -404,7 +406,7 @@ unfolding explicit_bytes
 explicit_again value bytes fields is_tagged is =
     rw (
       is_a_again 0xA0 Layout value is_tagged.explicit,
-      component_again 0x30 response_bytes (members value) bytes [] fields is_tagged.members_are is.sequence (bytes_are bytes fields is),
+      next_read_again response_bytes (members value) bytes [] fields is_tagged.members_are (bytes_are bytes fields is),
       ended_again Layout (record { values = []; end = (members value).end }) refl,
     ) refl
 
@@ -413,10 +415,10 @@ unfolding ocsp_response_at
 is_response_at value fields fits e =
     let sequence = bind_ok {A = Unit {0}} (is_a 0x30 Layout value) _ fields e in
     let status = bind_ok {A = Unit {0} × Members} (component 0x0A successful (members value)) _ fields sequence.2 in
-    let response = bind_ok {A = OcspResponse × Members} (component 0xA0 explicit_bytes status.0.1) _ fields status.2 in
+    let response = bind_ok {A = OcspResponse × Members} (next_read explicit_bytes status.0.1) _ fields status.2 in
     let done = bind_ok {A = Unit {0}} (ended Layout response.0.1) _ fields response.2 in
     let first = component_ok 0x0A successful (members value) status.0 status.1 in
-    let second = component_ok 0xA0 explicit_bytes status.0.1 response.0 response.1 in
+    let second = next_read_ok explicit_bytes status.0.1 response.0 response.1 in
     let values = first.took.values ∙ ap (◌∷◌ first.value) (last_in_order status.0.1.values response.0.1.values [] second.value second.took.values (ended_ok _ _ _ done.1)) in
     let explicit_fits = (subst (AllByRecursion Octets) values (members_octets value fits)).1.0 in
     let bytes = explicit_ok second.value response.0.0 explicit_fits second.read_is in
@@ -439,7 +441,7 @@ response_at_is value fields is =
     rw (
       is_a_again 0x30 Layout value is.sequence,
       component_again 0x0A successful (members value) is.status (is.explicit ∷ []) tt is.members_are is.enumerated (successful_again is.status is.successful),
-      component_again 0xA0 explicit_bytes (next (is.explicit ∷ [])) is.explicit [] fields refl is.tagged.explicit (explicit_again is.explicit is.bytes fields is.tagged is.bytes_are),
+      next_read_again explicit_bytes (next (is.explicit ∷ [])) is.explicit [] fields refl (explicit_again is.explicit is.bytes fields is.tagged is.bytes_are),
       ended_again Layout (next []) refl,
     ) refl
 

@@ -8,8 +8,8 @@ use Rattle.asn.specs.Walk.{is_a, required, optional, ended, check_that}
 use Rattle.asn.proofs.Laws.{bind_ok, ok_is, check_ok, check_again, is_a_ok, is_a_again, required_ok, required_again, ended_ok, ended_again, TakesOptional, optional_is, optional_there, optional_absent}
 use Rattle.cert.specs.AlgorithmIdentifier.{AlgorithmIdentifier, algorithm_identifier}
 use Rattle.cert.proofs.Laws.{is_algorithm, algorithm_is}
-use Rattle.revocation.specs.Parts.{component, serial_number}
-use Rattle.revocation.proofs.Laws.{component_ok, component_again, serial_ok, serial_again}
+use Rattle.revocation.specs.Parts.{component, next_read, serial_number}
+use Rattle.revocation.proofs.Laws.{next_read_ok, next_read_again, component_ok, component_again, serial_ok, serial_again}
 use Rattle.revocation.specs.declared.fault.StatementRule.{StatementRule}
 use Rattle.revocation.specs.declared.fault.StatementRule.TheVariants.{Layout, TooManySingles}
 use Rattle.ocsp.specs.declared.cert_status.CertStatus.{CertStatus}
@@ -37,12 +37,12 @@ is_id : (value : Place) (fields : CertId) → cert_id value ≡ Ok fields → Is
 unfolding cert_id
 is_id value fields e =
     let sequence = bind_ok {A = Unit {0}} (is_a 0x30 Layout value) _ fields e in
-    let algorithm = bind_ok {A = AlgorithmIdentifier × Members} (component 0x30 (algorithm_identifier Layout) (members value)) _ fields sequence.2 in
+    let algorithm = bind_ok {A = AlgorithmIdentifier × Members} (next_read (algorithm_identifier Layout) (members value)) _ fields sequence.2 in
     let name_hash = bind_ok {A = Place × Members} (required 0x04 Layout algorithm.0.1) _ fields algorithm.2 in
     let key_hash = bind_ok {A = Place × Members} (required 0x04 Layout name_hash.0.1) _ fields name_hash.2 in
     let serial = bind_ok {A = List ℕ × Members} (component 0x02 serial_number key_hash.0.1) _ fields key_hash.2 in
     let done = bind_ok {A = Unit {0}} (ended Layout serial.0.1) _ fields serial.2 in
-    let first = component_ok 0x30 (algorithm_identifier Layout) (members value) algorithm.0 algorithm.1 in
+    let first = next_read_ok (algorithm_identifier Layout) (members value) algorithm.0 algorithm.1 in
     let second = required_ok _ _ _ _ name_hash.1 in
     let third = required_ok _ _ _ _ key_hash.1 in
     let fourth = component_ok 0x02 serial_number key_hash.0.1 serial.0 serial.1 in
@@ -71,7 +71,7 @@ id_is value fields is =
     let after_algorithm = is.name_hash ∷ is.key_hash ∷ is.serial ∷ [] in
     rw (
       is_a_again 0x30 Layout value is.sequence,
-      component_again 0x30 (algorithm_identifier Layout) (members value) is.algorithm after_algorithm is.hash is.members_are is.algorithm_is.sequence (algorithm_is Layout is.algorithm is.hash is.algorithm_is),
+      next_read_again (algorithm_identifier Layout) (members value) is.algorithm after_algorithm is.hash is.members_are (algorithm_is Layout is.algorithm is.hash is.algorithm_is),
       required_again 0x04 Layout (next after_algorithm) is.name_hash (is.key_hash ∷ is.serial ∷ []) refl is.name_hash_string,
       required_again 0x04 Layout (next (is.key_hash ∷ is.serial ∷ [])) is.key_hash (is.serial ∷ []) refl is.key_hash_string,
       component_again 0x02 serial_number (next (is.serial ∷ [])) is.serial [] fields.serial refl is.serial_is.integer (serial_again is.serial fields.serial is.serial_is),
@@ -154,11 +154,11 @@ fields_ok : (value : Place) (x : SingleResponse × Members) → single_fields va
 unfolding single_fields
 fields_ok value x e =
     let sequence = bind_ok {A = Unit {0}} (is_a 0x30 Layout value) _ x e in
-    let id = bind_ok {A = CertId × Members} (component 0x30 cert_id (members value)) _ x sequence.2 in
+    let id = bind_ok {A = CertId × Members} (next_read cert_id (members value)) _ x sequence.2 in
     let status = bind_ok {A = CertStatus × Members} (cert_status id.0.1) _ x id.2 in
     let this = bind_ok {A = ℤ × Members} (generalized_time status.0.1) _ x status.2 in
     let next = bind_ok {A = Option ℤ × Members} (next_update this.0.1) _ x this.2 in
-    let first = component_ok 0x30 cert_id (members value) id.0 id.1 in
+    let first = next_read_ok cert_id (members value) id.0 id.1 in
     let second = status_ok id.0.1 status.0 status.1 in
     let third = moment_ok status.0.1 this.0 this.1 in
     let fourth = next_ok this.0.1 next.0 next.1 in
@@ -186,7 +186,7 @@ fields_again value fields is =
       behind.0,
       rw (
         is_a_again 0x30 Layout value is.sequence,
-        component_again 0x30 cert_id (members value) is.id (is.status ∷ is.this_update ∷ after_this) fields.id is.members_are is.id_is.sequence (id_is is.id fields.id is.id_is),
+        next_read_again cert_id (members value) is.id (is.status ∷ is.this_update ∷ after_this) fields.id is.members_are (id_is is.id fields.id is.id_is),
         status_again (next (is.status ∷ is.this_update ∷ after_this)) is.status (is.this_update ∷ after_this) fields.status refl is.status_is,
         moment_again (next (is.this_update ∷ after_this)) is.this_update after_this fields.this_update refl is.this_update_is,
         behind.1,

@@ -5,7 +5,7 @@ use Rattle.asn.specs.Place.{Place, body}
 use Rattle.asn.specs.Members.{members}
 use Rattle.asn.specs.Walk.{◌>>=◌, is_a, required, ended}
 use Rattle.cert.specs.AlgorithmIdentifier.{algorithm_identifier}
-use Rattle.revocation.specs.Parts.{component, serial_number}
+use Rattle.revocation.specs.Parts.{component, next_read, serial_number}
 use Rattle.revocation.specs.declared.fault.StatementRule.{StatementRule}
 use Rattle.revocation.specs.declared.fault.StatementRule.TheVariants.{Layout}
 use Rattle.ocsp.specs.declared.cert_id.CertId as code
@@ -29,7 +29,7 @@ seen_id read = record {
 unfoldable pub cert_id : Place → Result CertId (StatementRule × ℕ)
 cert_id value = do
   sequence ← is_a 0x30 Layout value
-  algorithm ← component 0x30 (algorithm_identifier Layout) (members value)
+  algorithm ← next_read (algorithm_identifier Layout) (members value)
   name_hash ← required 0x04 Layout algorithm.1
   key_hash ← required 0x04 Layout name_hash.1
   serial ← component 0x02 serial_number key_hash.1

@@ -4,11 +4,11 @@ use Rattle.std.specs.Str.{bytes_eq}
 use Rattle.asn.specs.Place.{Place, body}
 use Rattle.asn.specs.Members.{Members, members, left}
 use Rattle.asn.specs.declared.tlv.Cursor.{Cursor}
-use Rattle.asn.specs.Walk.{◌>>=◌, is_a, required, optional, or_fault, ended, check_that}
+use Rattle.asn.specs.Walk.{◌>>=◌, is_a, required, optional, next_or, or_fault, ended, check_that}
 use Rattle.asn.specs.Judgement.{outermost, nested}
 use Rattle.cert.specs.AlgorithmIdentifier.{algorithm_identifier}
 use Rattle.revocation.specs.Fault.{as_der}
-use Rattle.revocation.specs.Parts.{component, signature_value}
+use Rattle.revocation.specs.Parts.{component, next_read, signature_value}
 use Rattle.revocation.specs.declared.fault.StatementRule.{StatementRule}
 use Rattle.revocation.specs.declared.fault.StatementRule.TheVariants.{Layout, NotSuccessful, ResponseType}
 use Rattle.ocsp.specs.declared.response.Response as code
@@ -38,6 +38,7 @@ all_singles list = singles 0 (members list).values
 -- The checks in their order.
 unfoldable pub response_data : Place → Result ResponseData (StatementRule × ℕ)
 response_data value = do
+  sequence ← is_a 0x30 Layout value
   responder ← responder (members value)
   produced_at ← generalized_time responder.1
   responses ← component 0x30 all_singles produced_at.1
@@ -101,7 +102,7 @@ seen_signed read = record { algorithm = read.algorithm.now; signature = read.sig
 
 unfoldable pub signature_part : Members → Result Signed (StatementRule × ℕ)
 signature_part left = do
-  algorithm ← component 0x30 (algorithm_identifier Layout) left
+  algorithm ← next_read (algorithm_identifier Layout) left
   signature ← component 0x03 signature_value algorithm.1
   certs ← certs signature.1
   done ← ended Layout certs.1
@@ -122,7 +123,7 @@ response_with signed tbs behind = record {
 unfoldable pub basic_response : Place → Result OcspResponse (StatementRule × ℕ)
 basic_response value = do
   sequence ← is_a 0x30 Layout value
-  signed ← required 0x30 Layout (members value)
+  signed ← next_or Layout (members value)
   tbs ← response_data signed.0
   behind ← signature_part signed.1
   Ok (response_with signed.0 tbs behind)
@@ -154,7 +155,7 @@ response_bytes value = do
 unfoldable pub explicit_bytes : Place → Result OcspResponse (StatementRule × ℕ)
 explicit_bytes value = do
   explicit ← is_a 0xA0 Layout value
-  response ← component 0x30 response_bytes (members value)
+  response ← next_read response_bytes (members value)
   one ← ended Layout response.1
   Ok response.0
 
@@ -174,7 +175,7 @@ unfoldable pub ocsp_response_at : Place → Result OcspResponse (StatementRule �
 ocsp_response_at value = do
   sequence ← is_a 0x30 Layout value
   status ← component 0x0A successful (members value)
-  response ← component 0xA0 explicit_bytes status.1
+  response ← next_read explicit_bytes status.1
   done ← ended Layout response.1
   Ok response.0
 

@@ -4,7 +4,7 @@ use Rattle.std.specs.Prelude.{ℕ, not, Option, Some, None, Result, Ok}
 use Rattle.std.specs.FinSet.{empty}
 use Rattle.asn.specs.Place.{Place}
 use Rattle.asn.specs.Members.{Members, members}
-use Rattle.asn.specs.Walk.{◌>>=◌, optional, required, some, each, ended, check_that}
+use Rattle.asn.specs.Walk.{◌>>=◌, is_a, optional, next_or, some, each, ended, check_that}
 use Rattle.cert.specs.OidSet.{Oids}
 use Rattle.revocation.specs.Parts.{new_extension}
 use Rattle.revocation.specs.declared.fault.StatementRule.{StatementRule}
@@ -20,6 +20,7 @@ one_extension earlier value = do
 -- Extensions ::= SEQUENCE SIZE (1..MAX) OF Extension
 unfoldable pub extensions : Place → Result (Unit {0}) (StatementRule × ℕ)
 extensions list = do
+  sequence ← is_a 0x30 Layout list
   one ← some Layout (members list)
   types ← each one_extension empty ((members list).values)
   Ok tt
@@ -27,7 +28,7 @@ extensions list = do
 abbrev pub extensions_of : Option Place → Members → Result Members (StatementRule × ℕ)
 extensions_of None left = Ok left
 extensions_of (Some explicit) left = do
-  list ← required 0x30 Layout (members explicit)
+  list ← next_or Layout (members explicit)
   read ← extensions list.0
   one ← ended Layout list.1
   Ok left

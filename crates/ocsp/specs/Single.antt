@@ -4,7 +4,7 @@ use Rattle.std.specs.Prelude.{ℕ, ◌+◌, ℤ, nat_lt, List, [], ◌∷◌, Op
 use Rattle.asn.specs.Place.{Place}
 use Rattle.asn.specs.Members.{Members, members, left}
 use Rattle.asn.specs.Walk.{◌>>=◌, is_a, optional, ended, check_that}
-use Rattle.revocation.specs.Parts.{component}
+use Rattle.revocation.specs.Parts.{next_read}
 use Rattle.revocation.specs.declared.fault.StatementRule.{StatementRule}
 use Rattle.revocation.specs.declared.fault.StatementRule.TheVariants.{Layout, TooManySingles}
 use Rattle.ocsp.specs.declared.cert_status.CertStatus.{CertStatus}
@@ -40,7 +40,7 @@ next_update left = next_update_of (optional 0xA0 left).0 (optional 0xA0 left).1
 unfoldable pub single_fields : Place → Result (SingleResponse × Members) (StatementRule × ℕ)
 single_fields value = do
   sequence ← is_a 0x30 Layout value
-  id ← component 0x30 cert_id (members value)
+  id ← next_read cert_id (members value)
   status ← cert_status id.1
   this_update ← generalized_time status.1
   next_update ← next_update this_update.1

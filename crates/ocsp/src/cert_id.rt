@@ -1,10 +1,9 @@
 //! Which certificate a single response is about (RFC 6960, 4.1.1).
 
-ghost use Rattle.asn.specs.Place.{seen_tlv};
-ghost use Rattle.asn.specs.Walk.{Gives};
+ghost use Rattle.asn.specs.Reading.{seen_tlv, Gives};
 ghost use Rattle.ocsp.specs.CertificateId.{cert_id, seen_id};
 
-use asn::Tlv;
+use asn::{OCTET_STRING, SEQUENCE, Tlv};
 use revocation::{Refusal, StatementRule, take_algorithm, take_serial};
 
 /// CertID ::= SEQUENCE { hashAlgorithm AlgorithmIdentifier, issuerNameHash OCTET STRING, issuerKeyHash OCTET STRING, serialNumber
@@ -27,11 +26,11 @@ impl<'a> CertId<'a> {
     pub(crate) fn read(value: Tlv<'a>) -> Result<CertId<'a>, Refusal>
         ensures { Gives seen_id result (cert_id (seen_tlv value.entry)) }
     {
-        value.is_a(0x30, StatementRule::Layout)?;
+        value.is_a(SEQUENCE, StatementRule::Layout)?;
         let mut members = value.members();
         let algorithm = take_algorithm(&mut members)?;
-        let name_hash = members.required(0x04, StatementRule::Layout)?;
-        let key_hash = members.required(0x04, StatementRule::Layout)?;
+        let name_hash = members.required(OCTET_STRING, StatementRule::Layout)?;
+        let key_hash = members.required(OCTET_STRING, StatementRule::Layout)?;
         let serial = take_serial(&mut members)?;
         members.ended(StatementRule::Layout)?;
         Ok(CertId {

@@ -1,14 +1,12 @@
 //! What a single response says of its certificate (RFC 6960, 4.2.1).
 
 ghost use Rattle.std.specs.Prelude.{◌≡◌};
-ghost use Rattle.asn.specs.Place.{seen_tlv};
-ghost use Rattle.asn.specs.Members.{left};
-ghost use Rattle.asn.specs.Walk.{Gives};
+ghost use Rattle.asn.specs.Reading.{seen_tlv, left, Gives};
 ghost use Rattle.revocation.specs.Parts.{component};
 ghost use Rattle.ocsp.specs.CertificateStatus.{cert_status, null, reason, reason_in, revocation_reason, revoked_info, status_at};
 
 use crate::generalized_time::take_time;
-use asn::{Cursor, Tlv};
+use asn::{Cursor, ENUMERATED, Tlv};
 use revocation::{Refusal, StatementRule, is_reason};
 
 /// CertStatus ::= CHOICE { good [0] IMPLICIT NULL, revoked [1] IMPLICIT RevokedInfo, unknown [2] IMPLICIT UnknownInfo }
@@ -19,6 +17,15 @@ pub enum CertStatus {
     Revoked(u8),
     Unknown,
 }
+
+/// The identifier octet of good [0].
+const GOOD: u8 = 0x80;
+
+/// That of revoked [1].
+const REVOKED: u8 = 0xA1;
+
+/// That of unknown [2].
+const UNKNOWN: u8 = 0x82;
 
 /// removeFromCRL, which takes a certificate off a delta list, and is no reason of a response.
 const REMOVE_FROM_CRL: u8 = 8;
@@ -48,7 +55,7 @@ fn reason_at(value: Tlv<'_>) -> Result<u8, Refusal>
 fn take_code(members: &mut Cursor<'_>) -> Result<u8, Refusal>
     ensures { Gives (λ code. (code, left members.new)) result (component 0x0A reason (left members.old)) }
 {
-    reason_at(members.required(0x0A, StatementRule::Layout)?)
+    reason_at(members.required(ENUMERATED, StatementRule::Layout)?)
 }
 
 /// Takes revocationReason [0] EXPLICIT CRLReason OPTIONAL.
@@ -70,7 +77,7 @@ fn take_reason(members: &mut Cursor<'_>) -> Result<u8, Refusal>
 fn revoked_at(value: Tlv<'_>) -> Result<CertStatus, Refusal>
     ensures { Gives (λ status. status) result (revoked_info (seen_tlv value.entry)) }
 {
-    value.is_a(0xA1, StatementRule::Layout)?;
+    value.is_a(REVOKED, StatementRule::Layout)?;
     let mut members = value.members();
     take_time(&mut members)?;
     let reason = take_reason(&mut members)?;
@@ -94,9 +101,9 @@ fn status_at(value: Tlv<'_>) -> Result<CertStatus, Refusal>
     ensures { Gives (λ status. status) result (status_at (seen_tlv value.entry)) }
 {
     match value.tag {
-        0x80 => null_at(CertStatus::Good, value),
-        0xA1 => revoked_at(value),
-        0x82 => null_at(CertStatus::Unknown, value),
+        GOOD => null_at(CertStatus::Good, value),
+        REVOKED => revoked_at(value),
+        UNKNOWN => null_at(CertStatus::Unknown, value),
         _ => Err((StatementRule::Layout, value.at)),
     }
 }

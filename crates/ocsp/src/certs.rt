@@ -1,12 +1,11 @@
 //! The certificates that a response brings with it (RFC 6960, 4.2.1).
 
 ghost use Rattle.std.specs.Prelude.{◌≡◌, ◌∷◌, [], IfOk, MatchOption};
-ghost use Rattle.asn.specs.Members.{left};
-ghost use Rattle.asn.specs.Walk.{Gives};
+ghost use Rattle.asn.specs.Reading.{left, Gives};
 ghost use Rattle.ocsp.specs.Certificates.{HandsOut};
 ghost use Rattle.ocsp.specs.OcspResponse.{certs, certs_left};
 
-use asn::Cursor;
+use asn::{Cursor, SEQUENCE};
 use cert::{CertFault, Certificate};
 use revocation::{Refusal, StatementRule};
 use std::alloc::{AllocError, Global};
@@ -51,7 +50,7 @@ impl<'a> Certs<'a> {
             return Ok(Certs { members: None });
         };
         let mut inside = explicit.members();
-        let list = inside.required(0x30, StatementRule::Layout)?;
+        let list = inside.required(SEQUENCE, StatementRule::Layout)?;
         inside.ended(StatementRule::Layout)?;
         Ok(Certs {
             members: Some(list.members()),

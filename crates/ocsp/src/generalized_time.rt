@@ -1,7 +1,6 @@
 //! Times of responses (RFC 6960, 4.2.2.1).
 
-ghost use Rattle.asn.specs.Members.{left};
-ghost use Rattle.asn.specs.Walk.{Gives};
+ghost use Rattle.asn.specs.Reading.{left, Gives};
 ghost use Rattle.ocsp.specs.GeneralizedTime.{generalized_time};
 
 use asn::{Cursor, GENERALIZED_TIME};

@@ -3,7 +3,7 @@
 ghost use Rattle.std.specs.Prelude.{◌≡◌, ◌↔◌, IsTrue};
 ghost use Rattle.ocsp.specs.Kind.{BeginsWithStatus, is_response};
 
-use asn::Tlv;
+use asn::{ENUMERATED, Tlv};
 
 /// Whether the octets are DER, and the first value inside the outermost is an ENUMERATED, as the status of a response is; a
 /// revocation list begins with its signed part. Time is linear in the octets; no memory is taken.
@@ -12,7 +12,9 @@ pub fn is_response(octets: &[u8]) -> bool
     ensures kind { result ≡ is_response octets.now }
 {
     match Tlv::outermost(octets) {
-        Ok(value) => value.inside().is_some_and(|members| members.begins(0x0A)),
+        Ok(value) => value
+            .inside()
+            .is_some_and(|members| members.begins(ENUMERATED)),
         Err(_) => false,
     }
 }

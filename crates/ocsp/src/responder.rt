@@ -1,13 +1,11 @@
 //! Who answers (RFC 6960, 4.2.1).
 
-ghost use Rattle.asn.specs.Place.{seen_tlv};
-ghost use Rattle.asn.specs.Members.{left};
-ghost use Rattle.asn.specs.Walk.{Gives};
+ghost use Rattle.asn.specs.Reading.{seen_tlv, left, Gives};
 ghost use Rattle.names.specs.GeneralView.{name_contents};
 ghost use Rattle.revocation.specs.Parts.{component, distinguished_name};
 ghost use Rattle.ocsp.specs.Responder.{keyed_responder, named_responder, responder, responder_at, seen_responder};
 
-use asn::{Cursor, Tlv};
+use asn::{Cursor, OCTET_STRING, SEQUENCE, Tlv};
 use names::Name;
 use revocation::{Refusal, StatementRule, name_at};
 
@@ -19,11 +17,17 @@ pub enum ResponderId<'a> {
     ByKey(&'a [u8]),
 }
 
+/// The identifier octet of byName [1].
+const BY_NAME: u8 = 0xA1;
+
+/// That of byKey [2].
+const BY_KEY: u8 = 0xA2;
+
 #[tactic(auto, unfolding(revocation::specs::Parts::component))]
 fn take_name<'a>(members: &mut Cursor<'a>) -> Result<Name<'a>, Refusal>
     ensures { Gives (λ read. (name_contents read, left members.new)) result (component 0x30 distinguished_name (left members.old)) }
 {
-    name_at(members.required(0x30, StatementRule::Layout)?)
+    name_at(members.required(SEQUENCE, StatementRule::Layout)?)
 }
 
 impl<'a> ResponderId<'a> {
@@ -32,7 +36,7 @@ impl<'a> ResponderId<'a> {
     fn named(value: Tlv<'a>) -> Result<ResponderId<'a>, Refusal>
         ensures { Gives seen_responder result (named_responder (seen_tlv value.entry)) }
     {
-        value.is_a(0xA1, StatementRule::Layout)?;
+        value.is_a(BY_NAME, StatementRule::Layout)?;
         let mut members = value.members();
         let name = take_name(&mut members)?;
         members.ended(StatementRule::Layout)?;
@@ -44,9 +48,9 @@ impl<'a> ResponderId<'a> {
     fn keyed(value: Tlv<'a>) -> Result<ResponderId<'a>, Refusal>
         ensures { Gives seen_responder result (keyed_responder (seen_tlv value.entry)) }
     {
-        value.is_a(0xA2, StatementRule::Layout)?;
+        value.is_a(BY_KEY, StatementRule::Layout)?;
         let mut members = value.members();
-        let hash = members.required(0x04, StatementRule::Layout)?;
+        let hash = members.required(OCTET_STRING, StatementRule::Layout)?;
         members.ended(StatementRule::Layout)?;
         Ok(ResponderId::ByKey(hash.body))
     }
@@ -56,7 +60,7 @@ impl<'a> ResponderId<'a> {
         ensures { Gives seen_responder result (responder_at (seen_tlv value.entry)) }
     {
         match value.tag {
-            0xA1 => ResponderId::named(value),
+            BY_NAME => ResponderId::named(value),
             _ => ResponderId::keyed(value),
         }
     }

@@ -1,9 +1,7 @@
 //! Responses (RFC 6960, 4.2.1).
 
 ghost use Rattle.std.specs.Prelude.{◌≡◌};
-ghost use Rattle.asn.specs.Place.{seen_tlv};
-ghost use Rattle.asn.specs.Members.{left};
-ghost use Rattle.asn.specs.Walk.{Gives};
+ghost use Rattle.asn.specs.Reading.{seen_tlv, left, Gives};
 ghost use Rattle.asn.specs.Judgement.{nested};
 ghost use Rattle.revocation.specs.Fault.{GivesUnlessFull, as_der};
 ghost use Rattle.revocation.specs.Parts.{component};
@@ -14,7 +12,7 @@ use crate::generalized_time::take_time;
 use crate::responder::ResponderId;
 use crate::response_extensions::skip_extensions;
 use crate::single_list::{Singles, take_singles};
-use asn::{Cursor, Tlv};
+use asn::{Cursor, ENUMERATED, OBJECT_IDENTIFIER, OCTET_STRING, SEQUENCE, Tlv};
 use revocation::{
     Refusal, StatementFault, StatementRule, outermost, take_algorithm, take_signature,
 };
@@ -51,9 +49,9 @@ impl<'a> ResponseData<'a> {
     /// responses SEQUENCE OF SingleResponse, responseExtensions [1] EXPLICIT Extensions OPTIONAL }, where DER leaves v1 out
     #[tactic(auto, unfolding(crate::specs::OcspResponse::response_data))]
     fn read(alloc: Global, value: Tlv<'a>) -> Result<ResponseData<'a>, StatementFault>
-        requires { value.tag ≡ 48 }
         ensures { GivesUnlessFull seen_data result (response_data (seen_tlv value.entry)) }
     {
+        value.is_a(SEQUENCE, StatementRule::Layout)?;
         let mut members = value.members();
         let responder = ResponderId::take(&mut members)?;
         let produced_at = take_time(&mut members)?;
@@ -101,9 +99,9 @@ impl<'a> Signed<'a> {
 fn read_basic<'a>(alloc: Global, value: Tlv<'a>) -> Result<Response<'a>, StatementFault>
     ensures { GivesUnlessFull seen_response result (basic_response (seen_tlv value.entry)) }
 {
-    value.is_a(0x30, StatementRule::Layout)?;
+    value.is_a(SEQUENCE, StatementRule::Layout)?;
     let mut members = value.members();
-    let tbs = members.required(0x30, StatementRule::Layout)?;
+    let tbs = members.next_or(StatementRule::Layout)?;
     let data = ResponseData::read(alloc, tbs)?;
     let signed = Signed::read(members)?;
     Ok(Response {
@@ -135,7 +133,7 @@ fn take_contained<'a>(
 ) -> Result<Response<'a>, StatementFault>
     ensures { GivesUnlessFull (λ read. (seen_response read, left members.new)) result (component 0x04 contained_response (left members.old)) }
 {
-    let octet_string = members.required(0x04, StatementRule::Layout)?;
+    let octet_string = members.required(OCTET_STRING, StatementRule::Layout)?;
     read_basic(alloc, contained_value(octet_string)?)
 }
 
@@ -147,7 +145,7 @@ const ID_BASIC: &[u8] = &[0x2B, 0x06, 0x01, 0x05, 0x05, 0x07, 0x30, 0x01, 0x01];
 fn take_type(members: &mut Cursor<'_>) -> Result<(), Refusal>
     ensures { Gives (λ _. left members.new) result (basic_type (left members.old)) }
 {
-    let kind = members.required(0x06, StatementRule::Layout)?;
+    let kind = members.required(OBJECT_IDENTIFIER, StatementRule::Layout)?;
     if kind.body == ID_BASIC {
         Ok(())
     } else {
@@ -160,7 +158,7 @@ fn take_type(members: &mut Cursor<'_>) -> Result<(), Refusal>
 fn read_bytes<'a>(alloc: Global, value: Tlv<'a>) -> Result<Response<'a>, StatementFault>
     ensures { GivesUnlessFull seen_response result (response_bytes (seen_tlv value.entry)) }
 {
-    value.is_a(0x30, StatementRule::Layout)?;
+    value.is_a(SEQUENCE, StatementRule::Layout)?;
     let mut members = value.members();
     take_type(&mut members)?;
     let response = take_contained(alloc, &mut members)?;
@@ -169,13 +167,13 @@ fn read_bytes<'a>(alloc: Global, value: Tlv<'a>) -> Result<Response<'a>, Stateme
 }
 
 /// [0] EXPLICIT ResponseBytes
-#[tactic(auto, unfolding(crate::specs::OcspResponse::explicit_bytes, revocation::specs::Parts::component))]
+#[tactic(auto, unfolding(crate::specs::OcspResponse::explicit_bytes, revocation::specs::Parts::next_read))]
 fn read_explicit<'a>(alloc: Global, value: Tlv<'a>) -> Result<Response<'a>, StatementFault>
     ensures { GivesUnlessFull seen_response result (explicit_bytes (seen_tlv value.entry)) }
 {
     value.is_a(0xA0, StatementRule::Layout)?;
     let mut members = value.members();
-    let bytes = members.required(0x30, StatementRule::Layout)?;
+    let bytes = members.next_or(StatementRule::Layout)?;
     let response = read_bytes(alloc, bytes)?;
     members.ended(StatementRule::Layout)?;
     Ok(response)
@@ -195,15 +193,15 @@ fn check_status(value: Tlv<'_>) -> Result<(), Refusal>
 
 /// OCSPResponse ::= SEQUENCE { responseStatus OCSPResponseStatus, responseBytes [0] EXPLICIT ResponseBytes OPTIONAL }, where a
 /// successful response has responseBytes
-#[tactic(auto, unfolding(crate::specs::OcspResponse::ocsp_response_at, revocation::specs::Parts::component))]
+#[tactic(auto, unfolding(crate::specs::OcspResponse::ocsp_response_at, revocation::specs::Parts::component, revocation::specs::Parts::next_read))]
 fn read_response<'a>(alloc: Global, value: Tlv<'a>) -> Result<Response<'a>, StatementFault>
     ensures { GivesUnlessFull seen_response result (ocsp_response_at (seen_tlv value.entry)) }
 {
-    value.is_a(0x30, StatementRule::Layout)?;
+    value.is_a(SEQUENCE, StatementRule::Layout)?;
     let mut members = value.members();
-    let status = members.required(0x0A, StatementRule::Layout)?;
+    let status = members.required(ENUMERATED, StatementRule::Layout)?;
     check_status(status)?;
-    let explicit = members.required(0xA0, StatementRule::Layout)?;
+    let explicit = members.next_or(StatementRule::Layout)?;
     let response = read_explicit(alloc, explicit)?;
     members.ended(StatementRule::Layout)?;
     Ok(response)

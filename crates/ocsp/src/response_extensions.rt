@@ -2,14 +2,12 @@
 
 ghost use Rattle.std.specs.Prelude.{◌≡◌};
 ghost use Rattle.std.specs.FinSet.{empty};
-ghost use Rattle.asn.specs.Place.{seen_tlv};
-ghost use Rattle.asn.specs.Members.{left};
-ghost use Rattle.asn.specs.Walk.{each};
+ghost use Rattle.asn.specs.Reading.{seen_tlv, left, each};
 ghost use Rattle.cert.specs.OidSet.{oids_in};
 ghost use Rattle.revocation.specs.Fault.{GivesUnlessFull};
 ghost use Rattle.ocsp.specs.ResponseExtensions.{extensions, one_extension, optional_extensions};
 
-use asn::{Cursor, Tlv};
+use asn::{Cursor, SEQUENCE, Tlv};
 use cert::OidSet;
 use revocation::{StatementFault, StatementRule, new_extension};
 use std::alloc::Global;
@@ -44,9 +42,9 @@ fn check_all<'a>(alloc: Global, members: Cursor<'a>) -> Result<OidSet<'a>, State
 /// Extensions ::= SEQUENCE SIZE (1..MAX) OF Extension
 #[tactic(auto, unfolding(crate::specs::ResponseExtensions::extensions))]
 fn check_list(alloc: Global, list: Tlv<'_>) -> Result<(), StatementFault>
-    requires { list.tag ≡ 48 }
     ensures { GivesUnlessFull (λ _. tt) result (extensions (seen_tlv list.entry)) }
 {
+    list.is_a(SEQUENCE, StatementRule::Layout)?;
     let members = list.members();
     members.some(StatementRule::Layout)?;
     check_all(alloc, members)?;
@@ -63,7 +61,7 @@ pub(crate) fn skip_extensions(alloc: Global, members: &mut Cursor<'_>) -> Result
         return Ok(());
     };
     let mut inside = explicit.members();
-    let list = inside.required(0x30, StatementRule::Layout)?;
+    let list = inside.next_or(StatementRule::Layout)?;
     check_list(alloc, list)?;
     inside.ended(StatementRule::Layout)?;
     Ok(())

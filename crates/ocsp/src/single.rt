@@ -1,10 +1,8 @@
 //! Single responses (RFC 6960, 4.2.1).
 
-ghost use Rattle.asn.specs.Place.{seen_tlv};
-ghost use Rattle.asn.specs.Members.{left};
-ghost use Rattle.asn.specs.Walk.{Gives};
+ghost use Rattle.asn.specs.Reading.{seen_tlv, left, Gives};
 ghost use Rattle.revocation.specs.Fault.{GivesUnlessFull};
-ghost use Rattle.revocation.specs.Parts.{component};
+ghost use Rattle.revocation.specs.Parts.{next_read};
 ghost use Rattle.ocsp.specs.CertificateId.{cert_id, seen_id};
 ghost use Rattle.ocsp.specs.Single.{next_update, seen_single, single, single_again, single_fields};
 
@@ -12,7 +10,7 @@ use crate::cert_id::CertId;
 use crate::cert_status::CertStatus;
 use crate::generalized_time::take_time;
 use crate::response_extensions::skip_extensions;
-use asn::{Cursor, Tlv};
+use asn::{Cursor, SEQUENCE, Tlv};
 use revocation::{Refusal, StatementFault, StatementRule};
 use std::alloc::Global;
 
@@ -29,11 +27,11 @@ pub struct SingleResponse<'a> {
     pub next_update: Option<i64>,
 }
 
-#[tactic(auto, unfolding(revocation::specs::Parts::component))]
+#[tactic(auto, unfolding(revocation::specs::Parts::next_read))]
 fn take_id<'a>(members: &mut Cursor<'a>) -> Result<CertId<'a>, Refusal>
-    ensures { Gives (λ id. (seen_id id, left members.new)) result (component 0x30 cert_id (left members.old)) }
+    ensures { Gives (λ id. (seen_id id, left members.new)) result (next_read cert_id (left members.old)) }
 {
-    CertId::read(members.required(0x30, StatementRule::Layout)?)
+    CertId::read(members.next_or(StatementRule::Layout)?)
 }
 
 /// Takes nextUpdate [0] EXPLICIT GeneralizedTime OPTIONAL.
@@ -56,7 +54,7 @@ impl<'a> SingleResponse<'a> {
     fn fields(value: Tlv<'a>) -> Result<(SingleResponse<'a>, Cursor<'a>), Refusal>
         ensures { Gives (λ read. (seen_single read.0, left read.1)) result (single_fields (seen_tlv value.entry)) }
     {
-        value.is_a(0x30, StatementRule::Layout)?;
+        value.is_a(SEQUENCE, StatementRule::Layout)?;
         let mut members = value.members();
         let id = take_id(&mut members)?;
         let status = CertStatus::take(&mut members)?;

@@ -1,9 +1,8 @@
 //! The single responses of a response, one after the other (RFC 6960, 4.2.1).
 
 ghost use Rattle.std.specs.Prelude.{◌≡◌, ◌<◌, ◌∷◌, [], MatchOption, OnOk, nat_lt};
-ghost use Rattle.asn.specs.Place.{seen_tlv};
-ghost use Rattle.asn.specs.Members.{left};
-ghost use Rattle.asn.specs.Walk.{Gives, check_that};
+ghost use Rattle.asn.specs.Reading.{seen_tlv, left, Gives};
+ghost use Rattle.asn.specs.Walk.{check_that};
 ghost use Rattle.revocation.specs.Fault.{GivesUnlessFull};
 ghost use Rattle.revocation.specs.Parts.{component};
 ghost use Rattle.revocation.specs.declared.fault.StatementRule.TheVariants.{TooManySingles};
@@ -11,7 +10,7 @@ ghost use Rattle.ocsp.specs.OcspResponse.{all_singles};
 ghost use Rattle.ocsp.specs.Single.{checked, seen_single, single_behind, singles, singles_left};
 
 use crate::single::SingleResponse;
-use asn::{Cursor, Tlv};
+use asn::{Cursor, SEQUENCE, Tlv};
 use revocation::{Refusal, StatementFault, StatementRule};
 use std::alloc::Global;
 
@@ -58,7 +57,7 @@ fn read_behind<'a>(
     ensures walk { GivesUnlessFull seen_single result (single_behind before (seen_tlv value.entry)) }
     ensures room { OnOk result (before < 256) }
 {
-    value.is_a(0x30, StatementRule::Layout)?;
+    value.is_a(SEQUENCE, StatementRule::Layout)?;
     check_room(before, value.at)?;
     SingleResponse::read(alloc, value)
 }
@@ -86,7 +85,7 @@ pub(crate) fn take_singles<'a>(
 ) -> Result<Singles<'a>, StatementFault>
     ensures { GivesUnlessFull (λ read. (singles_left read, left members.new)) result (component 0x30 all_singles (left members.old)) }
 {
-    let list = members.required(0x30, StatementRule::Layout)?;
+    let list = members.required(SEQUENCE, StatementRule::Layout)?;
     let singles = list.members();
     check_singles(alloc, singles)?;
     Ok(Singles { members: singles })

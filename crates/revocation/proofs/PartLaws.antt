@@ -8,7 +8,7 @@ use Rattle.asn.specs.Part.{IsWhole}
 use Rattle.asn.specs.Place.{Place, tag, body, body_place}
 use Rattle.asn.specs.Members.{Members}
 use Rattle.asn.specs.Judgement.{nested}
-use Rattle.asn.proofs.Laws.{bind_ok, ok_is, check_ok, check_again, Takes, required_ok, required_again, nested_ok, nested_again}
+use Rattle.asn.proofs.Laws.{bind_ok, ok_is, check_ok, check_again, Takes, required_ok, required_again, TakesNext, next_or_ok, next_or_again, nested_ok, nested_again}
 use Rattle.names.specs.NameRule.{NameRule}
 use Rattle.names.specs.NameLayout.{name}
 use Rattle.names.specs.GeneralLayout.{NameContents, contents_at}
@@ -22,7 +22,7 @@ use Rattle.cert.proofs.Laws.{is_extension, extension_is}
 use Rattle.revocation.specs.declared.fault.StatementRule.{StatementRule}
 use Rattle.revocation.specs.declared.fault.StatementRule.TheVariants.{Layout}
 use Rattle.revocation.specs.Fault.{as_der, as_name}
-use Rattle.revocation.specs.Parts.{component, serial_number, distinguished_name, signature_value, new_extension}
+use Rattle.revocation.specs.Parts.{next_read, component, serial_number, distinguished_name, signature_value, new_extension}
 
 -- faults of the layers below
 pub as_der_ok : {A : Type 0} (r : Result A (Rule × ℕ)) (x : A) → as_der r ≡ Ok x → r ≡ Ok x
@@ -39,6 +39,25 @@ contained_ok octet_string value fits e = nested_ok octet_string value fits (as_d
 
 pub contained_again : (octet_string : Place) → IsWhole (body octet_string) → as_der (nested octet_string) ≡ Ok (body_place octet_string)
 contained_again octet_string whole = ap as_der (nested_again octet_string whole)
+
+-- a value that is there, whatever it is
+pub record TakesRead {A : Type 0} (read : Place → Result A (StatementRule × ℕ)) (left : Members) (found : A) (others : Members) : Type 0 where
+  pub value : Place
+  pub took : TakesNext left value others
+  pub read_is : read value ≡ Ok found
+
+pub next_read_ok : {A : Type 0} (read : Place → Result A (StatementRule × ℕ)) (left : Members) (x : A × Members) → next_read read left ≡ Ok x → TakesRead read left x.0 x.1
+unfolding next_read
+next_read_ok {A = A} read left x e =
+    let value = bind_ok _ _ x e in
+    let found = bind_ok (read value.0.0) _ x value.2 in
+    let P : A × Members → Type 0 = λ y. TakesRead read left y.0 y.1 in
+    subst P (ok_is {E = StatementRule × ℕ} (found.0, value.0.1) x found.2)
+    record { value = value.0.0; took = next_or_ok Layout left value.0 value.1; read_is = found.1 }
+
+pub next_read_again : {A : Type 0} (read : Place → Result A (StatementRule × ℕ)) (left : Members) (value : Place) (others : List Place) (found : A) → left.values ≡ value ∷ others → read value ≡ Ok found → next_read read left ≡ Ok (found, record { values = others; end = left.end })
+unfolding next_read
+next_read_again read left value others found e r = rw (next_or_again Layout left value others e, r) refl
 
 -- a component that is there
 pub record TakesComponent {A : Type 0} (identifier : ℕ) (read : Place → Result A (StatementRule × ℕ)) (left : Members) (found : A) (others : Members) : Type 0 where

@@ -3,7 +3,7 @@ use Rattle.std.specs.Prelude.{ℕ, ◌==◌, ◌&&◌, nat_lt, not, Bool, List, 
 use Rattle.std.specs.FinSet.{contains, insert}
 use Rattle.asn.specs.Place.{Place, body}
 use Rattle.asn.specs.Members.{Members}
-use Rattle.asn.specs.Walk.{◌>>=◌, required, check_that}
+use Rattle.asn.specs.Walk.{◌>>=◌, required, next_or, check_that}
 use Rattle.names.specs.NameLayout.{name}
 use Rattle.names.specs.GeneralLayout.{NameContents, contents_at}
 use Rattle.cert.specs.BitString.{bits_in, has_no_unused_bits}
@@ -14,7 +14,14 @@ use Rattle.revocation.specs.Fault.{as_name}
 use Rattle.revocation.specs.declared.fault.StatementRule.{StatementRule}
 use Rattle.revocation.specs.declared.fault.StatementRule.TheVariants.{Layout}
 
--- the next value, which has this identifier and is read so
+-- the next value, by a reader that looks at its identifier
+unfoldable pub next_read : {A : Type 0} → (Place → Result A (StatementRule × ℕ)) → Members → Result (A × Members) (StatementRule × ℕ)
+next_read read left = do
+  value ← next_or Layout left
+  found ← read value.0
+  Ok (found, value.1)
+
+-- the next value, which has this identifier, by a reader that looks at what is inside alone, or that names another fault
 unfoldable pub component : {A : Type 0} → ℕ → (Place → Result A (StatementRule × ℕ)) → Members → Result (A × Members) (StatementRule × ℕ)
 component identifier read left = do
   value ← required identifier Layout left

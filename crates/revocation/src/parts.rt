@@ -1,9 +1,7 @@
 //! The parts that statements of both kinds are made of.
 
 ghost use Rattle.std.specs.Prelude.{◌≡◌};
-ghost use Rattle.asn.specs.Place.{seen_tlv};
-ghost use Rattle.asn.specs.Members.{left};
-ghost use Rattle.asn.specs.Walk.{Gives};
+ghost use Rattle.asn.specs.Reading.{seen_tlv, left, Gives};
 ghost use Rattle.asn.specs.Judgement.{outermost as asn_outermost};
 ghost use Rattle.names.specs.GeneralView.{name_contents};
 ghost use Rattle.cert.specs.AlgorithmIdentifier.{algorithm_identifier, seen_algorithm};
@@ -11,10 +9,10 @@ ghost use Rattle.cert.specs.Extension.{seen_extension};
 ghost use Rattle.cert.specs.OidSet.{oids_in};
 ghost use Rattle.revocation.specs.declared.fault.StatementRule.TheVariants.{Layout};
 ghost use Rattle.revocation.specs.Fault.{GivesUnlessFull, as_der};
-ghost use Rattle.revocation.specs.Parts.{component, distinguished_name, is_reason, new_extension, serial_number, signature_value};
+ghost use Rattle.revocation.specs.Parts.{component, distinguished_name, is_reason, new_extension, next_read, serial_number, signature_value};
 
 use crate::fault::{Refusal, StatementFault, StatementRule, name_refusal};
-use asn::{Cursor, Tlv};
+use asn::{BIT_STRING, Cursor, INTEGER, Tlv};
 use cert::{AlgorithmIdentifier, Extension, OidSet, bits_of, is_of_whole_octets, is_serial_number};
 use names::Name;
 
@@ -45,7 +43,7 @@ fn serial_at(value: Tlv<'_>) -> Result<&[u8], Refusal>
 pub fn take_serial<'a>(members: &mut Cursor<'a>) -> Result<&'a [u8], Refusal>
     ensures { Gives (λ contents. (contents.now, left members.new)) result (component 0x02 serial_number (left members.old)) }
 {
-    serial_at(members.required(0x02, StatementRule::Layout)?)
+    serial_at(members.required(INTEGER, StatementRule::Layout)?)
 }
 
 /// The name that stands there, with its fault as one of a statement.
@@ -57,12 +55,12 @@ pub fn name_at(value: Tlv<'_>) -> Result<Name<'_>, Refusal>
 }
 
 /// Takes an algorithm identifier, whose parameters are not looked at.
-#[tactic(auto, unfolding(crate::specs::Parts::component))]
+#[tactic(auto, unfolding(crate::specs::Parts::next_read))]
 pub fn take_algorithm<'a>(members: &mut Cursor<'a>) -> Result<AlgorithmIdentifier<'a>, Refusal>
-    ensures { Gives (λ read. (seen_algorithm read, left members.new)) result (component 0x30 (algorithm_identifier Layout) (left members.old)) }
+    ensures { Gives (λ read. (seen_algorithm read, left members.new)) result (next_read (algorithm_identifier Layout) (left members.old)) }
 {
     AlgorithmIdentifier::read(
-        members.required(0x30, StatementRule::Layout)?,
+        members.next_or(StatementRule::Layout)?,
         StatementRule::Layout,
     )
 }
@@ -84,7 +82,7 @@ fn signature_at(value: Tlv<'_>) -> Result<&[u8], Refusal>
 pub fn take_signature<'a>(members: &mut Cursor<'a>) -> Result<&'a [u8], Refusal>
     ensures { Gives (λ octets. (octets.now, left members.new)) result (component 0x03 signature_value (left members.old)) }
 {
-    signature_at(members.required(0x03, StatementRule::Layout)?)
+    signature_at(members.required(BIT_STRING, StatementRule::Layout)?)
 }
 
 /// The extension that the value is, of a type that is not among these, and which is put to them; else the fault `Layout`, as of
