@@ -11,6 +11,8 @@ mod name_values;
 #[cfg(test)]
 mod parts;
 #[cfg(test)]
+mod refused;
+#[cfg(test)]
 mod values;
 
 #[cfg(test)]

@@ -4,7 +4,7 @@ use super::shown::{
     ALGORITHM, ISSUER, KEY, OUTER, REST, SERIAL, SIGNATURE, SUBJECT, VALIDITY, VERSION,
 };
 
-/// What is another, its octets, and what is said behind the file's name.
+/// A component that the plain certificate has another of: in words, which one it is, its octets, and what is said behind the file's name.
 pub const REFUSED: &[(&str, usize, &str, &str)] = &[
     (
         "a version that is v1",

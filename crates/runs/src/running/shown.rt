@@ -59,7 +59,7 @@ pub const LINES: [&str; 11] = [
 /// The components of which lines are printed, in the order of the lines.
 pub const PRINTED: [usize; 7] = [VERSION, SERIAL, ISSUER, SUBJECT, VALIDITY, KEY, TAIL];
 
-/// What is another, its octets, and its lines.
+/// A component that the plain certificate has another of: in words, which one it is, its octets, and its lines.
 pub const SHOWN: &[(&str, usize, &str, &str)] = &[
     ("the plain certificate", REST, "", ""),
     ("version 1", VERSION, "", "version 1\n"),
