@@ -1,4 +1,4 @@
-//! Tests of stores over disks in memory: their tables, rows and look-ups, work that stops, and relying parties.
+//! Tests of a store's tables, rows and look-ups, over disks in memory.
 #![tactic(auto)]
 
 #[cfg(test)]
@@ -6,8 +6,4 @@ mod help;
 #[cfg(test)]
 mod looked_up;
 #[cfg(test)]
-mod parties;
-#[cfg(test)]
 mod recognized;
-#[cfg(test)]
-mod stops;

@@ -1,7 +1,7 @@
 //! What parties take, and what they say then.
 
-use super::asking::{MIDDLE, verdict_on};
-use super::telling::{Question, Told, asked};
+use crate::asking::{MIDDLE, verdict_on};
+use crate::telling::{Question, Told, asked};
 use newest::Counts;
 use relying::DeliverFault::Statement;
 use relying::Verdict::{Revoked, Unknown, Valid};

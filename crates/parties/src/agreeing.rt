@@ -1,8 +1,8 @@
 //! Where parties agree.
 
-use super::answering::LEAF;
-use super::asking::compared;
-use super::telling::Told;
+use crate::answering::LEAF;
+use crate::asking::compared;
+use crate::telling::Told;
 use relying::Comparison;
 use relying::Comparison::{Differ, Same};
 use relying::Verdict::{Revoked, Unknown, Valid};

@@ -1,7 +1,7 @@
 //! A path whose certificates stand in one file.
 
-use super::asking::{MIDDLE, octets_of, slices_of, verdict_below};
-use super::telling::{Question, Told, asked};
+use crate::asking::{MIDDLE, octets_of, slices_of, verdict_below};
+use crate::telling::{Question, Told, asked};
 use path_files::path_octets;
 use relying::Verdict::Valid;
 use relying::{Answer, Fault, Node};

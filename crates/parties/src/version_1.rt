@@ -1,7 +1,7 @@
 //! A party over a store of version 1, which is migrated.
 
-use super::answering::LEAF;
-use super::asking::{MIDDLE, verdict_on};
+use crate::answering::LEAF;
+use crate::asking::{MIDDLE, verdict_on};
 use migration::version_1_tables;
 use relying::Node;
 use relying::Verdict::{Revoked, Unknown};

@@ -1,6 +1,6 @@
 //! What parties are asked. `None` is answered where a question cannot be put, as without memory.
 
-use super::telling::{Told, after};
+use crate::telling::{Told, after};
 use relying::{Comparison, Fault, Node, Query, Verdict, compare};
 use sqlite_disk::Disk;
 use std::alloc::Global;

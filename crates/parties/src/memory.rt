@@ -1,10 +1,10 @@
 //! Want of memory. These tests hold whichever request is refused: the answer is that of ample memory, or want of memory, never a third. A
 //! disk in memory takes memory itself: what it is refused is a fault of the disk, which the store answers as `StoreFault::Store`.
 
-use super::answering::{FIFTH, LEAF, REVOKING, STORED};
-use super::asking::{MIDDLE, compared, verdict_on};
-use super::path_file::file_of;
-use super::telling::{Question, asked, pair_of};
+use crate::answering::{FIFTH, LEAF, REVOKING, STORED};
+use crate::asking::{MIDDLE, compared, verdict_on};
+use crate::path_file::file_of;
+use crate::telling::{Question, asked, pair_of};
 use cert::CertFault;
 use der::Fault as DerFault;
 use path_files::path_octets;

@@ -1,0 +1,18 @@
+//! Tests of relying parties over disks in memory: what they take, what they say after it, also behind a restart and over a store of
+//! version 1, and where they agree.
+#![tactic(auto)]
+
+#[cfg(test)]
+mod agreeing;
+#[cfg(test)]
+mod answering;
+#[cfg(test)]
+mod asking;
+#[cfg(test)]
+mod memory;
+#[cfg(test)]
+mod path_file;
+#[cfg(test)]
+mod telling;
+#[cfg(test)]
+mod version_1;
