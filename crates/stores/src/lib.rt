@@ -2,8 +2,10 @@
 #![tactic(auto)]
 
 #[cfg(test)]
-mod help;
-#[cfg(test)]
 mod looked_up;
 #[cfg(test)]
+mod putting;
+#[cfg(test)]
 mod recognized;
+#[cfg(test)]
+mod steps;

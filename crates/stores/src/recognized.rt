@@ -1,8 +1,9 @@
 //! Which tables are those of a store.
 
-use super::help::{made, opened};
+use crate::steps::Step::{Execute, Make, Tables};
+use crate::steps::{Step, undone};
 use std::test::Fail;
-use tables::{Origin, is_empty, is_version_1, origin_of};
+use tables::Origin;
 
 /// The tables of version 1, as an earlier x509check made them.
 const VERSION_1: &str =
@@ -12,39 +13,43 @@ const VERSION_1: &str =
 const VERSION_2: &str =
     "CREATE TABLE scoped_crls (issuer INTEGER NOT NULL, scope INTEGER NOT NULL, number BLOB NOT NULL, since INTEGER NOT NULL, until INTEGER NOT NULL, PRIMARY KEY (issuer, scope)) STRICT; CREATE TABLE scoped_entries (id INTEGER PRIMARY KEY, issuer INTEGER NOT NULL, scope INTEGER NOT NULL, serial BLOB NOT NULL, reason INTEGER NOT NULL) STRICT;";
 
+const NEW: &[Step] = &[Make, Tables(Some(Origin::Made), false, false)];
+
+const EMPTY: &[Step] = &[Tables(None, false, true)];
+
+const OLD: &[Step] = &[
+    Execute(VERSION_1),
+    Tables(None, true, false),
+    Execute(VERSION_2),
+    Tables(Some(Origin::Migrated), false, false),
+];
+
+const OTHER: &[Step] = &[
+    Make,
+    Execute("CREATE TABLE note (id INTEGER PRIMARY KEY) STRICT"),
+    Tables(None, false, false),
+];
+
 #[test]
 fn a_new_store(rt: HostRuntime) -> Result<(), Fail> {
-    let conn = made(rt.alloc())?;
-    assert!(rt; origin_of(conn.schema()) == Some(Origin::Made));
-    assert!(rt; !is_version_1(conn.schema()));
-    assert!(rt; !is_empty(conn.schema()));
+    assert!(rt; undone(rt.alloc(), NEW).is_none());
     Ok(())
 }
 
 #[test]
 fn an_empty_database(rt: HostRuntime) -> Result<(), Fail> {
-    let conn = opened(rt.alloc())?;
-    assert!(rt; is_empty(conn.schema()));
-    assert!(rt; origin_of(conn.schema()).is_none());
+    assert!(rt; undone(rt.alloc(), EMPTY).is_none());
     Ok(())
 }
 
 #[test]
 fn the_tables_of_version_1(rt: HostRuntime) -> Result<(), Fail> {
-    let mut conn = opened(rt.alloc())?;
-    conn.execute_batch(VERSION_1)?;
-    assert!(rt; is_version_1(conn.schema()));
-    assert!(rt; origin_of(conn.schema()).is_none());
-    conn.execute_batch(VERSION_2)?;
-    assert!(rt; !is_version_1(conn.schema()));
-    assert!(rt; origin_of(conn.schema()) == Some(Origin::Migrated));
+    assert!(rt; undone(rt.alloc(), OLD).is_none());
     Ok(())
 }
 
 #[test]
 fn tables_of_another_program(rt: HostRuntime) -> Result<(), Fail> {
-    let mut conn = made(rt.alloc())?;
-    conn.execute_batch("CREATE TABLE note (id INTEGER PRIMARY KEY) STRICT")?;
-    assert!(rt; origin_of(conn.schema()).is_none());
+    assert!(rt; undone(rt.alloc(), OTHER).is_none());
     Ok(())
 }
