@@ -2,26 +2,21 @@
 
 use statement_vectors::ocsp_response;
 use std::alloc::Global;
-use std::test::Fail;
-use vectors::{NotationFault, certificate, revocation_list};
+use vectors::{certificate, revocation_list};
 
-fn built(octets: Result<Vec<u8>, NotationFault>) -> Result<Vec<u8>, Fail> {
-    Ok(octets.map_err(|_| "a text in the notation")?)
+/// What is damaged. The issuer `ca(R,R)` signed each.
+#[derive(Clone, Copy)]
+pub enum Text {
+    Certificate,
+    List,
+    Response,
 }
 
-/// The issuer, which signs itself.
-pub fn issuer(alloc: Global) -> Result<Vec<u8>, Fail> {
-    built(certificate(alloc, "ca(R,R)"))
-}
-
-pub fn leaf(alloc: Global) -> Result<Vec<u8>, Fail> {
-    built(certificate(alloc, "ee(T,R)"))
-}
-
-pub fn list(alloc: Global) -> Result<Vec<u8>, Fail> {
-    built(revocation_list(alloc, "crl(R,5,[05 1])"))
-}
-
-pub fn response(alloc: Global) -> Result<Vec<u8>, Fail> {
-    built(ocsp_response(alloc, "ocsp(R,05 good)", &[]))
+/// `None` where there is no memory.
+pub fn octets_of(alloc: Global, text: Text) -> Option<Vec<u8>> {
+    match text {
+        Text::Certificate => certificate(alloc, "ee(T,R)").ok(),
+        Text::List => revocation_list(alloc, "crl(R,5,[05 1])").ok(),
+        Text::Response => ocsp_response(alloc, "ocsp(R,05 good)", &[]).ok(),
+    }
 }

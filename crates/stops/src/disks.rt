@@ -1,9 +1,8 @@
-//! Files in memory whose calls fail once so many have been answered.
+//! Files in memory whose calls fail once so many have been answered. `None` is answered where there is no memory.
 
 use sqlite::Files;
 use sqlite_disk::{Crash, Disk, Fuse, Memory};
 use std::alloc::Global;
-use std::test::Fail;
 
 pub type Fused = Fuse<Memory>;
 
@@ -27,20 +26,20 @@ pub const NO_FUSES: Fuses = Fuses {
 };
 
 /// A file that holds the octets.
-fn disk(alloc: Global, octets: &[u8], calls: u64) -> Result<Fused, Fail> {
+fn disk(alloc: Global, octets: &[u8], calls: u64) -> Option<Fused> {
     let mut file = Memory::new(alloc);
     if !octets.is_empty() && file.may_be_used() {
-        file.write_at(0, octets)?;
+        file.write_at(0, octets).ok()?;
     }
     if file.may_be_used() {
-        file.sync()?;
+        file.sync().ok()?;
     }
-    Ok(Fuse::new(file, calls))
+    Some(Fuse::new(file, calls))
 }
 
 /// The files, switched on.
-pub fn files(alloc: Global, octets: &Octets, fuses: Fuses) -> Result<Files<Fused>, Fail> {
-    Ok(Files {
+pub fn files(alloc: Global, octets: &Octets, fuses: Fuses) -> Option<Files<Fused>> {
+    Some(Files {
         log: disk(alloc, &octets.log, fuses.log)?,
         db: disk(alloc, &octets.database, fuses.database)?,
     })
@@ -55,15 +54,16 @@ pub fn nothing(alloc: Global) -> Octets {
 }
 
 /// What the files hold after the process has ended: all that was written.
-pub fn written(alloc: Global, files: &Files<Fused>) -> Result<Octets, Fail> {
-    Ok(Octets {
-        log: Vec::from_slice(alloc, files.log.inner().bytes())?,
-        database: Vec::from_slice(alloc, files.db.inner().bytes())?,
+pub fn written(alloc: Global, files: &Files<Fused>) -> Option<Octets> {
+    Some(Octets {
+        log: Vec::from_slice(alloc, files.log.inner().bytes()).ok()?,
+        database: Vec::from_slice(alloc, files.db.inner().bytes()).ok()?,
     })
 }
 
-/// The machine loses all that was not synced.
-pub fn crash(files: &mut Files<Fused>) {
+/// What they hold after the machine has lost all that was not synced.
+pub fn synced(alloc: Global, mut files: Files<Fused>) -> Option<Octets> {
     files.log.crash();
     files.db.crash();
+    written(alloc, &files)
 }

@@ -3,16 +3,14 @@
 #![tactic(auto)]
 
 #[cfg(test)]
-mod created;
-#[cfg(test)]
-mod delivered;
-#[cfg(test)]
 mod disks;
 #[cfg(test)]
 mod finding;
 #[cfg(test)]
-mod migrated;
+mod putting;
 #[cfg(test)]
 mod stopping;
+#[cfg(test)]
+mod trials;
 #[cfg(test)]
 mod working;

@@ -1,89 +1,66 @@
-//! Work that is stopped at each call of a file.
+//! Work that is stopped at each call of a file. `None` is answered where there is no memory.
 
-use super::disks::{Fused, Fuses, NO_FUSES, Octets, crash, files, written};
-use super::finding::{Found, Search, find};
-use super::working::{Progress, Work, run};
-use sqlite::Files;
+use crate::disks::{Fuses, NO_FUSES, Octets, files, nothing, synced, written};
+use crate::finding::Found;
+use crate::working::{Progress, Then, Work, run};
 use std::alloc::Global;
-use std::test::Fail;
 
 /// More calls than any of this work makes.
 const MOST: u64 = 10_000;
 
-/// What may be found after work that was not answered as done, and what after work that was.
+/// Work that is stopped.
 #[derive(Clone, Copy)]
-pub struct Outcomes {
+pub struct Trial {
+    /// What was done before.
+    pub before: &'static [Work],
+    pub work: Work,
+    /// What may be found where it was not answered that the work was done, and where it was.
     pub stopped: &'static [Found],
-    pub done: Found,
+    pub done: &'static [Found],
 }
 
-impl Outcomes {
-    fn admits(&self, progress: Progress, found: Found) -> bool {
-        if progress == Progress::Stopped {
-            self.stopped.contains(&found)
-        } else {
-            found == self.done
+/// The files after the work, which no fuse stops.
+fn after(alloc: Global, works: &[Work]) -> Option<Octets> {
+    let mut octets = nothing(alloc);
+    for work in works {
+        let (files, progress) = run(alloc, files(alloc, &octets, NO_FUSES)?, work);
+        if progress != Progress::Closed {
+            return None;
         }
+        octets = written(alloc, &files)?;
     }
+    Some(octets)
 }
 
-/// What is looked for after each stop, and what may be found.
-#[derive(Drop)]
-pub struct Trial<'a> {
-    pub search: Search<'a>,
-    pub outcomes: Outcomes,
+/// Whether one of these is found. Files that are not opened are no store.
+fn is_found(alloc: Global, octets: &Octets, wanted: &'static [Found]) -> Option<bool> {
+    let (_files, progress) = run(
+        alloc,
+        files(alloc, octets, NO_FUSES)?,
+        &Work::TakeOver(Then::Find(wanted)),
+    );
+    Some(match progress {
+        Progress::NotOpened => wanted.iter().any(|found| matches!(found, Found::NoStore)),
+        _ => progress == Progress::Closed,
+    })
 }
 
-/// The files after work that no fuse stops.
-pub fn after<W: Work>(alloc: Global, before: &Octets, done: &W) -> Result<Octets, Fail> {
-    let (files, progress) = run(alloc, files(alloc, before, NO_FUSES)?, done);
-    if progress != Progress::Closed {
-        return Err(Fail::from("not done"));
-    }
-    written(alloc, &files)
-}
-
-fn find_in(alloc: Global, octets: &Octets, search: &Search<'_>) -> Result<Found, Fail> {
-    let (_files, found) = find(alloc, files(alloc, octets, NO_FUSES)?, search);
-    Ok(found)
-}
-
-/// Whether what is found may be.
-fn is_admitted(
-    alloc: Global,
-    octets: &Octets,
-    trial: &Trial<'_>,
-    progress: Progress,
-) -> Result<bool, Fail> {
-    let found = find_in(alloc, octets, &trial.search)?;
-    Ok(trial.outcomes.admits(progress, found))
-}
-
-/// What is left where the process ends, and where the machine does.
-fn left(alloc: Global, mut files: Files<Fused>) -> Result<(Octets, Octets), Fail> {
-    let kept = written(alloc, &files)?;
-    crash(&mut files);
-    Ok((kept, written(alloc, &files)?))
-}
-
-/// How far the work came; or `None` where something else is found than may be.
-fn come<W: Work>(
-    alloc: Global,
-    before: &Octets,
-    work: &W,
-    trial: &Trial<'_>,
-    fuses: Fuses,
-) -> Result<Option<Progress>, Fail> {
-    let (files, progress) = run(alloc, files(alloc, before, fuses)?, work);
-    let (written, synced) = left(alloc, files)?;
-    let is_so = is_admitted(alloc, &written, trial, progress)?
-        && is_admitted(alloc, &synced, trial, progress)?;
-    Ok(is_so.then_some(progress))
+/// How far the work came, and whether what it left may be, where the process ends there and where the machine does.
+fn come(alloc: Global, before: &Octets, trial: &Trial, fuses: Fuses) -> Option<(Progress, bool)> {
+    let (files, progress) = run(alloc, files(alloc, before, fuses)?, &trial.work);
+    let wanted = match progress {
+        Progress::Done | Progress::Closed => trial.done,
+        _ => trial.stopped,
+    };
+    let written = written(alloc, &files)?;
+    let synced = synced(alloc, files)?;
+    let is_so = is_found(alloc, &written, wanted)? && is_found(alloc, &synced, wanted)?;
+    Some((progress, is_so))
 }
 
 /// Which file stops.
 #[derive(Clone, Copy)]
-pub enum File {
+enum File {
     Log,
     Database,
 }
@@ -92,41 +69,31 @@ fn fuses(file: File, calls: u64) -> Fuses {
     match file {
         File::Log => Fuses {
             log: calls,
-            database: u64::MAX,
+            ..NO_FUSES
         },
         File::Database => Fuses {
-            log: u64::MAX,
             database: calls,
+            ..NO_FUSES
         },
     }
 }
 
-/// How many calls the file answers until the work is done with no stop; `None` where one of the stops left what may not be.
-pub fn stops<W: Work>(
-    alloc: Global,
-    before: &Octets,
-    work: &W,
-    trial: &Trial<'_>,
-    file: File,
-) -> Result<Option<u64>, Fail> {
+/// Whether the file stops the work at one call after the other, and each leaves what may be, until nothing stops it.
+fn is_whole_at(alloc: Global, before: &Octets, trial: &Trial, file: File) -> Option<bool> {
     for calls in 0..MOST {
-        match come(alloc, before, work, trial, fuses(file, calls))? {
-            None => return Ok(None),
-            Some(Progress::Closed) => return Ok(Some(calls)),
-            Some(_) => {}
+        let (progress, is_so) = come(alloc, before, trial, fuses(file, calls))?;
+        if !is_so || progress == Progress::Closed {
+            return Some(is_so && calls > 0);
         }
     }
-    Ok(None)
+    Some(false)
 }
 
-/// The work stops at each call of either file, and leaves what it may.
-pub fn is_whole<W: Work>(
-    alloc: Global,
-    before: &Octets,
-    work: &W,
-    trial: &Trial<'_>,
-) -> Result<bool, Fail> {
-    let of_database = stops(alloc, before, work, trial, File::Database)?;
-    let of_log = stops(alloc, before, work, trial, File::Log)?;
-    Ok(of_database.is_some_and(|calls| calls > 0) && of_log.is_some_and(|calls| calls > 0))
+/// Whether the work leaves what it may, at whichever call of either file it stops.
+pub fn is_whole(alloc: Global, trial: &Trial) -> Option<bool> {
+    let before = after(alloc, trial.before)?;
+    Some(
+        is_whole_at(alloc, &before, trial, File::Database)?
+            && is_whole_at(alloc, &before, trial, File::Log)?,
+    )
 }

@@ -1,82 +1,69 @@
 //! Work on a database over files, which may stop.
 
+use crate::finding::{Found, is_one_of};
+use crate::putting::{Statement, puts};
 use adoption::create;
-use facts::Facts;
 use migration::version_1_tables;
 use sqlite::{Alter, Connection, FileStore, Files, Options};
 use sqlite_disk::Disk;
 use std::alloc::Global;
 use store::take_over;
-use tables::StoreFault;
-use taking::put;
+use tables::{StoreFault, is_version_1};
 
-/// What is done to a database.
-pub trait Work {
-    /// Whether the database is taken for a store first.
-    fn is_on_store(&self) -> bool;
-
-    /// Whether it is answered that the rest was done.
-    fn is_done<S: Alter>(&self, conn: &mut Connection<S>) -> bool;
-}
-
-/// A store is made.
+/// What is done with a database.
 #[derive(Clone, Copy)]
-pub struct Creation;
-
-impl Work for Creation {
-    fn is_on_store(&self) -> bool {
-        false
-    }
-
-    fn is_done<S: Alter>(&self, conn: &mut Connection<S>) -> bool {
-        conn.is_autocommit() && create(conn).is_ok()
-    }
+pub enum Work {
+    /// A store is made.
+    Make(Version),
+    /// It is taken for a store.
+    TakeOver(Then),
 }
 
-/// The database is taken for a store, and no more.
 #[derive(Clone, Copy)]
-pub struct TakingOver;
-
-impl Work for TakingOver {
-    fn is_on_store(&self) -> bool {
-        true
-    }
-
-    fn is_done<S: Alter>(&self, _conn: &mut Connection<S>) -> bool {
-        true
-    }
+pub enum Version {
+    /// Version 1, with these rows.
+    Old(&'static str),
+    New,
 }
 
-/// Facts are put into a store.
-#[derive(Drop)]
-pub struct Delivery<'a>(pub Facts<'a>);
-
-impl Work for Delivery<'_> {
-    fn is_on_store(&self) -> bool {
-        true
-    }
-
-    fn is_done<S: Alter>(&self, conn: &mut Connection<S>) -> bool {
-        put(conn, &self.0).is_ok()
-    }
-}
-
-/// A store of version 1 with these rows is made.
+/// What is done with what was taken for a store.
 #[derive(Clone, Copy)]
-pub struct OldStore(pub &'static str);
+pub enum Then {
+    Nothing,
+    Put(Statement),
+    /// It is one of these.
+    Find(&'static [Found]),
+}
 
-impl Work for OldStore {
-    fn is_on_store(&self) -> bool {
-        false
-    }
+/// How far the work came.
+#[derive(Clone, Copy, PartialEq, Eq)]
+pub enum Progress {
+    NotOpened,
+    /// It was not answered that it was done.
+    Stopped,
+    /// It was, and then the files were not closed.
+    Done,
+    /// It was, and the files were closed.
+    Closed,
+}
 
-    fn is_done<S: Alter>(&self, conn: &mut Connection<S>) -> bool {
-        conn.execute_batch(version_1_tables()).is_ok() && conn.execute_batch(self.0).is_ok()
+/// Whether the rest is done to a database that was of version 1 or not, and was taken for a store or not.
+fn follows<S: Alter>(
+    alloc: Global,
+    conn: &mut Connection<S>,
+    then: Then,
+    was_old: bool,
+    taken: Result<(), StoreFault>,
+) -> bool {
+    match then {
+        Then::Nothing => taken.is_ok(),
+        Then::Put(statement) => taken.is_ok() && puts(alloc, conn, statement),
+        Then::Find(wanted) => is_one_of(alloc, conn, wanted, was_old, taken),
     }
 }
 
 /// The database is taken for a store.
-pub fn take<D: Disk + Drop>(
+fn take<D: Disk + Drop>(
     alloc: Global,
     conn: &mut Connection<FileStore<D>>,
 ) -> Result<(), StoreFault> {
@@ -86,15 +73,26 @@ pub fn take<D: Disk + Drop>(
     take_over(alloc, conn)
 }
 
-/// How far the work came.
-#[derive(Clone, Copy, PartialEq, Eq)]
-pub enum Progress {
-    /// It was not answered that it was done.
-    Stopped,
-    /// It was, and then the files were not closed.
-    Done,
-    /// It was, and the files were closed.
-    Closed,
+/// Whether it is answered that a store was made.
+fn makes<S: Alter>(conn: &mut Connection<S>, version: Version) -> bool {
+    match version {
+        Version::Old(rows) => {
+            conn.execute_batch(version_1_tables()).is_ok() && conn.execute_batch(rows).is_ok()
+        }
+        Version::New => conn.is_autocommit() && create(conn).is_ok(),
+    }
+}
+
+/// Whether it is answered that the work is done.
+fn does<D: Disk + Drop>(alloc: Global, conn: &mut Connection<FileStore<D>>, work: &Work) -> bool {
+    match *work {
+        Work::Make(version) => makes(conn, version),
+        Work::TakeOver(then) => {
+            let was_old = is_version_1(conn.schema());
+            let taken = take(alloc, conn);
+            follows(alloc, conn, then, was_old, taken)
+        }
+    }
 }
 
 fn progress_of(is_done: bool, is_closed: bool) -> Progress {
@@ -107,29 +105,19 @@ fn progress_of(is_done: bool, is_closed: bool) -> Progress {
     }
 }
 
-/// The files after the work.
-fn close<D: Disk + Drop>(conn: Connection<FileStore<D>>, is_done: bool) -> (Files<D>, Progress) {
-    match conn.close_files() {
-        Ok(files) => (files, progress_of(is_done, true)),
-        Err((_error, store)) => (store.close(), progress_of(is_done, false)),
-    }
-}
-
 /// A database over the files is opened, worked on and closed.
-pub fn run<W: Work, D: Disk + Drop>(
-    alloc: Global,
-    files: Files<D>,
-    work: &W,
-) -> (Files<D>, Progress) {
+pub fn run<D: Disk + Drop>(alloc: Global, files: Files<D>, work: &Work) -> (Files<D>, Progress) {
     if !files.may_be_used() {
-        return (files, Progress::Stopped);
+        return (files, Progress::NotOpened);
     }
     match Connection::open_files(alloc, files, Options::new(7)) {
         Ok(mut conn) => {
-            let is_taken = !work.is_on_store() || take(alloc, &mut conn).is_ok();
-            let is_done = is_taken && work.is_done(&mut conn);
-            close(conn, is_done)
+            let is_done = does(alloc, &mut conn, work);
+            match conn.close_files() {
+                Ok(files) => (files, progress_of(is_done, true)),
+                Err((_error, store)) => (store.close(), progress_of(is_done, false)),
+            }
         }
-        Err((_error, left)) => (left.into_files(), Progress::Stopped),
+        Err((_error, left)) => (left.into_files(), Progress::NotOpened),
     }
 }
