@@ -3,8 +3,8 @@
 use crate::putting::{add, found, issuer, listed, make, put_entries, put_list, put_single, said};
 use facts::{Issuer, Listed, Scope, Single};
 use rows::{ListKey, Said};
-use sqlite::{Alter, Connection, FileStore, Files, Options};
-use sqlite_disk::Memory;
+use sqlite::{Alter, Connection, Files, Options};
+use sqlite_disk::{Disk, Memory};
 use std::alloc::Global;
 use tables::{Origin, StoreFault, is_empty, is_version_1, origin_of};
 
@@ -95,12 +95,10 @@ fn walk<S: Alter>(alloc: Global, conn: &mut Connection<S>, steps: &[Step]) -> Op
     None
 }
 
-/// The first step that was not done, or found something else; `None` where all were done.
-pub fn undone(alloc: Global, steps: &[Step]) -> Option<usize> {
-    let files = Files {
-        log: Memory::new(alloc),
-        db: Memory::new(alloc),
-    };
+fn undone_over<D: Disk + Drop>(alloc: Global, files: Files<D>, steps: &[Step]) -> Option<usize> {
+    if !files.may_be_used() {
+        return Some(0);
+    }
     match Connection::open_files(alloc, files, Options::new(7)) {
         Ok(mut conn) => {
             let undone = walk(alloc, &mut conn, steps);
@@ -112,4 +110,13 @@ pub fn undone(alloc: Global, steps: &[Step]) -> Option<usize> {
             Some(0)
         }
     }
+}
+
+/// The first step that was not done, or found something else; `None` where all were done.
+pub fn undone(alloc: Global, steps: &[Step]) -> Option<usize> {
+    let files = Files {
+        log: Memory::new(alloc),
+        db: Memory::new(alloc),
+    };
+    undone_over(alloc, files, steps)
 }
