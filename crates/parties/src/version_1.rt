@@ -6,7 +6,7 @@ use migration::version_1_tables;
 use relying::Node;
 use relying::Verdict::{Revoked, Unknown};
 use sqlite::{Alter, Connection, Files, Options};
-use sqlite_disk::Memory;
+use sqlite_disk::{Disk, Memory};
 use std::alloc::Global;
 use store::Store;
 use vectors::ToyVerifier;
@@ -23,12 +23,11 @@ fn is_filled<S: Alter>(conn: &mut Connection<S>) -> bool {
     conn.execute_batch(version_1_tables()).is_ok() && conn.execute_batch(ROWS).is_ok()
 }
 
-/// Files in memory that were filled so.
-fn files_of_version_1(alloc: Global) -> Files<Memory> {
-    let files = Files {
-        log: Memory::new(alloc),
-        db: Memory::new(alloc),
-    };
+/// The files, which were filled so.
+fn filled<D: Disk + Drop>(alloc: Global, files: Files<D>) -> Files<D> {
+    if !files.may_be_used() {
+        return files;
+    }
     match Connection::open_files(alloc, files, Options::new(7)) {
         Ok(mut conn) => {
             let _is_filled = is_filled(&mut conn);
@@ -40,7 +39,11 @@ fn files_of_version_1(alloc: Global) -> Files<Memory> {
 
 /// A store that was of version 1 and had these rows.
 fn migrated(alloc: Global) -> Option<Store<Memory>> {
-    let files = files_of_version_1(alloc);
+    let empty = Files {
+        log: Memory::new(alloc),
+        db: Memory::new(alloc),
+    };
+    let files = filled(alloc, empty);
     if !files.may_be_used() {
         return None;
     }
