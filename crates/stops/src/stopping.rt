@@ -1,4 +1,5 @@
-//! Work that is stopped at each call of a file. `None` is answered where there is no memory.
+//! Work that is stopped at each call of a file. `None` is answered where there is no memory, or where what is to be there before was not
+//! done.
 
 use crate::disks::{Fuses, NO_FUSES, Octets, files, nothing, synced, written};
 use crate::finding::Found;

@@ -115,12 +115,14 @@ fn a_response_whole_or_not_at_all(rt: HostRuntime) {
     assert!(rt; is_whole(rt.alloc(), &RESPONSE) == Some(true));
 }
 
+/// The issuer, and the hash of its name, stand there by their octets.
 const ROWS: &str = "INSERT INTO meta (id, version) VALUES (1, 1);
 INSERT INTO issuers (id, name, spki) VALUES (1, x'6e616d65', x'6b6579');
 INSERT INTO crls (issuer, number, since, until) VALUES (1, x'0000000000000000000000000000000000000005', -10, 20);
 INSERT INTO entries (issuer, serial, reason) VALUES (1, x'06', 4);
 INSERT INTO entries (issuer, serial, reason) VALUES (1, x'05', 1);
-INSERT INTO ocsp (issuer, name_hash, serial, this_update, produced_at, since, until, status, reason) VALUES (1, x'6868686868686868686868686868686868686868', x'05', 1, 2, 3, 4, 1, 3);";
+INSERT INTO ocsp (issuer, name_hash, serial, this_update, produced_at, since, until, status, reason)
+VALUES (1, x'6868686868686868686868686868686868686868', x'05', 1, 2, 3, 4, 1, 3);";
 
 /// What these rows say.
 const ALL: Holding = Holding {
