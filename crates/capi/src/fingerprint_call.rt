@@ -1,9 +1,9 @@
 //! `x509check_fingerprint`.
 
 ghost use Rattle.std.specs.Prelude.{◌≡◌};
-ghost use Rattle.verifiers.specs.Fingerprint.{fingerprint_of};
+ghost use Rattle.path_verifiers.specs.Fingerprint.{fingerprint_of};
 
-/// Writes the fingerprint of four texts, as `verifiers::fingerprint` says.
+/// Writes the fingerprint of four texts, as `path_verifiers::fingerprint` says.
 #[unsafe(no_mangle)]
 pub extern "C" fn x509check_fingerprint(
     algorithm: &[u8],
@@ -14,5 +14,5 @@ pub extern "C" fn x509check_fingerprint(
 )
     ensures { fingerprint.new ≡ fingerprint_of algorithm.now key_info.now message.now signature.now }
 {
-    *fingerprint = verifiers::fingerprint(algorithm, key_info, message, signature);
+    *fingerprint = path_verifiers::fingerprint(algorithm, key_info, message, signature);
 }

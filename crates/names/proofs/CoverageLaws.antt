@@ -14,7 +14,7 @@ use Rattle.names.proofs.DomainLaws.{more_is_exact, names_inside, names_nested, a
 use Rattle.names.proofs.Labels.{ends_in_is_exact}
 use Rattle.names.proofs.Ranges.{Same, same_of, agree_of, addresses_inside, addresses_nested}
 use Rattle.names.proofs.Subtrees.{test_within, within_nested, other_same}
-use Rattle.distinguished_names.proofs.Laws.{within_is_exact}
+use Rattle.names_distinguished.proofs.Laws.{within_is_exact}
 
 pub coverage_is_of_contents : CoverageIsOfContents
 unfolding is_in_subtree is_covered is_in_range is_address_of

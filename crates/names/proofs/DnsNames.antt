@@ -9,7 +9,7 @@ use Rattle.std.proofs.lemmas.List.Splits.{slice_split_none, slice_split_at, join
 use Rattle.names.specs.Dns.{IsLabelOctet, IsLabel, IsDnsName, IsBaseOf, is_dot, is_label_octet, is_label}
 use Rattle.names.specs.declared.dns.Domain.{Domain}
 use Rattle.names.specs.declared.dns.Domain.TheVariants as D
-use Rattle.distinguished_names.proofs.Laws.{slice_split_nonempty}
+use Rattle.names_distinguished.proofs.Laws.{slice_split_nonempty}
 
 -- a test of each element that decides a fact decides that fact of each element
 module _ {X : Type 0} (p : X → Bool) (P : X → Type 0) where

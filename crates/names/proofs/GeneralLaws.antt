@@ -7,18 +7,18 @@ use Rattle.asn.specs.Place.{Place, tag, body}
 use Rattle.asn.specs.Members.{members}
 use Rattle.asn.specs.Walk.{◌>>=◌, next_or, ended, check_that}
 use Rattle.asn.proofs.Laws.{bind_ok, ok_is, check_ok, check_again, next_or_ok, next_or_again, ended_ok, ended_again}
-use Rattle.distinguished_names.specs.declared.fault.NameRule.TheVariants.{NameLayout, DnsForm, IpForm}
+use Rattle.names_distinguished.specs.declared.fault.NameRule.TheVariants.{NameLayout, DnsForm, IpForm}
 use Rattle.names.specs.declared.general.Form.{Form}
 use Rattle.names.specs.declared.general.Form.TheVariants as F
 use Rattle.names.specs.declared.ip.IpFault.{IpFault}
 use Rattle.names.specs.declared.ip.IpFault.TheVariants as I
 use Rattle.names.specs.Dns.{IsDnsName, is_dot, is_label}
 use Rattle.names.specs.Ip.{IsIpAddress}
-use Rattle.distinguished_names.specs.NameLayout.{name}
+use Rattle.names_distinguished.specs.NameLayout.{name}
 use Rattle.names.specs.Bases.{DomainNames, every_name, names_within, names_below, AddressRange, is_dns_name, is_ip_address, names_of_base, range_of_base, AreNamesOf, DnsNameTestIsExact, NamesOfBaseAreExact}
 use Rattle.names.specs.GeneralLayout.{NameContents, contents_at, GeneralName, SubtreeBase, directory_name, dns_name, ip_address, other_name, directory_base, dns_base, ip_base, other_base, form_of_identifier, explicit_name, dns_name_at, ip_address_at, general_of, general, dns_base_of, dns_base_at, ip_base_of, ip_base_at, base_of, base}
 use Rattle.names.specs.GeneralForms.{HoldsName, IsGeneralName, IsSubtreeBase, GeneralNamesAreRead, SubtreeBasesAreRead}
-use Rattle.distinguished_names.proofs.Laws.{is_name, name_is}
+use Rattle.names_distinguished.proofs.Laws.{is_name, name_is}
 use Rattle.names.proofs.DnsNames.{by_labels, no_leading_dot}
 use Rattle.names.proofs.BaseLaws.{address_test_is_exact, range_of_base_is_exact}
 

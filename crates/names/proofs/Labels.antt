@@ -9,7 +9,7 @@ use Rattle.std.proofs.lemmas.List.Splits.{join_with_byte-slice_split}
 use Rattle.std.proofs.lemmas.Slice.Eq.{ends_is, slice_eq-Decides}
 use Rattle.std.specs.Bool.{Decides}
 use Rattle.names.specs.Dns.{labels, EndsIn, ends_in_labels, ends_in_more_labels, same_label}
-use Rattle.distinguished_names.proofs.Laws.{slice_split-append, slice_split_nonempty, join-append, same_ends}
+use Rattle.names_distinguished.proofs.Laws.{slice_split-append, slice_split_nonempty, join-append, same_ends}
 
 abbrev pub dot : ℕ → Bool
 dot octet = octet == 46

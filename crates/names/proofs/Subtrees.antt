@@ -6,10 +6,10 @@ use Rattle.names.specs.declared.subtree.Subtree.{Subtree}
 use Rattle.names.specs.declared.general.General.TheVariants as G
 use Rattle.names.specs.declared.general.Form.TheVariants as F
 use Rattle.names.specs.declared.subtree.Subtree.TheVariants as S
-use Rattle.distinguished_names.specs.DistinguishedName.{RdnMap, IsWithin, is_within}
-use Rattle.distinguished_names.specs.NameOctets.{rdns_of}
+use Rattle.names_distinguished.specs.DistinguishedName.{RdnMap, IsWithin, is_within}
+use Rattle.names_distinguished.specs.NameOctets.{rdns_of}
 use Rattle.names.specs.GeneralSubtree.{is_in_subtree, is_subtree_inside, has_form, SubtreeTestIsExact, InsideIsSound, SharedIsNested, FormIsKept, FormIsProcessed, FormTestIsExact}
-use Rattle.distinguished_names.proofs.Laws.{within_is_exact}
+use Rattle.names_distinguished.proofs.Laws.{within_is_exact}
 use Rattle.names.proofs.DomainLaws.{domain_test_is_exact, domain_inside_is_sound, shared_domains_are_nested}
 use Rattle.names.proofs.Ranges.{range_test_is_exact, range_inside_is_sound, shared_ranges_are_nested}
 

@@ -4,7 +4,7 @@ use Rattle.names.specs.declared.general.General.{General}
 use Rattle.names.specs.declared.general.Form.{Form}
 use Rattle.names.specs.declared.general.Form.TheVariants as F
 use Rattle.names.specs.declared.subtree.Subtree.{Subtree}
-use Rattle.distinguished_names.specs.DistinguishedName.{IsWithin, is_within}
+use Rattle.names_distinguished.specs.DistinguishedName.{IsWithin, is_within}
 use Rattle.names.specs.Dns.{EndsIn, EndsInMore, labels, ends_in_labels, ends_in_more_labels}
 use Rattle.names.specs.Ip.{bit, agree}
 use Rattle.names.specs.GeneralName.{form_of_name, IsProcessed}

@@ -5,7 +5,7 @@ use Rattle.asn.specs.Members.{members}
 use Rattle.names.specs.declared.general.Form.TheVariants as F
 use Rattle.names.specs.Dns.{IsDnsName}
 use Rattle.names.specs.Ip.{IsIpAddress}
-use Rattle.distinguished_names.specs.NameForms.{IsName}
+use Rattle.names_distinguished.specs.NameForms.{IsName}
 use Rattle.names.specs.Bases.{AreNamesOf, AreAddressesOf}
 use Rattle.names.specs.GeneralLayout.{NameContents, GeneralName, SubtreeBase, directory_name, dns_name, ip_address, other_name, directory_base, dns_base, ip_base, other_base, contents_at, form_of_identifier, general, base}
 

@@ -3,15 +3,15 @@ use Rattle.std.specs.Prelude.{ℕ, ◌==◌, List, Option, Some, None, Result, O
 use Rattle.asn.specs.Place.{Place, tag, body}
 use Rattle.asn.specs.Members.{members}
 use Rattle.asn.specs.Walk.{◌>>=◌, next_or, ended, check_that}
-use Rattle.distinguished_names.specs.declared.fault.NameRule.{NameRule}
-use Rattle.distinguished_names.specs.declared.fault.NameRule.TheVariants.{NameLayout, DnsForm, IpForm, MaskForm}
+use Rattle.names_distinguished.specs.declared.fault.NameRule.{NameRule}
+use Rattle.names_distinguished.specs.declared.fault.NameRule.TheVariants.{NameLayout, DnsForm, IpForm, MaskForm}
 use Rattle.names.specs.declared.general.Form.{Form}
 use Rattle.names.specs.declared.general.Form.TheVariants as F
 use Rattle.names.specs.declared.ip.IpFault.{IpFault}
 use Rattle.names.specs.declared.ip.IpFault.TheVariants as I
-use Rattle.distinguished_names.specs.DistinguishedName.{RdnMap}
-use Rattle.distinguished_names.specs.NameLayout.{name}
-use Rattle.distinguished_names.specs.NameParts.{rdns_at}
+use Rattle.names_distinguished.specs.DistinguishedName.{RdnMap}
+use Rattle.names_distinguished.specs.NameLayout.{name}
+use Rattle.names_distinguished.specs.NameParts.{rdns_at}
 use Rattle.names.specs.Bases.{DomainNames, AddressRange, is_dns_name, is_ip_address, names_of_base, range_of_base}
 
 -- a name: its whole encoding, its offset in the whole input, and its sets of attributes, as they are compared

@@ -6,8 +6,8 @@ use Rattle.names.specs.declared.subtree.Subtree.{Subtree}
 use Rattle.names.specs.declared.general.General.TheVariants as G
 use Rattle.names.specs.declared.general.Form.TheVariants as F
 use Rattle.names.specs.declared.subtree.Subtree.TheVariants as S
-use Rattle.distinguished_names.specs.DistinguishedName.{IsWithin, is_within}
-use Rattle.distinguished_names.specs.NameOctets.{rdns_of}
+use Rattle.names_distinguished.specs.DistinguishedName.{IsWithin, is_within}
+use Rattle.names_distinguished.specs.NameOctets.{rdns_of}
 use Rattle.names.specs.Dns.{IsInDomain, is_in_domain, is_domain_inside}
 use Rattle.names.specs.Ip.{IsInRange, is_in_range, is_range_inside}
 use Rattle.names.specs.GeneralName.{form_of_name, IsProcessed}

@@ -1,10 +1,10 @@
 -- What general names and subtrees say, without where they lie in memory.
-use Rattle.distinguished_names.specs.declared.name.Name.{Name}
+use Rattle.names_distinguished.specs.declared.name.Name.{Name}
 use Rattle.names.specs.declared.general.General.{General}
 use Rattle.names.specs.declared.general.General.TheVariants as G
 use Rattle.names.specs.declared.subtree.Subtree.{Subtree}
 use Rattle.names.specs.declared.subtree.Subtree.TheVariants as S
-use Rattle.distinguished_names.specs.NameOctets.{raw_of, offset_of, rdns_of}
+use Rattle.names_distinguished.specs.NameOctets.{raw_of, offset_of, rdns_of}
 use Rattle.names.specs.Bases.{domain_names, address_range}
 use Rattle.names.specs.GeneralLayout.{NameContents, GeneralName, SubtreeBase, directory_name, dns_name, ip_address, other_name, directory_base, dns_base, ip_base, other_base}
 

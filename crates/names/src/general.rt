@@ -3,7 +3,7 @@
 ghost use Rattle.std.specs.Prelude.{◌≡◌};
 ghost use Rattle.names.specs.GeneralName.{form_of_name};
 
-use distinguished_names::Name;
+use names_distinguished::Name;
 
 /// A form of general names.
 #[derive(Clone, Copy, PartialEq, Eq, Debug)]

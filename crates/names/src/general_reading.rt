@@ -13,7 +13,7 @@ use crate::general::{Form, General};
 use crate::ip::{IpFault, IpRange, is_ip_address};
 use crate::subtree::Subtree;
 use asn::Tlv;
-use distinguished_names::{Name, NameRule, Refusal};
+use names_distinguished::{Name, NameRule, Refusal};
 
 const DIRECTORY_NAME: u8 = 0xA4;
 

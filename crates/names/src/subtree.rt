@@ -6,7 +6,7 @@ ghost use Rattle.names.specs.GeneralSubtree.{form_of, IsInSubtree, is_in_subtree
 use crate::dns::Domain;
 use crate::general::{Form, General};
 use crate::ip::IpRange;
-use distinguished_names::Name;
+use names_distinguished::Name;
 
 /// The base of a subtree, read.
 #[derive(Clone, Copy)]

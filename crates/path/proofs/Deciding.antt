@@ -13,18 +13,18 @@ use Rattle.names.specs.GeneralLayout.{NameContents, GeneralName, SubtreeBase, di
 use Rattle.names.specs.GeneralCoverage.{form_of_general_name}
 use Rattle.cert.specs.Certificate.{Certificate, is_self_issued, seen_certificate}
 use Rattle.cert.specs.declared.certificate.Certificate as code
-use Rattle.conditions.specs.declared.form_set.FormSet.{FormSet}
+use Rattle.path_conditions.specs.declared.form_set.FormSet.{FormSet}
 use Rattle.path.specs.declared.reason.Reason.{Reason}
 use Rattle.path.specs.declared.reason.Reason.TheVariants.{Repeated, Signature, NotYet, Expired, Issuer, NotPermitted, Excluded, ConstraintForm, NotCa, PathLength, KeyCertSign, Policy, CriticalUnknown, Purpose, Empty, TooLong}
 use Rattle.path.specs.Query.{Query, Accepts, count, certificate_at}
-use Rattle.conditions.specs.NamesOf.{names_of, BearsForm}
+use Rattle.path_conditions.specs.NamesOf.{names_of, BearsForm}
 use Rattle.path.specs.Reason.{reason_rank}
 use Rattle.path.specs.Conditions.{IsNotRepeated, NamesArePermitted, NamesAreNotExcluded, ConstraintsAreProcessed, IsWithinPathLength, MeetsCondition, MeetsConditions}
-use Rattle.conditions.specs.Narrowing.{is_in_one_of}
-use Rattle.conditions.specs.Constraints.{Constraints, PermitsIn, permits_in, permits_name, has_number, BearsOneOf}
+use Rattle.path_conditions.specs.Narrowing.{is_in_one_of}
+use Rattle.path_conditions.specs.Constraints.{Constraints, PermitsIn, permits_in, permits_name, has_number, BearsOneOf}
 use Rattle.path.specs.State.{Progress, IsPermitted}
 use Rattle.path.specs.Keeping.{Keeps}
-use Rattle.conditions.proofs.Laws.{Laws, laws_of_names, in_one, list_any-map}
+use Rattle.path_conditions.proofs.Laws.{Laws, laws_of_names, in_one, list_any-map}
 use Rattle.path.proofs.Rooms.{at_more, room_left, room_allows}
 
 -- truth values and facts

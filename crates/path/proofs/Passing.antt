@@ -11,18 +11,18 @@ use Rattle.names.specs.declared.general.Form.{Form}
 use Rattle.names.specs.declared.general.Form.TheVariants as F
 use Rattle.cert.specs.Certificate.{Certificate, is_self_issued, seen_certificate}
 use Rattle.cert.specs.declared.certificate.Certificate as code
-use Rattle.conditions.specs.declared.form_set.FormSet.{FormSet}
+use Rattle.path_conditions.specs.declared.form_set.FormSet.{FormSet}
 use Rattle.path.specs.Query.{Query, count, certificate_at}
-use Rattle.conditions.specs.NamesOf.{IsInOneOf, AreAbout, Permits, Excludes, Constrains}
+use Rattle.path_conditions.specs.NamesOf.{IsInOneOf, AreAbout, Permits, Excludes, Constrains}
 use Rattle.path.specs.Conditions.{constraints_at, IsWithinPathLength}
-use Rattle.conditions.specs.CertificateConditions.{path_length_of}
+use Rattle.path_conditions.specs.CertificateConditions.{path_length_of}
 use Rattle.path.specs.Validity.{IsServed}
-use Rattle.conditions.specs.Narrowing.{is_in_one_of, are_about, is_processed_base, of_form, narrowed, joined, change_of, changed}
-use Rattle.conditions.specs.Constraints.{Constraints, size_of, subtrees_in, narrowed_by, has_number}
+use Rattle.path_conditions.specs.Narrowing.{is_in_one_of, are_about, is_processed_base, of_form, narrowed, joined, change_of, changed}
+use Rattle.path_conditions.specs.Constraints.{Constraints, size_of, subtrees_in, narrowed_by, has_number}
 use Rattle.path.specs.State.{IsPermitted, IsExcluded, AdmitsExactly, Progress, subtrees_of, subtrees_up_to}
 use Rattle.path.specs.Keeping.{spent, lesser, Keeps, ListIs, IsConstrained}
-use Rattle.conditions.proofs.Laws.{list_any-filter, list_any-weaker, length-filter-le}
-use Rattle.conditions.proofs.Laws.{Laws, laws_of_names, in_one, about, narrowed_sound, narrowed_complete, of_form_is, of_form_from, length-narrowed, processed_test, three_forms}
+use Rattle.path_conditions.proofs.Laws.{list_any-filter, list_any-weaker, length-filter-le}
+use Rattle.path_conditions.proofs.Laws.{Laws, laws_of_names, in_one, about, narrowed_sound, narrowed_complete, of_form_is, of_form_from, length-narrowed, processed_test, three_forms}
 use Rattle.path.proofs.Deciding.{take-map, below_of, here_of}
 use Rattle.path.proofs.Rooms.{split_last, at_more, room_spent, room_lesser, room_left}
 

@@ -8,7 +8,7 @@ use Rattle.std.proofs.lemmas.List.Sums.{sum_by-append}
 use Rattle.cert.specs.Certificate.{Certificate, is_self_issued}
 use Rattle.path.specs.Query.{Query, count, certificate_at}
 use Rattle.path.specs.Conditions.{others_between, IsWithinPathLength}
-use Rattle.conditions.specs.CertificateConditions.{path_length_of}
+use Rattle.path_conditions.specs.CertificateConditions.{path_length_of}
 use Rattle.path.specs.Keeping.{spent, lesser, RoomIs, IsRoom}
 
 none_some : (n : ℕ) → ◌≡◌ {A = Option ℕ} None (Some n) → ⊥

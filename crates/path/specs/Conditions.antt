@@ -11,8 +11,8 @@ use Rattle.cert.specs.NameConstraints.{NameConstraints}
 use Rattle.path.specs.declared.reason.Reason.{Reason}
 use Rattle.path.specs.declared.reason.Reason.TheVariants.{Repeated, Signature, NotYet, Expired, Issuer, NotPermitted, Excluded, ConstraintForm, NotCa, PathLength, KeyCertSign, Policy, CriticalUnknown, Purpose, Empty, TooLong}
 use Rattle.path.specs.Query.{Query, Accepts, count, certificate_at}
-use Rattle.conditions.specs.NamesOf.{names_of, BearsForm, Permits, Excludes, Constrains}
-use Rattle.conditions.specs.CertificateConditions.{HasBegun, HasNotExpired, IsCa, path_length_of, MaySignCertificates, NeedsNoPolicyTree, CriticalExtensionsAreKnown, AllowsPurpose}
+use Rattle.path_conditions.specs.NamesOf.{names_of, BearsForm, Permits, Excludes, Constrains}
+use Rattle.path_conditions.specs.CertificateConditions.{HasBegun, HasNotExpired, IsCa, path_length_of, MaySignCertificates, NeedsNoPolicyTree, CriticalExtensionsAreKnown, AllowsPurpose}
 
 -- no earlier certificate of the path has the same octets (a choice of the profile)
 abbrev pub IsNotRepeated : Query → ℕ → Type 0

@@ -4,12 +4,12 @@ use Rattle.names.specs.declared.general.Form.{Form}
 use Rattle.names.specs.declared.general.Form.TheVariants as F
 use Rattle.names.specs.GeneralLayout.{NameContents, GeneralName, SubtreeBase}
 use Rattle.names.specs.GeneralCoverage.{form_of_general_name}
-use Rattle.conditions.specs.declared.form_set.FormSet.{FormSet}
+use Rattle.path_conditions.specs.declared.form_set.FormSet.{FormSet}
 use Rattle.path.specs.Query.{Query, count, certificate_at}
-use Rattle.conditions.specs.NamesOf.{IsInOneOf, Constrains}
+use Rattle.path_conditions.specs.NamesOf.{IsInOneOf, Constrains}
 use Rattle.path.specs.Conditions.{constraints_at, others_between}
-use Rattle.conditions.specs.CertificateConditions.{path_length_of}
-use Rattle.conditions.specs.Constraints.{Constraints, PermitsIn, subtrees_in, has_number}
+use Rattle.path_conditions.specs.CertificateConditions.{path_length_of}
+use Rattle.path_conditions.specs.Constraints.{Constraints, PermitsIn, subtrees_in, has_number}
 use Rattle.path.specs.State.{IsPermitted, IsExcluded, subtrees_up_to}
 
 -- The room at certificate k under the path lengths of certificates 1 to m: how many more may follow that are not self-issued.

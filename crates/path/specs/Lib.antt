@@ -5,10 +5,10 @@ pub mod Validity
 pub mod State
 pub mod Keeping
 pub mod Codes
-pub use Rattle.conditions.specs.NamesOf
-pub use Rattle.conditions.specs.CertificateConditions
-pub use Rattle.conditions.specs.Narrowing
-pub use Rattle.conditions.specs.Constraints
+pub use Rattle.path_conditions.specs.NamesOf
+pub use Rattle.path_conditions.specs.CertificateConditions
+pub use Rattle.path_conditions.specs.Narrowing
+pub use Rattle.path_conditions.specs.Constraints
 pub use Rattle.names.specs.GeneralName
 pub use Rattle.names.specs.GeneralLayout
 pub use Rattle.names.specs.GeneralCoverage

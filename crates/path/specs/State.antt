@@ -9,11 +9,11 @@ use Rattle.path.specs.declared.reason.Reason.{Reason}
 use Rattle.path.specs.declared.reason.Step.{Step}
 use Rattle.path.specs.declared.reason.Step.TheVariants.{Passed, Failed, Ended}
 use Rattle.path.specs.Query.{Query, Accepts, count}
-use Rattle.conditions.specs.NamesOf.{Permits, Excludes}
+use Rattle.path_conditions.specs.NamesOf.{Permits, Excludes}
 use Rattle.path.specs.Conditions.{MeetsConditions, constraints_at}
 use Rattle.path.specs.Validity.{IsServed, IsLeastBroken, IsNotServedFor}
-use Rattle.conditions.specs.Narrowing.{has_processed}
-use Rattle.conditions.specs.Constraints.{Constraints, AdmitsName}
+use Rattle.path_conditions.specs.Narrowing.{has_processed}
+use Rattle.path_conditions.specs.Constraints.{Constraints, AdmitsName}
 
 -- the question that certificates, as they were read, are part of
 abbrev pub query_of : code.Certificate → List code.Certificate → ℤ → Option (List ℕ) → Query

@@ -5,7 +5,7 @@ mod reason;
 mod state;
 mod validation;
 
+pub use path_verifiers::Verifier;
 pub use reason::{Outcome, Reason, Step};
 pub use state::State;
 pub use validation::{outcome_laws, validate};
-pub use verifiers::Verifier;

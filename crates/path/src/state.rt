@@ -9,20 +9,20 @@ ghost use Rattle.path.specs.declared.reason.Reason.TheVariants as reason;
 ghost use Rattle.path.specs.Query.{count, certificate_at};
 ghost use Rattle.path.specs.Conditions.{AreNamesChecked, MeetsCondition, MeetsConditions};
 ghost use Rattle.path.specs.Validity.{IsServed, IsLeastBroken};
-ghost use Rattle.conditions.specs.Constraints.{subtrees_in};
+ghost use Rattle.path_conditions.specs.Constraints.{subtrees_in};
 ghost use Rattle.path.specs.State.{query_of, Advances, AdmitsExactly, CarriesNoSubtree, subtrees_up_to};
 ghost use Rattle.path.specs.Keeping.{spent, lesser};
 
 use crate::reason::{Reason, Step};
 use cert::Certificate;
-use conditions::{
+use names::Name;
+use path_conditions::{
     Constraints, FormSet, allows_purpose, are_critical_extensions_known, has_begun,
     has_not_expired, is_ca, may_sign_certificates, needs_no_policy_tree, path_length,
 };
-use names::Name;
+use path_verifiers::Verifier;
 use std::alloc::{AllocError, Global};
 use std::marker::Model;
-use verifiers::Verifier;
 
 /// The most certificates of a path that is served.
 pub(crate) const MOST_CERTIFICATES: usize = 128;
@@ -71,7 +71,7 @@ impl<'p, 'c, V> Model for State<'p, 'c, V> {
     ghost use Rattle.std.specs.Option.{option_copied};
     ghost use Rattle.names.specs.GeneralView.{name_contents};
     ghost use Rattle.path.specs.State.{Progress, query_of};
-    ghost use Rattle.conditions.specs.Constraints.{seen_constraints};
+    ghost use Rattle.path_conditions.specs.Constraints.{seen_constraints};
     ghost use Rattle.path.specs.Keeping.{Keeps};
     ghost use Rattle.std.specs.Coded.{codes};
     ghost use Rattle.path.specs.Codes.{rdn_code};

@@ -8,8 +8,8 @@ ghost use Rattle.path.specs.State.{query_of, CarriesNoSubtree};
 use crate::reason::{Outcome, Step};
 use crate::state::{MOST_CERTIFICATES, State};
 use cert::Certificate;
+use path_verifiers::Verifier;
 use std::alloc::{AllocError, Global};
-use verifiers::Verifier;
 
 /// The number of the certificate that fails behind so many, or 0 where it is the path itself that is not served.
 fn failed_at(count: usize, done: usize) -> usize

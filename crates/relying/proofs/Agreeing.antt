@@ -1,10 +1,10 @@
 -- Comparisons that do not differ.
 use Rattle.std.proofs.Common.{Result, Ok, Err}
 use Rattle.sqlite.specs.State.{State}
-use Rattle.agreement.specs.declared.verdict.Comparison.{Comparison}
-use Rattle.agreement.specs.Comparison.{IsComparison, NeverDiffers}
+use Rattle.relying_agreement.specs.declared.verdict.Comparison.{Comparison}
+use Rattle.relying_agreement.specs.Comparison.{IsComparison, NeverDiffers}
 use Rattle.path.specs.Query.{Query, Accepts}
-use Rattle.verdicts.specs.declared.fault.Fault.{Fault}
+use Rattle.relying_verdicts.specs.declared.fault.Fault.{Fault}
 use Rattle.relying.specs.Asking.{LooksAtBoth}
 use Rattle.relying.specs.Never.{NeverDiffer}
 

@@ -1,15 +1,15 @@
 -- What one event does, and several one after the other.
 use Rattle.std.proofs.Common.{◌≡◌, is_ok, if◌then◌else◌, ℕ, append-nil, List, [], ◌∷◌, ◌++◌, map, Result, Ok, Err, refl, sym, ap, subst, ◌∙◌}
 use Rattle.sqlite.specs.State.{State}
-use Rattle.facts.specs.Fact.{Fact}
-use Rattle.facts.specs.Statement.{Holdings}
-use Rattle.tables.specs.declared.fault.StoreFault.TheVariants.{Schema as NotOurs}
-use Rattle.holdings.specs.Held.{IsStoreOf}
-use Rattle.newest.specs.declared.counts.Counts.{Counts}
-use Rattle.newest.specs.Coming.{after_all, HoldsNewest}
-use Rattle.newest.proofs.Laws.{holds_newest, takes_both}
+use Rattle.statements_facts.specs.Fact.{Fact}
+use Rattle.statements_facts.specs.Statement.{Holdings}
+use Rattle.store_sql.specs.declared.fault.StoreFault.TheVariants.{Schema as NotOurs}
+use Rattle.store_maps.specs.Held.{IsStoreOf}
+use Rattle.statements_facts.specs.declared.counts.Counts.{Counts}
+use Rattle.statements_facts.specs.Coming.{after_all, HoldsNewest}
+use Rattle.statements_facts.proofs.Laws.{holds_newest, takes_both}
 use Rattle.path.specs.Query.{Accepts}
-use Rattle.agreement.specs.Run.{Event, facts_under, genuine_facts, facts_or_none, facts_taken}
+use Rattle.relying_agreement.specs.Run.{Event, facts_under, genuine_facts, facts_or_none, facts_taken}
 use Rattle.store.specs.Adopts.{Restarts}
 use Rattle.relying.specs.declared.fault.DeliverFault.{DeliverFault}
 use Rattle.relying.specs.declared.fault.DeliverFault.TheVariants.{Issuer, Statement, Store}

@@ -4,10 +4,10 @@ use Rattle.sqlite.specs.Store.{Ghosts}
 use Rattle.sqlite.specs.Held.{Held, state}
 use Rattle.sqlite.specs.State.{State, KeepsCommit, IsRolledBack}
 use Rattle.sqlite.proofs.InsideLemmas.{unchanged_keeps, keeps_then}
-use Rattle.facts.specs.Statement.{Holdings}
-use Rattle.verdicts.specs.declared.fault.Fault.{Fault}
-use Rattle.verdicts.specs.declared.fault.Fault.TheVariants.{Store, Memory}
-use Rattle.verdicts.specs.Asking.{Asks, AsksBoth}
+use Rattle.statements_facts.specs.Statement.{Holdings}
+use Rattle.relying_verdicts.specs.declared.fault.Fault.{Fault}
+use Rattle.relying_verdicts.specs.declared.fault.Fault.TheVariants.{Store, Memory}
+use Rattle.relying_verdicts.specs.Asking.{Asks, AsksBoth}
 use Rattle.relying.specs.Asking.{LooksInside, LooksInsideBoth}
 
 dropped : (old last new : State) → KeepsCommit old last → IsRolledBack last new → KeepsCommit old new

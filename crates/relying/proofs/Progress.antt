@@ -7,10 +7,10 @@ use Rattle.sqlite_store.specs.declared.store.FileStore.{FileStore}
 use Rattle.sqlite.specs.Held.{Held}
 use Rattle.sqlite.specs.Files.{file_state}
 use Rattle.sqlite.specs.State.{State, HasCleanDisk}
-use Rattle.newest.specs.declared.counts.Counts.{Counts}
+use Rattle.statements_facts.specs.declared.counts.Counts.{Counts}
 use Rattle.path.specs.Query.{Accepts}
-use Rattle.agreement.specs.Run.{Event}
-use Rattle.verdicts.specs.declared.fault.Fault.{Fault}
+use Rattle.relying_agreement.specs.Run.{Event}
+use Rattle.relying_verdicts.specs.declared.fault.Fault.{Fault}
 use Rattle.relying.specs.declared.events.Event as said
 use Rattle.relying.specs.declared.fault.DeliverFault.{DeliverFault}
 use Rattle.relying.specs.Restart.{FailsToRestart}

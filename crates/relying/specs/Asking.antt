@@ -1,12 +1,12 @@
 -- What a call does that asks the store, outside a transaction, and may also want memory.
 use Rattle.std.specs.Prelude.{◌≡◌, Result, Ok, Err}
 use Rattle.sqlite.specs.State.{State, KeepsCommit}
-use Rattle.facts.specs.Statement.{Holdings}
-use Rattle.tables.specs.declared.fault.StoreFault.TheVariants.{Schema as NotOurs}
-use Rattle.holdings.specs.Held.{IsStoreOf}
+use Rattle.statements_facts.specs.Statement.{Holdings}
+use Rattle.store_sql.specs.declared.fault.StoreFault.TheVariants.{Schema as NotOurs}
+use Rattle.store_maps.specs.Held.{IsStoreOf}
 use Rattle.store.specs.Adopts.{Keeps}
-use Rattle.verdicts.specs.declared.fault.Fault.{Fault}
-use Rattle.verdicts.specs.declared.fault.Fault.TheVariants.{Store, Memory}
+use Rattle.relying_verdicts.specs.declared.fault.Fault.{Fault}
+use Rattle.relying_verdicts.specs.declared.fault.Fault.TheVariants.{Store, Memory}
 
 -- a fault is never for the form of the rows of a store
 abbrev pub IsFormed : State → Fault → Type 0

@@ -4,13 +4,13 @@ use Rattle.sqlite.specs.State.{State}
 use Rattle.cert.specs.declared.fault.CertRule.{CertRule}
 use Rattle.cert.specs.Certificate.{Certificate, certificate}
 use Rattle.cert.specs.Fault.{FailsUnlessFull as CertificateFails}
-use Rattle.facts.specs.Fact.{Fact}
-use Rattle.revocation.specs.declared.fault.StatementFault.{StatementFault}
+use Rattle.statements_facts.specs.Fact.{Fact}
+use Rattle.statements_parts.specs.declared.fault.StatementFault.{StatementFault}
 use Rattle.statements.specs.Genuine.{Accepts, FailsUnlessFull}
 use Rattle.statements.specs.OcspFact.{genuine_statement}
-use Rattle.newest.specs.declared.counts.Counts.{Counts}
+use Rattle.statements_facts.specs.declared.counts.Counts.{Counts}
 use Rattle.store.specs.Adopts.{Keeps}
-use Rattle.taking.specs.Delivery.{Delivers, GivesUp}
+use Rattle.store_taking.specs.Delivery.{Delivers, GivesUp}
 use Rattle.relying.specs.declared.fault.DeliverFault.{DeliverFault}
 use Rattle.relying.specs.declared.fault.DeliverFault.TheVariants.{Issuer, Statement, Store}
 

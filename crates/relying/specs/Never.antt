@@ -1,15 +1,15 @@
 -- Two parties that agree.
 use Rattle.std.specs.Prelude.{◌≡◌, Result, IfOk}
 use Rattle.sqlite.specs.State.{State}
-use Rattle.facts.specs.Statement.{Holdings}
-use Rattle.holdings.specs.Held.{IsStoreOf}
+use Rattle.statements_facts.specs.Statement.{Holdings}
+use Rattle.store_maps.specs.Held.{IsStoreOf}
 use Rattle.path.specs.Query.{Query, Accepts}
-use Rattle.agreement.specs.declared.verdict.Comparison.{Comparison}
-use Rattle.agreement.specs.declared.verdict.Comparison.TheVariants.{Same}
-use Rattle.agreement.specs.declared.verdict.Verdict.{Verdict}
-use Rattle.agreement.specs.Agreement.{HeldAreConsistent, HoldSameNewest}
-use Rattle.agreement.specs.Verdict.{IsVerdict}
-use Rattle.verdicts.specs.declared.fault.Fault.{Fault}
+use Rattle.relying_agreement.specs.declared.verdict.Comparison.{Comparison}
+use Rattle.relying_agreement.specs.declared.verdict.Comparison.TheVariants.{Same}
+use Rattle.relying_agreement.specs.declared.verdict.Verdict.{Verdict}
+use Rattle.relying_agreement.specs.Agreement.{HeldAreConsistent, HoldSameNewest}
+use Rattle.relying_agreement.specs.Verdict.{IsVerdict}
+use Rattle.relying_verdicts.specs.declared.fault.Fault.{Fault}
 
 -- Where both hold the same newest for every certificate of the path, and what they hold of it is consistent, the answer is that the
 -- verdicts are the same, or a fault.

@@ -5,20 +5,20 @@ use Rattle.sqlite_store.specs.declared.store.FileStore.{FileStore}
 use Rattle.sqlite.specs.Held.{Held}
 use Rattle.sqlite.specs.Files.{file_state}
 use Rattle.sqlite.specs.State.{State, HasCleanDisk}
-use Rattle.facts.specs.Fact.{Fact}
-use Rattle.facts.specs.Statement.{Holdings}
-use Rattle.tables.specs.declared.fault.StoreFault.TheVariants.{Schema as NotOurs}
-use Rattle.holdings.specs.Held.{IsStoreOf}
-use Rattle.newest.specs.declared.counts.Counts.{Counts}
-use Rattle.newest.specs.Coming.{after_all, AreCounts}
+use Rattle.statements_facts.specs.Fact.{Fact}
+use Rattle.statements_facts.specs.Statement.{Holdings}
+use Rattle.store_sql.specs.declared.fault.StoreFault.TheVariants.{Schema as NotOurs}
+use Rattle.store_maps.specs.Held.{IsStoreOf}
+use Rattle.statements_facts.specs.declared.counts.Counts.{Counts}
+use Rattle.statements_facts.specs.Coming.{after_all, AreCounts}
 use Rattle.path.specs.Query.{Accepts}
-use Rattle.agreement.specs.Run.{Event, Answer, facts_taken, genuine_facts, HasRun}
+use Rattle.relying_agreement.specs.Run.{Event, Answer, facts_taken, genuine_facts, HasRun}
 use Rattle.relying.specs.declared.events.Event as said
 use Rattle.relying.specs.declared.fault.DeliverFault.{DeliverFault}
 use Rattle.relying.specs.declared.fault.DeliverFault.TheVariants.{Store}
 use Rattle.relying.specs.Delivery.{IsReason, Says}
 use Rattle.relying.specs.Restart.{FailsToRestart}
-use Rattle.verdicts.specs.declared.fault.Fault.{Fault}
+use Rattle.relying_verdicts.specs.declared.fault.Fault.{Fault}
 
 abbrev pub seen_event : said.Event → Event
 seen_event (said.TheVariants.Deliver issuer statement) = Event.Deliver issuer.now statement.now

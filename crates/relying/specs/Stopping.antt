@@ -2,7 +2,7 @@
 use Rattle.std.specs.Prelude.{◌≡◌, List}
 use Rattle.sqlite_disk.specs.declared.Disk.{Ghosts}
 use Rattle.path.specs.Query.{Accepts}
-use Rattle.agreement.specs.Run.{Event}
+use Rattle.relying_agreement.specs.Run.{Event}
 use Rattle.relying.specs.declared.fault.RunFault.{RunFault}
 use Rattle.relying.specs.declared.fault.RunFault.TheVariants.{NoRoom, Restart}
 use Rattle.relying.specs.declared.node.Node.{Node}

@@ -4,20 +4,20 @@ ghost use Rattle.std.specs.Prelude.{◌≡◌, false};
 ghost use Rattle.sqlite.specs.Held.{state};
 ghost use Rattle.sqlite.specs.Files.{file_state};
 ghost use Rattle.sqlite.specs.State.{HasCleanDisk};
-ghost use Rattle.adoption.specs.Creates.{IsDurable, IsSettled};
-ghost use Rattle.agreement.specs.Comparison.{IsComparison};
-ghost use Rattle.tables.specs.Statements.{CommitsNothing};
+ghost use Rattle.store_adoption.specs.Creates.{IsDurable, IsSettled};
+ghost use Rattle.relying_agreement.specs.Comparison.{IsComparison};
+ghost use Rattle.store_sql.specs.Statements.{CommitsNothing};
 ghost use Rattle.relying.specs.Asking.{LooksAtBoth, LooksInsideBoth};
 ghost use Rattle.relying.specs.Never.{NeverDiffer};
-ghost use Rattle.verdicts.specs.View.{seen_query};
+ghost use Rattle.relying_verdicts.specs.View.{seen_query};
 
 use crate::node::Node;
-use agreement::comparison_laws;
+use path_verifiers::Verifier;
+use relying_agreement::comparison_laws;
+use relying_verdicts::{Comparison, Fault, Query};
 use sqlite::{Alter, Connection, FileStore};
 use sqlite_disk::Disk;
 use std::alloc::Global;
-use verdicts::{Comparison, Fault, Query};
-use verifiers::Verifier;
 
 fn compare_in_transactions<V: Verifier, S: Alter, D: Alter>(
     alloc: Global,
@@ -36,7 +36,7 @@ fn compare_in_transactions<V: Verifier, S: Alter, D: Alter>(
 {
     let mut first = one.transaction();
     let mut second = other.transaction();
-    match verdicts::compare(alloc, verifier, &mut first, &mut second, query) {
+    match relying_verdicts::compare(alloc, verifier, &mut first, &mut second, query) {
         Ok(comparison) => Ok(comparison),
         Err(fault) => Err(fault),
     }

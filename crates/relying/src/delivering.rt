@@ -4,19 +4,19 @@ ghost use Rattle.std.specs.Prelude.{◌≡◌, false, IsTrue};
 ghost use Rattle.sqlite.specs.Held.{state};
 ghost use Rattle.sqlite.specs.State.{HasCleanDisk, Survives};
 ghost use Rattle.cert.specs.Certificate.{seen_certificate};
-ghost use Rattle.agreement.specs.Run.{facts_or_none, genuine_facts};
-ghost use Rattle.taking.specs.Delivery.{CommitsWhole};
+ghost use Rattle.relying_agreement.specs.Run.{facts_or_none, genuine_facts};
+ghost use Rattle.store_taking.specs.Delivery.{CommitsWhole};
 ghost use Rattle.relying.specs.Delivery.{IsAnswered, IsAnsweredUnder};
 ghost use Rattle.statements.specs.OcspFact.{genuine_statement};
 
 use crate::fault::DeliverFault;
 use cert::Certificate;
-use newest::Counts;
+use path_verifiers::Verifier;
 use sqlite::{Alter, Connection};
 use statements::genuine;
+use statements_facts::Counts;
 use std::alloc::Global;
-use taking::put;
-use verifiers::Verifier;
+use store_taking::put;
 
 /// Puts what a statement of the issuer says into the store.
 fn deliver_under<V: Verifier, S: Alter>(

@@ -3,17 +3,17 @@
 ghost use Rattle.std.specs.Prelude.{◌≡◌, ◌≤◌, ◌<◌, ◌+◌, IfErr, IfOk, vec_capacity, vec_len};
 ghost use Rattle.sqlite.specs.Files.{file_state};
 ghost use Rattle.sqlite.specs.State.{HasCleanDisk};
-ghost use Rattle.agreement.specs.Run.{Event as Happened};
+ghost use Rattle.relying_agreement.specs.Run.{Event as Happened};
 ghost use Rattle.relying.specs.Run.{HasHappened, seen_event};
 ghost use Rattle.relying.specs.Restart.{FailsToRestart};
 
 use crate::fault::DeliverFault;
 use crate::node::Node;
-use newest::Counts;
+use path_verifiers::Verifier;
+use relying_verdicts::Fault;
 use sqlite_disk::Disk;
+use statements_facts::Counts;
 use std::alloc::Global;
-use verdicts::Fault;
-use verifiers::Verifier;
 
 /// What reaches a relying party.
 #[derive(Clone, Copy, Debug, PartialEq, Eq)]

@@ -2,12 +2,12 @@
 
 use crate::node::Node;
 use cert::CertFault;
-use revocation::StatementFault;
+use path_verifiers::Verifier;
+use relying_verdicts::Fault;
 use sqlite_disk::Disk;
-use tables::StoreFault;
+use statements_parts::StatementFault;
+use store_sql::StoreFault;
 use thiserror::Error;
-use verdicts::Fault;
-use verifiers::Verifier;
 
 /// Why a delivery takes nothing: the issuer's certificate is refused, else the statement is, else the store does not take it.
 #[derive(Clone, Copy, Debug, PartialEq, Eq, Error)]

@@ -3,16 +3,16 @@
 ghost use Rattle.std.specs.Prelude.{◌≡◌, false};
 ghost use Rattle.sqlite.specs.Held.{state};
 ghost use Rattle.sqlite.specs.State.{HasCleanDisk};
-ghost use Rattle.adoption.specs.Creates.{IsDurable, IsSettled};
-ghost use Rattle.agreement.specs.Verdict.{IsVerdict};
-ghost use Rattle.tables.specs.Statements.{CommitsNothing};
+ghost use Rattle.store_adoption.specs.Creates.{IsDurable, IsSettled};
+ghost use Rattle.relying_agreement.specs.Verdict.{IsVerdict};
+ghost use Rattle.store_sql.specs.Statements.{CommitsNothing};
 ghost use Rattle.relying.specs.Asking.{Looks, LooksInside};
-ghost use Rattle.verdicts.specs.View.{seen_query};
+ghost use Rattle.relying_verdicts.specs.View.{seen_query};
 
+use path_verifiers::Verifier;
+use relying_verdicts::{Fault, Query, Verdict, verdict};
 use sqlite::{Alter, Connection};
 use std::alloc::Global;
-use verdicts::{Fault, Query, Verdict, verdict};
-use verifiers::Verifier;
 
 fn judge_in_transaction<V: Verifier, S: Alter>(
     alloc: Global,

@@ -14,5 +14,5 @@ pub use comparing::compare;
 pub use events::{Answer, Event};
 pub use fault::{DeliverFault, RunFault};
 pub use node::Node;
+pub use relying_verdicts::{Comparison, Fault, Query, QueryFault, Verdict};
 pub use running::run_laws;
-pub use verdicts::{Comparison, Fault, Query, QueryFault, Verdict};

@@ -3,26 +3,26 @@
 ghost use Rattle.std.specs.Prelude.{◌≡◌, IfErr, IfOk};
 ghost use Rattle.sqlite.specs.Files.{file_state};
 ghost use Rattle.sqlite.specs.State.{HasCleanDisk, Survives};
-ghost use Rattle.adoption.specs.Creates.{IsDurable};
-ghost use Rattle.agreement.specs.Run.{genuine_facts};
-ghost use Rattle.agreement.specs.Verdict.{IsVerdict};
+ghost use Rattle.store_adoption.specs.Creates.{IsDurable};
+ghost use Rattle.relying_agreement.specs.Run.{genuine_facts};
+ghost use Rattle.relying_agreement.specs.Verdict.{IsVerdict};
 ghost use Rattle.store.specs.Adopts.{Restarts};
-ghost use Rattle.tables.specs.Statements.{CommitsNothing};
-ghost use Rattle.taking.specs.Delivery.{CommitsWhole};
+ghost use Rattle.store_sql.specs.Statements.{CommitsNothing};
+ghost use Rattle.store_taking.specs.Delivery.{CommitsWhole};
 ghost use Rattle.relying.specs.Asking.{Looks};
 ghost use Rattle.relying.specs.Delivery.{IsAnswered};
 ghost use Rattle.relying.specs.Restart.{FailsToRestart};
-ghost use Rattle.verdicts.specs.View.{seen_query};
+ghost use Rattle.relying_verdicts.specs.View.{seen_query};
 
 use crate::delivering::deliver;
 use crate::fault::DeliverFault;
 use crate::judging::judge;
-use newest::Counts;
+use path_verifiers::Verifier;
+use relying_verdicts::{Fault, Query, Verdict};
 use sqlite_disk::Disk;
+use statements_facts::Counts;
 use std::alloc::Global;
 use store::Store;
-use verdicts::{Fault, Query, Verdict};
-use verifiers::Verifier;
 
 /// A relying party: by what it judges signatures, and the newest statements that it has seen.
 pub struct Node<V: Verifier, D: Disk> {

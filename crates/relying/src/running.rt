@@ -9,10 +9,10 @@ ghost use Rattle.relying.specs.Stopping.{StopsShort};
 use crate::events::{Answer, Event, take_event};
 use crate::fault::RunFault;
 use crate::node::Node;
+use path_verifiers::Verifier;
+use relying_verdicts::Fault;
 use sqlite_disk::Disk;
 use std::alloc::Global;
-use verdicts::Fault;
-use verifiers::Verifier;
 
 /// The events in order. There is room for the answers.
 fn run_all<V: Verifier + Drop, D: Disk + Drop>(

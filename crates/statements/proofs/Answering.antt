@@ -1,15 +1,15 @@
 -- Checks one after the other: what the first that fails answers.
 use Rattle.std.proofs.Common.{◌≡◌, ℕ, true, false, List, [], ◌∷◌, map, Result, Ok, Err, refl}
-use Rattle.revocation.specs.Fault as reading
-use Rattle.revocation.specs.declared.fault.StatementRule.{StatementRule}
-use Rattle.revocation.specs.declared.fault.StatementFault.{StatementFault}
-use Rattle.revocation.specs.declared.fault.StatementFault.TheVariants.{Refused, OtherIssuer, BadSignature, NoSigner, NothingForIssuer, Memory}
+use Rattle.statements_parts.specs.Fault as reading
+use Rattle.statements_parts.specs.declared.fault.StatementRule.{StatementRule}
+use Rattle.statements_parts.specs.declared.fault.StatementFault.{StatementFault}
+use Rattle.statements_parts.specs.declared.fault.StatementFault.TheVariants.{Refused, OtherIssuer, BadSignature, NoSigner, NothingForIssuer, Memory}
 use Rattle.cert.specs.Certificate.{Certificate}
-use Rattle.ocsp.specs.OcspResponse.{OcspResponse, ocsp_response}
-use Rattle.ocsp.specs.Kind.{is_response}
-use Rattle.facts.specs.Statement.{IssuerIdentity, CrlSlot, CrlFact}
-use Rattle.facts.specs.Single.{SingleFact, some_singles}
-use Rattle.facts.specs.Fact.{Fact}
+use Rattle.statements_ocsp.specs.OcspResponse.{OcspResponse, ocsp_response}
+use Rattle.statements_ocsp.specs.Kind.{is_response}
+use Rattle.statements_facts.specs.Statement.{IssuerIdentity, CrlSlot, CrlFact}
+use Rattle.statements_facts.specs.Single.{SingleFact, some_singles}
+use Rattle.statements_facts.specs.Fact.{Fact}
 use Rattle.statements.specs.Issuer.{identity_of}
 use Rattle.statements.specs.CrlFact.{genuine_list}
 use Rattle.statements.specs.Responder.{Signer, signer_of}

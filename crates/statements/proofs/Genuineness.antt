@@ -3,12 +3,12 @@ use Rattle.std.proofs.Common.{◌≡◌, ℕ, List, Bool, true, false, Result, O
 use Rattle.names.specs.DistinguishedName.{matching}
 use Rattle.names.proofs.Laws.{matching_is_exact}
 use Rattle.cert.specs.Certificate.{Certificate}
-use Rattle.crl.specs.CertificateList.{CertificateList, certificate_list}
-use Rattle.revocation.specs.declared.fault.StatementRule.{StatementRule}
-use Rattle.revocation.specs.declared.fault.StatementFault.{StatementFault}
-use Rattle.revocation.specs.declared.fault.StatementFault.TheVariants.{Refused, OtherIssuer, BadSignature, NoSigner, NothingForIssuer, Memory}
-use Rattle.facts.specs.Statement.{CrlSlot, CrlFact}
-use Rattle.revocation.specs.Fault as reading
+use Rattle.statements_crl.specs.CertificateList.{CertificateList, certificate_list}
+use Rattle.statements_parts.specs.declared.fault.StatementRule.{StatementRule}
+use Rattle.statements_parts.specs.declared.fault.StatementFault.{StatementFault}
+use Rattle.statements_parts.specs.declared.fault.StatementFault.TheVariants.{Refused, OtherIssuer, BadSignature, NoSigner, NothingForIssuer, Memory}
+use Rattle.statements_facts.specs.Statement.{CrlSlot, CrlFact}
+use Rattle.statements_parts.specs.Fault as reading
 use Rattle.statements.specs.Genuine.{Accepts, ◌then◌, as_refused, or_else, FailsUnlessFull}
 use Rattle.statements.specs.CrlFact.{IsCrlFact, GenuineListsAreFacts, genuine_list, of_issuer, is_signed, slot_of, fact_of}
 

@@ -5,11 +5,11 @@ use Rattle.std.specs.Str.{bytes_eq}
 use Rattle.std.proofs.Math.Path.{fun_ext}
 use Rattle.asn.specs.DerLaws.{AreOctets}
 use Rattle.asn.specs.Integer.{IsNumber20, binary_value}
-use Rattle.crl.proofs.Laws.{is_binary}
-use Rattle.crl.specs.Entry.{Entry, reason_listed}
-use Rattle.facts.specs.Listed.{ListedSerial, first_reason}
-use Rattle.crl.specs.CertificateList.{CertificateList}
-use Rattle.facts.specs.Statement.{CrlFact}
+use Rattle.statements_crl.proofs.Laws.{is_binary}
+use Rattle.statements_crl.specs.Entry.{Entry, reason_listed}
+use Rattle.statements_facts.specs.Listed.{ListedSerial, first_reason}
+use Rattle.statements_crl.specs.CertificateList.{CertificateList}
+use Rattle.statements_facts.specs.Statement.{CrlFact}
 use Rattle.statements.specs.CrlFact.{listed_in, fact_of}
 
 -- what the listed serial numbers say first, the entries say first

@@ -1,10 +1,10 @@
 -- A response is genuine exactly where it is read, has a signer, and says something.
 use Rattle.std.proofs.Common.{◌≡◌, ◌≢◌, ℕ, List, [], ◌∷◌, Option, Some, None, Result, Ok, Err, refl, sym, ◌∙◌}
 use Rattle.cert.specs.Certificate.{Certificate}
-use Rattle.ocsp.specs.OcspResponse.{OcspResponse, ocsp_response}
-use Rattle.facts.specs.Single.{SingleFact, some_singles}
-use Rattle.revocation.specs.declared.fault.StatementRule.{StatementRule}
-use Rattle.revocation.specs.declared.fault.StatementFault.{StatementFault}
+use Rattle.statements_ocsp.specs.OcspResponse.{OcspResponse, ocsp_response}
+use Rattle.statements_facts.specs.Single.{SingleFact, some_singles}
+use Rattle.statements_parts.specs.declared.fault.StatementRule.{StatementRule}
+use Rattle.statements_parts.specs.declared.fault.StatementFault.{StatementFault}
 use Rattle.statements.specs.Genuine.{Accepts, ◌then◌, as_refused}
 use Rattle.statements.specs.Responder.{Signer, signer_of}
 use Rattle.statements.specs.OcspFact.{signer_or_fault, or_nothing, singles_of, genuine_response, IsGenuineResponse, GenuineResponsesAreSigned}

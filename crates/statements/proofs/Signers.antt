@@ -7,9 +7,9 @@ use Rattle.std.proofs.lemmas.Slice.Eq.{bytes_eq-Decides}
 use Rattle.names.specs.DistinguishedName.{matching}
 use Rattle.names.proofs.Laws.{matching_is_exact}
 use Rattle.cert.specs.Certificate.{Certificate}
-use Rattle.ocsp.specs.Certificates.{certificates_in}
-use Rattle.ocsp.specs.OcspResponse.{OcspResponse}
-use Rattle.ocsp.specs.Responder.{Responder, by_name, by_key}
+use Rattle.statements_ocsp.specs.Certificates.{certificates_in}
+use Rattle.statements_ocsp.specs.OcspResponse.{OcspResponse}
+use Rattle.statements_ocsp.specs.Responder.{Responder, by_name, by_key}
 use Rattle.statements.specs.Genuine.{Accepts}
 use Rattle.statements.specs.Responder.{IsNamedBy, IsAuthorizedResponder, IsSigner, SignsItself, Signer, the_issuer, delegate, key_hash, signs, ocsp_signing, is_named_by, is_signing, is_issued, may_respond, is_responder, signs_itself, delegate_of, signer_of, SignersAreFound}
 

@@ -3,12 +3,12 @@ use Rattle.std.specs.Prelude.{◌≡◌, ◌↔◌, ℕ, Bool, List, Result, Ok,
 use Rattle.asn.specs.Integer.{binary_value}
 use Rattle.names.specs.DistinguishedName.{NamesMatch, matching}
 use Rattle.cert.specs.Certificate.{Certificate}
-use Rattle.crl.specs.CertificateList.{CertificateList, certificate_list}
-use Rattle.crl.specs.Entry.{Entry, reason_listed}
-use Rattle.revocation.specs.declared.fault.StatementFault.{StatementFault}
-use Rattle.revocation.specs.declared.fault.StatementFault.TheVariants.{OtherIssuer, BadSignature}
-use Rattle.facts.specs.Listed.{ListedSerial}
-use Rattle.facts.specs.Statement.{CrlSlot, CrlFact}
+use Rattle.statements_crl.specs.CertificateList.{CertificateList, certificate_list}
+use Rattle.statements_crl.specs.Entry.{Entry, reason_listed}
+use Rattle.statements_parts.specs.declared.fault.StatementFault.{StatementFault}
+use Rattle.statements_parts.specs.declared.fault.StatementFault.TheVariants.{OtherIssuer, BadSignature}
+use Rattle.statements_facts.specs.Listed.{ListedSerial}
+use Rattle.statements_facts.specs.Statement.{CrlSlot, CrlFact}
 use Rattle.statements.specs.Issuer.{identity_of}
 use Rattle.statements.specs.Genuine.{Accepts, ◌then◌, as_refused, or_else}
 

@@ -1,8 +1,8 @@
 -- Statements that are believed or refused.
 use Rattle.std.specs.Prelude.{◌≡◌, ℕ, Bool, true, false, List, Result, Ok, Err}
-use Rattle.revocation.specs.declared.fault.StatementFault.{StatementFault}
-use Rattle.revocation.specs.declared.fault.StatementFault.TheVariants.{Refused, Memory}
-use Rattle.revocation.specs.declared.fault.StatementRule.{StatementRule}
+use Rattle.statements_parts.specs.declared.fault.StatementFault.{StatementFault}
+use Rattle.statements_parts.specs.declared.fault.StatementFault.TheVariants.{Refused, Memory}
+use Rattle.statements_parts.specs.declared.fault.StatementRule.{StatementRule}
 
 -- what a verifier accepts, of algorithm, key, message and signature
 abbrev pub Accepts : Type 0

@@ -3,20 +3,20 @@ use Rattle.std.specs.Prelude.{◌≡◌, ◌≢◌, ◌↔◌, ◌&&◌, ◌==�
 use Rattle.std.specs.Str.{bytes_eq}
 use Rattle.std.specs.Int.{int_max, int_min, saturate_signed, w64}
 use Rattle.cert.specs.Certificate.{Certificate}
-use Rattle.ocsp.specs.OcspResponse.{OcspResponse, ocsp_response}
-use Rattle.ocsp.specs.Single.{SingleResponse}
-use Rattle.ocsp.specs.declared.cert_status.CertStatus.{CertStatus}
-use Rattle.ocsp.specs.declared.cert_status.CertStatus.TheVariants as said
-use Rattle.facts.specs.declared.single.Status.{Status}
-use Rattle.facts.specs.declared.single.Status.TheVariants.{Good, Revoked, Unknown}
-use Rattle.facts.specs.Single.{SingleFact, some_singles}
-use Rattle.facts.specs.Statement.{IssuerIdentity, Window}
-use Rattle.facts.specs.Fact.{Fact, ocsp_slot}
-use Rattle.ocsp.specs.Kind.{is_response}
+use Rattle.statements_ocsp.specs.OcspResponse.{OcspResponse, ocsp_response}
+use Rattle.statements_ocsp.specs.Single.{SingleResponse}
+use Rattle.statements_ocsp.specs.declared.cert_status.CertStatus.{CertStatus}
+use Rattle.statements_ocsp.specs.declared.cert_status.CertStatus.TheVariants as said
+use Rattle.statements_facts.specs.declared.single.Status.{Status}
+use Rattle.statements_facts.specs.declared.single.Status.TheVariants.{Good, Revoked, Unknown}
+use Rattle.statements_facts.specs.Single.{SingleFact, some_singles}
+use Rattle.statements_facts.specs.Statement.{IssuerIdentity, Window}
+use Rattle.statements_facts.specs.Fact.{Fact, ocsp_slot}
+use Rattle.statements_ocsp.specs.Kind.{is_response}
 use Rattle.statements.specs.Issuer.{identity_of}
 use Rattle.statements.specs.CrlFact.{genuine_list}
-use Rattle.revocation.specs.declared.fault.StatementFault.{StatementFault}
-use Rattle.revocation.specs.declared.fault.StatementFault.TheVariants.{NoSigner, NothingForIssuer}
+use Rattle.statements_parts.specs.declared.fault.StatementFault.{StatementFault}
+use Rattle.statements_parts.specs.declared.fault.StatementFault.TheVariants.{NoSigner, NothingForIssuer}
 use Rattle.statements.specs.Genuine.{Accepts, ◌then◌, as_refused}
 use Rattle.statements.specs.Responder.{Signer, the_issuer, delegate, key_hash, signer_of, IsSigner}
 

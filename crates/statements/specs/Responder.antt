@@ -5,9 +5,9 @@ use Rattle.std.specs.Str.{bytes_eq}
 use Rattle.sha1.specs.Sha1.{sha1}
 use Rattle.names.specs.DistinguishedName.{NamesMatch, matching}
 use Rattle.cert.specs.Certificate.{Certificate}
-use Rattle.ocsp.specs.Certificates.{certificates_in}
-use Rattle.ocsp.specs.OcspResponse.{OcspResponse}
-use Rattle.ocsp.specs.Responder.{Responder, by_name, by_key}
+use Rattle.statements_ocsp.specs.Certificates.{certificates_in}
+use Rattle.statements_ocsp.specs.OcspResponse.{OcspResponse}
+use Rattle.statements_ocsp.specs.Responder.{Responder, by_name, by_key}
 use Rattle.statements.specs.Genuine.{Accepts}
 
 -- the SHA-1 of the key: of subjectPublicKey without tag, length and count of unused bits (RFC 6960, 4.1.1 and 4.2.1)

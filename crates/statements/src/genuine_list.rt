@@ -2,20 +2,20 @@
 
 ghost use Rattle.std.specs.Prelude.{◌≡◌, IfOk, IsTrue};
 ghost use Rattle.cert.specs.Certificate.{seen_certificate};
-ghost use Rattle.crl.specs.CertificateList.{seen_list};
-ghost use Rattle.crl.specs.CrlNumber.{is_crl_number};
-ghost use Rattle.facts.specs.Fact.{crl_fact, crl_slot};
+ghost use Rattle.statements_crl.specs.CertificateList.{seen_list};
+ghost use Rattle.statements_crl.specs.CrlNumber.{is_crl_number};
+ghost use Rattle.statements_facts.specs.Fact.{crl_fact, crl_slot};
 ghost use Rattle.statements.specs.CrlFact.{GenuineListsAreFacts, fact_of, genuine_list, of_issuer, slot_of};
 ghost use Rattle.statements.specs.Genuine.{AnswersUnlessFull};
 
 use crate::issuing::issuer_of;
 use crate::listed::{listed_by, number_of};
 use cert::Certificate;
-use crl::Crl;
-use facts::{CrlFacts, RevokedSerials};
-use revocation::StatementFault;
+use path_verifiers::Verifier;
+use statements_crl::Crl;
+use statements_facts::{CrlFacts, RevokedSerials};
+use statements_parts::StatementFault;
 use std::alloc::{AllocError, Global};
-use verifiers::Verifier;
 
 /// Whether the list is one of the issuer: by its name, and by its signature under the issuer's key.
 #[tactic(auto, unfolding(crate::specs::CrlFact::of_issuer))]

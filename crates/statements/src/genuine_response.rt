@@ -2,10 +2,10 @@
 
 ghost use Rattle.std.specs.Prelude.{◌≡◌, IfOk, map};
 ghost use Rattle.cert.specs.Certificate.{seen_certificate};
-ghost use Rattle.facts.specs.Fact.{issuer_of as seen_issuer};
+ghost use Rattle.statements_facts.specs.Fact.{issuer_of as seen_issuer};
 ghost use Rattle.statements.specs.Genuine.{AnswersUnlessFull};
 ghost use Rattle.statements.specs.Issuer.{identity_of};
-ghost use Rattle.facts.specs.Single.{seen_single, some_singles};
+ghost use Rattle.statements_facts.specs.Single.{seen_single, some_singles};
 ghost use Rattle.statements.specs.OcspFact.{GenuineResponsesAreSigned, genuine_response, or_nothing};
 ghost use Rattle.statements.specs.Responder.{SignersAreFound};
 
@@ -13,11 +13,11 @@ use crate::issuing::issuer_of;
 use crate::signer::Signer;
 use crate::singles::singles_said;
 use cert::Certificate;
-use facts::{OcspFacts, Single, Singles};
-use ocsp::Response;
-use revocation::StatementFault;
+use path_verifiers::Verifier;
+use statements_facts::{OcspFacts, Single, Singles};
+use statements_ocsp::Response;
+use statements_parts::StatementFault;
 use std::alloc::Global;
-use verifiers::Verifier;
 
 /// These, or the fault where there is none.
 fn some_of(singles: Vec<Single<'_>>) -> Result<Singles<'_>, StatementFault>

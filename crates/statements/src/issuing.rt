@@ -2,11 +2,11 @@
 
 ghost use Rattle.std.specs.Prelude.{◌≡◌, IfOk};
 ghost use Rattle.cert.specs.Certificate.{seen_certificate};
-ghost use Rattle.facts.specs.Fact.{issuer_of as seen_issuer};
+ghost use Rattle.statements_facts.specs.Fact.{issuer_of as seen_issuer};
 ghost use Rattle.statements.specs.Issuer.{identity_of};
 
 use cert::Certificate;
-use facts::{Issuer, NameKey};
+use statements_facts::{Issuer, NameKey};
 use std::alloc::{AllocError, Global};
 
 /// Whom a certificate is of: the key of its subject's name, and its subjectPublicKeyInfo.

@@ -2,14 +2,14 @@
 
 ghost use Rattle.std.specs.Prelude.{◌≡◌, ◌++◌, IfOk, IsTrue, map};
 ghost use Rattle.asn.specs.Integer.{binary_value};
-ghost use Rattle.crl.specs.CrlNumber.{is_crl_number};
-ghost use Rattle.crl.specs.Entry.{entries_left};
-ghost use Rattle.facts.specs.Listed.{seen_listed};
+ghost use Rattle.statements_crl.specs.CrlNumber.{is_crl_number};
+ghost use Rattle.statements_crl.specs.Entry.{entries_left};
+ghost use Rattle.statements_facts.specs.Listed.{seen_listed};
 ghost use Rattle.statements.specs.CrlFact.{listed_in};
 
 use asn::Number20;
-use crl::Entries;
-use facts::Listed;
+use statements_crl::Entries;
+use statements_facts::Listed;
 use std::alloc::{AllocError, Global};
 
 /// The number with these contents, which are those of one.

@@ -4,15 +4,15 @@ ghost use Rattle.std.specs.Prelude.{◌≡◌, map};
 ghost use Rattle.std.specs.List.{list_any};
 ghost use Rattle.asn.specs.Oid.{oid_contents};
 ghost use Rattle.cert.specs.Certificate.{seen_certificate};
-ghost use Rattle.ocsp.specs.OcspResponse.{seen_response};
-ghost use Rattle.ocsp.specs.Responder.{seen_responder};
+ghost use Rattle.statements_ocsp.specs.OcspResponse.{seen_response};
+ghost use Rattle.statements_ocsp.specs.Responder.{seen_responder};
 ghost use Rattle.statements.specs.Responder.{is_issued, is_named_by, is_responder, is_signing, key_hash, may_respond, signs, signs_itself};
 
 use asn::Oid;
 use cert::Certificate;
-use ocsp::{ResponderId, Response};
+use path_verifiers::Verifier;
 use sha1::Sha1;
-use verifiers::Verifier;
+use statements_ocsp::{ResponderId, Response};
 
 /// id-kp-OCSPSigning, 1.3.6.1.5.5.7.3.9
 const OCSP_SIGNING: &[u8] = b"\x2B\x06\x01\x05\x05\x07\x03\x09";

@@ -2,7 +2,7 @@
 
 ghost use Rattle.std.specs.Prelude.{◌≡◌, Ok, option_map};
 ghost use Rattle.cert.specs.Certificate.{seen_certificate};
-ghost use Rattle.ocsp.specs.OcspResponse.{seen_response};
+ghost use Rattle.statements_ocsp.specs.OcspResponse.{seen_response};
 ghost use Rattle.statements.specs.Genuine.{AnswersUnlessFull};
 ghost use Rattle.statements.specs.OcspFact.{signer_or_fault};
 ghost use Rattle.statements.specs.Responder.{delegate_of, signer_of};
@@ -10,10 +10,10 @@ ghost use Rattle.statements.specs.SignerView.{seen_signer};
 
 use crate::responder::{is_by_delegate, is_by_issuer};
 use cert::Certificate;
-use ocsp::Response;
-use revocation::StatementFault;
+use path_verifiers::Verifier;
+use statements_ocsp::Response;
+use statements_parts::StatementFault;
 use std::alloc::Global;
-use verifiers::Verifier;
 
 /// Who signed a response.
 #[derive(Drop)]

@@ -2,17 +2,17 @@
 
 ghost use Rattle.std.specs.Prelude.{◌≡◌, IfOk, map};
 ghost use Rattle.cert.specs.Certificate.{seen_certificate};
-ghost use Rattle.facts.specs.Single.{seen_single};
-ghost use Rattle.ocsp.specs.OcspResponse.{seen_response};
-ghost use Rattle.ocsp.specs.Single.{seen_single as seen_response_to};
+ghost use Rattle.statements_facts.specs.Single.{seen_single};
+ghost use Rattle.statements_ocsp.specs.OcspResponse.{seen_response};
+ghost use Rattle.statements_ocsp.specs.Single.{seen_single as seen_response_to};
 ghost use Rattle.statements.specs.OcspFact.{end_of, single_fact, singles_of, speaks_with, status_of, window_of};
 ghost use Rattle.statements.specs.SignerView.{seen_signer};
 
 use crate::responder::hash_of_key;
 use crate::signer::Signer;
 use cert::Certificate;
-use facts::{Single, Status};
-use ocsp::{CertStatus, Response, SingleResponse};
+use statements_facts::{Single, Status};
+use statements_ocsp::{CertStatus, Response, SingleResponse};
 use std::alloc::{AllocError, Global};
 
 /// id-sha1, 1.3.14.3.2.26

@@ -1,18 +1,18 @@
 //! Statements of both kinds.
 
 ghost use Rattle.cert.specs.Certificate.{seen_certificate};
-ghost use Rattle.facts.specs.Fact.{facts_in};
+ghost use Rattle.statements_facts.specs.Fact.{facts_in};
 ghost use Rattle.statements.specs.Genuine.{AnswersUnlessFull};
 ghost use Rattle.statements.specs.OcspFact.{genuine_statement};
 
 use crate::genuine_list::crl_facts;
 use crate::genuine_response::ocsp_facts;
 use cert::Certificate;
-use facts::Facts;
-use ocsp::is_response;
-use revocation::StatementFault;
+use path_verifiers::Verifier;
+use statements_facts::Facts;
+use statements_ocsp::is_response;
+use statements_parts::StatementFault;
 use std::alloc::Global;
-use verifiers::Verifier;
 
 /// What a statement of the issuer says of its certificates: a response where the first value inside the outermost is an ENUMERATED, and else a list.
 #[tactic(auto, using(crate::proofs::Answering::response_fails, crate::proofs::Answering::list_fails, crate::proofs::Answering::response_is, crate::proofs::Answering::list_is))]

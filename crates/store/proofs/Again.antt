@@ -25,11 +25,11 @@ use Rattle.sqlite_rules.specs.Lists.{Has}
 use Rattle.sqlite_rules.proofs.ListLemmas.{all_has}
 use Rattle.sqlite_catalog.specs.Listing.{IsTableRow, IsIndexRow, IsDefined, IsSound, automatic, is_index_row}
 use Rattle.sqlite_trees.specs.Objects.{catalog_tree}
-use Rattle.tables.specs.declared.origin.Origin.{Origin}
-use Rattle.tables.specs.declared.origin.Origin.TheVariants.{Made, Migrated}
-use Rattle.tables.specs.Tables.{store_schema}
-use Rattle.holdings.specs.Held.{IsStoreOf}
-use Rattle.adoption.specs.Creates.{IsSettled}
+use Rattle.store_sql.specs.declared.origin.Origin.{Origin}
+use Rattle.store_sql.specs.declared.origin.Origin.TheVariants.{Made, Migrated}
+use Rattle.store_sql.specs.Tables.{store_schema}
+use Rattle.store_maps.specs.Held.{IsStoreOf}
+use Rattle.store_adoption.specs.Creates.{IsSettled}
 use Rattle.store.specs.Adopts.{Reopens}
 
 same_tree : (m n : ℕ) → ◌≡◌ {A = Value} (Int (pos (m + 1))) (Int (pos (n + 1))) → m ≡ n

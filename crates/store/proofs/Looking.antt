@@ -4,11 +4,11 @@ use Rattle.sqlite.specs.Store.{Ghosts}
 use Rattle.sqlite.specs.Held.{Held, state}
 use Rattle.sqlite.specs.State.{State, KeepsCommit, IsRolledBack}
 use Rattle.sqlite.proofs.InsideLemmas.{unchanged_keeps, keeps_then}
-use Rattle.facts.specs.Statement.{Holdings}
-use Rattle.tables.specs.declared.fault.StoreFault.{StoreFault}
-use Rattle.tables.specs.declared.fault.StoreFault.TheVariants.{Schema as NotOurs}
-use Rattle.holdings.specs.Held.{IsStoreOf}
-use Rattle.holdings.specs.LooksUp.{FailsIn, IsFoundIn}
+use Rattle.statements_facts.specs.Statement.{Holdings}
+use Rattle.store_sql.specs.declared.fault.StoreFault.{StoreFault}
+use Rattle.store_sql.specs.declared.fault.StoreFault.TheVariants.{Schema as NotOurs}
+use Rattle.store_maps.specs.Held.{IsStoreOf}
+use Rattle.store_maps.specs.LooksUp.{FailsIn, IsFoundIn}
 
 pub fails_at : {S : Type 0} (g : Ghosts S) (old begun : Held S) (last new : State) (fault : StoreFault) → begun ≡ record old { in_transaction = true } → FailsIn (state g begun) last fault → IsRolledBack last new
     → KeepsCommit (state g old) new × (fault ≡ NotOurs → (held : Holdings) → IsStoreOf (state g old).now held → ⊥)

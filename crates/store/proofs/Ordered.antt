@@ -21,10 +21,10 @@ use Rattle.sqlite.specs.Effect.{Database, IsDatabase}
 use Rattle.sqlite.specs.Held.{Held}
 use Rattle.sqlite.specs.Files.{file_state}
 use Rattle.sqlite.specs.Schema.{Schema}
-use Rattle.tables.specs.declared.origin.Origin.{Origin}
-use Rattle.tables.specs.declared.origin.Origin.TheVariants.{Made, Migrated}
-use Rattle.tables.specs.Tables.{version_1_schema, store_schema}
-use Rattle.adoption.specs.Inspects.{AreInOrder, InOrder, InOrderOfVersion1}
+use Rattle.store_sql.specs.declared.origin.Origin.{Origin}
+use Rattle.store_sql.specs.declared.origin.Origin.TheVariants.{Made, Migrated}
+use Rattle.store_sql.specs.Tables.{version_1_schema, store_schema}
+use Rattle.store_adoption.specs.Inspects.{AreInOrder, InOrder, InOrderOfVersion1}
 
 module _ {D : Type 0} {g : Ghosts D} (it : FileStore D g) (is_open : IsTrue (view it).is_open) where
   committed_ordered : IsOrdered (all_shapes (kept_schema it.saved (schema_of it))) (view it).committed

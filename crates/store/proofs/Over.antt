@@ -2,15 +2,15 @@
 use Rattle.std.proofs.Common.{◌≡◌, ◌≢◌, ◌⊎◌, sym, subst, ◌∙◌, inl, inr}
 use Rattle.sqlite.specs.Effect.{Database}
 use Rattle.sqlite.specs.State.{State, IsUnchanged, KeepsCommit}
-use Rattle.facts.specs.Statement.{Holdings}
-use Rattle.tables.specs.declared.fault.StoreFault.{StoreFault}
-use Rattle.tables.specs.declared.fault.StoreFault.TheVariants.{Schema as NotOurs}
-use Rattle.tables.specs.Tables.{version_1_schema}
-use Rattle.holdings.specs.Held.{IsStoreOf}
-use Rattle.adoption.specs.Inspects.{AreInOrder, IsStore}
-use Rattle.adoption.specs.Version1.{IsVersion1Of}
-use Rattle.adoption.proofs.Laws.{not_version_1}
-use Rattle.migration.specs.Migrates.{IsMigrated}
+use Rattle.statements_facts.specs.Statement.{Holdings}
+use Rattle.store_sql.specs.declared.fault.StoreFault.{StoreFault}
+use Rattle.store_sql.specs.declared.fault.StoreFault.TheVariants.{Schema as NotOurs}
+use Rattle.store_sql.specs.Tables.{version_1_schema}
+use Rattle.store_maps.specs.Held.{IsStoreOf}
+use Rattle.store_adoption.specs.Inspects.{AreInOrder, IsStore}
+use Rattle.store_adoption.specs.Version1.{IsVersion1Of}
+use Rattle.store_adoption.proofs.Laws.{not_version_1}
+use Rattle.store_migration.specs.Migrates.{IsMigrated}
 use Rattle.store.specs.Adopts.{IsTakenOver}
 
 other : (db : Database) (held : Holdings) → db.schema ≡ version_1_schema → IsStoreOf db held → ⊥

@@ -8,10 +8,10 @@ use Rattle.sqlite.specs.State.{HasCleanDisk}
 use Rattle.sqlite.specs.Files.{file_state, Finds, IsOpened}
 use Rattle.sqlite.specs.Closing.{IsCopied}
 use Rattle.sqlite.specs.WalReads.{AreClean}
-use Rattle.tables.specs.declared.fault.StoreFault.{StoreFault}
-use Rattle.tables.specs.declared.fault.StoreFault.TheVariants.{Store, Schema, Memory}
-use Rattle.tables.specs.Statements.{CommitsNothing}
-use Rattle.holdings.specs.Held.{IsStoreOf}
+use Rattle.store_sql.specs.declared.fault.StoreFault.{StoreFault}
+use Rattle.store_sql.specs.declared.fault.StoreFault.TheVariants.{Store, Schema, Memory}
+use Rattle.store_sql.specs.Statements.{CommitsNothing}
+use Rattle.store_maps.specs.Held.{IsStoreOf}
 use Rattle.store.specs.Adopts.{Adopts, Reopens, Restarts, FailsToReopen}
 
 module _ {D : Type 0} {g : Ghosts D} (old opened again : Held (FileStore D g)) (files : Files D)

@@ -8,15 +8,15 @@ use Rattle.sqlite.specs.Held.{Held}
 use Rattle.sqlite.specs.Files.{file_state, Finds, IsOpened}
 use Rattle.sqlite.specs.Closing.{IsCopied}
 use Rattle.sqlite.specs.WalReads.{AreClean}
-use Rattle.facts.specs.Statement.{Holdings}
-use Rattle.tables.specs.declared.fault.StoreFault.{StoreFault}
-use Rattle.tables.specs.declared.fault.StoreFault.TheVariants.{Schema}
-use Rattle.tables.specs.Statements.{CommitsNothing}
-use Rattle.holdings.specs.Held.{IsStoreOf}
+use Rattle.statements_facts.specs.Statement.{Holdings}
+use Rattle.store_sql.specs.declared.fault.StoreFault.{StoreFault}
+use Rattle.store_sql.specs.declared.fault.StoreFault.TheVariants.{Schema}
+use Rattle.store_sql.specs.Statements.{CommitsNothing}
+use Rattle.store_maps.specs.Held.{IsStoreOf}
 use Rattle.sqlite_trees.specs.Tree.{Trees}
-use Rattle.adoption.specs.Creates.{AreTreesOf}
-use Rattle.adoption.specs.Inspects.{IsStore}
-use Rattle.adoption.specs.Version1.{IsVersion1Of, IsVersion1}
+use Rattle.store_adoption.specs.Creates.{AreTreesOf}
+use Rattle.store_adoption.specs.Inspects.{IsStore}
+use Rattle.store_adoption.specs.Version1.{IsVersion1Of, IsVersion1}
 
 -- nothing changes and the database is a store; or a fault, which is for the tables and rows only where it is none
 abbrev pub Adopts : {A : Type 0} → State → State → Result A StoreFault → Type 0

@@ -3,17 +3,17 @@
 ghost use Rattle.std.specs.Prelude.{◌≡◌, false, OnOk};
 ghost use Rattle.sqlite.specs.Files.{file_state};
 ghost use Rattle.sqlite.specs.State.{HasCleanDisk, Survives};
-ghost use Rattle.tables.specs.Statements.{CommitsNothing};
-ghost use Rattle.adoption.specs.Creates.{IsDurable, IsSettled};
-ghost use Rattle.migration.specs.Migrates.{LeavesMigrated};
+ghost use Rattle.store_sql.specs.Statements.{CommitsNothing};
+ghost use Rattle.store_adoption.specs.Creates.{IsDurable, IsSettled};
+ghost use Rattle.store_migration.specs.Migrates.{LeavesMigrated};
 ghost use Rattle.store.specs.Adopts.{Adopts, IsMigratedFrom, TakesOver};
 
-use adoption::inspect;
-use migration::migrate;
 use sqlite::{Connection, FileStore};
 use sqlite_disk::Disk;
 use std::alloc::Global;
-use tables::{StoreFault, is_version_1};
+use store_adoption::inspect;
+use store_migration::migrate;
+use store_sql::{StoreFault, is_version_1};
 
 /// Takes a database for a store: `StoreFault::Schema` where it has other tables than those of version 2, another version, or a row
 /// that no store writes there. It reads each row once, and changes nothing.

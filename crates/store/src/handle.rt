@@ -5,31 +5,30 @@ ghost use Rattle.sqlite.specs.Files.{file_state};
 ghost use Rattle.sqlite.specs.Closing.{IsCopied};
 ghost use Rattle.sqlite.specs.WalReads.{AreClean};
 ghost use Rattle.sqlite.specs.State.{HasCleanDisk, IsUnchanged, Survives};
-ghost use Rattle.facts.specs.Fact.{facts_in, issuer_of};
-ghost use Rattle.facts.specs.Statement.{Holdings};
-ghost use Rattle.tables.specs.Statements.{CommitsNothing};
-ghost use Rattle.rows.specs.Seen.{seen_said};
-ghost use Rattle.holdings.specs.Held.{IsStoreOf, part_of, seen_crl};
-ghost use Rattle.holdings.specs.Creation.{nothing_held};
-ghost use Rattle.adoption.specs.Creates.{AreTreesOf, IsCreated, IsDurable, IsSettled};
-ghost use Rattle.adoption.specs.Inspects.{IsStore};
-ghost use Rattle.adoption.specs.Version1.{IsVersion1Of, IsVersion1};
+ghost use Rattle.statements_facts.specs.Fact.{facts_in, issuer_of};
+ghost use Rattle.statements_facts.specs.Statement.{Holdings};
+ghost use Rattle.store_sql.specs.Statements.{CommitsNothing};
+ghost use Rattle.store_rows.specs.Seen.{seen_said};
+ghost use Rattle.store_maps.specs.Held.{IsStoreOf, part_of, seen_crl};
+ghost use Rattle.store_maps.specs.Creation.{nothing_held};
+ghost use Rattle.store_adoption.specs.Creates.{AreTreesOf, IsCreated, IsDurable, IsSettled};
+ghost use Rattle.store_adoption.specs.Inspects.{IsStore};
+ghost use Rattle.store_adoption.specs.Version1.{IsVersion1Of, IsVersion1};
 ghost use Rattle.store.specs.Adopts.{FailsToReopen, IsMigratedFrom, LookedUp, Reopens, Restarts};
-ghost use Rattle.taking.specs.Delivery.{CommitsWhole, Puts};
+ghost use Rattle.store_taking.specs.Delivery.{CommitsWhole, Puts};
 
 use crate::adopting::{adopt, take_over};
 use crate::look_up::{look_up_crl, look_up_ocsp};
 use crate::reopening::open_again;
-use adoption::create;
-use facts::{Facts, Issuer, Scope};
-use holdings::HeldCrl;
-use newest::Counts;
-use rows::Said;
 use sqlite::{Connection, FileStore, Files};
 use sqlite_disk::Disk;
+use statements_facts::{Counts, Facts, Issuer, Scope};
 use std::alloc::Global;
-use tables::StoreFault;
-use taking::put;
+use store_adoption::create;
+use store_maps::HeldCrl;
+use store_rows::Said;
+use store_sql::StoreFault;
+use store_taking::put;
 
 /// A database that is a store, between transactions.
 pub struct Store<D: Disk> {

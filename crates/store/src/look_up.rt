@@ -3,18 +3,18 @@
 ghost use Rattle.std.specs.Prelude.{◌≡◌, false, option_map};
 ghost use Rattle.sqlite.specs.Held.{state};
 ghost use Rattle.sqlite.specs.State.{HasCleanDisk};
-ghost use Rattle.facts.specs.Fact.{issuer_of};
-ghost use Rattle.tables.specs.Statements.{CommitsNothing};
-ghost use Rattle.rows.specs.Seen.{seen_said};
-ghost use Rattle.holdings.specs.Held.{part_of, seen_crl};
-ghost use Rattle.adoption.specs.Creates.{IsDurable, IsSettled};
+ghost use Rattle.statements_facts.specs.Fact.{issuer_of};
+ghost use Rattle.store_sql.specs.Statements.{CommitsNothing};
+ghost use Rattle.store_rows.specs.Seen.{seen_said};
+ghost use Rattle.store_maps.specs.Held.{part_of, seen_crl};
+ghost use Rattle.store_adoption.specs.Creates.{IsDurable, IsSettled};
 ghost use Rattle.store.specs.Adopts.{LooksAt, LookedUp};
 
-use facts::{Issuer, Scope};
-use holdings::{HeldCrl, crl, ocsp};
-use rows::Said;
 use sqlite::{Alter, Connection};
-use tables::StoreFault;
+use statements_facts::{Issuer, Scope};
+use store_maps::{HeldCrl, crl, ocsp};
+use store_rows::Said;
+use store_sql::StoreFault;
 
 fn crl_in_transaction<S: Alter>(
     conn: &mut Connection<S>,

@@ -3,16 +3,16 @@
 ghost use Rattle.std.specs.Prelude.{IfOk};
 ghost use Rattle.sqlite.specs.Files.{file_state};
 ghost use Rattle.sqlite.specs.State.{HasCleanDisk};
-ghost use Rattle.holdings.specs.Held.{IsStoreOf};
-ghost use Rattle.holdings.specs.Creation.{nothing_held};
-ghost use Rattle.adoption.specs.Inspects.{IsStore};
+ghost use Rattle.store_maps.specs.Held.{IsStoreOf};
+ghost use Rattle.store_maps.specs.Creation.{nothing_held};
+ghost use Rattle.store_adoption.specs.Inspects.{IsStore};
 
 use crate::handle::Store;
 use sqlite::Connection;
 use sqlite_std_file::File;
 use std::fs;
 use std::rt::HostRuntime;
-use tables::StoreFault;
+use store_sql::StoreFault;
 
 impl Store<File> {
     /// Takes the file at a path for a store, and migrates it first where it is of version 1: `StoreFault::Store` where there is none or it

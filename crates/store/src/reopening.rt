@@ -7,7 +7,7 @@ ghost use Rattle.sqlite.specs.State.{HasCleanDisk};
 use sqlite::{Connection, FileStore, Files, Options};
 use sqlite_disk::Disk;
 use std::alloc::Global;
-use tables::StoreFault;
+use store_sql::StoreFault;
 
 /// Where the salts of the log begin. A close leaves an empty log, so they need not differ from those before.
 const SEED: u64 = 0;

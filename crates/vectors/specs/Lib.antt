@@ -1,1 +1,1 @@
-pub use Rattle.toy_signatures.specs.ToySignature
+pub use Rattle.vectors_toy.specs.ToySignature

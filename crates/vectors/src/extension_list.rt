@@ -3,8 +3,8 @@
 use crate::fault::NotationFault;
 use crate::notation::{GeneralName, Notation};
 use crate::parts::{integer_contents, name_tree, primitive};
+use der_tree::{Tree, encode};
 use std::alloc::Global;
-use trees::{Tree, encode};
 
 const KEY_USAGE: &[u8] = b"\x55\x1D\x0F";
 

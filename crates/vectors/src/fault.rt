@@ -1,8 +1,8 @@
 //! Why a text gives no certificate and no revocation list.
 
+use der_tree::EncodeFault;
 use std::alloc::{AllocError, AllocFailed};
 use thiserror::Error;
-use trees::EncodeFault;
 
 /// Why there is no certificate, or no revocation list, of a text.
 #[derive(Clone, Copy, Debug, PartialEq, Eq, Error)]

@@ -15,4 +15,4 @@ pub use fault::NotationFault;
 pub use list_building::{revocation_list, revocation_list_tree};
 pub use part::Part;
 pub use parts::{algorithm_tree, bit_string, key_info, name, name_tree, primitive};
-pub use toy_signatures::{ToyVerifier, toy_signature};
+pub use vectors_toy::{ToyVerifier, toy_signature};

@@ -5,8 +5,8 @@ use crate::extension_list::extension;
 use crate::fault::NotationFault;
 use crate::list_notation::{ListEntry, ListNotation, ListScope};
 use crate::parts::{algorithm_tree, integer_contents, name_tree, primitive};
+use der_tree::{Tree, encode};
 use std::alloc::Global;
-use trees::{Tree, encode};
 
 const CRL_NUMBER: &[u8] = b"\x55\x1D\x14";
 

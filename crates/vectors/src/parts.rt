@@ -1,8 +1,8 @@
 //! Names, keys and other parts of certificates and revocation lists as trees.
 
 use crate::fault::NotationFault;
+use der_tree::{Tree, encode};
 use std::alloc::{AllocError, Global};
-use trees::{Tree, encode};
 
 /// The contents of 2.5.4.3, the type of a common name.
 const COMMON_NAME: &[u8] = b"\x55\x04\x03";

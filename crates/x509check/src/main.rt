@@ -1,7 +1,7 @@
 //! `x509check`: looks at X.509 certificates and at what says that they are revoked.
 #![tactic(auto)]
 
-use program::execute;
+use cli::execute;
 use std::io::Write;
 use std::process::ExitCode;
 use std::{env, io};

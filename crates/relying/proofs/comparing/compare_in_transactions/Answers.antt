@@ -1,8 +1,8 @@
 use Rattle.std.proofs.Common.{◌≡◌, Ok, Err, rules, subst, arith}
 use Rattle.sqlite.specs.Held.{state}
 use Rattle.sqlite.specs.State.{HasCleanDisk}
-use Rattle.agreement.specs.Comparison.{IsComparison}
-use Rattle.verdicts.specs.View.{seen_query}
+use Rattle.relying_agreement.specs.Comparison.{IsComparison}
+use Rattle.relying_verdicts.specs.View.{seen_query}
 use Rattle.relying.specs.Asking.{LooksInsideBoth}
 use Rattle.relying.proofs.Looking.{looked_both}
 use Rattle.relying.proofs.comparing.compare_in_transactions.Goals as goal

@@ -1,8 +1,8 @@
 use Rattle.std.proofs.Common.{◌≡◌, Ok, Err, rules, subst, arith}
 use Rattle.sqlite.specs.Held.{state}
 use Rattle.sqlite.specs.State.{HasCleanDisk}
-use Rattle.agreement.specs.Verdict.{IsVerdict}
-use Rattle.verdicts.specs.View.{seen_query}
+use Rattle.relying_agreement.specs.Verdict.{IsVerdict}
+use Rattle.relying_verdicts.specs.View.{seen_query}
 use Rattle.relying.specs.Asking.{LooksInside}
 use Rattle.relying.proofs.Looking.{looked}
 use Rattle.relying.proofs.judging.judge_in_transaction.Goals as goal

@@ -1,5 +1,5 @@
-use Rattle.crl.specs.CertificateList.{seen_list}
-use Rattle.crl.proofs.Laws.{lists_are_numbered}
+use Rattle.statements_crl.specs.CertificateList.{seen_list}
+use Rattle.statements_crl.proofs.Laws.{lists_are_numbered}
 use Rattle.statements.proofs.genuine_list.crl_facts.Goals as goal
 
 pub facts_of-requires : goal.facts_of-requires

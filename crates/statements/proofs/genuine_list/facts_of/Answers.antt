@@ -1,6 +1,6 @@
 use Rattle.std.proofs.Common.{rules, map}
-use Rattle.facts.specs.Listed.{seen_listed}
-use Rattle.crl.specs.CertificateList.{seen_list}
+use Rattle.statements_facts.specs.Listed.{seen_listed}
+use Rattle.statements_crl.specs.CertificateList.{seen_list}
 use Rattle.statements.proofs.Listing.{fact_equal}
 use Rattle.statements.proofs.genuine_list.facts_of.Goals as goal
 

@@ -1,7 +1,7 @@
 use Rattle.std.proofs.Common.{map, sym, ◌∙◌}
 use Rattle.cert.specs.Certificate.{seen_certificate}
-use Rattle.facts.specs.Single.{seen_single}
-use Rattle.ocsp.specs.OcspResponse.{seen_response}
+use Rattle.statements_facts.specs.Single.{seen_single}
+use Rattle.statements_ocsp.specs.OcspResponse.{seen_response}
 use Rattle.statements.specs.OcspFact.{genuine_response}
 use Rattle.statements.specs.SignerView.{seen_signer}
 use Rattle.statements.proofs.Answering.{singles_are, same_answer}

@@ -1,6 +1,6 @@
 use Rattle.std.proofs.Common.{◌≡◌, ◌++◌, map, length}
-use Rattle.crl.specs.Entry.{entries_left}
-use Rattle.facts.specs.Listed.{seen_listed}
+use Rattle.statements_crl.specs.Entry.{entries_left}
+use Rattle.statements_facts.specs.Listed.{seen_listed}
 use Rattle.statements.specs.CrlFact.{listed_in}
 use Rattle.statements.proofs.listed.listed_by.Given as goal
 

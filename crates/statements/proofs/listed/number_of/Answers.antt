@@ -1,5 +1,5 @@
 use Rattle.std.proofs.Common.{arith}
-use Rattle.crl.proofs.Laws.{test_finds}
+use Rattle.statements_crl.proofs.Laws.{test_finds}
 use Rattle.statements.proofs.Listing.{is_some, value_is}
 use Rattle.statements.proofs.listed.number_of.Goals as goal
 

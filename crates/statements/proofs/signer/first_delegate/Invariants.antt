@@ -1,8 +1,8 @@
 use Rattle.std.proofs.Common.{◌≡◌, length}
 use Rattle.std.specs.List.{find}
 use Rattle.cert.specs.Certificate.{seen_certificate}
-use Rattle.ocsp.specs.Certificates.{certificates_left}
-use Rattle.ocsp.specs.OcspResponse.{certs_left, seen_response}
+use Rattle.statements_ocsp.specs.Certificates.{certificates_left}
+use Rattle.statements_ocsp.specs.OcspResponse.{certs_left, seen_response}
 use Rattle.statements.specs.Responder.{delegate_of, is_responder}
 use Rattle.statements.proofs.signer.first_delegate.Given as goal
 

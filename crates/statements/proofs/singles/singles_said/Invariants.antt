@@ -1,8 +1,8 @@
 use Rattle.std.proofs.Common.{◌≡◌, ◌++◌, map, filter, length}
 use Rattle.cert.specs.Certificate.{seen_certificate}
-use Rattle.facts.specs.Single.{seen_single}
-use Rattle.ocsp.specs.Single.{singles_left}
-use Rattle.ocsp.specs.OcspResponse.{seen_response}
+use Rattle.statements_facts.specs.Single.{seen_single}
+use Rattle.statements_ocsp.specs.Single.{singles_left}
+use Rattle.statements_ocsp.specs.OcspResponse.{seen_response}
 use Rattle.statements.specs.OcspFact.{single_fact, singles_of, speaks_for}
 use Rattle.statements.specs.SignerView.{seen_signer}
 use Rattle.statements.proofs.singles.singles_said.Given as goal

@@ -1,6 +1,6 @@
 use Rattle.std.proofs.Common.{sym, subst}
-use Rattle.adoption.specs.Inspects.{IsStore}
-use Rattle.adoption.proofs.Laws.{order_of_store}
+use Rattle.store_adoption.specs.Inspects.{IsStore}
+use Rattle.store_adoption.proofs.Laws.{order_of_store}
 use Rattle.store.proofs.Ordered.{open_in_order}
 use Rattle.store.proofs.adopting.adopt.Goals as goal
 

@@ -1,8 +1,8 @@
 use Rattle.std.proofs.Common.{◌≡◌, ◌≢◌, rules}
 use Rattle.sqlite.specs.Files.{file_state}
 use Rattle.sqlite.proofs.StateLemmas.{survives_weaker}
-use Rattle.tables.specs.Tables.{version_1_schema}
-use Rattle.migration.specs.Migrates.{LeavesMigrated}
+use Rattle.store_sql.specs.Tables.{version_1_schema}
+use Rattle.store_migration.specs.Migrates.{LeavesMigrated}
 use Rattle.store.specs.Adopts.{IsMigratedFrom}
 use Rattle.store.proofs.Ordered.{open_in_order}
 use Rattle.store.proofs.Over.{migrated_over, migration_fails, adopted_over, adoption_fails}

@@ -1,12 +1,12 @@
 use Rattle.std.proofs.Common.{◌≡◌, rules, subst, arith}
 use Rattle.sqlite.specs.Held.{state}
 use Rattle.sqlite.specs.State.{HasCleanDisk, KeepsCommit}
-use Rattle.facts.specs.Statement.{Holdings}
-use Rattle.tables.specs.declared.fault.StoreFault.TheVariants.{Schema as NotOurs}
-use Rattle.holdings.specs.Held.{IsStoreOf}
+use Rattle.statements_facts.specs.Statement.{Holdings}
+use Rattle.store_sql.specs.declared.fault.StoreFault.TheVariants.{Schema as NotOurs}
+use Rattle.store_maps.specs.Held.{IsStoreOf}
 use Rattle.std.specs.Option.{option_map}
-use Rattle.facts.specs.Fact.{issuer_of}
-use Rattle.holdings.specs.Held.{part_of, seen_crl}
+use Rattle.statements_facts.specs.Fact.{issuer_of}
+use Rattle.store_maps.specs.Held.{part_of, seen_crl}
 use Rattle.store.proofs.Looking.{fails_at, found_at}
 use Rattle.store.proofs.look_up.crl_in_transaction.Goals as goal
 

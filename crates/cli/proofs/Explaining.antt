@@ -1,0 +1,53 @@
+-- How a run ends for which clap has no line.
+use Rattle.std.proofs.Common.{◌≡◌, ◌⊎◌, inl, inr, refl, ℕ, List, Option}
+use Rattle.clap.specs.Words.{Text}
+use Rattle.clap.specs.declared.error.kind.ErrorKind.{ErrorKind}
+use Rattle.clap.specs.declared.error.kind.ErrorKind.TheVariants.{OutOfMemory}
+use Rattle.cli_words.specs.CommandLine.{AreRefusedWith}
+use Rattle.cli_failures.specs.declared.failure.Failure.TheVariants.{NoMemory, Unwritable}
+use Rattle.cli_failures.specs.Failures.{Holding}
+use Rattle.cli_failures.specs.Report.{report_line, status_of}
+use Rattle.cli.specs.Standing.{Leaving, Standing}
+use Rattle.cli.specs.Outcome.{HasAnswered, IsHelp, IsMistake}
+use Rattle.cli.specs.Ended.{HasEnded, IsAnswering, IsFailing, IsUnexplained}
+use Rattle.cli.proofs.Statuses.{not_both}
+
+no_memory : (kind : ErrorKind) → IsHelp kind → kind ≡ OutOfMemory → ⊥
+no_memory kind (inl is) said = absurd cc
+no_memory kind (inr is) said = absurd cc
+
+refused_help : (words : List Text) (kind : ErrorKind) → (kind ≡ OutOfMemory) ⊎ AreRefusedWith words kind → IsHelp kind → AreRefusedWith words kind
+refused_help words kind (inl memory) help = absurd (no_memory kind help memory)
+refused_help words kind (inr refused) help = refused
+
+refused_mistake : (words : List Text) (kind : ErrorKind) → (kind ≡ OutOfMemory) ⊎ AreRefusedWith words kind → IsMistake kind → AreRefusedWith words kind
+refused_mistake words kind (inl memory) mistake = absurd (mistake.0 memory)
+refused_mistake words kind (inr refused) mistake = refused
+
+pub either : (status : ℕ) → (status ≡ 0) ⊎ IsFailing status → IsAnswering status ⊎ IsFailing status
+either status (inl done) = inl (inl done)
+either status (inr fails) = inr fails
+
+pub helped : (holds : Holding) (stands : Standing) (leaves : Leaving) (words : List Text) (kind : ErrorKind) (old new : Option (List ℕ)) (status : ℕ) (same : Type 0)
+    → (kind ≡ OutOfMemory) ⊎ AreRefusedWith words kind → (status ≡ 0) ⊎ IsFailing status → (status ≡ 0 → IsHelp kind × same)
+    → IsAnswering status → HasAnswered holds stands leaves words old new status × same
+helped holds stands leaves words kind old new status same refused (inl done) help answers =
+    (inr (kind, refused_help words kind refused (help done).0, (help done).0, done), (help done).1)
+helped holds stands leaves words kind old new status same refused (inr fails) help answers = absurd (not_both status answers fails)
+
+pub unexplained : (holds : Holding) (stands : Standing) (leaves : Leaving) (words : List Text) (kind : ErrorKind) (status : ℕ) (unchanged : Type 0) (Told : List ℕ → Type 0)
+    → (kind ≡ OutOfMemory) ⊎ AreRefusedWith words kind → IsUnexplained kind unchanged Told status → HasEnded holds stands leaves words unchanged Told status
+unexplained holds stands leaves words kind status unchanged Told refused (inl (failure, inl memory, told, quiet, line)) = inl (failure, inr (inl memory), told, quiet, line)
+unexplained holds stands leaves words kind status unchanged Told refused (inl (failure, inr (help, late), told, quiet, line)) =
+    inl (failure, inr (inr (kind, refused_help words kind refused help, help, late)), told, quiet, line)
+unexplained holds stands leaves words kind status unchanged Told refused (inr (mistake, told, quiet)) = inr ((kind, refused_mistake words kind refused mistake, mistake), told, quiet)
+
+-- ---- what clap answers in place of a line
+
+pub late : (kind : ErrorKind) (status : ℕ) (unchanged : Type 0) (Told : List ℕ → Type 0) → IsHelp kind → (status ≡ status_of Unwritable) × Told (report_line Unwritable)
+    → IsUnexplained kind unchanged Told status
+late kind status unchanged Told help told = inl (Unwritable, inr (help, refl), told.0, tt, told.1)
+
+pub full : (kind : ErrorKind) (status : ℕ) (unchanged : Type 0) (Told : List ℕ → Type 0) → (status ≡ status_of NoMemory) × Told (report_line NoMemory)
+    → IsUnexplained kind unchanged Told status
+full kind status unchanged Told told = inl (NoMemory, inl refl, told.0, tt, told.1)

@@ -1,0 +1,126 @@
+-- A store that does not answer, by what its party answered.
+use Rattle.std.proofs.Common.{◌≡◌, ◌≢◌, inl, inr, refl, sym, subst, ℕ, List, [], ◌∷◌, Ok, Err, Result, IfErr, IsTrue, ◌∙◌, arith}
+use Rattle.sqlite.specs.State.{State, HasCleanDisk}
+use Rattle.statements_facts.specs.Statement.{Holdings}
+use Rattle.store_maps.specs.Held.{IsStoreOf}
+use Rattle.store_adoption.specs.Inspects.{IsStore}
+use Rattle.relying_agreement.specs.Run.{Event}
+use Rattle.statements_facts.specs.declared.counts.Counts.{Counts}
+use Rattle.path.specs.Query.{Accepts}
+use Rattle.relying.specs.Asking.{IsFormed, IsFormedOfEither}
+use Rattle.relying.specs.Run.{Ran, Runs}
+use Rattle.relying.specs.declared.fault.DeliverFault.{DeliverFault}
+use Rattle.relying.specs.declared.fault.DeliverFault.TheVariants.{Store as OfStore}
+use Rattle.store.specs.Adopts.{Keeps}
+use Rattle.store_sql.specs.declared.fault.StoreFault.TheVariants as S
+use Rattle.relying_verdicts.specs.declared.fault.Fault.{Fault}
+use Rattle.relying_verdicts.specs.declared.fault.Fault.TheVariants as F
+use Rattle.cli_failures.specs.declared.failure.Failure.{Failure}
+use Rattle.cli.specs.Standing.{IsNoAnswer, IsUnanswered, Leaving, Seen, Standing, database, seen_of, told_of_party}
+use Rattle.cli.specs.Delivered.{IsNotTaken, IsUncounted}
+use Rattle.cli.specs.Judged.{AreUnanswered, IsNoComparison, IsNotCompared, IsNotJudged}
+
+-- ---- a verdict
+
+other : ◌≢◌ {A = ℕ} 71 72
+other same = omega (arith, same)
+
+kept : (old new : State) → Keeps old new → IsTrue new.is_open → (held : Holdings) → IsStoreOf old.now held → IsStoreOf new.now held
+kept old new keeps is_open held stands = subst (λ now. IsStoreOf now held) (sym (keeps.now_is is_open)) stands
+
+pub not_judged : (leaves : Seen → Type 0) (old new : State) (fault : Fault) (failure : Failure)
+    → failure ≡ told_of_party fault → leaves (seen_of new) → (HasCleanDisk new → Keeps old new × IsFormed old fault) → IsNoAnswer leaves (seen_of old) failure
+not_judged leaves old new (F.Store S.Store) failure told left looks =
+    inr (71, told, inl refl, (seen_of new, left, λ intact is_open held stands. (kept old new (looks intact).0 is_open held stands, other)))
+not_judged leaves old new (F.Store S.Schema) failure told left looks =
+    inr (72, told, inr refl, (seen_of new, left, λ intact is_open held stands. absurd ((looks intact).1 refl held stands)))
+not_judged leaves old new (F.Store S.Memory) failure told left looks = inl told
+not_judged leaves old new F.Memory failure told left looks = inl told
+
+-- ---- a comparison
+
+pub not_compared : (leaves others_leave : Seen → Type 0) (old new other_old other_new : State) (fault : Fault) (failure : Failure)
+    → failure ≡ told_of_party fault → leaves (seen_of new) → others_leave (seen_of other_new)
+    → (HasCleanDisk new → HasCleanDisk other_new → Keeps old new × Keeps other_old other_new × IsFormedOfEither old other_old fault) → IsNoComparison leaves others_leave (seen_of old) (seen_of other_old) failure
+not_compared leaves others_leave old new other_old other_new (F.Store S.Store) failure told left other_left looks = inr (
+  71,
+  told,
+  inl refl,
+  (
+    seen_of new,
+    seen_of other_new,
+    left,
+    other_left,
+    λ intact other_intact is_open other_open held others one two. (
+      kept old new (looks intact other_intact).0 is_open held one,
+      kept other_old other_new (looks intact other_intact).1 other_open others two,
+      other,
+    ),
+  ),
+)
+not_compared leaves others_leave old new other_old other_new (F.Store S.Schema) failure told left other_left looks =
+    inr (72, told, inr refl, (seen_of new, seen_of other_new, left, other_left, λ intact other_intact is_open other_open held others one two. absurd ((looks intact other_intact).2 refl held others one two)))
+not_compared leaves others_leave old new other_old other_new (F.Store S.Memory) failure told left other_left looks = inl told
+not_compared leaves others_leave old new other_old other_new F.Memory failure told left other_left looks = inl told
+
+-- ---- a delivery
+
+-- where its answer is not counts nothing was taken
+none_taken : (accepts : Accepts) (issuer statement : List ℕ) (answers : List (Result Counts DeliverFault)) (number : ℕ) (start held : Holdings)
+    → Runs accepts (Event.Deliver issuer statement ∷ []) answers start held → ((counts : Counts) → answers ≢ Ok counts ∷ []) → (number ≡ 72 → answers ≡ Err (OfStore S.Schema) ∷ [])
+    → (held ≡ start) × (number ≢ 72)
+none_taken accepts issuer statement [] number start held runs none only = absurd runs
+none_taken accepts issuer statement (Ok counts ∷ []) number start held runs none only = absurd (none counts refl)
+none_taken accepts issuer statement (Err fault ∷ []) number start held (next, (reason, formed, as_it_was), same) none only =
+    (same ∙ as_it_was, λ is. formed (let said : Err fault ∷ [] ≡ Err (OfStore S.Schema) ∷ [] = only is in let one : fault ≡ OfStore S.Schema = cc in one))
+none_taken accepts issuer statement (answer ∷ more ∷ rest) number start held (next, takes, runs) none only = absurd runs
+
+pub uncounted : (leaves : Seen → Type 0) (accepts : Accepts) (issuer statement : List ℕ) (old new : State) (said answers : List (Result Counts DeliverFault)) (failure : Failure)
+    → said ≡ answers → IsUncounted said failure → leaves (seen_of new) → (HasCleanDisk new → Ran accepts (Event.Deliver issuer statement ∷ []) answers old new)
+    → IsNoAnswer leaves (seen_of old) failure
+uncounted leaves accepts issuer statement old new said answers failure same (inl memory) left ran = inl memory
+uncounted leaves accepts issuer statement old new said answers failure same (inr (number, told, is, none, only)) left ran = inr (
+  number,
+  told,
+  is,
+  (
+    seen_of new,
+    left,
+    λ intact is_open start stands.
+        let ended = (ran intact).ended is_open start stands in
+        let nothing = none_taken accepts issuer statement said number start ended.held
+        (subst (λ given. Runs accepts (Event.Deliver issuer statement ∷ []) given start ended.held) (sym same) ended.runs) none only in
+        (subst (IsStoreOf new.now) nothing.0 ended.store, nothing.1),
+  ),
+)
+
+pub none_counted : {T : Type 0} (leaves : Seen → Type 0) (accepts : Accepts) (issuer statement : List ℕ) (old new : State) (said answers : List (Result Counts DeliverFault)) (result : Result T Failure)
+    → said ≡ answers → IfErr result (IsUncounted said) → leaves (seen_of new) → (HasCleanDisk new → Ran accepts (Event.Deliver issuer statement ∷ []) answers old new)
+    → IfErr result (IsNoAnswer leaves (seen_of old))
+none_counted leaves accepts issuer statement old new said answers (Ok x) same uncounts left ran = tt
+none_counted leaves accepts issuer statement old new said answers (Err failure) same uncounts left ran =
+    uncounted leaves accepts issuer statement old new said answers failure same uncounts left ran
+
+-- ---- stores at paths
+
+unanswered : (stands : Standing) (leaves : Leaving) (path : List ℕ) (old : State) (failure : Failure) → stands path (database (seen_of old)) → (HasCleanDisk old → IsStore old.now)
+    → IsNoAnswer (leaves path) (seen_of old) failure → IsUnanswered stands leaves path failure
+unanswered stands leaves path old failure stood is fails = (seen_of old, (stood, λ intact. is intact), fails)
+
+pub not_judged_by : {T : Type 0} (stands : Standing) (leaves : Leaving) (path : List ℕ) (old : State) (result : Result T Failure) → stands path (database (seen_of old)) → (HasCleanDisk old → IsStore old.now)
+    → IfErr result (IsNoAnswer (leaves path) (seen_of old)) → IfErr result (IsNotJudged stands leaves path)
+not_judged_by stands leaves path old (Ok x) stood is fails = tt
+not_judged_by stands leaves path old (Err failure) stood is fails = inr (unanswered stands leaves path old failure stood is fails)
+
+pub not_taken_at : {T : Type 0} (stands : Standing) (leaves : Leaving) (path : List ℕ) (old : State) (result : Result T Failure) → stands path (database (seen_of old)) → (HasCleanDisk old → IsStore old.now)
+    → IfErr result (IsNoAnswer (leaves path) (seen_of old)) → IfErr result (IsNotTaken stands leaves path)
+not_taken_at stands leaves path old (Ok x) stood is fails = tt
+not_taken_at stands leaves path old (Err failure) stood is fails = inr (unanswered stands leaves path old failure stood is fails)
+
+pub not_compared_by : {T : Type 0} (stands : Standing) (leaves : Leaving) (path beside : List ℕ) (old other_old : State) (result : Result T Failure)
+    → stands path (database (seen_of old)) → (HasCleanDisk old → IsStore old.now) → stands beside (database (seen_of other_old)) → (HasCleanDisk other_old → IsStore other_old.now)
+    → IfErr result (IsNoComparison (leaves path) (leaves beside) (seen_of old) (seen_of other_old)) → IfErr result (IsNotCompared stands leaves path beside)
+not_compared_by stands leaves path beside old other_old (Ok x) stood is other_stood other_is fails = tt
+not_compared_by stands leaves path beside old other_old (Err failure) stood is other_stood other_is fails =
+    let both : AreUnanswered stands leaves path beside failure = (seen_of old, seen_of other_old, (stood, λ intact. is intact), (other_stood, λ intact. other_is intact), fails) in
+    inr (inr both)

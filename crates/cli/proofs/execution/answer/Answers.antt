@@ -1,0 +1,13 @@
+use Rattle.std.proofs.lemmas.Result.{err_from_is_err_and}
+use Rattle.cli.proofs.execution.answer.Goals as goal
+
+pub returns-in_err-deliver-in-Deliver-clause-fails : goal.returns-in_err-deliver-in-Deliver-clause-fails
+returns-in_err-deliver-in-Deliver-clause-fails g c =
+    let p = err_from_is_err_and c.from_residual-in_err-deliver-in-Deliver.result c.from_residual-in_err-deliver-in-Deliver.ensures.1 in
+    rw (p.1, p.2, c.in-Deliver.is) c.in_err-deliver-in-Deliver.ensures.fails
+
+pub returns-in_err-compare-in-Compare-clause-fails :
+    goal.returns-in_err-compare-in-Compare-clause-fails
+returns-in_err-compare-in-Compare-clause-fails g c =
+    let p = err_from_is_err_and c.from_residual-in_err-compare-in-Compare.result c.from_residual-in_err-compare-in-Compare.ensures.1 in
+    rw (p.1, p.2, c.in-Compare.is) c.in_err-compare-in-Compare.ensures.fails

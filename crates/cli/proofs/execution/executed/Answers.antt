@@ -1,0 +1,39 @@
+use Rattle.std.proofs.Common.{◌≡◌, map, OnOk}
+use Rattle.std.specs.Io.KnownBytes.{Appends}
+use Rattle.clap.specs.Words.{kind_of}
+use Rattle.cli.proofs.Ending.{answered, either, failed}
+use Rattle.cli.proofs.Explaining.{either as explained, helped, unexplained}
+use Rattle.cli.proofs.execution.executed.Goals as goal
+
+pub returns-in-Ok-clause-status : goal.returns-in-Ok-clause-status
+returns-in-Ok-clause-status g c =
+    either c.run.result c.finish.result.status (c.finish.new.err ≡ c.args.err.now) (λ line. OnOk c.finish.result.told (Appends (g.E.Write.contents c.args.err.now) (g.E.Write.contents c.finish.new.err) line))
+    c.run.ensures.status c.finish.ensures.done c.finish.ensures.failed
+
+pub returns-in-Ok-clause-answered : goal.returns-in-Ok-clause-answered
+returns-in-Ok-clause-answered g c =
+    answered (g.S.Source.holds c.args.source.now) (g.S.Stores.stands c.args.source.now) (g.S.Stores.leaves c.args.source.now) (map (λ w. w.now) c.args.words.now) c.in-Ok.line
+    (g.O.Write.contents c.args.out.now) (g.O.Write.contents c.run.new.out) c.run.result c.finish.result.status (c.finish.new.err ≡ c.args.err.now)
+    (λ line. OnOk c.finish.result.told (Appends (g.E.Write.contents c.args.err.now) (g.E.Write.contents c.finish.new.err) line))
+    c.in-Ok.ensures.reads c.run.ensures.done c.finish.ensures.done c.finish.ensures.failed
+
+pub returns-in-Ok-clause-failed : goal.returns-in-Ok-clause-failed
+returns-in-Ok-clause-failed g c =
+    failed (g.S.Source.holds c.args.source.now) (g.S.Stores.stands c.args.source.now) (g.S.Stores.leaves c.args.source.now) (map (λ w. w.now) c.args.words.now) c.in-Ok.line c.run.result c.finish.result.status (c.finish.new.err ≡ c.args.err.now) (c.run.new.out ≡ c.args.out.now)
+    (λ line. OnOk c.finish.result.told (Appends (g.E.Write.contents c.args.err.now) (g.E.Write.contents c.finish.new.err) line))
+    c.in-Ok.ensures.reads c.run.ensures.status c.run.ensures.fails c.run.ensures.quiet c.finish.ensures.done c.finish.ensures.failed
+
+pub returns-in-Err-clause-status : goal.returns-in-Err-clause-status
+returns-in-Err-clause-status g c = explained c.explain.result.status c.explain.ensures.status
+
+pub returns-in-Err-clause-answered : goal.returns-in-Err-clause-answered
+returns-in-Err-clause-answered g c =
+    helped (g.S.Source.holds c.args.source.now) (g.S.Stores.stands c.args.source.now) (g.S.Stores.leaves c.args.source.now) (map (λ w. w.now) c.args.words.now) (kind_of c.in-Err.error)
+    (g.O.Write.contents c.args.out.now) (g.O.Write.contents c.explain.new.out) c.explain.result.status (c.explain.new.err ≡ c.args.err.now)
+    c.in-Err.ensures.refuses c.explain.ensures.status c.explain.ensures.help
+
+pub returns-in-Err-clause-failed : goal.returns-in-Err-clause-failed
+returns-in-Err-clause-failed g c = λ failing.
+    unexplained (g.S.Source.holds c.args.source.now) (g.S.Stores.stands c.args.source.now) (g.S.Stores.leaves c.args.source.now) (map (λ w. w.now) c.args.words.now) (kind_of c.in-Err.error) c.explain.result.status (c.explain.new.out ≡ c.args.out.now)
+    (λ line. OnOk c.explain.result.told (Appends (g.E.Write.contents c.args.err.now) (g.E.Write.contents c.explain.new.err) line))
+    c.in-Err.ensures.refuses (c.explain.ensures.failed failing)

@@ -1,0 +1,11 @@
+pub mod Standing
+pub mod Believed
+pub mod Asked
+pub mod Delivered
+pub mod Judged
+pub mod Status
+pub mod Outcome
+pub mod Ended
+pub use Rattle.cli_failures.specs.Report
+pub use Rattle.cli_failures.specs.Failures
+pub use Rattle.cli_showing.specs.Shown

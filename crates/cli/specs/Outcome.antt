@@ -1,0 +1,105 @@
+-- What a run has done, by the status that it answers.
+use Rattle.std.specs.Prelude.{◌≡◌, ◌≢◌, ◌⊎◌, ℕ, List, Option}
+use Rattle.std.specs.Io.KnownBytes.{Appends}
+use Rattle.clap.specs.Words.{Text}
+use Rattle.clap.specs.declared.error.kind.ErrorKind.{ErrorKind}
+use Rattle.clap.specs.declared.error.kind.ErrorKind.TheVariants.{DisplayHelp, DisplayVersion, OutOfMemory}
+use Rattle.relying_agreement.specs.declared.verdict.Comparison.{Comparison}
+use Rattle.relying_agreement.specs.declared.verdict.Verdict.{Verdict}
+use Rattle.cli_answers.specs.AnswerText.{comparison_line, verdict_line}
+use Rattle.cli_words.specs.CommandLine.{AreRefusedWith, Reads}
+use Rattle.cli_words.specs.declared.line.Line.{Line}
+use Rattle.cli_words.specs.declared.line.Line.TheVariants.{Tree, Show, Prints, Deliver, Check, Compare}
+use Rattle.cli_failures.specs.Failures.{Holding, IsNoValue, OrUnwritable}
+use Rattle.cli_failures.specs.declared.failure.Failure.{Failure}
+use Rattle.cli_failures.specs.declared.failure.Failure.TheVariants.{NoMemory, Unwritable}
+use Rattle.cli.specs.Delivered.{IsDeliveredText, IsFailureOfDelivery, WasDelivered}
+use Rattle.cli.specs.Judged.{IsCompared, IsFailureOfCheck, IsFailureOfComparison, IsJudged, WasJudged, WereCompared}
+use Rattle.cli.specs.Standing.{Leaving, Standing}
+use Rattle.cli.specs.Status.{comparison_status, verdict_status}
+use Rattle.cli_showing.specs.Shown.{ArePrintsUnder, HoldUnder, HoldsKind, HoldsValue, IsFailureOfPrints, IsNotShown, IsShownText, IsTreeText}
+
+-- ---- answers
+
+-- the line of a verdict that is asked for, and its status
+abbrev pub IsVerdictText : (Verdict → Type 0) → ℕ → List ℕ → Type 0
+IsVerdictText Is status text =
+    (verdict : Verdict) × Is verdict × (status ≡ verdict_status verdict) × (text ≡ verdict_line verdict)
+
+-- the same of a comparison
+abbrev pub IsComparisonText : (Comparison → Type 0) → ℕ → List ℕ → Type 0
+IsComparisonText Is status text =
+    (comparison : Comparison) × Is comparison × (status ≡ comparison_status comparison)
+    × (text ≡ comparison_line comparison)
+
+-- The text that the line asks for, and the status that comes with it. Files hold so, and stores stand and are left so.
+abbrev pub IsAnswer : Holding → Standing → Leaving → Line → ℕ → List ℕ → Type 0
+IsAnswer holds stands leaves (Tree file) status text =
+    (status ≡ 0) × IsTreeText holds file.now text
+IsAnswer holds stands leaves (Show kind file) status text =
+    (status ≡ 0) × IsShownText holds kind file.now text
+IsAnswer holds stands leaves (Prints issuer kind file) status text =
+    (status ≡ 0) × ArePrintsUnder holds issuer.now kind file.now text
+IsAnswer holds stands leaves (Deliver store verdicts issuer file) status text =
+    (status ≡ 0)
+    × IsDeliveredText holds stands leaves
+    (record { store = store; verdicts = verdicts; issuer = issuer; file = file }) text
+IsAnswer holds stands leaves (Check question) status text =
+    IsVerdictText (IsJudged holds stands leaves question) status text
+IsAnswer holds stands leaves (Compare question other) status text =
+    IsComparisonText (IsCompared holds stands leaves question other.now) status text
+
+-- that text was written, and nothing else
+abbrev pub IsDone : Holding → Standing → Leaving → Line → Option (List ℕ) → Option (List ℕ) → ℕ → Type 0
+IsDone holds stands leaves line old new status =
+    (text : List ℕ) × IsAnswer holds stands leaves line status text × Appends old new text
+
+-- ---- failures
+
+-- the first failure on what the line names; or what it asks for was found, and standard output failed
+abbrev pub IsFailureOf : Holding → Standing → Leaving → Line → Failure → Type 0
+IsFailureOf holds stands leaves (Tree file) =
+    OrUnwritable (IsNoValue holds file.now) (HoldsValue holds file.now)
+IsFailureOf holds stands leaves (Show kind file) =
+    OrUnwritable (IsNotShown holds kind file.now) (HoldsKind holds kind file.now)
+IsFailureOf holds stands leaves (Prints issuer kind file) =
+    OrUnwritable (IsFailureOfPrints holds issuer.now kind file.now) (HoldUnder holds issuer.now kind file.now)
+IsFailureOf holds stands leaves (Deliver store verdicts issuer file) =
+    OrUnwritable (IsFailureOfDelivery holds stands leaves
+    (record { store = store; verdicts = verdicts; issuer = issuer; file = file }))
+    (WasDelivered holds stands leaves
+    (record { store = store; verdicts = verdicts; issuer = issuer; file = file }))
+IsFailureOf holds stands leaves (Check question) =
+    OrUnwritable (IsFailureOfCheck holds stands leaves question)
+    (WasJudged holds stands leaves question)
+IsFailureOf holds stands leaves (Compare question other) =
+    OrUnwritable (IsFailureOfComparison holds stands leaves question other.now)
+    (WereCompared holds stands leaves question other.now)
+
+-- ---- words
+
+abbrev pub IsHelp : ErrorKind → Type 0
+IsHelp kind = (kind ≡ DisplayHelp) ⊎ (kind ≡ DisplayVersion)
+
+-- it is what is wrong with the words
+abbrev pub IsMistake : ErrorKind → Type 0
+IsMistake kind = (kind ≢ OutOfMemory) × (IsHelp kind → ⊥)
+
+-- ---- a run
+
+-- what the words ask for was written, or they ask for help
+abbrev pub HasAnswered : Holding → Standing → Leaving → List Text → Option (List ℕ) → Option (List ℕ) → ℕ → Type 0
+HasAnswered holds stands leaves words old new status =
+    ((line : Line) × Reads words line × IsDone holds stands leaves line old new status)
+    ⊎ ((kind : ErrorKind) × AreRefusedWith words kind × IsHelp kind × (status ≡ 0))
+
+-- The words are a line, and this failed; or memory ran out while they were read, or the text of help could not be written.
+abbrev pub HasFailed : Holding → Standing → Leaving → List Text → Failure → Type 0
+HasFailed holds stands leaves words failure =
+    ((line : Line) × Reads words line × IsFailureOf holds stands leaves line failure)
+    ⊎ (failure ≡ NoMemory)
+    ⊎ ((kind : ErrorKind) × AreRefusedWith words kind × IsHelp kind × (failure ≡ Unwritable))
+
+-- something is wrong with the words
+abbrev pub AreMistaken : List Text → Type 0
+AreMistaken words = (kind : ErrorKind) × AreRefusedWith words kind × IsMistake kind

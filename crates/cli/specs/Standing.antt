@@ -1,0 +1,95 @@
+-- Stores at paths.
+use Rattle.std.specs.Prelude.{◌≡◌, ◌≢◌, ◌⊎◌, ℕ, List, Bool, IsTrue}
+use Rattle.sqlite.specs.Effect.{Database}
+use Rattle.sqlite.specs.State.{State}
+use Rattle.sqlite_trees.specs.View.{doubt}
+use Rattle.store_adoption.specs.Inspects.{IsStore}
+use Rattle.statements_facts.specs.Statement.{Holdings}
+use Rattle.store_maps.specs.Held.{IsStoreOf}
+use Rattle.store_sql.specs.declared.fault.StoreFault.{StoreFault}
+use Rattle.store_sql.specs.declared.fault.StoreFault.TheVariants.{Store, Schema, Memory}
+use Rattle.relying_verdicts.specs.declared.fault.Fault.{Fault}
+use Rattle.relying_verdicts.specs.declared.fault.Fault.TheVariants.{Store as OfStore, Memory as WithoutMemory}
+use Rattle.cli_failures.specs.declared.failure.Failure.{Failure}
+use Rattle.cli_failures.specs.declared.failure.Failure.TheVariants.{Unreadable, StoreFailed, NoMemory}
+
+-- what is seen of a connection to a database: what it holds, whether it is open, and whether the disk has returned so far what was
+-- written to it
+pub record Seen : Type 0 where
+  pub now : Database
+  pub is_open : Bool
+  pub is_clean : Bool
+
+abbrev pub seen_of : State → Seen
+seen_of s = record { now = s.now; is_open = s.is_open; is_clean = s.is_clean }
+
+-- the disk has returned what was written
+abbrev pub IsIntact : Seen → Type 0
+IsIntact seen = doubt seen.is_clean ≡ 0
+
+-- What is met where the store of a path is looked for: a connection to its database, no file that can be read, or the number of a fault
+-- of the store.
+pub data Met : Type 0 where
+  database : Seen → Met
+  nothing : Met
+  refusal : ℕ → Met
+
+-- what stands at paths: a relation of a path and of what is met there
+abbrev pub Standing : Type 1
+Standing = List ℕ → Met → Type 0
+
+-- how stores are left: a relation of a path and of what is seen of the connection to its database in the end
+abbrev pub Leaving : Type 1
+Leaving = List ℕ → Seen → Type 0
+
+-- This was seen when the database of the path was opened, and where the disk returned what was written it is a store.
+abbrev pub IsFound : Standing → List ℕ → Seen → Type 0
+IsFound stands path old = stands path (database old) × (IsIntact old → IsStore old.now)
+
+-- ---- no store
+
+-- what a fault of a store is for a run
+abbrev pub told_of : StoreFault → Failure
+told_of Store = StoreFailed 71
+told_of Schema = StoreFailed 72
+told_of Memory = NoMemory
+
+-- and a fault of a party
+abbrev pub told_of_party : Fault → Failure
+told_of_party (OfStore fault) = told_of fault
+told_of_party WithoutMemory = NoMemory
+
+-- the database refused, or its tables are not those of a store
+abbrev pub IsFaultNumber : ℕ → Type 0
+IsFaultNumber number = (number ≡ 71) ⊎ (number ≡ 72)
+
+-- No store was opened or made: a fault with that number was met at the path, or memory ran out.
+abbrev pub IsNotMade : Standing → List ℕ → Failure → Type 0
+IsNotMade stands path (StoreFailed number) = IsFaultNumber number × stands path (refusal number)
+IsNotMade stands path NoMemory = Unit {0}
+IsNotMade stands path _ = ⊥
+
+-- or no file that can be read was met there
+abbrev pub IsNotFound : Standing → List ℕ → Failure → Type 0
+IsNotFound stands path (Unreadable named) = (named.now ≡ path) × stands path nothing
+IsNotFound stands path failure = IsNotMade stands path failure
+
+-- ---- no answer
+
+-- As long as the connection is open a store holds what it held, and the fault with this number is not that it is no store.
+abbrev pub HasKept : Seen → Seen → ℕ → Type 0
+HasKept old new number =
+    IsTrue new.is_open → (held : Holdings) → IsStoreOf old.now held →
+    IsStoreOf new.now held × (number ≢ 72)
+
+-- A store that was opened so did not answer: memory ran out; or it was left with that fault, and nothing was taken.
+abbrev pub IsNoAnswer : (Seen → Type 0) → Seen → Failure → Type 0
+IsNoAnswer leaves old failure =
+    (failure ≡ NoMemory)
+    ⊎ ((number : ℕ) × (failure ≡ StoreFailed number) × IsFaultNumber number
+    × ((new : Seen) × leaves new × (IsIntact new → HasKept old new number)))
+
+-- the store at the path was found, and did not answer
+abbrev pub IsUnanswered : Standing → Leaving → List ℕ → Failure → Type 0
+IsUnanswered stands leaves path failure =
+    (old : Seen) × IsFound stands path old × IsNoAnswer (leaves path) old failure

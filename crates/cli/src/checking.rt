@@ -1,0 +1,129 @@
+//! Verdicts on paths.
+ghost use Rattle.std.specs.Prelude.{◌≡◌, IfErr, IfOk};
+ghost use Rattle.std.specs.Io.KnownBytes.{Appends};
+ghost use Rattle.sqlite.specs.Files.{file_state};
+ghost use Rattle.cli_answers.specs.AnswerText.{verdict_line};
+ghost use Rattle.cli_failures.specs.Failures.{OrUnwritable};
+ghost use Rattle.cli_failures.specs.Report.{UnlessLate};
+ghost use Rattle.relying_verdicts.specs.View.{seen_query};
+ghost use Rattle.cli.specs.Asked.{AreCertificateTexts, path_texts};
+ghost use Rattle.cli.specs.Believed.{accepted_by};
+ghost use Rattle.cli.specs.Delivered.{IsCertificateText};
+ghost use Rattle.cli.specs.Judged.{HasJudged, IsFailureOfCheck, IsJudged, IsJudgedBy, IsJudgedOf, IsNotJudged, WasJudged};
+ghost use Rattle.cli.specs.Standing.{IsNoAnswer, seen_of, told_of_party};
+
+use crate::asking::{Asked, query_of, read_asked, texts_of};
+use crate::sharing::Shared;
+use crate::stores::{Stores, failed};
+use cli_answers::verdict_to;
+use cli_failures::{Failure, Source};
+use cli_words::Question;
+use path_verifiers::{ListVerifier, Verifier};
+use relying::{Fault, Node, Query};
+use relying_agreement::Verdict;
+use sqlite_std_file::File;
+use std::alloc::Global;
+use std::io::Write;
+
+// What a party's fault is for a run.
+pub(crate) fn not_judged<'a>(fault: Fault) -> Failure<'a>
+    ensures { result ≡ told_of_party fault }
+{
+    match fault {
+        Fault::Store(fault) => failed(fault),
+        Fault::Memory => Failure::NoMemory,
+    }
+}
+
+// The verdict of a party, whose store is closed then.
+fn judge_at<'a, S: Stores, V: Verifier + Drop>(
+    source: &S,
+    alloc: Global,
+    path: &str,
+    node: Node<V, File>,
+    query: &Query<'_>,
+) -> Result<Verdict, Failure<'a>>
+    ensures judged { IfOk result (HasJudged (S.leaves source.now path.now) (V.accepts node.verifier)
+        (seen_query query.now) (seen_of (file_state node.store.conn))) }
+    ensures fails { IfErr result (IsNoAnswer (S.leaves source.now path.now) (seen_of (file_state node.store.conn))) }
+{
+    let mut node = node;
+    let verdict = node.verdict(alloc, query);
+    source.close_store(path, node.into_store());
+    match verdict {
+        Ok(verdict) => Ok(verdict),
+        Err(fault) => Err(not_judged(fault)),
+    }
+}
+
+// The verdict on the path by what the store holds.
+fn judge_by<'a, S: Stores>(
+    source: &S,
+    alloc: Global,
+    path: &'a str,
+    verifier: &ListVerifier,
+    query: &Query<'_>,
+) -> Result<Verdict, Failure<'a>>
+    ensures judged { IfOk result (IsJudgedBy (S.stands source.now) (S.leaves source.now)
+        path.entry.now (accepted_by verifier.now) (seen_query query.now)) }
+    ensures fails { IfErr result (IsNotJudged (S.stands source.now) (S.leaves source.now) path.entry.now) }
+{
+    let store = source.open_store(path)?;
+    let node = Node::new(Shared { list: verifier }, store);
+    judge_at(source, alloc, path, node, query)
+}
+
+// The same of what is asked.
+fn judge_asked<'a, S: Stores>(
+    source: &S,
+    alloc: Global,
+    path: &'a str,
+    asked: &Asked,
+) -> Result<Verdict, Failure<'a>>
+    requires anchor { IsCertificateText asked.now.anchor.items }
+    requires path { AreCertificateTexts (path_texts asked.now) }
+    ensures judged { IfOk result (IsJudgedOf (S.stands source.now) (S.leaves source.now) path.entry.now asked.now) }
+    ensures fails { IfErr result (IsNotJudged (S.stands source.now) (S.leaves source.now) path.entry.now) }
+{
+    let Ok(texts) = texts_of(alloc, asked.path.as_slice()) else {
+        return Err(Failure::NoMemory);
+    };
+    let query = match query_of(alloc, asked, texts.as_slice()) {
+        Ok(query) => query,
+        Err(failure) => return Err(failure),
+    };
+    judge_by(source, alloc, path, &asked.verifier, &query)
+}
+
+// The verdict that the operands ask for.
+fn judge<'a, S: Source + Stores>(
+    source: &S,
+    alloc: Global,
+    question: &Question<'a>,
+) -> Result<Verdict, Failure<'a>>
+    ensures judged { IfOk result (IsJudged (S.holds source.now) (S.stands source.now) (S.leaves source.now) question.now) }
+    ensures fails { IfErr result (IsFailureOfCheck (S.holds source.now) (S.stands source.now) (S.leaves source.now) question.now) }
+{
+    let asked = read_asked(source, alloc, question)?;
+    judge_asked(source, alloc, question.store, &asked)
+}
+
+/// Writes the verdict on the path that the operands name, by the statements that the store holds (RFC 5280, 6; RFC 6960, 3.2).
+pub fn check<'a, S: Source + Stores, O: Write>(
+    source: &S,
+    alloc: Global,
+    question: &Question<'a>,
+    out: &mut O,
+) -> Result<Verdict, Failure<'a>>
+    ensures judged { IfOk result (IsJudged (S.holds source.now) (S.stands source.now) (S.leaves source.now) question.now) }
+    ensures written { IfOk result (λ verdict. Appends (O.contents out.old) (O.contents out.new) (verdict_line verdict)) }
+    ensures fails { IfErr result (OrUnwritable (IsFailureOfCheck (S.holds source.now) (S.stands source.now) (S.leaves source.now) question.now)
+        (WasJudged (S.holds source.now) (S.stands source.now) (S.leaves source.now) question.now)) }
+    ensures quiet { IfErr result (λ failure. UnlessLate failure (out.new ≡ out.old)) }
+{
+    let verdict = judge(source, alloc, question)?;
+    match verdict_to(verdict, out) {
+        Ok(()) => Ok(verdict),
+        Err(_) => Err(Failure::Unwritable),
+    }
+}

@@ -1,0 +1,149 @@
+//! Comparisons of the verdicts by what two stores hold.
+ghost use Rattle.std.specs.Prelude.{◌≡◌, IfErr, IfOk};
+ghost use Rattle.std.specs.Io.KnownBytes.{Appends};
+ghost use Rattle.sqlite.specs.Files.{file_state};
+ghost use Rattle.cli_answers.specs.AnswerText.{comparison_line};
+ghost use Rattle.cli_failures.specs.Failures.{OrUnwritable};
+ghost use Rattle.cli_failures.specs.Report.{UnlessLate};
+ghost use Rattle.relying_verdicts.specs.View.{seen_query};
+ghost use Rattle.cli.specs.Asked.{AreCertificateTexts, path_texts};
+ghost use Rattle.cli.specs.Believed.{accepted_by};
+ghost use Rattle.cli.specs.Delivered.{IsCertificateText};
+ghost use Rattle.cli.specs.Judged.{HasCompared, IsCompared, IsComparedBy, IsComparedOf, IsFailureOfComparison, IsNoComparison, IsNotCompared, WereCompared};
+ghost use Rattle.cli.specs.Standing.{seen_of};
+
+use crate::asking::{Asked, query_of, read_asked, texts_of};
+use crate::checking::not_judged;
+use crate::sharing::Shared;
+use crate::stores::Stores;
+use cli_answers::comparison_to;
+use cli_failures::{Failure, Source};
+use cli_words::Question;
+use path_verifiers::{ListVerifier, Verifier};
+use relying::{Node, Query};
+use relying_agreement::Comparison;
+use sqlite_std_file::File;
+use std::alloc::Global;
+use std::io::Write;
+use store::Store;
+
+/// What is compared: the store that is asked first, and the other.
+#[derive(Clone, Copy)]
+struct Pair<'a> {
+    path: &'a str,
+    other: &'a str,
+}
+
+// The comparison of two parties that share a verifier, whose stores are closed then.
+fn compare_at<'a, S: Stores>(
+    source: &S,
+    alloc: Global,
+    paths: &Pair<'_>,
+    verifier: &ListVerifier,
+    store: Store<File>,
+    beside: Store<File>,
+    query: &Query<'_>,
+) -> Result<Comparison, Failure<'a>>
+    ensures compared { IfOk result (HasCompared (S.leaves source.now paths.now.path.now)
+        (S.leaves source.now paths.now.other.now) (accepted_by verifier.now)
+        (seen_query query.now) (seen_of (file_state store.conn)) (seen_of (file_state beside.conn))) }
+    ensures fails { IfErr result (IsNoComparison (S.leaves source.now paths.now.path.now)
+        (S.leaves source.now paths.now.other.now) (seen_of (file_state store.conn)) (seen_of (file_state beside.conn))) }
+{
+    let shared = Shared { list: verifier };
+    let mut one = Node::new(shared, store);
+    let mut other = Node::new(shared, beside);
+    let comparison = relying::compare(alloc, &mut one, &mut other, query);
+    source.close_store(paths.path, one.into_store());
+    source.close_store(paths.other, other.into_store());
+    match comparison {
+        Ok(comparison) => Ok(comparison),
+        Err(fault) => Err(not_judged(fault)),
+    }
+}
+
+// The comparison of the verdicts on the path by what the two stores hold, of which the second is looked for when the first is open.
+fn compare_by<'a, S: Stores>(
+    source: &S,
+    alloc: Global,
+    paths: &Pair<'a>,
+    verifier: &ListVerifier,
+    query: &Query<'_>,
+) -> Result<Comparison, Failure<'a>>
+    ensures compared { IfOk result (IsComparedBy (S.stands source.now) (S.leaves source.now)
+        paths.now.path.now paths.now.other.now (accepted_by verifier.now) (seen_query query.now)) }
+    ensures fails { IfErr result (IsNotCompared (S.stands source.now) (S.leaves source.now)
+        paths.now.path.now paths.now.other.now) }
+{
+    let store = source.open_store(paths.path)?;
+    let beside = source.open_store(paths.other)?;
+    compare_at(source, alloc, paths, verifier, store, beside, query)
+}
+
+// The same of what is asked.
+fn compare_asked<'a, S: Stores>(
+    source: &S,
+    alloc: Global,
+    paths: &Pair<'a>,
+    asked: &Asked,
+) -> Result<Comparison, Failure<'a>>
+    requires anchor { IsCertificateText asked.now.anchor.items }
+    requires path { AreCertificateTexts (path_texts asked.now) }
+    ensures compared { IfOk result (IsComparedOf (S.stands source.now) (S.leaves source.now)
+        paths.now.path.now paths.now.other.now asked.now) }
+    ensures fails { IfErr result (IsNotCompared (S.stands source.now) (S.leaves source.now)
+        paths.now.path.now paths.now.other.now) }
+{
+    let Ok(texts) = texts_of(alloc, asked.path.as_slice()) else {
+        return Err(Failure::NoMemory);
+    };
+    let query = match query_of(alloc, asked, texts.as_slice()) {
+        Ok(query) => query,
+        Err(failure) => return Err(failure),
+    };
+    compare_by(source, alloc, paths, &asked.verifier, &query)
+}
+
+// The comparison that the operands ask for.
+fn compare_verdicts<'a, S: Source + Stores>(
+    source: &S,
+    alloc: Global,
+    question: &Question<'a>,
+    other: &'a str,
+) -> Result<Comparison, Failure<'a>>
+    ensures compared { IfOk result (IsCompared (S.holds source.now) (S.stands source.now)
+        (S.leaves source.now) question.now other.entry.now) }
+    ensures fails { IfErr result (IsFailureOfComparison (S.holds source.now) (S.stands source.now)
+        (S.leaves source.now) question.now other.entry.now) }
+{
+    let asked = read_asked(source, alloc, question)?;
+    let paths = Pair {
+        path: question.store,
+        other,
+    };
+    compare_asked(source, alloc, &paths, &asked)
+}
+
+/// Writes whether the store and the other give the same verdict on the path that the operands name, and the verdict; else both, and the
+/// least certificate of which the two hold something different.
+pub fn compare<'a, S: Source + Stores, O: Write>(
+    source: &S,
+    alloc: Global,
+    question: &Question<'a>,
+    other: &'a str,
+    out: &mut O,
+) -> Result<Comparison, Failure<'a>>
+    ensures compared { IfOk result (IsCompared (S.holds source.now) (S.stands source.now)
+        (S.leaves source.now) question.now other.entry.now) }
+    ensures written { IfOk result (λ comparison. Appends (O.contents out.old) (O.contents out.new) (comparison_line comparison)) }
+    ensures fails { IfErr result (OrUnwritable (IsFailureOfComparison (S.holds source.now) (S.stands source.now)
+        (S.leaves source.now) question.now other.entry.now) (WereCompared (S.holds source.now)
+        (S.stands source.now) (S.leaves source.now) question.now other.entry.now)) }
+    ensures quiet { IfErr result (λ failure. UnlessLate failure (out.new ≡ out.old)) }
+{
+    let comparison = compare_verdicts(source, alloc, question, other)?;
+    match comparison_to(comparison, out) {
+        Ok(()) => Ok(comparison),
+        Err(_) => Err(Failure::Unwritable),
+    }
+}

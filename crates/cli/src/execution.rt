@@ -1,0 +1,178 @@
+//! One run of the program.
+ghost use Rattle.std.specs.Prelude.{◌≡◌, ◌⊎◌, IfErr, IfOk, OnOk, map};
+ghost use Rattle.std.specs.Io.KnownBytes.{Appends};
+ghost use Rattle.clap.specs.Words.{kind_of};
+ghost use Rattle.cli_failures.specs.Report.{UnlessLate, report_line, status_of};
+ghost use Rattle.cli.specs.Ended.{HasEnded, HasEndedSo, IsAnswering, IsFailing, IsUnexplained};
+ghost use Rattle.cli.specs.Outcome.{HasAnswered, IsDone, IsFailureOf, IsHelp};
+
+use crate::{Delivery, Stores, check, compare, comparison_status, deliver, verdict_status};
+use clap::error::ErrorKind;
+use cli_failures::{Failure, Source};
+use cli_showing::{prints, show, tree};
+use cli_words::{Line, command_of};
+use std::alloc::Global;
+use std::io;
+use std::io::Write;
+
+const DONE: u8 = 0;
+
+const MISTAKEN: u8 = 5;
+
+/// How a run ended.
+#[derive(Drop)]
+pub struct Ended {
+    /// The exit status.
+    pub status: u8,
+    /// Whether what there was to say on standard error was written.
+    pub told: io::Result<()>,
+}
+
+/// Does what the words ask for, of which the first is the program's name, and answers the exit status: 0 for what was done, for a
+/// valid path and for help; 1, 2 and 3 for a path that is invalid, revoked or unknown; 7 for two verdicts that differ; 4 for input that was
+/// refused, 5 for mistaken words, 6 for a file, a store or a writer that failed and for want of memory. Each of 4, 5 and 6 comes with
+/// a text on `err`.
+pub fn execute<S: Source + Stores, O: Write, E: Write>(
+    source: &S,
+    alloc: Global,
+    words: &[&str],
+    out: &mut O,
+    err: &mut E,
+) -> u8
+    ensures status { IsAnswering result ⊎ IsFailing result }
+    ensures answered { IsAnswering result
+        → HasAnswered (S.holds source.now) (S.stands source.now) (S.leaves source.now)
+        (map (λ w. w.now) words.now) (O.contents out.old) (O.contents out.new) result
+        × (err.new ≡ err.old) }
+    ensures failed { IsFailing result → HasEndedSo (S.holds source.now)
+        (S.stands source.now) (S.leaves source.now) (map (λ w. w.now) words.now) (out.new ≡ out.old) result }
+{
+    executed(source, alloc, words, out, err).status
+}
+
+/// The same, with whether standard error took the line of what failed.
+pub fn executed<S: Source + Stores, O: Write, E: Write>(
+    source: &S,
+    alloc: Global,
+    words: &[&str],
+    out: &mut O,
+    err: &mut E,
+) -> Ended
+    ensures status { IsAnswering result.status ⊎ IsFailing result.status }
+    ensures answered { IsAnswering result.status
+        → HasAnswered (S.holds source.now) (S.stands source.now) (S.leaves source.now)
+        (map (λ w. w.now) words.now) (O.contents out.old) (O.contents out.new) result.status
+        × (err.new ≡ err.old) }
+    ensures failed { IsFailing result.status → HasEnded (S.holds source.now)
+        (S.stands source.now) (S.leaves source.now) (map (λ w. w.now) words.now) (out.new ≡ out.old)
+        (λ line. OnOk result.told (Appends (E.contents err.old) (E.contents err.new) line))
+        result.status }
+{
+    match command_of(alloc, words) {
+        Ok(line) => finish(run(source, alloc, &line, out), err),
+        Err(error) => explain(&error, out, err),
+    }
+}
+
+fn finish<E: Write>(outcome: Result<u8, Failure<'_>>, err: &mut E) -> Ended
+    ensures done { IfOk outcome.entry (λ status.
+        (result.status ≡ status) × (err.new ≡ err.old)) }
+    ensures failed { IfErr outcome.entry (λ failure. (result.status ≡ status_of failure)
+        × OnOk result.told (Appends (E.contents err.old) (E.contents err.new) (report_line failure))) }
+{
+    match outcome {
+        Ok(status) => Ended {
+            status,
+            told: Ok(()),
+        },
+        Err(failure) => Ended {
+            status: failure.status(),
+            told: failure.report(err),
+        },
+    }
+}
+
+fn run<'a, S: Source + Stores, O: Write>(
+    source: &S,
+    alloc: Global,
+    line: &Line<'a>,
+    out: &mut O,
+) -> Result<u8, Failure<'a>>
+    ensures done { IfOk result (IsDone (S.holds source.now) (S.stands source.now)
+        (S.leaves source.now) line.now (O.contents out.old) (O.contents out.new)) }
+    ensures status { IfOk result IsAnswering }
+    ensures fails { IfErr result (IsFailureOf (S.holds source.now) (S.stands source.now) (S.leaves source.now) line.now) }
+    ensures quiet { IfErr result (λ failure. UnlessLate failure (out.new ≡ out.old)) }
+{
+    let status = answer(source, alloc, line, out)?;
+    match out.flush() {
+        Ok(()) => Ok(status),
+        Err(_) => Err(Failure::Unwritable),
+    }
+}
+
+fn answer<'a, S: Source + Stores, O: Write>(
+    source: &S,
+    alloc: Global,
+    line: &Line<'a>,
+    out: &mut O,
+) -> Result<u8, Failure<'a>>
+    ensures done { IfOk result (IsDone (S.holds source.now) (S.stands source.now)
+        (S.leaves source.now) line.now (O.contents out.old) (O.contents out.new)) }
+    ensures status { IfOk result IsAnswering }
+    ensures fails { IfErr result (IsFailureOf (S.holds source.now) (S.stands source.now) (S.leaves source.now) line.now) }
+    ensures quiet { IfErr result (λ failure. UnlessLate failure (out.new ≡ out.old)) }
+{
+    match line {
+        Line::Tree { file } => tree(source, file, out)?,
+        Line::Show { kind, file } => show(source, alloc, *kind, file, out)?,
+        Line::Prints { issuer, kind, file } => prints(source, alloc, issuer, *kind, file, out)?,
+        Line::Deliver {
+            store,
+            verdicts,
+            issuer,
+            file,
+        } => {
+            let words = Delivery {
+                store: *store,
+                verdicts: *verdicts,
+                issuer: *issuer,
+                file: *file,
+            };
+            deliver(source, alloc, words, out)?;
+        }
+        Line::Check(question) => {
+            return Ok(verdict_status(check(source, alloc, question, out)?));
+        }
+        Line::Compare { question, other } => {
+            return Ok(comparison_status(compare(source, alloc, question, other, out)?));
+        }
+    }
+    Ok(DONE)
+}
+
+// What clap answers in place of a line: help goes to standard output, what is wrong with the words to standard error.
+fn explain<O: Write, E: Write>(error: &clap::Error, out: &mut O, err: &mut E) -> Ended
+    ensures help { (result.status ≡ 0) → IsHelp (kind_of error.now) × (err.new ≡ err.old) }
+    ensures status { (result.status ≡ 0) ⊎ IsFailing result.status }
+    ensures failed { IsFailing result.status → IsUnexplained (kind_of error.now) (out.new ≡ out.old)
+        (λ line. OnOk result.told (Appends (E.contents err.old) (E.contents err.new) line))
+        result.status }
+{
+    match error.kind() {
+        ErrorKind::DisplayHelp | ErrorKind::DisplayVersion => match write_text(error, out) {
+            Ok(()) => finish(Ok(DONE), err),
+            Err(_) => finish(Err(Failure::Unwritable), err),
+        },
+        ErrorKind::OutOfMemory => finish(Err(Failure::NoMemory), err),
+        _ => Ended {
+            status: MISTAKEN,
+            told: write_text(error, err),
+        },
+    }
+}
+
+fn write_text<W: Write>(error: &clap::Error, writer: &mut W) -> io::Result<()> {
+    write!(writer, "{error}")?;
+    writer.flush()
+}

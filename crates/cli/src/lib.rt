@@ -1,0 +1,20 @@
+//! One run of the program: what the words of its command line ask for, deliveries to the store at a path, verdicts by what stores at
+//! paths hold, and how it says what failed.
+#![tactic(auto)]
+
+mod asking;
+mod checking;
+mod comparing;
+mod delivering;
+mod execution;
+mod sharing;
+mod status;
+mod stores;
+
+pub use checking::check;
+pub use cli_failures::{Failure, Source};
+pub use comparing::compare;
+pub use delivering::{Delivery, deliver};
+pub use execution::{Ended, execute, executed};
+pub use status::{comparison_status, verdict_status};
+pub use stores::Stores;

@@ -1,0 +1,114 @@
+//! Stores at paths.
+ghost use Rattle.std.specs.Prelude.{◌≡◌, IfErr, IfOk};
+ghost use Rattle.sqlite.specs.Files.{file_state};
+ghost use Rattle.sqlite.specs.State.{HasCleanDisk};
+ghost use Rattle.store_adoption.specs.Inspects.{IsStore};
+ghost use Rattle.cli.specs.Standing.{IsNotFound, IsNotMade, database, seen_of, told_of};
+
+use cli_failures::Failure;
+use sqlite_std_file::File;
+use std::{fs, io};
+use store::Store;
+use store_sql::StoreFault;
+
+/// Where stores stand.
+///
+/// What stands at a path is the system's own matter: no contract can look at a disk. All that is known is that what is opened is what
+/// stands there, that what is closed is left there, and that no store is opened only for what is met there in its place.
+pub trait Stores {
+    ghost use Rattle.std.specs.Prelude.{ℕ, List};
+    ghost use Rattle.cli.specs.Standing.{Met, Seen, database};
+
+    /// Whether this was met where the store of the path was looked for: its database, as it was seen when it was opened; no file that can
+    /// be read; or a fault of the store.
+    ghost stands: { Self → List ℕ → Met → Type 0 };
+
+    /// Whether this was seen of the database of the path when it was closed.
+    ghost leaves: { Self → List ℕ → Seen → Type 0 };
+
+    /// The store that stands at the path; `Unreadable` where there is no file that can be read.
+    fn open_store<'a>(&self, path: &'a str) -> Result<Store<File>, Failure<'a>>
+        ensures stands { IfOk result (λ store. stands self.now path.entry.now (database (seen_of (file_state store.conn)))) }
+        ensures store { IfOk result (λ store. HasCleanDisk (file_state store.conn) → IsStore (file_state store.conn).now) }
+        ensures fails { IfErr result (IsNotFound (stands self.now) path.entry.now) };
+
+    /// The same; where no file is there, a store is made that holds nothing.
+    fn open_or_make_store<'a>(&self, path: &'a str) -> Result<Store<File>, Failure<'a>>
+        ensures stands { IfOk result (λ store. stands self.now path.entry.now (database (seen_of (file_state store.conn)))) }
+        ensures store { IfOk result (λ store. HasCleanDisk (file_state store.conn) → IsStore (file_state store.conn).now) }
+        ensures fails { IfErr result (IsNotMade (stands self.now) path.entry.now) };
+
+    /// Closes a store of the path. What was committed to it is safe however that ends.
+    fn close_store(&self, path: &str, store: Store<File>)
+        ensures leaves { leaves self.now path.now (seen_of (file_state store.conn)) };
+}
+
+// What a store's fault is for a run.
+pub(crate) fn failed<'a>(fault: StoreFault) -> Failure<'a>
+    ensures { result ≡ told_of fault }
+{
+    match fault {
+        StoreFault::Memory => Failure::NoMemory,
+        StoreFault::Store | StoreFault::Schema => Failure::StoreFailed {
+            number: fault.number(),
+        },
+    }
+}
+
+// The store at the path.
+fn open<'a>(rt: &HostRuntime, path: &str) -> Result<Store<File>, Failure<'a>>
+    ensures store { IfOk result (λ store. HasCleanDisk (file_state store.conn) → IsStore (file_state store.conn).now) }
+    ensures fails { IfErr result (λ failure. (fault : StoreFault) × (failure ≡ told_of fault)) }
+{
+    match Store::open(rt, path) {
+        Ok(store) => Ok(store),
+        Err(fault) => Err(failed(fault)),
+    }
+}
+
+// A store that is made at the path.
+fn make<'a>(rt: &HostRuntime, path: &str) -> Result<Store<File>, Failure<'a>>
+    ensures store { IfOk result (λ store. HasCleanDisk (file_state store.conn) → IsStore (file_state store.conn).now) }
+    ensures fails { IfErr result (λ failure. (fault : StoreFault) × (failure ≡ told_of fault)) }
+{
+    match Store::make(rt, path) {
+        Ok(store) => Ok(store),
+        Err(fault) => Err(failed(fault)),
+    }
+}
+
+// Whether no file is there.
+fn is_missing(rt: &HostRuntime, path: &str) -> bool {
+    match fs::open(rt, path) {
+        Ok(_) => false,
+        Err(error) => error.kind() == io::ErrorKind::NotFound,
+    }
+}
+
+/// The system's files, of which no contract says what they hold.
+impl Stores for HostRuntime {
+    ghost use Rattle.std.specs.Prelude.{⊤};
+
+    ghost stands = { λ _ _ _. ⊤ };
+
+    ghost leaves = { λ _ _ _. ⊤ };
+
+    fn open_store<'a>(&self, path: &'a str) -> Result<Store<File>, Failure<'a>> {
+        if fs::open(self, path).is_err() {
+            return Err(Failure::Unreadable { file: path });
+        }
+        open(self, path)
+    }
+
+    fn open_or_make_store<'a>(&self, path: &'a str) -> Result<Store<File>, Failure<'a>> {
+        if is_missing(self, path) {
+            make(self, path)
+        } else {
+            open(self, path)
+        }
+    }
+
+    fn close_store(&self, _path: &str, store: Store<File>) {
+        let _ = store.into_files();
+    }
+}

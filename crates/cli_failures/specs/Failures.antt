@@ -1,0 +1,69 @@
+-- What is found in files, and what a failure says of the file that it is about.
+use Rattle.std.specs.Prelude.{◌≡◌, ◌⊎◌, ℕ, List, Option, Some, None, Ok, Err}
+use Rattle.asn.specs.FirstFault.{IsFirstFault}
+use Rattle.cert.specs.Certificate.{Certificate, certificate}
+use Rattle.statements_crl.specs.CertificateList.{CertificateList, certificate_list}
+use Rattle.statements_ocsp.specs.OcspResponse.{OcspResponse, ocsp_response}
+use Rattle.cli_failures.specs.declared.failure.Failure.{Failure}
+use Rattle.cli_failures.specs.declared.failure.Failure.TheVariants.{Refused, NoCertificate, NoRevocationList, NoResponse, Unreadable, Unwritable, NoMemory}
+
+-- What is found where files are read: a relation of their names and of what is there, the octets that the file holds, or none where it
+-- cannot be read.
+abbrev pub Holding : Type 1
+Holding = List ℕ → Option (List ℕ) → Type 0
+
+-- each file can be read, and holds just these octets
+abbrev pub IsJust : List ℕ → Holding
+IsJust octets file found = found ≡ Some octets
+
+-- The file was not read: it is named, and cannot be read; or memory ran out.
+abbrev pub IsUnread : Holding → List ℕ → Failure → Type 0
+IsUnread holds file (Unreadable named) = (named.now ≡ file) × holds file None
+IsUnread holds file NoMemory = Unit {0}
+IsUnread holds file _ = ⊥
+
+-- the file holds the octets of this certificate
+abbrev pub HoldsCertificate : Holding → List ℕ → Certificate → Type 0
+HoldsCertificate holds file read =
+    (octets : List ℕ) × holds file (Some octets) × (certificate octets ≡ Ok read)
+
+-- the file holds the octets of this revocation list
+abbrev pub HoldsList : Holding → List ℕ → CertificateList → Type 0
+HoldsList holds file read =
+    (octets : List ℕ) × holds file (Some octets) × (certificate_list octets ≡ Ok read)
+
+-- the file holds the octets of this response
+abbrev pub HoldsResponse : Holding → List ℕ → OcspResponse → Type 0
+HoldsResponse holds file read =
+    (octets : List ℕ) × holds file (Some octets) × (ocsp_response octets ≡ Ok read)
+
+-- A failure on a file that is to hold a DER value: it names that file, and its fault is the first of octets that the file holds.
+abbrev pub IsNoValue : Holding → List ℕ → Failure → Type 0
+IsNoValue holds file (Refused named fault) =
+    (named.now ≡ file) × ((octets : List ℕ) × holds file (Some octets) × IsFirstFault octets fault)
+IsNoValue holds file failure = IsUnread holds file failure
+
+-- the same of a certificate
+abbrev pub IsNoCertificate : Holding → List ℕ → Failure → Type 0
+IsNoCertificate holds file (NoCertificate named rule at) =
+    (named.now ≡ file)
+    × ((octets : List ℕ) × holds file (Some octets) × (certificate octets ≡ Err (rule, at)))
+IsNoCertificate holds file failure = IsUnread holds file failure
+
+-- of a revocation list
+abbrev pub IsNoList : Holding → List ℕ → Failure → Type 0
+IsNoList holds file (NoRevocationList named rule at) =
+    (named.now ≡ file)
+    × ((octets : List ℕ) × holds file (Some octets) × (certificate_list octets ≡ Err (rule, at)))
+IsNoList holds file failure = IsUnread holds file failure
+
+-- of a response
+abbrev pub IsNoResponse : Holding → List ℕ → Failure → Type 0
+IsNoResponse holds file (NoResponse named rule at) =
+    (named.now ≡ file)
+    × ((octets : List ℕ) × holds file (Some octets) × (ocsp_response octets ≡ Err (rule, at)))
+IsNoResponse holds file failure = IsUnread holds file failure
+
+-- or what is asked for was found, and standard output failed
+abbrev pub OrUnwritable : (Failure → Type 0) → Type 0 → Failure → Type 0
+OrUnwritable IsFailure found failure = IsFailure failure ⊎ (found × (failure ≡ Unwritable))

@@ -1,0 +1,119 @@
+-- What a run that failed says on standard error, and the status that it answers.
+use Rattle.std.specs.Prelude.{ℕ, List, [], ◌++◌, Option, Some, None, codes}
+use Rattle.std.specs.Fmt.{decimal}
+use Rattle.std.specs.Io.KnownBytes.{Appends}
+use Rattle.asn.specs.DerFault.{fault_number, fault_name, fault_place, rule_number, rule_name}
+use Rattle.cert.specs.Fault.{cert_rule_number, cert_rule_name}
+use Rattle.cert.specs.declared.fault.CertRule.{CertRule}
+use Rattle.cert.specs.declared.fault.CertRule.TheVariants.{Der}
+use Rattle.statements_parts.specs.Fault.{rule_number as statement_number, rule_name as statement_name, statement_fault_number, statement_fault_name, statement_fault_place}
+use Rattle.statements_parts.specs.declared.fault.StatementRule.{StatementRule}
+use Rattle.statements_parts.specs.declared.fault.StatementRule.TheVariants.{Der as OfDer, NotSuccessful}
+use Rattle.statements_parts.specs.declared.fault.StatementFault.{StatementFault}
+use Rattle.statements_parts.specs.declared.fault.StatementFault.TheVariants.{Refused as Breaks}
+use Rattle.cli_failures.specs.declared.failure.Failure.{Failure}
+use Rattle.cli_failures.specs.declared.failure.Failure.TheVariants.{Refused, NoCertificate, NoRevocationList, NoResponse, NotGenuine, BadLine, BadTime, BadPurpose, Unreadable, Unwritable, StoreFailed, NoMemory}
+
+-- ` at PLACE`, where there is one
+abbrev pub place_text : Option ℕ → List ℕ
+place_text (Some at) = codes " at " ++ decimal at
+place_text None = []
+
+-- `x509check: FILE: refused N NAME at PLACE`
+abbrev pub refusal_line : List ℕ → ℕ → List ℕ → Option ℕ → List ℕ
+refusal_line file number name place =
+    codes "x509check: " ++ file ++ codes ": refused " ++ decimal number ++ codes " " ++ name
+    ++ place_text place ++ codes "\n"
+
+-- the number and the name of a rule of certificates; where octets are not DER, those of the rule of DER
+abbrev pub printed_number : CertRule → ℕ
+printed_number (Der rule) = rule_number rule
+printed_number rule = cert_rule_number rule
+
+abbrev pub printed_name : CertRule → List ℕ
+printed_name (Der rule) = rule_name rule
+printed_name rule = cert_rule_name rule
+
+-- the same of a rule of statements
+abbrev pub printed_statement_number : StatementRule → ℕ
+printed_statement_number (OfDer rule) = rule_number rule
+printed_statement_number rule = statement_number rule
+
+abbrev pub printed_statement_name : StatementRule → List ℕ
+printed_statement_name (OfDer rule) = rule_name rule
+printed_statement_name rule = statement_name rule
+
+unfoldable pub unsuccessful_words : ℕ → List ℕ
+unsuccessful_words code = codes ": refused 55 NotSuccessful " ++ decimal code ++ codes "\n"
+
+abbrev pub unsuccessful_line : List ℕ → ℕ → List ℕ
+unsuccessful_line file code = (codes "x509check: " ++ file) ++ unsuccessful_words code
+
+-- of a response that is not successful its status, with no place; else the refusal's line
+abbrev pub response_line : List ℕ → StatementRule → ℕ → List ℕ
+response_line file (NotSuccessful code) at = unsuccessful_line file code
+response_line file rule at =
+    refusal_line file (printed_statement_number rule) (printed_statement_name rule) (Some at)
+
+-- a statement that breaks a rule, or that is not genuine, which has no place
+abbrev pub statement_line : List ℕ → StatementFault → List ℕ
+statement_line file (Breaks rule at) = response_line file rule at
+statement_line file fault =
+    refusal_line file (statement_fault_number fault) (statement_fault_name fault)
+    (statement_fault_place fault)
+
+-- `x509check: FILE: line N`
+unfoldable pub line_words : ℕ → List ℕ
+line_words line = codes ": line " ++ decimal line ++ codes "\n"
+
+abbrev pub bad_line : List ℕ → ℕ → List ℕ
+bad_line file line = (codes "x509check: " ++ file) ++ line_words line
+
+abbrev pub unreadable_line : List ℕ → List ℕ
+unreadable_line file = codes "x509check: cannot read " ++ file ++ codes "\n"
+
+abbrev pub store_fault_line : ℕ → List ℕ
+store_fault_line number = codes "x509check: store fault " ++ decimal number ++ codes "\n"
+
+abbrev pub report_line : Failure → List ℕ
+report_line (Refused file fault) =
+    refusal_line file.now (fault_number fault) (fault_name fault) (fault_place fault)
+report_line (NoCertificate file rule at) =
+    refusal_line file.now (printed_number rule) (printed_name rule) (Some at)
+report_line (NoRevocationList file rule at) =
+    refusal_line file.now (printed_statement_number rule) (printed_statement_name rule) (Some at)
+report_line (NoResponse file rule at) = response_line file.now rule at
+report_line (NotGenuine file fault) = statement_line file.now fault
+report_line (BadLine file line) = bad_line file.now line
+report_line BadTime = codes "x509check: bad time\n"
+report_line BadPurpose = codes "x509check: bad purpose\n"
+report_line (Unreadable file) = unreadable_line file.now
+report_line Unwritable = codes "x509check: cannot write\n"
+report_line (StoreFailed number) = store_fault_line number
+report_line NoMemory = codes "x509check: no memory\n"
+
+-- 4 for input that is refused, 5 for words, 6 for a file, a store or a writer that failed and for want of memory
+abbrev pub status_of : Failure → ℕ
+status_of (Refused file fault) = 4
+status_of (NoCertificate file rule at) = 4
+status_of (NoRevocationList file rule at) = 4
+status_of (NoResponse file rule at) = 4
+status_of (NotGenuine file fault) = 4
+status_of (BadLine file line) = 4
+status_of BadTime = 5
+status_of BadPurpose = 5
+status_of (Unreadable file) = 6
+status_of Unwritable = 6
+status_of (StoreFailed number) = 6
+status_of NoMemory = 6
+
+-- Where a run fails so, this is so: standard output is as it was. What was written before it failed itself, or before memory ran
+-- out, is left open.
+abbrev pub UnlessLate : Failure → Type 0 → Type 0
+UnlessLate Unwritable unchanged = Unit {0}
+UnlessLate NoMemory unchanged = Unit {0}
+UnlessLate _ unchanged = unchanged
+
+-- a text of which this is so was written
+abbrev pub Writes : (List ℕ → Type 0) → Option (List ℕ) → Option (List ℕ) → Type 0
+Writes Is old new = (text : List ℕ) × Is text × Appends old new text

@@ -1,0 +1,10 @@
+use Rattle.std.proofs.Common.{◌≡◌, length, map, take}
+use Rattle.der_stream.specs.Sequence.{joined}
+use Rattle.cli_operands.specs.CertificateValues.{AreRead}
+use Rattle.cli_operands.proofs.certificate_values.judge_all.Given as goal
+
+abbrev pub invariant-loop-value : goal.invariant-loop-value
+invariant-loop-value l = record {
+  place : l.start ≡ length (joined (map (λ value. value.items) (take l.value-index l.values)));
+  read : AreRead (map (λ value. value.items) (take l.value-index l.values));
+}

@@ -1,0 +1,4 @@
+use Rattle.cli_operands.proofs.purpose.+push_leading.Given as goal
+
+abbrev pub decreases-push_leading : goal.decreases-push_leading
+decreases-push_leading l = l.number

@@ -1,0 +1,109 @@
+-- The certificates of a path in files, several in a row.
+use Rattle.std.specs.Prelude.{◌≡◌, ◌≢◌, ◌⊎◌, ◌<◌, ◌≤◌, ◌+◌, ℕ, List, [], ◌∷◌, ◌++◌, length, map, Some, Ok, Err}
+use Rattle.cert.specs.Certificate.{Certificate, certificate}
+use Rattle.cert.specs.declared.fault.CertRule.{CertRule}
+use Rattle.der.specs.FirstFault.{FirstFaultIn}
+use Rattle.der.specs.declared.fault.Fault.{Fault}
+use Rattle.der.specs.declared.fault.Fault.TheVariants.{Refused as Breaks}
+use Rattle.der.specs.declared.fault.Rule.{Rule}
+use Rattle.der.specs.declared.fault.Rule.TheVariants.{Truncated}
+use Rattle.der_stream.specs.Sequence.{BeginsWith, joined}
+use Rattle.cli_failures.specs.Failures.{Holding, IsUnread}
+use Rattle.cli_failures.specs.declared.failure.Failure.{Failure}
+use Rattle.cli_failures.specs.declared.failure.Failure.TheVariants.{Refused, NoCertificate, NoMemory}
+use Rattle.cli_operands.specs.InOrder.{FailsFirst}
+
+-- one more than a path may have, so that a path that is too long is told as such
+abbrev pub most : ℕ
+most = 129
+
+-- the octets of the longest value: a header of 6, and contents of 2^28 - 1
+abbrev pub longest : ℕ
+longest = 268435461
+
+-- the octets begin with these values, and then these are left
+abbrev pub Begins : List ℕ → List (List ℕ) → List ℕ → Type 0
+Begins = BeginsWith longest
+
+-- the texts are those of the certificates, in order
+abbrev pub AreTexts : List (List ℕ) → List Certificate → Type 0
+AreTexts texts certificates = map certificate texts ≡ map Ok certificates
+
+-- the octets are the certificates, each the value of one
+pub record AreCertificates (octets : List ℕ) (certificates : List Certificate) : Type 0 where
+  pub values : List (List ℕ)
+  pub some : values ≢ []
+  pub left : List ℕ
+  pub begins : Begins octets values left
+  -- no more than the first of them are looked at
+  pub few : length values ≤ most
+  pub whole : (left ≡ []) ⊎ (length values ≡ most)
+  pub each : AreTexts values certificates
+
+-- the file holds them
+abbrev pub HoldsCertificates : Holding → List ℕ → List Certificate → Type 0
+HoldsCertificates holds file certificates =
+    (octets : List ℕ) × holds file (Some octets) × AreCertificates octets certificates
+
+-- the files hold them, one file after the other
+abbrev pub HoldPath : Holding → List (List ℕ) → List Certificate → Type 0
+HoldPath holds [] certificates = certificates ≡ []
+HoldPath holds (file ∷ files) certificates =
+    (first more : List Certificate) × HoldsCertificates holds file first × HoldPath holds files more
+    × (certificates ≡ first ++ more)
+
+-- these are the texts of the certificates that the file holds
+abbrev pub HoldsTexts : Holding → List ℕ → List (List ℕ) → Type 0
+HoldsTexts holds file texts =
+    (certificates : List Certificate) × HoldsCertificates holds file certificates × AreTexts texts certificates
+
+-- the same of files
+abbrev pub HoldTexts : Holding → List (List ℕ) → List (List ℕ) → Type 0
+HoldTexts holds files texts =
+    (certificates : List Certificate) × HoldPath holds files certificates × AreTexts texts certificates
+
+-- ---- what is refused
+
+-- the octets begin with certificates, fewer than are looked at, and then these are left
+pub record BeginWithCertificates (octets : List ℕ) (before : List (List ℕ)) (left : List ℕ) : Type 0 where
+  pub few : length before < most
+  pub certificates : List Certificate
+  pub each : AreTexts before certificates
+  pub begins : Begins octets before left
+
+-- A value behind certificates is no certificate. The place is counted from the first octet of the file.
+pub record HoldsOther (octets : List ℕ) (rule : CertRule) (at : ℕ) : Type 0 where
+  pub before : List (List ℕ)
+  pub text : List ℕ
+  pub left : List ℕ
+  pub begin : BeginWithCertificates octets before (text ++ left)
+  pub value : Begins (text ++ left) (text ∷ []) left
+  pub offset : ℕ
+  pub refused : certificate text ≡ Err (rule, offset)
+  pub at_is : at ≡ length (joined before) + offset
+
+-- What is left behind certificates begins with no value, or nothing is there at all.
+pub record HoldsNoValue (octets : List ℕ) (fault : Fault) : Type 0 where
+  pub before : List (List ℕ)
+  pub left : List ℕ
+  pub begin : BeginWithCertificates octets before left
+  pub broken :
+      ((rule : Rule) × (at : ℕ) × (0 < length left) × FirstFaultIn 1 left rule at
+      × (fault ≡ Breaks rule (length (joined before) + at)))
+      ⊎ ((octets ≡ []) × (fault ≡ Breaks Truncated 0))
+
+-- a failure on a file of certificates: it names that file, and its fault is the first, value by value
+abbrev pub IsFailureOnPath : Holding → List ℕ → Failure → Type 0
+IsFailureOnPath holds file (Refused named fault) =
+    (named.now ≡ file) × ((octets : List ℕ) × holds file (Some octets) × HoldsNoValue octets fault)
+IsFailureOnPath holds file (NoCertificate named rule at) =
+    (named.now ≡ file) × ((octets : List ℕ) × holds file (Some octets) × HoldsOther octets rule at)
+IsFailureOnPath holds file failure = IsUnread holds file failure
+
+-- a failure on the first of these files that is refused
+abbrev pub IsFailureOfPath : Holding → List (List ℕ) → Failure → Type 0
+IsFailureOfPath holds [] failure = failure ≡ NoMemory
+IsFailureOfPath holds (file ∷ files) failure =
+    FailsFirst (IsFailureOnPath holds file)
+    ((certificates : List Certificate) × HoldsCertificates holds file certificates)
+    (IsFailureOfPath holds files) failure

@@ -1,0 +1,80 @@
+//! What a revocation list says, a line each.
+ghost use Rattle.std.specs.Prelude.{◌≡◌};
+ghost use Rattle.std.specs.List.{flat_map};
+ghost use Rattle.statements_crl.specs.CertificateList.{seen_list};
+ghost use Rattle.statements_crl.specs.Entry.{entries_left, seen_entry};
+ghost use Rattle.cli_printing.specs.CrlText.{crl_text, entry_line, number_lines, opening_lines, scope_lines, span_lines, title_line};
+ghost use Rattle.cli_printing.specs.Written.{Writes};
+
+use crate::certificate::{write_named, write_octets};
+use crate::text::write_hex;
+use statements_crl::{Crl, Entries, Entry, Scope};
+use std::io;
+use std::io::Write;
+
+fn write_scope<W: Write>(scope: Scope, writer: &mut W) -> io::Result<()>
+    ensures { Writes W.contents writer.old writer.new result (scope_lines scope) }
+{
+    match scope {
+        Scope::All => Ok(()),
+        Scope::User => writer.write_all(b"scope user\n"),
+        Scope::Ca => writer.write_all(b"scope ca\n"),
+    }
+}
+
+fn write_span<W: Write>(from: i64, until: i64, writer: &mut W) -> io::Result<()>
+    ensures { Writes W.contents writer.old writer.new result (span_lines from until) }
+{
+    writeln!(writer, "from {from}")?;
+    writeln!(writer, "until {until}")
+}
+
+#[tactic(auto, unfolding(crate::specs::CrlText::title_line))]
+fn write_title<W: Write>(writer: &mut W) -> io::Result<()>
+    ensures { Writes W.contents writer.old writer.new result title_line }
+{
+    writer.write_all(b"crl\n")
+}
+
+fn write_opening<W: Write>(list: &Crl<'_>, writer: &mut W) -> io::Result<()>
+    ensures { Writes W.contents writer.old writer.new result (opening_lines (seen_list list.now)) }
+{
+    write_title(writer)?;
+    write_named("issuer", &list.issuer, writer)
+}
+
+fn write_number<W: Write>(list: &Crl<'_>, writer: &mut W) -> io::Result<()>
+    ensures { Writes W.contents writer.old writer.new result (number_lines (seen_list list.now)) }
+{
+    write_octets("number", list.number, writer)?;
+    write_scope(list.scope, writer)?;
+    write_span(list.this_update, list.next_update, writer)
+}
+
+fn write_entry<W: Write>(entry: Entry<'_>, writer: &mut W) -> io::Result<()>
+    ensures { Writes W.contents writer.old writer.new result (entry_line (seen_entry entry.entry)) }
+{
+    writer.write_all(b"revoked ")?;
+    write_hex(entry.serial, writer)?;
+    writeln!(writer, " {}", entry.reason)
+}
+
+fn write_entries<W: Write>(entries: Entries<'_>, writer: &mut W) -> io::Result<()>
+    ensures { Writes W.contents writer.old writer.new result (flat_map entry_line (entries_left entries.entry)) }
+{
+    let mut others = entries;
+    while let Some(entry) = others.next() {
+        write_entry(entry, writer)?;
+    }
+    Ok(())
+}
+
+/// Writes what the revocation list says, a line each: its fields, and then its entries as they stand. The entries are read anew
+/// one by one, so that it takes no memory.
+pub fn crl_to<W: Write>(list: &Crl<'_>, writer: &mut W) -> io::Result<()>
+    ensures { Writes W.contents writer.old writer.new result (crl_text (seen_list list.now)) }
+{
+    write_opening(list, writer)?;
+    write_number(list, writer)?;
+    write_entries(list.revoked, writer)
+}

@@ -1,0 +1,82 @@
+-- What is written of a file.
+use Rattle.std.specs.Prelude.{◌≡◌, ◌⊎◌, ℕ, List, Some}
+use Rattle.cli_words.specs.declared.line.Kind.{Kind}
+use Rattle.cli_words.specs.declared.line.Kind.TheVariants.{Certificate, RevocationList, Response}
+use Rattle.asn.specs.Value.{Value}
+use Rattle.asn.specs.Encoding.{Encodes}
+use Rattle.cert.specs.Certificate.{Certificate as Fields}
+use Rattle.cert.specs.SubjectPublicKeyInfo.{SubjectPublicKeyInfo}
+use Rattle.statements_crl.specs.CertificateList.{CertificateList}
+use Rattle.statements_ocsp.specs.OcspResponse.{OcspResponse}
+use Rattle.cli_printing.specs.Printed.{lines_of}
+use Rattle.cli_printing.specs.CertificateText.{certificate_text}
+use Rattle.cli_printing.specs.CrlText.{crl_text}
+use Rattle.cli_printing.specs.FingerprintText.{certificate_print_line, crl_print_line, response_print_lines}
+use Rattle.cli_printing.specs.ResponseText.{response_text}
+use Rattle.cli_failures.specs.declared.failure.Failure.{Failure}
+use Rattle.cli_failures.specs.Failures.{Holding, HoldsCertificate, HoldsList, HoldsResponse, IsNoCertificate, IsNoList, IsNoResponse}
+
+-- the lines of the value whose encoding the file holds
+abbrev pub IsTreeText : Holding → List ℕ → List ℕ → Type 0
+IsTreeText holds file text =
+    (octets : List ℕ) × (value : Value) × holds file (Some octets) × Encodes octets value
+    × (text ≡ lines_of 0 value)
+
+-- the lines of the certificate, the revocation list or the response in the file
+abbrev pub IsShownText : Holding → Kind → List ℕ → List ℕ → Type 0
+IsShownText holds Certificate file text =
+    (read : Fields) × HoldsCertificate holds file read × (text ≡ certificate_text read)
+IsShownText holds RevocationList file text =
+    (read : CertificateList) × HoldsList holds file read × (text ≡ crl_text read)
+IsShownText holds Response file text =
+    (read : OcspResponse) × HoldsResponse holds file read × (text ≡ response_text read)
+
+-- the fingerprints of the file under this key: of a certificate and of a revocation list, its line; of a response, its lines
+abbrev pub ArePrints : Holding → SubjectPublicKeyInfo → Kind → List ℕ → List ℕ → Type 0
+ArePrints holds key_info Certificate file text =
+    (read : Fields) × HoldsCertificate holds file read
+    × (text ≡ certificate_print_line key_info read)
+ArePrints holds key_info RevocationList file text =
+    (read : CertificateList) × HoldsList holds file read × (text ≡ crl_print_line key_info read)
+ArePrints holds key_info Response file text =
+    (read : OcspResponse) × HoldsResponse holds file read
+    × (text ≡ response_print_lines key_info read)
+
+-- the same under the key in the issuer's certificate
+abbrev pub ArePrintsUnder : Holding → List ℕ → Kind → List ℕ → List ℕ → Type 0
+ArePrintsUnder holds issuer kind file text =
+    (signer : Fields) × HoldsCertificate holds issuer signer
+    × ArePrints holds signer.key_info kind file text
+
+-- ---- what is found
+
+-- the file holds a DER value
+abbrev pub HoldsValue : Holding → List ℕ → Type 0
+HoldsValue holds file =
+    (octets : List ℕ) × (value : Value) × holds file (Some octets) × Encodes octets value
+
+-- a value of that kind
+abbrev pub HoldsKind : Holding → Kind → List ℕ → Type 0
+HoldsKind holds Certificate file = (read : Fields) × HoldsCertificate holds file read
+HoldsKind holds RevocationList file = (read : CertificateList) × HoldsList holds file read
+HoldsKind holds Response file = (read : OcspResponse) × HoldsResponse holds file read
+
+-- and the issuer's file a certificate
+abbrev pub HoldUnder : Holding → List ℕ → Kind → List ℕ → Type 0
+HoldUnder holds issuer kind file =
+    ((signer : Fields) × HoldsCertificate holds issuer signer) × HoldsKind holds kind file
+
+-- ---- what is wrong
+
+-- a failure on a file that is to hold a value of that kind
+abbrev pub IsNotShown : Holding → Kind → List ℕ → Failure → Type 0
+IsNotShown holds Certificate file failure = IsNoCertificate holds file failure
+IsNotShown holds RevocationList file failure = IsNoList holds file failure
+IsNotShown holds Response file failure = IsNoResponse holds file failure
+
+-- a failure on the issuer's file; on the other only where the issuer's holds a certificate
+abbrev pub IsFailureOfPrints : Holding → List ℕ → Kind → List ℕ → Failure → Type 0
+IsFailureOfPrints holds issuer kind file failure =
+    IsNoCertificate holds issuer failure
+    ⊎ ((signer : Fields) × HoldsCertificate holds issuer signer
+    × IsNotShown holds kind file failure)

@@ -1,0 +1,221 @@
+//! What files say, in print.
+ghost use Rattle.std.specs.Prelude.{◌≡◌, IfErr, Ok, OnOk};
+ghost use Rattle.std.specs.Io.KnownBytes.{Appends};
+ghost use Rattle.cert.specs.Certificate.{Certificate as CertificateFields, certificate};
+ghost use Rattle.cert.specs.SubjectPublicKeyInfo.{seen_key_info};
+ghost use Rattle.cli_printing.specs.CertificateText.{certificate_text};
+ghost use Rattle.statements_crl.specs.CertificateList.{CertificateList, certificate_list};
+ghost use Rattle.cli_printing.specs.CrlText.{crl_text};
+ghost use Rattle.cli_printing.specs.FingerprintText.{certificate_print_line, crl_print_line, response_print_lines};
+ghost use Rattle.statements_ocsp.specs.OcspResponse.{OcspResponse, ocsp_response};
+ghost use Rattle.cli_printing.specs.ResponseText.{response_text};
+ghost use Rattle.cli_failures.specs.Failures.{IsJust, IsNoCertificate, IsNoList, IsNoResponse, IsNoValue, OrUnwritable};
+ghost use Rattle.cli_failures.specs.Report.{UnlessLate, Writes};
+ghost use Rattle.cli_showing.specs.Shown.{ArePrints, ArePrintsUnder, HoldUnder, HoldsKind, HoldsValue, IsFailureOfPrints, IsNotShown, IsShownText, IsTreeText};
+
+use cert::SubjectPublicKeyInfo;
+use cli_failures::{Failure, Source, read_certificate, read_list, read_response};
+use cli_printing::{
+    PrintsFault, TreeFault, certificate_print_to, certificate_to, crl_print_to, crl_to,
+    response_prints_to, response_to, tree_to,
+};
+use cli_words::Kind;
+use std::alloc::Global;
+use std::io::Write;
+
+/// Writes the DER value in the file, a line for each value in it.
+pub fn tree<'a, S: Source, O: Write>(
+    source: &S,
+    file: &'a str,
+    out: &mut O,
+) -> Result<(), Failure<'a>>
+    ensures done { OnOk result (Writes (IsTreeText (S.holds source.now) file.entry.now)
+        (O.contents out.old) (O.contents out.new)) }
+    ensures fails { IfErr result (OrUnwritable (IsNoValue (S.holds source.now) file.entry.now)
+        (HoldsValue (S.holds source.now) file.entry.now)) }
+    ensures quiet { IfErr result (λ failure. UnlessLate failure (out.new ≡ out.old)) }
+{
+    let octets = source.octets_of(file)?;
+    match tree_to(octets.as_slice(), out) {
+        Ok(()) => Ok(()),
+        Err(TreeFault::Refused(fault)) => Err(Failure::Refused { file, fault }),
+        Err(TreeFault::Io) => Err(Failure::Unwritable),
+    }
+}
+
+/// Writes what the certificate, the revocation list or the response in the file says.
+pub fn show<'a, S: Source, O: Write>(
+    source: &S,
+    alloc: Global,
+    kind: Kind,
+    file: &'a str,
+    out: &mut O,
+) -> Result<(), Failure<'a>>
+    ensures done { OnOk result (Writes (IsShownText (S.holds source.now) kind file.entry.now)
+        (O.contents out.old) (O.contents out.new)) }
+    ensures fails { IfErr result (OrUnwritable (IsNotShown (S.holds source.now) kind file.entry.now)
+        (HoldsKind (S.holds source.now) kind file.entry.now)) }
+    ensures quiet { IfErr result (λ failure. UnlessLate failure (out.new ≡ out.old)) }
+{
+    let octets = source.octets_of(file)?;
+    match kind {
+        Kind::Certificate => show_certificate(alloc, file, octets.as_slice(), out),
+        Kind::RevocationList => show_list(alloc, file, octets.as_slice(), out),
+        Kind::Response => show_response(alloc, file, octets.as_slice(), out),
+    }
+}
+
+fn show_certificate<'a, O: Write>(
+    alloc: Global,
+    file: &'a str,
+    octets: &[u8],
+    out: &mut O,
+) -> Result<(), Failure<'a>>
+    ensures done { OnOk result ((read : CertificateFields) × (certificate octets.now ≡ Ok read)
+        × Appends (O.contents out.old) (O.contents out.new) (certificate_text read)) }
+    ensures fails { IfErr result (OrUnwritable (IsNoCertificate (IsJust octets.now) file.entry.now)
+        ((read : CertificateFields) × (certificate octets.now ≡ Ok read))) }
+    ensures quiet { IfErr result (λ failure. UnlessLate failure (out.new ≡ out.old)) }
+{
+    let certificate = read_certificate(alloc, file, octets)?;
+    certificate_to(&certificate, out).map_err(|_| Failure::Unwritable)
+}
+
+fn show_list<'a, O: Write>(
+    alloc: Global,
+    file: &'a str,
+    octets: &[u8],
+    out: &mut O,
+) -> Result<(), Failure<'a>>
+    ensures done { OnOk result ((read : CertificateList) × (certificate_list octets.now ≡ Ok read)
+        × Appends (O.contents out.old) (O.contents out.new) (crl_text read)) }
+    ensures fails { IfErr result (OrUnwritable (IsNoList (IsJust octets.now) file.entry.now)
+        ((read : CertificateList) × (certificate_list octets.now ≡ Ok read))) }
+    ensures quiet { IfErr result (λ failure. UnlessLate failure (out.new ≡ out.old)) }
+{
+    let list = read_list(alloc, file, octets)?;
+    crl_to(&list, out).map_err(|_| Failure::Unwritable)
+}
+
+fn show_response<'a, O: Write>(
+    alloc: Global,
+    file: &'a str,
+    octets: &[u8],
+    out: &mut O,
+) -> Result<(), Failure<'a>>
+    ensures done { OnOk result ((read : OcspResponse) × (ocsp_response octets.now ≡ Ok read)
+        × Appends (O.contents out.old) (O.contents out.new) (response_text read)) }
+    ensures fails { IfErr result (OrUnwritable (IsNoResponse (IsJust octets.now) file.entry.now)
+        ((read : OcspResponse) × (ocsp_response octets.now ≡ Ok read))) }
+    ensures quiet { IfErr result (λ failure. UnlessLate failure (out.new ≡ out.old)) }
+{
+    let response = read_response(alloc, file, octets)?;
+    response_to(&response, out).map_err(|_| Failure::Unwritable)
+}
+
+/// Writes the fingerprints of what a verifier is asked about the file under the key of its issuer. The issuer's file comes first: the
+/// other is looked at only where it holds a certificate.
+pub fn prints<'a, S: Source, O: Write>(
+    source: &S,
+    alloc: Global,
+    issuer: &'a str,
+    kind: Kind,
+    file: &'a str,
+    out: &mut O,
+) -> Result<(), Failure<'a>>
+    ensures done { OnOk result
+        (Writes (ArePrintsUnder (S.holds source.now) issuer.entry.now kind file.entry.now)
+        (O.contents out.old) (O.contents out.new)) }
+    ensures fails { IfErr result
+        (OrUnwritable
+        (IsFailureOfPrints (S.holds source.now) issuer.entry.now kind file.entry.now)
+        (HoldUnder (S.holds source.now) issuer.entry.now kind file.entry.now)) }
+    ensures quiet { IfErr result (λ failure. UnlessLate failure (out.new ≡ out.old)) }
+{
+    let octets = source.octets_of(issuer)?;
+    let signer = read_certificate(alloc, issuer, octets.as_slice())?;
+    let key_info = &signer.subject_public_key_info;
+    print_under(source, alloc, key_info, kind, file, out)
+}
+
+// The fingerprints of the file under the key of its issuer.
+fn print_under<'a, S: Source, O: Write>(
+    source: &S,
+    alloc: Global,
+    key_info: &SubjectPublicKeyInfo<'_>,
+    kind: Kind,
+    file: &'a str,
+    out: &mut O,
+) -> Result<(), Failure<'a>>
+    ensures done { OnOk result
+        (Writes (ArePrints (S.holds source.now) (seen_key_info key_info.now) kind file.entry.now)
+        (O.contents out.old) (O.contents out.new)) }
+    ensures fails { IfErr result (OrUnwritable (IsNotShown (S.holds source.now) kind file.entry.now)
+        (HoldsKind (S.holds source.now) kind file.entry.now)) }
+    ensures quiet { IfErr result (λ failure. UnlessLate failure (out.new ≡ out.old)) }
+{
+    let octets = source.octets_of(file)?;
+    match kind {
+        Kind::Certificate => print_certificate(alloc, key_info, file, octets.as_slice(), out),
+        Kind::RevocationList => print_list(alloc, key_info, file, octets.as_slice(), out),
+        Kind::Response => print_response(alloc, key_info, file, octets.as_slice(), out),
+    }
+}
+
+fn print_certificate<'a, O: Write>(
+    alloc: Global,
+    key_info: &SubjectPublicKeyInfo<'_>,
+    file: &'a str,
+    octets: &[u8],
+    out: &mut O,
+) -> Result<(), Failure<'a>>
+    ensures done { OnOk result ((read : CertificateFields) × (certificate octets.now ≡ Ok read)
+        × Appends (O.contents out.old) (O.contents out.new)
+        (certificate_print_line (seen_key_info key_info.now) read)) }
+    ensures fails { IfErr result (OrUnwritable (IsNoCertificate (IsJust octets.now) file.entry.now)
+        ((read : CertificateFields) × (certificate octets.now ≡ Ok read))) }
+    ensures quiet { IfErr result (λ failure. UnlessLate failure (out.new ≡ out.old)) }
+{
+    let certificate = read_certificate(alloc, file, octets)?;
+    certificate_print_to(&certificate, key_info, out).map_err(|_| Failure::Unwritable)
+}
+
+fn print_list<'a, O: Write>(
+    alloc: Global,
+    key_info: &SubjectPublicKeyInfo<'_>,
+    file: &'a str,
+    octets: &[u8],
+    out: &mut O,
+) -> Result<(), Failure<'a>>
+    ensures done { OnOk result ((read : CertificateList) × (certificate_list octets.now ≡ Ok read)
+        × Appends (O.contents out.old) (O.contents out.new)
+        (crl_print_line (seen_key_info key_info.now) read)) }
+    ensures fails { IfErr result (OrUnwritable (IsNoList (IsJust octets.now) file.entry.now)
+        ((read : CertificateList) × (certificate_list octets.now ≡ Ok read))) }
+    ensures quiet { IfErr result (λ failure. UnlessLate failure (out.new ≡ out.old)) }
+{
+    let list = read_list(alloc, file, octets)?;
+    crl_print_to(&list, key_info, out).map_err(|_| Failure::Unwritable)
+}
+
+fn print_response<'a, O: Write>(
+    alloc: Global,
+    key_info: &SubjectPublicKeyInfo<'_>,
+    file: &'a str,
+    octets: &[u8],
+    out: &mut O,
+) -> Result<(), Failure<'a>>
+    ensures done { OnOk result ((read : OcspResponse) × (ocsp_response octets.now ≡ Ok read)
+        × Appends (O.contents out.old) (O.contents out.new)
+        (response_print_lines (seen_key_info key_info.now) read)) }
+    ensures fails { IfErr result (OrUnwritable (IsNoResponse (IsJust octets.now) file.entry.now)
+        ((read : OcspResponse) × (ocsp_response octets.now ≡ Ok read))) }
+    ensures quiet { IfErr result (λ failure. UnlessLate failure (out.new ≡ out.old)) }
+{
+    let response = read_response(alloc, file, octets)?;
+    match response_prints_to(alloc, &response, key_info, out) {
+        Ok(()) => Ok(()),
+        Err(PrintsFault::Io) => Err(Failure::Unwritable),
+        Err(PrintsFault::Memory) => Err(Failure::NoMemory),
+    }
+}

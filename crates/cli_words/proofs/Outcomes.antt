@@ -1,0 +1,347 @@
+-- What follows of a line, or of an error, from what clap's definition makes of the words.
+use Rattle.std.proofs.Common.{◌≡◌, ◌∙◌, ◌⊎◌, List, [], ◌∷◌, Option, Some, None, Result, Ok, Err, IfErr, IfOk, MatchResult, IsErrAnd, option_map, sym, ap, subst, inl, inr, codes, slice_index, arith, Bor, length, refl, ◌<◌}
+use Rattle.clap.specs.Words.{Row, Text, all_of, fault_of, first_of, kind_of, subcommand_of}
+use Rattle.cli_words.specs.App.{program}
+use Rattle.clap.specs.Kinds.{Kinds, HasKind, IsAmong}
+use Rattle.clap.specs.declared.error.Error.{Error}
+use Rattle.clap.specs.declared.error.kind.ErrorKind.TheVariants.{OutOfMemory}
+use Rattle.cli_words.specs.CommandLine.{Ask, AreRefusedWith, HasNoLine, HasOtherKind, IsCheck, IsCompare, IsDeliver, IsQuestion, IsLine, IsLineOf, IsPlainWord, IsPrints, IsShow, IsTree, Lack, Reads, TakesKind, kind_in, kind_named, of_check, of_compare, of_deliver, of_file, of_prints}
+use Rattle.cli_words.specs.declared.line.Kind.TheVariants.{Certificate}
+use Rattle.cli_words.specs.declared.line.Line.{Line}
+use Rattle.cli_words.specs.declared.line.Line.TheVariants.{Tree, Show, Prints, Deliver, Check, Compare}
+use Rattle.cli_words.proofs.Turns.{Finds}
+use Rattle.cli_words.proofs.TreeWords.{entered as entered_tree, no_fault as no_fault_of_tree}
+use Rattle.cli_words.proofs.ShowWords.{entered as entered_show, no_fault as no_fault_of_show}
+use Rattle.cli_words.proofs.PrintsWords.{entered as entered_prints, no_fault as no_fault_of_prints, prints_words}
+use Rattle.cli_words.proofs.DeliverWords.{deliver_words, entered as entered_deliver, no_fault as no_fault_of_deliver}
+use Rattle.cli_words.proofs.CheckWords.{check_words, entered as entered_check, no_fault as no_fault_of_check}
+use Rattle.cli_words.proofs.CompareWords.{compare_words, entered as entered_compare, no_fault as no_fault_of_compare}
+use Rattle.cli_words.specs.declared.question.Question.{Question}
+use Rattle.clap.specs.Lexer.{usize_max}
+use Rattle.std.specs.List.{All}
+
+-- an error that comes through `?` unchanged
+pub errs_as : {T : Type 0} (P : Error → Type 0) (r : Result T Error) (x : Error) → P x → IsErrAnd r (λ e. e ≡ x) → IfErr r P
+errs_as P (Ok v) x h b = absurd b
+errs_as P (Err e) x h b = subst P (sym b) h
+
+-- what clap's definition gives is a refusal
+pub refused_with : (words : List Text) (e : Error) → HasKind (fault_of program words) e → (kind_of e ≡ OutOfMemory) ⊎ AreRefusedWith words (kind_of e)
+refused_with words e h = elim h [ inl memory ↦ inl memory | inr among ↦ inr (inl among) ]
+
+-- words that break no rule and enter a subcommand with all that it has to have are a line, memory aside
+pub known : (P : Line → Type 0) (words : List Text) (r : Result Line Error) → fault_of program words ≡ []
+    → (HasNoLine (subcommand_of program words) → ⊥) → (HasOtherKind (subcommand_of program words) → ⊥)
+    → ((line : Line) → IsLineOf (subcommand_of program words) line → P line)
+    → IfOk r (Reads words) → IfErr r (λ e. (kind_of e ≡ OutOfMemory) ⊎ AreRefusedWith words (kind_of e))
+    → MatchResult r P (λ e. kind_of e ≡ OutOfMemory)
+known P words (Ok line) well there kind means reads refuses = means line reads.1
+known P words (Err e) well there kind means reads refuses =
+    elim refuses [
+      | inl memory ↦ memory
+      | inr (inl among) ↦ absurd (subst (λ (kinds : Kinds). IsAmong (kind_of e) kinds) well among)
+      | inr (inr (inl missing)) ↦ absurd (there missing.1)
+      | inr (inr (inr other)) ↦ absurd (kind other.1)
+    ]
+
+-- what is said of the line that the words are, or of the error
+pub record IsReadAs (words : List Text) (r : Result Line Error) : Type 0 where
+  pub reads : IfOk r (Reads words)
+  pub refuses : IfErr r (λ e. (kind_of e ≡ OutOfMemory) ⊎ AreRefusedWith words (kind_of e))
+
+-- the line is one of the rows that were entered
+same_rows : (p : Text × List Row) (name : Text) (rows : List Row) → Some p ≡ Some (name, rows) → p ≡ (name, rows)
+same_rows p name rows e = cc
+
+line_in : (entered : Option (Text × List Row)) (name : Text) (rows : List Row) (line : Line) → entered ≡ Some (name, rows) → IsLineOf entered line → IsLine (name, rows) line
+line_in entered name rows line is (p, here, says) =
+    subst (λ (q : Text × List Row). IsLine q line) (same_rows p name rows (sym here ∙ is)) says
+
+-- one value is found once
+same_text : (found : Option Text) (text given : Text) → found ≡ Some text → found ≡ Some given → given ≡ text
+same_text found text given there gives = let both = sym there ∙ gives in cc
+
+-- arguments that are there are not missing
+abbrev AreGiven : List Text → List Row → Type 0
+AreGiven [] rows = Unit {0}
+AreGiven (id ∷ ids) rows = ((text : Text) × (first_of id rows ≡ Some text)) × AreGiven ids rows
+
+not_missing : (found : Option Text) (text : Text) → found ≡ Some text → found ≡ None → ⊥
+not_missing found text there missing = let both = sym there ∙ missing in cc
+
+not_lacking : (ids : List Text) (rows : List Row) → AreGiven ids rows → Lack ids rows → ⊥
+not_lacking [] rows given lack = lack
+not_lacking (id ∷ ids) rows given lack =
+    elim lack [ inl missing ↦ not_missing (first_of id rows) given.0.0 given.0.1 missing | inr more ↦ not_lacking ids rows given.1 more ]
+
+-- a subcommand that takes no kind has no other kind
+no_kind : (entered : Option (Text × List Row)) (name : Text) (rows : List Row) → entered ≡ Some (name, rows) → (TakesKind name → ⊥) → HasOtherKind entered → ⊥
+no_kind entered name rows is none (p, here, takes, other) =
+    none (subst (λ (q : Text × List Row). TakesKind q.0) (same_rows p name rows (sym here ∙ is)) takes)
+
+-- and one whose kind is left out has that of a certificate
+certificate_kind : (rows : List Row) → first_of (codes "as") rows ≡ None → kind_in rows ≡ Some Certificate
+certificate_kind rows none = ap kind_named none
+
+no_other_kind : (entered : Option (Text × List Row)) (name : Text) (rows : List Row) → entered ≡ Some (name, rows) → first_of (codes "as") rows ≡ None → HasOtherKind entered → ⊥
+no_other_kind entered name rows is none (p, here, takes, other) =
+    let missing = subst (λ (q : Text × List Row). kind_in q.1 ≡ None) (same_rows p name rows (sym here ∙ is)) other in
+    let both = sym (certificate_kind rows none) ∙ missing in
+    cc
+
+tree_takes_no_kind : TakesKind (codes "tree") → ⊥
+tree_takes_no_kind takes =
+    elim takes [
+      | inl show ↦ let letter : 116 ≡ 115 = ap (λ (text : Text). slice_index text 0) show in absurd (omega (arith, letter))
+      | inr prints ↦ let letter : 116 ≡ 112 = ap (λ (text : Text). slice_index text 0) prints in absurd (omega (arith, letter))
+    ]
+
+deliver_takes_no_kind : TakesKind (codes "deliver") → ⊥
+deliver_takes_no_kind takes =
+    elim takes [
+      | inl show ↦ let letter : 100 ≡ 115 = ap (λ (text : Text). slice_index text 0) show in absurd (omega (arith, letter))
+      | inr prints ↦ let letter : 100 ≡ 112 = ap (λ (text : Text). slice_index text 0) prints in absurd (omega (arith, letter))
+    ]
+
+-- `tree`
+tree_means : (entered : Option (Text × List Row)) (rows : List Row) (file : Text) → first_of (codes "file") rows ≡ Some file
+    → (line : Line) → entered ≡ Some (codes "tree", rows) → IsLineOf entered line → IsTree file line
+tree_means entered rows file found (Tree given) is line =
+    same_text (first_of (codes "file") rows) file given.now found (line_in entered (codes "tree") rows (Tree given) is line).1
+tree_means entered rows file found (Show kind given) is line =
+    let letter : 116 ≡ 115 = ap (λ (text : Text). slice_index text 0) (line_in entered (codes "tree") rows (Show kind given) is line).0 in
+    absurd (omega (arith, letter))
+tree_means entered rows file found (Prints signer kind given) is line =
+    let letter : 116 ≡ 112 = ap (λ (text : Text). slice_index text 0) (line_in entered (codes "tree") rows (Prints signer kind given) is line).0 in
+    absurd (omega (arith, letter))
+tree_means entered rows file found (Deliver path prints signer given) is line =
+    let letter : 116 ≡ 100 = ap (λ (text : Text). slice_index text 0) (line_in entered (codes "tree") rows (Deliver path prints signer given) is line).0 in
+    absurd (omega (arith, letter))
+tree_means entered rows file found (Check asked) is line =
+    let letter : 116 ≡ 99 = ap (λ (text : Text). slice_index text 0) (line_in entered (codes "tree") rows (Check asked) is line).0 in
+    absurd (omega (arith, letter))
+tree_means entered rows file found (Compare asked beside) is line =
+    let letter : 116 ≡ 99 = ap (λ (text : Text). slice_index text 0) (line_in entered (codes "tree") rows (Compare asked beside) is line).0 in
+    absurd (omega (arith, letter))
+
+pub tree_known : (name file : Text) (r : Result Line Error) → IsPlainWord file → IsReadAs (name ∷ codes "tree" ∷ file ∷ []) r → MatchResult r (IsTree file) (λ e. kind_of e ≡ OutOfMemory)
+tree_known name file r plain is =
+    let enters = entered_tree name file plain in
+    known (IsTree file) (name ∷ codes "tree" ∷ file ∷ []) r (no_fault_of_tree name file plain)
+    (λ none. not_lacking of_file enters.rows ((file, enters.finds.0), tt) (none.tree enters.rows enters.is))
+    (no_kind _ (codes "tree") enters.rows enters.is tree_takes_no_kind)
+    (λ line. tree_means _ enters.rows file enters.finds.0 line enters.is) is.reads is.refuses
+
+-- `show`
+show_means : (entered : Option (Text × List Row)) (rows : List Row) (file : Text) → first_of (codes "as") rows ≡ None → first_of (codes "file") rows ≡ Some file
+    → (line : Line) → entered ≡ Some (codes "show", rows) → IsLineOf entered line → IsShow file line
+show_means entered rows file none found (Show kind given) is line =
+    let says = line_in entered (codes "show") rows (Show kind given) is line in
+    let certificate = sym (certificate_kind rows none) ∙ says.1 in
+    (cc, same_text (first_of (codes "file") rows) file given.now found says.2)
+show_means entered rows file none found (Tree given) is line =
+    let letter : 115 ≡ 116 = ap (λ (text : Text). slice_index text 0) (line_in entered (codes "show") rows (Tree given) is line).0 in
+    absurd (omega (arith, letter))
+show_means entered rows file none found (Prints signer kind given) is line =
+    let letter : 115 ≡ 112 = ap (λ (text : Text). slice_index text 0) (line_in entered (codes "show") rows (Prints signer kind given) is line).0 in
+    absurd (omega (arith, letter))
+show_means entered rows file none found (Deliver path prints signer given) is line =
+    let letter : 115 ≡ 100 = ap (λ (text : Text). slice_index text 0) (line_in entered (codes "show") rows (Deliver path prints signer given) is line).0 in
+    absurd (omega (arith, letter))
+show_means entered rows file none found (Check asked) is line =
+    let letter : 115 ≡ 99 = ap (λ (text : Text). slice_index text 0) (line_in entered (codes "show") rows (Check asked) is line).0 in
+    absurd (omega (arith, letter))
+show_means entered rows file none found (Compare asked beside) is line =
+    let letter : 115 ≡ 99 = ap (λ (text : Text). slice_index text 0) (line_in entered (codes "show") rows (Compare asked beside) is line).0 in
+    absurd (omega (arith, letter))
+
+pub show_known : (name file : Text) (r : Result Line Error) → IsPlainWord file → IsReadAs (name ∷ codes "show" ∷ file ∷ []) r → MatchResult r (IsShow file) (λ e. kind_of e ≡ OutOfMemory)
+show_known name file r plain is =
+    let enters = entered_show name file plain in
+    known (IsShow file) (name ∷ codes "show" ∷ file ∷ []) r (no_fault_of_show name file plain)
+    (λ none. not_lacking of_file enters.rows ((file, enters.finds.1.0), tt) (none.show enters.rows enters.is))
+    (no_other_kind _ (codes "show") enters.rows enters.is enters.finds.0)
+    (λ line. show_means _ enters.rows file enters.finds.0 enters.finds.1.0 line enters.is) is.reads is.refuses
+
+-- `prints`
+prints_means : (entered : Option (Text × List Row)) (rows : List Row) (issuer file : Text)
+    → Finds ((codes "as", None) ∷ (codes "issuer", Some issuer) ∷ (codes "file", Some file) ∷ []) rows
+    → (line : Line) → entered ≡ Some (codes "prints", rows) → IsLineOf entered line → IsPrints issuer file line
+prints_means entered rows issuer file finds (Prints signer kind given) is line =
+    let says = line_in entered (codes "prints") rows (Prints signer kind given) is line in
+    let certificate = sym (certificate_kind rows finds.0) ∙ says.2 in
+    (same_text (first_of (codes "issuer") rows) issuer signer.now finds.1.0 says.1, cc, same_text (first_of (codes "file") rows) file given.now finds.1.1.0 says.3)
+prints_means entered rows issuer file finds (Tree given) is line =
+    let letter : 112 ≡ 116 = ap (λ (text : Text). slice_index text 0) (line_in entered (codes "prints") rows (Tree given) is line).0 in
+    absurd (omega (arith, letter))
+prints_means entered rows issuer file finds (Show kind given) is line =
+    let letter : 112 ≡ 115 = ap (λ (text : Text). slice_index text 0) (line_in entered (codes "prints") rows (Show kind given) is line).0 in
+    absurd (omega (arith, letter))
+prints_means entered rows issuer file finds (Deliver path prints signer given) is line =
+    let letter : 112 ≡ 100 = ap (λ (text : Text). slice_index text 0) (line_in entered (codes "prints") rows (Deliver path prints signer given) is line).0 in
+    absurd (omega (arith, letter))
+prints_means entered rows issuer file finds (Check asked) is line =
+    let letter : 112 ≡ 99 = ap (λ (text : Text). slice_index text 0) (line_in entered (codes "prints") rows (Check asked) is line).0 in
+    absurd (omega (arith, letter))
+prints_means entered rows issuer file finds (Compare asked beside) is line =
+    let letter : 112 ≡ 99 = ap (λ (text : Text). slice_index text 0) (line_in entered (codes "prints") rows (Compare asked beside) is line).0 in
+    absurd (omega (arith, letter))
+
+pub prints_known : (name issuer file : Text) (r : Result Line Error) → IsPlainWord issuer → IsPlainWord file → IsReadAs (name ∷ codes "prints" ∷ prints_words issuer file) r
+    → MatchResult r (IsPrints issuer file) (λ e. kind_of e ≡ OutOfMemory)
+prints_known name issuer file r plain plain' is =
+    let enters = entered_prints name issuer file plain plain' in
+    known (IsPrints issuer file) (name ∷ codes "prints" ∷ prints_words issuer file) r (no_fault_of_prints name issuer file plain plain')
+    (λ none. not_lacking of_prints enters.rows ((issuer, enters.finds.1.0), ((file, enters.finds.1.1.0), tt)) (none.prints enters.rows enters.is))
+    (no_other_kind _ (codes "prints") enters.rows enters.is enters.finds.0)
+    (λ line. prints_means _ enters.rows issuer file enters.finds line enters.is) is.reads is.refuses
+
+-- `deliver`
+deliver_means : (entered : Option (Text × List Row)) (rows : List Row) (store verdicts issuer file : Text)
+    → Finds ((codes "store", Some store) ∷ (codes "verdicts", Some verdicts) ∷ (codes "issuer", Some issuer) ∷ (codes "file", Some file) ∷ []) rows
+    → (line : Line) → entered ≡ Some (codes "deliver", rows) → IsLineOf entered line → IsDeliver store verdicts issuer file line
+deliver_means entered rows store verdicts issuer file finds (Deliver path prints signer given) is line =
+    let says = line_in entered (codes "deliver") rows (Deliver path prints signer given) is line in (
+      same_text (first_of (codes "store") rows) store path.now finds.0 says.1,
+      same_text (first_of (codes "verdicts") rows) verdicts prints.now finds.1.0 says.2,
+      same_text (first_of (codes "issuer") rows) issuer signer.now finds.1.1.0 says.3,
+      same_text (first_of (codes "file") rows) file given.now finds.1.1.1.0 says.4,
+    )
+deliver_means entered rows store verdicts issuer file finds (Tree given) is line =
+    let letter : 100 ≡ 116 = ap (λ (text : Text). slice_index text 0) (line_in entered (codes "deliver") rows (Tree given) is line).0 in
+    absurd (omega (arith, letter))
+deliver_means entered rows store verdicts issuer file finds (Show kind given) is line =
+    let letter : 100 ≡ 115 = ap (λ (text : Text). slice_index text 0) (line_in entered (codes "deliver") rows (Show kind given) is line).0 in
+    absurd (omega (arith, letter))
+deliver_means entered rows store verdicts issuer file finds (Prints signer kind given) is line =
+    let letter : 100 ≡ 112 = ap (λ (text : Text). slice_index text 0) (line_in entered (codes "deliver") rows (Prints signer kind given) is line).0 in
+    absurd (omega (arith, letter))
+deliver_means entered rows store verdicts issuer file finds (Check asked) is line =
+    let letter : 100 ≡ 99 = ap (λ (text : Text). slice_index text 0) (line_in entered (codes "deliver") rows (Check asked) is line).0 in
+    absurd (omega (arith, letter))
+deliver_means entered rows store verdicts issuer file finds (Compare asked beside) is line =
+    let letter : 100 ≡ 99 = ap (λ (text : Text). slice_index text 0) (line_in entered (codes "deliver") rows (Compare asked beside) is line).0 in
+    absurd (omega (arith, letter))
+
+pub deliver_known : (name store verdicts issuer file : Text) (r : Result Line Error) → IsPlainWord store → IsPlainWord verdicts → IsPlainWord issuer → IsPlainWord file
+    → IsReadAs (name ∷ codes "deliver" ∷ deliver_words store verdicts issuer file) r → MatchResult r (IsDeliver store verdicts issuer file) (λ e. kind_of e ≡ OutOfMemory)
+deliver_known name store verdicts issuer file r plain plain' plain'' plain''' is =
+    let enters = entered_deliver name store verdicts issuer file plain plain' plain'' plain''' in
+    known (IsDeliver store verdicts issuer file) (name ∷ codes "deliver" ∷ deliver_words store verdicts issuer file) r
+    (no_fault_of_deliver name store verdicts issuer file plain plain' plain'' plain''')
+    (λ none. not_lacking of_deliver enters.rows ((store, enters.finds.0), ((verdicts, enters.finds.1.0), ((issuer, enters.finds.1.1.0), ((file, enters.finds.1.1.1.0), tt)))) (none.deliver enters.rows enters.is))
+    (no_kind _ (codes "deliver") enters.rows enters.is deliver_takes_no_kind)
+    (λ line. deliver_means _ enters.rows store verdicts issuer file enters.finds line enters.is) is.reads is.refuses
+
+-- `check`
+check_takes_no_kind : TakesKind (codes "check") → ⊥
+check_takes_no_kind takes =
+    elim takes [
+      | inl show ↦ let letter : 99 ≡ 115 = ap (λ (text : Text). slice_index text 0) show in absurd (omega (arith, letter))
+      | inr prints ↦ let letter : 99 ≡ 112 = ap (λ (text : Text). slice_index text 0) prints in absurd (omega (arith, letter))
+    ]
+
+compare_takes_no_kind : TakesKind (codes "compare") → ⊥
+compare_takes_no_kind takes =
+    elim takes [
+      | inl show ↦ let letter : 99 ≡ 115 = ap (λ (text : Text). slice_index text 0) show in absurd (omega (arith, letter))
+      | inr prints ↦ let letter : 99 ≡ 112 = ap (λ (text : Text). slice_index text 0) prints in absurd (omega (arith, letter))
+    ]
+
+no_purpose : (given : Option (Bor Text)) → option_map (λ s. s.now) given ≡ None → given ≡ None
+no_purpose None none = refl
+no_purpose (Some text) none = cc
+
+some_files : (found : Option (List Text)) (files given : List Text) → found ≡ Some files → found ≡ Some given → given ≡ files
+some_files found files given there gives = let both = sym there ∙ gives in cc
+
+asks : (rows : List Row) (store verdicts moment anchor : Text) (files : List Text) (question : Question)
+    → first_of (codes "purpose") rows ≡ None → first_of (codes "store") rows ≡ Some store → first_of (codes "verdicts") rows ≡ Some verdicts
+    → first_of (codes "at") rows ≡ Some moment → first_of (codes "anchor") rows ≡ Some anchor → all_of (codes "file") rows ≡ Some files
+    → Ask rows question → IsQuestion store verdicts moment anchor files question
+asks rows store verdicts moment anchor files question p s v t a f ask =
+    record {
+      store_is = same_text (first_of (codes "store") rows) store question.store.now s ask.store;
+      verdicts_is = same_text (first_of (codes "verdicts") rows) verdicts question.verdicts.now v ask.verdicts;
+      moment_is = same_text (first_of (codes "at") rows) moment question.moment.now t ask.moment;
+      anchor_is = same_text (first_of (codes "anchor") rows) anchor question.anchor.now a ask.anchor;
+      purpose_is = no_purpose question.purpose (sym ask.purpose ∙ p);
+      files_are = some_files (all_of (codes "file") rows) files _ f ask.files;
+    }
+
+check_means : (entered : Option (Text × List Row)) (rows : List Row) (store verdicts moment anchor : Text) (files : List Text)
+    → ((question : Question) → Ask rows question → IsQuestion store verdicts moment anchor files question)
+    → (line : Line) → entered ≡ Some (codes "check", rows) → IsLineOf entered line → IsCheck store verdicts moment anchor files line
+check_means entered rows store verdicts moment anchor files found (Check asked) is line = found asked (line_in entered (codes "check") rows (Check asked) is line).1
+check_means entered rows store verdicts moment anchor files found (Tree given) is line =
+    let letter : 99 ≡ 116 = ap (λ (text : Text). slice_index text 0) (line_in entered (codes "check") rows (Tree given) is line).0 in
+    absurd (omega (arith, letter))
+check_means entered rows store verdicts moment anchor files found (Show kind given) is line =
+    let letter : 99 ≡ 115 = ap (λ (text : Text). slice_index text 0) (line_in entered (codes "check") rows (Show kind given) is line).0 in
+    absurd (omega (arith, letter))
+check_means entered rows store verdicts moment anchor files found (Prints signer kind given) is line =
+    let letter : 99 ≡ 112 = ap (λ (text : Text). slice_index text 0) (line_in entered (codes "check") rows (Prints signer kind given) is line).0 in
+    absurd (omega (arith, letter))
+check_means entered rows store verdicts moment anchor files found (Deliver path prints signer given) is line =
+    let letter : 99 ≡ 100 = ap (λ (text : Text). slice_index text 0) (line_in entered (codes "check") rows (Deliver path prints signer given) is line).0 in
+    absurd (omega (arith, letter))
+check_means entered rows store verdicts moment anchor files found (Compare asked beside) is line =
+    let letter : 104 ≡ 111 = ap (λ (text : Text). slice_index text 1) (line_in entered (codes "check") rows (Compare asked beside) is line).0 in
+    absurd (omega (arith, letter))
+
+pub check_known : (name store verdicts moment anchor file : Text) (more : List Text) (r : Result Line Error)
+    → IsPlainWord store → IsPlainWord verdicts → IsPlainWord moment → IsPlainWord anchor → All IsPlainWord (file ∷ more) → length more < usize_max
+    → IsReadAs (name ∷ codes "check" ∷ check_words store verdicts moment anchor (file ∷ more)) r
+    → MatchResult r (IsCheck store verdicts moment anchor (file ∷ more)) (λ e. kind_of e ≡ OutOfMemory)
+check_known name store verdicts moment anchor file more r s v t a f few is =
+    let enters = entered_check name store verdicts moment anchor file more s v t a f in
+    let finds = enters.finds in
+    known (IsCheck store verdicts moment anchor (file ∷ more)) (name ∷ codes "check" ∷ check_words store verdicts moment anchor (file ∷ more)) r
+    (no_fault_of_check name store verdicts moment anchor file more s v t a f few)
+    (λ none. not_lacking of_check enters.rows
+    ((store, finds.1.0), ((verdicts, finds.1.1.0), ((moment, finds.1.1.1.0), ((anchor, finds.1.1.1.1.0), ((file, finds.1.1.1.1.1.0), tt)))))
+    (none.check enters.rows enters.is))
+    (no_kind _ (codes "check") enters.rows enters.is check_takes_no_kind)
+    (λ line. check_means _ enters.rows store verdicts moment anchor (file ∷ more)
+    (λ question. asks enters.rows store verdicts moment anchor (file ∷ more) question finds.0 finds.1.0 finds.1.1.0 finds.1.1.1.0 finds.1.1.1.1.0 enters.files) line enters.is)
+    is.reads is.refuses
+
+-- `compare`
+compare_means : (entered : Option (Text × List Row)) (rows : List Row) (store verdicts moment anchor other : Text) (files : List Text)
+    → ((question : Question) → Ask rows question → IsQuestion store verdicts moment anchor files question) → first_of (codes "other") rows ≡ Some other
+    → (line : Line) → entered ≡ Some (codes "compare", rows) → IsLineOf entered line → IsCompare store verdicts moment anchor other files line
+compare_means entered rows store verdicts moment anchor other files found there (Compare asked beside) is line =
+    let says = line_in entered (codes "compare") rows (Compare asked beside) is line in
+    (found asked says.1, same_text (first_of (codes "other") rows) other beside.now there says.2)
+compare_means entered rows store verdicts moment anchor other files found there (Tree given) is line =
+    let letter : 99 ≡ 116 = ap (λ (text : Text). slice_index text 0) (line_in entered (codes "compare") rows (Tree given) is line).0 in
+    absurd (omega (arith, letter))
+compare_means entered rows store verdicts moment anchor other files found there (Show kind given) is line =
+    let letter : 99 ≡ 115 = ap (λ (text : Text). slice_index text 0) (line_in entered (codes "compare") rows (Show kind given) is line).0 in
+    absurd (omega (arith, letter))
+compare_means entered rows store verdicts moment anchor other files found there (Prints signer kind given) is line =
+    let letter : 99 ≡ 112 = ap (λ (text : Text). slice_index text 0) (line_in entered (codes "compare") rows (Prints signer kind given) is line).0 in
+    absurd (omega (arith, letter))
+compare_means entered rows store verdicts moment anchor other files found there (Deliver path prints signer given) is line =
+    let letter : 99 ≡ 100 = ap (λ (text : Text). slice_index text 0) (line_in entered (codes "compare") rows (Deliver path prints signer given) is line).0 in
+    absurd (omega (arith, letter))
+compare_means entered rows store verdicts moment anchor other files found there (Check asked) is line =
+    let letter : 111 ≡ 104 = ap (λ (text : Text). slice_index text 1) (line_in entered (codes "compare") rows (Check asked) is line).0 in
+    absurd (omega (arith, letter))
+
+pub compare_known : (name store verdicts moment anchor other file : Text) (more : List Text) (r : Result Line Error)
+    → IsPlainWord store → IsPlainWord verdicts → IsPlainWord moment → IsPlainWord anchor → IsPlainWord other → All IsPlainWord (file ∷ more) → length more < usize_max
+    → IsReadAs (name ∷ codes "compare" ∷ compare_words store verdicts moment anchor other (file ∷ more)) r
+    → MatchResult r (IsCompare store verdicts moment anchor other (file ∷ more)) (λ e. kind_of e ≡ OutOfMemory)
+compare_known name store verdicts moment anchor other file more r s v t a o f few is =
+    let enters = entered_compare name store verdicts moment anchor other file more s v t a o f in
+    let finds = enters.finds in
+    known (IsCompare store verdicts moment anchor other (file ∷ more)) (name ∷ codes "compare" ∷ compare_words store verdicts moment anchor other (file ∷ more)) r
+    (no_fault_of_compare name store verdicts moment anchor other file more s v t a o f few)
+    (λ none. not_lacking of_compare enters.rows
+    ((other, finds.1.1.1.1.1.0), ((store, finds.1.0), ((verdicts, finds.1.1.0), ((moment, finds.1.1.1.0), ((anchor, finds.1.1.1.1.0), ((file, finds.1.1.1.1.1.1.0), tt))))))
+    (none.compare enters.rows enters.is))
+    (no_kind _ (codes "compare") enters.rows enters.is compare_takes_no_kind)
+    (λ line. compare_means _ enters.rows store verdicts moment anchor other (file ∷ more)
+    (λ question. asks enters.rows store verdicts moment anchor (file ∷ more) question finds.0 finds.1.0 finds.1.1.0 finds.1.1.1.0 finds.1.1.1.1.0 enters.files) finds.1.1.1.1.1.0 line enters.is)
+    is.reads is.refuses

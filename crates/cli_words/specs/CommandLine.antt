@@ -1,0 +1,181 @@
+-- What a line is, by the matches that clap's definition of a simple command gives for the words.
+use Rattle.std.specs.Prelude.{◌≡◌, ◌≢◌, ◌⊎◌, [], ◌∷◌, List, Option, Some, None, codes, map, option_map, slice_index, if◌then◌else◌}
+use Rattle.std.specs.Str.{bytes_eq}
+use Rattle.std.specs.Borrow.{Bor}
+use Rattle.clap.specs.Words.{IsAmong, Row, Text, all_of, fault_of, first_of, subcommand_of}
+use Rattle.clap.specs.declared.error.kind.ErrorKind.{ErrorKind}
+use Rattle.clap.specs.declared.error.kind.ErrorKind.TheVariants.{InvalidValue, MissingRequiredArgument}
+use Rattle.cli_words.specs.App.{program}
+use Rattle.cli_words.specs.declared.line.Line.{Line}
+use Rattle.cli_words.specs.declared.line.Line.TheVariants.{Tree, Show, Prints, Deliver, Check, Compare}
+use Rattle.cli_words.specs.declared.question.Question.{Question}
+use Rattle.cli_words.specs.declared.line.Kind.{Kind}
+use Rattle.cli_words.specs.declared.line.Kind.TheVariants.{Certificate, RevocationList, Response}
+use Rattle.cli_words.specs.declared.line.Flaw.{Flaw}
+use Rattle.cli_words.specs.declared.line.Flaw.TheVariants.{ArgumentMissing, OtherKind, NoMemory}
+
+-- the rows give the argument with this id the text
+abbrev pub Gives : List Row → Text → Bor Text → Type 0
+Gives rows id text = first_of id rows ≡ Some text.now
+
+-- the kind of input that has the name; without a name, a certificate
+abbrev pub kind_named : Option Text → Option Kind
+kind_named None = Some Certificate
+kind_named (Some name) =
+    if bytes_eq name (codes "cert") then Some Certificate
+    else (if bytes_eq name (codes "crl") then Some RevocationList
+    else (if bytes_eq name (codes "ocsp") then Some Response else None))
+
+-- the kind that the rows name
+abbrev pub kind_in : List Row → Option Kind
+kind_in rows = kind_named (first_of (codes "as") rows)
+
+-- the rows have what is asked of a path
+pub record Ask (rows : List Row) (question : Question) : Type 0 where
+  pub store : Gives rows (codes "store") question.store
+  pub verdicts : Gives rows (codes "verdicts") question.verdicts
+  pub moment : Gives rows (codes "at") question.moment
+  pub anchor : Gives rows (codes "anchor") question.anchor
+  pub purpose : first_of (codes "purpose") rows ≡ option_map (λ s. s.now) question.purpose
+  pub files : all_of (codes "file") rows ≡ Some (map (λ s. s.now) question.files.items)
+
+-- the line of a subcommand with these rows
+abbrev pub IsLine : Text × List Row → Line → Type 0
+IsLine (name, rows) (Tree file) = (name ≡ codes "tree") × Gives rows (codes "file") file
+IsLine (name, rows) (Show kind file) =
+    (name ≡ codes "show") × (kind_in rows ≡ Some kind) × Gives rows (codes "file") file
+IsLine (name, rows) (Prints issuer kind file) =
+    (name ≡ codes "prints") × Gives rows (codes "issuer") issuer × (kind_in rows ≡ Some kind)
+    × Gives rows (codes "file") file
+IsLine (name, rows) (Deliver store verdicts issuer file) =
+    (name ≡ codes "deliver") × Gives rows (codes "store") store
+    × Gives rows (codes "verdicts") verdicts × Gives rows (codes "issuer") issuer
+    × Gives rows (codes "file") file
+IsLine (name, rows) (Check question) = (name ≡ codes "check") × Ask rows question
+IsLine (name, rows) (Compare question other) =
+    (name ≡ codes "compare") × Ask rows question × Gives rows (codes "other") other
+
+-- the line of the subcommand that was entered
+abbrev pub IsLineOf : Option (Text × List Row) → Line → Type 0
+IsLineOf entered line = (p : Text × List Row) × (entered ≡ Some p) × IsLine p line
+
+-- one of these arguments is missing
+abbrev pub Lack : List Text → List Row → Type 0
+Lack [] rows = ⊥
+Lack (id ∷ ids) rows = (first_of id rows ≡ None) ⊎ Lack ids rows
+
+-- the arguments that each subcommand has to have
+abbrev pub of_file : List Text
+of_file = codes "file" ∷ []
+
+abbrev pub of_prints : List Text
+of_prints = codes "issuer" ∷ codes "file" ∷ []
+
+abbrev pub of_deliver : List Text
+of_deliver = codes "store" ∷ codes "verdicts" ∷ codes "issuer" ∷ codes "file" ∷ []
+
+abbrev pub of_check : List Text
+of_check =
+    codes "store" ∷ codes "verdicts" ∷ codes "at" ∷ codes "anchor" ∷ codes "file" ∷ []
+
+abbrev pub of_compare : List Text
+of_compare = codes "other" ∷ of_check
+
+-- where the subcommand was entered, one of these is missing
+abbrev pub EnteredWithout : Option (Text × List Row) → Text → List Text → Type 0
+EnteredWithout entered name ids = (rows : List Row) → entered ≡ Some (name, rows) → Lack ids rows
+
+-- no subcommand was entered with all that it has to have
+pub record HasNoLine (entered : Option (Text × List Row)) : Type 0 where
+  pub tree : EnteredWithout entered (codes "tree") of_file
+  pub show : EnteredWithout entered (codes "show") of_file
+  pub prints : EnteredWithout entered (codes "prints") of_prints
+  pub deliver : EnteredWithout entered (codes "deliver") of_deliver
+  pub check : EnteredWithout entered (codes "check") of_check
+  pub compare : EnteredWithout entered (codes "compare") of_compare
+
+-- the subcommands that take the name of a kind
+abbrev pub TakesKind : Text → Type 0
+TakesKind name = (name ≡ codes "show") ⊎ (name ≡ codes "prints")
+
+-- one of these was entered, with a name that no kind has
+abbrev pub HasOtherKind : Option (Text × List Row) → Type 0
+HasOtherKind entered =
+    (p : Text × List Row) × (entered ≡ Some p) × TakesKind p.0 × (kind_in p.1 ≡ None)
+
+-- what is wrong with the subcommand that was entered; nothing is where memory ran out
+abbrev pub HasFlaw : Option (Text × List Row) → Flaw → Type 0
+HasFlaw entered ArgumentMissing = HasNoLine entered
+HasFlaw entered OtherKind = HasOtherKind entered
+HasFlaw entered NoMemory = Unit {0}
+
+-- the same of the rows of a subcommand that takes a kind, and no memory
+abbrev pub IsFlaw : List Text → List Row → Flaw → Type 0
+IsFlaw ids rows ArgumentMissing = Lack ids rows
+IsFlaw ids rows OtherKind = kind_in rows ≡ None
+IsFlaw ids rows NoMemory = ⊥
+
+-- and of one that asks
+abbrev pub IsFlawOfQuestion : List Text → List Row → Flaw → Type 0
+IsFlawOfQuestion ids rows ArgumentMissing = Lack ids rows
+IsFlawOfQuestion ids rows OtherKind = ⊥
+IsFlawOfQuestion ids rows NoMemory = Unit {0}
+
+-- the words break no rule of the command, and are this line
+abbrev pub Reads : List Text → Line → Type 0
+Reads words line = (fault_of program words ≡ []) × IsLineOf (subcommand_of program words) line
+
+-- the words are refused with this kind of error: clap's definition gives it, or a file of the subcommand is missing, or no kind
+-- of input has the name
+abbrev pub AreRefusedWith : List Text → ErrorKind → Type 0
+AreRefusedWith words kind =
+    IsAmong kind (fault_of program words)
+    ⊎ ((kind ≡ MissingRequiredArgument) × HasNoLine (subcommand_of program words))
+    ⊎ ((kind ≡ InvalidValue) × HasOtherKind (subcommand_of program words))
+
+-- a word that is no option: it does not begin with a hyphen
+abbrev pub IsPlainWord : Text → Type 0
+IsPlainWord word = slice_index word 0 ≢ 45
+
+-- `tree FILE`
+abbrev pub IsTree : Text → Line → Type 0
+IsTree text (Tree file) = file.now ≡ text
+IsTree text _ = ⊥
+
+-- `show FILE`, of a certificate
+abbrev pub IsShow : Text → Line → Type 0
+IsShow text (Show kind file) = (kind ≡ Certificate) × (file.now ≡ text)
+IsShow text _ = ⊥
+
+-- `prints --issuer ISSUER FILE`, of a certificate
+abbrev pub IsPrints : Text → Text → Line → Type 0
+IsPrints signer text (Prints issuer kind file) =
+    (issuer.now ≡ signer) × (kind ≡ Certificate) × (file.now ≡ text)
+IsPrints signer text _ = ⊥
+
+-- `deliver --store STORE --verdicts VERDICTS --issuer ISSUER FILE`
+abbrev pub IsDeliver : Text → Text → Text → Text → Line → Type 0
+IsDeliver path prints signer text (Deliver store verdicts issuer file) =
+    (store.now ≡ path) × (verdicts.now ≡ prints) × (issuer.now ≡ signer) × (file.now ≡ text)
+IsDeliver path prints signer text _ = ⊥
+
+-- what is asked of a path by these words, without a purpose
+pub record IsQuestion (store verdicts moment anchor : Text) (files : List Text) (question : Question) : Type 0 where
+  pub store_is : question.store.now ≡ store
+  pub verdicts_is : question.verdicts.now ≡ verdicts
+  pub moment_is : question.moment.now ≡ moment
+  pub anchor_is : question.anchor.now ≡ anchor
+  pub purpose_is : question.purpose ≡ None
+  pub files_are : map (λ s. s.now) question.files.items ≡ files
+
+-- `check --store STORE --verdicts VERDICTS --at TIME --anchor ANCHOR FILE...`
+abbrev pub IsCheck : Text → Text → Text → Text → List Text → Line → Type 0
+IsCheck store verdicts moment anchor files (Check question) =
+    IsQuestion store verdicts moment anchor files question
+IsCheck store verdicts moment anchor files _ = ⊥
+
+-- `compare --store STORE --verdicts VERDICTS --at TIME --anchor ANCHOR --other STORE FILE...`
+abbrev pub IsCompare : Text → Text → Text → Text → Text → List Text → Line → Type 0
+IsCompare store verdicts moment anchor beside files (Compare question other) =
+    IsQuestion store verdicts moment anchor files question × (other.now ≡ beside)
+IsCompare store verdicts moment anchor beside files _ = ⊥

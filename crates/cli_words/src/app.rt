@@ -1,0 +1,255 @@
+//! The program and its subcommands, as clap is told of them. Each subcommand is built in a function of its own.
+ghost use Rattle.std.specs.Prelude.{◌≡◌, IfOk, false};
+ghost use Rattle.clap.specs.Words.{app_of, rule_of};
+ghost use Rattle.clap.specs.declared.builder.command.Command.TheViews.{out-Command as fields_of};
+ghost use Rattle.cli_words.specs.App.{anchor as anchor_rule, anchored as anchored_app, asking as asking_app, certificates as certificates_rule, file as file_rule, issuer as issuer_rule, kind as kind_rule, moment as moment_rule, other as other_rule, purpose as purpose_rule, store as store_rule, storing as storing_app, verdicts as verdicts_rule};
+ghost use Rattle.cli_words.specs.App.{check as check_app, compare as compare_app, deliver as deliver_app, delivering as delivering_app, looking as looking_app, program as program_app, prints as prints_app, show as show_app, tree as tree_app};
+
+use clap::{Arg, Command};
+use std::alloc::{AllocError, Global};
+
+// FILE: it has to be there.
+fn file<'a>(alloc: Global) -> Arg<'a>
+    ensures rule { rule_of result ≡ file_rule }
+    ensures local { result.global ≡ false }
+{
+    Arg::new(alloc, "file")
+        .required(true)
+        .value_name("FILE")
+        .help("A file of one DER value")
+}
+
+fn tree<'a>(alloc: Global) -> Result<Command<'a>, AllocError>
+    ensures app { IfOk result (λ c. app_of c ≡ tree_app) }
+    ensures local { IfOk result (λ c. (fields_of c).has_globals ≡ false) }
+{
+    Command::new(alloc, "tree")
+        .about("Prints a DER value, a line for each value in it")
+        .arg(file(alloc))
+}
+
+// --as KIND: it may be left out.
+fn kind<'a>(alloc: Global) -> Arg<'a>
+    ensures rule { rule_of result ≡ kind_rule }
+    ensures local { result.global ≡ false }
+{
+    Arg::new(alloc, "as").long("as").value_name("KIND").help(
+        "What the file holds: cert, a certificate, which is the default, crl, a revocation list, or ocsp, an OCSP response",
+    )
+}
+
+fn show<'a>(alloc: Global) -> Result<Command<'a>, AllocError>
+    ensures app { IfOk result (λ c. app_of c ≡ show_app) }
+    ensures local { IfOk result (λ c. (fields_of c).has_globals ≡ false) }
+{
+    Command::new(alloc, "show")
+        .about("Prints what a certificate, a revocation list or an OCSP response says")
+        .arg(kind(alloc))?
+        .arg(file(alloc))
+}
+
+// --issuer ISSUER: it has to be there.
+fn issuer<'a>(alloc: Global) -> Arg<'a>
+    ensures rule { rule_of result ≡ issuer_rule }
+    ensures local { result.global ≡ false }
+{
+    Arg::new(alloc, "issuer")
+        .required(true)
+        .long("issuer")
+        .value_name("ISSUER")
+        .help("The file of the issuer's certificate")
+}
+
+fn prints<'a>(alloc: Global) -> Result<Command<'a>, AllocError>
+    ensures app { IfOk result (λ c. app_of c ≡ prints_app) }
+    ensures local { IfOk result (λ c. (fields_of c).has_globals ≡ false) }
+{
+    Command::new(alloc, "prints")
+        .about(
+            "Prints the fingerprints of what a verifier is asked about a certificate, a revocation list or an OCSP response",
+        )
+        .arg(issuer(alloc))?
+        .arg(kind(alloc))?
+        .arg(file(alloc))
+}
+
+// --store STORE: it has to be there.
+fn store<'a>(alloc: Global) -> Arg<'a>
+    ensures rule { rule_of result ≡ store_rule }
+    ensures local { result.global ≡ false }
+{
+    Arg::new(alloc, "store")
+        .required(true)
+        .long("store")
+        .value_name("STORE")
+        .help("The file of the store of statements")
+}
+
+// --verdicts VERDICTS: it has to be there.
+fn verdicts<'a>(alloc: Global) -> Arg<'a>
+    ensures rule { rule_of result ≡ verdicts_rule }
+    ensures local { result.global ≡ false }
+{
+    Arg::new(alloc, "verdicts")
+        .required(true)
+        .long("verdicts")
+        .value_name("VERDICTS")
+        .help("A file of the fingerprints of good signatures, one a line, as 'prints' writes them")
+}
+
+// A command over a store, with its judge of signatures.
+fn storing<'a>(alloc: Global, command: Command<'a>) -> Result<Command<'a>, AllocError>
+    requires { (fields_of command).has_globals ≡ false }
+    ensures app { IfOk result (λ c. app_of c ≡ storing_app (app_of command.entry)) }
+    ensures local { IfOk result (λ c. (fields_of c).has_globals ≡ false) }
+{
+    command.arg(store(alloc))?.arg(verdicts(alloc))
+}
+
+fn deliver<'a>(alloc: Global) -> Result<Command<'a>, AllocError>
+    ensures app { IfOk result (λ c. app_of c ≡ deliver_app) }
+    ensures local { IfOk result (λ c. (fields_of c).has_globals ≡ false) }
+{
+    let command = Command::new(alloc, "deliver").about(
+        "Puts a revocation list or an OCSP response into a store, which is made where there is none",
+    );
+    storing(alloc, command)?
+        .arg(issuer(alloc))?
+        .arg(file(alloc))
+}
+
+// --at TIME: it has to be there.
+fn moment<'a>(alloc: Global) -> Arg<'a>
+    ensures rule { rule_of result ≡ moment_rule }
+    ensures local { result.global ≡ false }
+{
+    Arg::new(alloc, "at")
+        .required(true)
+        .long("at")
+        .value_name("TIME")
+        .help("The moment, as YYYYMMDDHHMMSSZ")
+}
+
+// --anchor ANCHOR: it has to be there.
+fn anchor<'a>(alloc: Global) -> Arg<'a>
+    ensures rule { rule_of result ≡ anchor_rule }
+    ensures local { result.global ≡ false }
+{
+    Arg::new(alloc, "anchor")
+        .required(true)
+        .long("anchor")
+        .value_name("ANCHOR")
+        .help("The file of the trust anchor's certificate")
+}
+
+// --purpose OID: it may be left out.
+fn purpose<'a>(alloc: Global) -> Arg<'a>
+    ensures rule { rule_of result ≡ purpose_rule }
+    ensures local { result.global ≡ false }
+{
+    Arg::new(alloc, "purpose")
+        .long("purpose")
+        .value_name("OID")
+        .help(
+            "The purpose of the key of the last certificate, as an OBJECT IDENTIFIER in dotted decimal",
+        )
+}
+
+// FILE...: at least one.
+fn certificates<'a>(alloc: Global) -> Arg<'a>
+    ensures rule { rule_of result ≡ certificates_rule }
+    ensures local { result.global ≡ false }
+{
+    Arg::new(alloc, "file")
+        .required(true)
+        .num_args(1..)
+        .value_name("FILE")
+        .help("The files of the certificates of the path, from the one that the anchor issued on")
+}
+
+// A command over a store, at a moment and under an anchor.
+fn anchored<'a>(alloc: Global, command: Command<'a>) -> Result<Command<'a>, AllocError>
+    requires { (fields_of command).has_globals ≡ false }
+    ensures app { IfOk result (λ c. app_of c ≡ anchored_app (app_of command.entry)) }
+    ensures local { IfOk result (λ c. (fields_of c).has_globals ≡ false) }
+{
+    storing(alloc, command)?
+        .arg(moment(alloc))?
+        .arg(anchor(alloc))
+}
+
+// What `check` and `compare` ask.
+fn asking<'a>(alloc: Global, command: Command<'a>) -> Result<Command<'a>, AllocError>
+    requires { (fields_of command).has_globals ≡ false }
+    ensures app { IfOk result (λ c. app_of c ≡ asking_app (app_of command.entry)) }
+    ensures local { IfOk result (λ c. (fields_of c).has_globals ≡ false) }
+{
+    anchored(alloc, command)?
+        .arg(purpose(alloc))?
+        .arg(certificates(alloc))
+}
+
+fn check<'a>(alloc: Global) -> Result<Command<'a>, AllocError>
+    ensures app { IfOk result (λ c. app_of c ≡ check_app) }
+    ensures local { IfOk result (λ c. (fields_of c).has_globals ≡ false) }
+{
+    let command = Command::new(alloc, "check").about(
+        "Validates a path of certificates at a moment, with what a store holds of their revocation",
+    );
+    asking(alloc, command)
+}
+
+// --other STORE: it has to be there.
+fn other<'a>(alloc: Global) -> Arg<'a>
+    ensures rule { rule_of result ≡ other_rule }
+    ensures local { result.global ≡ false }
+{
+    Arg::new(alloc, "other")
+        .required(true)
+        .long("other")
+        .value_name("STORE")
+        .help("The file of the other store")
+}
+
+fn compare<'a>(alloc: Global) -> Result<Command<'a>, AllocError>
+    ensures app { IfOk result (λ c. app_of c ≡ compare_app) }
+    ensures local { IfOk result (λ c. (fields_of c).has_globals ≡ false) }
+{
+    let command = Command::new(alloc, "compare").about(
+        "Compares the verdicts on a path by what two stores hold",
+    );
+    asking(alloc, command)?.arg(other(alloc))
+}
+
+// The program's command with those of its subcommands that look at one file. A subcommand has to be named.
+fn looking<'a>(alloc: Global) -> Result<Command<'a>, AllocError>
+    ensures app { IfOk result (λ c. app_of c ≡ looking_app) }
+    ensures local { IfOk result (λ c. (fields_of c).has_globals ≡ false) }
+{
+    Command::new(alloc, "x509check")
+        .about(
+            "Looks at DER values, certificates, revocation lists and OCSP responses, and validates paths of certificates",
+        )
+        .subcommand_required(true)
+        .subcommand(tree(alloc)?)?
+        .subcommand(show(alloc)?)
+}
+
+// The same, with those that make and take fingerprints.
+fn delivering<'a>(alloc: Global) -> Result<Command<'a>, AllocError>
+    ensures app { IfOk result (λ c. app_of c ≡ delivering_app) }
+    ensures local { IfOk result (λ c. (fields_of c).has_globals ≡ false) }
+{
+    looking(alloc)?
+        .subcommand(prints(alloc)?)?
+        .subcommand(deliver(alloc)?)
+}
+
+/// The program's command, with all of its subcommands.
+pub fn program<'a>(alloc: Global) -> Result<Command<'a>, AllocError>
+    ensures { IfOk result (λ c. app_of c ≡ program_app) }
+{
+    delivering(alloc)?
+        .subcommand(check(alloc)?)?
+        .subcommand(compare(alloc)?)
+}

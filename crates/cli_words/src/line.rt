@@ -1,0 +1,259 @@
+//! What a command line asks for.
+ghost use Rattle.std.specs.Prelude.{◌≡◌, ◌<◌, ◌^◌, ◌⊎◌, [], ◌∷◌, List, IfErr, IfNone, IfOk, IfSome, MatchResult, codes, length, map, option_map};
+ghost use Rattle.std.specs.List.{All};
+ghost use Rattle.clap.specs.Words.{Text, first_of, found_of, kind_of, rows_of, subcommand_rows_of};
+ghost use Rattle.clap.specs.declared.error.kind.ErrorKind.TheVariants.{OutOfMemory};
+ghost use Rattle.cli_words.specs.declared.line.Flaw.TheVariants.{OtherKind};
+ghost use Rattle.cli_words.specs.CommandLine.{AreRefusedWith, HasFlaw, IsCheck, IsCompare, IsDeliver, IsFlaw, IsFlawOfQuestion, IsLine, IsLineOf, IsPlainWord, IsPrints, IsShow, IsTree, Lack, Reads, kind_in, kind_named, of_check, of_compare, of_deliver, of_file, of_prints};
+
+use crate::app::program;
+use crate::question::{Question, asked};
+use clap::error::ErrorKind;
+use clap::{ArgMatches, Error};
+use std::alloc::{AllocError, Global};
+
+/// What a file is said to hold.
+#[derive(Clone, Copy, Debug, PartialEq, Eq)]
+pub enum Kind {
+    /// A certificate.
+    Certificate,
+    /// A certificate revocation list.
+    RevocationList,
+    /// An OCSP response.
+    Response,
+}
+
+/// A subcommand, with what each of its options and files says.
+#[derive(Debug, Drop, PartialEq, Eq)]
+pub enum Line<'a> {
+    /// Print the DER value in the file.
+    Tree {
+        file: &'a str,
+    },
+    /// Print what the file says, which is to hold a value of that kind.
+    Show {
+        kind: Kind,
+        file: &'a str,
+    },
+    /// Print the fingerprints of what a verifier is asked about the file, which is to hold a value of that kind, and the
+    /// issuer's key, which stands in the certificate in the other file.
+    Prints {
+        issuer: &'a str,
+        kind: Kind,
+        file: &'a str,
+    },
+    /// Put the statement in the file into the store, where the key in the certificate in the issuer's file signed it, and a
+    /// signature is good where its fingerprint is among the verdicts.
+    Deliver {
+        store: &'a str,
+        verdicts: &'a str,
+        issuer: &'a str,
+        file: &'a str,
+    },
+    /// Print the verdict on a path.
+    Check(Question<'a>),
+    /// Print whether the other store gives the same verdict.
+    Compare {
+        question: Question<'a>,
+        other: &'a str,
+    },
+}
+
+// Why a subcommand is no line.
+#[derive(Clone, Copy)]
+pub(crate) enum Flaw {
+    ArgumentMissing,
+    OtherKind,
+    NoMemory,
+}
+
+/// The argument of this id.
+pub(crate) fn text<'a>(matches: &ArgMatches<'a>, id: &str) -> Option<&'a str>
+    ensures { option_map (λ s. s.now) result ≡ first_of id.now (rows_of (found_of matches.now)) }
+{
+    matches.get_str(id)
+}
+
+fn tree_line<'a>(matches: &ArgMatches<'a>) -> Option<Line<'a>>
+    ensures some { IfSome result (IsLine (codes "tree", rows_of (found_of matches.now))) }
+    ensures none { IfNone result (Lack of_file (rows_of (found_of matches.now))) }
+{
+    Some(Line::Tree {
+        file: text(matches, "file")?,
+    })
+}
+
+// The kind that has the name; without a name, a certificate.
+fn kind_named(name: Option<&str>) -> Option<Kind>
+    ensures { result ≡ kind_named (option_map (λ s. s.now) name.entry) }
+{
+    match name {
+        None | Some("cert") => Some(Kind::Certificate),
+        Some("crl") => Some(Kind::RevocationList),
+        Some("ocsp") => Some(Kind::Response),
+        Some(_) => None,
+    }
+}
+
+// The kind that the rows name, if any.
+fn kind_of(matches: &ArgMatches<'_>) -> Result<Kind, Flaw>
+    ensures kind { IfOk result (λ kind. kind_in (rows_of (found_of matches.now)) ≡ Some kind) }
+    ensures flaw { IfErr result (λ flaw.
+        (flaw ≡ OtherKind) × (kind_in (rows_of (found_of matches.now)) ≡ None)) }
+{
+    kind_named(text(matches, "as")).ok_or(Flaw::OtherKind)
+}
+
+fn show_line<'a>(matches: &ArgMatches<'a>) -> Result<Line<'a>, Flaw>
+    ensures line { IfOk result (IsLine (codes "show", rows_of (found_of matches.now))) }
+    ensures flaw { IfErr result (IsFlaw of_file (rows_of (found_of matches.now))) }
+{
+    let kind = kind_of(matches)?;
+    let Some(file) = text(matches, "file") else {
+        return Err(Flaw::ArgumentMissing);
+    };
+    Ok(Line::Show { kind, file })
+}
+
+fn prints_line<'a>(matches: &ArgMatches<'a>) -> Result<Line<'a>, Flaw>
+    ensures line { IfOk result (IsLine (codes "prints", rows_of (found_of matches.now))) }
+    ensures flaw { IfErr result (IsFlaw of_prints (rows_of (found_of matches.now))) }
+{
+    let kind = kind_of(matches)?;
+    let (Some(issuer), Some(file)) = (text(matches, "issuer"), text(matches, "file")) else {
+        return Err(Flaw::ArgumentMissing);
+    };
+    Ok(Line::Prints { issuer, kind, file })
+}
+
+fn deliver_line<'a>(matches: &ArgMatches<'a>) -> Option<Line<'a>>
+    ensures some { IfSome result (IsLine (codes "deliver", rows_of (found_of matches.now))) }
+    ensures none { IfNone result (Lack of_deliver (rows_of (found_of matches.now))) }
+{
+    let (Some(store), Some(verdicts), Some(issuer), Some(file)) = (
+        text(matches, "store"),
+        text(matches, "verdicts"),
+        text(matches, "issuer"),
+        text(matches, "file"),
+    ) else {
+        return None;
+    };
+    Some(Line::Deliver {
+        store,
+        verdicts,
+        issuer,
+        file,
+    })
+}
+
+fn check_line<'a>(alloc: Global, matches: &ArgMatches<'a>) -> Result<Line<'a>, Flaw>
+    ensures line { IfOk result (IsLine (codes "check", rows_of (found_of matches.now))) }
+    ensures flaw { IfErr result (IsFlawOfQuestion of_check (rows_of (found_of matches.now))) }
+{
+    Ok(Line::Check(asked(alloc, matches)?))
+}
+
+fn compare_line<'a>(alloc: Global, matches: &ArgMatches<'a>) -> Result<Line<'a>, Flaw>
+    ensures line { IfOk result (IsLine (codes "compare", rows_of (found_of matches.now))) }
+    ensures flaw { IfErr result (IsFlawOfQuestion of_compare (rows_of (found_of matches.now))) }
+{
+    let question = asked(alloc, matches)?;
+    match text(matches, "other") {
+        Some(other) => Ok(Line::Compare { question, other }),
+        None => Err(Flaw::ArgumentMissing),
+    }
+}
+
+// The line of the subcommand that was entered.
+fn line_of<'a>(alloc: Global, matches: &ArgMatches<'a>) -> Result<Line<'a>, Flaw>
+    ensures line { IfOk result (IsLineOf (subcommand_rows_of matches.now)) }
+    ensures flaw { IfErr result (HasFlaw (subcommand_rows_of matches.now)) }
+{
+    let Some((name, inner)) = matches.subcommand() else {
+        return Err(Flaw::ArgumentMissing);
+    };
+    match name {
+        "tree" => tree_line(inner).ok_or(Flaw::ArgumentMissing),
+        "show" => show_line(inner),
+        "prints" => prints_line(inner),
+        "deliver" => deliver_line(inner).ok_or(Flaw::ArgumentMissing),
+        "check" => check_line(alloc, inner),
+        "compare" => compare_line(alloc, inner),
+        _ => Err(Flaw::ArgumentMissing),
+    }
+}
+
+fn count_of(words: &[&str]) -> usize
+    ensures count { result ≡ length words.now }
+    ensures fits { result < 2 ^ 64 }
+{
+    words.len()
+}
+
+// The line that clap's definition gives for the words.
+fn line_of_words<'a>(alloc: Global, words: &'a [&'a str]) -> Result<Line<'a>, Error>
+    ensures reads { IfOk result (Reads (map (λ w. w.now) words.entry.now)) }
+    ensures refuses { IfErr result (λ e. (kind_of e ≡ OutOfMemory)
+        ⊎ AreRefusedWith (map (λ w. w.now) words.entry.now) (kind_of e)) }
+{
+    let mut command = program(alloc)?;
+    let matches = command.try_get_matches_from_mut(words)?;
+    match line_of(alloc, &matches) {
+        Ok(line) => Ok(line),
+        // clap answers no matches without the subcommand and its files, since all are required.
+        Err(Flaw::ArgumentMissing) => {
+            Err(command.error(ErrorKind::MissingRequiredArgument, "an argument is missing")?)
+        }
+        Err(Flaw::NoMemory) => Err(AllocError.into()),
+        Err(Flaw::OtherKind) => {
+            Err(command.error(
+                ErrorKind::InvalidValue,
+                "KIND has to be 'cert', 'crl' or 'ocsp'",
+            )?)
+        }
+    }
+}
+
+/// The line that the words are, of which the first is the program's name, as in `env::args`. The words belong to one
+/// command line: an error has clap's text, and for help `use_stderr()` of it is false.
+pub fn command_of<'a>(alloc: Global, words: &'a [&'a str]) -> Result<Line<'a>, Error>
+    ensures reads { IfOk result (Reads (map (λ w. w.now) words.entry.now)) }
+    ensures tree { (name file : Text) → map (λ w. w.now) words.entry.now ≡ name ∷ codes "tree" ∷ file ∷ []
+        → IsPlainWord file → MatchResult result (IsTree file) (λ e. kind_of e ≡ OutOfMemory) }
+    ensures show { (name file : Text) → map (λ w. w.now) words.entry.now ≡ name ∷ codes "show" ∷ file ∷ []
+        → IsPlainWord file → MatchResult result (IsShow file) (λ e. kind_of e ≡ OutOfMemory) }
+    ensures prints { (name issuer file : Text)
+        → map (λ w. w.now) words.entry.now
+        ≡ name ∷ codes "prints" ∷ codes "--issuer" ∷ issuer ∷ file ∷ []
+        → IsPlainWord issuer → IsPlainWord file
+        → MatchResult result (IsPrints issuer file) (λ e. kind_of e ≡ OutOfMemory) }
+    ensures deliver { (name store verdicts issuer file : Text)
+        → map (λ w. w.now) words.entry.now
+        ≡ name ∷ codes "deliver" ∷ codes "--store" ∷ store ∷ codes "--verdicts" ∷ verdicts
+        ∷ codes "--issuer" ∷ issuer ∷ file ∷ []
+        → IsPlainWord store → IsPlainWord verdicts → IsPlainWord issuer → IsPlainWord file
+        → MatchResult result (IsDeliver store verdicts issuer file)
+        (λ e. kind_of e ≡ OutOfMemory) }
+    ensures check { (name store verdicts moment anchor file : Text) (more : List Text)
+        → map (λ w. w.now) words.entry.now
+        ≡ name ∷ codes "check" ∷ codes "--store" ∷ store ∷ codes "--verdicts" ∷ verdicts
+        ∷ codes "--at" ∷ moment ∷ codes "--anchor" ∷ anchor ∷ file ∷ more
+        → IsPlainWord store → IsPlainWord verdicts → IsPlainWord moment → IsPlainWord anchor
+        → All IsPlainWord (file ∷ more)
+        → MatchResult result (IsCheck store verdicts moment anchor (file ∷ more))
+        (λ e. kind_of e ≡ OutOfMemory) }
+    ensures compare { (name store verdicts moment anchor other file : Text) (more : List Text)
+        → map (λ w. w.now) words.entry.now
+        ≡ name ∷ codes "compare" ∷ codes "--store" ∷ store ∷ codes "--verdicts" ∷ verdicts
+        ∷ codes "--at" ∷ moment ∷ codes "--anchor" ∷ anchor ∷ codes "--other" ∷ other ∷ file ∷ more
+        → IsPlainWord store → IsPlainWord verdicts → IsPlainWord moment → IsPlainWord anchor
+        → IsPlainWord other → All IsPlainWord (file ∷ more)
+        → MatchResult result (IsCompare store verdicts moment anchor other (file ∷ more))
+        (λ e. kind_of e ≡ OutOfMemory) }
+    ensures refuses { IfErr result (λ e. (kind_of e ≡ OutOfMemory)
+        ⊎ AreRefusedWith (map (λ w. w.now) words.entry.now) (kind_of e)) }
+{
+    // There are fewer words than the most that clap takes of one argument.
+    let _count = count_of(words);
+    line_of_words(alloc, words)
+}

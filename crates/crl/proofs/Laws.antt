@@ -1,5 +1,0 @@
--- The laws that other crates may cite.
-pub use Rattle.crl.proofs.Numbers.{test_finds, is_binary}
-pub use Rattle.crl.proofs.Numbered.{lists_are_numbered}
-pub use Rattle.crl.proofs.EntryLaws.{entry_is_exact}
-pub use Rattle.crl.proofs.ListLaws.{list_is_exact, list_is_unique}

@@ -1,0 +1,7 @@
+pub mod Fault
+pub mod Stream
+pub mod Sequence
+pub use Rattle.der.specs.Value
+pub use Rattle.der.specs.Length
+pub use Rattle.der.specs.Encoding
+pub use Rattle.der.specs.FirstFault

@@ -1,0 +1,9 @@
+//! DER values (X.690) from a source of octets: one at a time, or one after the other.
+#![tactic(auto)]
+
+mod reading;
+mod sequence;
+
+pub use der::{Fault, Rule};
+pub use reading::{ReadFault, read_one, stream_laws};
+pub use sequence::{PathOctets, path_octets};

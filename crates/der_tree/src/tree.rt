@@ -1,0 +1,59 @@
+//! Values as trees.
+
+ghost use Rattle.std.specs.Prelude.{◌≡◌, ◌⊎◌, ℕ, IfOk, IfErr, MatchResult};
+ghost use Rattle.der.specs.Value.{Value, Values};
+ghost use Rattle.der.specs.Encoding.{EncodesAllAt, Encodes};
+ghost use Rattle.der.specs.FirstFault.{IsFirstFault};
+ghost use Rattle.der.specs.declared.fault.Fault.TheVariants.{Memory};
+ghost use Rattle.asn.specs.Place.{remaining};
+ghost use Rattle.asn.specs.Shows.{Shows};
+ghost use Rattle.der_tree.specs.Tree.{value_of, values_of};
+
+use asn::{Cursor, Fault, Tlv, whole};
+use std::alloc::{AllocError, Global};
+
+/// A DER value: an identifier octet with its contents octets, or with the values inside.
+#[derive(Drop)]
+pub enum Tree {
+    Primitive(u8, Vec<u8>),
+    Constructed(u8, Vec<Tree>),
+}
+
+#[cycle(build)]
+fn tree_of(alloc: Global, tlv: Tlv<'_>) -> Result<Tree, AllocError>
+    ensures { IfOk result (λ tree. (depth : ℕ) (value : Value) → Shows depth value tlv.entry
+        → value_of tree ≡ value) }
+{
+    match tlv.inside() {
+        None => Ok(Tree::Primitive(tlv.tag, Vec::from_slice(alloc, tlv.body)?)),
+        Some(members) => Ok(Tree::Constructed(tlv.tag, trees_of(alloc, members)?)),
+    }
+}
+
+#[cycle(build)]
+fn trees_of(alloc: Global, members: Cursor<'_>) -> Result<Vec<Tree>, AllocError>
+    ensures { IfOk result (λ trees. (depth : ℕ) (values : Values) → EncodesAllAt depth (remaining members.entry).octets values
+        → values_of trees.items ≡ values) }
+{
+    let mut members = members;
+    let mut trees = Vec::new(alloc);
+    while let Some(tlv) = members.next() {
+        trees.push(tree_of(alloc, tlv)?)?;
+    }
+    Ok(trees)
+}
+
+/// The tree of the octets, which are the encoding of one value, or the first fault, as `check` answers it;
+/// `Fault::Memory` only where a growth was refused. Time is linear in the octets; the memory is that of the contents and of
+/// a node for each value.
+pub fn parse_tree(alloc: Global, octets: &[u8]) -> Result<Tree, Fault>
+    ensures found { IfOk result (λ tree. Encodes octets.now (value_of tree)) }
+    ensures only { (value : Value) → Encodes octets.now value → MatchResult result (λ tree. value_of tree ≡ value) (λ fault. fault ≡ Memory) }
+    ensures refused { IfErr result (λ fault. (fault ≡ Memory) ⊎ IsFirstFault octets.now fault) }
+{
+    let tlv = whole(octets)?;
+    match tree_of(alloc, tlv) {
+        Ok(tree) => Ok(tree),
+        Err(_) => Err(Fault::Memory),
+    }
+}

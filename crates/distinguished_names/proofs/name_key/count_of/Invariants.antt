@@ -1,9 +1,0 @@
-use Rattle.std.proofs.Common.{◌≡◌, ◌+◌, length}
-use Rattle.distinguished_names.specs.NameView.{sequence_of}
-use Rattle.distinguished_names.proofs.name_key.count_of.Given as goal
-
-abbrev pub invariant-loop-after : goal.invariant-loop-after
-invariant-loop-after l = l.count + length (sequence_of l.rest) ≡ length (sequence_of l.name)
-
-abbrev pub decreases-loop-after : goal.decreases-loop-after
-decreases-loop-after l = length (sequence_of l.rest)

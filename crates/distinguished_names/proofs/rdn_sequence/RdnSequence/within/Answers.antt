@@ -1,7 +1,0 @@
-use Rattle.std.proofs.Common.{rules}
-use Rattle.distinguished_names.specs.NameView.{sequence_of}
-use Rattle.distinguished_names.proofs.Matching.{within_test}
-use Rattle.distinguished_names.proofs.rdn_sequence.RdnSequence.within.Goals as goal
-
-pub returns-clause-test : goal.returns-clause-test
-returns-clause-test c = within_test (sequence_of c.args.self.now) (sequence_of c.args.other.now) c.is_some.result (search rules)

@@ -1,7 +1,0 @@
-use Rattle.distinguished_names.specs.Repetition.{kinds_of, pointed}
-use Rattle.distinguished_names.proofs.Pointers.{stepped}
-use Rattle.distinguished_names.proofs.repetition.Pointer.first.Goals as goal
-
-pub returns : goal.returns
-unfolding pointed
-returns c = stepped c.next-next.result (kinds_of c.args.run) (kinds_of c.next-next.new.self) c.next-next.ensures

@@ -1,4 +1,0 @@
-use Rattle.distinguished_names.proofs.repetition.new_in_batch.Given as goal
-
-abbrev pub decreases-loop-most : goal.decreases-loop-most
-decreases-loop-most l = l.most

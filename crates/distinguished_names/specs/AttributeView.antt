@@ -1,7 +1,0 @@
--- The members of an attribute, as places.
-use Rattle.asn.specs.Place.{seen_tlv}
-use Rattle.distinguished_names.specs.declared.attribute.AttributeMembers.{AttributeMembers}
-use Rattle.distinguished_names.specs.NameLayout.{AttributePlaces}
-
-abbrev pub seen_members : AttributeMembers → AttributePlaces
-seen_members members = record { kind = seen_tlv members.kind; value = seen_tlv members.value }

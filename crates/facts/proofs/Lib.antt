@@ -1,6 +1,0 @@
-mod AnyOrder
-mod Ascending
-mod ByPrefix
-mod Finding
-mod Prefixes
-mod Sorting

@@ -1,6 +1,0 @@
-pub mod Listed
-pub mod Prefix
-pub mod Prefixed
-pub mod Statement
-pub mod Single
-pub mod Fact

@@ -1,5 +1,0 @@
-use Rattle.holdings.proofs.Nothing.{holds_nothing}
-use Rattle.holdings.proofs.creation.make.Goals as goal
-
-pub returns-in-Ok-clause-makes : goal.returns-in-Ok-clause-makes
-returns-in-Ok-clause-makes g c clean = let made = c.in-Ok.ensures.makes clean in (made.0, λ empty. holds_nothing _ (made.1 empty))

@@ -1,5 +1,0 @@
-use Rattle.holdings.proofs.Saying.{single_held}
-use Rattle.holdings.proofs.laws.single_laws.Goals as goal
-
-pub returns : goal.returns
-returns c it slot id fact rise known = single_held it slot id fact rise known

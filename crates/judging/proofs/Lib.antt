@@ -1,5 +1,0 @@
-mod Believing
-mod Refusing
-mod Questions
-mod Seeing
-mod Unanswered

@@ -1,0 +1,101 @@
+use Rattle.std.proofs.Common.{◌≡◌, ◌<◌, ◌^◌, ℕ, List, [], ◌∷◌, ◌++◌, length, take, drop, map, get_or, zero, suc, subst, refl, sym, ◌∙◌, ap, arith, append_assoc, append-nil}
+use Rattle.std.specs.List.{flat_map, AllByRecursion}
+use Rattle.std.specs.Int.{from_be_bytes, w32}
+use Rattle.std.specs.FinMap.{entries, same_entries_map}
+use Rattle.std.proofs.lemmas.List.{take_at, drop_at}
+use Rattle.std.proofs.lemmas.Nat.{from_be_bytes-to_be_bytes_4}
+use Rattle.names_distinguished.specs.declared.attribute.Attribute.{Attribute}
+use Rattle.names_distinguished.specs.NameView.{entry_of}
+use Rattle.names_distinguished.specs.AttributeValue.{ComparedValue, Text, Other}
+use Rattle.names_distinguished.specs.DistinguishedName.{Entry, RdnMap}
+use Rattle.names_distinguished.specs.NameKey.{number, counted, value_key, entry_key, rdn_key, name_key, ValueFits, EntryFits, RdnFits, NameFits}
+use Rattle.names_distinguished.specs.NameKey.{KeyIsExact}
+
+-- two equal joined lists whose first parts are of one length
+same_fronts : {X : Type 0} (a b c d : List X) → a ++ b ≡ c ++ d → length a ≡ length c → (a ≡ c) × (b ≡ d)
+same_fronts a b c d e n = (
+  sym (take_at a b (length a) refl) ∙ (ap (λ (l : List _). take (length a) l) e ∙ take_at c d (length a) (sym n)),
+  sym (drop_at a b (length a) refl) ∙ (ap (λ (l : List _). drop (length a) l) e ∙ drop_at c d (length a) (sym n)),
+)
+
+number_apart : (m n : ℕ) (r s : List ℕ) → m < 2 ^ 32 → n < 2 ^ 32 → number m ++ r ≡ number n ++ s → (m ≡ n) × (r ≡ s)
+number_apart m n r s p q e =
+    let both = same_fronts (number m) r (number n) s e refl in
+    (sym (from_be_bytes-to_be_bytes_4 m p) ∙ (ap (from_be_bytes w32) both.0 ∙ from_be_bytes-to_be_bytes_4 n q), both.1)
+
+counted_apart : (x y r s : List ℕ) → length x < 2 ^ 32 → length y < 2 ^ 32 → counted x ++ r ≡ counted y ++ s → (x ≡ y) × (r ≡ s)
+counted_apart x y r s p q e =
+    let f : number (length x) ++ (x ++ r) ≡ number (length y) ++ (y ++ s) = sym (append_assoc (number (length x)) x r) ∙ (e ∙ append_assoc (number (length y)) y s) in
+    let n = number_apart (length x) (length y) (x ++ r) (y ++ s) p q f in
+    same_fronts x r y s n.1 n.0
+
+value_apart : (v w : ComparedValue) (r s : List ℕ) → ValueFits v → ValueFits w → value_key v ++ r ≡ value_key w ++ s → (v ≡ w) × (r ≡ s)
+value_apart (Text x) (Text y) r s p q e =
+    let f : counted x ++ r ≡ counted y ++ s = cc in
+    let b = counted_apart x y r s p q f in
+    (ap Text b.0, b.1)
+value_apart (Other x) (Other y) r s p q e =
+    let f : counted x ++ r ≡ counted y ++ s = cc in
+    let b = counted_apart x y r s p q f in
+    (ap Other b.0, b.1)
+value_apart (Text x) (Other y) r s p q e = let h : ◌≡◌ {A = ℕ} 1 0 = cc in absurd (omega arith)
+value_apart (Other x) (Text y) r s p q e = let h : ◌≡◌ {A = ℕ} 0 1 = cc in absurd (omega arith)
+
+entry_apart : (d e : Entry) (r s : List ℕ) → EntryFits d → EntryFits e → entry_key d ++ r ≡ entry_key e ++ s → (d ≡ e) × (r ≡ s)
+entry_apart d e r s p q h =
+    let f : counted d.0 ++ (value_key d.1 ++ r) ≡ counted e.0 ++ (value_key e.1 ++ s) =
+    sym (append_assoc (counted d.0) (value_key d.1) r) ∙ (h ∙ append_assoc (counted e.0) (value_key e.1) s) in
+    let a = counted_apart d.0 e.0 (value_key d.1 ++ r) (value_key e.1 ++ s) p.type_fits q.type_fits f in
+    let b = value_apart d.1 e.1 r s p.value_fits q.value_fits a.1 in
+    (λ i. (a.0 i, b.0 i), b.1)
+
+-- encodings that say where they end, one after another
+module _ {X : Type 0} (f : X → List ℕ) (Fit : X → Type 0) (apart : (x y : X) (r s : List ℕ) → Fit x → Fit y → f x ++ r ≡ f y ++ s → (x ≡ y) × (r ≡ s)) where
+  all_apart : (xs ys : List X) (r s : List ℕ) → AllByRecursion Fit xs → AllByRecursion Fit ys → length xs ≡ length ys → flat_map f xs ++ r ≡ flat_map f ys ++ s → (xs ≡ ys) × (r ≡ s)
+  all_apart [] [] r s p q n e = (refl, e)
+  all_apart [] (y ∷ ys) r s p q n e = absurd (omega arith)
+  all_apart (x ∷ xs) [] r s p q n e = absurd (omega arith)
+  all_apart (x ∷ xs) (y ∷ ys) r s p q n e =
+      let h : f x ++ (flat_map f xs ++ r) ≡ f y ++ (flat_map f ys ++ s) = sym (append_assoc (f x) (flat_map f xs) r) ∙ (e ∙ append_assoc (f y) (flat_map f ys) s) in
+      let a = apart x y (flat_map f xs ++ r) (flat_map f ys ++ s) p.0 q.0 h in
+      let b = all_apart xs ys r s p.1 q.1 (omega arith) a.1 in
+      let c : x ∷ xs ≡ y ∷ ys = cc in
+      (c, b.1)
+
+rdn_apart : (m n : RdnMap) (r s : List ℕ) → RdnFits m → RdnFits n → rdn_key m ++ r ≡ rdn_key n ++ s → (m ≡ n) × (r ≡ s)
+rdn_apart m n r s p q h =
+    let f : number (length (entries m)) ++ (flat_map entry_key (entries m) ++ r) ≡ number (length (entries n)) ++ (flat_map entry_key (entries n) ++ s) =
+    sym (append_assoc (number (length (entries m))) (flat_map entry_key (entries m)) r) ∙ (h ∙ append_assoc (number (length (entries n))) (flat_map entry_key (entries n)) s) in
+    let a = number_apart (length (entries m)) (length (entries n)) _ _ p.count_fits q.count_fits f in
+    let b = all_apart entry_key EntryFits entry_apart (entries m) (entries n) r s p.each q.each a.0 a.1 in
+    (same_entries_map m n b.0, b.1)
+
+pub same_names : (n m : List RdnMap) → NameFits n → NameFits m → name_key n ≡ name_key m → n ≡ m
+unfolding name_key
+same_names n m p q e =
+    let a = number_apart (length n) (length m) (flat_map rdn_key n) (flat_map rdn_key m) p.count_fits q.count_fits e in
+    (all_apart rdn_key RdnFits rdn_apart n m [] [] p.each q.each a.0 (append-nil (flat_map rdn_key n) ∙ (a.1 ∙ sym (append-nil (flat_map rdn_key m))))).0
+
+pub key_is_exact : KeyIsExact
+key_is_exact n m p q = (same_names n m p q, λ e. ap name_key e)
+
+-- what is written, and the keys of the sets to come, are the key
+pub record IsKeyUpTo (whole rest : List RdnMap) (out : List ℕ) : Type 0 where
+  pub joined : out ++ flat_map rdn_key rest ≡ name_key whole
+  pub each : AllByRecursion RdnFits rest
+
+pub key_start : (whole : List RdnMap) (none out : List ℕ) → NameFits whole → none ≡ [] → out ≡ none ++ number (length whole) → IsKeyUpTo whole whole out
+unfolding name_key
+key_start whole none out fits z e = record {
+  joined = ap (λ (l : List ℕ). l ++ flat_map rdn_key whole) (e ∙ ap (λ (l : List ℕ). l ++ number (length whole)) z);
+  each = fits.each;
+}
+
+module _ {X Y : Type 0} (f : X → Y) (P : Y → Type 0) where
+  each_at : (xs : List X) (k : ℕ) (d : X) → AllByRecursion P (map f xs) → k < length xs → P (f (get_or xs k d))
+  each_at [] k d h lt = absurd (omega arith)
+  each_at (x ∷ xs) zero d h lt = h.0
+  each_at (x ∷ xs) (suc k) d h lt = each_at xs k d h.1 (omega arith)
+
+pub fits_at : (items attributes : List Attribute) (es : List Entry) (k : ℕ) (d : Attribute) → items ≡ attributes → map entry_of attributes ≡ es → AllByRecursion EntryFits es → k < length items → EntryFits (entry_of (get_or items k d))
+fits_at items attributes es k d e f h lt = each_at entry_of EntryFits items k d (subst (AllByRecursion EntryFits) (sym (ap (map entry_of) e ∙ f)) h) lt

@@ -1,0 +1,12 @@
+use Rattle.names_distinguished.specs.NameOctets.{rdns_of}
+use Rattle.names_distinguished.proofs.Keys.{key_is_exact}
+use Rattle.names_distinguished.proofs.SequenceFits.{sequence_fits}
+use Rattle.names_distinguished.proofs.name_key.key_laws.Goals as goal
+
+pub returns-clause-names : goal.returns-clause-names
+unfolding rdns_of
+returns-clause-names c = λ left right.
+    key_is_exact (rdns_of left) (rdns_of right) (sequence_fits left.rdns) (sequence_fits right.rdns)
+
+pub returns-clause-lists : goal.returns-clause-lists
+returns-clause-lists c = key_is_exact

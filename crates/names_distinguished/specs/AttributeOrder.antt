@@ -1,0 +1,24 @@
+-- Attributes in the order of their types.
+use Rattle.std.specs.Prelude.{◌≡◌, ◌<◌, ◌-◌, ℕ, List, Bool, map, length}
+use Rattle.std.specs.List.{slice_index_or}
+use Rattle.std.specs.List.Sorted.{IsSortedBy}
+use Rattle.std.specs.Ordering.{nat_cmp, is_lt}
+use Rattle.std.specs.Cmp.Lexicographic.{slice_cmp}
+use Rattle.names_distinguished.specs.declared.attribute.Attribute.{Attribute}
+use Rattle.names_distinguished.specs.DistinguishedName.{value_at}
+use Rattle.names_distinguished.specs.NameView.{entry_of}
+
+abbrev pub has_lesser_kind : Attribute → Attribute → Bool
+has_lesser_kind a b = is_lt (slice_cmp nat_cmp a.kind.now b.kind.now)
+
+abbrev pub AscendsByKind : List Attribute → Type 0
+AscendsByKind attributes = IsSortedBy has_lesser_kind attributes
+
+-- the first attribute of each type has the same value in both lists
+abbrev pub HasSameValues : List Attribute → List Attribute → Type 0
+HasSameValues old new = (kind : List ℕ) → value_at kind (map entry_of new) ≡ value_at kind (map entry_of old)
+
+-- the last of the attributes has the type
+pub record EndsInKind (attributes : List Attribute) (kind : List ℕ) : Type 0 where
+  pub some : 0 < length attributes
+  pub same : (d : Attribute) → (slice_index_or attributes (length attributes - 1) d).kind.now ≡ kind

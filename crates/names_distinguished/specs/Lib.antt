@@ -1,0 +1,17 @@
+pub mod Fault
+pub mod NameLayout
+pub mod NameForms
+pub mod AttributeView
+pub mod AttributeValue
+pub mod DistinguishedName
+pub mod NameParts
+pub mod NameView
+pub mod NameOctets
+pub mod Repetition
+pub mod Agreement
+pub mod NameKey
+pub mod AttributeOrder
+pub mod Batch
+pub mod BatchView
+pub use Rattle.names_text.specs.Preparation
+pub mod NameComparison

@@ -1,0 +1,23 @@
+-- What a name that was read holds.
+use Rattle.std.specs.Prelude.{◌≡◌, ◌↔◌, ℕ, List}
+use Rattle.names_distinguished.specs.declared.name.Name.{Name}
+use Rattle.names_distinguished.specs.DistinguishedName.{RdnMap, NamesMatch}
+use Rattle.names_distinguished.specs.NameView.{sequence_of}
+use Rattle.names_distinguished.specs.NameKey.{name_key}
+
+-- its whole encoding
+unfoldable pub raw_of : Name → List ℕ
+raw_of name = name.raw.now
+
+-- its offset in the whole input
+unfoldable pub offset_of : Name → ℕ
+offset_of name = name.offset
+
+-- its sets of attributes, as they are compared
+unfoldable pub rdns_of : Name → List RdnMap
+rdns_of name = sequence_of name.rdns
+
+-- two names have one key exactly where they match
+abbrev pub KeysDecideMatching : Type 0
+KeysDecideMatching =
+    (left right : Name) → (name_key (rdns_of left) ≡ name_key (rdns_of right) ↔ NamesMatch (rdns_of left) (rdns_of right))

@@ -1,0 +1,67 @@
+//! Why octets are no name.
+
+ghost use Rattle.std.specs.Prelude.{◌≡◌};
+ghost use Rattle.names_distinguished.specs.Fault.{fault_number, fault_name};
+
+use thiserror::Error;
+
+/// What is wrong with a name, a general name or the base of a subtree.
+#[derive(Clone, Copy, Debug, PartialEq, Eq, Error)]
+pub enum NameRule {
+    /// A value with another identifier octet, a value that is missing, or one that is left over.
+    #[error("not the layout of a name")]
+    NameLayout,
+    /// An attribute of a type that an earlier one of its RDN has (X.501, 9.3).
+    #[error("attribute type repeated in one RDN")]
+    RdnRepeat,
+    /// An attribute whose octets are less than those of the one before it (X.690, 11.6).
+    #[error("attributes of an RDN out of order")]
+    SetOrder,
+    /// A string with octets that its type does not hold.
+    #[error("not a string of its type")]
+    Text,
+    /// No dNSName, or no base of one (RFC 5280, 4.2.1.6 and 4.2.1.10).
+    #[error("not a DNS name")]
+    DnsForm,
+    /// An address, or an address with its mask, of another number of octets (RFC 5280, 4.2.1.6 and 4.2.1.10).
+    #[error("not an IP address")]
+    IpForm,
+    /// A mask that is not ones and then zeros (RFC 4632, 3.1).
+    #[error("not a mask of ones and then zeros")]
+    MaskForm,
+}
+
+/// What was refused, and the offset of the value, counted from the first octet of the value that was handed in.
+pub type Refusal = (NameRule, usize);
+
+impl NameRule {
+    /// The number by which the product names the fault, from 11 to 17.
+    pub fn number(self) -> u8
+        ensures { result ≡ fault_number self }
+    {
+        match self {
+            NameRule::NameLayout => 11,
+            NameRule::RdnRepeat => 12,
+            NameRule::SetOrder => 13,
+            NameRule::Text => 14,
+            NameRule::DnsForm => 15,
+            NameRule::IpForm => 16,
+            NameRule::MaskForm => 17,
+        }
+    }
+
+    /// The word that stands beside the number.
+    pub fn name(self) -> &'static str
+        ensures { result.now ≡ fault_name self }
+    {
+        match self {
+            NameRule::NameLayout => "NameLayout",
+            NameRule::RdnRepeat => "RdnRepeat",
+            NameRule::SetOrder => "SetOrder",
+            NameRule::Text => "Text",
+            NameRule::DnsForm => "DnsForm",
+            NameRule::IpForm => "IpForm",
+            NameRule::MaskForm => "MaskForm",
+        }
+    }
+}

@@ -1,4 +1,0 @@
-mod NewestLaws
-mod ComingLaws
-mod Counting
-pub mod Laws

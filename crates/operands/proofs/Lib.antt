@@ -1,4 +1,0 @@
-pub mod Arcs
-pub mod Decimals
-pub mod Lines
-pub mod Subidentifiers

@@ -1,4 +1,0 @@
-pub mod Moment
-pub mod Purpose
-pub mod VerdictLines
-pub use Rattle.asn.specs.Time

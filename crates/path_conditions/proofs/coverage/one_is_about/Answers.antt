@@ -1,0 +1,12 @@
+use Rattle.std.proofs.Common.{sym, ◌∙◌, rules, tests}
+use Rattle.std.proofs.lemmas.Iterator.{YieldsList-from_slice}
+use Rattle.std.proofs.lemmas.Iterator.Search.{any_from_yields_List}
+use Rattle.names.specs.GeneralView.{subtree_base}
+use Rattle.names.specs.GeneralCoverage.{is_of_form}
+use Rattle.path_conditions.proofs.Selecting.{list_any-map}
+use Rattle.path_conditions.proofs.coverage.one_is_about.Goals as goal
+
+pub returns : goal.returns
+returns c =
+    any_from_yields_List (λ s. is_of_form (subtree_base s) c.args.form) _ _ _ c.any.ensures.ran (YieldsList-from_slice c.args.bases.now cc) (λ x b q k. search (rules, tests))
+    ∙ sym (list_any-map (λ s. is_of_form s c.args.form) subtree_base c.args.bases.now)

@@ -1,0 +1,86 @@
+-- The constraints that hold behind the certificates passed so far (RFC 5280, 6.1.2 (b) and (c)): for each processed form the
+-- permitted subtrees, where some certificate had any, and the excluded subtrees.
+use Rattle.std.specs.Prelude.{◌≡◌, ◌+◌, ◌++◌, ℕ, List, Bool, true, false, Option, Some, None, length, filter, slice_index_or}
+use Rattle.std.specs.Option.{option_map}
+use Rattle.names.specs.declared.general.Form.{Form}
+use Rattle.names.specs.declared.general.Form.TheVariants as F
+use Rattle.names.specs.GeneralLayout.{GeneralName, SubtreeBase, directory_name, dns_name, ip_address, other_name}
+use Rattle.names.specs.GeneralCoverage.{form_of_general_name}
+use Rattle.cert.specs.Certificate.{Certificate}
+use Rattle.cert.specs.NameConstraints.{NameConstraints}
+use Rattle.path_conditions.specs.declared.constraints.Constraints as code
+use Rattle.path_conditions.specs.declared.form_set.FormSet.{FormSet}
+use Rattle.path_conditions.specs.NamesOf.{IsInOneOf, BearsForm}
+use Rattle.path_conditions.specs.Narrowing.{bases_of, is_in_one_of, is_processed_base, changed, change_of}
+
+pub record Constraints : Type 0 where
+  pub directory : Option (List SubtreeBase)
+  pub dns : Option (List SubtreeBase)
+  pub ip : Option (List SubtreeBase)
+  pub excluded : List SubtreeBase
+
+abbrev pub seen_constraints : code.Constraints → Constraints
+seen_constraints held = record {
+  directory = option_map (λ list. bases_of list.items) held.directory;
+  dns = option_map (λ list. bases_of list.items) held.dns;
+  ip = option_map (λ list. bases_of list.items) held.ip;
+  excluded = bases_of held.excluded.items;
+}
+
+-- the permitted subtrees for names of the form
+abbrev pub permitted_for : Constraints → Form → Option (List SubtreeBase)
+permitted_for held F.Directory = held.directory
+permitted_for held F.Dns = held.dns
+permitted_for held F.Ip = held.ip
+permitted_for held (F.Other number) = None
+
+-- no list permits every name, a list those that lie in one of it; an empty list permits none
+abbrev pub PermitsIn : Option (List SubtreeBase) → GeneralName → Type 0
+PermitsIn None name = Unit {0}
+PermitsIn (Some list) name = IsInOneOf list name
+
+abbrev pub AdmitsName : Constraints → GeneralName → Type 0
+AdmitsName held name = PermitsIn (permitted_for held (form_of_general_name name)) name × ¬ IsInOneOf held.excluded name
+
+-- how many subtrees there are
+abbrev pub size_of : Option (List SubtreeBase) → ℕ
+size_of None = 0
+size_of (Some list) = length list
+
+abbrev pub subtrees_in : Constraints → ℕ
+subtrees_in held = size_of held.directory + size_of held.dns + size_of held.ip + length held.excluded
+
+-- the constraints behind one more certificate
+abbrev pub narrowed_by : NameConstraints → Constraints → Constraints
+narrowed_by carried held = record {
+  directory = changed held.directory (change_of F.Directory held.directory carried.permitted);
+  dns = changed held.dns (change_of F.Dns held.dns carried.permitted);
+  ip = changed held.ip (change_of F.Ip held.ip carried.permitted);
+  excluded = held.excluded ++ filter (λ base. is_processed_base base) carried.excluded;
+}
+
+-- tests
+
+abbrev pub permits_in : Option (List SubtreeBase) → GeneralName → Bool
+permits_in None name = true
+permits_in (Some list) name = is_in_one_of list name
+
+abbrev pub permits_name : Constraints → GeneralName → Bool
+permits_name held (directory_name name) = permits_in held.directory (directory_name name)
+permits_name held (dns_name name) = permits_in held.dns (dns_name name)
+permits_name held (ip_address name) = permits_in held.ip (ip_address name)
+permits_name held (other_name number name) = true
+
+-- the number is in the set
+abbrev pub has_number : FormSet → ℕ → Bool
+has_number set number = slice_index_or set.numbers number false
+
+abbrev pub has_form_of : FormSet → GeneralName → Bool
+has_form_of set (directory_name name) = false
+has_form_of set (dns_name name) = false
+has_form_of set (ip_address name) = false
+has_form_of set (other_name number name) = has_number set number
+
+-- the certificate bears a name of a form of the set
+abbrev pub BearsOneOf : FormSet → Certificate → Type 0
+BearsOneOf set c = (number : ℕ) × (has_number set number ≡ true) × BearsForm c number

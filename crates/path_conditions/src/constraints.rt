@@ -1,0 +1,180 @@
+//! The name constraints that hold behind the certificates of a path that have passed.
+
+ghost use Rattle.std.specs.Prelude.{◌≡◌, ◌↔◌, ◌≤◌, ◌++◌, [], map, false, OnOk, OnErr, IfOk, IsOk};
+ghost use Rattle.std.specs.List.{list_all, list_any};
+ghost use Rattle.std.specs.Option.{option_map};
+ghost use Rattle.names.specs.GeneralView.{general_name, name_contents};
+ghost use Rattle.cert.specs.Certificate.{seen_certificate};
+ghost use Rattle.cert.specs.NameConstraints.{seen_name_constraints};
+ghost use Rattle.path_conditions.specs.NamesOf.{names_of, subject_names};
+ghost use Rattle.path_conditions.specs.Narrowing.{bases_of, selected, is_in_one_of, has_processed, is_processed_base, changed};
+ghost use Rattle.path_conditions.specs.Constraints.{seen_constraints, narrowed_by, permits_in, permits_name, size_of, subtrees_in};
+
+use crate::coverage::{is_processed, lies_in_one, one_is_processed};
+use crate::narrowing::narrowed_list;
+use cert::{Certificate, NameConstraints};
+use names::{Form, General, Name, Subtree};
+use std::alloc::{AllocError, Global};
+
+/// For each processed form the permitted subtrees, where some certificate had any; the excluded subtrees of processed forms.
+#[derive(Drop)]
+pub struct Constraints<'a> {
+    directory: Option<Vec<Subtree<'a>>>,
+    dns: Option<Vec<Subtree<'a>>>,
+    ip: Option<Vec<Subtree<'a>>>,
+    excluded: Vec<Subtree<'a>>,
+}
+
+/// Puts a new list in place, where there is one.
+fn replace<'a>(list: &mut Option<Vec<Subtree<'a>>>, change: Option<Vec<Subtree<'a>>>)
+    ensures { option_map (λ v. bases_of v.items) list.new ≡ changed (option_map (λ v. bases_of v.items) list.old) (option_map (λ v. bases_of v.items) change.entry) }
+{
+    if let Some(change) = change {
+        *list = Some(change);
+    }
+}
+
+/// The subtrees of processed forms.
+fn select_processed<'a>(
+    alloc: Global,
+    carried: &[Subtree<'a>],
+) -> Result<Vec<Subtree<'a>>, AllocError>
+    ensures { IfOk result (λ list. list.items ≡ selected (λ base. is_processed_base base) carried.now) }
+{
+    carried
+        .iter()
+        .copied()
+        .filter(|base| is_processed(base))
+        .collect(alloc)
+}
+
+/// Adds the subtrees of processed forms.
+fn exclude<'a>(
+    alloc: Global,
+    held: &mut Vec<Subtree<'a>>,
+    carried: &[Subtree<'a>],
+) -> Result<(), AllocError>
+    ensures ok { OnOk result (held.new.items ≡ held.old.items ++ selected (λ base. is_processed_base base) carried.now) }
+    ensures err { OnErr result (held.new.items ≡ held.old.items) }
+    ensures calm { has_processed (bases_of carried.now) ≡ false → IsOk result }
+{
+    if one_is_processed(carried) {
+        let more = select_processed(alloc, carried)?;
+        held.extend_from_slice(&more)?;
+    }
+    Ok(())
+}
+
+/// How many subtrees a list has.
+fn len_of(list: &Option<Vec<Subtree<'_>>>) -> usize
+    ensures { result ≡ size_of (option_map (λ v. bases_of v.items) list.now) }
+{
+    match list {
+        None => 0,
+        Some(list) => list.len(),
+    }
+}
+
+/// Whether the list, where there is one, holds the name.
+fn is_permitted_by(list: &Option<Vec<Subtree<'_>>>, name: &General<'_>) -> bool
+    ensures { result ≡ permits_in (option_map (λ v. bases_of v.items) list.now) (general_name name.now) }
+{
+    match list {
+        None => true,
+        Some(list) => lies_in_one(list, name),
+    }
+}
+
+impl<'a> Constraints<'a> {
+    /// Those before the first certificate, which admit every name.
+    pub fn none(alloc: Global) -> Constraints<'a>
+        ensures { seen_constraints result ≡ record { directory = None; dns = None; ip = None; excluded = [] } }
+    {
+        Constraints {
+            directory: None,
+            dns: None,
+            ip: None,
+            excluded: Vec::new(alloc),
+        }
+    }
+
+    /// Narrows the permitted subtrees, and adds the excluded ones. New lists are built before old ones are replaced.
+    pub fn narrow(&mut self, alloc: Global, carried: &NameConstraints<'a>) -> Result<(), AllocError>
+        ensures ok { OnOk result (seen_constraints self.new ≡ narrowed_by (seen_name_constraints carried.now) (seen_constraints self.old)) }
+        ensures err { OnErr result (seen_constraints self.new ≡ seen_constraints self.old) }
+        ensures calm { has_processed (bases_of carried.now.permitted.items) ≡ false → has_processed (bases_of carried.now.excluded.items) ≡ false → IsOk result }
+    {
+        let directory = narrowed_list(alloc, Form::Directory, &self.directory, &carried.permitted)?;
+        let dns = narrowed_list(alloc, Form::Dns, &self.dns, &carried.permitted)?;
+        let ip = narrowed_list(alloc, Form::Ip, &self.ip, &carried.permitted)?;
+        exclude(alloc, &mut self.excluded, &carried.excluded)?;
+        replace(&mut self.directory, directory);
+        replace(&mut self.dns, dns);
+        replace(&mut self.ip, ip);
+        Ok(())
+    }
+
+    /// How many subtrees are held.
+    pub fn len(&self) -> usize
+        requires { subtrees_in (seen_constraints self.now) ≤ 524288 }
+        ensures { result ≡ subtrees_in (seen_constraints self.now) }
+    {
+        len_of(&self.directory) + len_of(&self.dns) + len_of(&self.ip) + self.excluded.len()
+    }
+
+    /// Whether the permitted subtrees for the form of the name hold it.
+    fn permits(&self, name: &General<'_>) -> bool
+        ensures { result ≡ permits_name (seen_constraints self.now) (general_name name.now) }
+    {
+        match name {
+            General::Directory(_) => is_permitted_by(&self.directory, name),
+            General::Dns(_) => is_permitted_by(&self.dns, name),
+            General::Ip(_) => is_permitted_by(&self.ip, name),
+            General::Other(_, _) => true,
+        }
+    }
+
+    /// Whether the subject, where it is not empty, is permitted.
+    fn permits_subject(&self, subject: Name<'_>) -> bool
+        ensures { result ≡ list_all (λ name. permits_name (seen_constraints self.now) name) (subject_names (name_contents subject.entry) (name_contents subject.entry).rdns) }
+    {
+        subject.is_empty() || self.permits(&General::Directory(subject))
+    }
+
+    /// Whether all names are permitted.
+    fn permits_all(&self, names: &[General<'_>]) -> bool
+        ensures { result ≡ list_all (λ name. permits_name (seen_constraints self.now) name) (map general_name names.now) }
+    {
+        names.iter().all(|name| self.permits(name))
+    }
+
+    /// Whether all names of the certificate are permitted.
+    pub fn permits_names_of(&self, certificate: &Certificate<'_>) -> bool
+        ensures { result ≡ list_all (λ name. permits_name (seen_constraints self.now) name) (names_of (seen_certificate certificate.now)) }
+    {
+        self.permits_subject(certificate.subject)
+            && self.permits_all(&certificate.extensions.alternative_names)
+    }
+
+    /// Whether the subject, where it is not empty, is excluded.
+    fn excludes_subject(&self, subject: Name<'_>) -> bool
+        ensures { result ≡ list_any (λ name. is_in_one_of (seen_constraints self.now).excluded name) (subject_names (name_contents subject.entry) (name_contents subject.entry).rdns) }
+    {
+        !subject.is_empty() && lies_in_one(&self.excluded, &General::Directory(subject))
+    }
+
+    /// Whether one of the names is excluded.
+    fn excludes_one(&self, names: &[General<'_>]) -> bool
+        ensures { result ≡ list_any (λ name. is_in_one_of (seen_constraints self.now).excluded name) (map general_name names.now) }
+    {
+        names.iter().any(|name| lies_in_one(&self.excluded, name))
+    }
+
+    /// Whether a name of the certificate is excluded.
+    pub fn excludes_name_of(&self, certificate: &Certificate<'_>) -> bool
+        ensures { result ≡ list_any (λ name. is_in_one_of (seen_constraints self.now).excluded name) (names_of (seen_certificate certificate.now)) }
+    {
+        self.excludes_subject(certificate.subject)
+            || self.excludes_one(&certificate.extensions.alternative_names)
+    }
+}

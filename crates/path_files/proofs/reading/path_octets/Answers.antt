@@ -1,5 +1,0 @@
-use Rattle.path_files.proofs.Longest.{none_past}
-use Rattle.path_files.proofs.reading.path_octets.Goals as goal
-
-pub returns-in-Err-clause-longest : goal.returns-in-Err-clause-longest
-returns-in-Err-clause-longest g c = none_past _ _ _ _ c.loop-read.place c.in-Err.fault c.loop-read.invariant.4 c.in-Err.ensures.refused

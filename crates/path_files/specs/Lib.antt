@@ -1,2 +1,0 @@
-pub mod Sequence
-pub use Rattle.stream.specs.Stream

@@ -1,3 +1,0 @@
--- The laws that other crates may cite.
-pub use Rattle.preparation.proofs.Splitting.{slice_split-append, slice_split_nonempty, join-append, same_ends}
-pub use Rattle.preparation.proofs.PreparedText.{spaced, join_first}

@@ -1,7 +1,0 @@
-use Rattle.std.proofs.Common.{rules}
-use Rattle.preparation.specs.Preparation.{not_space}
-use Rattle.preparation.proofs.Words.{len_none}
-use Rattle.preparation.proofs.preparation.spaces_before.Goals as goal
-
-pub returns-in-None-clause-value : goal.returns-in-None-clause-value
-returns-in-None-clause-value c = len_none not_space c.args.text.now (search rules)

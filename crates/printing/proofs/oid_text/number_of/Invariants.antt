@@ -1,9 +1,0 @@
-use Rattle.std.proofs.Common.{◌≡◌, ◌<◌, ◌^◌, drop}
-use Rattle.printing.specs.OidText.{number_from}
-use Rattle.printing.proofs.oid_text.number_of.Given as goal
-
-abbrev pub invariant-loop-octet : goal.invariant-loop-octet
-invariant-loop-octet l = record {
-  so_far : number_from 0 l.octets ≡ number_from l.number (drop l.octet-index l.octets);
-  bound : l.number < 128 ^ l.octet-index;
-}

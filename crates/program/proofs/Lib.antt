@@ -1,3 +1,0 @@
-mod Statuses
-mod Ending
-mod Explaining

@@ -1,4 +1,0 @@
-mod Places
-mod Values
-mod Certificates
-mod Files

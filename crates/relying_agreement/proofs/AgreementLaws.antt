@@ -1,0 +1,125 @@
+-- The same newest facts of consistent issuers are the same facts, so the verdicts are equal.
+use Rattle.std.proofs.Common.{◌≡◌, List, [], ◌∷◌, ◌++◌, Option, option_map, Contains, refl, sym, ap, subst, ◌∙◌, inl, inr}
+use Rattle.std.specs.List.{AllByRecursion}
+use Rattle.std.proofs.lemmas.List.Elements.{Contains-append_left, Contains-append_right, Contains-append_cases}
+use Rattle.cert.specs.Place.{body}
+use Rattle.statements_facts.specs.declared.scope.Scope.TheVariants.{All}
+use Rattle.statements_facts.specs.Statement.{Holdings, CrlSlot, OcspSlot, CrlFact, OcspFact}
+use Rattle.path.specs.Query.{Query, Accepts}
+use Rattle.path.specs.Validity.{OutcomeIsOne}
+use Rattle.relying_agreement.specs.declared.verdict.Verdict.{Verdict}
+use Rattle.relying_agreement.specs.Link.{Link, links_of, kind_of, crl_slot, ocsp_slot}
+use Rattle.statements_facts.specs.Newest.{is_unexceeded, newer_crl, newer_ocsp}
+use Rattle.relying_agreement.specs.Status.{CrlAnswer, Answers, answer_for}
+use Rattle.relying_agreement.specs.Verdict.{verdict_of, IsVerdict}
+use Rattle.relying_agreement.specs.Run.{Party, HoldsNewest, crls_seen, responses_seen}
+use Rattle.relying_agreement.specs.Agreement.{HoldSameNewest, HoldSameNewestOf, CrlsSeenAreConsistent, ResponsesSeenAreConsistent, IssuerIsConsistent, AllAreConsistent, AllIsEnough, CrlsHeldAreConsistent, ResponsesHeldAreConsistent, HeldIsConsistent, HeldAreConsistent, PartiesAgree, RunsAgree, RunsAgreeWhereAllAreConsistent, HeldWasSeen, SameNewestIsTheSame, OneOfANumberIsConsistent, PointwiseIsEnough}
+use Rattle.relying_agreement.specs.Comparison.{HoldSameOf}
+use Rattle.relying_agreement.proofs.Options.{found_within, same_by_mark}
+use Rattle.relying_agreement.proofs.VerdictLaws.{same_verdicts, verdict_is_one}
+
+-- what is held was held at the start or taken
+crls_were_seen : (one other : Party) → HoldsNewest one → HoldsNewest other → (slot : CrlSlot) → CrlsSeenAreConsistent one other slot
+    → CrlsHeldAreConsistent one.held other.held slot
+crls_were_seen one other a b slot consistent = λ f g is_f is_g. consistent f g
+    (Contains-append_left (crls_seen one slot) (crls_seen other slot) f (found_within (is_unexceeded newer_crl (crls_seen one slot)) (crls_seen one slot) f (sym (a.crl slot) ∙ is_f)))
+    (Contains-append_right (crls_seen one slot) (crls_seen other slot) g (found_within (is_unexceeded newer_crl (crls_seen other slot)) (crls_seen other slot) g (sym (b.crl slot) ∙ is_g)))
+
+responses_were_seen : (one other : Party) → HoldsNewest one → HoldsNewest other → (slot : OcspSlot) → ResponsesSeenAreConsistent one other slot
+    → ResponsesHeldAreConsistent one.held other.held slot
+responses_were_seen one other a b slot consistent = λ f g is_f is_g. consistent f g
+    (Contains-append_left (responses_seen one slot) (responses_seen other slot) f (found_within (is_unexceeded newer_ocsp (responses_seen one slot)) (responses_seen one slot) f (sym (a.ocsp slot) ∙ is_f)))
+    (Contains-append_right (responses_seen one slot) (responses_seen other slot) g (found_within (is_unexceeded newer_ocsp (responses_seen other slot)) (responses_seen other slot) g (sym (b.ocsp slot) ∙ is_g)))
+
+each_was_seen : (one other : Party) → HoldsNewest one → HoldsNewest other → (links : List Link) → AllByRecursion (IssuerIsConsistent one other) links
+    → AllByRecursion (HeldIsConsistent one.held other.held) links
+each_was_seen one other a b [] consistent = tt
+each_was_seen one other a b (link ∷ links) consistent = (
+  record {
+    all = crls_were_seen one other a b (crl_slot link All) consistent.0.all;
+    own = crls_were_seen one other a b (crl_slot link (kind_of link.certificate)) consistent.0.own;
+    ocsp = responses_were_seen one other a b (ocsp_slot link) consistent.0.ocsp;
+  },
+  each_was_seen one other a b links consistent.1,
+)
+
+pub held_was_seen : HeldWasSeen
+held_was_seen query one other a b consistent = each_was_seen one other a b (links_of query) consistent
+
+enough : (one other : Party) → AllAreConsistent one other → (links : List Link) → AllByRecursion (IssuerIsConsistent one other) links
+enough one other all [] = tt
+enough one other all (link ∷ links) = (
+  record { all = all.crls (crl_slot link All); own = all.crls (crl_slot link (kind_of link.certificate)); ocsp = all.responses (ocsp_slot link) },
+  enough one other all links,
+)
+
+pub all_is_enough : AllIsEnough
+all_is_enough query one other all = enough one other all (links_of query)
+
+same_answers : (all_one all_other own_one own_other : Option CrlAnswer) (ocsp_one ocsp_other : Option OcspFact)
+    → all_one ≡ all_other → own_one ≡ own_other → ocsp_one ≡ ocsp_other
+    → ◌≡◌ {A = Answers} (record { all = all_one; own = own_one; ocsp = ocsp_one }) (record { all = all_other; own = own_other; ocsp = ocsp_other })
+same_answers a b c d e f all own ocsp = λ i. record { all = all i; own = own i; ocsp = ocsp i }
+
+same_crl : (one other : Holdings) (slot : CrlSlot) → CrlsHeldAreConsistent one other slot
+    → option_map (λ (fact : CrlFact). fact.number) (one.crl slot) ≡ option_map (λ (fact : CrlFact). fact.number) (other.crl slot)
+    → one.crl slot ≡ other.crl slot
+same_crl one other slot consistent same = same_by_mark (λ (fact : CrlFact). fact.number) (one.crl slot) (other.crl slot) consistent same
+
+-- the same newest of a certificate is the same answer
+pub same_of_newest : SameNewestIsTheSame
+same_of_newest one other link consistent newest =
+    same_answers _ _ _ _ _ _
+    (ap (option_map (answer_for (body link.certificate.serial))) (same_crl one other (crl_slot link All) consistent.all newest.all))
+    (ap (option_map (answer_for (body link.certificate.serial))) (same_crl one other (crl_slot link (kind_of link.certificate)) consistent.own newest.own))
+    (same_by_mark (λ (fact : OcspFact). fact.times) (one.ocsp (ocsp_slot link)) (other.ocsp (ocsp_slot link)) consistent.ocsp newest.ocsp)
+
+all_same : (one other : Holdings) (links : List Link) → AllByRecursion (HeldIsConsistent one other) links → AllByRecursion (HoldSameNewestOf one other) links
+    → AllByRecursion (HoldSameOf one other) links
+all_same one other [] consistent newest = tt
+all_same one other (link ∷ links) consistent newest =
+    (same_of_newest one other link consistent.0 newest.0, all_same one other links consistent.1 newest.1)
+
+module _ (one_outcome : OutcomeIsOne) where
+  -- the same newest of a path, of what is consistent, gives the same verdict
+  pub held_agree : (accepts : Accepts) (query : Query) (one other : Holdings) (v w : Verdict)
+      → HeldAreConsistent query one other → HoldSameNewest query one other
+      → IsVerdict accepts query one v → IsVerdict accepts query other w → v ≡ w
+  held_agree accepts query one other v w consistent newest is_v is_w =
+      is_v.verdict_is
+      ∙ same_verdicts is_v.outcome query one other (all_same one other (links_of query) consistent newest)
+      ∙ verdict_is_one one_outcome accepts query other (verdict_of is_v.outcome query other) w
+      (record { outcome = is_v.outcome; is_outcome = is_v.is_outcome; verdict_is = refl }) is_w
+
+  pub parties_agree : PartiesAgree
+  parties_agree query one other v w same_verifier newest_one newest_other consistent newest is_v is_w =
+      held_agree one.accepts query one.held other.held v w (held_was_seen query one other newest_one newest_other consistent) newest is_v
+      (subst (λ accepts. IsVerdict accepts query other.held w) (sym same_verifier) is_w)
+
+  pub runs_agree : RunsAgree
+  runs_agree facts_of query one other v w events_of_one events_of_other answers_of_one answers_of_other same_verifier ran_one ran_other consistent newest is_v is_w =
+      parties_agree query one other v w same_verifier ran_one.newest ran_other.newest consistent newest is_v is_w
+
+  pub runs_agree_where_all : RunsAgreeWhereAllAreConsistent
+  runs_agree_where_all facts_of query one other v w events_of_one events_of_other answers_of_one answers_of_other same_verifier ran_one ran_other all newest is_v is_w =
+      parties_agree query one other v w same_verifier ran_one.newest ran_other.newest (all_is_enough query one other all) newest is_v is_w
+
+either_party : {A M : Type 0} (mark : A → M) (issued : M → A) (xs ys : List A)
+    → ((fact : A) → Contains xs fact → fact ≡ issued (mark fact)) → ((fact : A) → Contains ys fact → fact ≡ issued (mark fact))
+    → (f g : A) → Contains (xs ++ ys) f → Contains (xs ++ ys) g → mark f ≡ mark g → f ≡ g
+either_party {A = A} mark issued xs ys of_xs of_ys f g in_f in_g same = is f in_f ∙ ap issued same ∙ sym (is g in_g)
+  where
+    is : (fact : A) → Contains (xs ++ ys) fact → fact ≡ issued (mark fact)
+    is fact among = elim (Contains-append_cases xs ys fact among) [ inl x ↦ of_xs fact x | inr y ↦ of_ys fact y ]
+
+pub one_of_a_number : OneOfANumberIsConsistent
+one_of_a_number crl response one other of_one of_other = record {
+  crls = λ slot. either_party (λ (fact : CrlFact). fact.number) (crl slot) (crls_seen one slot) (crls_seen other slot) (of_one.crls slot) (of_other.crls slot);
+  responses = λ slot. either_party (λ (fact : OcspFact). fact.times) (response slot) (responses_seen one slot) (responses_seen other slot) (of_one.responses slot) (of_other.responses slot);
+}
+
+pub pointwise_is_enough : PointwiseIsEnough
+pointwise_is_enough = record {
+  verifiers = λ one other same. λ i. λ algorithm key message signature. same algorithm key message signature i;
+  crls = λ one other number window entries. λ i. record { number = number i; window = window i; reasons = λ serial. entries serial i };
+}

@@ -1,0 +1,12 @@
+pub mod Link
+pub mod Status
+pub mod Verdict
+pub mod Run
+pub mod Agreement
+pub mod Comparison
+pub mod Examples
+pub mod KnownVerdicts
+pub use Rattle.statements_facts.specs.Statement
+pub use Rattle.statements_facts.specs.Fact
+pub use Rattle.path.specs.Query
+pub use Rattle.path.specs.Validity

@@ -1,0 +1,47 @@
+-- Paths as revocation sees them (RFC 5280, 6.1 and 6.3): each certificate with the one above it, and the slots that speak of it.
+use Rattle.std.specs.Prelude.{ℕ, suc, Bool, false, List, [], ◌∷◌, Option, Some, None, if◌then◌else◌}
+use Rattle.sha1.specs.Sha1.{sha1}
+use Rattle.cert.specs.Place.{body}
+use Rattle.cert.specs.BasicConstraints.{BasicConstraints}
+use Rattle.cert.specs.Certificate.{Certificate}
+use Rattle.statements_facts.specs.declared.scope.Scope.{Scope}
+use Rattle.statements_facts.specs.declared.scope.Scope.TheVariants.{User, Ca}
+use Rattle.statements_facts.specs.Statement.{CrlSlot, OcspSlot}
+use Rattle.path.specs.Query.{Query}
+use Rattle.statements.specs.Issuer.{identity_of}
+
+-- certificate j with certificate j - 1, which issued it; certificate 0 is the anchor
+pub record Link : Type 0 where
+  pub number : ℕ
+  pub issuer : Certificate
+  pub certificate : Certificate
+
+abbrev pub links_from : ℕ → Certificate → List Certificate → List Link
+links_from j issuer [] = []
+links_from j issuer (certificate ∷ path) =
+    record { number = j; issuer = issuer; certificate = certificate } ∷ links_from (suc j) certificate path
+
+abbrev pub links_of : Query → List Link
+links_of query = links_from 1 query.anchor query.certificates
+
+-- basicConstraints is there with cA (4.2.1.9)
+abbrev pub has_ca : Option BasicConstraints → Bool
+has_ca None = false
+has_ca (Some constraints) = constraints.ca
+
+-- whether a certificate is a user's or an authority's, by its basicConstraints (5.2.5; 6.3.3 (b) (2))
+abbrev pub kind_of : Certificate → Scope
+kind_of certificate = if has_ca certificate.extensions.basic_constraints then Ca else User
+
+-- The slot of a list that speaks of the certificate: its issuer's, with the scope.
+abbrev pub crl_slot : Link → Scope → CrlSlot
+crl_slot link scope = record { issuer = identity_of link.issuer; scope = scope }
+
+-- The slot of a response that speaks of it: its issuer's, with the SHA-1 of the issuer field as the certificate spells it, and the
+-- serial number (RFC 6960, 4.1.1).
+abbrev pub ocsp_slot : Link → OcspSlot
+ocsp_slot link = record {
+  issuer = identity_of link.issuer;
+  name_hash = sha1 link.certificate.issuer.octets;
+  serial = body link.certificate.serial;
+}

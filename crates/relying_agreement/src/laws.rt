@@ -1,0 +1,64 @@
+//! Laws of verdicts, of what is held, and of agreement.
+
+ghost use Rattle.relying_agreement.specs.Agreement.{AllIsEnough, HeldWasSeen, OneOfANumberIsConsistent, PartiesAgree, PointwiseIsEnough, RunsAgree, RunsAgreeWhereAllAreConsistent, SameNewestIsTheSame};
+ghost use Rattle.relying_agreement.specs.Comparison.{ComparisonExists, ComparisonIsOne, NeverDiffers};
+ghost use Rattle.relying_agreement.specs.Examples.{AllPremisesHold, NeedsConsistency, NeedsHoldsNewest, NeedsOneVerifier, NeedsSameNewest, StrangersDoNotMatter};
+ghost use Rattle.relying_agreement.specs.KnownVerdicts.{KnownVerdicts, NamesFirstDifference};
+ghost use Rattle.relying_agreement.specs.Run.{EachHoldsNewest, RunsCompose, StepsMakeARun};
+ghost use Rattle.relying_agreement.specs.Verdict.{InvalidExactlyWhere, RevokedExactlyWhere, UnknownExactlyWhere, ValidExactlyWhere, VerdictIsOne};
+
+use path::outcome_laws;
+
+/// A question has one verdict, and each verdict is given exactly where its words hold: a path is valid exactly where it meets all
+/// conditions, and of each certificate a statement that is current speaks, and none revokes it.
+pub fn verdict_laws()
+    ensures one { VerdictIsOne }
+    ensures invalid { InvalidExactlyWhere }
+    ensures valid { ValidExactlyWhere }
+    ensures revoked { RevokedExactlyWhere }
+    ensures unknown { UnknownExactlyWhere }
+{
+    outcome_laws();
+}
+
+/// Runs compose, and calls that each do their part make a run.
+pub fn run_laws()
+    ensures compose { RunsCompose }
+    ensures each { EachHoldsNewest }
+    ensures steps { StepsMakeARun }
+{}
+
+/// Whatever reaches two relying parties, where both hold the same newest statements for a path their verdicts on it are equal.
+pub fn agreement_laws()
+    ensures agree { PartiesAgree }
+    ensures runs_agree { RunsAgree }
+    ensures all_agree { RunsAgreeWhereAllAreConsistent }
+    ensures seen { HeldWasSeen }
+    ensures same { SameNewestIsTheSame }
+    ensures all { AllIsEnough }
+    ensures issued { OneOfANumberIsConsistent }
+    ensures pointwise { PointwiseIsEnough }
+{
+    outcome_laws();
+}
+
+/// A comparison has one answer, and where both hold the same newest it is never that they differ.
+pub fn comparison_laws()
+    ensures exists { ComparisonExists }
+    ensures one { ComparisonIsOne }
+    ensures never { NeverDiffers }
+{
+    outcome_laws();
+}
+
+/// The premises can all hold, each is needed, and the verdicts of a table are those that are known.
+pub fn agreement_examples()
+    ensures all_hold { AllPremisesHold }
+    ensures consistency { NeedsConsistency }
+    ensures same_newest { NeedsSameNewest }
+    ensures holds_newest { NeedsHoldsNewest }
+    ensures one_verifier { NeedsOneVerifier }
+    ensures strangers { StrangersDoNotMatter }
+    ensures known { KnownVerdicts }
+    ensures first_difference { NamesFirstDifference }
+{}

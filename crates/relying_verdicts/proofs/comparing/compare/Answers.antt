@@ -1,0 +1,16 @@
+use Rattle.std.proofs.Common.{subst}
+use Rattle.path.specs.Validity.{IsOutcome}
+use Rattle.relying_agreement.specs.Verdict.{evidence_on}
+use Rattle.relying_verdicts.specs.Difference.{ComparesEvidence}
+use Rattle.relying_verdicts.specs.View.{seen_query}
+use Rattle.relying_verdicts.proofs.Chains.{both_as}
+use Rattle.relying_verdicts.proofs.Differing.{is_comparison}
+use Rattle.relying_verdicts.proofs.comparing.compare.Goals as goal
+
+pub returns-in-Good-clause-asks : goal.returns-in-Good-clause-asks
+returns-in-Good-clause-asks g c clean other_clean =
+    let query = seen_query c.args.query.now in
+    both_as _ _ _ _ (λ held others answer. ComparesEvidence query.moment (evidence_on held query) (evidence_on others query) answer) _ c.compare_held.result
+    (c.compare_held.ensures.asks clean other_clean)
+    (λ one other answer is. is_comparison (g.V.Verifier.accepts c.args.verifier.now) query
+    (subst (IsOutcome (g.V.Verifier.accepts c.args.verifier.now) query) c.in-Good.is c.in-Ok.ensures) one other answer is)

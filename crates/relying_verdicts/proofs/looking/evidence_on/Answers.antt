@@ -1,0 +1,30 @@
+use Rattle.std.proofs.Common.{arith, ◌≡◌, ◌+◌, ◌<◌, ◌++◌, [], ◌∷◌, get_or, length, refl, sym, subst, ◌∙◌}
+use Rattle.cert.specs.Certificate.{seen_certificate}
+use Rattle.relying_verdicts.specs.View.{seen_query}
+use Rattle.relying_verdicts.proofs.Answering.{counted, pushed}
+use Rattle.relying_verdicts.proofs.Chains.{gives_up_then, both_commit_nothing, found_as, found_then}
+use Rattle.relying_verdicts.proofs.Links.{IsSoFar, ends, goes_on}
+use Rattle.relying_verdicts.proofs.looking.evidence_on.Goals as goal
+
+pub returns-in-Err-clause-asks : goal.returns-in-Err-clause-asks
+returns-in-Err-clause-asks g c clean =
+    gives_up_then _ _ _ _ c.loop-index.all.items c.in-Err.fault (c.loop-index.invariant.3 (omega (arith, clean, c.evidence_of.ensures.survives.clean))) (c.in-Err.ensures.asks clean)
+
+pub loop-index-preserved : goal.loop-index-preserved
+loop-index-preserved g c =
+    let l = c.loop-index.invariant in
+    let grown : c.push.new.self.items ≡ c.loop-index.all.items ++ c.in-Ok.it ∷ [] = pushed _ _ _ _ c.if-is_err.ensures.negation c.push.ensures.items in
+    let is : c.certificate-item.result ≡ get_or c.args.query.now.path.items c.loop-index.index c.certificate-item.result = cc in
+    let below : c.loop-index.index < length c.args.query.now.path.items = omega arith in (
+      c.evidence_of.ensures.same_reference ∙ l.0,
+      both_commit_nothing _ _ _ l.1 c.evidence_of.ensures.survives,
+      counted _ _ _ c.loop-index.index c.if-is_err.ensures.negation c.push.ensures.len l.2,
+      λ clean. found_then _ _ _ _ c.loop-index.all.items _ c.in-Ok.it _ _ (l.3 (omega (arith, clean, c.evidence_of.ensures.survives.clean))) (c.in-Ok.ensures.asks clean)
+          (λ held so_far it_is. subst (IsSoFar (seen_query c.args.query.now) (seen_certificate c.certificate-item.result) c.args.query.now.path.items (c.loop-index.index + 1) held) (sym grown)
+          (goes_on (seen_query c.args.query.now) (seen_certificate c.loop-index.issuer.now) c.args.query.now.path.items c.loop-index.index c.certificate-item.result _ held c.loop-index.all.items c.in-Ok.it below is refl it_is so_far)),
+    )
+
+pub returns-clause-asks : goal.returns-clause-asks
+returns-clause-asks g c clean =
+    found_as _ _ _ c.loop-index.all.items _ c.loop-index.all (c.loop-index.invariant.3 clean)
+    (λ held so_far. ends (seen_query c.args.query.now) (seen_certificate c.loop-index.issuer.now) c.args.query.now.path.items c.loop-index.index held c.loop-index.all.items (omega arith) so_far)

@@ -1,0 +1,16 @@
+use Rattle.std.proofs.Common.{◌≡◌, vec_len}
+use Rattle.sqlite.specs.State.{HasCleanDisk}
+use Rattle.sqlite.specs.Held.{state}
+use Rattle.cert.specs.Certificate.{seen_certificate}
+use Rattle.store_sql.specs.Statements.{CommitsNothing}
+use Rattle.store_maps.specs.LooksUp.{IsFoundIn}
+use Rattle.relying_verdicts.specs.View.{seen_query}
+use Rattle.relying_verdicts.proofs.Links.{IsSoFar}
+use Rattle.relying_verdicts.proofs.looking.evidence_on.Given as goal
+
+abbrev pub invariant-loop-index : goal.invariant-loop-index
+invariant-loop-index g l =
+    let old = state g.S.Store l.fn.tx.conn.now in
+    let now = state g.S.Store l.tx.conn.now in
+    (l.tx.conn.ghost_name ≡ l.initial.tx.conn.ghost_name) × CommitsNothing old now × (vec_len l.all ≡ l.index)
+    × (HasCleanDisk now → IsFoundIn old now (IsSoFar (seen_query l.query) (seen_certificate l.issuer) l.query.path.items l.index) l.all.items)

@@ -1,0 +1,47 @@
+-- What a call does that looks up in stores, inside their transactions, and may also want memory.
+use Rattle.std.specs.Prelude.{◌≡◌, Result, Ok, Err, IsTrue}
+use Rattle.sqlite.specs.State.{State, KeepsCommit}
+use Rattle.statements_facts.specs.Statement.{Holdings}
+use Rattle.store_sql.specs.declared.fault.StoreFault.{StoreFault}
+use Rattle.store_sql.specs.declared.fault.StoreFault.TheVariants as table
+use Rattle.store_rows.specs.Steps.{Stays}
+use Rattle.store_maps.specs.Held.{IsStoreOf}
+use Rattle.store_maps.specs.LooksUp.{IsFoundIn, FailsIn}
+use Rattle.relying_verdicts.specs.declared.fault.Fault.{Fault}
+use Rattle.relying_verdicts.specs.declared.fault.Fault.TheVariants.{Store, Memory}
+
+-- a fault of the store is never for the form of the rows of a store; and nothing was committed
+abbrev pub GivesUp : State → State → Fault → Type 0
+GivesUp old new (Store fault) = FailsIn old new fault
+GivesUp old new Memory = KeepsCommit old new
+
+-- what is found is said of what is held, and all is as it was
+abbrev pub Asks : {A : Type 0} → State → State → (Holdings → A → Type 0) → Result A Fault → Type 0
+Asks old new Is (Ok found) = IsFoundIn old new Is found
+Asks old new Is (Err fault) = GivesUp old new fault
+
+-- ---- of two stores
+
+-- what is found is said of what both hold, and all is as it was
+pub record IsFoundInBoth {A : Type 0} (old new other_old other_new : State) (Is : Holdings → Holdings → A → Type 0) (found : A) : Type 0 where
+  pub keeps : KeepsCommit old new
+  pub other_keeps : KeepsCommit other_old other_new
+  pub mode : IsTrue new.in_transaction
+  pub other_mode : IsTrue other_new.in_transaction
+  pub held :
+      (one other : Holdings) → IsStoreOf old.now one → IsStoreOf other_old.now other →
+      Stays old new × Stays other_old other_new × Is one other found
+
+-- the last commits stay, and no fault is for the form of the rows of two stores
+pub record FailsInEither (old new other_old other_new : State) (fault : StoreFault) : Type 0 where
+  pub keeps : KeepsCommit old new
+  pub other_keeps : KeepsCommit other_old other_new
+  pub formed : fault ≡ table.Schema → (one other : Holdings) → IsStoreOf old.now one → IsStoreOf other_old.now other → ⊥
+
+abbrev pub GivesUpBoth : State → State → State → State → Fault → Type 0
+GivesUpBoth old new other_old other_new (Store fault) = FailsInEither old new other_old other_new fault
+GivesUpBoth old new other_old other_new Memory = KeepsCommit old new × KeepsCommit other_old other_new
+
+abbrev pub AsksBoth : {A : Type 0} → State → State → State → State → (Holdings → Holdings → A → Type 0) → Result A Fault → Type 0
+AsksBoth old new other_old other_new Is (Ok found) = IsFoundInBoth old new other_old other_new Is found
+AsksBoth old new other_old other_new Is (Err fault) = GivesUpBoth old new other_old other_new fault

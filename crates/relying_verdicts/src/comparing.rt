@@ -1,0 +1,169 @@
+//! The comparison of two relying parties.
+
+ghost use Rattle.std.specs.Prelude.{◌≡◌, ◌↔◌, IsTrue, length, map, option_map};
+ghost use Rattle.sqlite.specs.Held.{state};
+ghost use Rattle.sqlite.specs.State.{HasCleanDisk};
+ghost use Rattle.store_rows.specs.Seen.{seen_said};
+ghost use Rattle.store_sql.specs.Statements.{CommitsNothing};
+ghost use Rattle.relying_agreement.specs.Comparison.{IsComparison};
+ghost use Rattle.relying_agreement.specs.Verdict.{evidence_on};
+ghost use Rattle.relying_verdicts.specs.Asking.{AsksBoth};
+ghost use Rattle.relying_verdicts.specs.Difference.{ComparesEvidence, IsFirstApart};
+ghost use Rattle.relying_verdicts.specs.View.{seen_answer, seen_answers, seen_evidence, seen_query};
+
+use crate::evidence::{Answers, Evidence, verdict_by};
+use crate::fault::Fault;
+use crate::judging::outcome_of;
+use crate::looking::evidence_on;
+use crate::query::Query;
+use path::{Outcome, Verifier};
+use relying_agreement::{Comparison, Verdict};
+use sqlite::{Alter, Transaction};
+use std::alloc::Global;
+use store_maps::HeldCrl;
+use store_rows::Said;
+
+/// Whether two lists have the same number, window and entry.
+fn same_list(one: &HeldCrl, other: &HeldCrl) -> bool
+    ensures { IsTrue result ↔ (seen_answer one.now ≡ seen_answer other.now) }
+{
+    one.number == other.number
+        && (one.from == other.from && (one.until == other.until && one.reason == other.reason))
+}
+
+/// Whether nothing is held twice, or two lists of which the same is said.
+fn same_lists(one: Option<HeldCrl>, other: Option<HeldCrl>) -> bool
+    ensures { IsTrue result ↔ (option_map seen_answer one ≡ option_map seen_answer other) }
+{
+    match (one, other) {
+        (None, None) => true,
+        (Some(one), Some(other)) => same_list(&one, &other),
+        _ => false,
+    }
+}
+
+/// Whether two responses have the same times, window and status.
+fn same_said(one: &Said, other: &Said) -> bool
+    ensures { IsTrue result ↔ (seen_said one.now ≡ seen_said other.now) }
+{
+    (one.this_update == other.this_update && one.produced_at == other.produced_at)
+        && ((one.from == other.from && one.until == other.until) && one.status == other.status)
+}
+
+/// Whether nothing is held twice, or two responses that say the same.
+fn same_responses(one: Option<Said>, other: Option<Said>) -> bool
+    ensures { IsTrue result ↔ (option_map seen_said one ≡ option_map seen_said other) }
+{
+    match (one, other) {
+        (None, None) => true,
+        (Some(one), Some(other)) => same_said(&one, &other),
+        _ => false,
+    }
+}
+
+/// Whether the same is held of a certificate.
+fn same_answers(one: &Answers, other: &Answers) -> bool
+    ensures { IsTrue result ↔ (seen_answers one.now ≡ seen_answers other.now) }
+{
+    same_lists(one.all, other.all)
+        && (same_lists(one.own, other.own) && same_responses(one.ocsp, other.ocsp))
+}
+
+/// Whether all that bears on a certificate is the same.
+fn same_evidence(one: &Evidence, other: &Evidence) -> bool
+    ensures { IsTrue result ↔ (seen_evidence one.now ≡ seen_evidence other.now) }
+{
+    (one.number == other.number && one.may_sign_crls == other.may_sign_crls)
+        && same_answers(&one.answers, &other.answers)
+}
+
+/// The first certificate on which something different bears.
+fn first_apart(one: &[Evidence], other: &[Evidence]) -> Option<usize>
+    requires { length one.now ≡ length other.now }
+    ensures { IsFirstApart (map seen_evidence one.now) (map seen_evidence other.now) result }
+{
+    for (index, it) in one.iter().enumerate() {
+        if !same_evidence(it, &other[index]) {
+            return Some(it.number);
+        }
+    }
+    None
+}
+
+/// The comparison of the verdicts on a path that meets all conditions.
+fn compare_evidence(one: &[Evidence], other: &[Evidence], moment: i64) -> Comparison
+    requires { length one.now ≡ length other.now }
+    ensures { ComparesEvidence moment (map seen_evidence one.now) (map seen_evidence other.now) result }
+{
+    let verdict = verdict_by(one, moment);
+    let Some(number) = first_apart(one, other) else {
+        return Comparison::Same(verdict);
+    };
+    let others = verdict_by(other, moment);
+    if verdict == others {
+        Comparison::Same(verdict)
+    } else {
+        Comparison::Differ(verdict, others, number)
+    }
+}
+
+/// The same at the moment that is asked for.
+fn compare_at(query: &Query<'_>, one: &[Evidence], other: &[Evidence]) -> Comparison
+    requires { length one.now ≡ length other.now }
+    ensures { ComparesEvidence (seen_query query.now).moment (map seen_evidence one.now) (map seen_evidence other.now) result }
+{
+    let moment = query.moment;
+    compare_evidence(one, other, moment)
+}
+
+/// The comparison of the verdicts on a path that meets all conditions, by what two stores hold.
+fn compare_held<S: Alter, D: Alter>(
+    alloc: Global,
+    one: &mut Transaction<'_, S>,
+    other: &mut Transaction<'_, D>,
+    query: &Query<'_>,
+) -> Result<Comparison, Fault>
+    requires inside { HasCleanDisk (state S.Store one.old.conn.now) → IsTrue (state S.Store one.old.conn.now).in_transaction }
+    requires other_inside { HasCleanDisk (state D.Store other.old.conn.now) → IsTrue (state D.Store other.old.conn.now).in_transaction }
+    ensures same_reference { one.new.conn.ghost_name ≡ one.old.conn.ghost_name }
+    ensures other_reference { other.new.conn.ghost_name ≡ other.old.conn.ghost_name }
+    ensures asks { HasCleanDisk (state S.Store one.new.conn.now) → HasCleanDisk (state D.Store other.new.conn.now) → AsksBoth (state S.Store one.old.conn.now) (state S.Store one.new.conn.now) (state D.Store other.old.conn.now) (state D.Store other.new.conn.now) (λ held others answer. ComparesEvidence (seen_query query.now).moment (evidence_on held (seen_query query.now)) (evidence_on others (seen_query query.now)) answer) result }
+    ensures survives { CommitsNothing (state S.Store one.old.conn.now) (state S.Store one.new.conn.now) }
+    ensures other_survives { CommitsNothing (state D.Store other.old.conn.now) (state D.Store other.new.conn.now) }
+{
+    let held = match evidence_on(alloc, one, query) {
+        Ok(held) => held,
+        Err(fault) => return Err(fault),
+    };
+    match evidence_on(alloc, other, query) {
+        Ok(others) => Ok(compare_at(query, held.as_slice(), others.as_slice())),
+        Err(fault) => Err(fault),
+    }
+}
+
+/// The comparison of the verdicts on a path by what two stores hold, under one relation of signatures. The conditions on the path come
+/// first, and the stores are asked only where it meets them.
+pub fn compare<V: Verifier, S: Alter, D: Alter>(
+    alloc: Global,
+    verifier: &V,
+    one: &mut Transaction<'_, S>,
+    other: &mut Transaction<'_, D>,
+    query: &Query<'_>,
+) -> Result<Comparison, Fault>
+    requires inside { HasCleanDisk (state S.Store one.old.conn.now) → IsTrue (state S.Store one.old.conn.now).in_transaction }
+    requires other_inside { HasCleanDisk (state D.Store other.old.conn.now) → IsTrue (state D.Store other.old.conn.now).in_transaction }
+    ensures same_reference { one.new.conn.ghost_name ≡ one.old.conn.ghost_name }
+    ensures other_reference { other.new.conn.ghost_name ≡ other.old.conn.ghost_name }
+    ensures asks { HasCleanDisk (state S.Store one.new.conn.now) → HasCleanDisk (state D.Store other.new.conn.now) → AsksBoth (state S.Store one.old.conn.now) (state S.Store one.new.conn.now) (state D.Store other.old.conn.now) (state D.Store other.new.conn.now) (λ held others. IsComparison (V.accepts verifier.now) (seen_query query.now) held others) result }
+    ensures survives { CommitsNothing (state S.Store one.old.conn.now) (state S.Store one.new.conn.now) }
+    ensures other_survives { CommitsNothing (state D.Store other.old.conn.now) (state D.Store other.new.conn.now) }
+{
+    let outcome = match outcome_of(alloc, verifier, query) {
+        Ok(outcome) => outcome,
+        Err(_) => return Err(Fault::Memory),
+    };
+    match outcome {
+        Outcome::Bad(number, reason) => Ok(Comparison::Same(Verdict::Invalid(number, reason))),
+        Outcome::Good => compare_held(alloc, one, other, query),
+    }
+}

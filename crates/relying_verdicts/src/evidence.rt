@@ -1,0 +1,179 @@
+//! What bears on a certificate of a path, and what it says (RFC 5280, 6.3.3; RFC 6960, 2.2).
+
+ghost use Rattle.std.specs.Prelude.{◌≡◌, ◌&&◌, is_some, map, option_map};
+ghost use Rattle.relying_agreement.specs.Status.{crl_that_counts, is_covered_by, is_current, is_good, kept_if, listed_reason, ocsp_that_counts, reason_in, reason_of_status, told_reason};
+ghost use Rattle.relying_agreement.specs.Verdict.{first_revoked, first_uncovered, verdict_by};
+ghost use Rattle.store_rows.specs.Seen.{seen_said};
+ghost use Rattle.relying_verdicts.specs.View.{seen_answer, seen_evidence};
+
+use relying_agreement::Verdict;
+use statements_facts::Status;
+use store_maps::HeldCrl;
+use store_rows::Said;
+
+/// What a store holds of a certificate.
+#[derive(Clone, Copy)]
+pub(crate) struct Answers {
+    /// The list of its issuer that is about all certificates, with its entry for this one.
+    pub all: Option<HeldCrl>,
+    /// The list that is about certificates of its kind.
+    pub own: Option<HeldCrl>,
+    /// What a response says of it.
+    pub ocsp: Option<Said>,
+}
+
+/// What bears on a certificate.
+#[derive(Clone, Copy)]
+pub(crate) struct Evidence {
+    /// Its number on the path, from 1 on.
+    pub number: usize,
+    /// Whether lists of its issuer count.
+    pub may_sign_crls: bool,
+    pub answers: Answers,
+}
+
+/// Whether a list counts: it is current, and its issuer may sign lists (RFC 5280, 6.3.3 (a) and (f)).
+fn is_list_counted(crl: &HeldCrl, may_sign: bool, moment: i64) -> bool
+    ensures { result ≡ (may_sign && is_current (seen_answer crl.now).window moment) }
+{
+    may_sign && (crl.from <= moment && moment <= crl.until)
+}
+
+/// Whether there is a list that counts.
+fn has_list(crl: Option<HeldCrl>, may_sign: bool, moment: i64) -> bool
+    ensures { result ≡ is_some (crl_that_counts moment may_sign (option_map seen_answer crl)) }
+{
+    match crl {
+        None => false,
+        Some(crl) => is_list_counted(&crl, may_sign, moment),
+    }
+}
+
+/// The number of the reason that a list gives, where it counts and lists the certificate.
+fn listed_reason(crl: Option<HeldCrl>, may_sign: bool, moment: i64) -> Option<u8>
+    ensures { result ≡ listed_reason moment may_sign (option_map seen_answer crl) }
+{
+    match crl {
+        None => None,
+        Some(crl) => {
+            if is_list_counted(&crl, may_sign, moment) {
+                crl.reason
+            } else {
+                None
+            }
+        }
+    }
+}
+
+/// Whether a response counts: it is current (RFC 6960, 3.2).
+fn is_response_counted(said: &Said, moment: i64) -> bool
+    ensures { result ≡ is_current (seen_said said.now).window moment }
+{
+    said.from <= moment && moment <= said.until
+}
+
+fn reason_of(status: Status) -> Option<u8>
+    ensures { result ≡ reason_of_status status }
+{
+    match status {
+        Status::Revoked(reason) => Some(reason),
+        Status::Good => None,
+        Status::Unknown => None,
+    }
+}
+
+/// The number of the reason that a response gives, where it counts and says that the certificate is revoked.
+fn told_reason(said: Option<Said>, moment: i64) -> Option<u8>
+    ensures { result ≡ told_reason moment (option_map seen_said said) }
+{
+    match said {
+        None => None,
+        Some(said) => {
+            if is_response_counted(&said, moment) {
+                reason_of(said.status)
+            } else {
+                None
+            }
+        }
+    }
+}
+
+fn is_good(status: Status) -> bool
+    ensures { result ≡ is_good status }
+{
+    match status {
+        Status::Good => true,
+        Status::Revoked(_) => false,
+        Status::Unknown => false,
+    }
+}
+
+/// Whether there is a response that counts and says good.
+fn has_good_response(said: Option<Said>, moment: i64) -> bool
+    ensures { result ≡ is_some (kept_if (λ response. is_good response.status) (ocsp_that_counts moment (option_map seen_said said))) }
+{
+    match said {
+        None => false,
+        Some(said) => is_response_counted(&said, moment) && is_good(said.status),
+    }
+}
+
+impl Evidence {
+    /// Why the certificate is revoked, where it is: the reason of the list of all certificates, else of the list of its kind, else
+    /// of the response.
+    fn reason(&self, moment: i64) -> Option<u8>
+        ensures { result ≡ reason_in moment (seen_evidence self.now) }
+    {
+        let may_sign = self.may_sign_crls;
+        let told = told_reason(self.answers.ocsp, moment);
+        let own = listed_reason(self.answers.own, may_sign, moment);
+        listed_reason(self.answers.all, may_sign, moment).or(own.or(told))
+    }
+
+    /// Whether a statement speaks of the certificate: a list that counts, or a response that says good.
+    fn is_covered(&self, moment: i64) -> bool
+        ensures { result ≡ is_covered_by moment (seen_evidence self.now) }
+    {
+        let may_sign = self.may_sign_crls;
+        has_list(self.answers.all, may_sign, moment)
+            || (has_list(self.answers.own, may_sign, moment)
+                || has_good_response(self.answers.ocsp, moment))
+    }
+}
+
+/// The first certificate that is revoked, with the number of the reason.
+fn first_revoked(evidence: &[Evidence], moment: i64) -> Option<(usize, u8)>
+    ensures { result ≡ first_revoked moment (map seen_evidence evidence.now) }
+{
+    for it in evidence {
+        if let Some(reason) = it.reason(moment) {
+            return Some((it.number, reason));
+        }
+    }
+    None
+}
+
+/// The first certificate of which no statement speaks.
+fn first_uncovered(evidence: &[Evidence], moment: i64) -> Option<usize>
+    ensures { result ≡ first_uncovered moment (map seen_evidence evidence.now) }
+{
+    for it in evidence {
+        if !it.is_covered(moment) {
+            return Some(it.number);
+        }
+    }
+    None
+}
+
+/// What is said of a path that meets all conditions.
+pub(crate) fn verdict_by(evidence: &[Evidence], moment: i64) -> Verdict
+    ensures { result ≡ verdict_by moment (map seen_evidence evidence.now) }
+{
+    if let Some((number, reason)) = first_revoked(evidence, moment) {
+        return Verdict::Revoked(number, reason);
+    }
+    match first_uncovered(evidence, moment) {
+        Some(number) => Verdict::Unknown(number),
+        None => Verdict::Valid,
+    }
+}

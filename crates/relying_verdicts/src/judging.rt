@@ -1,0 +1,66 @@
+//! The verdict on a path.
+
+ghost use Rattle.std.specs.Prelude.{◌≡◌, IfOk, IsTrue, map};
+ghost use Rattle.sqlite.specs.Held.{state};
+ghost use Rattle.sqlite.specs.State.{HasCleanDisk};
+ghost use Rattle.store_sql.specs.Statements.{CommitsNothing};
+ghost use Rattle.path.specs.Validity.{IsOutcome};
+ghost use Rattle.relying_agreement.specs.Verdict.{IsVerdict, verdict_by};
+ghost use Rattle.relying_verdicts.specs.Asking.{Asks};
+ghost use Rattle.relying_verdicts.specs.View.{seen_evidence, seen_query};
+
+use crate::evidence::{Evidence, verdict_by};
+use crate::fault::Fault;
+use crate::looking::evidence_on;
+use crate::query::Query;
+use path::{Outcome, Verifier, validate};
+use relying_agreement::Verdict;
+use sqlite::{Alter, Transaction};
+use std::alloc::{AllocError, Global};
+
+/// What validation says of the path.
+pub(crate) fn outcome_of<V: Verifier>(
+    alloc: Global,
+    verifier: &V,
+    query: &Query<'_>,
+) -> Result<Outcome, AllocError>
+    ensures { IfOk result (λ outcome. IsOutcome (V.accepts verifier.now) (seen_query query.now) outcome) }
+{
+    let moment = query.moment;
+    let path = query.path.as_slice();
+    validate(alloc, verifier, &query.anchor, path, moment, query.purpose)
+}
+
+/// What is said of a path that meets all conditions.
+fn verdict_at(query: &Query<'_>, evidence: &[Evidence]) -> Verdict
+    ensures { result ≡ verdict_by (seen_query query.now).moment (map seen_evidence evidence.now) }
+{
+    let moment = query.moment;
+    verdict_by(evidence, moment)
+}
+
+/// The verdict on a path by what the store holds. The conditions on the path come first, and the store is asked only where it meets them:
+/// for the lists of both scopes and the response that speak of each certificate, once each.
+pub fn verdict<V: Verifier, S: Alter>(
+    alloc: Global,
+    verifier: &V,
+    tx: &mut Transaction<'_, S>,
+    query: &Query<'_>,
+) -> Result<Verdict, Fault>
+    requires inside { HasCleanDisk (state S.Store tx.old.conn.now) → IsTrue (state S.Store tx.old.conn.now).in_transaction }
+    ensures same_reference { tx.new.conn.ghost_name ≡ tx.old.conn.ghost_name }
+    ensures asks { HasCleanDisk (state S.Store tx.new.conn.now) → Asks (state S.Store tx.old.conn.now) (state S.Store tx.new.conn.now) (λ held verdict. IsVerdict (V.accepts verifier.now) (seen_query query.now) held verdict) result }
+    ensures survives { CommitsNothing (state S.Store tx.old.conn.now) (state S.Store tx.new.conn.now) }
+{
+    let outcome = match outcome_of(alloc, verifier, query) {
+        Ok(outcome) => outcome,
+        Err(_) => return Err(Fault::Memory),
+    };
+    match outcome {
+        Outcome::Bad(number, reason) => Ok(Verdict::Invalid(number, reason)),
+        Outcome::Good => match evidence_on(alloc, tx, query) {
+            Ok(evidence) => Ok(verdict_at(query, evidence.as_slice())),
+            Err(fault) => Err(fault),
+        },
+    }
+}

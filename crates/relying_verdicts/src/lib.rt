@@ -1,0 +1,16 @@
+//! Relying parties: the verdict on a path of certificates by the statements that a store holds (RFC 5280, 6; RFC 6960, 3.2), and
+//! the comparison of two.
+#![tactic(auto)]
+
+mod comparing;
+mod evidence;
+mod fault;
+mod judging;
+mod looking;
+mod query;
+
+pub use comparing::compare;
+pub use fault::Fault;
+pub use judging::verdict;
+pub use query::{Query, QueryFault};
+pub use relying_agreement::{Comparison, Verdict};

@@ -1,0 +1,169 @@
+//! What a store holds of the certificates of a path.
+
+ghost use Rattle.std.specs.Prelude.{◌≡◌, IsTrue, IfOk, length, map, option_map, vec_len};
+ghost use Rattle.sqlite.specs.Held.{state};
+ghost use Rattle.sqlite.specs.State.{HasCleanDisk};
+ghost use Rattle.cert.specs.Certificate.{seen_certificate};
+ghost use Rattle.statements_facts.specs.Fact.{issuer_of as seen_issuer};
+ghost use Rattle.store_sql.specs.Statements.{CommitsNothing};
+ghost use Rattle.store_maps.specs.LooksUp.{LooksUp};
+ghost use Rattle.relying_agreement.specs.Link.{kind_of};
+ghost use Rattle.relying_agreement.specs.Status.{may_sign_crls, evidence_of};
+ghost use Rattle.relying_agreement.specs.Verdict.{evidence_on};
+ghost use Rattle.relying_verdicts.specs.Asking.{Asks};
+ghost use Rattle.relying_verdicts.specs.Held.{list_held, answers_held};
+ghost use Rattle.relying_verdicts.specs.View.{seen_answer, seen_answers, seen_evidence, seen_link, seen_query};
+
+use crate::evidence::{Answers, Evidence};
+use crate::fault::Fault;
+use crate::query::Query;
+use cert::Certificate;
+use sha1::Sha1;
+use sqlite::{Alter, Transaction};
+use statements::issuer_of;
+use statements_facts::{Issuer, Scope};
+use std::alloc::Global;
+use store_maps::{HeldCrl, crl, ocsp};
+use store_sql::StoreFault;
+
+/// The bit of keyUsage that lets a key sign lists.
+const CRL_SIGN: u8 = 6;
+
+/// A certificate of a path with the one above it.
+#[derive(Clone, Copy)]
+pub(crate) struct Link<'p, 'c> {
+    pub number: usize,
+    pub issuer: &'p Certificate<'c>,
+    pub certificate: &'p Certificate<'c>,
+}
+
+/// Whether the certificate is that of an authority or of a user (RFC 5280, 5.2.5).
+fn kind_of(certificate: &Certificate<'_>) -> Scope
+    ensures { result ≡ kind_of (seen_certificate certificate.now) }
+{
+    match certificate.extensions.basic_constraints {
+        None => Scope::User,
+        Some(constraints) => {
+            if constraints.ca {
+                Scope::Ca
+            } else {
+                Scope::User
+            }
+        }
+    }
+}
+
+/// Whether lists of the issuer count: it is the anchor, or has no keyUsage, or one with cRLSign (RFC 5280, 6.3.3 (f)).
+fn may_sign_crls(link: &Link<'_, '_>) -> bool
+    ensures { result ≡ may_sign_crls (seen_link link.now) }
+{
+    if link.number == 1 {
+        return true;
+    }
+    match link.issuer.extensions.key_usage {
+        None => true,
+        Some(usage) => usage.has(CRL_SIGN),
+    }
+}
+
+/// The list that is about all certificates of the issuer, and the one that is about those of the kind.
+fn look_up_lists<S: Alter>(
+    tx: &mut Transaction<'_, S>,
+    issuer: &Issuer<'_>,
+    kind: Scope,
+    serial: &[u8],
+) -> Result<(Option<HeldCrl>, Option<HeldCrl>), StoreFault>
+    requires inside { HasCleanDisk (state S.Store tx.old.conn.now) → IsTrue (state S.Store tx.old.conn.now).in_transaction }
+    ensures same_reference { tx.new.conn.ghost_name ≡ tx.old.conn.ghost_name }
+    ensures looks_up { HasCleanDisk (state S.Store tx.new.conn.now) → LooksUp (state S.Store tx.old.conn.now) (state S.Store tx.new.conn.now) (λ held both. (option_map seen_answer both.0 ≡ list_held held (seen_issuer issuer.now) Scope.All serial.now) × (option_map seen_answer both.1 ≡ list_held held (seen_issuer issuer.now) kind serial.now)) result }
+    ensures survives { CommitsNothing (state S.Store tx.old.conn.now) (state S.Store tx.new.conn.now) }
+{
+    let all = match crl(tx, issuer, Scope::All, serial) {
+        Ok(all) => all,
+        Err(fault) => return Err(fault),
+    };
+    match crl(tx, issuer, kind, serial) {
+        Ok(own) => Ok((all, own)),
+        Err(fault) => Err(fault),
+    }
+}
+
+/// What is held of a certificate of the issuer: the hash of its issuer field is that of the field as the certificate spells it.
+fn look_up<S: Alter>(
+    tx: &mut Transaction<'_, S>,
+    issuer: &Issuer<'_>,
+    certificate: &Certificate<'_>,
+) -> Result<Answers, StoreFault>
+    requires inside { HasCleanDisk (state S.Store tx.old.conn.now) → IsTrue (state S.Store tx.old.conn.now).in_transaction }
+    ensures same_reference { tx.new.conn.ghost_name ≡ tx.old.conn.ghost_name }
+    ensures looks_up { HasCleanDisk (state S.Store tx.new.conn.now) → LooksUp (state S.Store tx.old.conn.now) (state S.Store tx.new.conn.now) (λ held answers. seen_answers answers ≡ answers_held held (seen_issuer issuer.now) (seen_certificate certificate.now)) result }
+    ensures survives { CommitsNothing (state S.Store tx.old.conn.now) (state S.Store tx.new.conn.now) }
+{
+    let kind = kind_of(certificate);
+    let (all, own) = match look_up_lists(tx, issuer, kind, certificate.serial.body) {
+        Ok(lists) => lists,
+        Err(fault) => return Err(fault),
+    };
+    let name_hash = Sha1::digest(certificate.issuer.raw());
+    match ocsp(tx, issuer, &name_hash, certificate.serial.body) {
+        Ok(ocsp) => Ok(Answers { all, own, ocsp }),
+        Err(fault) => Err(fault),
+    }
+}
+
+/// What bears on a certificate. Memory is taken for the key of the issuer's name.
+fn evidence_of<S: Alter>(
+    alloc: Global,
+    tx: &mut Transaction<'_, S>,
+    link: &Link<'_, '_>,
+) -> Result<Evidence, Fault>
+    requires inside { HasCleanDisk (state S.Store tx.old.conn.now) → IsTrue (state S.Store tx.old.conn.now).in_transaction }
+    ensures same_reference { tx.new.conn.ghost_name ≡ tx.old.conn.ghost_name }
+    ensures asks { HasCleanDisk (state S.Store tx.new.conn.now) → Asks (state S.Store tx.old.conn.now) (state S.Store tx.new.conn.now) (λ held it. seen_evidence it ≡ evidence_of held (seen_link link.now)) result }
+    ensures survives { CommitsNothing (state S.Store tx.old.conn.now) (state S.Store tx.new.conn.now) }
+{
+    let issuer = match issuer_of(alloc, link.issuer) {
+        Ok(issuer) => issuer,
+        Err(_) => return Err(Fault::Memory),
+    };
+    match look_up(tx, &issuer, link.certificate) {
+        Ok(answers) => Ok(Evidence {
+            number: link.number,
+            may_sign_crls: may_sign_crls(link),
+            answers,
+        }),
+        Err(fault) => Err(Fault::Store(fault)),
+    }
+}
+
+/// What bears on the certificates of a path, one after the other: of each one look-up in a slot, and the key of the issuer's name once.
+pub(crate) fn evidence_on<S: Alter>(
+    alloc: Global,
+    tx: &mut Transaction<'_, S>,
+    query: &Query<'_>,
+) -> Result<Vec<Evidence>, Fault>
+    requires inside { HasCleanDisk (state S.Store tx.old.conn.now) → IsTrue (state S.Store tx.old.conn.now).in_transaction }
+    ensures same_reference { tx.new.conn.ghost_name ≡ tx.old.conn.ghost_name }
+    ensures count { IfOk result (λ all. vec_len all ≡ vec_len query.now.path) }
+    ensures asks { HasCleanDisk (state S.Store tx.new.conn.now) → Asks (state S.Store tx.old.conn.now) (state S.Store tx.new.conn.now) (λ held all. map seen_evidence all.items ≡ evidence_on held (seen_query query.now)) result }
+    ensures survives { CommitsNothing (state S.Store tx.old.conn.now) (state S.Store tx.new.conn.now) }
+{
+    let mut all = Vec::new(alloc);
+    let mut issuer = &query.anchor;
+    for (index, certificate) in query.path.iter().enumerate() {
+        let link = Link {
+            number: index + 1,
+            issuer,
+            certificate,
+        };
+        let it = match evidence_of(alloc, tx, &link) {
+            Ok(it) => it,
+            Err(fault) => return Err(fault),
+        };
+        if all.push(it).is_err() {
+            return Err(Fault::Memory);
+        }
+        issuer = certificate;
+    }
+    Ok(all)
+}

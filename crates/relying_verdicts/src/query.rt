@@ -1,0 +1,89 @@
+//! Questions about paths.
+
+ghost use Rattle.std.specs.Prelude.{◌≡◌, ◌∷◌, Ok, IfOk, IfErr, map};
+ghost use Rattle.std.specs.Option.{option_copied};
+ghost use Rattle.cert.specs.Certificate.{certificate, seen_certificate};
+ghost use Rattle.relying_verdicts.specs.Reading.{IsFirstRefused};
+ghost use Rattle.relying_verdicts.specs.View.{seen_query, texts_of};
+
+use cert::{CertFault, Certificate};
+use std::alloc::Global;
+
+/// A question about a path: an anchor, of which the name and the key alone are used, the certificates 1 to n below it, a moment
+/// and a purpose.
+#[derive(Drop)]
+pub struct Query<'a> {
+    pub(crate) anchor: Certificate<'a>,
+    pub(crate) path: Vec<Certificate<'a>>,
+    pub(crate) moment: i64,
+    pub(crate) purpose: Option<&'a [u8]>,
+}
+
+/// Which certificate of a question is refused, 0 being the anchor, and why.
+#[derive(Clone, Copy, Debug, PartialEq, Eq)]
+pub struct QueryFault {
+    pub certificate: usize,
+    pub fault: CertFault,
+}
+
+/// The certificates that the texts are, in order; else the place of the first that is refused, from 0 on, and why.
+fn read_path<'a>(
+    alloc: Global,
+    path: &[&'a [u8]],
+) -> Result<Vec<Certificate<'a>>, (usize, CertFault)>
+    ensures read { IfOk result (λ read. map certificate (texts_of path.now) ≡ map (λ c. Ok (seen_certificate c)) read.items) }
+    ensures refused { IfErr result (λ refusal. IsFirstRefused (texts_of path.now) refusal.0 refusal.1) }
+{
+    let mut certificates = Vec::new(alloc);
+    for (index, text) in path.iter().enumerate() {
+        let certificate = match Certificate::read(alloc, text) {
+            Ok(certificate) => certificate,
+            Err(fault) => return Err((index, fault)),
+        };
+        if certificates.push(certificate).is_err() {
+            return Err((index, CertFault::Memory));
+        }
+    }
+    Ok(certificates)
+}
+
+impl<'a> Query<'a> {
+    /// The question about these certificates, at this moment (in seconds from 1970-01-01T00:00:00Z) and for this purpose (the contents
+    /// of an OBJECT IDENTIFIER). The first certificate that is refused is told, the anchor first; where there is no room for the list
+    /// of certificates it is the one being read, with `CertFault::Memory`.
+    pub fn read(
+        alloc: Global,
+        anchor: &'a [u8],
+        path: &[&'a [u8]],
+        moment: i64,
+        purpose: Option<&'a [u8]>,
+    ) -> Result<Query<'a>, QueryFault>
+        ensures anchor { IfOk result (λ query. certificate anchor.now ≡ Ok (seen_query query).anchor) }
+        ensures path { IfOk result (λ query. map certificate (texts_of path.now) ≡ map Ok (seen_query query).certificates) }
+        ensures moment { IfOk result (λ query. (seen_query query).moment ≡ moment) }
+        ensures purpose { IfOk result (λ query. (seen_query query).purpose ≡ option_copied purpose.entry) }
+        ensures refused { IfErr result (λ refusal. IsFirstRefused (anchor.now ∷ texts_of path.now) refusal.certificate refusal.fault) }
+    {
+        let anchor = match Certificate::read(alloc, anchor) {
+            Ok(anchor) => anchor,
+            Err(fault) => {
+                return Err(QueryFault {
+                    certificate: 0,
+                    fault,
+                });
+            }
+        };
+        match read_path(alloc, path) {
+            Ok(path) => Ok(Query {
+                anchor,
+                path,
+                moment,
+                purpose,
+            }),
+            Err((index, fault)) => Err(QueryFault {
+                certificate: index + 1,
+                fault,
+            }),
+        }
+    }
+}

@@ -1,6 +1,0 @@
-use Rattle.std.proofs.Common.{arith}
-use Rattle.rows.proofs.Numbers.{octets_of_value}
-use Rattle.rows.proofs.crl.is_spelled.Goals as goal
-
-pub returns : goal.returns
-returns c = octets_of_value c.args.octets.now c.requires (λ k. omega (arith, c.type_inv.octets k))

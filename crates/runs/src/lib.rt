@@ -1,8 +1,0 @@
-//! Runs of the program: what it prints and what it refuses, the pages of the tutorial. All of this crate are tests, over the public
-//! calls of `printing` and `program`.
-#![tactic(auto)]
-
-#[cfg(test)]
-mod printed;
-#[cfg(test)]
-mod running;

@@ -1,0 +1,130 @@
+-- Certificate revocation lists (RFC 5280, 5.1): SEQUENCE { tbsCertList, signatureAlgorithm, signatureValue BIT STRING }
+use Rattle.std.specs.Prelude.{◌≡◌, ℕ, ℤ, ◌==◌, ◌&&◌, List, [], ◌∷◌, Option, Some, None, IsTrue, Result, Ok}
+use Rattle.std.specs.Str.{bytes_eq}
+use Rattle.asn.specs.Place.{Place, tag, body}
+use Rattle.asn.specs.Members.{Members, members}
+use Rattle.asn.specs.Walk.{◌>>=◌, is_a, optional, next_or, time, ended, check_that}
+use Rattle.asn.specs.Judgement.{outermost}
+use Rattle.names.specs.GeneralLayout.{NameContents}
+use Rattle.names.specs.GeneralView.{name_contents}
+use Rattle.cert.specs.AlgorithmIdentifier.{AlgorithmIdentifier, algorithm_identifier, seen_algorithm}
+use Rattle.statements_facts.specs.declared.scope.Scope.{Scope}
+use Rattle.statements_crl.specs.declared.list.Crl as code
+use Rattle.statements_crl.specs.declared.list.ListHead as head
+use Rattle.statements_crl.specs.declared.list.TbsCertList as signed_part
+use Rattle.statements_parts.specs.declared.fault.StatementRule.{StatementRule}
+use Rattle.statements_parts.specs.declared.fault.StatementRule.TheVariants.{Layout, NotV2, NoNextUpdate}
+use Rattle.statements_parts.specs.Fault.{as_der}
+use Rattle.statements_parts.specs.Parts.{component, next_read, signature_value}
+use Rattle.statements_crl.specs.Parts.{issuer, same_algorithm}
+use Rattle.statements_crl.specs.CrlNumber.{is_crl_number}
+use Rattle.statements_crl.specs.Entry.{Entry, entries, entries_left}
+use Rattle.statements_crl.specs.ListExtension.{Named, seen_named, list_extensions}
+
+-- version (5.1.2.1): an INTEGER, which is 1 for v2
+unfoldable pub version_2 : Members → Result Members (StatementRule × ℕ)
+version_2 left = do
+  value ← next_or Layout left
+  served ← check_that (tag value.0 == 0x02 && bytes_eq (body value.0) (1 ∷ [])) NotV2 value.0.at
+  Ok value.1
+
+-- The components of the signed part up to nextUpdate (5.1.2.1 to 5.1.2.5). Times are in seconds from 1970-01-01T00:00:00Z.
+pub record ListHead : Type 0 where
+  pub signature : AlgorithmIdentifier
+  pub issuer : NameContents
+  pub this_update : ℤ
+  pub next_update : ℤ
+
+abbrev pub seen_head : head.ListHead → ListHead
+seen_head read = record { signature = seen_algorithm read.signature; issuer = name_contents read.issuer; this_update = read.this_update; next_update = read.next_update }
+
+unfoldable pub list_head : Members → Result (ListHead × Members) (StatementRule × ℕ)
+list_head left = do
+  second ← version_2 left
+  signature ← next_read (algorithm_identifier Layout) second
+  issuer ← component 0x30 issuer signature.1
+  this_update ← time Layout Layout issuer.1
+  next_update ← time NoNextUpdate Layout this_update.1
+  Ok (record { signature = signature.0; issuer = issuer.0; this_update = this_update.0; next_update = next_update.0 }, next_update.1)
+
+-- revokedCertificates (5.1.2.6): SEQUENCE OF entries, OPTIONAL
+abbrev pub revoked_in : Option Place → Members → Result (List Entry × Members) (StatementRule × ℕ)
+revoked_in None left = Ok ([], left)
+revoked_in (Some list) left = entries (members list).values >>= λ read. Ok (read, left)
+
+unfoldable pub revoked : Members → Result (List Entry × Members) (StatementRule × ℕ)
+revoked left = revoked_in (optional 0x30 left).0 (optional 0x30 left).1
+
+-- TBSCertList ::= SEQUENCE { version, signature, issuer, thisUpdate, nextUpdate, revokedCertificates, crlExtensions [0] }
+pub record TbsCertList : Type 0 where
+  pub head : ListHead
+  pub entries : List Entry
+  pub named : Named
+
+abbrev pub seen_tbs : signed_part.TbsCertList → TbsCertList
+seen_tbs read = record { head = seen_head read.head; entries = entries_left read.revoked; named = seen_named read.named }
+
+unfoldable pub tbs_cert_list : Place → Result TbsCertList (StatementRule × ℕ)
+tbs_cert_list value = do
+  sequence ← is_a 0x30 Layout value
+  head ← list_head (members value)
+  entries ← revoked head.1
+  named ← list_extensions entries.1
+  done ← ended Layout named.1
+  Ok (record { head = head.0; entries = entries.0; named = named.0 })
+
+-- The fields of a list.
+pub record CertificateList : Type 0 where
+  pub tbs : List ℕ
+  pub algorithm : List ℕ
+  pub issuer : NameContents
+  pub this_update : ℤ
+  pub next_update : ℤ
+  pub entries : List Entry
+  pub number : List ℕ
+  pub scope : Scope
+  pub signature : List ℕ
+
+abbrev pub seen_list : code.Crl → CertificateList
+seen_list read = record {
+  tbs = read.tbs.now;
+  algorithm = read.algorithm.now;
+  issuer = name_contents read.issuer;
+  this_update = read.this_update;
+  next_update = read.next_update;
+  entries = entries_left read.revoked;
+  number = read.number.now;
+  scope = read.scope;
+  signature = read.signature.now;
+}
+
+abbrev pub list_with : Place → TbsCertList → List ℕ → CertificateList
+list_with signed tbs signature = record {
+  tbs = signed.octets;
+  algorithm = tbs.head.signature.value.octets;
+  issuer = tbs.head.issuer;
+  this_update = tbs.head.this_update;
+  next_update = tbs.head.next_update;
+  entries = tbs.entries;
+  number = tbs.named.number;
+  scope = tbs.named.scope;
+  signature = signature;
+}
+
+-- The checks in their order.
+unfoldable pub certificate_list_at : Place → Result CertificateList (StatementRule × ℕ)
+certificate_list_at value = do
+  sequence ← is_a 0x30 Layout value
+  signed ← next_or Layout (members value)
+  tbs ← tbs_cert_list signed.0
+  algorithm ← component 0x30 (same_algorithm tbs.head.signature) signed.1
+  signature ← component 0x03 signature_value algorithm.1
+  done ← ended Layout signature.1
+  Ok (list_with signed.0 tbs signature.0)
+
+unfoldable pub certificate_list : List ℕ → Result CertificateList (StatementRule × ℕ)
+certificate_list octets = as_der (outermost octets) >>= λ value. certificate_list_at value
+
+-- the number of each list is one from 0 to 2^160 - 1
+abbrev pub ListsAreNumbered : Type 0
+ListsAreNumbered = (octets : List ℕ) (list : CertificateList) → certificate_list octets ≡ Ok list → IsTrue (is_crl_number list.number)

@@ -1,0 +1,12 @@
+pub mod Parts
+pub mod CrlNumber
+pub mod IssuerScope
+pub mod EntryExtension
+pub mod Entry
+pub mod ListExtension
+pub mod CertificateList
+pub mod EntryForms
+pub mod ListForms
+pub use Rattle.statements_parts.specs.Fault
+pub use Rattle.statements_parts.specs.declared.fault.StatementRule
+pub use Rattle.statements_parts.specs.declared.fault.StatementFault

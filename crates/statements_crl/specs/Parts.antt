@@ -1,0 +1,22 @@
+-- The parts that lists alone are made of.
+use Rattle.std.specs.Prelude.{ℕ, not, Result, Ok}
+use Rattle.std.specs.Str.{bytes_eq}
+use Rattle.asn.specs.Place.{Place}
+use Rattle.asn.specs.Walk.{◌>>=◌, check_that}
+use Rattle.names.specs.GeneralLayout.{NameContents}
+use Rattle.cert.specs.AlgorithmIdentifier.{AlgorithmIdentifier}
+use Rattle.cert.specs.TbsCertificate.{is_empty_name}
+use Rattle.statements_parts.specs.Parts.{distinguished_name}
+use Rattle.statements_parts.specs.declared.fault.StatementRule.{StatementRule}
+use Rattle.statements_parts.specs.declared.fault.StatementRule.TheVariants.{Layout}
+
+-- issuer (5.1.2.3): a name that is not empty
+unfoldable pub issuer : Place → Result NameContents (StatementRule × ℕ)
+issuer value = do
+  read ← distinguished_name value
+  named ← check_that (not (is_empty_name read.rdns)) Layout value.at
+  Ok read
+
+-- signatureAlgorithm (5.1.1.2): the same octets as the algorithm identifier in the signed part
+unfoldable pub same_algorithm : AlgorithmIdentifier → Place → Result (Unit {0}) (StatementRule × ℕ)
+same_algorithm inner value = check_that (bytes_eq value.octets inner.value.octets) Layout value.at

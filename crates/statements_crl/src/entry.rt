@@ -1,0 +1,59 @@
+//! Entries of a list (RFC 5280, 5.1.2.6).
+
+ghost use Rattle.asn.specs.Reading.{seen_tlv, Gives};
+ghost use Rattle.statements_crl.specs.Entry.{entry, entry_again, seen_entry};
+ghost use Rattle.statements_parts.specs.Fault.{GivesUnlessFull};
+
+use crate::entry_extension::{reason_in_list, take_reason};
+use asn::{SEQUENCE, Tlv};
+use statements_parts::{Refusal, StatementFault, StatementRule, take_serial};
+use std::alloc::Global;
+
+/// SEQUENCE { userCertificate CertificateSerialNumber, revocationDate Time, crlEntryExtensions Extensions OPTIONAL }
+#[derive(Clone, Copy, Debug, PartialEq, Eq)]
+pub struct Entry<'a> {
+    /// The contents of userCertificate: 1 to 32 octets, of any sign.
+    pub serial: &'a [u8],
+    /// In seconds from 1970-01-01T00:00:00Z.
+    pub revocation_date: i64,
+    /// The number of the reason: 0 (unspecified) to 6, 9 or 10, and 0 where none is given.
+    pub reason: u8,
+}
+
+impl<'a> Entry<'a> {
+    /// The entry that the value is, or the first fault.
+    #[tactic(auto, unfolding(crate::specs::Entry::entry))]
+    pub(crate) fn read(alloc: Global, value: Tlv<'a>) -> Result<Entry<'a>, StatementFault>
+        ensures { GivesUnlessFull seen_entry result (entry (seen_tlv value.entry)) }
+    {
+        value.is_a(SEQUENCE, StatementRule::Layout)?;
+        let mut members = value.members();
+        let serial = take_serial(&mut members)?;
+        let revocation_date = members.time(StatementRule::Layout, StatementRule::Layout)?;
+        let reason = take_reason(alloc, &mut members)?;
+        members.ended(StatementRule::Layout)?;
+        Ok(Entry {
+            serial,
+            revocation_date,
+            reason,
+        })
+    }
+
+    /// The same of an entry that was read once, without memory.
+    #[tactic(auto, unfolding(crate::specs::Entry::entry_again))]
+    pub(crate) fn again(value: Tlv<'a>) -> Result<Entry<'a>, Refusal>
+        ensures { Gives seen_entry result (entry_again (seen_tlv value.entry)) }
+    {
+        value.is_a(SEQUENCE, StatementRule::Layout)?;
+        let mut members = value.members();
+        let serial = take_serial(&mut members)?;
+        let revocation_date = members.time(StatementRule::Layout, StatementRule::Layout)?;
+        let extensions = members.optional(SEQUENCE);
+        members.ended(StatementRule::Layout)?;
+        Ok(Entry {
+            serial,
+            revocation_date,
+            reason: reason_in_list(extensions),
+        })
+    }
+}

@@ -1,0 +1,167 @@
+//! The extensions of an entry (RFC 5280, 5.3).
+
+ghost use Rattle.std.specs.Prelude.{◌≡◌, IfSome};
+ghost use Rattle.asn.specs.Reading.{seen_tlv, left, Gives, seen, each};
+ghost use Rattle.asn.specs.Oid.{oid_contents};
+ghost use Rattle.cert.specs.Extension.{seen_extension};
+ghost use Rattle.statements_crl.specs.EntryExtension.{kind_of, nothing_taken, one_extension, optional_reason, reason_after, reason_code, reason_behind, reason_given, reason_in, reason_told, seen_taken};
+ghost use Rattle.statements_parts.specs.Fault.{GivesUnlessFull};
+
+use asn::{Cursor, ENUMERATED, SEQUENCE, Tlv};
+use cert::{Extension, OidSet, certificate_extension_number};
+use statements_parts::{Refusal, StatementFault, StatementRule, is_reason, new_extension};
+use std::alloc::Global;
+
+/// What an extension of an entry is about.
+#[derive(Clone, Copy, Debug, PartialEq, Eq)]
+pub(crate) enum EntryExtensionKind {
+    /// reasonCode (5.3.1).
+    ReasonCode,
+    /// invalidityDate (5.3.2), whose value decides nothing here.
+    InvalidityDate,
+    /// certificateIssuer (5.3.3).
+    CertificateIssuer,
+    /// Another.
+    Other,
+}
+
+impl EntryExtensionKind {
+    /// The kind of the extensions whose type has these contents.
+    #[tactic(auto, unfolding(crate::specs::EntryExtension::kind_of))]
+    fn of(oid: &[u8]) -> EntryExtensionKind
+        ensures { result ≡ kind_of oid.now }
+    {
+        match certificate_extension_number(oid) {
+            Some(21) => EntryExtensionKind::ReasonCode,
+            Some(24) => EntryExtensionKind::InvalidityDate,
+            Some(29) => EntryExtensionKind::CertificateIssuer,
+            _ => EntryExtensionKind::Other,
+        }
+    }
+}
+
+/// removeFromCRL, which a list that is no delta list does not have.
+const REMOVE_FROM_CRL: u8 = 8;
+
+/// The number of the reason that the octets are the encoding of: CRLReason ::= ENUMERATED
+#[tactic(auto, unfolding(crate::specs::EntryExtension::reason_in))]
+fn reason_of(octets: &[u8]) -> Option<u8>
+    ensures { result ≡ reason_in octets.now }
+{
+    let [identifier, size, code] = octets else {
+        return None;
+    };
+    if *identifier == ENUMERATED && *size == 1 && is_reason(*code) {
+        Some(*code)
+    } else {
+        None
+    }
+}
+
+/// The reason that a reasonCode gives; or its fault, at the extension.
+#[tactic(auto, unfolding(crate::specs::EntryExtension::reason_code, asn::specs::Walk::check_that))]
+fn reason_code(extension: Extension<'_>) -> Result<u8, Refusal>
+    ensures { Gives (λ code. code) result (reason_code (seen_extension extension.entry)) }
+{
+    match reason_of(extension.value.body) {
+        None => Err((StatementRule::BadReason, extension.whole.at)),
+        Some(REMOVE_FROM_CRL) => Err((StatementRule::RemoveInComplete, extension.whole.at)),
+        Some(code) => Ok(code),
+    }
+}
+
+/// What is known of the reason once one more extension was read; or its fault, at the extension.
+#[tactic(auto, unfolding(crate::specs::EntryExtension::reason_told, asn::specs::Walk::check_that))]
+fn tell_reason(extension: Extension<'_>, before: u8) -> Result<u8, Refusal>
+    ensures { Gives (λ code. code) result (reason_told (seen_extension extension.entry) before) }
+{
+    match EntryExtensionKind::of(extension.oid.contents()) {
+        EntryExtensionKind::ReasonCode => reason_code(extension),
+        EntryExtensionKind::CertificateIssuer => {
+            Err((StatementRule::Indirect, extension.whole.at))
+        }
+        EntryExtensionKind::Other if extension.critical => {
+            Err((StatementRule::CriticalUnknown, extension.whole.at))
+        }
+        EntryExtensionKind::InvalidityDate | EntryExtensionKind::Other => Ok(before),
+    }
+}
+
+/// The types of the extensions that were taken, and the number of the reason so far.
+#[derive(Drop)]
+struct TakenOfEntry<'a> {
+    types: OidSet<'a>,
+    reason: u8,
+}
+
+impl<'a> TakenOfEntry<'a> {
+    /// Takes one more extension, which must be of a type that none of the earlier ones has.
+    #[tactic(auto, unfolding(crate::specs::EntryExtension::one_extension))]
+    fn take(&mut self, value: Tlv<'a>) -> Result<(), StatementFault>
+        ensures { GivesUnlessFull (λ _. seen_taken self.new) result (one_extension (seen_taken self.old) (seen_tlv value.entry)) }
+    {
+        let extension = new_extension(&mut self.types, value)?;
+        self.reason = tell_reason(extension, self.reason)?;
+        Ok(())
+    }
+}
+
+/// Takes the extensions that the values are.
+fn take_all<'a>(alloc: Global, members: Cursor<'a>) -> Result<TakenOfEntry<'a>, StatementFault>
+    ensures { GivesUnlessFull seen_taken result (each one_extension nothing_taken ((left members.entry).values)) }
+{
+    let mut members = members;
+    let mut taken = TakenOfEntry {
+        types: OidSet::new(alloc),
+        reason: 0,
+    };
+    while let Some(value) = members.next() {
+        match taken.take(value) {
+            Ok(()) => {}
+            Err(fault) => return Err(fault),
+        }
+    }
+    Ok(taken)
+}
+
+/// Takes crlEntryExtensions Extensions OPTIONAL, and gives the number of the reason in them: 0 where there is none. Memory is
+/// taken for the types of the extensions where there are more than 16.
+#[tactic(auto, unfolding(crate::specs::EntryExtension::optional_reason))]
+pub(crate) fn take_reason(alloc: Global, members: &mut Cursor<'_>) -> Result<u8, StatementFault>
+    ensures { GivesUnlessFull (λ reason. (reason, left members.new)) result (optional_reason (left members.old)) }
+{
+    let Some(list) = members.optional(SEQUENCE) else {
+        return Ok(0);
+    };
+    let extensions = list.members();
+    extensions.some(StatementRule::Layout)?;
+    let taken = take_all(alloc, extensions)?;
+    Ok(taken.reason)
+}
+
+/// The reason once one more extension was read, of an entry that was read once.
+#[tactic(auto, unfolding(crate::specs::EntryExtension::reason_after))]
+fn reason_with(before: u8, value: Tlv<'_>) -> u8
+    ensures { result ≡ reason_after before (seen_tlv value.entry) }
+{
+    match Extension::read(value, StatementRule::Layout) {
+        Ok(extension) => tell_reason(extension, before).unwrap_or(before),
+        Err(_) => before,
+    }
+}
+
+/// The number of the reason in the extensions of an entry that was read once. It takes no memory.
+pub(crate) fn reason_in_list(list: Option<Tlv<'_>>) -> u8
+    requires { IfSome list (λ list. list.tag ≡ 48) }
+    ensures { result ≡ reason_given (seen seen_tlv list.entry) }
+{
+    let Some(list) = list else {
+        return 0;
+    };
+    let mut members = list.members();
+    let mut reason = 0;
+    while let Some(value) = members.next() {
+        reason = reason_with(reason, value);
+    }
+    reason
+}

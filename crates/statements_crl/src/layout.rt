@@ -1,0 +1,12 @@
+//! What the walks find, in the words of the standard.
+
+ghost use Rattle.statements_crl.specs.EntryForms.{EntryIsExact};
+ghost use Rattle.statements_crl.specs.ListForms.{CertificateListIsExact, CertificateListIsUnique};
+
+/// Octets are read as a list exactly where they are one: DER with the layout of RFC 5280, 5.1 to 5.3, with these fields, which are
+/// the only ones. A place is read as an entry exactly where it is one.
+pub fn list_laws()
+    ensures exact { CertificateListIsExact }
+    ensures unique { CertificateListIsUnique }
+    ensures entry { EntryIsExact }
+{}

@@ -1,0 +1,20 @@
+//! Certificate revocation lists (RFC 5280, 5): their layout, read from DER with the first fault and its place.
+#![tactic(auto)]
+
+mod entry;
+mod entry_extension;
+mod entry_list;
+mod issuer_scope;
+mod layout;
+mod list;
+mod list_extension;
+mod number;
+mod parts;
+
+pub use entry::Entry;
+pub use entry_list::Entries;
+pub use layout::list_laws;
+pub use list::Crl;
+pub use number::number_laws;
+pub use statements_facts::Scope;
+pub use statements_parts::{Refusal, StatementFault, StatementRule};

@@ -1,0 +1,163 @@
+//! Certificate revocation lists (RFC 5280, 5.1).
+
+ghost use Rattle.std.specs.Prelude.{◌≡◌, ◌==◌, Some};
+ghost use Rattle.asn.specs.Reading.{seen_tlv, left, Gives};
+ghost use Rattle.statements_crl.specs.CertificateList.{certificate_list, certificate_list_at, list_head, seen_head, seen_list, seen_tbs, tbs_cert_list, version_2};
+ghost use Rattle.statements_crl.specs.Entry.{entries_left, reason_listed};
+ghost use Rattle.statements_parts.specs.Fault.{GivesUnlessFull};
+
+use crate::entry_list::{Entries, take_entries};
+use crate::list_extension::Named;
+use crate::parts::{take_issuer, take_same_algorithm};
+use asn::{Cursor, INTEGER, SEQUENCE, Tlv};
+use cert::AlgorithmIdentifier;
+use names::Name;
+use statements_facts::Scope;
+use statements_parts::{
+    Refusal, StatementFault, StatementRule, outermost, take_algorithm, take_signature,
+};
+use std::alloc::Global;
+
+/// A revocation list, read. Its parts are borrowed from the octets that were read.
+#[derive(Clone, Copy)]
+pub struct Crl<'a> {
+    /// tbsCertList: the whole encoding of the signed part.
+    pub tbs: &'a [u8],
+    /// The whole algorithm identifier of the signature, which stands in the signed part and behind it.
+    pub algorithm: &'a [u8],
+    /// A name that is not empty.
+    pub issuer: Name<'a>,
+    /// In seconds from 1970-01-01T00:00:00Z.
+    pub this_update: i64,
+    /// In seconds from 1970-01-01T00:00:00Z.
+    pub next_update: i64,
+    /// The entries, in order.
+    pub revoked: Entries<'a>,
+    /// The contents of the CRL number: a number from 0 to 2^160 - 1.
+    pub number: &'a [u8],
+    /// Which certificates the list is about.
+    pub scope: Scope,
+    /// The octets of signatureValue.
+    pub signature: &'a [u8],
+}
+
+/// The components of the signed part up to nextUpdate.
+#[derive(Clone, Copy)]
+pub(crate) struct ListHead<'a> {
+    signature: AlgorithmIdentifier<'a>,
+    issuer: Name<'a>,
+    this_update: i64,
+    next_update: i64,
+}
+
+/// Takes Version ::= INTEGER { v1(0), v2(1) }, which has to be v2.
+#[tactic(auto, unfolding(crate::specs::CertificateList::version_2, asn::specs::Walk::check_that))]
+fn take_version(members: &mut Cursor<'_>) -> Result<(), Refusal>
+    ensures { Gives (λ _. left members.new) result (version_2 (left members.old)) }
+{
+    let value = members.next_or(StatementRule::Layout)?;
+    if value.tag == INTEGER && value.body == [1].as_slice() {
+        Ok(())
+    } else {
+        Err((StatementRule::NotV2, value.at))
+    }
+}
+
+impl<'a> ListHead<'a> {
+    /// version, signature, issuer, thisUpdate, nextUpdate
+    #[tactic(auto, unfolding(crate::specs::CertificateList::list_head))]
+    fn take(members: &mut Cursor<'a>) -> Result<ListHead<'a>, Refusal>
+        ensures { Gives (λ read. (seen_head read, left members.new)) result (list_head (left members.old)) }
+    {
+        take_version(members)?;
+        let signature = take_algorithm(members)?;
+        let issuer = take_issuer(members)?;
+        let this_update = members.time(StatementRule::Layout, StatementRule::Layout)?;
+        let next_update = members.time(StatementRule::NoNextUpdate, StatementRule::Layout)?;
+        Ok(ListHead {
+            signature,
+            issuer,
+            this_update,
+            next_update,
+        })
+    }
+}
+
+/// The signed part, read.
+#[derive(Clone, Copy)]
+pub(crate) struct TbsCertList<'a> {
+    head: ListHead<'a>,
+    revoked: Entries<'a>,
+    named: Named<'a>,
+}
+
+impl<'a> TbsCertList<'a> {
+    /// TBSCertList ::= SEQUENCE { version, signature, issuer, thisUpdate, nextUpdate, revokedCertificates, crlExtensions [0] }
+    #[tactic(auto, unfolding(crate::specs::CertificateList::tbs_cert_list))]
+    fn read(alloc: Global, value: Tlv<'a>) -> Result<TbsCertList<'a>, StatementFault>
+        ensures { GivesUnlessFull seen_tbs result (tbs_cert_list (seen_tlv value.entry)) }
+    {
+        value.is_a(SEQUENCE, StatementRule::Layout)?;
+        let mut members = value.members();
+        let head = ListHead::take(&mut members)?;
+        let revoked = take_entries(alloc, &mut members)?;
+        let named = Named::take(alloc, &mut members)?;
+        members.ended(StatementRule::Layout)?;
+        Ok(TbsCertList {
+            head,
+            revoked,
+            named,
+        })
+    }
+}
+
+/// CertificateList ::= SEQUENCE { tbsCertList TBSCertList, signatureAlgorithm AlgorithmIdentifier, signatureValue BIT STRING }
+#[tactic(auto, unfolding(crate::specs::CertificateList::certificate_list_at))]
+fn read_list<'a>(alloc: Global, value: Tlv<'a>) -> Result<Crl<'a>, StatementFault>
+    ensures { GivesUnlessFull seen_list result (certificate_list_at (seen_tlv value.entry)) }
+{
+    value.is_a(SEQUENCE, StatementRule::Layout)?;
+    let mut members = value.members();
+    let signed = members.next_or(StatementRule::Layout)?;
+    let tbs = TbsCertList::read(alloc, signed)?;
+    take_same_algorithm(tbs.head.signature, &mut members)?;
+    let signature = take_signature(&mut members)?;
+    members.ended(StatementRule::Layout)?;
+    Ok(Crl {
+        tbs: signed.whole,
+        algorithm: tbs.head.signature.value.whole,
+        issuer: tbs.head.issuer,
+        this_update: tbs.head.this_update,
+        next_update: tbs.head.next_update,
+        revoked: tbs.revoked,
+        number: tbs.named.number,
+        scope: tbs.named.scope,
+        signature,
+    })
+}
+
+impl<'a> Crl<'a> {
+    /// The list that the octets are, or the first fault: the rule that is broken, and the offset of the value that breaks it.
+    /// Fields are parts of the octets. Time is linear in the octets, but for entries of more than 16 extensions, where it is
+    /// n log n and takes memory, as it does for the list's own extensions where these are more than 16.
+    #[tactic(auto, unfolding(crate::specs::CertificateList::certificate_list))]
+    pub fn read(alloc: Global, octets: &'a [u8]) -> Result<Crl<'a>, StatementFault>
+        ensures { GivesUnlessFull seen_list result (certificate_list octets.now) }
+    {
+        read_list(alloc, outermost(octets)?)
+    }
+
+    /// The number of the reason of the first entry with this serial number, by its contents octets; `None` where no entry has
+    /// it. Time is linear in the list; no memory is taken.
+    pub fn lists(&self, serial: &[u8]) -> Option<u8>
+        ensures { result ≡ reason_listed (seen_list self.now).entries serial.now }
+    {
+        let mut entries = self.revoked;
+        while let Some(entry) = entries.next() {
+            if entry.serial == serial {
+                return Some(entry.reason);
+            }
+        }
+        None
+    }
+}

@@ -1,0 +1,172 @@
+//! The extensions of a list (RFC 5280, 5.2).
+
+ghost use Rattle.std.specs.Prelude.{◌≡◌};
+ghost use Rattle.asn.specs.Reading.{seen_tlv, left, members, Gives, each};
+ghost use Rattle.asn.specs.Oid.{oid_contents};
+ghost use Rattle.cert.specs.Extension.{seen_extension};
+ghost use Rattle.statements_crl.specs.ListExtension.{extensions, kind_of, list_extensions, nothing_taken, one_extension, said_by, seen_named, seen_said, seen_taken};
+ghost use Rattle.statements_parts.specs.Fault.{GivesUnlessFull};
+
+use crate::issuer_scope::scope_of;
+use crate::number::number_of;
+use asn::{Cursor, SEQUENCE, Tlv};
+use cert::{Extension, OidSet, certificate_extension_number};
+use statements_facts::Scope;
+use statements_parts::{Refusal, StatementFault, StatementRule, new_extension};
+use std::alloc::Global;
+
+/// What an extension of a list is about.
+#[derive(Clone, Copy, Debug, PartialEq, Eq)]
+pub(crate) enum ListExtensionKind {
+    /// cRLNumber (5.2.3).
+    CrlNumber,
+    /// deltaCRLIndicator (5.2.4).
+    DeltaIndicator,
+    /// issuingDistributionPoint (5.2.5).
+    IssuingDistributionPoint,
+    /// Another.
+    Other,
+}
+
+impl ListExtensionKind {
+    /// The kind of the extensions whose type has these contents.
+    #[tactic(auto, unfolding(crate::specs::ListExtension::kind_of))]
+    fn of(oid: &[u8]) -> ListExtensionKind
+        ensures { result ≡ kind_of oid.now }
+    {
+        match certificate_extension_number(oid) {
+            Some(20) => ListExtensionKind::CrlNumber,
+            Some(27) => ListExtensionKind::DeltaIndicator,
+            Some(28) => ListExtensionKind::IssuingDistributionPoint,
+            _ => ListExtensionKind::Other,
+        }
+    }
+}
+
+/// What the extensions say so far: the contents of the number, and the scope.
+#[derive(Clone, Copy)]
+struct Said<'a> {
+    number: Option<&'a [u8]>,
+    scope: Scope,
+}
+
+impl<'a> Said<'a> {
+    /// What is known once one more extension was read; or its fault, at the extension.
+    #[tactic(auto, unfolding(crate::specs::ListExtension::said_by, asn::specs::Walk::check_that))]
+    fn with(self, extension: Extension<'a>) -> Result<Said<'a>, Refusal>
+        ensures { Gives seen_said result (said_by (seen_extension extension.entry) (seen_said self.entry)) }
+    {
+        let at = extension.whole.at;
+        match ListExtensionKind::of(extension.oid.contents()) {
+            ListExtensionKind::CrlNumber => match number_of(extension.value.body) {
+                Some(number) => Ok(Said {
+                    number: Some(number),
+                    scope: self.scope,
+                }),
+                None => Err((StatementRule::NumberRange, at)),
+            },
+            ListExtensionKind::DeltaIndicator => Err((StatementRule::Delta, at)),
+            ListExtensionKind::IssuingDistributionPoint => match scope_of(extension.value.body) {
+                Some(scope) => Ok(Said {
+                    number: self.number,
+                    scope,
+                }),
+                None => Err((StatementRule::Scope, at)),
+            },
+            ListExtensionKind::Other if extension.critical => {
+                Err((StatementRule::CriticalUnknown, at))
+            }
+            ListExtensionKind::Other => Ok(self),
+        }
+    }
+}
+
+/// The types of the extensions that were taken, and what these say.
+#[derive(Drop)]
+struct TakenOfList<'a> {
+    types: OidSet<'a>,
+    said: Said<'a>,
+}
+
+impl<'a> TakenOfList<'a> {
+    /// Takes one more extension, which must be of a type that none of the earlier ones has.
+    #[tactic(auto, unfolding(crate::specs::ListExtension::one_extension))]
+    fn take(&mut self, value: Tlv<'a>) -> Result<(), StatementFault>
+        ensures { GivesUnlessFull (λ _. seen_taken self.new) result (one_extension (seen_taken self.old) (seen_tlv value.entry)) }
+    {
+        let extension = new_extension(&mut self.types, value)?;
+        self.said = self.said.with(extension)?;
+        Ok(())
+    }
+}
+
+/// Takes the extensions that the values are.
+fn take_all<'a>(alloc: Global, members: Cursor<'a>) -> Result<TakenOfList<'a>, StatementFault>
+    ensures { GivesUnlessFull seen_taken result (each one_extension nothing_taken ((left members.entry).values)) }
+{
+    let mut members = members;
+    let mut taken = TakenOfList {
+        types: OidSet::new(alloc),
+        said: Said {
+            number: None,
+            scope: Scope::All,
+        },
+    };
+    while let Some(value) = members.next() {
+        match taken.take(value) {
+            Ok(()) => {}
+            Err(fault) => return Err(fault),
+        }
+    }
+    Ok(taken)
+}
+
+/// What a list is told by its extensions.
+#[derive(Clone, Copy)]
+pub(crate) struct Named<'a> {
+    /// The contents of the CRL number.
+    pub(crate) number: &'a [u8],
+    pub(crate) scope: Scope,
+}
+
+/// The offset of the end of the value.
+#[tactic(auto, unfolding(asn::specs::Members::members_at, asn::specs::Place::body_place, asn::specs::Part::contents))]
+fn end_of(list: Tlv<'_>) -> usize
+    ensures { result ≡ (members (seen_tlv list.entry)).end }
+{
+    list.body_at() + list.body.len()
+}
+
+impl<'a> Named<'a> {
+    /// Extensions ::= SEQUENCE SIZE (1..MAX) OF Extension, one of which is the number
+    #[tactic(auto, unfolding(crate::specs::ListExtension::extensions))]
+    fn read(alloc: Global, list: Tlv<'a>) -> Result<Named<'a>, StatementFault>
+        ensures { GivesUnlessFull seen_named result (extensions (seen_tlv list.entry)) }
+    {
+        list.is_a(SEQUENCE, StatementRule::Layout)?;
+        let members = list.members();
+        members.some(StatementRule::Layout)?;
+        let taken = take_all(alloc, members)?;
+        let Some(number) = taken.said.number else {
+            return Err(StatementFault::Refused(StatementRule::NoNumber, end_of(list)));
+        };
+        Ok(Named {
+            number,
+            scope: taken.said.scope,
+        })
+    }
+
+    /// Takes crlExtensions [0] EXPLICIT Extensions, which have to be there.
+    #[tactic(auto, unfolding(crate::specs::ListExtension::list_extensions))]
+    pub(crate) fn take(alloc: Global, members: &mut Cursor<'a>) -> Result<Named<'a>, StatementFault>
+        ensures { GivesUnlessFull (λ named. (seen_named named, left members.new)) result (list_extensions (left members.old)) }
+    {
+        members.some(StatementRule::NoNumber)?;
+        let explicit = members.required(0xA0, StatementRule::Layout)?;
+        let mut inside = explicit.members();
+        let list = inside.next_or(StatementRule::Layout)?;
+        let named = Named::read(alloc, list)?;
+        inside.ended(StatementRule::Layout)?;
+        Ok(named)
+    }
+}

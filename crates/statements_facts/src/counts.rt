@@ -1,0 +1,52 @@
+//! What becomes of the facts of a delivery.
+
+ghost use Rattle.std.specs.Prelude.{◌≡◌, ◌+◌, ◌<◌, if◌then◌else◌};
+ghost use Rattle.statements_facts.specs.Coming.{number_of, same_outcome, total_of};
+
+/// What becomes of a fact that comes to a store.
+#[derive(Clone, Copy, Debug, PartialEq, Eq)]
+pub enum Outcome {
+    /// Its slot was empty, or it is newer than what was held there.
+    Stored,
+    /// It is not newer, and does not contradict what is held.
+    Kept,
+    /// It has the number, or the times, of what is held, and says something else.
+    Contradicted,
+}
+
+/// How many facts of a delivery were stored, kept out, and kept out since they contradict what is held.
+#[derive(Clone, Copy, Debug, PartialEq, Eq)]
+pub struct Counts {
+    pub stored: usize,
+    pub kept: usize,
+    pub contradicted: usize,
+}
+
+impl Counts {
+    /// Of no facts.
+    pub fn none() -> Counts
+        ensures counted { (outcome : _) → number_of outcome result ≡ 0 }
+        ensures total { total_of result ≡ 0 }
+    {
+        Counts {
+            stored: 0,
+            kept: 0,
+            contradicted: 0,
+        }
+    }
+
+    /// Of one fact more.
+    pub fn and(self, outcome: Outcome) -> Counts
+        requires { total_of self < usize.MAX }
+        ensures counted { (each : _) → number_of each result ≡ number_of each self + (if same_outcome each outcome then 1 else 0) }
+        ensures total { total_of result ≡ total_of self + 1 }
+    {
+        let mut counts = self;
+        match outcome {
+            Outcome::Stored => counts.stored += 1,
+            Outcome::Kept => counts.kept += 1,
+            Outcome::Contradicted => counts.contradicted += 1,
+        }
+        counts
+    }
+}

@@ -1,0 +1,84 @@
+-- What octets are told to be a response.
+use Rattle.std.proofs.Common.{◌≡◌, ◌+◌, ℕ, Bool, true, false, IsTrue, List, [], ◌∷◌, Result, Ok, Err, refl, sym, ap, ◌∙◌, subst, eq-eqb}
+use Rattle.std.proofs.lemmas.Bool.{and_parts, and_from, eqb-true}
+use Rattle.asn.specs.DerLaws.{AreOctets}
+use Rattle.asn.specs.Rule.{Rule}
+use Rattle.asn.specs.Identifier.{is_constructed}
+use Rattle.asn.specs.Value.{Value, Values, primitive, constructed, none, more}
+use Rattle.asn.specs.Encoding.{EncodesAt, Encodes}
+use Rattle.asn.specs.Length.{header_len}
+use Rattle.asn.specs.Place.{Place, tag}
+use Rattle.asn.specs.Members.{members, begins, begins_in}
+use Rattle.asn.specs.Layout.{AreMembersAt, Holds}
+use Rattle.asn.specs.Judgement.{outermost}
+use Rattle.asn.proofs.Laws.{holds, outermost_ok, outermost_again}
+use Rattle.statements_ocsp.specs.Kind.{begins_with_status, is_response, BeginsWithStatus, KindIsExact}
+
+abbrev whole : List ℕ → Place
+whole octets = record { octets = octets; at = 0 }
+
+-- what the first place shows of the first value
+record HoldsFirst (depth : ℕ) (first : Value) (places : List Place) : Type 0 where
+  place : Place
+  others : List Place
+  are : places ≡ place ∷ others
+  encodes : EncodesAt depth place.octets first
+
+first_of : (depth at : ℕ) (first : Value) (rest : Values) (places : List Place) → AreMembersAt depth at (more first rest) places → HoldsFirst depth first places
+first_of depth at first rest [] are = absurd are
+first_of depth at first rest (place ∷ others) are = record { place = place; others = others; are = refl; encodes = are.1 }
+
+none_of : (depth at identifier : ℕ) (places : List Place) → AreMembersAt depth at none places → begins_in identifier places ≡ true → ⊥
+none_of depth at identifier [] are e = absurd cc
+none_of depth at identifier (place ∷ others) are e = are
+
+never : (b : Bool) → b ≡ false → b ≡ true → ⊥
+never true e f = absurd cc
+never false e f = absurd cc
+
+-- a value whose place begins with a status, by its first value
+of_first : (octets : List ℕ) (identifier depth : ℕ) (first : Value) (rest : Values) (place : Place) → Encodes octets (constructed identifier (more first rest)) → Holds depth first place → tag place ≡ 0x0A → BeginsWithStatus octets
+of_first octets identifier depth (primitive kind code) rest place encodes shows is =
+    let kind_is : kind ≡ 0x0A = sym shows.0 ∙ is in
+    record { identifier = identifier; code = code; others = rest; encoded = subst (λ k. Encodes octets (constructed identifier (more (primitive k code) rest))) kind_is encodes }
+of_first octets identifier depth (constructed kind values) rest place encodes shows is =
+    let kind_is : kind ≡ 0x0A = sym shows.0 ∙ is in
+    absurd (never (is_constructed kind) (ap is_constructed kind_is) shows.1)
+
+of_value : (octets : List ℕ) (value : Value) → Encodes octets value → Holds 1 value (whole octets) → is_constructed (tag (whole octets)) ≡ true → begins_in 0x0A (members (whole octets)).values ≡ true → BeginsWithStatus octets
+of_value octets (primitive identifier contents) encodes shows constructed_is e =
+    absurd (never (is_constructed (tag (whole octets))) (ap is_constructed shows.0 ∙ shows.1) constructed_is)
+of_value octets (constructed identifier none) encodes shows constructed_is e =
+    absurd (none_of 2 (0 + header_len octets) 0x0A (members (whole octets)).values shows.2 e)
+of_value octets (constructed identifier (more first rest)) encodes shows constructed_is e =
+    let found = first_of 2 (0 + header_len octets) first rest (members (whole octets)).values shows.2 in
+    let is : tag found.place ≡ 0x0A = eqb-true (tag found.place) 0x0A (ap (begins_in 0x0A) (sym found.are) ∙ e) in
+    of_first octets identifier 2 first rest found.place encodes (holds 2 first found.place found.encodes) is
+
+begins_of : (octets : List ℕ) (r : Result Place (Rule × ℕ)) → AreOctets octets → outermost octets ≡ r → IsTrue (begins_with_status r) → BeginsWithStatus octets
+unfolding begins
+begins_of octets (Err fault) fits e t = absurd cc
+begins_of octets (Ok value) fits e t =
+    let found = outermost_ok octets value fits e in
+    let both = and_parts (is_constructed (tag value)) (begins 0x0A (members value)) t in
+    let encodes : Encodes octets found.1.0 = found.1.1 in
+    of_value octets found.1.0 encodes (holds 1 found.1.0 (whole octets) encodes) (ap (λ (v : Place). is_constructed (tag v)) (sym found.0) ∙ both.0) (ap (λ (v : Place). begins_in 0x0A (members v).values) (sym found.0) ∙ both.1)
+
+begins_again : (octets : List ℕ) → BeginsWithStatus octets → begins 0x0A (members (whole octets)) ≡ true
+unfolding begins
+begins_again octets is =
+    let shows = holds 1 (constructed is.identifier (more (primitive 0x0A is.code) is.others)) (whole octets) is.encoded in
+    let found = first_of 2 (0 + header_len octets) (primitive 0x0A is.code) is.others (members (whole octets)).values shows.2 in
+    let first = holds 2 (primitive 0x0A is.code) found.place found.encodes in
+    ap (begins_in 0x0A) found.are ∙ eq-eqb (tag found.place) 0x0A first.0
+
+pub kind_is_exact : KindIsExact
+unfolding is_response
+kind_is_exact octets fits = (
+  begins_of octets (outermost octets) fits refl,
+  λ is.
+      let value = constructed is.identifier (more (primitive 0x0A is.code) is.others) in
+      let shows = holds 1 value (whole octets) is.encoded in
+      let both = and_from (is_constructed (tag (whole octets))) (begins 0x0A (members (whole octets))) (ap is_constructed shows.0 ∙ shows.1) (begins_again octets is) in
+      ap begins_with_status (outermost_again octets (value, is.encoded)) ∙ both,
+)

@@ -1,0 +1,29 @@
+-- The certificates among the values that a response brings with it (RFC 6960, 4.2.1).
+use Rattle.std.specs.Prelude.{◌≡◌, ◌<◌, ℕ, List, [], ◌∷◌, length, Option, Some, None, Result, Ok, Err}
+use Rattle.std.specs.List.{filter_map}
+use Rattle.cert.specs.declared.fault.CertRule.{CertRule}
+use Rattle.cert.specs.declared.certificate.Certificate as read
+use Rattle.cert.specs.Certificate.{Certificate, certificate, seen_certificate}
+use Rattle.statements_ocsp.specs.declared.certs.Certs as walk
+use Rattle.statements_ocsp.specs.OcspResponse.{OcspResponse, certs_left}
+
+-- the certificate that a value is, where it is one
+abbrev pub read_of : Result Certificate (CertRule × ℕ) → Option Certificate
+read_of (Ok c) = Some c
+read_of (Err fault) = None
+
+abbrev pub certificate_in : List ℕ → Option Certificate
+certificate_in octets = read_of (certificate octets)
+
+-- the certificates among the values, in order; other values are passed over
+abbrev pub certificates_in : OcspResponse → List Certificate
+certificates_in response = filter_map certificate_in response.certs
+
+abbrev pub certificates_left : walk.Certs → List Certificate
+certificates_left walk = filter_map certificate_in (certs_left walk)
+
+-- none is left, or the first is handed out, with which one value at least is gone
+abbrev pub HandsOut : walk.Certs → walk.Certs → Option read.Certificate → Type 0
+HandsOut old new None = certificates_left old ≡ []
+HandsOut old new (Some c) =
+    (certificates_left old ≡ seen_certificate c ∷ certificates_left new) × (length (certs_left new) < length (certs_left old))

@@ -1,0 +1,14 @@
+pub mod CertificateId
+pub mod GeneralizedTime
+pub mod CertificateStatus
+pub mod ResponseExtensions
+pub mod Single
+pub mod Responder
+pub mod OcspResponse
+pub mod Certificates
+pub mod Kind
+pub mod SingleForms
+pub mod ResponseForms
+pub use Rattle.statements_parts.specs.Fault
+pub use Rattle.statements_parts.specs.declared.fault.StatementRule
+pub use Rattle.statements_parts.specs.declared.fault.StatementFault

@@ -1,0 +1,68 @@
+//! The extensions of responses and of single responses (RFC 6960, 4.4), of which none is known.
+
+ghost use Rattle.std.specs.Prelude.{◌≡◌};
+ghost use Rattle.std.specs.FinSet.{empty};
+ghost use Rattle.asn.specs.Reading.{seen_tlv, left, each};
+ghost use Rattle.cert.specs.OidSet.{oids_in};
+ghost use Rattle.statements_parts.specs.Fault.{GivesUnlessFull};
+ghost use Rattle.statements_ocsp.specs.ResponseExtensions.{extensions, one_extension, optional_extensions};
+
+use asn::{Cursor, SEQUENCE, Tlv};
+use cert::OidSet;
+use statements_parts::{StatementFault, StatementRule, new_extension};
+use std::alloc::Global;
+
+/// Checks one more extension, which must be of a type that none of the earlier ones has, and not critical.
+#[tactic(auto, unfolding(crate::specs::ResponseExtensions::one_extension, asn::specs::Walk::check_that))]
+fn check_extension<'a>(types: &mut OidSet<'a>, value: Tlv<'a>) -> Result<(), StatementFault>
+    ensures { GivesUnlessFull (λ _. oids_in types.new) result (one_extension (oids_in types.old) (seen_tlv value.entry)) }
+{
+    let extension = new_extension(types, value)?;
+    if extension.critical {
+        return Err(StatementFault::Refused(StatementRule::CriticalUnknown, value.at));
+    }
+    Ok(())
+}
+
+/// Checks the extensions that the values are, and gives their types.
+fn check_all<'a>(alloc: Global, members: Cursor<'a>) -> Result<OidSet<'a>, StatementFault>
+    ensures { GivesUnlessFull oids_in result (each one_extension empty ((left members.entry).values)) }
+{
+    let mut members = members;
+    let mut types = OidSet::new(alloc);
+    while let Some(value) = members.next() {
+        match check_extension(&mut types, value) {
+            Ok(()) => {}
+            Err(fault) => return Err(fault),
+        }
+    }
+    Ok(types)
+}
+
+/// Extensions ::= SEQUENCE SIZE (1..MAX) OF Extension
+#[tactic(auto, unfolding(crate::specs::ResponseExtensions::extensions))]
+fn check_list(alloc: Global, list: Tlv<'_>) -> Result<(), StatementFault>
+    ensures { GivesUnlessFull (λ _. tt) result (extensions (seen_tlv list.entry)) }
+{
+    list.is_a(SEQUENCE, StatementRule::Layout)?;
+    let members = list.members();
+    members.some(StatementRule::Layout)?;
+    check_all(alloc, members)?;
+    Ok(())
+}
+
+/// Passes over extensions [1] EXPLICIT Extensions OPTIONAL, once they are checked. Memory is taken for their types where there are
+/// more than 16.
+#[tactic(auto, unfolding(crate::specs::ResponseExtensions::optional_extensions))]
+pub(crate) fn skip_extensions(alloc: Global, members: &mut Cursor<'_>) -> Result<(), StatementFault>
+    ensures { GivesUnlessFull (λ _. left members.new) result (optional_extensions (left members.old)) }
+{
+    let Some(explicit) = members.optional(0xA1) else {
+        return Ok(());
+    };
+    let mut inside = explicit.members();
+    let list = inside.next_or(StatementRule::Layout)?;
+    check_list(alloc, list)?;
+    inside.ended(StatementRule::Layout)?;
+    Ok(())
+}

@@ -1,0 +1,92 @@
+//! The single responses of a response, one after the other (RFC 6960, 4.2.1).
+
+ghost use Rattle.std.specs.Prelude.{◌≡◌, ◌<◌, ◌∷◌, [], MatchOption, OnOk, nat_lt};
+ghost use Rattle.asn.specs.Reading.{seen_tlv, left, Gives};
+ghost use Rattle.asn.specs.Walk.{check_that};
+ghost use Rattle.statements_parts.specs.Fault.{GivesUnlessFull};
+ghost use Rattle.statements_parts.specs.Parts.{component};
+ghost use Rattle.statements_parts.specs.declared.fault.StatementRule.TheVariants.{TooManySingles};
+ghost use Rattle.statements_ocsp.specs.OcspResponse.{all_singles};
+ghost use Rattle.statements_ocsp.specs.Single.{checked, seen_single, single_behind, singles, singles_left};
+
+use crate::single::SingleResponse;
+use asn::{Cursor, SEQUENCE, Tlv};
+use statements_parts::{Refusal, StatementFault, StatementRule};
+use std::alloc::Global;
+
+/// How many single responses a response may have.
+pub const MOST_SINGLES: usize = 256;
+
+/// The single responses of a response that was read, in order, each read anew from its octets. No memory is taken.
+#[derive(Clone, Copy)]
+pub struct Singles<'a> {
+    members: Cursor<'a>,
+}
+
+impl<'a> Singles<'a> {
+    /// The next single response; `None` where none is left.
+    pub fn next(&mut self) -> Option<SingleResponse<'a>>
+        ensures { MatchOption result (singles_left self.old ≡ [])
+            (λ single. singles_left self.old ≡ seen_single single ∷ singles_left self.new) }
+    {
+        let value = self.members.next()?;
+        SingleResponse::again(value).ok()
+    }
+}
+
+/// The fault `TooManySingles`, at this offset, where there are as many as may be.
+#[tactic(auto, unfolding(asn::specs::Walk::check_that))]
+fn check_room(before: usize, at: usize) -> Result<(), Refusal>
+    ensures walk { Gives (λ _. tt) result (check_that (nat_lt before 256) TooManySingles at) }
+    ensures room { OnOk result (before < 256) }
+{
+    if before < MOST_SINGLES {
+        Ok(())
+    } else {
+        Err((StatementRule::TooManySingles, at))
+    }
+}
+
+/// The single response with so many before it.
+#[tactic(auto, unfolding(crate::specs::Single::single_behind))]
+fn read_behind<'a>(
+    alloc: Global,
+    before: usize,
+    value: Tlv<'a>,
+) -> Result<SingleResponse<'a>, StatementFault>
+    ensures walk { GivesUnlessFull seen_single result (single_behind before (seen_tlv value.entry)) }
+    ensures room { OnOk result (before < 256) }
+{
+    value.is_a(SEQUENCE, StatementRule::Layout)?;
+    check_room(before, value.at)?;
+    SingleResponse::read(alloc, value)
+}
+
+/// The first fault of the single responses that the values are.
+fn check_singles(alloc: Global, members: Cursor<'_>) -> Result<(), StatementFault>
+    ensures { GivesUnlessFull (λ _. tt) result (checked (singles 0 (left members.entry).values)) }
+{
+    let mut members = members;
+    let mut before = 0;
+    while let Some(value) = members.next() {
+        match read_behind(alloc, before, value) {
+            Ok(_) => before += 1,
+            Err(fault) => return Err(fault),
+        }
+    }
+    Ok(())
+}
+
+/// Takes responses SEQUENCE OF SingleResponse.
+#[tactic(auto, unfolding(statements_parts::specs::Parts::component), using(crate::proofs::SingleAgain::checked_singles))]
+pub(crate) fn take_singles<'a>(
+    alloc: Global,
+    members: &mut Cursor<'a>,
+) -> Result<Singles<'a>, StatementFault>
+    ensures { GivesUnlessFull (λ read. (singles_left read, left members.new)) result (component 0x30 all_singles (left members.old)) }
+{
+    let list = members.required(SEQUENCE, StatementRule::Layout)?;
+    let singles = list.members();
+    check_singles(alloc, singles)?;
+    Ok(Singles { members: singles })
+}

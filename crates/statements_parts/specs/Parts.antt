@@ -1,0 +1,53 @@
+-- The parts that statements of both kinds are made of.
+use Rattle.std.specs.Prelude.{ℕ, ◌==◌, ◌&&◌, nat_lt, not, Bool, List, Result, Ok}
+use Rattle.std.specs.FinSet.{contains, insert}
+use Rattle.asn.specs.Place.{Place, body}
+use Rattle.asn.specs.Members.{Members}
+use Rattle.asn.specs.Walk.{◌>>=◌, required, next_or, check_that}
+use Rattle.names.specs.NameLayout.{name}
+use Rattle.names.specs.GeneralLayout.{NameContents, contents_at}
+use Rattle.cert.specs.BitString.{bits_in, has_no_unused_bits}
+use Rattle.cert.specs.Extension.{Extension, extension}
+use Rattle.cert.specs.OidSet.{Oids}
+use Rattle.cert.specs.TbsCertificate.{is_serial}
+use Rattle.statements_parts.specs.Fault.{as_name}
+use Rattle.statements_parts.specs.declared.fault.StatementRule.{StatementRule}
+use Rattle.statements_parts.specs.declared.fault.StatementRule.TheVariants.{Layout}
+
+-- the next value, by a reader that looks at its identifier
+unfoldable pub next_read : {A : Type 0} → (Place → Result A (StatementRule × ℕ)) → Members → Result (A × Members) (StatementRule × ℕ)
+next_read read left = do
+  value ← next_or Layout left
+  found ← read value.0
+  Ok (found, value.1)
+
+-- the next value, which has this identifier, by a reader that looks at what is inside alone, or that names another fault
+unfoldable pub component : {A : Type 0} → ℕ → (Place → Result A (StatementRule × ℕ)) → Members → Result (A × Members) (StatementRule × ℕ)
+component identifier read left = do
+  value ← required identifier Layout left
+  found ← read value.0
+  Ok (found, value.1)
+
+-- CertificateSerialNumber (RFC 5280, 4.1.2.2): 1 to 32 octets, of any sign
+unfoldable pub serial_number : Place → Result (List ℕ) (StatementRule × ℕ)
+serial_number value = check_that (is_serial (body value)) Layout value.at >>= λ short. Ok (body value)
+
+-- a name (RFC 5280, 4.1.2.4), with its fault as one of the statement
+unfoldable pub distinguished_name : Place → Result NameContents (StatementRule × ℕ)
+distinguished_name value = as_name (name value) >>= λ done. Ok (contents_at value)
+
+-- the signature (RFC 5280, 5.1.1.3; RFC 6960, 4.2.1): a BIT STRING of octets, with no bit unused
+unfoldable pub signature_value : Place → Result (List ℕ) (StatementRule × ℕ)
+signature_value value = check_that (has_no_unused_bits (body value)) Layout value.at >>= λ whole. Ok (bits_in (body value))
+
+-- an extension of a type that none of the earlier ones of its list has (RFC 5280, 4.2), and their types with its own
+unfoldable pub new_extension : Oids → Place → Result (Extension × Oids) (StatementRule × ℕ)
+new_extension types value = do
+  read ← extension Layout value
+  new ← check_that (not (contains types read.oid)) Layout value.at
+  Ok (read, insert types read.oid)
+
+-- CRLReason (RFC 5280, 5.3.1) ::= ENUMERATED { unspecified(0), keyCompromise(1), cACompromise(2), affiliationChanged(3),
+-- superseded(4), cessationOfOperation(5), certificateHold(6), removeFromCRL(8), privilegeWithdrawn(9), aACompromise(10) }
+abbrev pub is_reason : ℕ → Bool
+is_reason code = nat_lt code 11 && not (code == 7)

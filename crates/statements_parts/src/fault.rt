@@ -1,0 +1,213 @@
+//! Why octets are no statement about revocation.
+
+ghost use Rattle.std.specs.Prelude.{◌≡◌};
+ghost use Rattle.statements_parts.specs.Fault.{rule_number, rule_name, statement_fault_number, statement_fault_name, statement_fault_place};
+ghost use Rattle.statements_parts.specs.declared.fault.StatementFault.TheVariants.{Memory, Refused};
+ghost use Rattle.statements_parts.specs.declared.fault.StatementRule.TheVariants.{Name};
+
+use asn::Rule;
+use names::NameRule;
+use std::alloc::{AllocError, AllocFailed};
+use thiserror::Error;
+
+/// What a statement breaks.
+#[derive(Clone, Copy, Debug, PartialEq, Eq, Error)]
+pub enum StatementRule {
+    /// The input is not DER.
+    #[error("not DER: {0}")]
+    Der(Rule),
+    /// The issuer's name is none.
+    #[error("{0}")]
+    Name(NameRule),
+    /// A value with an identifier that the layout does not have there, a value that is missing, or one left over.
+    #[error("value that the layout does not have there")]
+    Layout,
+    /// A list of another version than v2 (RFC 5280, 5.1.2.1).
+    #[error("version other than 2")]
+    NotV2,
+    /// A list without a CRL number (5.2.3).
+    #[error("no CRL number")]
+    NoNumber,
+    /// A CRL number that is none from 0 to 2^160 - 1 (5.2.3).
+    #[error("CRL number out of range")]
+    NumberRange,
+    /// A list that does not say until when it holds (5.1.2.5).
+    #[error("no next update")]
+    NoNextUpdate,
+    /// A list of changes to another (5.2.4), which is not served.
+    #[error("delta list")]
+    Delta,
+    /// A list for a part of its issuer's certificates that is not served (5.2.5).
+    #[error("scope that is not served")]
+    Scope,
+    /// An entry for a certificate of another issuer (5.3.3), which is not served.
+    #[error("entry of another issuer")]
+    Indirect,
+    /// A critical extension that is not known (5.2, 5.3; of a response, RFC 6960, 4.4).
+    #[error("critical extension that is not known")]
+    CriticalUnknown,
+    /// A reason that is none (5.3.1; of a response also removeFromCRL).
+    #[error("reason that is none")]
+    BadReason,
+    /// removeFromCRL in a list that is no delta list (5.3.1).
+    #[error("removal in a complete list")]
+    RemoveInComplete,
+    /// A response that says, by this code, that the request was not answered (RFC 6960, 4.2.1).
+    #[error("response that is not successful, of status {0}")]
+    NotSuccessful(u8),
+    /// A response of another type than id-pkix-ocsp-basic (RFC 6960, 4.2.1).
+    #[error("response of another type")]
+    ResponseType,
+    /// A response with more single responses than are served.
+    #[error("too many single responses")]
+    TooManySingles,
+}
+
+/// What is broken, with the offset of the value that breaks it in the whole input.
+pub type Refusal = (StatementRule, usize);
+
+/// A fault in a name, as one of a statement.
+pub(crate) fn name_refusal(refusal: (NameRule, usize)) -> Refusal
+    ensures { result ≡ (Name refusal.0, refusal.1) }
+{
+    let (fault, at) = refusal;
+    (StatementRule::Name(fault), at)
+}
+
+/// Why octets were not taken as a statement: the first rule that is broken, with the offset of the value that breaks it; whose
+/// statement it is not; or want of memory.
+#[derive(Clone, Copy, Debug, PartialEq, Eq, Error)]
+pub enum StatementFault {
+    #[error("{0} at offset {1}")]
+    Refused(StatementRule, usize),
+    /// A list of an issuer with another name.
+    #[error("list of another issuer")]
+    OtherIssuer,
+    /// A list whose signature is not accepted under the issuer's key.
+    #[error("signature that is not accepted")]
+    BadSignature,
+    /// A response that nobody signed who may answer for the issuer (RFC 6960, 4.2.2.2).
+    #[error("response without a signer")]
+    NoSigner,
+    /// A response that says nothing of a certificate of the issuer.
+    #[error("response that says nothing for the issuer")]
+    NothingForIssuer,
+    #[error("no memory")]
+    Memory,
+}
+
+impl StatementRule {
+    /// The number by which the product names the rule, from 41 to 52, 55, 56 or 59, or from 11 to 14 for what is wrong in a
+    /// name.
+    pub fn number(self) -> u8
+        ensures { result ≡ rule_number self }
+    {
+        match self {
+            StatementRule::Der(_) => 41,
+            StatementRule::Name(fault) => fault.number(),
+            StatementRule::Layout => 42,
+            StatementRule::NotV2 => 43,
+            StatementRule::NoNumber => 44,
+            StatementRule::NumberRange => 45,
+            StatementRule::NoNextUpdate => 46,
+            StatementRule::Delta => 47,
+            StatementRule::Scope => 48,
+            StatementRule::Indirect => 49,
+            StatementRule::CriticalUnknown => 50,
+            StatementRule::BadReason => 51,
+            StatementRule::RemoveInComplete => 52,
+            StatementRule::NotSuccessful(_) => 55,
+            StatementRule::ResponseType => 56,
+            StatementRule::TooManySingles => 59,
+        }
+    }
+
+    /// The word that stands beside the number.
+    pub fn name(self) -> &'static str
+        ensures { result.now ≡ rule_name self }
+    {
+        match self {
+            StatementRule::Der(_) => "Der",
+            StatementRule::Name(fault) => fault.name(),
+            StatementRule::Layout => "Layout",
+            StatementRule::NotV2 => "NotV2",
+            StatementRule::NoNumber => "NoNumber",
+            StatementRule::NumberRange => "NumberRange",
+            StatementRule::NoNextUpdate => "NoNextUpdate",
+            StatementRule::Delta => "Delta",
+            StatementRule::Scope => "Scope",
+            StatementRule::Indirect => "Indirect",
+            StatementRule::CriticalUnknown => "CriticalUnknown",
+            StatementRule::BadReason => "BadReason",
+            StatementRule::RemoveInComplete => "RemoveInComplete",
+            StatementRule::NotSuccessful(_) => "NotSuccessful",
+            StatementRule::ResponseType => "ResponseType",
+            StatementRule::TooManySingles => "TooManySingles",
+        }
+    }
+}
+
+impl StatementFault {
+    /// The number by which the product names the fault: that of the rule, 53 or 54 for a list that is not the issuer's, 57 or 58
+    /// for a response that is not, or 60 for want of memory.
+    pub fn number(self) -> u8
+        ensures { result ≡ statement_fault_number self }
+    {
+        match self {
+            StatementFault::Refused(rule, _) => rule.number(),
+            StatementFault::OtherIssuer => 53,
+            StatementFault::BadSignature => 54,
+            StatementFault::NoSigner => 57,
+            StatementFault::NothingForIssuer => 58,
+            StatementFault::Memory => 60,
+        }
+    }
+
+    /// The word that stands beside the number.
+    pub fn name(self) -> &'static str
+        ensures { result.now ≡ statement_fault_name self }
+    {
+        match self {
+            StatementFault::Refused(rule, _) => rule.name(),
+            StatementFault::OtherIssuer => "OtherIssuer",
+            StatementFault::BadSignature => "BadSignature",
+            StatementFault::NoSigner => "NoSigner",
+            StatementFault::NothingForIssuer => "NothingForIssuer",
+            StatementFault::Memory => "Memory",
+        }
+    }
+
+    /// The offset of the value that is refused; `None` where the fault is of no place in the octets.
+    pub fn place(self) -> Option<usize>
+        ensures { result ≡ statement_fault_place self }
+    {
+        match self {
+            StatementFault::Refused(_, at) => Some(at),
+            _ => None,
+        }
+    }
+}
+
+impl From<Refusal> for StatementFault {
+    ghost from_gives = { λ refusal fault. fault ≡ Refused refusal.0 refusal.1 };
+
+    fn from(refusal: Refusal) -> StatementFault {
+        StatementFault::Refused(refusal.0, refusal.1)
+    }
+}
+
+impl From<AllocError> for StatementFault {
+    ghost from_gives = { λ _ fault. fault ≡ Memory };
+
+    fn from(_: AllocError) -> StatementFault {
+        StatementFault::Memory
+    }
+}
+
+impl<T: Drop> From<AllocFailed<T>> for StatementFault {
+    ghost from_gives = { λ _ fault. fault ≡ Memory };
+
+    fn from(_: AllocFailed<T>) -> StatementFault {
+        StatementFault::Memory
+    }
+}

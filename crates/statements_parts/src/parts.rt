@@ -1,0 +1,109 @@
+//! The parts that statements of both kinds are made of.
+
+ghost use Rattle.std.specs.Prelude.{◌≡◌};
+ghost use Rattle.asn.specs.Reading.{seen_tlv, left, Gives};
+ghost use Rattle.asn.specs.Judgement.{outermost as asn_outermost};
+ghost use Rattle.names.specs.GeneralView.{name_contents};
+ghost use Rattle.cert.specs.AlgorithmIdentifier.{algorithm_identifier, seen_algorithm};
+ghost use Rattle.cert.specs.Extension.{seen_extension};
+ghost use Rattle.cert.specs.OidSet.{oids_in};
+ghost use Rattle.statements_parts.specs.declared.fault.StatementRule.TheVariants.{Layout};
+ghost use Rattle.statements_parts.specs.Fault.{GivesUnlessFull, as_der};
+ghost use Rattle.statements_parts.specs.Parts.{component, distinguished_name, is_reason, new_extension, next_read, serial_number, signature_value};
+
+use crate::fault::{Refusal, StatementFault, StatementRule, name_refusal};
+use asn::{BIT_STRING, Cursor, INTEGER, Tlv};
+use cert::{AlgorithmIdentifier, Extension, OidSet, bits_of, is_of_whole_octets, is_serial_number};
+use names::Name;
+
+/// The value that the octets are; else the fault `Der`. Time is linear in the octets; no memory is taken.
+pub fn outermost(octets: &[u8]) -> Result<Tlv<'_>, Refusal>
+    ensures { Gives seen_tlv result (as_der (asn_outermost octets.now)) }
+{
+    match Tlv::outermost(octets) {
+        Ok(value) => Ok(value),
+        Err((rule, at)) => Err((StatementRule::Der(rule), at)),
+    }
+}
+
+/// CertificateSerialNumber ::= INTEGER, here of 1 to 32 octets and of any sign
+#[tactic(auto, unfolding(crate::specs::Parts::serial_number, asn::specs::Walk::check_that))]
+fn serial_at(value: Tlv<'_>) -> Result<&[u8], Refusal>
+    ensures { Gives (λ contents. contents.now) result (serial_number (seen_tlv value.entry)) }
+{
+    if is_serial_number(value.body) {
+        Ok(value.body)
+    } else {
+        Err((StatementRule::Layout, value.at))
+    }
+}
+
+/// Takes a serial number, and gives the contents of its INTEGER.
+#[tactic(auto, unfolding(crate::specs::Parts::component))]
+pub fn take_serial<'a>(members: &mut Cursor<'a>) -> Result<&'a [u8], Refusal>
+    ensures { Gives (λ contents. (contents.now, left members.new)) result (component 0x02 serial_number (left members.old)) }
+{
+    serial_at(members.required(INTEGER, StatementRule::Layout)?)
+}
+
+/// The name that stands there, with its fault as one of a statement.
+#[tactic(auto, unfolding(crate::specs::Parts::distinguished_name))]
+pub fn name_at(value: Tlv<'_>) -> Result<Name<'_>, Refusal>
+    ensures { Gives name_contents result (distinguished_name (seen_tlv value.entry)) }
+{
+    Name::at(value).map_err(name_refusal)
+}
+
+/// Takes an algorithm identifier, whose parameters are not looked at.
+#[tactic(auto, unfolding(crate::specs::Parts::next_read))]
+pub fn take_algorithm<'a>(members: &mut Cursor<'a>) -> Result<AlgorithmIdentifier<'a>, Refusal>
+    ensures { Gives (λ read. (seen_algorithm read, left members.new)) result (next_read (algorithm_identifier Layout) (left members.old)) }
+{
+    AlgorithmIdentifier::read(
+        members.next_or(StatementRule::Layout)?,
+        StatementRule::Layout,
+    )
+}
+
+/// A BIT STRING whose bits must be whole octets.
+#[tactic(auto, unfolding(crate::specs::Parts::signature_value, asn::specs::Walk::check_that))]
+fn signature_at(value: Tlv<'_>) -> Result<&[u8], Refusal>
+    ensures { Gives (λ octets. octets.now) result (signature_value (seen_tlv value.entry)) }
+{
+    if is_of_whole_octets(value.body) {
+        Ok(bits_of(value.body))
+    } else {
+        Err((StatementRule::Layout, value.at))
+    }
+}
+
+/// Takes a signature BIT STRING, and gives its octets.
+#[tactic(auto, unfolding(crate::specs::Parts::component))]
+pub fn take_signature<'a>(members: &mut Cursor<'a>) -> Result<&'a [u8], Refusal>
+    ensures { Gives (λ octets. (octets.now, left members.new)) result (component 0x03 signature_value (left members.old)) }
+{
+    signature_at(members.required(BIT_STRING, StatementRule::Layout)?)
+}
+
+/// The extension that the value is, of a type that is not among these, and which is put to them; else the fault `Layout`, as of
+/// `Extension::read`, or at the extension where its type is not new. Memory is taken where there are more than 16 types.
+#[tactic(auto, unfolding(crate::specs::Parts::new_extension, asn::specs::Walk::check_that))]
+pub fn new_extension<'a>(
+    types: &mut OidSet<'a>,
+    value: Tlv<'a>,
+) -> Result<Extension<'a>, StatementFault>
+    ensures { GivesUnlessFull (λ read. (seen_extension read, oids_in types.new)) result (new_extension (oids_in types.old) (seen_tlv value.entry)) }
+{
+    let extension = Extension::read(value, StatementRule::Layout)?;
+    if !types.insert(extension.oid.contents())? {
+        return Err(StatementFault::Refused(StatementRule::Layout, value.at));
+    }
+    Ok(extension)
+}
+
+/// Whether a CRLReason has this number: 0 to 6, or 8 to 10 (RFC 5280, 5.3.1).
+pub fn is_reason(code: u8) -> bool
+    ensures { result ≡ is_reason code }
+{
+    code <= 10 && code != 7
+}

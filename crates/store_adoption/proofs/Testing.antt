@@ -1,0 +1,74 @@
+-- Rows that a text shows, one after the other.
+use Rattle.std.proofs.Common.{◌≡◌, ◌≢◌, ◌⊎◌, ℕ, List, [], ◌∷◌, ◌++◌, Option, Some, None, Ok, IsTrue, refl, sym, subst, inl, inr, arith}
+use Rattle.std.proofs.lemmas.List.{append_assoc}
+use Rattle.sqlite.specs.Order.{Row}
+use Rattle.sqlite.specs.Effect.{Database}
+use Rattle.sqlite_schema.specs.declared.command.Returning.{Returning}
+use Rattle.sqlite.specs.Clock.{timed}
+use Rattle.sqlite.specs.Listing.{understood, reads_listing, IsSourceOf}
+use Rattle.sqlite.specs.declared.error.Error.{Error}
+use Rattle.sqlite.specs.State.{State, HasCleanDisk, IsUnchanged, IsRolledBack, KeepsCommit, Survives, Shown, ShowsRows, Begins, FailsToQuery, FailsToShow, IsNotRun, Fails, CommitsShowing}
+use Rattle.sqlite.proofs.InsideLemmas.{unchanged_keeps}
+use Rattle.sqlite.proofs.StateLemmas.{survives_weaker}
+use Rattle.sqlite.proofs.Callers.{IsPlain, never_commits, unchanged_then}
+use Rattle.store_sql.specs.declared.fault.StoreFault.{StoreFault}
+use Rattle.store_sql.specs.declared.fault.StoreFault.TheVariants.{Schema as NotOurs}
+use Rattle.store_adoption.specs.Tests.{AllPass, Stops}
+
+pub unchanged_itself : (s : State) → IsTrue s.is_open → IsUnchanged s s
+unchanged_itself s live = (record { was_open = live; is_open = live; now_is = refl; committed_is = refl; mode = refl }, record { changes = refl; last_rowid = refl }, refl)
+
+query_fails : (old new : State) (text : List ℕ) (params : Row) (error : Error) → FailsToQuery text params old new error → IsUnchanged old new ⊎ IsRolledBack old new
+unfolding FailsToQuery IsNotRun
+query_fails old new text params error (inl (inl refused)) = inl refused.1
+query_fails old new text params error (inl (inr failed)) = inr failed.3
+query_fails old new text params error (inr ran) = cases ran.0.returning ran.2
+  where
+    cases : (returning : Option Returning) → FailsToShow old new text ran.0 (timed params ran.0.formats ran.1.now) error returning → IsUnchanged old new ⊎ IsRolledBack old new
+    cases None it = inl it.3
+    cases (Some what) (inl refused) = inl refused.1
+    cases (Some what) (inr failed) = inr failed.3
+
+pub query_keeps : (old new : State) (text : List ℕ) (params : Row) (error : Error) → FailsToQuery text params old new error → KeepsCommit old new
+query_keeps old new text params error h = unchanged_keeps old new (query_fails old new text params error h)
+
+pub advance_keeps : (old new : State) (error : Error) → Fails old new ⊥ error ⊎ IsUnchanged old new → KeepsCommit old new
+advance_keeps old new error (inl failed) = unchanged_keeps old new (inr failed.3)
+advance_keeps old new error (inr same) = unchanged_keeps old new (inl same)
+
+pub shows_nothing : (text : List ℕ) (old new : State) → (HasCleanDisk old → IsPlain (understood old.now.schema text)) → Survives old new (CommitsShowing text [] old) → Survives old new (λ _. ⊥)
+shows_nothing text old new plain s = survives_weaker old new (CommitsShowing text [] old) (λ _. ⊥) (λ clean db. never_commits text [] old db (plain (let before = s.clean in omega (arith, before, clean)))) s
+
+-- what was shown up to the end is shown of what is there now
+pub shown_again : (text : List ℕ) (mid new : State) (rows : List Row) → IsPlain (understood mid.now.schema text) → Shown text [] mid new rows → Shown text [] new new rows
+unfolding Shown
+shown_again text mid new rows plain h =
+    let none = (subst IsPlain h.1.is plain).0 in
+    let full = timed [] h.0.formats h.1.now in
+    let it = subst (ShowsRows mid new text h.0 full rows) none h.2 in
+    let same = it.3.0.now_is in (
+      h.0,
+      record { is = subst (λ (d : Database). understood d.schema text ≡ Ok h.0) (sym same) h.1.is; whole = h.1.whole; given = h.1.given; now = h.1.now },
+      subst (ShowsRows new new text h.0 full rows) (sym none)
+          (it.0, subst (λ (d : Database). IsSourceOf (reads_listing d.schema text) d it.0) (sym same) it.1, it.2, unchanged_itself new it.3.0.is_open),
+    )
+
+pub all_pass : (text : List ℕ) (old mid new : State) (rows : List Row) (Passed : List Row → Type 0) → (IsPlain (understood old.now.schema text)) → IsUnchanged old mid → IsUnchanged mid new → Shown text [] mid new rows → Passed rows
+    → AllPass old new text Passed
+all_pass text old mid new rows Passed plain first last shown passed = record {
+  unchanged = unchanged_then old mid new first last;
+  rows = rows;
+  shown = shown_again text mid new rows (subst (λ (d : Database). IsPlain (understood d.schema text)) (sym first.0.now_is) plain) shown;
+  passed = passed;
+}
+
+pub gave_up : (text : List ℕ) (old new : State) (Formed : List Row → Type 0) (fault : StoreFault) → fault ≢ NotOurs → KeepsCommit old new → Stops old new text Formed fault
+gave_up text old new Formed fault other keeps = record { keeps = keeps; why = λ ours. absurd (other ours) }
+
+-- a row was refused
+pub refused : (text : List ℕ) (old new : State) (rows : List Row) (row : Row) (Formed : List Row → Type 0) (fault : StoreFault) → IsUnchanged old new → Begins text [] new (rows ++ row ∷ [])
+    → (fault ≡ NotOurs → (later : List Row) → Formed (rows ++ row ∷ later) → ⊥) → Stops old new text Formed fault
+refused text old new rows row Formed fault same begins why = record {
+  keeps = unchanged_keeps old new (inl same);
+  why = λ ours. (same, record { rows = rows ++ row ∷ []; begins = begins; refused = λ later formed. why ours later (subst Formed (append_assoc rows (row ∷ []) later) formed) });
+}

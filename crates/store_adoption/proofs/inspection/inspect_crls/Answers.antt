@@ -1,0 +1,33 @@
+use Rattle.std.proofs.Common.{refl, sym, subst, arith, Ok, Err}
+use Rattle.sqlite.specs.Held.{state}
+use Rattle.sqlite.specs.Listing.{understood}
+use Rattle.sqlite.proofs.Callers.{IsPlain}
+use Rattle.std.specs.List.{AllByRecursion}
+use Rattle.store_sql.specs.Tables.{store_schema, crls_tree}
+use Rattle.store_adoption.specs.Texts.{all_crls}
+use Rattle.store_adoption.specs.Cells.{IsCrlCells}
+use Rattle.store_adoption.specs.Inspects.{crl_cells}
+use Rattle.store_adoption.proofs.Meaning.{shows_crls}
+use Rattle.store_adoption.proofs.Inspecting.{checked}
+use Rattle.store_adoption.proofs.Placed.{in_order}
+use Rattle.store_adoption.proofs.inspection.inspect_crls.Goals as goal
+
+pub test_rows-requires-clause-plain : goal.test_rows-requires-clause-plain
+test_rows-requires-clause-plain g c clean = subst (λ s. IsPlain (understood s all_crls)) (sym (c.requires.ours clean)) (shows_crls c.args.origin).2
+
+pub returns-in-Ok-clause-checks : goal.returns-in-Ok-clause-checks
+returns-in-Ok-clause-checks g c clean =
+    let old = state g.S.Store c.args.conn.now in
+    let step = c.test_rows.ensures.survives.clean in
+    let ours = c.requires.ours (omega (arith, step, clean)) in
+    let it = shows_crls c.args.origin in
+    let h = checked (store_schema c.args.origin) all_crls (crls_tree c.args.origin) _ _ crl_cells it.0 it.1 it.2 (λ r. refl) {A = Unit {0}} old _ _ (AllByRecursion (IsCrlCells c.args.next)) (Ok c.in-Ok.field-0) ours (λ ordered. (in_order c.args.origin old.now ours ordered).crls.0) (c.in-Ok.ensures.tests clean) in
+    (h.0, λ ordered. (c.in-Ok.ensures.same _).1 (h.1 ordered))
+
+pub returns-in-Err-clause-checks : goal.returns-in-Err-clause-checks
+returns-in-Err-clause-checks g c clean =
+    let old = state g.S.Store c.args.conn.now in
+    let step = c.test_rows.ensures.survives.clean in
+    let ours = c.requires.ours (omega (arith, step, clean)) in
+    let it = shows_crls c.args.origin in
+    checked (store_schema c.args.origin) all_crls (crls_tree c.args.origin) _ _ crl_cells it.0 it.1 it.2 (λ r. refl) {A = Unit {0}} old _ (λ _. Unit {0}) (AllByRecursion (IsCrlCells c.args.next)) (Err c.in-Err.fault) ours (λ ordered. (in_order c.args.origin old.now ours ordered).crls.0) (c.in-Err.ensures.tests clean)

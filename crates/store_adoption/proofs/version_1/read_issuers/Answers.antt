@@ -1,0 +1,33 @@
+use Rattle.std.proofs.Common.{refl, sym, subst, arith, Ok, Err}
+use Rattle.sqlite.specs.Held.{state}
+use Rattle.sqlite.specs.Listing.{understood}
+use Rattle.sqlite.proofs.Callers.{IsPlain}
+use Rattle.std.specs.List.{AllByRecursion}
+use Rattle.store_sql.specs.Tables.{version_1_schema}
+use Rattle.store_adoption.specs.Texts.{all_issuers}
+use Rattle.store_adoption.specs.Cells.{IsIssuerCells}
+use Rattle.store_adoption.specs.Inspects.{issuer_cells}
+use Rattle.store_adoption.proofs.Meaning.{shows_old_issuers}
+use Rattle.store_adoption.proofs.Inspecting.{checked}
+use Rattle.store_adoption.proofs.Placed.{in_order_before}
+use Rattle.store_adoption.proofs.version_1.read_issuers.Goals as goal
+
+pub test_rows-requires-clause-plain : goal.test_rows-requires-clause-plain
+test_rows-requires-clause-plain g c clean = subst (λ s. IsPlain (understood s all_issuers)) (sym (c.requires.ours clean)) shows_old_issuers.2
+
+pub returns-in-Ok-clause-checks : goal.returns-in-Ok-clause-checks
+returns-in-Ok-clause-checks g c clean =
+    let old = state g.S.Store c.args.conn.now in
+    let step = c.test_rows.ensures.survives.clean in
+    let ours = c.requires.ours (omega (arith, step, clean)) in
+    let it = shows_old_issuers in
+    let h = checked version_1_schema all_issuers 1 _ _ issuer_cells it.0 it.1 it.2 (λ r. refl) {A = Unit {0}} old _ _ (AllByRecursion IsIssuerCells) (Ok c.in-Ok.field-0) ours (λ ordered. (in_order_before old.now ours ordered).issuers.0) (c.in-Ok.ensures.tests clean) in
+    h
+
+pub returns-in-Err-clause-checks : goal.returns-in-Err-clause-checks
+returns-in-Err-clause-checks g c clean =
+    let old = state g.S.Store c.args.conn.now in
+    let step = c.test_rows.ensures.survives.clean in
+    let ours = c.requires.ours (omega (arith, step, clean)) in
+    let it = shows_old_issuers in
+    checked version_1_schema all_issuers 1 _ _ issuer_cells it.0 it.1 it.2 (λ r. refl) {A = Unit {0}} old _ (λ _. Unit {0}) (AllByRecursion IsIssuerCells) (Err c.in-Err.fault) ours (λ ordered. (in_order_before old.now ours ordered).issuers.0) (c.in-Err.ensures.tests clean)

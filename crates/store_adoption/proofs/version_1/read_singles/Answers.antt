@@ -1,0 +1,33 @@
+use Rattle.std.proofs.Common.{refl, sym, subst, arith, Ok, Err}
+use Rattle.sqlite.specs.Held.{state}
+use Rattle.sqlite.specs.Listing.{understood}
+use Rattle.sqlite.proofs.Callers.{IsPlain}
+use Rattle.std.specs.List.{AllByRecursion}
+use Rattle.store_sql.specs.Tables.{version_1_schema}
+use Rattle.store_adoption.specs.Texts.{all_singles}
+use Rattle.store_adoption.specs.Cells.{IsSingleCells}
+use Rattle.store_adoption.specs.Inspects.{single_cells}
+use Rattle.store_adoption.proofs.Meaning.{shows_old_singles}
+use Rattle.store_adoption.proofs.Inspecting.{checked}
+use Rattle.store_adoption.proofs.Placed.{in_order_before}
+use Rattle.store_adoption.proofs.version_1.read_singles.Goals as goal
+
+pub test_rows-requires-clause-plain : goal.test_rows-requires-clause-plain
+test_rows-requires-clause-plain g c clean = subst (λ s. IsPlain (understood s all_singles)) (sym (c.requires.ours clean)) shows_old_singles.2
+
+pub returns-in-Ok-clause-checks : goal.returns-in-Ok-clause-checks
+returns-in-Ok-clause-checks g c clean =
+    let old = state g.S.Store c.args.conn.now in
+    let step = c.test_rows.ensures.survives.clean in
+    let ours = c.requires.ours (omega (arith, step, clean)) in
+    let it = shows_old_singles in
+    let h = checked version_1_schema all_singles 3 _ _ single_cells it.0 it.1 it.2 (λ r. refl) {A = Unit {0}} old _ _ (AllByRecursion (IsSingleCells c.args.next)) (Ok c.in-Ok.field-0) ours (λ ordered. (in_order_before old.now ours ordered).singles.0) (c.in-Ok.ensures.tests clean) in
+    (h.0, λ ordered. (c.in-Ok.ensures.same _).1 (h.1 ordered))
+
+pub returns-in-Err-clause-checks : goal.returns-in-Err-clause-checks
+returns-in-Err-clause-checks g c clean =
+    let old = state g.S.Store c.args.conn.now in
+    let step = c.test_rows.ensures.survives.clean in
+    let ours = c.requires.ours (omega (arith, step, clean)) in
+    let it = shows_old_singles in
+    checked version_1_schema all_singles 3 _ _ single_cells it.0 it.1 it.2 (λ r. refl) {A = Unit {0}} old _ (λ _. Unit {0}) (AllByRecursion (IsSingleCells c.args.next)) (Err c.in-Err.fault) ours (λ ordered. (in_order_before old.now ours ordered).singles.0) (c.in-Err.ensures.tests clean)

@@ -1,0 +1,129 @@
+-- Values as the columns have them, and the rows that a store writes.
+use Rattle.std.specs.Prelude.{◌≡◌, ◌<◌, ◌+◌, ◌^◌, ◌⊎◌, ⊤, ℕ, ℤ, pos, List, [], ◌∷◌, fold, Option, Some, None}
+use Rattle.asn.specs.Integer.{binary_value}
+use Rattle.asn.specs.NumberLaws.{number_octets}
+use Rattle.sqlite.specs.declared.types.Value.{Value}
+use Rattle.sqlite.specs.declared.types.Value.TheVariants.{Int, Blob}
+use Rattle.sqlite.specs.Order.{Row, column}
+use Rattle.store_rows.specs.Contents.{CrlHead, EntryRow}
+use Rattle.store_rows.specs.Places.{base_of, IsBelow}
+use Rattle.store_adoption.specs.Version1.{UnscopedCrl, UnscopedEntry}
+
+-- ---- what a value says
+
+abbrev pub natural_in : Value → ℕ
+natural_in (Int (pos number)) = number
+natural_in _ = 0
+
+abbrev pub integer_in : Value → ℤ
+integer_in (Int number) = number
+integer_in _ = pos 0
+
+abbrev pub octets_in : Value → List ℕ
+octets_in (Blob octets) = octets
+octets_in _ = []
+
+-- a number below the bound
+abbrev pub HasNatural : ℕ → Value → Type 0
+HasNatural bound value = (value ≡ Int (pos (natural_in value))) × (natural_in value < bound)
+
+abbrev pub HasInteger : Value → Type 0
+HasInteger value = value ≡ Int (integer_in value)
+
+abbrev pub HasOctets : Value → Type 0
+HasOctets value = value ≡ Blob (octets_in value)
+
+-- a CRL number, in twenty octets (RFC 5280, 5.2.3)
+abbrev pub number_in : Value → ℕ
+number_in value = binary_value (octets_in value)
+
+abbrev pub HasNumber : Value → Type 0
+HasNumber value = (value ≡ Blob (number_octets 20 (number_in value))) × (number_in value < 2 ^ 160)
+
+-- ---- the rows of each table, as they are shown
+
+abbrev pub IsVersionCells : ℕ → Row → Type 0
+IsVersionCells version row = (column row 0 ≡ Int (pos 1)) × (column row 1 ≡ Int (pos version))
+
+abbrev pub IsIssuerCells : Row → Type 0
+IsIssuerCells row = HasNatural 536870911 (column row 0)
+
+-- one more than the id of the last, or 1
+abbrev pub next_after : List Row → ℕ
+next_after = fold (λ next row. natural_in (column row 0) + 1) 1
+
+-- it stands under an id below the next
+abbrev pub IsCrlCells : ℕ → Row → Type 0
+IsCrlCells next row = HasNatural next (column row 0) × HasNatural 3 (column row 1) × HasNumber (column row 2)
+
+-- a reason stands beside a status that is not revoked as 0
+abbrev pub IsSingleCells : ℕ → Row → Type 0
+IsSingleCells next row = HasNatural next (column row 0) × HasNatural 3 (column row 1) × HasNatural 256 (column row 2)
+    × ((natural_in (column row 1) ≡ 1) ⊎ (natural_in (column row 2) ≡ 0))
+
+abbrev pub IsEntryCells : Row → Type 0
+IsEntryCells row = HasNatural (2 ^ 64) (column row 0) × HasNatural 536870911 (column row 1) × HasNatural 3 (column row 2) × HasOctets (column row 3) × HasNatural 256 (column row 4)
+
+abbrev pub entry_in : Row → EntryRow
+entry_in row = record {
+  place = natural_in (column row 0);
+  issuer = natural_in (column row 1);
+  scope = natural_in (column row 2);
+  listed = record { serial = octets_in (column row 3); reason = natural_in (column row 4) };
+}
+
+-- ---- the same of version 1, which has one list an issuer
+
+abbrev pub HasHead : Row → Type 0
+HasHead row = HasNumber (column row 1) × HasInteger (column row 2) × HasInteger (column row 3)
+
+abbrev pub head_in : Row → CrlHead
+head_in row = record { number = number_in (column row 1); window = record { from = integer_in (column row 2); until = integer_in (column row 3) } }
+
+-- it stands under an id below the next
+abbrev pub IsUnscopedCrlCells : ℕ → Row → Type 0
+IsUnscopedCrlCells next row = HasNatural next (column row 0) × HasHead row
+
+abbrev pub unscoped_crl_in : Row → UnscopedCrl
+unscoped_crl_in row = record {
+  issuer = natural_in (column row 0);
+  head = head_in row;
+}
+
+abbrev pub IsUnscopedEntryCells : ℕ → Row → Type 0
+IsUnscopedEntryCells next row = HasNatural next (column row 0) × HasOctets (column row 1) × HasNatural 256 (column row 2)
+
+abbrev pub unscoped_entry_in : Row → UnscopedEntry
+unscoped_entry_in row = record {
+  issuer = natural_in (column row 0);
+  listed = record { serial = octets_in (column row 1); reason = natural_in (column row 2) };
+}
+
+-- ---- entries that stand in their places, one after the other
+
+-- it is the first of its list
+abbrev pub Begins : EntryRow → Type 0
+Begins e = e.place ≡ base_of e.issuer e.scope
+
+-- it stands behind another of its list, with a greater serial number
+pub record Continues (last e : EntryRow) : Type 0 where
+  pub issuer : e.issuer ≡ last.issuer
+  pub scope : e.scope ≡ last.scope
+  pub place : e.place ≡ last.place + 1
+  pub room : e.place < base_of e.issuer e.scope + 4294967296
+  pub serial : IsBelow last.listed e.listed
+
+abbrev pub Follows : Option EntryRow → EntryRow → Type 0
+Follows None e = Begins e
+Follows (Some last) e = Continues last e ⊎ (Begins e × (last.place < e.place))
+
+-- the ids of issuer and scope are those that places are made of
+abbrev pub IsListed : EntryRow → Type 0
+IsListed e = (e.issuer < 536870911) × (e.scope < 3)
+
+abbrev pub AreChained : Option EntryRow → List EntryRow → Type 0
+AreChained last [] = ⊤
+AreChained last (e ∷ es) = IsListed e × Follows last e × AreChained (Some e) es
+
+abbrev pub last_of : List EntryRow → Option EntryRow
+last_of = fold (λ last e. Some e) None

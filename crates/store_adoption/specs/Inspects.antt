@@ -1,0 +1,130 @@
+-- What the one reading of all rows says of a database.
+use Rattle.std.specs.Prelude.{◌≡◌, ℕ, List, [], ◌∷◌, map, length, None, Result, Ok, Err}
+use Rattle.std.specs.List.{AllByRecursion}
+use Rattle.sqlite.specs.Order.{Row, column}
+use Rattle.sqlite.specs.Effect.{Database}
+use Rattle.sqlite.specs.State.{State, IsUnchanged, KeepsCommit}
+use Rattle.sqlite_trees.specs.declared.store.Shape.TheVariants.{Table}
+use Rattle.sqlite_trees.specs.View.{IsShaped}
+use Rattle.statements_facts.specs.Statement.{Holdings}
+use Rattle.store_sql.specs.declared.origin.Origin.{Origin}
+use Rattle.store_sql.specs.declared.fault.StoreFault.{StoreFault}
+use Rattle.store_sql.specs.declared.fault.StoreFault.TheVariants.{Schema}
+use Rattle.store_sql.specs.Tables.{version_1_schema, store_schema, crls_tree, entries_tree}
+use Rattle.store_maps.specs.Held.{IsStoreOf}
+use Rattle.store_adoption.specs.Version1.{UnscopedCrl, UnscopedEntry, IsVersion1, HasLists}
+use Rattle.store_adoption.specs.Cells.{IsVersionCells, IsIssuerCells, IsUnscopedCrlCells, IsUnscopedEntryCells, unscoped_crl_in, unscoped_entry_in, next_after, IsCrlCells, IsSingleCells, IsEntryCells, AreChained, entry_in}
+
+-- the rows of each table stand in the order of their ids
+pub record InOrder (origin : Origin) (db : Database) : Type 0 where
+  pub versions : IsShaped Table (db.trees 0)
+  pub issuers : IsShaped Table (db.trees 1)
+  pub singles : IsShaped Table (db.trees 3)
+  pub crls : IsShaped Table (db.trees (crls_tree origin))
+  pub entries : IsShaped Table (db.trees (entries_tree origin))
+
+-- the same of version 1
+pub record InOrderOfVersion1 (db : Database) : Type 0 where
+  pub versions : IsShaped Table (db.trees 0)
+  pub issuers : IsShaped Table (db.trees 1)
+  pub singles : IsShaped Table (db.trees 3)
+  pub crls : IsShaped Table (db.trees 5)
+  pub entries : IsShaped Table (db.trees 6)
+
+pub record AreInOrder (db : Database) : Type 0 where
+  pub version_1 : db.schema ≡ version_1_schema → InOrderOfVersion1 db
+  pub version_2 : (origin : Origin) → db.schema ≡ store_schema origin → InOrder origin db
+
+-- the database is that of a store
+abbrev pub IsStore : Database → Type 0
+IsStore db = (held : Holdings) × IsStoreOf db held
+
+-- nothing changes, and this holds; or a fault, which is for the rows only where that does not hold
+abbrev pub Checks : {A : Type 0} → State → State → (A → Database → Type 0) → (Database → Type 0) → Result A StoreFault → Type 0
+Checks old new P Q (Ok answer) = IsUnchanged old new × (AreInOrder old.now → P answer old.now)
+Checks old new P Q (Err fault) = KeepsCommit old new × (fault ≡ Schema → AreInOrder old.now → Q old.now → ⊥)
+
+-- what is answered are the lists of a database of version 1, and their entries
+abbrev pub ReadsVersion1 : {A : Type 0} → State → State → (A → List UnscopedCrl) → (A → List UnscopedEntry) → Result A StoreFault → Type 0
+ReadsVersion1 old new crls entries result = Checks old new (λ lists. HasLists (crls lists) (entries lists)) IsVersion1 result
+
+abbrev pub Inspects : {A : Type 0} → State → State → Result A StoreFault → Type 0
+Inspects old new result = Checks old new (λ done. IsStore) IsStore result
+
+-- ---- table by table, as the rows are shown
+
+abbrev pub version_cells : Row → Row
+version_cells row = column row 0 ∷ column row 2 ∷ []
+
+abbrev pub HasVersion : ℕ → Database → Type 0
+HasVersion version db = AllByRecursion (IsVersionCells version) (map version_cells (db.trees 0)) × (length (map version_cells (db.trees 0)) ≡ 1)
+
+abbrev pub issuer_cells : Row → Row
+issuer_cells row = column row 0 ∷ []
+
+abbrev pub HasIssuers : Database → Type 0
+HasIssuers db = AllByRecursion IsIssuerCells (map issuer_cells (db.trees 1))
+
+abbrev pub HasNext : ℕ → Database → Type 0
+HasNext next db = next_after (map issuer_cells (db.trees 1)) ≡ next
+
+abbrev pub HasIds : ℕ → Database → Type 0
+HasIds next db = HasVersion 2 db × HasIssuers db × HasNext next db
+
+abbrev pub crl_cells : Row → Row
+crl_cells row = column row 1 ∷ column row 2 ∷ column row 3 ∷ []
+
+abbrev pub HasCrls : Origin → ℕ → Database → Type 0
+HasCrls origin next db = AllByRecursion (IsCrlCells next) (map crl_cells (db.trees (crls_tree origin)))
+
+abbrev pub single_cells : Row → Row
+single_cells row = column row 1 ∷ column row 8 ∷ column row 9 ∷ []
+
+abbrev pub HasSingles : ℕ → Database → Type 0
+HasSingles next db = AllByRecursion (IsSingleCells next) (map single_cells (db.trees 3))
+
+abbrev pub entry_cells : Row → Row
+entry_cells row = column row 0 ∷ column row 2 ∷ column row 3 ∷ column row 4 ∷ column row 5 ∷ []
+
+abbrev pub HasEntries : Origin → Database → Type 0
+HasEntries origin db = AllByRecursion IsEntryCells (map entry_cells (db.trees (entries_tree origin))) × AreChained None (map entry_in (map entry_cells (db.trees (entries_tree origin))))
+
+-- issuers, and what stands under their ids
+pub record HasHeads (origin : Origin) (db : Database) : Type 0 where
+  pub version : HasVersion 2 db
+  pub issuers : HasIssuers db
+  pub crls : HasCrls origin (next_after (map issuer_cells (db.trees 1))) db
+  pub singles : HasSingles (next_after (map issuer_cells (db.trees 1))) db
+
+-- ---- the same of version 1
+
+abbrev pub HasIdsOfVersion1 : ℕ → Database → Type 0
+HasIdsOfVersion1 next db = HasVersion 1 db × HasIssuers db × HasNext next db
+
+abbrev pub unscoped_crl_cells : Row → Row
+unscoped_crl_cells row = column row 0 ∷ column row 2 ∷ column row 3 ∷ column row 4 ∷ []
+
+abbrev pub HasUnscopedCrls : ℕ → Database → Type 0
+HasUnscopedCrls next db = AllByRecursion (IsUnscopedCrlCells next) (map unscoped_crl_cells (db.trees 5))
+
+abbrev pub ShowsCrls : List UnscopedCrl → Database → Type 0
+ShowsCrls crls db = crls ≡ map unscoped_crl_in (map unscoped_crl_cells (db.trees 5))
+
+abbrev pub unscoped_entry_cells : Row → Row
+unscoped_entry_cells row = column row 1 ∷ column row 2 ∷ column row 3 ∷ []
+
+abbrev pub HasUnscopedEntries : ℕ → Database → Type 0
+HasUnscopedEntries next db = AllByRecursion (IsUnscopedEntryCells next) (map unscoped_entry_cells (db.trees 6))
+
+abbrev pub ShowsEntries : List UnscopedEntry → Database → Type 0
+ShowsEntries entries db = entries ≡ map unscoped_entry_in (map unscoped_entry_cells (db.trees 6))
+
+-- lists and entries stand under ids below the next
+abbrev pub HasListsUnder : ℕ → Database → Type 0
+HasListsUnder next db = HasUnscopedCrls next db × HasUnscopedEntries next db
+
+abbrev pub ShowsLists : List UnscopedCrl → List UnscopedEntry → Database → Type 0
+ShowsLists crls entries db = ShowsCrls crls db × ShowsEntries entries db
+
+abbrev pub HasUnder : ℕ → Database → Type 0
+HasUnder next db = HasSingles next db × HasListsUnder next db

@@ -1,0 +1,27 @@
+-- What a test of a table's rows says of the database.
+use Rattle.std.specs.Prelude.{◌≡◌, ◌++◌, ℕ, List, [], Result, Ok, Err}
+use Rattle.sqlite.specs.Order.{Row}
+use Rattle.sqlite.specs.State.{State, IsUnchanged, KeepsCommit, Shown, Begins}
+use Rattle.store_sql.specs.declared.fault.StoreFault.{StoreFault}
+use Rattle.store_sql.specs.declared.fault.StoreFault.TheVariants.{Schema}
+
+-- all rows that the text shows have passed
+pub record AllPass (old new : State) (text : List ℕ) (Passed : List Row → Type 0) : Type 0 where
+  pub unchanged : IsUnchanged old new
+  pub rows : List Row
+  pub shown : Shown text [] new new rows
+  pub passed : Passed rows
+
+-- some rows that it shows are not how all begin
+pub record SomeFail (new : State) (text : List ℕ) (AreFormed : List Row → Type 0) : Type 0 where
+  pub rows : List Row
+  pub begins : Begins text [] new rows
+  pub refused : (later : List Row) → AreFormed (rows ++ later) → ⊥
+
+pub record Stops (old new : State) (text : List ℕ) (AreFormed : List Row → Type 0) (fault : StoreFault) : Type 0 where
+  pub keeps : KeepsCommit old new
+  pub why : fault ≡ Schema → IsUnchanged old new × SomeFail new text AreFormed
+
+abbrev pub Tests : {A : Type 0} → State → State → List ℕ → (List Row → Type 0) → (List Row → Type 0) → Result A StoreFault → Type 0
+Tests old new text Passed AreFormed (Ok done) = AllPass old new text Passed
+Tests old new text Passed AreFormed (Err fault) = Stops old new text AreFormed fault

@@ -1,0 +1,75 @@
+//! Cells of the rows that a text shows.
+
+ghost use Rattle.std.specs.Prelude.{◌≡◌, Err, IfOk, OnOk};
+ghost use Rattle.sqlite.specs.Order.{column};
+ghost use Rattle.store_adoption.specs.Cells.{HasInteger, HasNatural, HasOctets, HasNumber, integer_in, natural_in, number_in, octets_in};
+
+use asn::Number20;
+use sqlite::{Error, ErrorCode, Row};
+use store_rows::{integer, natural, number_of, octets};
+use store_sql::StoreFault;
+
+/// The number in a cell that is not negative and below the bound.
+#[tactic(auto, using(crate::proofs::Cells::natural_read, crate::proofs::Cells::natural_refused))]
+pub(crate) fn below(row: &Row, at: usize, bound: u32) -> Result<u32, StoreFault>
+    ensures ok { IfOk result (λ number. HasNatural bound (column row.now at) × (natural_in (column row.now at) ≡ number)) }
+    ensures schema { result ≡ Err StoreFault.Schema → HasNatural bound (column row.now at) → ⊥ }
+{
+    natural(row, at, bound)
+}
+
+/// The number in a cell that is not negative.
+pub(crate) fn place(row: &Row, at: usize) -> Result<u64, StoreFault>
+    ensures ok { IfOk result (λ number. HasNatural 18446744073709551616 (column row.now at) × (natural_in (column row.now at) ≡ number)) }
+    ensures schema { result ≡ Err StoreFault.Schema → HasNatural 18446744073709551616 (column row.now at) → ⊥ }
+{
+    match row.get(at) {
+        Ok(number) => Ok(number),
+        Err(Error::SqliteFailure(ErrorCode::OutOfMemory)) => Err(StoreFault::Memory),
+        Err(_) => Err(StoreFault::Schema),
+    }
+}
+
+/// The octets in a cell.
+#[tactic(auto, using(crate::proofs::Cells::octets_read, crate::proofs::Cells::octets_refused))]
+pub(crate) fn blob(row: &Row, at: usize) -> Result<Vec<u8>, StoreFault>
+    ensures ok { IfOk result (λ octets. HasOctets (column row.now at) × (octets_in (column row.now at) ≡ octets.items)) }
+    ensures schema { result ≡ Err StoreFault.Schema → HasOctets (column row.now at) → ⊥ }
+{
+    octets(row, at)
+}
+
+/// The integer in a cell.
+#[tactic(auto, using(crate::proofs::Cells::integer_read, crate::proofs::Cells::integer_refused))]
+pub(crate) fn whole(row: &Row, at: usize) -> Result<i64, StoreFault>
+    ensures ok { IfOk result (λ number. HasInteger (column row.now at) × (integer_in (column row.now at) ≡ number)) }
+    ensures schema { result ≡ Err StoreFault.Schema → HasInteger (column row.now at) → ⊥ }
+{
+    integer(row, at)
+}
+
+/// The number that a cell holds in twenty octets.
+pub(crate) fn number(row: &Row, at: usize) -> Result<Number20, StoreFault>
+    ensures ok { IfOk result (λ number. HasNumber (column row.now at) × (number_in (column row.now at) ≡ number)) }
+    ensures schema { result ≡ Err StoreFault.Schema → HasNumber (column row.now at) → ⊥ }
+{
+    let octets = match octets(row, at) {
+        Ok(octets) => octets,
+        Err(fault) => return Err(fault),
+    };
+    match number_of(octets.as_slice()) {
+        Some(number) => Ok(number),
+        None => Err(StoreFault::Schema),
+    }
+}
+
+/// The cell holds a number in twenty octets.
+pub(crate) fn has_number(row: &Row, at: usize) -> Result<(), StoreFault>
+    ensures ok { OnOk result (HasNumber (column row.now at)) }
+    ensures schema { result ≡ Err StoreFault.Schema → HasNumber (column row.now at) → ⊥ }
+{
+    match number(row, at) {
+        Ok(_) => Ok(()),
+        Err(fault) => Err(fault),
+    }
+}

@@ -1,0 +1,204 @@
+//! A database, read once and taken for a store.
+
+ghost use Rattle.std.specs.Prelude.{◌≡◌, false};
+ghost use Rattle.sqlite.specs.Held.{state};
+ghost use Rattle.sqlite.specs.State.{HasCleanDisk};
+ghost use Rattle.store_sql.specs.Statements.{CommitsNothing};
+ghost use Rattle.store_sql.specs.Tables.{store_schema};
+ghost use Rattle.store_adoption.specs.Creates.{IsDurable, IsSettled};
+ghost use Rattle.store_adoption.specs.Inspects.{Checks, Inspects, HasVersion, HasIssuers, HasNext, HasCrls, HasSingles, HasEntries, HasHeads, HasIds};
+
+use crate::crl_test::CrlTest;
+use crate::entry_test::EntryTest;
+use crate::issuer_test::IssuerTest;
+use crate::row_test::test_rows;
+use crate::single_test::SingleTest;
+use crate::version_test::VersionTest;
+use sqlite::{Alter, Connection};
+use store_sql::{Origin, StoreFault, origin_of};
+
+fn inspect_version<S: Alter>(conn: &mut Connection<S>, origin: Origin) -> Result<(), StoreFault>
+    requires idle { conn.old.in_transaction ≡ false }
+    requires ours { HasCleanDisk (state S.Store conn.old) → (state S.Store conn.old).now.schema ≡ store_schema origin }
+    ensures idle { conn.new.in_transaction ≡ false }
+    ensures checks { HasCleanDisk (state S.Store conn.new) → Checks (state S.Store conn.old) (state S.Store conn.new) (λ done. HasVersion 2) (HasVersion 2) result }
+    ensures survives { CommitsNothing (state S.Store conn.old) (state S.Store conn.new) }
+{
+    let mut test = VersionTest {
+        version: 2,
+        found: false,
+    };
+    if let Err(fault) = test_rows(conn, "SELECT id, version FROM meta ORDER BY id", &mut test) {
+        return Err(fault);
+    }
+    if test.found {
+        Ok(())
+    } else {
+        Err(StoreFault::Schema)
+    }
+}
+
+/// One more than the id of the last issuer.
+fn inspect_issuers<S: Alter>(conn: &mut Connection<S>, origin: Origin) -> Result<u32, StoreFault>
+    requires idle { conn.old.in_transaction ≡ false }
+    requires ours { HasCleanDisk (state S.Store conn.old) → (state S.Store conn.old).now.schema ≡ store_schema origin }
+    ensures idle { conn.new.in_transaction ≡ false }
+    ensures checks { HasCleanDisk (state S.Store conn.new) → Checks (state S.Store conn.old) (state S.Store conn.new) (λ next db. HasIssuers db × HasNext next db) HasIssuers result }
+    ensures survives { CommitsNothing (state S.Store conn.old) (state S.Store conn.new) }
+{
+    let mut test = IssuerTest { next: 1 };
+    match test_rows(conn, "SELECT id FROM issuers ORDER BY id", &mut test) {
+        Ok(()) => Ok(test.next),
+        Err(fault) => Err(fault),
+    }
+}
+
+fn inspect_crls<S: Alter>(
+    conn: &mut Connection<S>,
+    origin: Origin,
+    next: u32,
+) -> Result<(), StoreFault>
+    requires idle { conn.old.in_transaction ≡ false }
+    requires ours { HasCleanDisk (state S.Store conn.old) → (state S.Store conn.old).now.schema ≡ store_schema origin }
+    ensures idle { conn.new.in_transaction ≡ false }
+    ensures checks { HasCleanDisk (state S.Store conn.new) → Checks (state S.Store conn.old) (state S.Store conn.new) (λ done. HasCrls origin next) (HasCrls origin next) result }
+    ensures survives { CommitsNothing (state S.Store conn.old) (state S.Store conn.new) }
+{
+    let mut test = CrlTest { next };
+    match test_rows(
+        conn,
+        "SELECT issuer, scope, number FROM scoped_crls ORDER BY rowid",
+        &mut test,
+    ) {
+        Ok(()) => Ok(()),
+        Err(fault) => Err(fault),
+    }
+}
+
+fn inspect_singles<S: Alter>(
+    conn: &mut Connection<S>,
+    origin: Origin,
+    next: u32,
+) -> Result<(), StoreFault>
+    requires idle { conn.old.in_transaction ≡ false }
+    requires ours { HasCleanDisk (state S.Store conn.old) → (state S.Store conn.old).now.schema ≡ store_schema origin }
+    ensures idle { conn.new.in_transaction ≡ false }
+    ensures checks { HasCleanDisk (state S.Store conn.new) → Checks (state S.Store conn.old) (state S.Store conn.new) (λ done. HasSingles next) (HasSingles next) result }
+    ensures survives { CommitsNothing (state S.Store conn.old) (state S.Store conn.new) }
+{
+    let mut test = SingleTest { next };
+    match test_rows(
+        conn,
+        "SELECT issuer, status, reason FROM ocsp ORDER BY rowid",
+        &mut test,
+    ) {
+        Ok(()) => Ok(()),
+        Err(fault) => Err(fault),
+    }
+}
+
+fn inspect_entries<S: Alter>(conn: &mut Connection<S>, origin: Origin) -> Result<(), StoreFault>
+    requires idle { conn.old.in_transaction ≡ false }
+    requires ours { HasCleanDisk (state S.Store conn.old) → (state S.Store conn.old).now.schema ≡ store_schema origin }
+    ensures idle { conn.new.in_transaction ≡ false }
+    ensures checks { HasCleanDisk (state S.Store conn.new) → Checks (state S.Store conn.old) (state S.Store conn.new) (λ done. HasEntries origin) (HasEntries origin) result }
+    ensures survives { CommitsNothing (state S.Store conn.old) (state S.Store conn.new) }
+{
+    let mut test = EntryTest { last: None };
+    match test_rows(
+        conn,
+        "SELECT id, issuer, scope, serial, reason FROM scoped_entries ORDER BY id",
+        &mut test,
+    ) {
+        Ok(()) => Ok(()),
+        Err(fault) => Err(fault),
+    }
+}
+
+/// What stands under the ids of issuers: lists, and what responses say.
+fn inspect_under<S: Alter>(
+    conn: &mut Connection<S>,
+    origin: Origin,
+    next: u32,
+) -> Result<(), StoreFault>
+    requires idle { conn.old.in_transaction ≡ false }
+    requires ours { HasCleanDisk (state S.Store conn.old) → (state S.Store conn.old).now.schema ≡ store_schema origin }
+    ensures idle { conn.new.in_transaction ≡ false }
+    ensures checks { HasCleanDisk (state S.Store conn.new) → Checks (state S.Store conn.old) (state S.Store conn.new) (λ done db. HasCrls origin next db × HasSingles next db) (λ db. HasCrls origin next db × HasSingles next db) result }
+    ensures survives { CommitsNothing (state S.Store conn.old) (state S.Store conn.new) }
+{
+    if let Err(fault) = inspect_crls(conn, origin, next) {
+        return Err(fault);
+    }
+    match inspect_singles(conn, origin, next) {
+        Ok(()) => Ok(()),
+        Err(fault) => Err(fault),
+    }
+}
+
+/// The version, and one more than the id of the last issuer.
+fn inspect_ids<S: Alter>(conn: &mut Connection<S>, origin: Origin) -> Result<u32, StoreFault>
+    requires idle { conn.old.in_transaction ≡ false }
+    requires ours { HasCleanDisk (state S.Store conn.old) → (state S.Store conn.old).now.schema ≡ store_schema origin }
+    ensures idle { conn.new.in_transaction ≡ false }
+    ensures checks { HasCleanDisk (state S.Store conn.new) → Checks (state S.Store conn.old) (state S.Store conn.new) HasIds (λ db. HasVersion 2 db × HasIssuers db) result }
+    ensures survives { CommitsNothing (state S.Store conn.old) (state S.Store conn.new) }
+{
+    if let Err(fault) = inspect_version(conn, origin) {
+        return Err(fault);
+    }
+    match inspect_issuers(conn, origin) {
+        Ok(next) => Ok(next),
+        Err(fault) => Err(fault),
+    }
+}
+
+fn inspect_heads<S: Alter>(conn: &mut Connection<S>, origin: Origin) -> Result<(), StoreFault>
+    requires idle { conn.old.in_transaction ≡ false }
+    requires ours { HasCleanDisk (state S.Store conn.old) → (state S.Store conn.old).now.schema ≡ store_schema origin }
+    ensures idle { conn.new.in_transaction ≡ false }
+    ensures checks { HasCleanDisk (state S.Store conn.new) → Checks (state S.Store conn.old) (state S.Store conn.new) (λ done. HasHeads origin) (HasHeads origin) result }
+    ensures survives { CommitsNothing (state S.Store conn.old) (state S.Store conn.new) }
+{
+    let next = match inspect_ids(conn, origin) {
+        Ok(next) => next,
+        Err(fault) => return Err(fault),
+    };
+    match inspect_under(conn, origin, next) {
+        Ok(()) => Ok(()),
+        Err(fault) => Err(fault),
+    }
+}
+
+fn inspect_all<S: Alter>(conn: &mut Connection<S>) -> Result<(), StoreFault>
+    requires idle { conn.old.in_transaction ≡ false }
+    ensures idle { conn.new.in_transaction ≡ false }
+    ensures inspects { HasCleanDisk (state S.Store conn.new) → Inspects (state S.Store conn.old) (state S.Store conn.new) result }
+    ensures survives { CommitsNothing (state S.Store conn.old) (state S.Store conn.new) }
+{
+    let Some(origin) = origin_of(conn.schema()) else {
+        return Err(StoreFault::Schema);
+    };
+    if let Err(fault) = inspect_heads(conn, origin) {
+        return Err(fault);
+    }
+    match inspect_entries(conn, origin) {
+        Ok(()) => Ok(()),
+        Err(fault) => Err(fault),
+    }
+}
+
+/// Reads all rows once: `StoreFault::Schema` where they are not those of a store.
+pub fn inspect<S: Alter>(conn: &mut Connection<S>) -> Result<(), StoreFault>
+    requires idle { conn.old.in_transaction ≡ false }
+    ensures idle { conn.new.in_transaction ≡ false }
+    ensures inspects { HasCleanDisk (state S.Store conn.new) → Inspects (state S.Store conn.old) (state S.Store conn.new) result }
+    ensures settled { IsSettled (state S.Store conn.old) × IsSettled (state S.Store conn.new) }
+    ensures durable { IsDurable (state S.Store conn.new) }
+    ensures survives { CommitsNothing (state S.Store conn.old) (state S.Store conn.new) }
+{
+    let _before = conn.is_autocommit();
+    let done = inspect_all(conn);
+    let _after = conn.is_autocommit();
+    done
+}

@@ -1,0 +1,69 @@
+//! A table's rows, tested one after the other.
+
+ghost use Rattle.std.specs.Prelude.{◌≡◌, ◌≢◌, ◌↔◌, ◌++◌, ◌∷◌, [], false, Err, OnOk};
+ghost use Rattle.sqlite.specs.Held.{state};
+ghost use Rattle.sqlite.specs.State.{HasCleanDisk};
+ghost use Rattle.sqlite.specs.Given.{IsPlain};
+ghost use Rattle.sqlite.specs.Listing.{understood};
+ghost use Rattle.store_sql.specs.Statements.{CommitsNothing};
+ghost use Rattle.store_adoption.specs.Tests.{Tests};
+
+use sqlite::{Alter, Connection, Error, Row};
+use store_sql::StoreFault;
+
+/// A test of rows, one after the other.
+pub(crate) trait RowTest {
+    ghost use Rattle.std.specs.Prelude.{List};
+    ghost use Rattle.sqlite.specs.Order.{Row as Cells};
+
+    // These rows have passed, and left the test so.
+    ghost passed: { Self → List Cells → Type 0 };
+
+    // These are all rows of a table of a store.
+    ghost are_formed: { Self → List Cells → Type 0 };
+
+    /// Takes the next row; `StoreFault::Schema` where no store has it there.
+    fn take(&mut self, row: &Row) -> Result<(), StoreFault>
+        ensures passed { OnOk result ((rows : List Cells) → passed self.old rows → passed self.new (rows ++ row.now ∷ [])) }
+        ensures same { OnOk result ((rows : List Cells) → are_formed self.old rows ↔ are_formed self.new rows) }
+        ensures refused { result ≡ Err StoreFault.Schema → (rows later : List Cells) → passed self.old rows → are_formed self.old (rows ++ row.now ∷ later) → ⊥ };
+}
+
+/// A refusal of the database, which says nothing of the rows.
+fn fault_of(error: Error) -> StoreFault
+    ensures { result ≢ StoreFault.Schema }
+{
+    StoreFault::from(error)
+}
+
+/// Shows each row that the text asks for to the test.
+pub(crate) fn test_rows<S: Alter, T: RowTest>(
+    conn: &mut Connection<S>,
+    sql: &str,
+    test: &mut T,
+) -> Result<(), StoreFault>
+    requires start { T.RowTest.passed test.old [] }
+    requires idle { conn.old.in_transaction ≡ false }
+    requires plain { HasCleanDisk (state S.Store conn.old) → IsPlain (understood (state S.Store conn.old).now.schema sql.now) }
+    ensures idle { conn.new.in_transaction ≡ false }
+    ensures tests { HasCleanDisk (state S.Store conn.new) → Tests (state S.Store conn.old) (state S.Store conn.new) sql.now (T.RowTest.passed test.new) (T.RowTest.are_formed test.old) result }
+    ensures same { OnOk result ((rows : _) → T.RowTest.are_formed test.old rows ↔ T.RowTest.are_formed test.new rows) }
+    ensures survives { CommitsNothing (state S.Store conn.old) (state S.Store conn.new) }
+{
+    let mut rows = match conn.query(sql, &[]) {
+        Ok(rows) => rows,
+        Err(error) => return Err(fault_of(error)),
+    };
+    'each: for _ in 0..u64::MAX {
+        if let Err(error) = rows.advance() {
+            return Err(fault_of(error));
+        }
+        let Some(row) = rows.get() else {
+            return Ok(());
+        };
+        if let Err(fault) = test.take(row) {
+            return Err(fault);
+        }
+    }
+    Err(StoreFault::Store)
+}

@@ -1,0 +1,59 @@
+//! What responses say of single certificates.
+
+ghost use Rattle.std.specs.Prelude.{◌≡◌, ◌⊎◌, OnOk, Err};
+ghost use Rattle.store_adoption.specs.Cells.{IsSingleCells, HasNatural, natural_in};
+ghost use Rattle.sqlite.specs.Order.{column};
+
+use crate::cell::below;
+use crate::row_test::RowTest;
+use sqlite::Row;
+use store_sql::StoreFault;
+
+/// Each stands under an id below that of the next issuer, and has a status.
+#[derive(Drop)]
+pub(crate) struct SingleTest {
+    pub(crate) next: u32,
+}
+
+/// A reason stands beside a status that is not revoked as 0.
+fn has_status(row: &Row) -> Result<(), StoreFault>
+    ensures ok { OnOk result (HasNatural 3 (column row.now 1) × HasNatural 256 (column row.now 2) × ((natural_in (column row.now 1) ≡ 1) ⊎ (natural_in (column row.now 2) ≡ 0))) }
+    ensures schema { result ≡ Err StoreFault.Schema → HasNatural 3 (column row.now 1) → HasNatural 256 (column row.now 2) → (natural_in (column row.now 1) ≡ 1) ⊎ (natural_in (column row.now 2) ≡ 0) → ⊥ }
+{
+    let status = match below(row, 1, 3) {
+        Ok(status) => status,
+        Err(fault) => return Err(fault),
+    };
+    let reason = match below(row, 2, 256) {
+        Ok(reason) => reason,
+        Err(fault) => return Err(fault),
+    };
+    if status == 1 || reason == 0 {
+        Ok(())
+    } else {
+        Err(StoreFault::Schema)
+    }
+}
+
+fn is_single(row: &Row, next: u32) -> Result<(), StoreFault>
+    ensures ok { OnOk result (IsSingleCells next row.now) }
+    ensures schema { result ≡ Err StoreFault.Schema → IsSingleCells next row.now → ⊥ }
+{
+    if let Err(fault) = below(row, 0, next) {
+        return Err(fault);
+    }
+    has_status(row)
+}
+
+impl RowTest for SingleTest {
+    ghost use Rattle.std.specs.List.{AllByRecursion};
+    ghost use Rattle.store_adoption.specs.Cells.{IsSingleCells};
+
+    ghost passed = { λ test rows. AllByRecursion (IsSingleCells test.next) rows };
+
+    ghost are_formed = { λ test rows. AllByRecursion (IsSingleCells test.next) rows };
+
+    fn take(&mut self, row: &Row) -> Result<(), StoreFault> {
+        is_single(row, self.next)
+    }
+}

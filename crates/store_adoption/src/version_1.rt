@@ -1,0 +1,222 @@
+//! A database of version 1, read once.
+
+ghost use Rattle.std.specs.Prelude.{◌≡◌, false, map};
+ghost use Rattle.sqlite.specs.Held.{state};
+ghost use Rattle.sqlite.specs.State.{HasCleanDisk};
+ghost use Rattle.store_sql.specs.Statements.{CommitsNothing};
+ghost use Rattle.store_sql.specs.Tables.{version_1_schema};
+ghost use Rattle.store_adoption.specs.Creates.{IsDurable, IsSettled};
+ghost use Rattle.store_adoption.specs.Seen.{seen_list, seen_own};
+ghost use Rattle.store_adoption.specs.Inspects.{Checks, ReadsVersion1, HasVersion, HasIssuers, HasNext, HasSingles, HasIdsOfVersion1, HasUnscopedCrls, HasUnscopedEntries, ShowsCrls, ShowsEntries, HasListsUnder, HasUnder, ShowsLists};
+
+use crate::issuer_test::IssuerTest;
+use crate::row_test::test_rows;
+use crate::single_test::SingleTest;
+use crate::unscoped::{OwnEntry, UnscopedList, UnscopedLists};
+use crate::unscoped_test::{ListTest, OwnTest};
+use crate::version_test::VersionTest;
+use sqlite::{Alter, Connection};
+use std::alloc::Global;
+use store_sql::{StoreFault, is_version_1};
+
+fn read_version<S: Alter>(conn: &mut Connection<S>) -> Result<(), StoreFault>
+    requires idle { conn.old.in_transaction ≡ false }
+    requires ours { HasCleanDisk (state S.Store conn.old) → (state S.Store conn.old).now.schema ≡ version_1_schema }
+    ensures idle { conn.new.in_transaction ≡ false }
+    ensures checks { HasCleanDisk (state S.Store conn.new) → Checks (state S.Store conn.old) (state S.Store conn.new) (λ done. HasVersion 1) (HasVersion 1) result }
+    ensures survives { CommitsNothing (state S.Store conn.old) (state S.Store conn.new) }
+{
+    let mut test = VersionTest {
+        version: 1,
+        found: false,
+    };
+    if let Err(fault) = test_rows(conn, "SELECT id, version FROM meta ORDER BY id", &mut test) {
+        return Err(fault);
+    }
+    if test.found {
+        Ok(())
+    } else {
+        Err(StoreFault::Schema)
+    }
+}
+
+/// One more than the id of the last issuer.
+fn read_issuers<S: Alter>(conn: &mut Connection<S>) -> Result<u32, StoreFault>
+    requires idle { conn.old.in_transaction ≡ false }
+    requires ours { HasCleanDisk (state S.Store conn.old) → (state S.Store conn.old).now.schema ≡ version_1_schema }
+    ensures idle { conn.new.in_transaction ≡ false }
+    ensures checks { HasCleanDisk (state S.Store conn.new) → Checks (state S.Store conn.old) (state S.Store conn.new) (λ next db. HasIssuers db × HasNext next db) HasIssuers result }
+    ensures survives { CommitsNothing (state S.Store conn.old) (state S.Store conn.new) }
+{
+    let mut test = IssuerTest { next: 1 };
+    match test_rows(conn, "SELECT id FROM issuers ORDER BY id", &mut test) {
+        Ok(()) => Ok(test.next),
+        Err(fault) => Err(fault),
+    }
+}
+
+fn read_singles<S: Alter>(conn: &mut Connection<S>, next: u32) -> Result<(), StoreFault>
+    requires idle { conn.old.in_transaction ≡ false }
+    requires ours { HasCleanDisk (state S.Store conn.old) → (state S.Store conn.old).now.schema ≡ version_1_schema }
+    ensures idle { conn.new.in_transaction ≡ false }
+    ensures checks { HasCleanDisk (state S.Store conn.new) → Checks (state S.Store conn.old) (state S.Store conn.new) (λ done. HasSingles next) (HasSingles next) result }
+    ensures survives { CommitsNothing (state S.Store conn.old) (state S.Store conn.new) }
+{
+    let mut test = SingleTest { next };
+    match test_rows(
+        conn,
+        "SELECT issuer, status, reason FROM ocsp ORDER BY rowid",
+        &mut test,
+    ) {
+        Ok(()) => Ok(()),
+        Err(fault) => Err(fault),
+    }
+}
+
+fn read_lists<S: Alter>(
+    alloc: Global,
+    conn: &mut Connection<S>,
+    next: u32,
+) -> Result<Vec<UnscopedList>, StoreFault>
+    requires idle { conn.old.in_transaction ≡ false }
+    requires ours { HasCleanDisk (state S.Store conn.old) → (state S.Store conn.old).now.schema ≡ version_1_schema }
+    ensures idle { conn.new.in_transaction ≡ false }
+    ensures checks { HasCleanDisk (state S.Store conn.new) → Checks (state S.Store conn.old) (state S.Store conn.new) (λ lists db. HasUnscopedCrls next db × ShowsCrls (map seen_list lists.items) db) (HasUnscopedCrls next) result }
+    ensures survives { CommitsNothing (state S.Store conn.old) (state S.Store conn.new) }
+{
+    let mut test = ListTest {
+        next,
+        lists: Vec::new(alloc),
+    };
+    match test_rows(
+        conn,
+        "SELECT issuer, number, since, until FROM crls ORDER BY issuer",
+        &mut test,
+    ) {
+        Ok(()) => Ok(test.lists),
+        Err(fault) => Err(fault),
+    }
+}
+
+fn read_entries<S: Alter>(
+    alloc: Global,
+    conn: &mut Connection<S>,
+    next: u32,
+) -> Result<Vec<OwnEntry>, StoreFault>
+    requires idle { conn.old.in_transaction ≡ false }
+    requires ours { HasCleanDisk (state S.Store conn.old) → (state S.Store conn.old).now.schema ≡ version_1_schema }
+    ensures idle { conn.new.in_transaction ≡ false }
+    ensures checks { HasCleanDisk (state S.Store conn.new) → Checks (state S.Store conn.old) (state S.Store conn.new) (λ entries db. HasUnscopedEntries next db × ShowsEntries (map seen_own entries.items) db) (HasUnscopedEntries next) result }
+    ensures survives { CommitsNothing (state S.Store conn.old) (state S.Store conn.new) }
+{
+    let mut test = OwnTest {
+        next,
+        entries: Vec::new(alloc),
+    };
+    match test_rows(
+        conn,
+        "SELECT issuer, serial, reason FROM entries ORDER BY rowid",
+        &mut test,
+    ) {
+        Ok(()) => Ok(test.entries),
+        Err(fault) => Err(fault),
+    }
+}
+
+/// The version, and one more than the id of the last issuer.
+fn read_ids<S: Alter>(conn: &mut Connection<S>) -> Result<u32, StoreFault>
+    requires idle { conn.old.in_transaction ≡ false }
+    requires ours { HasCleanDisk (state S.Store conn.old) → (state S.Store conn.old).now.schema ≡ version_1_schema }
+    ensures idle { conn.new.in_transaction ≡ false }
+    ensures checks { HasCleanDisk (state S.Store conn.new) → Checks (state S.Store conn.old) (state S.Store conn.new) HasIdsOfVersion1 (λ db. HasVersion 1 db × HasIssuers db) result }
+    ensures survives { CommitsNothing (state S.Store conn.old) (state S.Store conn.new) }
+{
+    if let Err(fault) = read_version(conn) {
+        return Err(fault);
+    }
+    match read_issuers(conn) {
+        Ok(next) => Ok(next),
+        Err(fault) => Err(fault),
+    }
+}
+
+/// All lists, and their entries.
+fn read_all_lists<S: Alter>(
+    alloc: Global,
+    conn: &mut Connection<S>,
+    next: u32,
+) -> Result<UnscopedLists, StoreFault>
+    requires idle { conn.old.in_transaction ≡ false }
+    requires ours { HasCleanDisk (state S.Store conn.old) → (state S.Store conn.old).now.schema ≡ version_1_schema }
+    ensures idle { conn.new.in_transaction ≡ false }
+    ensures checks { HasCleanDisk (state S.Store conn.new) → Checks (state S.Store conn.old) (state S.Store conn.new) (λ all db. HasListsUnder next db × ShowsLists (map seen_list all.lists.items) (map seen_own all.entries.items) db) (HasListsUnder next) result }
+    ensures survives { CommitsNothing (state S.Store conn.old) (state S.Store conn.new) }
+{
+    let lists = match read_lists(alloc, conn, next) {
+        Ok(lists) => lists,
+        Err(fault) => return Err(fault),
+    };
+    match read_entries(alloc, conn, next) {
+        Ok(entries) => Ok(UnscopedLists { lists, entries }),
+        Err(fault) => Err(fault),
+    }
+}
+
+/// What stands under the ids of issuers.
+fn read_under<S: Alter>(
+    alloc: Global,
+    conn: &mut Connection<S>,
+    next: u32,
+) -> Result<UnscopedLists, StoreFault>
+    requires idle { conn.old.in_transaction ≡ false }
+    requires ours { HasCleanDisk (state S.Store conn.old) → (state S.Store conn.old).now.schema ≡ version_1_schema }
+    ensures idle { conn.new.in_transaction ≡ false }
+    ensures checks { HasCleanDisk (state S.Store conn.new) → Checks (state S.Store conn.old) (state S.Store conn.new) (λ all db. HasUnder next db × ShowsLists (map seen_list all.lists.items) (map seen_own all.entries.items) db) (HasUnder next) result }
+    ensures survives { CommitsNothing (state S.Store conn.old) (state S.Store conn.new) }
+{
+    if let Err(fault) = read_singles(conn, next) {
+        return Err(fault);
+    }
+    match read_all_lists(alloc, conn, next) {
+        Ok(all) => Ok(all),
+        Err(fault) => Err(fault),
+    }
+}
+
+fn read_all<S: Alter>(alloc: Global, conn: &mut Connection<S>) -> Result<UnscopedLists, StoreFault>
+    requires idle { conn.old.in_transaction ≡ false }
+    ensures idle { conn.new.in_transaction ≡ false }
+    ensures reads { HasCleanDisk (state S.Store conn.new) → ReadsVersion1 (state S.Store conn.old) (state S.Store conn.new) (λ all. map seen_list all.lists.items) (λ all. map seen_own all.entries.items) result }
+    ensures survives { CommitsNothing (state S.Store conn.old) (state S.Store conn.new) }
+{
+    if !is_version_1(conn.schema()) {
+        return Err(StoreFault::Schema);
+    }
+    let next = match read_ids(conn) {
+        Ok(next) => next,
+        Err(fault) => return Err(fault),
+    };
+    match read_under(alloc, conn, next) {
+        Ok(all) => Ok(all),
+        Err(fault) => Err(fault),
+    }
+}
+
+/// Reads all rows of a database of version 1 once, and answers its lists: `StoreFault::Schema` where it is none, or has a row that
+/// version 1 does not write.
+pub fn read_version_1<S: Alter>(
+    alloc: Global,
+    conn: &mut Connection<S>,
+) -> Result<UnscopedLists, StoreFault>
+    requires idle { conn.old.in_transaction ≡ false }
+    ensures idle { conn.new.in_transaction ≡ false }
+    ensures reads { HasCleanDisk (state S.Store conn.new) → ReadsVersion1 (state S.Store conn.old) (state S.Store conn.new) (λ all. map seen_list all.lists.items) (λ all. map seen_own all.entries.items) result }
+    ensures settled { IsSettled (state S.Store conn.old) × IsSettled (state S.Store conn.new) }
+    ensures durable { IsDurable (state S.Store conn.new) }
+    ensures survives { CommitsNothing (state S.Store conn.old) (state S.Store conn.new) }
+{
+    let _before = conn.is_autocommit();
+    let all = read_all(alloc, conn);
+    let _after = conn.is_autocommit();
+    all
+}

@@ -1,0 +1,57 @@
+-- What a store holds: its rows as two maps, from slot to fact.
+use Rattle.std.specs.Prelude.{◌≡◌, ◌<◌, ℕ, List, Option, option_map, option_and_then, find}
+use Rattle.std.specs.List.{AllByRecursion}
+use Rattle.sqlite.specs.Effect.{Database}
+use Rattle.statements_facts.specs.declared.scope.Scope.{Scope}
+use Rattle.statements_facts.specs.Listed.{first_reason}
+use Rattle.statements_facts.specs.Statement.{Window, CrlFact, OcspFact, Holdings}
+use Rattle.store_sql.specs.declared.origin.Origin.{Origin}
+use Rattle.store_rows.specs.Contents.{Contents, is_crl_of, is_single_of, id_of, said_of, scope_number}
+use Rattle.store_rows.specs.Places.{listed_in}
+use Rattle.store_rows.specs.Holding.{Holds, AreInForm, next_id}
+use Rattle.store_maps.specs.declared.crl_slot.HeldCrl.{HeldCrl}
+
+-- ---- from rows to facts
+
+-- the list that stands under an issuer's id, with the reasons that its entries give
+abbrev pub crl_under : Contents → Scope → ℕ → Option CrlFact
+crl_under it scope id = option_map (λ row. record { number = row.number; window = row.window; reasons = first_reason (listed_in it.entries id (scope_number scope)) }) (find (is_crl_of id scope) it.crls)
+
+abbrev pub ocsp_under : Contents → List ℕ → List ℕ → ℕ → Option OcspFact
+ocsp_under it name_hash serial id = option_map said_of (find (is_single_of id name_hash serial) it.singles)
+
+abbrev pub held_in : Contents → Holdings
+held_in it = record {
+  crl = λ slot. option_and_then (crl_under it slot.scope) (id_of it.issuers slot.issuer);
+  ocsp = λ slot. option_and_then (ocsp_under it slot.name_hash slot.serial) (id_of it.issuers slot.issuer);
+}
+
+-- ---- the store
+
+-- What stands under an id stands under that of an issuer, so that a new one finds nothing under its id.
+pub record IsOwned (it : Contents) : Type 0 where
+  pub crls : AllByRecursion (λ row. row.issuer < next_id it.issuers) it.crls
+  pub singles : AllByRecursion (λ row. row.issuer < next_id it.issuers) it.singles
+
+-- the database is that of a store, and this is held
+pub record IsStoreOf (db : Database) (held : Holdings) : Type 0 where
+  pub origin : Origin
+  pub contents : Contents
+  pub rows : Holds db origin contents
+  pub form : AreInForm contents
+  pub owned : IsOwned contents
+  pub held_is : held_in contents ≡ held
+
+-- ---- look-ups
+
+-- what a list says of one serial number
+pub record CrlPart : Type 0 where
+  pub number : ℕ
+  pub window : Window
+  pub reason : Option ℕ
+
+abbrev pub part_of : List ℕ → CrlFact → CrlPart
+part_of serial fact = record { number = fact.number; window = fact.window; reason = fact.reasons serial }
+
+abbrev pub seen_crl : HeldCrl → CrlPart
+seen_crl crl = record { number = crl.number; window = record { from = crl.from; until = crl.until }; reason = crl.reason }

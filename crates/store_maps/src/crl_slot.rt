@@ -1,0 +1,83 @@
+//! Look-ups of revocation lists.
+
+ghost use Rattle.std.specs.Prelude.{◌≡◌, ◌<◌, IsTrue, option_map};
+ghost use Rattle.sqlite.specs.Held.{state};
+ghost use Rattle.sqlite.specs.State.{HasCleanDisk};
+ghost use Rattle.statements_facts.specs.Fact.{issuer_of};
+ghost use Rattle.store_sql.specs.Statements.{CommitsNothing};
+ghost use Rattle.store_rows.specs.Steps.{Finds};
+ghost use Rattle.store_maps.specs.Held.{crl_under, part_of, seen_crl};
+ghost use Rattle.store_maps.specs.LooksUp.{LooksUp};
+
+use asn::Number20;
+use sqlite::{Alter, Transaction};
+use statements_facts::{Issuer, Scope};
+use store_rows::{Head, ListKey, find_crl, find_entry, find_issuer};
+use store_sql::StoreFault;
+
+/// The list that is held of an issuer and a scope, and what it says of one serial number. Times are in seconds from
+/// 1970-01-01T00:00:00Z.
+#[derive(Clone, Copy)]
+pub struct HeldCrl {
+    pub number: Number20,
+    /// From when it counts.
+    pub from: i64,
+    /// Until when it counts.
+    pub until: i64,
+    /// The number of the reason, where the serial number is listed.
+    pub reason: Option<u8>,
+}
+
+fn with_reason(head: Head, reason: Option<u8>) -> HeldCrl
+    ensures { seen_crl result ≡ record { number = head.number; window = record { from = head.from; until = head.until }; reason = reason } }
+{
+    HeldCrl {
+        number: head.number,
+        from: head.from,
+        until: head.until,
+        reason,
+    }
+}
+
+fn look_under<S: Alter>(
+    tx: &mut Transaction<'_, S>,
+    list: &ListKey,
+    serial: &[u8],
+) -> Result<Option<HeldCrl>, StoreFault>
+    requires issuer { list.now.issuer < 536870911 }
+    requires inside { HasCleanDisk (state S.Store tx.old.conn.now) → IsTrue (state S.Store tx.old.conn.now).in_transaction }
+    ensures same_reference { tx.new.conn.ghost_name ≡ tx.old.conn.ghost_name }
+    ensures finds { HasCleanDisk (state S.Store tx.new.conn.now) → Finds (state S.Store tx.old.conn.now) (state S.Store tx.new.conn.now) (λ it crl. option_map seen_crl crl ≡ option_map (part_of serial.now) (crl_under it list.now.scope list.now.issuer)) result }
+    ensures survives { CommitsNothing (state S.Store tx.old.conn.now) (state S.Store tx.new.conn.now) }
+{
+    let head = match find_crl(tx, list.issuer, list.scope) {
+        Ok(Some(head)) => head,
+        Ok(None) => return Ok(None),
+        Err(fault) => return Err(fault),
+    };
+    match find_entry(tx, list, serial) {
+        Ok(reason) => Ok(Some(with_reason(head, reason))),
+        Err(fault) => Err(fault),
+    }
+}
+
+/// What is held in the slot of an issuer and a scope: the list's number and window, and its reason for one serial number.
+pub fn crl<S: Alter>(
+    tx: &mut Transaction<'_, S>,
+    issuer: &Issuer<'_>,
+    scope: Scope,
+    serial: &[u8],
+) -> Result<Option<HeldCrl>, StoreFault>
+    requires inside { HasCleanDisk (state S.Store tx.old.conn.now) → IsTrue (state S.Store tx.old.conn.now).in_transaction }
+    ensures same_reference { tx.new.conn.ghost_name ≡ tx.old.conn.ghost_name }
+    ensures looks_up { HasCleanDisk (state S.Store tx.new.conn.now) → LooksUp (state S.Store tx.old.conn.now) (state S.Store tx.new.conn.now) (λ held crl. option_map seen_crl crl ≡ option_map (part_of serial.now) (held.crl (record { issuer = issuer_of issuer.now; scope = scope }))) result }
+    ensures survives { CommitsNothing (state S.Store tx.old.conn.now) (state S.Store tx.new.conn.now) }
+{
+    let id = match find_issuer(tx, issuer) {
+        Ok(Some(id)) => id,
+        Ok(None) => return Ok(None),
+        Err(fault) => return Err(fault),
+    };
+    let list = ListKey { issuer: id, scope };
+    look_under(tx, &list, serial)
+}

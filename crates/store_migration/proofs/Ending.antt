@@ -1,0 +1,48 @@
+-- The transaction ends.
+use Rattle.std.proofs.Common.{◌≡◌, true, List, sym, subst, inr}
+use Rattle.sqlite.specs.Effect.{Database}
+use Rattle.sqlite.specs.Schema.{Schema}
+use Rattle.sqlite.specs.Held.{Held, state}
+use Rattle.sqlite.specs.State.{State, KeepsCommit, IsRolledBack}
+use Rattle.sqlite.specs.Tree.{Trees}
+use Rattle.sqlite.specs.Store.{Ghosts}
+use Rattle.sqlite.proofs.InsideLemmas.{unchanged_keeps, keeps_then}
+use Rattle.statements_facts.specs.Statement.{Holdings}
+use Rattle.store_sql.specs.declared.fault.StoreFault.{StoreFault}
+use Rattle.store_sql.specs.declared.fault.StoreFault.TheVariants.{Schema as NotOurs}
+use Rattle.store_sql.specs.Tables.{store_schema}
+use Rattle.store_maps.specs.Held.{IsStoreOf}
+use Rattle.store_adoption.specs.Creates.{AreTreesOf}
+use Rattle.store_adoption.specs.Version1.{UnscopedCrl, UnscopedEntry, IsVersion1Of, HasLists}
+use Rattle.store_taking.specs.Passing.{Passes, Stops}
+use Rattle.store_migration.specs.Moved.{IsOld}
+use Rattle.store_migration.specs.Migrates.{LeavesMoved}
+
+pub old_of : (crls : List UnscopedCrl) (entries : List UnscopedEntry) (db : Database) (held : Holdings) → HasLists crls entries db → IsVersion1Of db held → IsOld crls entries db held
+old_of crls entries db held has it = record {
+  it = it.contents;
+  was = record {
+    form = it.form;
+    issuers_rise = it.rows.issuers_rise;
+    singles_rise = it.rows.singles_rise;
+    crls_rise = it.rows.crls_rise;
+    lists = has.lists it.contents it.rows it.form;
+    held_is = it.held_is;
+  };
+  rows = it.rows;
+}
+
+trees_of : (held : Holdings) (db : Database) (trees : Trees) → trees ≡ db.trees → IsStoreOf db held → AreTreesOf held trees
+trees_of held db trees is it = (it.origin, subst (λ (t : Trees). IsStoreOf (record { schema = store_schema it.origin; trees = t }) held) (sym is) (subst (λ (s : Schema). IsStoreOf (record { schema = s; trees = db.trees }) held) it.rows.schema_is it))
+
+module _ {S : Type 0} (g : Ghosts S) (old begun : Held S) (is : begun ≡ record old { in_transaction = true }) (crls : List UnscopedCrl) (entries : List UnscopedEntry) where
+  -- what the commit leaves is the store of version 2
+  pub leaves_moved : (last : State) (trees : Trees) → Passes (state g begun) last (IsOld crls entries) IsStoreOf → trees ≡ last.now.trees → LeavesMoved (state g old) crls entries trees
+  leaves_moved last trees passes left held was =
+      let p = subst (λ h. Passes (state g h) last (IsOld crls entries) IsStoreOf) is passes in
+      trees_of held last.now trees left (p.held held was)
+
+  pub stops_moved : (last new : State) (fault : StoreFault) → Stops (state g begun) last (IsOld crls entries) fault → IsRolledBack last new → KeepsCommit (state g old) new × (fault ≡ NotOurs → (held : Holdings) → IsOld crls entries (state g old).now held → ⊥)
+  stops_moved last new fault stops back =
+      let h = subst (λ b. Stops (state g b) last (IsOld crls entries) fault) is stops in
+      (keeps_then (state g old) last new (record { was_open = h.keeps.was_open; committed = h.keeps.committed }) (unchanged_keeps last new (inr back)), λ ours held it. h.formed ours held it)

@@ -1,0 +1,64 @@
+use Rattle.std.proofs.Common.{map, arith, sym, subst, inl}
+use Rattle.sqlite.specs.Held.{state}
+use Rattle.sqlite.proofs.InsideLemmas.{unchanged_keeps, keeps_then}
+use Rattle.sqlite.proofs.StateLemmas.{survives_then}
+use Rattle.store_adoption.specs.Seen.{seen_list, seen_own}
+use Rattle.store_adoption.proofs.Laws.{order_of_version_1}
+use Rattle.store_migration.specs.Moved.{IsOld}
+use Rattle.store_migration.specs.Migrates.{LeavesMoved, LeavesMigrated}
+use Rattle.store_migration.proofs.Ending.{old_of}
+use Rattle.store_migration.proofs.migrating.migrate_idle.Goals as goal
+
+pub returns-in-Err-clause-migrates : goal.returns-in-Err-clause-migrates
+returns-in-Err-clause-migrates g c clean =
+    let h = c.in-Err.ensures.reads clean in
+    (h.0, λ ours held it. h.1 ours (order_of_version_1 _ (held, it)) (held, it))
+
+pub returns-in-Ok-move_committed-clause-migrates : goal.returns-in-Ok-move_committed-clause-migrates
+returns-in-Ok-move_committed-clause-migrates g c clean =
+    let old = state g.S.Store c.args.conn.now in
+    let crls = map seen_list c.in-Ok.all.lists.items in
+    let entries = map seen_own c.in-Ok.all.entries.items in
+    let read = c.in-Ok.ensures.reads (omega (arith, clean, c.move_committed.ensures.crash.clean)) in
+    let moved = c.in-Ok-move_committed.ensures.moves clean in
+    record {
+      was_open = read.0.0.was_open;
+      version_1 = λ ordered. (read.1 ordered).version_1;
+      is_open = moved.is_open;
+      held = λ held it. moved.held held (subst (λ db. IsOld crls entries db held) (sym read.0.0.now_is) (old_of crls entries old.now held (read.1 (order_of_version_1 old.now (held, it))) it));
+      committed_is = moved.committed_is;
+    }
+
+pub returns-clause-migrates : goal.returns-clause-migrates
+returns-clause-migrates g c clean =
+    let old = state g.S.Store c.args.conn.now in
+    let mid = state g.S.Store c.read_version_1.new.conn in
+    let crls = map seen_list c.in-Ok.all.lists.items in
+    let entries = map seen_own c.in-Ok.all.entries.items in
+    let read = c.in-Ok.ensures.reads (omega (arith, clean, c.move_committed.ensures.crash.clean)) in
+    let moved = c.in-Err-move_committed.ensures.moves clean in
+    (keeps_then old mid _ (unchanged_keeps old mid (inl read.0)) moved.0, λ ours held it. moved.1 ours held (subst (λ db. IsOld crls entries db held) (sym read.0.0.now_is) (old_of crls entries old.now held (read.1 (order_of_version_1 old.now (held, it))) it)))
+
+pub returns-in-Ok-move_committed-clause-crash : goal.returns-in-Ok-move_committed-clause-crash
+returns-in-Ok-move_committed-clause-crash g c =
+    let old = state g.S.Store c.args.conn.now in
+    let mid = state g.S.Store c.read_version_1.new.conn in
+    let crls = map seen_list c.in-Ok.all.lists.items in
+    let entries = map seen_own c.in-Ok.all.entries.items in
+    survives_then old mid (state g.S.Store c.move_committed.new.conn) (λ _. ⊥) (LeavesMoved mid crls entries) (LeavesMigrated old) (λ _ db none. absurd none)
+    (λ clean db leaves.
+    let read = c.in-Ok.ensures.reads (omega (arith, clean, c.move_committed.ensures.crash.clean)) in
+    (λ ordered. (read.1 ordered).version_1, λ held it. leaves held (subst (λ db. IsOld crls entries db held) (sym read.0.0.now_is) (old_of crls entries old.now held (read.1 (order_of_version_1 old.now (held, it))) it))))
+    c.read_version_1.ensures.survives c.move_committed.ensures.crash
+
+pub returns-clause-crash : goal.returns-clause-crash
+returns-clause-crash g c =
+    let old = state g.S.Store c.args.conn.now in
+    let mid = state g.S.Store c.read_version_1.new.conn in
+    let crls = map seen_list c.in-Ok.all.lists.items in
+    let entries = map seen_own c.in-Ok.all.entries.items in
+    survives_then old mid (state g.S.Store c.move_committed.new.conn) (λ _. ⊥) (LeavesMoved mid crls entries) (LeavesMigrated old) (λ _ db none. absurd none)
+    (λ clean db leaves.
+    let read = c.in-Ok.ensures.reads (omega (arith, clean, c.move_committed.ensures.crash.clean)) in
+    (λ ordered. (read.1 ordered).version_1, λ held it. leaves held (subst (λ db. IsOld crls entries db held) (sym read.0.0.now_is) (old_of crls entries old.now held (read.1 (order_of_version_1 old.now (held, it))) it))))
+    c.read_version_1.ensures.survives c.move_committed.ensures.crash

@@ -1,0 +1,44 @@
+-- A database of version 1 becomes a store of version 2, whole or not at all.
+use Rattle.std.specs.Prelude.{◌≡◌, List, Result, Ok, Err, IsTrue}
+use Rattle.sqlite.specs.State.{State, KeepsCommit}
+use Rattle.sqlite_trees.specs.Tree.{Trees}
+use Rattle.statements_facts.specs.Statement.{Holdings}
+use Rattle.store_sql.specs.declared.fault.StoreFault.{StoreFault}
+use Rattle.store_sql.specs.declared.fault.StoreFault.TheVariants.{Schema}
+use Rattle.store_maps.specs.Held.{IsStoreOf}
+use Rattle.store_adoption.specs.Creates.{AreTreesOf}
+use Rattle.store_adoption.specs.Inspects.{AreInOrder}
+use Rattle.store_adoption.specs.Version1.{UnscopedCrl, UnscopedEntry, IsVersion1Of, IsVersion1}
+use Rattle.store_migration.specs.Moved.{IsOld}
+
+-- what version 1 held is held by version 2, and is committed
+pub record IsMigrated (old new : State) : Type 0 where
+  pub was_open : IsTrue old.is_open
+  pub version_1 : AreInOrder old.now → IsVersion1 old.now
+  pub is_open : IsTrue new.is_open
+  pub held : (held : Holdings) → IsVersion1Of old.now held → IsStoreOf new.now held
+  pub committed_is : new.committed ≡ new.now
+
+-- or the last commit stays, and the fault is for the tables and rows only where they are not of version 1
+abbrev pub Migrates : {A : Type 0} → State → State → Result A StoreFault → Type 0
+Migrates old new (Ok done) = IsMigrated old new
+Migrates old new (Err fault) = KeepsCommit old new × (fault ≡ Schema → (held : Holdings) → IsVersion1Of old.now held → ⊥)
+
+-- what a crash may leave beside what it could leave before, and that only where the database was of version 1: the store of version 2
+abbrev pub LeavesMigrated : State → Trees → Type 0
+LeavesMigrated old trees = (AreInOrder old.now → IsVersion1 old.now) × ((held : Holdings) → IsVersion1Of old.now held → AreTreesOf held trees)
+
+-- ---- on the way, where these are the lists and their entries
+
+pub record HaveMoved (old new : State) (crls : List UnscopedCrl) (entries : List UnscopedEntry) : Type 0 where
+  pub was_open : IsTrue old.is_open
+  pub is_open : IsTrue new.is_open
+  pub held : (held : Holdings) → IsOld crls entries old.now held → IsStoreOf new.now held
+  pub committed_is : new.committed ≡ new.now
+
+abbrev pub MigratesLists : {A : Type 0} → State → State → List UnscopedCrl → List UnscopedEntry → Result A StoreFault → Type 0
+MigratesLists old new crls entries (Ok done) = HaveMoved old new crls entries
+MigratesLists old new crls entries (Err fault) = KeepsCommit old new × (fault ≡ Schema → (held : Holdings) → IsOld crls entries old.now held → ⊥)
+
+abbrev pub LeavesMoved : State → List UnscopedCrl → List UnscopedEntry → Trees → Type 0
+LeavesMoved old crls entries trees = (held : Holdings) → IsOld crls entries old.now held → AreTreesOf held trees

@@ -1,0 +1,6 @@
+-- The laws that other crates may cite.
+pub use Rattle.store_rows.proofs.Finding.{survives_itself}
+pub use Rattle.store_rows.proofs.Refilling.{replaces}
+pub use Rattle.store_rows.proofs.Refills.{ascends}
+pub use Rattle.store_rows.proofs.Placing.{Under, under, is_under_of, not_under, in_room}
+pub use Rattle.store_rows.proofs.Numbers.{value_back}

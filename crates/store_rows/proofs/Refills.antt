@@ -1,0 +1,119 @@
+-- The entries of a list take the place of those that stood there, one after the other.
+use Rattle.std.proofs.Common.{◌≡◌, ◌<◌, ◌≤◌, ◌+◌, ℕ, suc, All, pos, List, [], ◌∷◌, ◌++◌, map, filter, length, take, drop, get_or, Ok, refl, sym, ap, subst, ◌∙◌, arith}
+use Rattle.std.proofs.Math.Seq.{take-length}
+use Rattle.std.proofs.lemmas.List.{map_more, take-append-drop, map-append, length-take-le}
+use Rattle.std.specs.List.{AllByRecursion}
+use Rattle.std.specs.Ordering.{nat_cmp}
+use Rattle.std.specs.Cmp.Lexicographic.{slice_cmp}
+use Rattle.std.proofs.lemmas.Map.Keys.{sorted_tail}
+use Rattle.std.proofs.lemmas.Map.Views.{All-after_first}
+use Rattle.sqlite.specs.declared.types.Value.TheVariants.{Int}
+use Rattle.sqlite.specs.State.{State, KeepsCommit, ExecutesInside}
+use Rattle.sqlite_trees.specs.Tree.{IsAscending}
+use Rattle.statements_facts.specs.declared.revoked.Listed.{Listed}
+use Rattle.statements_facts.specs.Listed.{ListedSerial, seen_listed, IsAscending as Ascend}
+use Rattle.store_sql.specs.Texts.{delete_entries, insert_entry}
+use Rattle.store_rows.specs.Contents.{EntryRow, Contents, listed_cells}
+use Rattle.store_rows.specs.Places.{IsBelow, base_of, fill, is_under, put_entry, replaced, without}
+use Rattle.store_rows.specs.Holding.{Holds, HasByte, AreInOrder, with_entries}
+use Rattle.store_rows.specs.Steps.{Moves}
+use Rattle.store_rows.proofs.Placing.{IsNext}
+use Rattle.store_rows.proofs.Refilling.{length_map, befores, replaces}
+use Rattle.store_rows.proofs.Finding.{moves}
+use Rattle.store_rows.proofs.EntrySteps.{range_deleted, entry_added}
+
+-- ---- lists
+
+each_of : {X : Type 0} (P : X → Type 0) (xs : List X) → All P xs → AllByRecursion P xs
+each_of P [] h = tt
+each_of P (x ∷ xs) h = (h 0 x (omega arith), each_of P xs (λ k d low. h (suc k) d (omega (arith, low))))
+
+pub ascends : (xs : List ListedSerial) → Ascend xs → IsAscending IsBelow xs
+ascends [] h = tt
+ascends (x ∷ xs) h = (each_of (IsBelow x) xs (All-after_first (λ (one other : ListedSerial). slice_cmp nat_cmp one.serial other.serial) x xs h), ascends xs (sorted_tail (λ (one other : ListedSerial). slice_cmp nat_cmp one.serial other.serial) x xs h))
+
+all_front : {X : Type 0} (P : X → Type 0) (xs ys : List X) → AllByRecursion P (xs ++ ys) → AllByRecursion P xs
+all_front P [] ys h = tt
+all_front P (x ∷ xs) ys h = (h.0, all_front P xs ys h.1)
+
+ascends_front : (xs ys : List ListedSerial) → IsAscending IsBelow (xs ++ ys) → IsAscending IsBelow xs
+ascends_front [] ys h = tt
+ascends_front (x ∷ xs) ys h = (all_front (IsBelow x) xs ys h.0, ascends_front xs ys h.1)
+
+fill_more : (es : List EntryRow) (issuer scope n : ℕ) (ps : List ListedSerial) (p : ListedSerial)
+    → fill es issuer scope n (ps ++ p ∷ []) ≡ put_entry (record { place = n + length ps; issuer = issuer; scope = scope; listed = p }) (fill es issuer scope n ps)
+fill_more es issuer scope n [] p = ap (λ place. put_entry (record { place = place; issuer = issuer; scope = scope; listed = p }) es) (omega arith)
+fill_more es issuer scope n (q ∷ ps) p =
+    fill_more (put_entry (record { place = n; issuer = issuer; scope = scope; listed = q }) es) issuer scope (suc n) ps p
+    ∙ ap (λ place. put_entry (record { place = place; issuer = issuer; scope = scope; listed = p }) (fill (put_entry (record { place = n; issuer = issuer; scope = scope; listed = q }) es) issuer scope (suc n) ps)) (omega arith)
+
+-- ---- the loop
+
+pub emptied_first : (old new : State) (issuer scope count : ℕ) → scope < 3 → ExecutesInside 0 delete_entries (Int (pos (base_of issuer scope)) ∷ Int (pos (base_of issuer scope + 4294967296)) ∷ []) old new (Ok count)
+    → Moves old new (with_entries issuer scope [])
+emptied_first old new issuer scope count few h =
+    moves old new delete_entries (Int (pos (base_of issuer scope)) ∷ Int (pos (base_of issuer scope + 4294967296)) ∷ []) count (with_entries issuer scope []) h
+    (λ origin it held form. range_deleted origin old new it held issuer scope count few form.placed h.0)
+
+moves_on : (old mid new : State) (issuer scope k count : ℕ) (ps : List ListedSerial) (p : ListedSerial) → Moves old mid (with_entries issuer scope ps) → issuer < 536870911 → scope < 3 → k ≡ length ps → k < 4294967296
+    → IsAscending IsBelow (ps ++ p ∷ [])
+    → ExecutesInside 0 insert_entry (Int (pos (base_of issuer scope + k)) ∷ Int (pos issuer) ∷ Int (pos scope) ∷ listed_cells p) mid new (Ok count)
+    → Moves old new (with_entries issuer scope (ps ++ p ∷ []))
+moves_on old mid new issuer scope k count ps p so few scopes at room up h = record {
+  was_open = so.was_open;
+  is_open = h.1.is_open;
+  committed_is = h.1.committed_is ∙ so.committed_is;
+  mode = rw h.1.mode refl;
+  rows = λ origin it held form.
+      let was = replaces it.entries issuer scope ps form.placed few scopes (omega (arith, at, room)) (ascends_front ps (p ∷ []) up) in
+      let e : EntryRow = record { place = base_of issuer scope + k; issuer = issuer; scope = scope; listed = p } in
+      let size : k ≡ length (filter (is_under issuer scope) (replaced it.entries issuer scope ps)) =
+      at ∙ ap length (sym was.own) ∙ length_map (λ (e : EntryRow). e.listed) (filter (is_under issuer scope) (replaced it.entries issuer scope ps)) in
+      let next : IsNext (replaced it.entries issuer scope ps) e = record {
+        inside = record { issuer = few; scope = scopes; low = omega arith; high = omega (arith, room) };
+        next = ap (λ n. base_of issuer scope + n) size;
+        above = subst (AllByRecursion (λ x. IsBelow x p)) (sym was.own) (befores ps p [] up);
+      } in
+      let added = entry_added origin mid new (with_entries issuer scope ps it) (so.rows origin it held form) e count was.placed next h.0 in
+      let same : put_entry e (replaced it.entries issuer scope ps) ≡ replaced it.entries issuer scope (ps ++ p ∷ []) =
+      ap (λ n. put_entry (record { place = base_of issuer scope + n; issuer = issuer; scope = scope; listed = p }) (replaced it.entries issuer scope ps)) at
+      ∙ sym (fill_more (without issuer scope it.entries) issuer scope (base_of issuer scope) ps p) in
+      subst (λ es. Holds new.now origin (record it { entries = es })) same added;
+}
+
+-- the list so far with the next, and what is left
+parts : (all : List Listed) (k : ℕ) (d : Listed) → k < length all → map seen_listed all ≡ (map seen_listed (take k all) ++ seen_listed (get_or all k d) ∷ []) ++ map seen_listed (drop (k + 1) all)
+parts all k d low =
+    ap (map seen_listed) (sym (take-append-drop (k + 1) all)) ∙ map-append seen_listed (take (k + 1) all) (drop (k + 1) all)
+    ∙ ap (λ xs. xs ++ map seen_listed (drop (k + 1) all)) (map_more seen_listed all k d low)
+
+pub one_more : (old mid new : State) (issuer scope k count : ℕ) (all : List Listed) (d : Listed) → k < length all → length all ≤ 4294967296 → Ascend (map seen_listed all)
+    → issuer < 536870911 → scope < 3 → Moves old mid (with_entries issuer scope (map seen_listed (take k all)))
+    → ExecutesInside 0 insert_entry (Int (pos (base_of issuer scope + k)) ∷ Int (pos issuer) ∷ Int (pos scope) ∷ listed_cells (seen_listed (get_or all k d))) mid new (Ok count)
+    → Moves old new (with_entries issuer scope (map seen_listed (take (k + 1) all)))
+one_more old mid new issuer scope k count all d low few up issuers scopes so h =
+    let size : k ≡ length (map seen_listed (take k all)) = sym (length_map seen_listed (take k all) ∙ length-take-le k all (omega (arith, low))) in
+    let whole = subst (IsAscending IsBelow) (parts all k d low) (ascends (map seen_listed all) up) in
+    let front = ascends_front (map seen_listed (take k all) ++ seen_listed (get_or all k d) ∷ []) (map seen_listed (drop (k + 1) all)) whole in
+    subst (λ ps. Moves old new (with_entries issuer scope ps)) (sym (map_more seen_listed all k d low))
+    (moves_on old mid new issuer scope k count (map seen_listed (take k all)) (seen_listed (get_or all k d)) so issuers scopes size (omega (arith, low, few)) front h)
+
+-- a fault on the way
+pub moves_keep : (old new : State) (changed : Contents → Contents) → Moves old new changed → KeepsCommit old new
+moves_keep old new changed m = record { was_open = λ _. m.was_open; committed = λ _. m.committed_is }
+
+-- ---- the form of what is written
+
+all_and : {X : Type 0} (P : X → Type 0) (xs : List X) (x : X) → AllByRecursion P xs → P x → AllByRecursion P (xs ++ x ∷ [])
+all_and P [] x h one = (one, tt)
+all_and P (y ∷ xs) x h one = (h.0, all_and P xs x h.1 one)
+
+pub one_more_byte : (all : List Listed) (k : ℕ) (d : Listed) → k < length all → AllByRecursion HasByte (map seen_listed (take k all)) → HasByte (seen_listed (get_or all k d)) → AllByRecursion HasByte (map seen_listed (take (k + 1) all))
+one_more_byte all k d low so one = subst (AllByRecursion HasByte) (sym (map_more seen_listed all k d low)) (all_and HasByte (map seen_listed (take k all)) (seen_listed (get_or all k d)) so one)
+
+pub all_written : (all : List Listed) (k : ℕ) → k ≡ length all → length all ≤ 4294967296 → Ascend (map seen_listed all) → AllByRecursion HasByte (map seen_listed (take k all)) → AreInOrder (map seen_listed all)
+all_written all k at few up bytes = record {
+  few = omega (arith, few, length_map seen_listed all);
+  ascend = up;
+  bytes = subst (λ xs. AllByRecursion HasByte (map seen_listed xs)) (ap (λ n. take n all) at ∙ take-length all) bytes;
+}

@@ -1,0 +1,36 @@
+-- The tables of a new store.
+use Rattle.std.specs.Prelude.{◌≡◌, ◌≢◌, [], Result, Ok, Err, IsTrue}
+use Rattle.std.specs.List.{AllByRecursion}
+use Rattle.sqlite.specs.Effect.{Database}
+use Rattle.sqlite.specs.Schema.{Schema}
+use Rattle.sqlite.specs.State.{State, KeepsCommit}
+use Rattle.store_sql.specs.declared.origin.Origin.TheVariants.{Made}
+use Rattle.store_sql.specs.declared.fault.StoreFault.{StoreFault}
+use Rattle.store_sql.specs.declared.fault.StoreFault.TheVariants.{Schema as NotOurs}
+use Rattle.store_rows.specs.Holding.{Holds, no_contents}
+
+-- the tables of this schema, without a row
+pub record IsEmptyWith (db : Database) (schema : Schema) : Type 0 where
+  pub schema_is : db.schema ≡ schema
+  pub empty : AllByRecursion (λ t. db.trees t.tree ≡ []) schema.tables
+
+-- inside the transaction; the last commit is as it was
+pub record Advances (old new : State) : Type 0 where
+  pub was_open : IsTrue old.is_open
+  pub is_open : IsTrue new.is_open
+  pub committed_is : new.committed ≡ old.committed
+  pub mode : IsTrue new.in_transaction
+
+pub record StopsShort (old new : State) (fault : StoreFault) : Type 0 where
+  pub keeps : KeepsCommit old new
+  pub formed : fault ≢ NotOurs
+
+-- from one schema to another
+abbrev pub Builds : {A : Type 0} → State → State → Schema → Schema → Result A StoreFault → Type 0
+Builds old new before after (Ok done) = Advances old new × (IsEmptyWith old.now before → IsEmptyWith new.now after)
+Builds old new before after (Err fault) = StopsShort old new fault
+
+-- from a schema to the tables of a new store, which hold nothing
+abbrev pub Makes : {A : Type 0} → State → State → Schema → Result A StoreFault → Type 0
+Makes old new before (Ok done) = Advances old new × (IsEmptyWith old.now before → Holds new.now Made no_contents)
+Makes old new before (Err fault) = StopsShort old new fault

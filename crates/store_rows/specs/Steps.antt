@@ -1,0 +1,48 @@
+-- What a call inside a transaction does to the rows.
+use Rattle.std.specs.Prelude.{◌≡◌, ℕ, Option, Result, Ok, Err, IsTrue}
+use Rattle.sqlite.specs.State.{State, KeepsCommit}
+use Rattle.store_sql.specs.declared.origin.Origin.{Origin}
+use Rattle.store_sql.specs.declared.fault.StoreFault.{StoreFault}
+use Rattle.store_sql.specs.declared.fault.StoreFault.TheVariants.{Schema}
+use Rattle.statements_facts.specs.Statement.{IssuerIdentity}
+use Rattle.store_rows.specs.Contents.{Contents, id_of}
+use Rattle.store_rows.specs.Holding.{Holds, AreInForm}
+
+-- all is as it was
+pub record Stays (old new : State) : Type 0 where
+  pub open_is : new.is_open ≡ old.is_open
+  pub now_is : new.now ≡ old.now
+  pub committed_is : new.committed ≡ old.committed
+  pub mode : new.in_transaction ≡ old.in_transaction
+
+-- the last commit stays, and no fault is for the form of a row where all rows are in form
+pub record Fails (old new : State) (fault : StoreFault) : Type 0 where
+  pub keeps : KeepsCommit old new
+  pub formed : fault ≡ Schema → (origin : Origin) (it : Contents) → Holds old.now origin it → AreInForm it → ⊥
+
+-- what is found is said of the rows, and all is as it was
+pub record IsAnswered {A : Type 0} (old new : State) (IsFound : Contents → A → Type 0) (found : A) : Type 0 where
+  pub keeps : KeepsCommit old new
+  pub mode : IsTrue new.in_transaction
+  pub rows : (origin : Origin) (it : Contents) → Holds old.now origin it → AreInForm it → Stays old new × IsFound it found
+
+abbrev pub Finds : {A : Type 0} → State → State → (Contents → A → Type 0) → Result A StoreFault → Type 0
+Finds old new IsFound (Ok found) = IsAnswered old new IsFound found
+Finds old new IsFound (Err fault) = Fails old new fault
+
+-- the connection was open, and this is the id that an issuer has, also where another's is no longer in form
+pub record IsKnown (old new : State) (identity : IssuerIdentity) (id : Option ℕ) : Type 0 where
+  pub was_open : IsTrue old.is_open
+  pub rows : (origin : Origin) (it : Contents) → Holds old.now origin it → Stays old new × (id ≡ id_of it.issuers identity)
+
+-- inside the transaction the rows are now these; the last commit is as it was
+pub record Moves (old new : State) (changed : Contents → Contents) : Type 0 where
+  pub was_open : IsTrue old.is_open
+  pub is_open : IsTrue new.is_open
+  pub committed_is : new.committed ≡ old.committed
+  pub mode : IsTrue new.in_transaction
+  pub rows : (origin : Origin) (it : Contents) → Holds old.now origin it → AreInForm it → Holds new.now origin (changed it)
+
+abbrev pub Changes : {A : Type 0} → State → State → (Contents → Contents) → Result A StoreFault → Type 0
+Changes old new changed (Ok done) = Moves old new changed
+Changes old new changed (Err fault) = Fails old new fault

@@ -1,0 +1,47 @@
+//! Cells of the rows that a query shows.
+
+ghost use Rattle.std.specs.Prelude.{◌≡◌, ◌≢◌, ◌<◌, ℕ, ℤ, pos, Err, IfOk};
+ghost use Rattle.sqlite.specs.declared.types.Value.TheVariants.{Int, Blob};
+ghost use Rattle.store_rows.specs.Contents.{HasCell};
+
+use sqlite::{Error, ErrorCode, Row};
+use store_sql::StoreFault;
+
+/// Want of memory, or a cell of another form than the store writes.
+fn cell_fault(error: Error) -> StoreFault
+    ensures { result ≡ StoreFault.Schema → error ≢ Error.SqliteFailure ErrorCode.OutOfMemory }
+{
+    match error {
+        Error::SqliteFailure(ErrorCode::OutOfMemory) => StoreFault::Memory,
+        _ => StoreFault::Schema,
+    }
+}
+
+/// The integer in a cell.
+pub fn integer(row: &Row, at: usize) -> Result<i64, StoreFault>
+    ensures ok { IfOk result (λ number. HasCell row.now at (Int number)) }
+    ensures schema { result ≡ Err StoreFault.Schema → (number : ℤ) → ¬ HasCell row.now at (Int number) }
+{
+    row.get(at).map_err(cell_fault)
+}
+
+/// The octets in a cell.
+pub fn octets(row: &Row, at: usize) -> Result<Vec<u8>, StoreFault>
+    ensures ok { IfOk result (λ octets. HasCell row.now at (Blob octets.items)) }
+    ensures schema { result ≡ Err StoreFault.Schema → (octets : _) → ¬ HasCell row.now at (Blob octets) }
+{
+    row.get(at).map_err(cell_fault)
+}
+
+/// The number in a cell that is not negative and below the bound.
+pub fn natural(row: &Row, at: usize, bound: u32) -> Result<u32, StoreFault>
+    ensures ok { IfOk result (λ number. HasCell row.now at (Int (pos number)) × (number < bound)) }
+    ensures schema { result ≡ Err StoreFault.Schema → (number : ℕ) → number < bound → ¬ HasCell row.now at (Int (pos number)) }
+{
+    let number = integer(row, at)?;
+    if 0 <= number && number < i64::from(bound) {
+        Ok(number as u32)
+    } else {
+        Err(StoreFault::Schema)
+    }
+}

@@ -1,0 +1,152 @@
+//! Revocation lists, without their entries.
+
+ghost use Rattle.std.specs.Prelude.{◌≡◌, ◌≢◌, ◌<◌, ◌^◌, ◌∷◌, [], ℕ, pos, length, Option, Err, IfOk, IfSome, IfNone, IsTrue, option_map, find};
+ghost use Rattle.asn.specs.Integer.{binary_value};
+ghost use Rattle.asn.specs.NumberLaws.{number_octets};
+ghost use Rattle.sqlite.specs.Held.{state};
+ghost use Rattle.sqlite.specs.State.{HasCleanDisk};
+ghost use Rattle.sqlite.specs.declared.types.Value.TheVariants.{Int};
+ghost use Rattle.store_sql.specs.Statements.{CommitsNothing, Runs};
+ghost use Rattle.store_sql.specs.Texts.{insert_crl};
+ghost use Rattle.store_rows.specs.Contents.{CrlHead, shown, head_cells, head_of, is_crl_of, scope_number};
+ghost use Rattle.store_rows.specs.Holding.{IsNumbered, with_crl};
+ghost use Rattle.store_rows.specs.Steps.{Finds, Changes};
+ghost use Rattle.store_rows.specs.Seen.{seen_head};
+
+use crate::cell::{integer, octets};
+use asn::Number20;
+use sqlite::{Alter, Error, Row, Transaction};
+use statements_facts::Scope;
+use store_sql::{CrlCells, CrlKey, StoreFault, crl_rows, delete_crl, insert_crl};
+
+/// A list without its entries. Times are in seconds from 1970-01-01T00:00:00Z.
+#[derive(Clone, Copy)]
+pub struct Head {
+    pub number: Number20,
+    pub from: i64,
+    pub until: i64,
+}
+
+/// The number of a scope in the tables.
+pub fn scope_number(scope: Scope) -> u8
+    ensures { result ≡ scope_number scope }
+{
+    match scope {
+        Scope::All => 0,
+        Scope::User => 1,
+        Scope::Ca => 2,
+    }
+}
+
+/// The number that twenty octets spell; `None` where there are not twenty.
+pub fn number_of(octets: &[u8]) -> Option<Number20>
+    ensures some { IfSome result (λ number. (octets.now ≡ number_octets 20 number) × (number < 2 ^ 160)) }
+    ensures none { IfNone result ((number : ℕ) → octets.now ≢ number_octets 20 number) }
+{
+    match octets.try_into() {
+        Ok(octets) => Some(Number20::from_octets(octets)),
+        Err(_) => None,
+    }
+}
+
+fn read_head(row: &Row) -> Result<Head, StoreFault>
+    ensures ok { IfOk result (λ found. (head : CrlHead) → IsNumbered head → row.now ≡ head_cells head → seen_head found ≡ head) }
+    ensures schema { result ≡ Err StoreFault.Schema → (head : CrlHead) → row.now ≢ head_cells head }
+{
+    let octets = octets(row, 0)?;
+    let from = integer(row, 1)?;
+    let until = integer(row, 2)?;
+    let Some(number) = number_of(octets.as_slice()) else {
+        return Err(StoreFault::Schema);
+    };
+    Ok(Head {
+        number,
+        from,
+        until,
+    })
+}
+
+fn read_heads(rows: &[Row]) -> Result<Option<Head>, StoreFault>
+    ensures ok { IfOk result (λ found. (head : Option CrlHead) → IfSome head IsNumbered → rows.now ≡ shown head_cells head → option_map seen_head found ≡ head) }
+    ensures schema { result ≡ Err StoreFault.Schema → (head : Option CrlHead) → IfSome head IsNumbered → rows.now ≢ shown head_cells head }
+{
+    match rows {
+        [] => Ok(None),
+        [row] => Ok(Some(read_head(row)?)),
+        _ => Err(StoreFault::Schema),
+    }
+}
+
+/// The list of an issuer and a scope, where one is held.
+pub fn find_crl<S: Alter>(
+    tx: &mut Transaction<'_, S>,
+    issuer: u32,
+    scope: Scope,
+) -> Result<Option<Head>, StoreFault>
+    requires inside { HasCleanDisk (state S.Store tx.old.conn.now) → IsTrue (state S.Store tx.old.conn.now).in_transaction }
+    ensures same_reference { tx.new.conn.ghost_name ≡ tx.old.conn.ghost_name }
+    ensures finds { HasCleanDisk (state S.Store tx.new.conn.now) → Finds (state S.Store tx.old.conn.now) (state S.Store tx.new.conn.now) (λ it head. option_map seen_head head ≡ option_map head_of (find (is_crl_of issuer scope) it.crls)) result }
+    ensures survives { CommitsNothing (state S.Store tx.old.conn.now) (state S.Store tx.new.conn.now) }
+{
+    let key = key_of(issuer, scope);
+    let rows = match crl_rows(tx, &key) {
+        Ok(rows) => rows,
+        Err(error) => return Err(StoreFault::from(error)),
+    };
+    read_heads(rows.as_slice())
+}
+
+fn key_of(issuer: u32, scope: Scope) -> CrlKey
+    ensures issuer { result.issuer ≡ pos issuer }
+    ensures scope { result.scope ≡ pos (scope_number scope) }
+{
+    CrlKey {
+        issuer: i64::from(issuer),
+        scope: i64::from(scope_number(scope)),
+    }
+}
+
+/// Twenty octets spell a number in just one way.
+fn is_spelled(octets: &[u8])
+    requires { length octets.now ≡ 20 }
+    ensures { octets.now ≡ number_octets 20 (binary_value octets.now) }
+{
+    let _count = octets.len();
+}
+
+fn add_crl<S: Alter>(tx: &mut Transaction<'_, S>, key: &CrlKey, head: &Head) -> Result<usize, Error>
+    ensures same_reference { tx.new.conn.ghost_name ≡ tx.old.conn.ghost_name }
+    ensures runs { Runs insert_crl (Int key.now.issuer ∷ Int key.now.scope ∷ head_cells (seen_head head.now)) (state S.Store tx.old.conn.now) (state S.Store tx.new.conn.now) result }
+    ensures survives { CommitsNothing (state S.Store tx.old.conn.now) (state S.Store tx.new.conn.now) }
+{
+    let number = head.number.to_octets();
+    is_spelled(&number);
+    let cells = CrlCells {
+        number: &number,
+        since: head.from,
+        until: head.until,
+    };
+    insert_crl(tx, key, &cells)
+}
+
+/// Puts a list, without its entries, in the place of that of its issuer and scope.
+pub fn replace_crl<S: Alter>(
+    tx: &mut Transaction<'_, S>,
+    issuer: u32,
+    scope: Scope,
+    head: &Head,
+) -> Result<(), StoreFault>
+    requires inside { HasCleanDisk (state S.Store tx.old.conn.now) → IsTrue (state S.Store tx.old.conn.now).in_transaction }
+    ensures same_reference { tx.new.conn.ghost_name ≡ tx.old.conn.ghost_name }
+    ensures changes { HasCleanDisk (state S.Store tx.new.conn.now) → Changes (state S.Store tx.old.conn.now) (state S.Store tx.new.conn.now) (with_crl issuer scope (seen_head head.now).number (seen_head head.now).window) result }
+    ensures survives { CommitsNothing (state S.Store tx.old.conn.now) (state S.Store tx.new.conn.now) }
+{
+    let key = key_of(issuer, scope);
+    if let Err(error) = delete_crl(tx, &key) {
+        return Err(StoreFault::from(error));
+    }
+    match add_crl(tx, &key, head) {
+        Ok(_) => Ok(()),
+        Err(error) => Err(StoreFault::from(error)),
+    }
+}

@@ -1,0 +1,107 @@
+//! The entries of a list, in the place of those that stood there.
+
+ghost use Rattle.std.specs.Prelude.{◌≡◌, ◌<◌, ◌+◌, ◌∷◌, [], pos, OnOk, IsTrue};
+ghost use Rattle.sqlite.specs.Held.{state};
+ghost use Rattle.sqlite.specs.State.{HasCleanDisk};
+ghost use Rattle.sqlite.specs.declared.types.Value.TheVariants.{Int};
+ghost use Rattle.statements_facts.specs.Listed.{seen_listed};
+ghost use Rattle.store_sql.specs.Statements.{CommitsNothing, Runs};
+ghost use Rattle.store_sql.specs.Texts.{delete_entries, insert_entry};
+ghost use Rattle.store_rows.specs.Contents.{listed_cells, scope_number};
+ghost use Rattle.store_rows.specs.Places.{base_of};
+ghost use Rattle.store_rows.specs.Holding.{AreInOrder, HasByte, with_entries};
+ghost use Rattle.store_rows.specs.Steps.{Changes};
+
+use crate::crl::scope_number;
+use crate::entry::{ListKey, ROOM, base_of, signed};
+use sqlite::{Alter, Error, Transaction};
+use statements_facts::{Listed, RevokedSerials};
+use store_sql::{EntryCells, Places, StoreFault, delete_entries, insert_entry};
+
+fn places_of(list: &ListKey) -> Places
+    requires { list.now.issuer < 536870911 }
+    ensures first { result.first ≡ pos (base_of list.now.issuer (scope_number list.now.scope)) }
+    ensures end { result.end ≡ pos (base_of list.now.issuer (scope_number list.now.scope) + 4294967296) }
+{
+    let first = base_of(list);
+    Places {
+        first: signed(first),
+        end: signed(first + ROOM),
+    }
+}
+
+fn cells_of<'a>(list: &ListKey, index: u64, listed: &Listed<'a>) -> EntryCells<'a>
+    requires issuer { list.now.issuer < 536870911 }
+    requires index { index < 4294967296 }
+    ensures place { result.place ≡ pos (base_of list.now.issuer (scope_number list.now.scope) + index) }
+    ensures issuer { result.issuer ≡ pos list.now.issuer }
+    ensures scope { result.scope ≡ pos (scope_number list.now.scope) }
+    ensures serial { result.serial.now ≡ (seen_listed listed.now).serial }
+    ensures reason { result.reason ≡ pos (seen_listed listed.now).reason }
+    ensures byte { HasByte (seen_listed listed.now) }
+{
+    EntryCells {
+        place: signed(base_of(list) + index),
+        issuer: i64::from(list.issuer),
+        scope: i64::from(scope_number(list.scope)),
+        serial: listed.serial,
+        reason: i64::from(listed.reason),
+    }
+}
+
+fn empty<S: Alter>(tx: &mut Transaction<'_, S>, list: &ListKey) -> Result<usize, Error>
+    requires { list.now.issuer < 536870911 }
+    ensures same_reference { tx.new.conn.ghost_name ≡ tx.old.conn.ghost_name }
+    ensures runs { Runs delete_entries (Int (pos (base_of list.now.issuer (scope_number list.now.scope))) ∷ Int (pos (base_of list.now.issuer (scope_number list.now.scope) + 4294967296)) ∷ []) (state S.Store tx.old.conn.now) (state S.Store tx.new.conn.now) result }
+    ensures survives { CommitsNothing (state S.Store tx.old.conn.now) (state S.Store tx.new.conn.now) }
+{
+    let places = places_of(list);
+    delete_entries(tx, &places)
+}
+
+fn add<S: Alter>(
+    tx: &mut Transaction<'_, S>,
+    list: &ListKey,
+    index: u64,
+    listed: &Listed<'_>,
+) -> Result<usize, Error>
+    requires issuer { list.now.issuer < 536870911 }
+    requires index { index < 4294967296 }
+    ensures same_reference { tx.new.conn.ghost_name ≡ tx.old.conn.ghost_name }
+    ensures runs { Runs insert_entry (Int (pos (base_of list.now.issuer (scope_number list.now.scope) + index)) ∷ Int (pos list.now.issuer) ∷ Int (pos (scope_number list.now.scope)) ∷ listed_cells (seen_listed listed.now)) (state S.Store tx.old.conn.now) (state S.Store tx.new.conn.now) result }
+    ensures byte { HasByte (seen_listed listed.now) }
+    ensures survives { CommitsNothing (state S.Store tx.old.conn.now) (state S.Store tx.new.conn.now) }
+{
+    let cells = cells_of(list, index, listed);
+    insert_entry(tx, &cells)
+}
+
+/// Puts the entries of a list in the place of those that stood there.
+pub fn replace_entries<S: Alter>(
+    tx: &mut Transaction<'_, S>,
+    list: &ListKey,
+    revoked: &RevokedSerials<'_>,
+) -> Result<(), StoreFault>
+    requires issuer { list.now.issuer < 536870911 }
+    requires inside { HasCleanDisk (state S.Store tx.old.conn.now) → IsTrue (state S.Store tx.old.conn.now).in_transaction }
+    ensures same_reference { tx.new.conn.ghost_name ≡ tx.old.conn.ghost_name }
+    ensures formed { OnOk result (AreInOrder revoked.now) }
+    ensures changes { HasCleanDisk (state S.Store tx.new.conn.now) → Changes (state S.Store tx.old.conn.now) (state S.Store tx.new.conn.now) (with_entries list.now.issuer (scope_number list.now.scope) revoked.now) result }
+    ensures survives { CommitsNothing (state S.Store tx.old.conn.now) (state S.Store tx.new.conn.now) }
+{
+    let all = revoked.as_slice();
+    if all.len() as u64 > ROOM {
+        return Err(StoreFault::Store);
+    }
+    if let Err(error) = empty(tx, list) {
+        return Err(StoreFault::from(error));
+    }
+    let mut index = 0;
+    'each: for listed in all {
+        match add(tx, list, index, listed) {
+            Ok(_) => index += 1,
+            Err(error) => return Err(StoreFault::from(error)),
+        }
+    }
+    Ok(())
+}

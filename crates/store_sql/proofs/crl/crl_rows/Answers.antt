@@ -1,0 +1,12 @@
+use Rattle.std.proofs.Common.{to_z, of_z, w64, rules, ◌≡◌}
+use Rattle.store_sql.proofs.Keeping.{keeps_on_error}
+use Rattle.store_sql.proofs.crl.crl_rows.Goals as goal
+
+pub returns-clause-kept : goal.returns-clause-kept
+returns-clause-kept g c clean = keeps_on_error _ _ _ _ _ (c.query_all.ensures.err clean)
+
+pub returns-clause-shows : goal.returns-clause-shows
+returns-clause-shows g c clean =
+    let e0 : to_z w64 (of_z w64 c.args.key.now.issuer) ≡ c.args.key.now.issuer = search rules in
+    let e1 : to_z w64 (of_z w64 c.args.key.now.scope) ≡ c.args.key.now.scope = search rules in
+    rw (e0, e1) at (c.query_all.ensures.ok clean)

@@ -1,0 +1,4 @@
+use Rattle.store_sql.proofs.issuer.insert_issuer.Goals as goal
+
+pub returns-clause-runs : goal.returns-clause-runs
+returns-clause-runs g c clean inside = c.execute.ensures.runs clean inside

@@ -1,0 +1,6 @@
+use Rattle.store_taking.proofs.Deliveries.{one_taken}
+use Rattle.store_taking.proofs.delivery.take_all.Goals as goal
+
+pub returns-in-Ok-clause-takes : goal.returns-in-Ok-clause-takes
+returns-in-Ok-clause-takes g c clean =
+    rw c.in-Crl.is (one_taken _ _ _ c.none.result c.and.result c.in-Ok.outcome (c.in-Ok.ensures.takes clean) c.none.ensures.counted c.and.ensures.counted)

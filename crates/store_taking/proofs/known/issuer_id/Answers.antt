@@ -1,0 +1,24 @@
+use Rattle.std.proofs.Common.{arith}
+use Rattle.statements_facts.specs.Fact.{issuer_of}
+use Rattle.store_maps.specs.Held.{IsStoreOf}
+use Rattle.store_taking.specs.Passing.{HasIssuer, LacksIssuer}
+use Rattle.store_taking.proofs.Chains.{goes_then}
+use Rattle.store_taking.proofs.Issuing.{passes_found, passes_unfound}
+use Rattle.store_taking.proofs.Chains.{on_ok}
+use Rattle.store_taking.proofs.known.issuer_id.Goals as goal
+
+pub returns-in-Ok-Some-clause-goes : goal.returns-in-Ok-Some-clause-goes
+returns-in-Ok-Some-clause-goes g c clean =
+    passes_found _ _ (issuer_of c.args.issuer.now) c.in-Ok-Some.field-0 c.in-Ok-Some.id c.in-Ok-Some.field-0-is (c.in-Ok-Some.ensures.finds clean)
+
+pub returns-in-Ok-None-clause-goes : goal.returns-in-Ok-None-clause-goes
+returns-in-Ok-None-clause-goes g c clean =
+    goes_then _ _ _ IsStoreOf (LacksIssuer (issuer_of c.args.issuer.now)) (HasIssuer (issuer_of c.args.issuer.now)) c.new_issuer.result
+    (passes_unfound _ _ (issuer_of c.args.issuer.now) c.in-Ok-None.field-0 c.in-Ok-None.field-0-is (c.in-Ok-None.ensures.finds (omega (arith, clean, c.new_issuer.ensures.survives.clean))))
+    (c.new_issuer.ensures.goes clean)
+
+pub returns-in-Ok-Some-clause-open : goal.returns-in-Ok-Some-clause-open
+returns-in-Ok-Some-clause-open g c clean = (c.in-Ok-Some.ensures.known clean).was_open
+
+pub returns-in-Ok-None-clause-open : goal.returns-in-Ok-None-clause-open
+returns-in-Ok-None-clause-open g c clean = on_ok c.new_issuer.result _ (c.in-Ok-None.ensures.known (omega (arith, clean, c.new_issuer.ensures.survives.clean))).was_open

@@ -1,0 +1,15 @@
+use Rattle.std.proofs.Common.{arith}
+use Rattle.statements_facts.specs.Fact.{Fact, issuer_of, crl_slot, crl_fact}
+use Rattle.store_maps.specs.Held.{IsStoreOf}
+use Rattle.store_taking.specs.Passing.{HasIssuer}
+use Rattle.store_taking.specs.Taking.{IsTaken}
+use Rattle.store_taking.proofs.Chains.{goes_then, on_ok}
+use Rattle.store_taking.proofs.lists.take_list.Goals as goal
+
+pub returns-clause-takes : goal.returns-clause-takes
+returns-clause-takes g c clean =
+    goes_then _ _ _ IsStoreOf (HasIssuer (issuer_of c.args.list.now.issuer) c.in-Ok.id) (IsTaken (Fact.OfCrl (crl_slot c.args.list.now) (crl_fact c.args.list.now))) c.take_under.result
+    (c.in-Ok.ensures.goes (omega (arith, clean, c.take_under.ensures.survives.clean))) (c.take_under.ensures.goes clean)
+
+pub returns-clause-open : goal.returns-clause-open
+returns-clause-open g c clean = on_ok c.take_under.result _ (c.in-Ok.ensures.open (omega (arith, clean, c.take_under.ensures.survives.clean)))

@@ -1,0 +1,26 @@
+use Rattle.std.proofs.Common.{arith}
+use Rattle.statements_facts.specs.Fact.{issuer_of}
+use Rattle.statements_facts.specs.Single.{seen_single}
+use Rattle.store_taking.proofs.Storing.{single_left, single_stored, looked_then_stops, stops_at_once}
+use Rattle.store_taking.proofs.responses.take_under.Goals as goal
+
+pub returns-in-Err-clause-goes : goal.returns-in-Err-clause-goes
+returns-in-Err-clause-goes g c clean =
+    stops_at_once _ _ (issuer_of c.args.issuer.now) c.args.id c.in-Err.fault (c.in-Err.ensures.finds clean)
+
+pub returns-in_default-clause-goes : goal.returns-in_default-clause-goes
+returns-in_default-clause-goes g c clean =
+    let single = seen_single c.args.single.now in
+    single_left (issuer_of c.args.issuer.now) c.args.id single.name_hash single.serial single.fact _ _ c.in-Ok.outcome c.in_default.not-Stored (c.in-Ok.ensures.finds clean)
+
+pub returns-in-Ok-replace_single-clause-goes : goal.returns-in-Ok-replace_single-clause-goes
+returns-in-Ok-replace_single-clause-goes g c clean =
+    let single = seen_single c.args.single.now in
+    single_stored (issuer_of c.args.issuer.now) c.args.id single.name_hash single.serial single.fact _ _ _
+    (rw c.in-Stored.is at (c.in-Ok.ensures.finds (omega (arith, clean, c.replace_single.ensures.survives.clean)))) (c.in-Ok-replace_single.ensures.changes clean)
+    c.is_said.ensures
+
+pub returns-in-Err-replace_single-clause-goes : goal.returns-in-Err-replace_single-clause-goes
+returns-in-Err-replace_single-clause-goes g c clean =
+    looked_then_stops _ _ _ (issuer_of c.args.issuer.now) c.args.id _ c.in-Ok.outcome c.in-Err-replace_single.fault
+    (c.in-Ok.ensures.finds (omega (arith, clean, c.replace_single.ensures.survives.clean))) (c.in-Err-replace_single.ensures.changes clean)

@@ -1,0 +1,87 @@
+//! Deliveries: all facts of a statement, in one transaction.
+
+ghost use Rattle.std.specs.Prelude.{◌≡◌, IsTrue, false, OnOk};
+ghost use Rattle.sqlite.specs.Held.{state};
+ghost use Rattle.sqlite.specs.State.{HasCleanDisk, Survives};
+ghost use Rattle.statements_facts.specs.Fact.{issuer_of, facts_in};
+ghost use Rattle.store_sql.specs.Statements.{CommitsNothing};
+ghost use Rattle.store_maps.specs.Held.{IsStoreOf};
+ghost use Rattle.store_taking.specs.Passing.{Goes};
+ghost use Rattle.store_taking.specs.Taking.{AreTaken, single_facts};
+ghost use Rattle.store_taking.specs.Delivery.{Puts, CommitsWhole, Ends, IsDurable};
+
+use crate::lists::take_list;
+use crate::responses::take_single;
+use sqlite::{Alter, Connection, Transaction};
+use statements_facts::{Counts, Facts, OcspFacts};
+use store_sql::StoreFault;
+
+fn take_singles<S: Alter>(
+    tx: &mut Transaction<'_, S>,
+    response: &OcspFacts<'_>,
+) -> Result<Counts, StoreFault>
+    requires inside { HasCleanDisk (state S.Store tx.old.conn.now) → IsTrue (state S.Store tx.old.conn.now).in_transaction }
+    ensures same_reference { tx.new.conn.ghost_name ≡ tx.old.conn.ghost_name }
+    ensures takes { HasCleanDisk (state S.Store tx.new.conn.now) → Goes (state S.Store tx.old.conn.now) (state S.Store tx.new.conn.now) IsStoreOf (AreTaken (single_facts (issuer_of response.now.issuer) response.now.singles)) result }
+    ensures open { HasCleanDisk (state S.Store tx.new.conn.now) → OnOk result (IsTrue (state S.Store tx.old.conn.now).is_open) }
+    ensures survives { CommitsNothing (state S.Store tx.old.conn.now) (state S.Store tx.new.conn.now) }
+{
+    let all = response.singles.as_slice();
+    let mut counts = Counts::none();
+    'each: for single in all {
+        match take_single(tx, &response.issuer, single) {
+            Ok(outcome) => counts = counts.and(outcome),
+            Err(fault) => return Err(fault),
+        }
+    }
+    Ok(counts)
+}
+
+/// Takes all facts of a statement, in order, inside a transaction.
+fn take_all<S: Alter>(tx: &mut Transaction<'_, S>, facts: &Facts<'_>) -> Result<Counts, StoreFault>
+    requires inside { HasCleanDisk (state S.Store tx.old.conn.now) → IsTrue (state S.Store tx.old.conn.now).in_transaction }
+    ensures same_reference { tx.new.conn.ghost_name ≡ tx.old.conn.ghost_name }
+    ensures takes { HasCleanDisk (state S.Store tx.new.conn.now) → Goes (state S.Store tx.old.conn.now) (state S.Store tx.new.conn.now) IsStoreOf (AreTaken (facts_in facts.now)) result }
+    ensures open { HasCleanDisk (state S.Store tx.new.conn.now) → OnOk result (IsTrue (state S.Store tx.old.conn.now).is_open) }
+    ensures survives { CommitsNothing (state S.Store tx.old.conn.now) (state S.Store tx.new.conn.now) }
+{
+    match facts {
+        Facts::Crl(list) => match take_list(tx, list) {
+            Ok(outcome) => Ok(Counts::none().and(outcome)),
+            Err(fault) => Err(fault),
+        },
+        Facts::Ocsp(response) => take_singles(tx, response),
+    }
+}
+
+/// All facts, in one transaction that begins and ends here.
+fn deliver<S: Alter>(conn: &mut Connection<S>, facts: &Facts<'_>) -> Result<Counts, StoreFault>
+    requires idle { conn.old.in_transaction ≡ false }
+    ensures idle { conn.new.in_transaction ≡ false }
+    ensures ends { HasCleanDisk (state S.Store conn.new) → Ends (state S.Store conn.old) (state S.Store conn.new) (facts_in facts.now) result }
+    ensures settled { IsDurable (state S.Store conn.new) }
+    ensures survives { Survives (state S.Store conn.old) (state S.Store conn.new) (CommitsWhole (state S.Store conn.old) (facts_in facts.now)) }
+{
+    let mut tx = conn.transaction();
+    let counts = match take_all(&mut tx, facts) {
+        Ok(counts) => counts,
+        Err(fault) => return Err(fault),
+    };
+    match tx.commit() {
+        Ok(()) => Ok(counts),
+        Err(error) => Err(StoreFault::from(error)),
+    }
+}
+
+/// Puts all facts of a statement into a store, in order and in one transaction: in each slot the newest is held then. Where a
+/// fault is answered, what is held is as it was. The connection is in no transaction; else it is refused.
+pub fn put<S: Alter>(conn: &mut Connection<S>, facts: &Facts<'_>) -> Result<Counts, StoreFault>
+    ensures idle { conn.old.in_transaction ≡ false → conn.new.in_transaction ≡ false }
+    ensures puts { HasCleanDisk (state S.Store conn.new) → Puts (state S.Store conn.old) (state S.Store conn.new) (facts_in facts.now) result }
+    ensures survives { Survives (state S.Store conn.old) (state S.Store conn.new) (CommitsWhole (state S.Store conn.old) (facts_in facts.now)) }
+{
+    if !conn.is_autocommit() {
+        return Err(StoreFault::Store);
+    }
+    deliver(conn, facts)
+}

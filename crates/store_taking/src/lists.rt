@@ -1,0 +1,179 @@
+//! Revocation lists that are put into a store.
+
+ghost use Rattle.std.specs.Prelude.{◌≡◌, ◌<◌, ◌^◌, Some, IsTrue, IfSome, IfNone, OnOk};
+ghost use Rattle.sqlite.specs.Held.{state};
+ghost use Rattle.sqlite.specs.State.{HasCleanDisk};
+ghost use Rattle.statements_facts.specs.Fact.{Fact, issuer_of, crl_slot, crl_fact};
+ghost use Rattle.statements_facts.specs.Listed.{IsAscending};
+ghost use Rattle.store_sql.specs.Statements.{CommitsNothing};
+ghost use Rattle.store_rows.specs.Contents.{scope_number};
+ghost use Rattle.store_rows.specs.Holding.{IsNumbered, AreInOrder};
+ghost use Rattle.store_rows.specs.Places.{listed_in};
+ghost use Rattle.store_rows.specs.Seen.{seen_head};
+ghost use Rattle.store_rows.specs.Steps.{Finds, Changes};
+ghost use Rattle.statements_facts.specs.Coming.{CrlComes};
+ghost use Rattle.store_maps.specs.Held.{IsStoreOf, crl_under};
+ghost use Rattle.store_taking.specs.Lists.{crl_head, with_list, IsToldByEntries};
+ghost use Rattle.store_taking.specs.Taking.{IsTaken};
+ghost use Rattle.store_taking.specs.Passing.{Goes, HasIssuer};
+
+use crate::known::issuer_id;
+use asn::Number20;
+use sqlite::{Alter, Transaction};
+use statements_facts::{CrlFacts, Outcome};
+use std::cmp::Ordering;
+use store_rows::{Head, ListKey, find_crl, has_entries, replace_crl, replace_entries};
+use store_sql::StoreFault;
+
+/// A CRL number is below 2^160.
+fn is_numbered(number: Number20)
+    ensures { number < 2 ^ 160 }
+{
+    let _same = Number20::from_octets(number.to_octets());
+}
+
+fn head_of(list: &CrlFacts<'_>) -> Head
+    ensures head { seen_head result ≡ crl_head list.now }
+    ensures numbered { IsNumbered (seen_head result) }
+{
+    is_numbered(list.number);
+    Head {
+        number: list.number,
+        from: list.from,
+        until: list.until,
+    }
+}
+
+/// What becomes of a list beside the one that is held, as far as its number and window tell: nothing is told where they are
+/// the same.
+fn outcome_by_head(held: &Head, list: &CrlFacts<'_>) -> Option<Outcome>
+    ensures some { IfSome result (λ outcome. (reasons : _) → CrlComes (Some (record { number = held.now.number; window = record { from = held.now.from; until = held.now.until }; reasons = reasons })) (crl_fact list.now) outcome) }
+    ensures none { IfNone result (seen_head held.now ≡ crl_head list.now) }
+{
+    match list.number.cmp(&held.number) {
+        Ordering::Less => Some(Outcome::Kept),
+        Ordering::Greater => Some(Outcome::Stored),
+        Ordering::Equal => {
+            if list.from == held.from && list.until == held.until {
+                None
+            } else {
+                Some(Outcome::Contradicted)
+            }
+        }
+    }
+}
+
+/// What becomes of a list whose number and window are those of the one that is held.
+fn outcome_by_entries<S: Alter>(
+    tx: &mut Transaction<'_, S>,
+    key: &ListKey,
+    list: &CrlFacts<'_>,
+) -> Result<Outcome, StoreFault>
+    requires issuer { key.now.issuer < 536870911 }
+    requires inside { HasCleanDisk (state S.Store tx.old.conn.now) → IsTrue (state S.Store tx.old.conn.now).in_transaction }
+    ensures same_reference { tx.new.conn.ghost_name ≡ tx.old.conn.ghost_name }
+    ensures finds { HasCleanDisk (state S.Store tx.new.conn.now) → Finds (state S.Store tx.old.conn.now) (state S.Store tx.new.conn.now) (λ it outcome. IsToldByEntries (listed_in it.entries key.now.issuer (scope_number key.now.scope)) list.now.revoked outcome) result }
+    ensures ascend { IsAscending list.now.revoked }
+    ensures survives { CommitsNothing (state S.Store tx.old.conn.now) (state S.Store tx.new.conn.now) }
+{
+    match has_entries(tx, key, &list.revoked) {
+        Ok(true) => Ok(Outcome::Kept),
+        Ok(false) => Ok(Outcome::Contradicted),
+        Err(fault) => Err(fault),
+    }
+}
+
+/// What becomes of a list beside the one that is held.
+fn outcome_of_list<S: Alter>(
+    tx: &mut Transaction<'_, S>,
+    key: &ListKey,
+    list: &CrlFacts<'_>,
+) -> Result<Outcome, StoreFault>
+    requires issuer { key.now.issuer < 536870911 }
+    requires inside { HasCleanDisk (state S.Store tx.old.conn.now) → IsTrue (state S.Store tx.old.conn.now).in_transaction }
+    ensures same_reference { tx.new.conn.ghost_name ≡ tx.old.conn.ghost_name }
+    ensures finds { HasCleanDisk (state S.Store tx.new.conn.now) → Finds (state S.Store tx.old.conn.now) (state S.Store tx.new.conn.now) (λ it outcome. CrlComes (crl_under it key.now.scope key.now.issuer) (crl_fact list.now) outcome) result }
+    ensures survives { CommitsNothing (state S.Store tx.old.conn.now) (state S.Store tx.new.conn.now) }
+{
+    let held = match find_crl(tx, key.issuer, key.scope) {
+        Ok(Some(held)) => held,
+        Ok(None) => return Ok(Outcome::Stored),
+        Err(fault) => return Err(fault),
+    };
+    match outcome_by_head(&held, list) {
+        Some(outcome) => Ok(outcome),
+        None => outcome_by_entries(tx, key, list),
+    }
+}
+
+/// Puts a list, with its entries, in the place of that of its issuer and scope.
+fn store_list<S: Alter>(
+    tx: &mut Transaction<'_, S>,
+    key: &ListKey,
+    list: &CrlFacts<'_>,
+) -> Result<(), StoreFault>
+    requires issuer { key.now.issuer < 536870911 }
+    requires inside { HasCleanDisk (state S.Store tx.old.conn.now) → IsTrue (state S.Store tx.old.conn.now).in_transaction }
+    ensures same_reference { tx.new.conn.ghost_name ≡ tx.old.conn.ghost_name }
+    ensures numbered { IsNumbered (crl_head list.now) }
+    ensures formed { OnOk result (AreInOrder list.now.revoked) }
+    ensures changes { HasCleanDisk (state S.Store tx.new.conn.now) → Changes (state S.Store tx.old.conn.now) (state S.Store tx.new.conn.now) (with_list key.now.issuer key.now.scope (crl_head list.now) list.now.revoked) result }
+    ensures survives { CommitsNothing (state S.Store tx.old.conn.now) (state S.Store tx.new.conn.now) }
+{
+    let head = head_of(list);
+    if let Err(fault) = replace_crl(tx, key.issuer, key.scope, &head) {
+        return Err(fault);
+    }
+    match replace_entries(tx, key, &list.revoked) {
+        Ok(()) => Ok(()),
+        Err(fault) => Err(fault),
+    }
+}
+
+fn take_under<S: Alter>(
+    tx: &mut Transaction<'_, S>,
+    id: u32,
+    list: &CrlFacts<'_>,
+) -> Result<Outcome, StoreFault>
+    requires issuer { id < 536870911 }
+    requires inside { HasCleanDisk (state S.Store tx.old.conn.now) → IsTrue (state S.Store tx.old.conn.now).in_transaction }
+    ensures same_reference { tx.new.conn.ghost_name ≡ tx.old.conn.ghost_name }
+    ensures goes { HasCleanDisk (state S.Store tx.new.conn.now) → Goes (state S.Store tx.old.conn.now) (state S.Store tx.new.conn.now) (HasIssuer (issuer_of list.now.issuer) id) (IsTaken (Fact.OfCrl (crl_slot list.now) (crl_fact list.now))) result }
+    ensures survives { CommitsNothing (state S.Store tx.old.conn.now) (state S.Store tx.new.conn.now) }
+{
+    let key = ListKey {
+        issuer: id,
+        scope: list.scope,
+    };
+    let outcome = match outcome_of_list(tx, &key, list) {
+        Ok(outcome) => outcome,
+        Err(fault) => return Err(fault),
+    };
+    match outcome {
+        Outcome::Stored => {}
+        _ => return Ok(outcome),
+    }
+    match store_list(tx, &key, list) {
+        Ok(()) => Ok(Outcome::Stored),
+        Err(fault) => Err(fault),
+    }
+}
+
+/// Takes a list: it is held where it is newer than the one of its issuer and scope, or the first. Inside a transaction, which
+/// a fault leaves with what was written so far, to be rolled back.
+pub fn take_list<S: Alter>(
+    tx: &mut Transaction<'_, S>,
+    list: &CrlFacts<'_>,
+) -> Result<Outcome, StoreFault>
+    requires inside { HasCleanDisk (state S.Store tx.old.conn.now) → IsTrue (state S.Store tx.old.conn.now).in_transaction }
+    ensures same_reference { tx.new.conn.ghost_name ≡ tx.old.conn.ghost_name }
+    ensures takes { HasCleanDisk (state S.Store tx.new.conn.now) → Goes (state S.Store tx.old.conn.now) (state S.Store tx.new.conn.now) IsStoreOf (IsTaken (Fact.OfCrl (crl_slot list.now) (crl_fact list.now))) result }
+    ensures open { HasCleanDisk (state S.Store tx.new.conn.now) → OnOk result (IsTrue (state S.Store tx.old.conn.now).is_open) }
+    ensures survives { CommitsNothing (state S.Store tx.old.conn.now) (state S.Store tx.new.conn.now) }
+{
+    let id = match issuer_id(tx, &list.issuer) {
+        Ok(id) => id,
+        Err(fault) => return Err(fault),
+    };
+    take_under(tx, id, list)
+}

@@ -1,6 +1,0 @@
-pub mod Fault
-pub mod Stream
-pub use Rattle.der.specs.Value
-pub use Rattle.der.specs.Length
-pub use Rattle.der.specs.Encoding
-pub use Rattle.der.specs.FirstFault

@@ -1,8 +1,0 @@
--- The laws that other crates may cite.
-pub use Rattle.tables.proofs.Meaning.{makes_meta, makes_issuers, makes_ocsp, makes_crls, makes_entries, selects_versions, deletes_version, inserts_version, selects_issuer, inserts_issuer, selects_crl, deletes_crl, inserts_crl, selects_entry, selects_entries, deletes_entries, inserts_entry, selects_single, deletes_single, inserts_single}
-pub use Rattle.tables.proofs.TableSteps.{Leaves, deletes_by, inserts_one, inserts_at, finds_by}
-pub use Rattle.tables.proofs.Answering.{passing, shown_as, truth_of, equal_blobs, equal_ints}
-pub use Rattle.tables.proofs.Rowids.{less_is, below_next, rises_kept, rises_pushed}
-pub use Rattle.tables.proofs.TableWrites.{went, same_value}
-pub use Rattle.tables.proofs.Keys.{at_most, one_row, one_passes}
-pub use Rattle.tables.proofs.Making.{MakesTable, makes}

@@ -1,4 +1,0 @@
-use Rattle.tables.proofs.creation.create_scoped_entries.Goals as goal
-
-pub returns-clause-runs : goal.returns-clause-runs
-returns-clause-runs g c clean inside = c.execute.ensures.runs clean inside

@@ -1,6 +1,0 @@
-use Rattle.taking.proofs.Deliveries.{one_taken}
-use Rattle.taking.proofs.delivery.take_all.Goals as goal
-
-pub returns-in-Ok-clause-takes : goal.returns-in-Ok-clause-takes
-returns-in-Ok-clause-takes g c clean =
-    rw c.in-Crl.is (one_taken _ _ _ c.none.result c.and.result c.in-Ok.outcome (c.in-Ok.ensures.takes clean) c.none.ensures.counted c.and.ensures.counted)

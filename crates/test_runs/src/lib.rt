@@ -1,0 +1,8 @@
+//! Runs of the program: what it prints and what it refuses, the pages of the tutorial. All of this crate are tests, over the public
+//! calls of `cli_printing` and `cli`.
+#![tactic(auto)]
+
+#[cfg(test)]
+mod printed;
+#[cfg(test)]
+mod running;

@@ -1,0 +1,153 @@
+//! Responses are read with their fields.
+
+use crate::accepted::ACCEPTED;
+use crate::octets_of;
+use crate::of_openssl::OF_OPENSSL;
+use statements_ocsp::{
+    CertStatus, Certs, ResponderId, Response, SingleResponse, StatementFault, is_response,
+};
+use std::alloc::Global;
+use std::test::Fail;
+
+fn is_responder(responder: ResponderId<'_>, kind: &str, octets: &[u8]) -> bool {
+    match responder {
+        ResponderId::ByName(name) => kind == "name" && name.raw() == octets,
+        ResponderId::ByKey(hash) => kind == "key" && hash == octets,
+    }
+}
+
+/// `good`, `unknown`, or `revoked:` and the reason.
+fn is_status(status: CertStatus, word: &str) -> bool {
+    match status {
+        CertStatus::Good => word == "good",
+        CertStatus::Unknown => word == "unknown",
+        CertStatus::Revoked(reason) => {
+            let number = word.strip_prefix("revoked:").unwrap_or("");
+            number.parse() == Ok(reason)
+        }
+    }
+}
+
+/// Seconds, or `-`.
+fn is_moment(moment: Option<i64>, word: &str) -> bool {
+    match moment {
+        Some(seconds) => word.parse() == Ok(seconds),
+        None => word == "-",
+    }
+}
+
+/// Whether the single response is what the words say, with commas between.
+fn is_single(alloc: Global, single: SingleResponse<'_>, line: &str) -> Result<bool, Fail> {
+    let mut words = line.split(',');
+    let hash_algorithm = octets_of(alloc, words.next().unwrap_or(""))?;
+    let name_hash = octets_of(alloc, words.next().unwrap_or(""))?;
+    let key_hash = octets_of(alloc, words.next().unwrap_or(""))?;
+    let serial = octets_of(alloc, words.next().unwrap_or(""))?;
+    let is_id = single.id.hash_algorithm == hash_algorithm.as_slice()
+        && single.id.issuer_name_hash == name_hash.as_slice()
+        && single.id.issuer_key_hash == key_hash.as_slice()
+        && single.id.serial == serial.as_slice();
+    let is_status = is_status(single.status, words.next().unwrap_or(""));
+    let is_begun = is_moment(Some(single.this_update), words.next().unwrap_or(""));
+    let is_ended = is_moment(single.next_update, words.next().unwrap_or(""));
+    Ok(is_id && is_status && is_begun && is_ended)
+}
+
+/// Whether these are the values, with commas between; `-` where there are none.
+fn are_certs(alloc: Global, certs: Certs<'_>, list: &str) -> Result<bool, Fail> {
+    let mut left = certs;
+    if list == "-" {
+        return Ok(left.next().is_none());
+    }
+    for digits in list.split(',') {
+        let value = octets_of(alloc, digits)?;
+        if left.next() != Some(value.as_slice()) {
+            return Ok(false);
+        }
+    }
+    Ok(left.next().is_none())
+}
+
+/// Whether the octets in the line are read as the response that its words say.
+fn is_read(alloc: Global, line: &str) -> Result<bool, Fail> {
+    let mut words = line.split(' ');
+    let kind = words.next().unwrap_or("");
+    let responder = octets_of(alloc, words.next().unwrap_or(""))?;
+    let produced_at = words.next().unwrap_or("");
+    let begin: usize = words.next().unwrap_or("").parse().map_err(|_| "offset")?;
+    let end: usize = words.next().unwrap_or("").parse().map_err(|_| "offset")?;
+    let algorithm = octets_of(alloc, words.next().unwrap_or(""))?;
+    let signature = octets_of(alloc, words.next().unwrap_or(""))?;
+    let certs = words.next().unwrap_or("");
+    let octets = octets_of(alloc, words.next().unwrap_or(""))?;
+    let response = Response::read(alloc, &octets).map_err(|_| "refused")?;
+    let mut are_fields = is_responder(response.responder, kind, &responder)
+        && is_moment(Some(response.produced_at), produced_at)
+        && octets.get(begin..end) == Some(response.tbs)
+        && response.algorithm == algorithm.as_slice()
+        && response.signature == signature.as_slice()
+        && is_response(&octets);
+    let mut singles = response.responses;
+    for word in words {
+        are_fields = match singles.next() {
+            Some(single) => are_fields && is_single(alloc, single, word)?,
+            None => false,
+        };
+    }
+    Ok(are_fields && singles.next().is_none() && are_certs(alloc, response.certs, certs)?)
+}
+
+#[test]
+fn reads_the_fields(rt: HostRuntime) -> Result<(), Fail> {
+    for line in ACCEPTED.lines() {
+        let is_as_said = is_read(rt.alloc(), line)?;
+        assert!(rt; is_as_said, "{line}");
+    }
+    Ok(())
+}
+
+#[test]
+fn reads_what_openssl_wrote(rt: HostRuntime) -> Result<(), Fail> {
+    for line in OF_OPENSSL.lines() {
+        let is_as_said = is_read(rt.alloc(), line)?;
+        assert!(rt; is_as_said, "{line}");
+    }
+    Ok(())
+}
+
+/// Octets, and whether they are meant as a response.
+const KINDS: &[(&str, bool)] = &[
+    ("30030A0100", true),
+    ("30050A01000500", true),
+    ("A0030A0101", true),
+    ("3000", false),
+    ("3003020100", false),
+    ("30053003020101", false),
+    ("300505000A0100", false),
+    ("04030A0100", false),
+    ("0A0100", false),
+    ("30030A010000", false),
+    ("30040A0100", false),
+    ("-", false),
+];
+
+#[test]
+fn tells_the_kind(rt: HostRuntime) -> Result<(), Fail> {
+    for (digits, is_meant) in KINDS.iter() {
+        let octets = octets_of(rt.alloc(), digits)?;
+        assert!(rt; is_response(&octets) == *is_meant, "{digits}");
+    }
+    Ok(())
+}
+
+/// A response with more extensions than stand on the stack is read, or there is no memory for their types.
+#[test]
+fn wants_memory_or_answers(rt: HostRuntime) {
+    let line = ACCEPTED.lines().nth(14).unwrap_or("");
+    if let Ok(octets) = hex::decode(rt.alloc(), line.split(' ').nth(8).unwrap_or("")) {
+        match Response::read(rt.alloc(), &octets) {
+            Ok(response) => assert!(rt; response.produced_at == 1748736000),
+            Err(fault) => assert!(rt; fault == StatementFault::Memory),
+        }
+    }
+}

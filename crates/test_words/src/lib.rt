@@ -1,0 +1,16 @@
+//! Tests of command lines: what they are, which are refused, what stands in operands (moments, purposes, files of verdicts), and the
+//! lines of answers.
+#![tactic(auto)]
+
+#[cfg(test)]
+mod answers;
+#[cfg(test)]
+mod looking;
+#[cfg(test)]
+mod moments;
+#[cfg(test)]
+mod purposes;
+#[cfg(test)]
+mod validating;
+#[cfg(test)]
+mod verdict_files;

@@ -1,9 +1,0 @@
-pub mod View
-pub mod Reading
-pub mod Held
-pub mod Asking
-pub mod Difference
-pub use Rattle.agreement.specs.Verdict
-pub use Rattle.agreement.specs.Comparison
-pub use Rattle.path.specs.Query
-pub use Rattle.holdings.specs.LooksUp
