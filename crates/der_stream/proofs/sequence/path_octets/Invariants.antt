@@ -1,6 +1,6 @@
 use Rattle.std.proofs.Common.{◌≡◌, ◌-◌, ◌*◌, ◌≤◌, map, length}
 use Rattle.der_stream.specs.Sequence.{joined, BeginsFrom}
-use Rattle.der_stream.proofs.reading.path_octets.Given as goal
+use Rattle.der_stream.proofs.sequence.path_octets.Given as goal
 
 abbrev pub invariant-loop-read : goal.invariant-loop-read
 invariant-loop-read g l =
