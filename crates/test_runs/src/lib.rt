@@ -3,6 +3,8 @@
 #![tactic(auto)]
 
 #[cfg(test)]
+mod output;
+#[cfg(test)]
 mod printed;
 #[cfg(test)]
 mod running;

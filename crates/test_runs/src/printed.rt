@@ -1,33 +1,11 @@
 //! What is printed to a writer that fails, and of long contents.
 
+use crate::output::Output;
 use cert::Certificate;
 use cli_printing::{TreeFault, certificate_print_to, certificate_to, tree_to};
 use std::alloc::AllocError;
-use std::io;
-use std::io::Write;
+use std::fmt::Write;
 use std::test::Fail;
-
-// A writer that takes so many writes, and then answers errors.
-#[derive(Drop)]
-struct Limited {
-    written: Vec<u8>,
-    left: usize,
-}
-
-impl Write for Limited {
-    fn write(&mut self, buf: &[u8]) -> io::Result<usize> {
-        if self.left == 0 {
-            return Err(io::Error::from(io::ErrorKind::StorageFull));
-        }
-        self.left -= 1;
-        self.written.extend_from_slice(buf)?;
-        Ok(buf.len())
-    }
-
-    fn flush(&mut self) -> io::Result<()> {
-        Ok(())
-    }
-}
 
 const OCTETS: [u8; 10] = [0x30, 0x08, 0x01, 0x01, 0xFF, 0x05, 0x00, 0x02, 0x01, 0x80];
 
@@ -37,8 +15,7 @@ const TEXT: &str = "30 8\n  01 1 ff\n  05 0\n  02 1 80\n";
 fn a_failed_write_is_told(rt: HostRuntime) -> Result<(), Fail> {
     let mut has_ended = false;
     for left in 0..100 {
-        let written = Vec::new(rt.alloc());
-        let mut writer = Limited { written, left };
+        let mut writer = Output::failing(rt.alloc(), left);
         let outcome = tree_to(&OCTETS, &mut writer);
         let text = writer.written.as_slice();
         match outcome {
@@ -57,14 +34,29 @@ fn a_failed_write_is_told(rt: HostRuntime) -> Result<(), Fail> {
 }
 
 // Of a DNS name and an extension that is critical and not recognised.
-const CERTIFICATE: &[u8] =
-    b"\x30\x7F\x30\x73\xA0\x03\x02\x01\x02\x02\x01\x05\x30\x04\x06\x02\x2A\x03\x30\x0C\x31\x0A\x30\x08\x06\x03\x55\x04\x03\x13\x01\x41\x30\x1E\x17\x0D\x32\x35\x30\x31\x30\x31\x30\x30\x30\x30\x30\x30\x5A\x17\x0D\x32\x36\x30\x31\x30\x31\x30\x30\x30\x30\x30\x30\x5A\x30\x0C\x31\x0A\x30\x08\x06\x03\x55\x04\x03\x13\x01\x54\x30\x0A\x30\x04\x06\x02\x2A\x03\x03\x02\x00\x4B\xA3\x1B\x30\x19\x30\x0C\x06\x03\x55\x1D\x11\x04\x05\x30\x03\x82\x01\x6E\x30\x09\x06\x02\x2A\x03\x01\x01\xFF\x04\x00\x30\x04\x06\x02\x2A\x03\x03\x02\x00\xEE";
+pub(crate) const CERTIFICATE: &[u8] = b"\
+\x30\x7F\x30\x73\xA0\x03\x02\x01\x02\x02\x01\x05\x30\x04\x06\x02\x2A\x03\x30\x0C\x31\x0A\x30\x08\
+\x06\x03\x55\x04\x03\x13\x01\x41\x30\x1E\x17\x0D\x32\x35\x30\x31\x30\x31\x30\x30\x30\x30\x30\x30\
+\x5A\x17\x0D\x32\x36\x30\x31\x30\x31\x30\x30\x30\x30\x30\x30\x5A\x30\x0C\x31\x0A\x30\x08\x06\x03\
+\x55\x04\x03\x13\x01\x54\x30\x0A\x30\x04\x06\x02\x2A\x03\x03\x02\x00\x4B\xA3\x1B\x30\x19\x30\x0C\
+\x06\x03\x55\x1D\x11\x04\x05\x30\x03\x82\x01\x6E\x30\x09\x06\x02\x2A\x03\x01\x01\xFF\x04\x00\x30\
+\x04\x06\x02\x2A\x03\x03\x02\x00\xEE";
 
-const LINES: &[u8] =
-    b"certificate\nversion 3\nserial 05\nissuer /2.5.4.3=A\nsubject /2.5.4.3=T\nfrom 1735689600\nuntil 1767225600\nkey 4b\nalt dns n\ncritical 1.2.3\n";
+pub(crate) const LINES: &[u8] = b"\
+certificate
+version 3
+serial 05
+issuer /2.5.4.3=A
+subject /2.5.4.3=T
+from 1735689600
+until 1767225600
+key 4b
+alt dns n
+critical 1.2.3
+";
 
 // Under the key of the same certificate; a script that takes the digest by Python's hashlib gives it.
-const PRINT: &[u8] =
+pub(crate) const PRINT: &[u8] =
     b"451df92c641e2a0ebfd83fc11ee1c309728f2a9a1e37994d3db2a79a4dcd6c91 certificate issuer\n";
 
 // Whether all of the text is written, or a failure is told and less of it is.
@@ -80,14 +72,12 @@ fn a_failed_write_of_a_certificate_is_told(rt: HostRuntime) -> Result<(), Fail> 
     let key_info = &read.subject_public_key_info;
     let mut has_ended = false;
     for left in 0..100 {
-        let written = Vec::new(alloc);
-        let mut writer = Limited { written, left };
+        let mut writer = Output::failing(alloc, left);
         has_ended = certificate_to(&read, &mut writer).is_ok();
         let text = writer.written.as_slice();
         assert!(rt; is_told(text, LINES, has_ended), "after {left} writes");
 
-        let written = Vec::new(alloc);
-        let mut writer = Limited { written, left };
+        let mut writer = Output::failing(alloc, left);
         let is_done = certificate_print_to(&read, key_info, &mut writer).is_ok();
         let text = writer.written.as_slice();
         assert!(rt; is_told(text, PRINT, is_done), "after {left} writes");
@@ -117,10 +107,10 @@ fn long_contents_are_printed_whole(rt: HostRuntime) -> Result<(), Fail> {
             write!(wanted, "{octet:02x}")?;
         }
         wanted.push_str("\n")?;
-        let mut text = Vec::new(rt.alloc());
-        let is_done = tree_to(octets.as_slice(), &mut text).is_ok();
+        let mut output = Output::new(rt.alloc());
+        let is_done = tree_to(octets.as_slice(), &mut output).is_ok();
         assert!(rt;
-            is_done && text.as_slice() == wanted.as_bytes(),
+            is_done && output.written.as_slice() == wanted.as_bytes(),
             "{size} octets"
         );
     }
@@ -129,8 +119,8 @@ fn long_contents_are_printed_whole(rt: HostRuntime) -> Result<(), Fail> {
 
 #[test]
 fn nothing_is_written_of_refused_octets(rt: HostRuntime) {
-    let mut text = Vec::new(rt.alloc());
-    let outcome = tree_to(&[0x30, 0x03, 0x02, 0x02, 0x01], &mut text);
+    let mut output = Output::new(rt.alloc());
+    let outcome = tree_to(&[0x30, 0x03, 0x02, 0x02, 0x01], &mut output);
     assert!(rt; matches!(outcome, Err(TreeFault::Refused(_))));
-    assert!(rt; text.is_empty());
+    assert!(rt; output.written.is_empty());
 }

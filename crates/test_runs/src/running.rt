@@ -1,10 +1,14 @@
+//! What the program answers: steps as a user types them, and rows of octets.
+
+use crate::output::Output;
+use crate::printed::{CERTIFICATE, LINES, PRINT};
 use cli::execute;
 use refused::{NO_CERTIFICATES, REFUSED, REFUSED_TAILS};
-use shown::{LINES, OUTER, PLAIN, PRINTED, SHOWN};
+use shown::SHOWN;
 use std::alloc::{AllocError, Global};
-use std::io::Write;
+use std::fs;
 use std::test::Fail;
-use std::{fs, io};
+use walking::{octets_of, put, row_holds, run, walk, walk_rows, words_of};
 
 mod fingerprints;
 mod lists;
@@ -12,410 +16,250 @@ mod refused;
 mod responses;
 mod shown;
 mod tutorial;
+mod walking;
 
-// Octets in hexadecimal, the status, and the text: on standard output for status 0, else what follows the file's name
-// on standard error.
-const TREES: &[(&str, u8, &str)] = &[
-    ("3000", 0, "30 0\n"),
-    ("3006020105040100", 0, "30 6\n  02 1 05\n  04 1 00\n"),
-    ("30800000", 4, "refused 2 LengthForm at 0\n"),
-    ("02817F", 4, "refused 2 LengthForm at 0\n"),
-    ("3084FFFFFFFF", 4, "refused 3 TooLong at 0\n"),
-    ("1F", 4, "refused 1 TagForm at 0\n"),
-    ("2203020101", 4, "refused 1 TagForm at 0\n"),
-    ("", 4, "refused 4 Truncated at 0\n"),
-    ("020301", 4, "refused 4 Truncated at 0\n"),
-    ("3003020201", 4, "refused 4 Truncated at 2\n"),
-    ("050000", 4, "refused 7 Trailing at 2\n"),
-    ("0202007F", 4, "refused 6 Content at 0\n"),
-    ("02020080", 0, "02 2 0080\n"),
-    (
-        "30080101FF0500020180",
-        0,
-        "30 8\n  01 1 ff\n  05 0\n  02 1 80\n",
-    ),
-    ("0400", 0, "04 0\n"),
-    ("A1043002A000", 0, "a1 4\n  30 2\n    a0 0\n"),
-];
-
-// Command lines, the status, and whether standard output has the text.
-const WORDS: &[(&[&str], u8, bool)] = &[
-    (&["x509check"], 5, false),
-    (&[], 5, false),
-    (&["x509check", "tree"], 5, false),
-    (&["x509check", "tree", "a", "b"], 5, false),
-    (&["x509check", "tree", "--deep", "a"], 5, false),
-    (&["x509check", "grow", "a"], 5, false),
-    (&["x509check", "show"], 5, false),
-    (&["x509check", "show", "a", "b"], 5, false),
-    (&["x509check", "show", "--as", "csr", "a"], 5, false),
-    (&["x509check", "show", "--as", "cert"], 5, false),
-    (&["x509check", "prints", "a"], 5, false),
-    (&["x509check", "prints", "--issuer", "a"], 5, false),
-    (
-        &["x509check", "prints", "--issuer", "a", "b", "c"],
-        5,
-        false,
-    ),
-    (
-        &["x509check", "prints", "--issuer", "a", "--as", "csr", "b"],
-        5,
-        false,
-    ),
-    (&["x509check", "prints", "--as", "cert", "b"], 5, false),
-    (&["x509check", "--help"], 0, true),
-    (&["x509check", "show", "--help"], 0, true),
-    (&["x509check", "prints", "--help"], 0, true),
-    (&["x509check", "tree", "--help"], 0, true),
-    (&["x509check", "help"], 0, true),
-];
-
-#[derive(Drop)]
-struct Answer {
-    status: u8,
-    out: Vec<u8>,
-    err: Vec<u8>,
-}
-
-// Whether the answer is this status, with these octets on standard output and on standard error.
-fn is_answer(answer: &Answer, status: u8, out: &[u8], err: &[u8]) -> bool {
-    answer.status == status && answer.out.as_slice() == out && answer.err.as_slice() == err
-}
-
-fn answer_of(rt: &HostRuntime, words: &[&str]) -> Answer {
-    let alloc = rt.alloc();
-    let (mut out, mut err) = (Vec::new(alloc), Vec::new(alloc));
-    let status = execute(rt, alloc, words, &mut out, &mut err);
-    Answer { status, out, err }
-}
-
-// Runs the subcommand on a file of its own with these octets.
-fn answer_on(rt: &HostRuntime, subcommand: &str, file: &str, octets: &[u8]) -> io::Result<Answer> {
-    fs::write(rt, file, octets)?;
-    let answer = answer_of(rt, &["x509check", subcommand, file]);
-    fs::remove_file(rt, file)?;
-    Ok(answer)
-}
-
-fn tree_of(rt: &HostRuntime, file: &str, octets: &[u8]) -> io::Result<Answer> {
-    answer_on(rt, "tree", file, octets)
-}
-
-fn show_of(rt: &HostRuntime, file: &str, octets: &[u8]) -> io::Result<Answer> {
-    answer_on(rt, "show", file, octets)
-}
-
-fn joined(alloc: Global, first: &str, second: &str) -> Result<String, AllocError> {
-    format!(in alloc; "{first}{second}")
-}
+// Values, and what `tree` prints of them.
+const TREES: &str = "
+> 3000
+30 0
+> 3006020105040100
+30 6
+  02 1 05
+  04 1 00
+> 30800000
+refused 2 LengthForm at 0
+> 02817F
+refused 2 LengthForm at 0
+> 3084FFFFFFFF
+refused 3 TooLong at 0
+> 1F
+refused 1 TagForm at 0
+> 2203020101
+refused 1 TagForm at 0
+> no octets:
+refused 4 Truncated at 0
+> 020301
+refused 4 Truncated at 0
+> 3003020201
+refused 4 Truncated at 2
+> 050000
+refused 7 Trailing at 2
+> 0202007F
+refused 6 Content at 0
+> 02020080
+02 2 0080
+> 30080101FF0500020180
+30 8
+  01 1 ff
+  05 0
+  02 1 80
+> 0400
+04 0
+> A1043002A000
+a1 4
+  30 2
+    a0 0
+> 32 deep: 303E303C303A30383036303430323030302E302C302A30283026302430223020301E301C301A301830163014\
+30123010300E300C300A30083006300430023000
+30 62
+  30 60
+    30 58
+      30 56
+        30 54
+          30 52
+            30 50
+              30 48
+                30 46
+                  30 44
+                    30 42
+                      30 40
+                        30 38
+                          30 36
+                            30 34
+                              30 32
+                                30 30
+                                  30 28
+                                    30 26
+                                      30 24
+                                        30 22
+                                          30 20
+                                            30 18
+                                              30 16
+                                                30 14
+                                                  30 12
+                                                    30 10
+                                                      30 8
+                                                        30 6
+                                                          30 4
+                                                            30 2
+                                                              30 0
+> 33 deep: 3040303E303C303A30383036303430323030302E302C302A30283026302430223020301E301C301A30183016\
+301430123010300E300C300A30083006300430023000
+refused 5 TooDeep at 64
+";
 
 #[test]
 fn trees_are_printed_or_refused(rt: HostRuntime) -> Result<(), Fail> {
-    let alloc = rt.alloc();
-    for (digits, status, text) in TREES.iter() {
-        let octets = octets_of(alloc, digits)?;
-        let answer = tree_of(&rt, "execution_trees.der", octets.as_slice())?;
-        let refusal = joined(alloc, "x509check: execution_trees.der: ", text)?;
-        let (out, err) = match *status {
-            0 => (text.as_bytes(), "".as_bytes()),
-            _ => ("".as_bytes(), refusal.as_bytes()),
-        };
-        assert!(rt; is_answer(&answer, *status, out, err), "{digits}");
-    }
-    Ok(())
-}
-
-// Pushes the value with this identifier octet and these contents, of which there are at most 65,535.
-fn push_value(all: &mut Vec<u8>, tag: u8, contents: &[u8]) -> Result<(), AllocError> {
-    let length = contents.len().to_be_bytes();
-    all.push(tag)?;
-    match contents.len() {
-        0..128 => all.extend_from_slice(&length[7..])?,
-        128..256 => {
-            all.push(0x81)?;
-            all.extend_from_slice(&length[7..])?;
-        }
-        _ => {
-            all.push(0x82)?;
-            all.extend_from_slice(&length[6..])?;
-        }
-    }
-    all.extend_from_slice(contents)
-}
-
-// The octets that the digits are.
-fn octets_of(alloc: Global, digits: &str) -> Result<Vec<u8>, Fail> {
-    let octets = hex::decode(alloc, digits).ok();
-    Ok(octets.ok_or("hexadecimal")?)
-}
-
-fn push_octets(all: &mut Vec<u8>, alloc: Global, digits: &str) -> Result<(), Fail> {
-    let octets = octets_of(alloc, digits)?;
-    all.extend_from_slice(octets.as_slice())?;
-    Ok(())
-}
-
-// The plain certificate with another component.
-fn plain_but(alloc: Global, at: usize, digits: &str) -> Result<Vec<u8>, Fail> {
-    let (mut signed, mut inside, mut whole) = (Vec::new(alloc), Vec::new(alloc), Vec::new(alloc));
-    for (component, plain) in PLAIN.iter().enumerate() {
-        let octets = if component == at { digits } else { *plain };
-        if component == OUTER {
-            push_value(&mut inside, 0x30, signed.as_slice())?;
-        }
-        let part = if component < OUTER {
-            &mut signed
-        } else {
-            &mut inside
-        };
-        push_octets(part, alloc, octets)?;
-    }
-    push_value(&mut whole, 0x30, inside.as_slice())?;
-    Ok(whole)
-}
-
-// The lines of the plain certificate, where this component has others.
-fn lines_but(alloc: Global, at: usize, lines: &str) -> Result<String, AllocError> {
-    let mut text = String::new(alloc);
-    text.push_str("certificate\n")?;
-    for component in PRINTED {
-        text.push_str(if component == at {
-            lines
-        } else {
-            LINES[component]
-        })?;
-    }
-    Ok(text)
+    walk_rows(&rt, "tree execution_trees.der", TREES)
 }
 
 #[test]
 fn certificates_are_shown(rt: HostRuntime) -> Result<(), Fail> {
-    let alloc = rt.alloc();
-    for (what, component, digits, lines) in SHOWN.iter() {
-        let octets = plain_but(alloc, *component, digits)?;
-        let answer = show_of(&rt, "execution_shown.der", octets.as_slice())?;
-        let wanted = lines_but(alloc, *component, lines)?;
-        assert!(rt; is_answer(&answer, 0, wanted.as_bytes(), b""), "{what}");
-    }
-    Ok(())
-}
-
-// Whether the octets are refused with these words behind the file's name, and nothing is printed.
-fn is_refused(rt: &HostRuntime, octets: &[u8], words: &str) -> Result<bool, Fail> {
-    let answer = show_of(rt, "execution_refused.der", octets)?;
-    let line = joined(rt.alloc(), "x509check: execution_refused.der: ", words)?;
-    Ok(is_answer(&answer, 4, b"", line.as_bytes()))
-}
-
-// Whether the plain certificate with another component is refused with these words.
-fn is_refused_with(
-    rt: &HostRuntime,
-    component: usize,
-    digits: &str,
-    words: &str,
-) -> Result<bool, Fail> {
-    let octets = plain_but(rt.alloc(), component, digits)?;
-    is_refused(rt, octets.as_slice(), words)
+    walk_rows(&rt, "show execution_shown.der", SHOWN)
 }
 
 #[test]
-fn other_fields_are_refused(rt: HostRuntime) -> Result<(), Fail> {
-    for (what, component, digits, words) in REFUSED.iter() {
-        assert!(rt;
-            is_refused_with(&rt, *component, digits, words)?,
-            "{what}: {words}"
-        );
+fn other_certificates_are_refused(rt: HostRuntime) -> Result<(), Fail> {
+    for rows in [REFUSED, REFUSED_TAILS, NO_CERTIFICATES] {
+        walk_rows(&rt, "show execution_refused.der", rows)?;
     }
     Ok(())
 }
 
-#[test]
-fn other_extensions_are_refused(rt: HostRuntime) -> Result<(), Fail> {
-    for (what, digits, words) in REFUSED_TAILS.iter() {
-        assert!(rt;
-            is_refused_with(&rt, shown::TAIL, digits, words)?,
-            "{what}: {words}"
-        );
-    }
-    Ok(())
-}
-
-#[test]
-fn other_octets_are_refused(rt: HostRuntime) -> Result<(), Fail> {
-    let alloc = rt.alloc();
-    for (what, digits, words) in NO_CERTIFICATES.iter() {
-        let mut octets = Vec::new(alloc);
-        push_octets(&mut octets, alloc, digits)?;
-        assert!(rt;
-            is_refused(&rt, octets.as_slice(), words)?,
-            "{what}: {words}"
-        );
-    }
-    Ok(())
-}
-
-// The plain certificate with so many alternative names, each of the form 1 and empty.
-fn with_names(alloc: Global, count: usize) -> Result<Vec<u8>, Fail> {
-    let (mut names, mut value, mut extension) = (Vec::new(alloc), Vec::new(alloc), Vec::new(alloc));
+// A row of the plain certificate with so many alternative names, each of the form 1 and empty, behind the beginning of its extensions.
+fn names_row(alloc: Global, begin: &str, count: u16) -> Result<String, AllocError> {
+    let mut row = String::new(alloc);
+    row.push_str(" names: tail ")?;
+    row.push_str(begin)?;
     for _ in 0..count {
-        names.extend_from_slice(&[0x81, 0x00])?;
+        row.push_str("8100")?;
     }
-    push_value(&mut value, 0x30, names.as_slice())?;
-    extension.extend_from_slice(&[0x06, 0x03, 0x55, 0x1D, 0x11])?;
-    push_value(&mut extension, 0x04, value.as_slice())?;
-    let (mut list, mut sequence, mut tail) = (Vec::new(alloc), Vec::new(alloc), Vec::new(alloc));
-    push_value(&mut list, 0x30, extension.as_slice())?;
-    push_value(&mut sequence, 0x30, list.as_slice())?;
-    push_value(&mut tail, 0xA3, sequence.as_slice())?;
-    let digits = hex::encode(alloc, tail.as_slice())?;
-    plain_but(alloc, shown::TAIL, digits.as_str())
+    row.push_str("\n")?;
+    Ok(row)
 }
 
 #[test]
 fn as_many_names_are_shown_as_are_served(rt: HostRuntime) -> Result<(), Fail> {
-    let alloc = rt.alloc();
-    let octets = with_names(alloc, 4096)?;
-    let answer = show_of(&rt, "execution_names.der", octets.as_slice())?;
-    let mut lines = String::new(alloc);
+    let begin = "A3822015308220113082200D0603551D110482200430822000";
+    let mut row = names_row(rt.alloc(), begin, 4096)?;
     for _ in 0..4096 {
-        lines.push_str("alt 1\n")?;
+        row.push_str("alt 1\n")?;
     }
-    let wanted = lines_but(alloc, shown::TAIL, lines.as_str())?;
-    assert!(rt; is_answer(&answer, 0, wanted.as_bytes(), b""));
-    let more = with_names(alloc, 4097)?;
-    assert!(rt; is_refused(&rt, more.as_slice(), "refused 32 Limit at 8311\n")?);
+    assert!(rt;
+        row_holds(&rt, "show execution_names.der", row.as_str())?,
+        "4096 names"
+    );
+    let begin = "A3822017308220133082200F0603551D110482200630822002";
+    let mut row = names_row(rt.alloc(), begin, 4097)?;
+    row.push_str("refused 32 Limit at 8311\n")?;
+    assert!(rt;
+        row_holds(&rt, "show execution_names.der", row.as_str())?,
+        "4097 names"
+    );
     Ok(())
 }
 
-// So many SEQUENCEs in one another, of which the innermost is empty.
-fn nested(alloc: Global, count: u8) -> Result<Vec<u8>, AllocError> {
-    let mut octets = Vec::new(alloc);
-    for inside in (0..count).rev() {
-        octets.extend_from_slice(&[0x30, inside.saturating_mul(2)])?;
-    }
-    Ok(octets)
+const MISSING: &str = "
+$ tree execution_none.der
+x509check: cannot read execution_none.der
+status 6
+$ show execution_none.der
+x509check: cannot read execution_none.der
+status 6
+";
+
+#[test]
+fn a_missing_file_cannot_be_read(rt: HostRuntime) -> Result<(), Fail> {
+    walk(&rt, MISSING)
 }
 
-// The lines of 32 SEQUENCEs in one another.
-fn deepest_lines(alloc: Global) -> Result<String, Fail> {
-    let mut lines = String::new(alloc);
-    for level in 0..32usize {
-        let (indent, size) = (2 * level, 62 - 2 * level);
-        write!(lines, "{:indent$}30 {size}\n", "")?;
-    }
-    Ok(lines)
+// Statuses, and the words behind the program's name. Help is printed on standard output, what is wrong on standard error.
+const WORDS: &str = "\
+5
+5 tree
+5 tree a b
+5 tree --deep a
+5 grow a
+5 show
+5 show a b
+5 show --as csr a
+5 show --as cert
+5 prints a
+5 prints --issuer a
+5 prints --issuer a b c
+5 prints --issuer a --as csr b
+5 prints --as cert b
+0 --help
+0 show --help
+0 prints --help
+0 tree --help
+0 help
+";
+
+// Whether the run ends with this status, and prints help for 0, and else what is wrong.
+fn is_told(rt: &HostRuntime, words: &[&str], status: u8) -> bool {
+    let (mut out, mut err) = (Output::new(rt.alloc()), Vec::new(rt.alloc()));
+    let ended = run(rt, words, &mut out, &mut err);
+    let is_help = status == 0;
+    ended == status && out.written.is_empty() != is_help && err.is_empty() == is_help
 }
 
 #[test]
-fn values_stand_at_most_thirty_two_deep(rt: HostRuntime) -> Result<(), Fail> {
-    let alloc = rt.alloc();
-    let deepest = nested(alloc, 32)?;
-    assert!(rt; deepest.starts_with(&[0x30, 0x3E]));
-    let answer = tree_of(&rt, "execution_deepest.der", deepest.as_slice())?;
-    let wanted = deepest_lines(alloc)?;
-    assert!(rt; is_answer(&answer, 0, wanted.as_bytes(), b""));
-    let too_deep = nested(alloc, 33)?;
-    assert!(rt; too_deep.starts_with(&[0x30, 0x40]));
-    let answer = tree_of(&rt, "execution_too_deep.der", too_deep.as_slice())?;
-    let line = b"x509check: execution_too_deep.der: refused 5 TooDeep at 64\n";
-    assert!(rt; is_answer(&answer, 4, b"", line));
+fn words_are_answered(rt: HostRuntime) -> Result<(), Fail> {
+    assert!(rt; is_told(&rt, &[], 5), "no words");
+    for row in WORDS.lines() {
+        let (number, line) = row.split_once(' ').unwrap_or((row, ""));
+        let status = number.parse().unwrap_or(255);
+        let words = words_of(rt.alloc(), line)?;
+        assert!(rt; is_told(&rt, words.as_slice(), status), "{row}");
+    }
     Ok(())
 }
 
-#[test]
-fn a_missing_file_cannot_be_read(rt: HostRuntime) {
-    for subcommand in ["tree", "show"] {
-        let answer = answer_of(&rt, &["x509check", subcommand, "execution_none.der"]);
-        let line = b"x509check: cannot read execution_none.der\n";
-        assert!(rt; is_answer(&answer, 6, b"", line), "{subcommand}");
+// Whether the run on a file of these octets wants memory, or prints this text.
+fn wants_or_prints(rt: &HostRuntime, words: &[&str], octets: &[u8], text: &[u8]) -> bool {
+    let Some(file) = words.last() else {
+        return false;
+    };
+    // The file of the test may want memory too.
+    if fs::write(rt, file, octets).is_err() {
+        return true;
     }
-}
-
-#[test]
-fn words_are_answered(rt: HostRuntime) {
-    for (words, status, is_help) in WORDS.iter() {
-        let answer = answer_of(&rt, words);
-        let is_told = answer.out.is_empty() != *is_help && answer.err.is_empty() == *is_help;
-        assert!(rt; answer.status == *status && is_told, "{words:?}");
+    let (mut out, mut err) = (Output::new(rt.alloc()), Vec::new(rt.alloc()));
+    match run(rt, words, &mut out, &mut err) {
+        0 => out.written.as_slice() == text,
+        status => status == 6,
     }
-}
-
-const WANTING: &[u8] =
-    b"\x30\x7F\x30\x73\xA0\x03\x02\x01\x02\x02\x01\x05\x30\x04\x06\x02\x2A\x03\x30\x0C\x31\x0A\x30\x08\x06\x03\x55\x04\x03\x13\x01\x41\x30\x1E\x17\x0D\x32\x35\x30\x31\x30\x31\x30\x30\x30\x30\x30\x30\x5A\x17\x0D\x32\x36\x30\x31\x30\x31\x30\x30\x30\x30\x30\x30\x5A\x30\x0C\x31\x0A\x30\x08\x06\x03\x55\x04\x03\x13\x01\x54\x30\x0A\x30\x04\x06\x02\x2A\x03\x03\x02\x00\x4B\xA3\x1B\x30\x19\x30\x0C\x06\x03\x55\x1D\x11\x04\x05\x30\x03\x82\x01\x6E\x30\x09\x06\x02\x2A\x03\x01\x01\xFF\x04\x00\x30\x04\x06\x02\x2A\x03\x03\x02\x00\xEE";
-
-const WANTING_LINES: &[u8] = b"key 4b\nalt dns n\ncritical 1.2.3\n";
-
-// Under the key of the same certificate; a script that takes the digest by Python's hashlib gives it.
-const WANTING_PRINT: &[u8] =
-    b"451df92c641e2a0ebfd83fc11ee1c309728f2a9a1e37994d3db2a79a4dcd6c91 certificate issuer\n";
-
-// Runs `prints` on a file of its own with these octets, for both of its files.
-fn prints_alone(rt: &HostRuntime, file: &str, octets: &[u8]) -> io::Result<Answer> {
-    fs::write(rt, file, octets)?;
-    let answer = answer_of(rt, &["x509check", "prints", "--issuer", file, file]);
-    fs::remove_file(rt, file)?;
-    Ok(answer)
 }
 
 /// Holds whether an allocation is refused or not: `rt try --test --fail-alloc N` refuses the Nth.
 #[test]
 fn wants_memory_or_answers(rt: HostRuntime) {
-    // The test's own file may want memory too.
-    if let Ok(answer) = tree_of(&rt, "execution_memory.der", &[0x05, 0x00]) {
-        let is_answered = answer.status == 0 && answer.out.as_slice() == b"05 0\n".as_slice();
-        assert!(rt; is_answered || answer.status == 6, "{}", answer.status);
-    }
+    let words = ["x509check", "tree", "execution_memory.der"];
+    assert!(rt;
+        wants_or_prints(&rt, &words, &[0x05, 0x00], b"05 0\n"),
+        "tree"
+    );
     // A certificate of a DNS name and an unrecognised extension, which take memory to be read.
-    if let Ok(answer) = show_of(&rt, "execution_wanting.der", WANTING) {
-        let is_answered = answer.status == 0 && answer.out.ends_with(WANTING_LINES);
-        assert!(rt; is_answered || answer.status == 6, "{}", answer.status);
-    }
-    if let Ok(answer) = prints_alone(&rt, "execution_asking.der", WANTING) {
-        let is_answered = answer.status == 0 && answer.out.as_slice() == WANTING_PRINT;
-        assert!(rt; is_answered || answer.status == 6, "{}", answer.status);
-    }
+    let words = ["x509check", "show", "execution_wanting.der"];
+    assert!(rt; wants_or_prints(&rt, &words, CERTIFICATE, LINES), "show");
+    let file = "execution_asking.der";
+    let words = ["x509check", "prints", "--issuer", file, file];
+    assert!(rt; wants_or_prints(&rt, &words, CERTIFICATE, PRINT), "prints");
 }
 
-// A standard output that is full at once, or whose end cannot be written.
-#[derive(Drop)]
-struct Full {
-    takes_writes: bool,
+// Whether a run that cannot write so many times, or not to the end, says so.
+fn cannot_write(rt: &HostRuntime, line: &str, left: usize) -> Result<bool, AllocError> {
+    let words = words_of(rt.alloc(), line)?;
+    let (mut out, mut err) = (Output::failing(rt.alloc(), left), Vec::new(rt.alloc()));
+    let status = run(rt, words.as_slice(), &mut out, &mut err);
+    Ok(status == 6 && err.as_slice() == b"x509check: cannot write\n".as_slice())
 }
 
-impl Write for Full {
-    fn write(&mut self, buf: &[u8]) -> io::Result<usize> {
-        match self.takes_writes {
-            true => Ok(buf.len()),
-            false => Err(io::Error::from(io::ErrorKind::StorageFull)),
-        }
-    }
-
-    fn flush(&mut self) -> io::Result<()> {
-        Err(io::Error::from(io::ErrorKind::StorageFull))
-    }
-}
-
-// Whether a run that cannot write says so.
-fn cannot_write(rt: &HostRuntime, words: &[&str], takes_writes: bool) -> bool {
-    let mut err = Vec::new(rt.alloc());
-    let status = execute(rt, rt.alloc(), words, &mut Full { takes_writes }, &mut err);
-    status == 6 && err.as_slice() == b"x509check: cannot write\n".as_slice()
-}
+// The words of runs of which the output fails.
+const FULL: &str = "\
+tree execution_full.der
+show execution_full.der
+prints --issuer execution_full.der execution_full.der
+--help
+";
 
 #[test]
 fn a_failed_output_cannot_be_written(rt: HostRuntime) -> Result<(), Fail> {
-    let file = "execution_full.der";
-    let octets = plain_but(rt.alloc(), shown::REST, "")?;
-    fs::write(&rt, file, octets.as_slice())?;
-    for takes_writes in [false, true] {
-        for subcommand in ["tree", "show"] {
-            let words = ["x509check", subcommand, file];
-            assert!(rt; cannot_write(&rt, &words, takes_writes), "{subcommand}");
-        }
-        let words = ["x509check", "prints", "--issuer", file, file];
-        assert!(rt; cannot_write(&rt, &words, takes_writes), "prints");
-        assert!(rt; cannot_write(&rt, &["x509check", "--help"], takes_writes));
+    fs::write(&rt, "execution_full.der", CERTIFICATE)?;
+    for line in FULL.lines() {
+        assert!(rt; cannot_write(&rt, line, 0)?, "{line}, no write");
+        assert!(rt; cannot_write(&rt, line, usize::MAX)?, "{line}, no end");
     }
-    fs::remove_file(&rt, file)?;
     Ok(())
 }

@@ -1,5 +1,6 @@
-//! Files of certificates and statements, and runs over them.
+//! Files of certificates, statements and verdicts.
 
+use crate::walking::words_of;
 use cli::execute;
 use std::alloc::Global;
 use std::fs;
@@ -7,12 +8,9 @@ use std::test::Fail;
 use vectors::{certificate, revocation_list};
 use vectors_ocsp::ocsp_response;
 
-/// A run: its words behind the program's name, the status, standard output and standard error.
-pub(crate) type Run = (&'static [&'static str], u8, &'static str, &'static str);
-
 // The octets of what the text asks for: a certificate, a revocation list or a response; or those that its digits are.
 fn octets_of(alloc: Global, text: &str) -> Result<Vec<u8>, Fail> {
-    let octets = if text.starts_with('0') || text.starts_with('3') {
+    let octets = if text.is_empty() || text.starts_with('0') || text.starts_with('3') {
         hex::decode(alloc, text).ok()
     } else if text.starts_with("crl") {
         revocation_list(alloc, text).ok()
@@ -24,34 +22,33 @@ fn octets_of(alloc: Global, text: &str) -> Result<Vec<u8>, Fail> {
     Ok(octets.ok_or("notation")?)
 }
 
-/// Writes each file: its name, and the values in a row that it holds.
-pub(crate) fn write_files(rt: &HostRuntime, files: &[(&str, &[&str])]) -> Result<(), Fail> {
-    for (name, texts) in files {
-        let mut octets = Vec::new(rt.alloc());
-        for text in texts.iter() {
-            octets.extend_from_slice(octets_of(rt.alloc(), text)?.as_slice())?;
-        }
+// The octets of the values in a row, with `+` between them.
+fn joined(alloc: Global, values: &str) -> Result<Vec<u8>, Fail> {
+    let mut all = Vec::new(alloc);
+    for value in values.split('+') {
+        let octets = octets_of(alloc, value.trim())?;
+        all.extend_from_slice(octets.as_slice())?;
+    }
+    Ok(all)
+}
+
+/// Writes each file. A line has its name, `=`, and the values in a row that it holds.
+pub(crate) fn write_files(rt: &HostRuntime, files: &str) -> Result<(), Fail> {
+    for line in files.lines().skip(1) {
+        let (name, values) = line.split_once(" =").ok_or("a name")?;
+        let octets = joined(rt.alloc(), values)?;
         fs::write(rt, name, octets.as_slice())?;
     }
     Ok(())
 }
 
-/// Writes the file of verdicts: the fingerprints that these runs print.
-pub(crate) fn write_verdicts(rt: &HostRuntime, name: &str, runs: &[&[&str]]) -> Result<(), Fail> {
+/// Writes the file of verdicts: the fingerprints that the runs of these lines print.
+pub(crate) fn write_verdicts(rt: &HostRuntime, name: &str, lines: &str) -> Result<(), Fail> {
     let mut prints = Vec::new(rt.alloc());
-    for words in runs {
-        let mut err = Vec::new(rt.alloc());
-        execute(rt, rt.alloc(), words, &mut prints, &mut err);
+    let mut err = Vec::new(rt.alloc());
+    for line in lines.lines().skip(1) {
+        let words = words_of(rt.alloc(), line)?;
+        execute(rt, rt.alloc(), words.as_slice(), &mut prints, &mut err);
     }
     Ok(fs::write(rt, name, prints.as_slice())?)
-}
-
-/// Whether the run ends so.
-pub(crate) fn ends_so(rt: &HostRuntime, run: &Run) -> bool {
-    let (words, status, out_text, err_text) = run;
-    let (mut out, mut err) = (Vec::new(rt.alloc()), Vec::new(rt.alloc()));
-    let ended = execute(rt, rt.alloc(), words, &mut out, &mut err);
-    ended == *status
-        && out.as_slice() == out_text.as_bytes()
-        && err.as_slice() == err_text.as_bytes()
 }

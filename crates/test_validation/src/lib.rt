@@ -12,3 +12,5 @@ mod refused;
 mod script;
 #[cfg(test)]
 mod several;
+#[cfg(test)]
+mod walking;

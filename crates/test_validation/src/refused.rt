@@ -1,324 +1,76 @@
 //! Operands that are refused, the first of them.
 
-use crate::files::{Run, ends_so, write_files};
+use crate::files::write_files;
+use crate::walking::walk;
 use std::fs;
 use std::test::Fail;
 
+// What the files hold.
+const FILES: &str = "
+refused_r.der = ca(R,R)
+refused_t.der = ee(T,R)
+refused_null.der = 0500
+refused_two.der = 0500 + 00
+refused_empty =
+";
+
 // Words whose operands are refused, and why.
-const RUNS: &[Run] = &[
-    (
-        &[
-            "x509check",
-            "check",
-            "--store",
-            "refused.db",
-            "--verdicts",
-            "refused_none",
-            "--at",
-            "20250230000000Z",
-            "--anchor",
-            "refused_r.der",
-            "refused_t.der",
-        ],
-        5,
-        "",
-        "x509check: bad time\n",
-    ),
-    (
-        &[
-            "x509check",
-            "check",
-            "--store",
-            "refused.db",
-            "--verdicts",
-            "refused_none",
-            "--at",
-            "2025061500000Z",
-            "--anchor",
-            "refused_r.der",
-            "refused_t.der",
-        ],
-        5,
-        "",
-        "x509check: bad time\n",
-    ),
-    (
-        &[
-            "x509check",
-            "check",
-            "--store",
-            "refused.db",
-            "--verdicts",
-            "refused_none",
-            "--at",
-            "20250615000000Z",
-            "--anchor",
-            "refused_r.der",
-            "--purpose",
-            "3.1",
-            "refused_t.der",
-        ],
-        5,
-        "",
-        "x509check: bad purpose\n",
-    ),
-    (
-        &[
-            "x509check",
-            "check",
-            "--store",
-            "refused.db",
-            "--verdicts",
-            "refused_none",
-            "--at",
-            "20250615000000Z",
-            "--anchor",
-            "refused_no",
-            "refused_t.der",
-        ],
-        6,
-        "",
-        "x509check: cannot read refused_none\n",
-    ),
-    (
-        &[
-            "x509check",
-            "check",
-            "--store",
-            "refused.db",
-            "--verdicts",
-            "refused_t.der",
-            "--at",
-            "20250615000000Z",
-            "--anchor",
-            "refused_no",
-            "refused_t.der",
-        ],
-        4,
-        "",
-        "x509check: refused_t.der: line 1\n",
-    ),
-    (
-        &[
-            "x509check",
-            "check",
-            "--store",
-            "refused.db",
-            "--verdicts",
-            "refused_lines",
-            "--at",
-            "20250615000000Z",
-            "--anchor",
-            "refused_no",
-            "refused_t.der",
-        ],
-        4,
-        "",
-        "x509check: refused_lines: line 3\n",
-    ),
-    (
-        &[
-            "x509check",
-            "check",
-            "--store",
-            "refused.db",
-            "--verdicts",
-            "refused.prints",
-            "--at",
-            "20250615000000Z",
-            "--anchor",
-            "refused_no",
-            "refused_no2",
-        ],
-        6,
-        "",
-        "x509check: cannot read refused_no\n",
-    ),
-    (
-        &[
-            "x509check",
-            "check",
-            "--store",
-            "refused.db",
-            "--verdicts",
-            "refused.prints",
-            "--at",
-            "20250615000000Z",
-            "--anchor",
-            "refused_null.der",
-            "refused_no2",
-        ],
-        4,
-        "",
-        "x509check: refused_null.der: refused 22 Layout at 0\n",
-    ),
-    (
-        &[
-            "x509check",
-            "check",
-            "--store",
-            "refused.db",
-            "--verdicts",
-            "refused.prints",
-            "--at",
-            "20250615000000Z",
-            "--anchor",
-            "refused_two.der",
-            "refused_no2",
-        ],
-        4,
-        "",
-        "x509check: refused_two.der: refused 7 Trailing at 2\n",
-    ),
-    (
-        &[
-            "x509check",
-            "check",
-            "--store",
-            "refused.db",
-            "--verdicts",
-            "refused.prints",
-            "--at",
-            "20250615000000Z",
-            "--anchor",
-            "refused_r.der",
-            "refused_null.der",
-            "refused_no2",
-        ],
-        4,
-        "",
-        "x509check: refused_null.der: refused 22 Layout at 0\n",
-    ),
-    (
-        &[
-            "x509check",
-            "check",
-            "--store",
-            "refused.db",
-            "--verdicts",
-            "refused.prints",
-            "--at",
-            "20250615000000Z",
-            "--anchor",
-            "refused_r.der",
-            "refused_t.der",
-            "refused_no2",
-        ],
-        6,
-        "",
-        "x509check: cannot read refused_no2\n",
-    ),
-    (
-        &[
-            "x509check",
-            "check",
-            "--store",
-            "refused.db",
-            "--verdicts",
-            "refused.prints",
-            "--at",
-            "20250615000000Z",
-            "--anchor",
-            "refused_r.der",
-            "refused_t.der",
-        ],
-        6,
-        "",
-        "x509check: cannot read refused.db\n",
-    ),
-    (
-        &[
-            "x509check",
-            "check",
-            "--store",
-            "refused_lines",
-            "--verdicts",
-            "refused.prints",
-            "--at",
-            "20250615000000Z",
-            "--anchor",
-            "refused_r.der",
-            "refused_t.der",
-        ],
-        6,
-        "",
-        "x509check: store fault 71\n",
-    ),
-    (
-        &[
-            "x509check",
-            "check",
-            "--store",
-            "refused_empty",
-            "--verdicts",
-            "refused.prints",
-            "--at",
-            "20250615000000Z",
-            "--anchor",
-            "refused_r.der",
-            "refused_t.der",
-        ],
-        6,
-        "",
-        "x509check: store fault 72\n",
-    ),
-    (
-        &[
-            "x509check",
-            "check",
-            "--store",
-            ".",
-            "--verdicts",
-            "refused.prints",
-            "--at",
-            "20250615000000Z",
-            "--anchor",
-            "refused_r.der",
-            "refused_t.der",
-        ],
-        6,
-        "",
-        "x509check: store fault 71\n",
-    ),
-    (
-        &[
-            "x509check",
-            "compare",
-            "--store",
-            "refused_lines",
-            "--verdicts",
-            "refused.prints",
-            "--at",
-            "20250615000000Z",
-            "--anchor",
-            "refused_r.der",
-            "--other",
-            "refused_no",
-            "refused_t.der",
-        ],
-        6,
-        "",
-        "x509check: store fault 71\n",
-    ),
-];
+const STEPS: &str = "
+$ check --store refused.db --verdicts refused_none --at 20250230000000Z --anchor refused_r.der refused_t.der
+x509check: bad time
+status 5
+$ check --store refused.db --verdicts refused_none --at 2025061500000Z --anchor refused_r.der refused_t.der
+x509check: bad time
+status 5
+$ check --store refused.db --verdicts refused_none --at 20250615000000Z --anchor refused_r.der --purpose 3.1 refused_t.der
+x509check: bad purpose
+status 5
+$ check --store refused.db --verdicts refused_none --at 20250615000000Z --anchor refused_no refused_t.der
+x509check: cannot read refused_none
+status 6
+$ check --store refused.db --verdicts refused_t.der --at 20250615000000Z --anchor refused_no refused_t.der
+x509check: refused_t.der: line 1
+status 4
+$ check --store refused.db --verdicts refused_lines --at 20250615000000Z --anchor refused_no refused_t.der
+x509check: refused_lines: line 3
+status 4
+$ check --store refused.db --verdicts refused.prints --at 20250615000000Z --anchor refused_no refused_no2
+x509check: cannot read refused_no
+status 6
+$ check --store refused.db --verdicts refused.prints --at 20250615000000Z --anchor refused_null.der refused_no2
+x509check: refused_null.der: refused 22 Layout at 0
+status 4
+$ check --store refused.db --verdicts refused.prints --at 20250615000000Z --anchor refused_two.der refused_no2
+x509check: refused_two.der: refused 7 Trailing at 2
+status 4
+$ check --store refused.db --verdicts refused.prints --at 20250615000000Z --anchor refused_r.der refused_null.der refused_no2
+x509check: refused_null.der: refused 22 Layout at 0
+status 4
+$ check --store refused.db --verdicts refused.prints --at 20250615000000Z --anchor refused_r.der refused_t.der refused_no2
+x509check: cannot read refused_no2
+status 6
+$ check --store refused.db --verdicts refused.prints --at 20250615000000Z --anchor refused_r.der refused_t.der
+x509check: cannot read refused.db
+status 6
+$ check --store refused_lines --verdicts refused.prints --at 20250615000000Z --anchor refused_r.der refused_t.der
+x509check: store fault 71
+status 6
+$ check --store refused_empty --verdicts refused.prints --at 20250615000000Z --anchor refused_r.der refused_t.der
+x509check: store fault 72
+status 6
+$ check --store . --verdicts refused.prints --at 20250615000000Z --anchor refused_r.der refused_t.der
+x509check: store fault 71
+status 6
+$ compare --store refused_lines --verdicts refused.prints --at 20250615000000Z --anchor refused_r.der --other refused_no refused_t.der
+x509check: store fault 71
+status 6
+";
 
 #[test]
 fn the_first_fault_decides(rt: HostRuntime) -> Result<(), Fail> {
-    write_files(
-        &rt,
-        &[
-            ("refused_r.der", &["ca(R,R)"]),
-            ("refused_t.der", &["ee(T,R)"]),
-            ("refused_null.der", &["0500"]),
-            ("refused_two.der", &["0500", "00"]),
-            ("refused_empty", &[]),
-        ],
-    )?;
+    write_files(&rt, FILES)?;
     let line = "0000000000000000000000000000000000000000000000000000000000000000";
     fs::write(&rt, "refused_lines", b"\n\nnothing\n")?;
     fs::write(&rt, "refused.prints", line.as_bytes())?;
-    for (index, run) in RUNS.iter().enumerate() {
-        assert!(rt; ends_so(&rt, run), "{index}");
-    }
-    Ok(())
+    walk(&rt, STEPS)
 }
