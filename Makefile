@@ -1,0 +1,56 @@
+# make builds the program and the library for C; make help says what else there is.
+PREFIX = /usr/local
+DESTDIR =
+# The Rattle kit, two folders above rt: programs in C link with its c/liblibc_c.a.
+KIT = $(shell dirname "$$(dirname "$$(readlink -f "$$(command -v rt)")")")
+
+bin = $(DESTDIR)$(PREFIX)/bin
+lib = $(DESTDIR)$(PREFIX)/lib
+include = $(DESTDIR)$(PREFIX)/include
+libexec = $(DESTDIR)$(PREFIX)/libexec/x509check
+program = crates/x509check/out/x509check
+library = crates/capi/out/libcapi.a
+# These ask OpenSSL and the program and serve a user; the others in examples/ try this repository.
+scripts = verdicts validate
+
+.PHONY: all program library install uninstall check help
+
+all: program library
+
+program:
+	./x509check --build
+
+library:
+	.ci/build capi
+
+# Installs what is built, and builds what is not there: `make install` as root after `make` as a user runs no rt.
+install: $(program) $(library)
+	install -d $(bin) $(lib) $(include) $(libexec)
+	install -m 755 $(program) $(bin)/x509check
+	install -m 644 $(library) $(lib)/libx509check.a
+	install -m 644 "$(KIT)/c/liblibc_c.a" $(lib)/libx509check_memory.a
+	install -m 644 crates/capi/x509check.h $(include)/x509check.h
+	cd examples && install -m 755 $(scripts) $(libexec)
+
+$(program):
+	./x509check --build
+
+$(library):
+	.ci/build capi
+
+uninstall:
+	rm -f $(bin)/x509check $(lib)/libx509check.a $(lib)/libx509check_memory.a $(include)/x509check.h
+	rm -f $(scripts:%=$(libexec)/%)
+	-rmdir $(libexec)
+
+check:
+	.ci/run
+
+help:
+	@echo 'make                      proves and builds the program and the library for C'
+	@echo 'make program              the program alone; make library: the library for C alone'
+	@echo 'make install PREFIX=/usr/local DESTDIR='
+	@echo '                          bin/x509check, lib/libx509check.a, lib/libx509check_memory.a, include/x509check.h,'
+	@echo '                          libexec/x509check/verdicts and libexec/x509check/validate'
+	@echo 'make uninstall            removes what install put there'
+	@echo 'make check                the gate: proves all from nothing and runs the tests, in some two hours'
