@@ -53,4 +53,4 @@ help:
 	@echo '                          bin/x509check, lib/libx509check.a, lib/libx509check_memory.a, include/x509check.h,'
 	@echo '                          libexec/x509check/verdicts and libexec/x509check/validate'
 	@echo 'make uninstall            removes what install put there'
-	@echo 'make check                the gate: proves all from nothing and runs the tests, in some two hours'
+	@echo 'make check                the gate: pages, proofs, edits, tests; from nothing some 240 minutes of a processor'
