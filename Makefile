@@ -10,8 +10,8 @@ include = $(DESTDIR)$(PREFIX)/include
 libexec = $(DESTDIR)$(PREFIX)/libexec/x509check
 program = crates/x509check/out/x509check
 library = crates/capi/out/libcapi.a
-# These ask OpenSSL and the program and serve a user; the others in examples/ try this repository.
-scripts = verdicts validate
+# These serve a user; the others in examples/ try this repository.
+scripts = verdicts validate to_der
 
 .PHONY: all program library install uninstall check help
 
@@ -51,6 +51,6 @@ help:
 	@echo 'make program              the program alone; make library: the library for C alone'
 	@echo 'make install PREFIX=/usr/local DESTDIR='
 	@echo '                          bin/x509check, lib/libx509check.a, lib/libx509check_memory.a, include/x509check.h,'
-	@echo '                          libexec/x509check/verdicts and libexec/x509check/validate'
+	@echo '                          libexec/x509check/verdicts, validate and to_der'
 	@echo 'make uninstall            removes what install put there'
 	@echo 'make check                the gate: pages, proofs, edits, tests; from nothing some 240 minutes of a processor'
