@@ -4,7 +4,7 @@ use Rattle.der.specs.Value.{Value, Values, primitive, constructed, none, more}
 use Rattle.der.specs.Identifier.{is_constructed}
 use Rattle.asn.specs.Place.{Place, tag, body}
 use Rattle.asn.specs.Members.{members, AtMostOne}
-use Rattle.asn.specs.Layout.{AreMembersAt, Holds, IsEncodingOf, HoldEach, AreEncodingsOf, AtMostOneValue}
+use Rattle.asn.specs.Layout.{AreMembersAt, IsValueAt, IsEncodingOf, HoldEach, AreEncodingsOf, AtMostOneValue}
 use Rattle.asn.proofs.MemberLemmas.{holds}
 
 encodings : (depth at : ℕ) (values : Values) (places : List Place) → AreMembersAt depth at values places → HoldEach values places
@@ -14,8 +14,8 @@ encodings depth at (more value values) [] are = absurd are
 encodings depth at (more value values) (place ∷ places) are =
     (record { depth = depth; encodes = are.1 }, encodings depth (at + length place.octets) values places are.2)
 
-shown : {value other : Value} {place : Place} → (is : IsEncodingOf value place) → value ≡ other → Holds is.depth other place
-shown {value = value} {place = place} is e = subst (λ v. Holds is.depth v place) e (holds is.depth value place is.encodes)
+shown : {value other : Value} {place : Place} → (is : IsEncodingOf value place) → value ≡ other → IsValueAt is.depth other place
+shown {value = value} {place = place} is e = subst (λ v. IsValueAt is.depth v place) e (holds is.depth value place is.encodes)
 
 -- What a place shows of its value.
 pub of_primitive : {identifier : ℕ} {contents : List ℕ} {value : Value} {place : Place} → IsEncodingOf value place → value ≡ primitive identifier contents → (tag place ≡ identifier) × (body place ≡ contents)

@@ -8,7 +8,7 @@ use Rattle.der.proofs.Laws.{parts_of, front_of, read_front, encoded_long}
 use Rattle.asn.specs.Part.{contents}
 use Rattle.asn.specs.Place.{Place, body, body_place, ends, front, behind, values}
 use Rattle.asn.specs.Members.{members_at}
-use Rattle.asn.specs.Layout.{AreMembersAt, Holds}
+use Rattle.asn.specs.Layout.{AreMembersAt, IsValueAt}
 use Rattle.asn.specs.Size.{octets_of_all}
 use Rattle.asn.proofs.PlaceLemmas.{values_none, values_more}
 use Rattle.asn.proofs.Sizes.{encodable_all}
@@ -47,7 +47,7 @@ are_members (more v vs) depth text at (x, rest, e, sp, sps) =
     ∙ ap (λ (p : Place). record { octets = x; at = at } ∷ values p) (behind_is depth text x rest at v e sp) in
     subst (AreMembersAt depth at (more v vs)) (sym parts_are) (refl, sp, are_members vs depth rest (at + length x) sps)
 
-pub holds : (depth : ℕ) (v : Value) (place : Place) → EncodesAt depth place.octets v → Holds depth v place
+pub holds : (depth : ℕ) (v : Value) (place : Place) → EncodesAt depth place.octets v → IsValueAt depth v place
 unfolding contents members_at body_place
 holds depth (primitive i c) place sp =
     let f = front_of depth place.octets place.octets [] i c (sym (append-nil place.octets)) (parts_of (primitive i c) depth place.octets sp).2 in

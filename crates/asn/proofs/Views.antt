@@ -8,9 +8,8 @@ use Rattle.der.specs.Length.{header_len, contents_len, contents_of}
 use Rattle.der.specs.Encoding.{EncodesAt, EncodesAllAt}
 use Rattle.der.specs.Header.{SaysHeader}
 use Rattle.asn.specs.Part.{BeginsEncoded, AreEncoded}
-use Rattle.der.proofs.Laws.{parts_of, front_of}
+use Rattle.der.proofs.Laws.{parts_of, front_of, read_front, rest_encoded, inner_encoded}
 use Rattle.asn.proofs.Splits.{end_is}
-use Rattle.der.proofs.Laws.{read_front, rest_encoded, inner_encoded}
 
 pub begins_with_one : (text : List ℕ) (depth : ℕ) (v : Value) → EncodesAt depth text v → BeginsEncoded text
 begins_with_one text depth v sp = (depth, v, text, [], sym (append-nil text), sp)

@@ -1,8 +1,7 @@
 -- What each step of a walk says of the values, in both directions: for laws of layouts.
 use Rattle.std.specs.Prelude.{◌≡◌, ◌==◌, ℕ, Bool, true, false, refl, List, [], ◌∷◌, Option, Some, None, Result, Ok, Err, if◌then◌else◌}
-use Rattle.std.proofs.Common.{subst, ap}
+use Rattle.std.proofs.Common.{subst, ap, eq-eqb}
 use Rattle.std.proofs.lemmas.Bool.{eqb-true}
-use Rattle.std.proofs.Common.{eq-eqb}
 use Rattle.asn.specs.Place.{Place, tag}
 use Rattle.asn.specs.Members.{Members, AtMostOne, begins, begins_in, none_left, next_at, none_in}
 use Rattle.asn.specs.Walk.{◌>>=◌, each, check_that, is_a, required, required_in, next_or, next_or_in, is_one_of, choice, any, any_in, optional, optional_in, ended, some, Leads}

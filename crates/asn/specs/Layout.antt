@@ -18,17 +18,17 @@ AreMembersAt depth at (more value values) (place ∷ places) =
     (place.at ≡ at) × EncodesAt depth place.octets value × AreMembersAt depth (at + length place.octets) values places
 
 -- what the words on a place say of the value: identifier, form, and contents or the members in order
-abbrev pub Holds : ℕ → Value → Place → Type 0
-Holds depth (primitive identifier contents) place =
+abbrev pub IsValueAt : ℕ → Value → Place → Type 0
+IsValueAt depth (primitive identifier contents) place =
     (tag place ≡ identifier) × (is_constructed identifier ≡ false) × (body place ≡ contents)
-Holds depth (constructed identifier values) place =
+IsValueAt depth (constructed identifier values) place =
     (tag place ≡ identifier) × (is_constructed identifier ≡ true)
     × AreMembersAt (depth + 1) (place.at + header_len place.octets) values (members place).values
     × ((members place).end ≡ place.at + length place.octets)
 
 -- a place that holds the encoding of a value
 abbrev pub PlacesHoldValues : Type 0
-PlacesHoldValues = (depth : ℕ) (value : Value) (place : Place) → EncodesAt depth place.octets value → Holds depth value place
+PlacesHoldValues = (depth : ℕ) (value : Value) (place : Place) → EncodesAt depth place.octets value → IsValueAt depth value place
 
 -- The same for laws of layouts, which look at no depth and no offset: the place holds the encoding of the value,
 pub record IsEncodingOf (value : Value) (place : Place) : Type 0 where

@@ -1,11 +1,9 @@
 //! Numbers of at most 20 octets, as a CRL number is (RFC 5280 5.2.3).
 
-ghost use Rattle.std.specs.Prelude.{◌≡◌, ◌<◌, ◌≤◌, ◌^◌, ℕ, length, pos, nat_eq};
-ghost use Rattle.std.specs.Prelude.{Some, IfSome, IfNone};
+ghost use Rattle.std.specs.Prelude.{◌≡◌, ◌<◌, ◌≤◌, ◌^◌, ℕ, length, pos, nat_eq, Some, IfSome, IfNone};
 ghost use Rattle.std.specs.Ordering.{nat_cmp};
 ghost use Rattle.der.specs.Contents.{IsInteger};
-ghost use Rattle.asn.specs.Integer.{IsMagnitude, IsNumber20};
-ghost use Rattle.asn.specs.Integer.{binary_value, integer_value};
+ghost use Rattle.asn.specs.Integer.{IsMagnitude, IsNumber20, binary_value, integer_value};
 ghost use Rattle.std.specs.Cmp.Rules.{comparing};
 ghost use Rattle.std.proofs.Common.{rules};
 

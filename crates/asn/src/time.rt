@@ -1,7 +1,6 @@
 //! UTCTime and GeneralizedTime, as certificates and revocation statements write them.
 
-ghost use Rattle.std.specs.Prelude.{◌≡◌, ◌<◌, ◌+◌, ◌*◌, ◌/◌, ◌%◌, ℕ, ℤ, length, slice_index};
-ghost use Rattle.std.specs.Prelude.{pos, ◌+ℤ◌, ◌*ℤ◌, IfSome, IfNone};
+ghost use Rattle.std.specs.Prelude.{◌≡◌, ◌<◌, ◌+◌, ◌*◌, ◌/◌, ◌%◌, ℕ, ℤ, length, slice_index, pos, ◌+ℤ◌, ◌*ℤ◌, IfSome, IfNone};
 ghost use Rattle.asn.specs.Time.{IsTwoDigits, IsTimeInYear, IsTime, seconds_in, TimesAreUnique, TimeIsExact};
 ghost use Rattle.jiff_core.specs.Calendar.{IsCivilDate, IsEpochDay, days_from_civil};
 

@@ -10,7 +10,7 @@ use Rattle.asn.proofs.Laws.{bind_ok, ok_is, check_ok, check_again, is_a_ok, is_a
 use Rattle.cert.specs.declared.fault.CertRule.{CertRule}
 use Rattle.cert.specs.declared.fault.CertRule.TheVariants.{Layout, ExtensionRepeated}
 use Rattle.cert.specs.Extension.{Extension, IsExtension}
-use Rattle.cert.specs.Extensions.{Extensions, Taken, nothing_taken, told, noted, kind_of, saying_of, told_by, one_extension, extensions}
+use Rattle.cert.specs.Extensions.{Extensions, Taken, nothing_taken, told, noted, kind_of_extension, saying_of, told_by, one_extension, extensions}
 use Rattle.cert.specs.ExtensionForms.{Told, Tells, all_told, AreExtensions}
 use Rattle.cert.proofs.ExtensionLaws.{is_extension, extension_is}
 use Rattle.cert.proofs.Sayings.{saying_ok, saying_again}
@@ -46,13 +46,13 @@ step_ok from value to e fits =
     let read = bind_ok _ _ to e in
     let new = bind_ok _ _ to read.2 in
     let says = bind_ok _ _ to new.2 in
-    let saying = bind_ok (saying_of (kind_of read.0.oid) read.0.value) _ says.0 says.1 in
+    let saying = bind_ok (saying_of (kind_of_extension read.0.oid) read.0.value) _ says.0 says.1 in
     let is = is_extension Layout value read.0 read.1 in
     let made = ok_is {E = CertRule × ℕ} _ to says.2 in
     let known = ok_is {E = CertRule × ℕ} _ says.0 saying.2 in
     record {
       one = record { extension = read.0; saying = saying.0 };
-      tells = record { is_extension = is; says = saying_ok read.0 (kind_of read.0.oid) saying.0 (value_octets value read.0 fits is) refl saying.1 };
+      tells = record { is_extension = is; says = saying_ok read.0 (kind_of_extension read.0.oid) saying.0 (value_octets value read.0 fits is) refl saying.1 };
       new = false_of (contains from.types read.0.oid) (check_ok _ _ _ _ new.1);
       types = ap (λ (t : Taken). t.types) (sym made);
       told_is = ap (λ (t : Taken). t.told) (sym made) ∙ ap (noted read.0) (sym known);

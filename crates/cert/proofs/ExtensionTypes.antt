@@ -5,7 +5,7 @@ use Rattle.std.specs.Str.{bytes_eq}
 use Rattle.std.proofs.lemmas.Slice.Eq.{bytes_eq-Decides}
 use Rattle.cert.specs.declared.extension_kind.ExtensionKind.{ExtensionKind}
 use Rattle.cert.specs.declared.extension_kind.ExtensionKind.TheVariants as Kind
-use Rattle.cert.specs.Extensions.{certificate_extension, kind_of_number, kind_in, kind_of, is_recognised, no_check_oid}
+use Rattle.cert.specs.Extensions.{certificate_extension, kind_of_number, kind_in, kind_of_extension, is_recognised, no_check_oid}
 use Rattle.cert.specs.ExtensionFields.{id_ce, id_ocsp_no_check, recognised, has_recognised_type, IsPolicyProcessing}
 
 -- the number behind id-ce of an extension of this kind
@@ -91,8 +91,8 @@ of_three a b n true e =
     rw (eqb-true a 0x55 arc.0, eqb-true b 0x1D arc.1) (of_number (kind_of_number n) n (number_of_kind n))
 of_three a b n false e = without_number (a ∷ b ∷ n ∷ []) (bytes_eq (a ∷ b ∷ n ∷ []) no_check_oid) refl
 
-pub type_of_kind : (type : List ℕ) → HasType (kind_of type) type
-unfolding kind_of certificate_extension
+pub type_of_kind : (type : List ℕ) → HasType (kind_of_extension type) type
+unfolding kind_of_extension certificate_extension
 type_of_kind [] = without_number [] (bytes_eq [] no_check_oid) refl
 type_of_kind (a ∷ []) = without_number (a ∷ []) (bytes_eq (a ∷ []) no_check_oid) refl
 type_of_kind (a ∷ b ∷ []) = without_number (a ∷ b ∷ []) (bytes_eq (a ∷ b ∷ []) no_check_oid) refl
@@ -108,8 +108,8 @@ three_recognised : (a b n : ℕ) (in_arc : Bool) → (a == 0x55 && b == 0x1D) �
 three_recognised a b n true e = recognised_number n
 three_recognised a b n false e = not_recognised (bytes_eq (a ∷ b ∷ n ∷ []) no_check_oid)
 
-pub recognised_type : (type : List ℕ) → is_recognised (kind_of type) ≡ has_recognised_type type
-unfolding kind_of certificate_extension
+pub recognised_type : (type : List ℕ) → is_recognised (kind_of_extension type) ≡ has_recognised_type type
+unfolding kind_of_extension certificate_extension
 recognised_type [] = not_recognised (bytes_eq [] no_check_oid)
 recognised_type (a ∷ []) = not_recognised (bytes_eq (a ∷ []) no_check_oid)
 recognised_type (a ∷ b ∷ []) = not_recognised (bytes_eq (a ∷ b ∷ []) no_check_oid)
@@ -117,32 +117,32 @@ recognised_type (a ∷ b ∷ n ∷ []) = three_recognised a b n (a == 0x55 && b 
 recognised_type (a ∷ b ∷ n ∷ o ∷ others) = not_recognised (bytes_eq (a ∷ b ∷ n ∷ o ∷ others) no_check_oid)
 
 -- the kinds of the types
-pub of_key_usage : kind_of (id_ce 15) ≡ Kind.KeyUsage
-unfolding kind_of certificate_extension
+pub of_key_usage : kind_of_extension (id_ce 15) ≡ Kind.KeyUsage
+unfolding kind_of_extension certificate_extension
 of_key_usage = refl
 
-pub of_alternative_names : kind_of (id_ce 17) ≡ Kind.AlternativeNames
-unfolding kind_of certificate_extension
+pub of_alternative_names : kind_of_extension (id_ce 17) ≡ Kind.AlternativeNames
+unfolding kind_of_extension certificate_extension
 of_alternative_names = refl
 
-pub of_basic_constraints : kind_of (id_ce 19) ≡ Kind.BasicConstraints
-unfolding kind_of certificate_extension
+pub of_basic_constraints : kind_of_extension (id_ce 19) ≡ Kind.BasicConstraints
+unfolding kind_of_extension certificate_extension
 of_basic_constraints = refl
 
-pub of_name_constraints : kind_of (id_ce 30) ≡ Kind.NameConstraints
-unfolding kind_of certificate_extension
+pub of_name_constraints : kind_of_extension (id_ce 30) ≡ Kind.NameConstraints
+unfolding kind_of_extension certificate_extension
 of_name_constraints = refl
 
-pub of_purposes : kind_of (id_ce 37) ≡ Kind.Purposes
-unfolding kind_of certificate_extension
+pub of_purposes : kind_of_extension (id_ce 37) ≡ Kind.Purposes
+unfolding kind_of_extension certificate_extension
 of_purposes = refl
 
-pub of_policy_processing : (type : List ℕ) → IsPolicyProcessing type → kind_of type ≡ Kind.PolicyProcessing
-unfolding kind_of certificate_extension
+pub of_policy_processing : (type : List ℕ) → IsPolicyProcessing type → kind_of_extension type ≡ Kind.PolicyProcessing
+unfolding kind_of_extension certificate_extension
 of_policy_processing type (inl is) = rw is refl
 of_policy_processing type (inr (inl is)) = rw is refl
 of_policy_processing type (inr (inr is)) = rw is refl
 
-pub of_no_check : (type : List ℕ) → type ≡ id_ocsp_no_check → kind_of type ≡ Kind.NoCheck
-unfolding kind_of certificate_extension
+pub of_no_check : (type : List ℕ) → type ≡ id_ocsp_no_check → kind_of_extension type ≡ Kind.NoCheck
+unfolding kind_of_extension certificate_extension
 of_no_check type is = rw is refl

@@ -12,7 +12,7 @@ use Rattle.names.specs.GeneralLayout.{GeneralName}
 use Rattle.cert.specs.declared.extension_kind.ExtensionKind.{ExtensionKind}
 use Rattle.cert.specs.declared.extension_kind.ExtensionKind.TheVariants as Kind
 use Rattle.cert.specs.Extension.{Extension, IsExtension}
-use Rattle.cert.specs.Extensions.{Extensions, Saying, key_usage_is, alternative_names_are, basic_constraints_are, name_constraints_are, purposes_are, policies_are_processed, need_not_be_checked, says_nothing, no_extensions, told_key_usage, told_alternative_names, told_basic_constraints, told_name_constraints, told_purposes, told_policy, told_no_check, kind_of, is_recognised, told, noted}
+use Rattle.cert.specs.Extensions.{Extensions, Saying, key_usage_is, alternative_names_are, basic_constraints_are, name_constraints_are, purposes_are, policies_are_processed, need_not_be_checked, says_nothing, no_extensions, told_key_usage, told_alternative_names, told_basic_constraints, told_name_constraints, told_purposes, told_policy, told_no_check, kind_of_extension, is_recognised, told, noted}
 use Rattle.cert.specs.ExtensionForms.{Says, Told, Tells, all_told}
 use Rattle.cert.specs.ExtensionFields.{id_ce, id_ocsp_no_check, has_recognised_type, IsPolicyProcessing, HasOneOf, IsFieldOf, SaysKeyUsage, SaysBasicConstraints, AreFieldsOf, ExtensionsAreByField}
 use Rattle.cert.specs.AlternativeNames.{AreAlternativeNames}
@@ -104,7 +104,7 @@ listed_behind : (list : List Told) (before : Extensions)
     → (all_told list before).unrecognised ≡ before.unrecognised ++ map (λ (e : Extension). e.oid) (filter (λ (e : Extension). e.critical && not (has_recognised_type e.oid)) (map extension_in list))
 listed_behind [] before = sym (append-nil before.unrecognised)
 listed_behind (one ∷ list) before =
-    listed_behind list (after one before) ∙ go (one.extension.critical && not (is_recognised (kind_of one.extension.oid))) (ap (λ known. one.extension.critical && not known) (recognised_type one.extension.oid))
+    listed_behind list (after one before) ∙ go (one.extension.critical && not (is_recognised (kind_of_extension one.extension.oid))) (ap (λ known. one.extension.critical && not known) (recognised_type one.extension.oid))
   where
     rest : List (List ℕ)
     rest = map (λ (e : Extension). e.oid) (filter (λ (e : Extension). e.critical && not (has_recognised_type e.oid)) (map extension_in list))
@@ -115,11 +115,11 @@ listed_behind (one ∷ list) before =
     go false is = rw (← is) refl
 
 -- the kind of a type, and a saying that it does not go with
-kind_is : (e : Extension) (type : List ℕ) (kind said : ExtensionKind) → kind_of type ≡ kind → e.oid ≡ type → kind_of e.oid ≡ said → kind ≡ said
-kind_is e type kind said of is says = sym of ∙ ap kind_of (sym is) ∙ says
+kind_is : (e : Extension) (type : List ℕ) (kind said : ExtensionKind) → kind_of_extension type ≡ kind → e.oid ≡ type → kind_of_extension e.oid ≡ said → kind ≡ said
+kind_is e type kind said of is says = sym of ∙ ap kind_of_extension (sym is) ∙ says
 
 -- an extension has the type of its kind
-type_is : (e : Extension) (kind : ExtensionKind) → kind_of e.oid ≡ kind → HasType kind e.oid
+type_is : (e : Extension) (kind : ExtensionKind) → kind_of_extension e.oid ≡ kind → HasType kind e.oid
 type_is e kind is = subst (λ (k : ExtensionKind). HasType k e.oid) is (type_of_kind e.oid)
 
 silent_key_usage : (e : Extension) (s : Saying) (x : Option (List ℕ)) → Says e s → e.oid ≢ id_ce 15 → told_key_usage s x ≡ x

@@ -7,7 +7,7 @@ use Rattle.cert.specs.declared.fault.CertRule.{CertRule}
 use Rattle.cert.specs.declared.extension_kind.ExtensionKind.{ExtensionKind}
 use Rattle.cert.specs.declared.extension_kind.ExtensionKind.TheVariants as Kind
 use Rattle.cert.specs.Extension.{Extension}
-use Rattle.cert.specs.Extensions.{Saying, key_usage_is, alternative_names_are, basic_constraints_are, name_constraints_are, purposes_are, policies_are_processed, need_not_be_checked, says_nothing, kind_of, saying_of}
+use Rattle.cert.specs.Extensions.{Saying, key_usage_is, alternative_names_are, basic_constraints_are, name_constraints_are, purposes_are, policies_are_processed, need_not_be_checked, says_nothing, kind_of_extension, saying_of}
 use Rattle.cert.specs.ExtensionForms.{Says}
 use Rattle.cert.proofs.KeyUsageLaws as usage
 use Rattle.cert.proofs.AlternativeNamesLaws as names
@@ -15,7 +15,7 @@ use Rattle.cert.proofs.BasicConstraintsLaws as basic
 use Rattle.cert.proofs.NameConstraintsLaws as constraints
 use Rattle.cert.proofs.PurposesLaws as purposes
 
-pub saying_ok : (e : Extension) (kind : ExtensionKind) (s : Saying) → AreOctets (body e.value) → kind_of e.oid ≡ kind → saying_of kind e.value ≡ Ok s → Says e s
+pub saying_ok : (e : Extension) (kind : ExtensionKind) (s : Saying) → AreOctets (body e.value) → kind_of_extension e.oid ≡ kind → saying_of kind e.value ≡ Ok s → Says e s
 saying_ok e Kind.KeyUsage s fits is r =
     let read = bind_ok _ _ s r in
     subst (Says e) (ok_is {E = CertRule × ℕ} (key_usage_is read.0) s read.2) (is, usage.is_key_usage e.value read.0 fits read.1)
@@ -36,7 +36,7 @@ saying_ok e Kind.PolicyProcessing s fits is r = subst (Says e) (ok_is {E = CertR
 saying_ok e Kind.NoCheck s fits is r = subst (Says e) (ok_is {E = CertRule × ℕ} need_not_be_checked s r) is
 saying_ok e Kind.Other s fits is r = subst (Says e) (ok_is {E = CertRule × ℕ} says_nothing s r) (inr is)
 
-pub saying_again : (e : Extension) (s : Saying) → AreOctets (body e.value) → Says e s → saying_of (kind_of e.oid) e.value ≡ Ok s
+pub saying_again : (e : Extension) (s : Saying) → AreOctets (body e.value) → Says e s → saying_of (kind_of_extension e.oid) e.value ≡ Ok s
 saying_again e (key_usage_is bits) fits says = rw (says.0, usage.key_usage_is e.value bits says.1) refl
 saying_again e (alternative_names_are list) fits says = rw (says.0, names.alternative_names_are e.value list says.1) refl
 saying_again e (basic_constraints_are fields) fits says = rw (says.0, basic.basic_constraints_are e.value fields fits says.1) refl

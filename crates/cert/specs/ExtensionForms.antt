@@ -10,18 +10,18 @@ use Rattle.cert.specs.AlternativeNames.{AreAlternativeNames}
 use Rattle.cert.specs.BasicConstraints.{IsBasicConstraints}
 use Rattle.cert.specs.NameConstraints.{IsNameConstraints}
 use Rattle.cert.specs.Purposes.{ArePurposes}
-use Rattle.cert.specs.Extensions.{Extensions, no_extensions, Saying, key_usage_is, alternative_names_are, basic_constraints_are, name_constraints_are, purposes_are, policies_are_processed, need_not_be_checked, says_nothing, kind_of, told, noted}
+use Rattle.cert.specs.Extensions.{Extensions, no_extensions, Saying, key_usage_is, alternative_names_are, basic_constraints_are, name_constraints_are, purposes_are, policies_are_processed, need_not_be_checked, says_nothing, kind_of_extension, told, noted}
 
 -- the extension says this, by its kind; its value is looked into where the kind has one that decides something
 abbrev pub Says : Extension → Saying → Type 0
-Says e (key_usage_is bits) = (kind_of e.oid ≡ Kind.KeyUsage) × IsKeyUsage e.value bits
-Says e (alternative_names_are names) = (kind_of e.oid ≡ Kind.AlternativeNames) × AreAlternativeNames e.value names
-Says e (basic_constraints_are fields) = (kind_of e.oid ≡ Kind.BasicConstraints) × IsBasicConstraints e.value fields
-Says e (name_constraints_are fields) = (kind_of e.oid ≡ Kind.NameConstraints) × IsNameConstraints e.value fields
-Says e (purposes_are list) = (kind_of e.oid ≡ Kind.Purposes) × ArePurposes e.value list
-Says e policies_are_processed = kind_of e.oid ≡ Kind.PolicyProcessing
-Says e need_not_be_checked = kind_of e.oid ≡ Kind.NoCheck
-Says e says_nothing = (kind_of e.oid ≡ Kind.Policies) ⊎ (kind_of e.oid ≡ Kind.Other)
+Says e (key_usage_is bits) = (kind_of_extension e.oid ≡ Kind.KeyUsage) × IsKeyUsage e.value bits
+Says e (alternative_names_are names) = (kind_of_extension e.oid ≡ Kind.AlternativeNames) × AreAlternativeNames e.value names
+Says e (basic_constraints_are fields) = (kind_of_extension e.oid ≡ Kind.BasicConstraints) × IsBasicConstraints e.value fields
+Says e (name_constraints_are fields) = (kind_of_extension e.oid ≡ Kind.NameConstraints) × IsNameConstraints e.value fields
+Says e (purposes_are list) = (kind_of_extension e.oid ≡ Kind.Purposes) × ArePurposes e.value list
+Says e policies_are_processed = kind_of_extension e.oid ≡ Kind.PolicyProcessing
+Says e need_not_be_checked = kind_of_extension e.oid ≡ Kind.NoCheck
+Says e says_nothing = (kind_of_extension e.oid ≡ Kind.Policies) ⊎ (kind_of_extension e.oid ≡ Kind.Other)
 
 -- an extension with what it says
 pub record Told : Type 0 where

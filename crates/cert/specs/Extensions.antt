@@ -52,8 +52,8 @@ abbrev pub kind_in : List ℕ → Option ℕ → ExtensionKind
 kind_in oid (Some number) = kind_of_number number
 kind_in oid None = if bytes_eq oid no_check_oid then Kind.NoCheck else Kind.Other
 
-unfoldable pub kind_of : List ℕ → ExtensionKind
-kind_of oid = kind_in oid (certificate_extension oid)
+unfoldable pub kind_of_extension : List ℕ → ExtensionKind
+kind_of_extension oid = kind_in oid (certificate_extension oid)
 
 -- Kinds that a path is validated by. Others are refused on a path where they are critical (RFC 5280, 4.2).
 abbrev pub is_recognised : ExtensionKind → Bool
@@ -162,7 +162,7 @@ told s before = record {
 
 -- The type of an extension that is critical and not recognised is listed.
 abbrev pub listed : Extension → List (List ℕ) → List (List ℕ)
-listed e before = if e.critical && not (is_recognised (kind_of e.oid)) then before ++ e.oid ∷ [] else before
+listed e before = if e.critical && not (is_recognised (kind_of_extension e.oid)) then before ++ e.oid ∷ [] else before
 
 abbrev pub noted : Extension → Extensions → Extensions
 noted e before = record {
@@ -196,7 +196,7 @@ unfoldable pub one_extension : Taken → Place → Result Taken (CertRule × ℕ
 one_extension earlier value = do
   read ← extension Layout value
   new ← check_that (not (contains earlier.types read.oid)) ExtensionRepeated value.at
-  told ← told_by (kind_of read.oid) read.value earlier.told
+  told ← told_by (kind_of_extension read.oid) read.value earlier.told
   Ok (record { types = insert earlier.types read.oid; told = noted read told })
 
 -- Extensions ::= SEQUENCE SIZE (1..MAX) OF Extension

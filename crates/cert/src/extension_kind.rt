@@ -1,7 +1,7 @@
 //! Which extensions are known, by the contents of their OBJECT IDENTIFIERs.
 
 ghost use Rattle.std.specs.Prelude.{◌≡◌};
-ghost use Rattle.cert.specs.Extensions.{certificate_extension, is_recognised, kind_of};
+ghost use Rattle.cert.specs.Extensions.{certificate_extension, is_recognised, kind_of_extension};
 
 /// What an extension is about.
 #[derive(Clone, Copy, Debug, PartialEq, Eq)]
@@ -42,9 +42,9 @@ pub fn certificate_extension_number(oid: &[u8]) -> Option<u8>
 
 impl ExtensionKind {
     /// The kind of the extensions whose type has these contents.
-    #[tactic(auto, unfolding(crate::specs::Extensions::kind_of))]
+    #[tactic(auto, unfolding(crate::specs::Extensions::kind_of_extension))]
     pub fn of(oid: &[u8]) -> ExtensionKind
-        ensures { result ≡ kind_of oid.now }
+        ensures { result ≡ kind_of_extension oid.now }
     {
         match certificate_extension_number(oid) {
             Some(15) => ExtensionKind::KeyUsage,

@@ -5,7 +5,7 @@ ghost use Rattle.cert.specs.declared.fault.CertFault.TheVariants.{Memory};
 ghost use Rattle.asn.specs.Reading.{seen_tlv, left, each};
 ghost use Rattle.asn.specs.Oid.{oid_contents};
 ghost use Rattle.cert.specs.Extension.{seen_extension};
-ghost use Rattle.cert.specs.Extensions.{seen_extensions, no_extensions, kind_of, listed, noted, told_by, one_extension, nothing_taken, seen_taken, extensions};
+ghost use Rattle.cert.specs.Extensions.{seen_extensions, no_extensions, kind_of_extension, listed, noted, told_by, one_extension, nothing_taken, seen_taken, extensions};
 ghost use Rattle.cert.specs.Fault.{GivesUnlessFull};
 
 use crate::alternative_names::read_alternative_names;
@@ -90,7 +90,7 @@ impl<'a> Extensions<'a> {
 
     /// Lists the type of an extension, of that kind, that is critical and not recognised.
     fn note(&mut self, kind: ExtensionKind, extension: Extension<'a>) -> Result<(), CertFault>
-        requires { kind ≡ kind_of (oid_contents extension.oid) }
+        requires { kind ≡ kind_of_extension (oid_contents extension.oid) }
         ensures full { OnErr result (result ≡ Err Memory) }
         ensures noted { OnOk result (seen_extensions self.new ≡ noted (seen_extension extension.entry) (seen_extensions self.old)) }
     {

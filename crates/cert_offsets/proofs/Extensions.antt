@@ -20,7 +20,7 @@ use Rattle.cert.specs.declared.extension_kind.ExtensionKind.TheVariants as Kind
 use Rattle.cert.specs.Fault.{as_der, as_name}
 use Rattle.cert.specs.Limit.{has_room}
 use Rattle.cert.specs.Extension.{Extension, extension}
-use Rattle.cert.specs.Extensions.{Taken, nothing_taken, kind_of, saying_of, told_by, one_extension, extensions}
+use Rattle.cert.specs.Extensions.{Taken, nothing_taken, kind_of_extension, saying_of, told_by, one_extension, extensions}
 use Rattle.cert.specs.KeyUsage.{key_usage}
 use Rattle.cert.specs.BasicConstraints.{basic_constraints, is_negative, path_length, path_length_in, saturated}
 use Rattle.cert.specs.AlternativeNames.{has_form, one_more_name, alternative_names}
@@ -193,8 +193,8 @@ unfolding one_extension told_by
 one_within text octets earlier value is =
     and_then text (ValueStands text) Any (extension R.Layout value) _ (extension_within text value is) (λ read stands.
     and_then text Any Any (check_that (not (contains earlier.types read.oid)) R.ExtensionRepeated value.at) _ (check_within text (not (contains earlier.types read.oid)) R.ExtensionRepeated value.at (begins_at text value is)) (λ _ _.
-    and_then text Any Any (told_by (kind_of read.oid) read.value earlier.told) _
-    (and_then text Any Any (saying_of (kind_of read.oid) read.value) _ (saying_within text (kind_of read.oid) read.value octets stands.value) (λ _ _. tt)) (λ _ _. tt)))
+    and_then text Any Any (told_by (kind_of_extension read.oid) read.value earlier.told) _
+    (and_then text Any Any (saying_of (kind_of_extension read.oid) read.value) _ (saying_within text (kind_of_extension read.oid) read.value octets stands.value) (λ _ _. tt)) (λ _ _. tt)))
 
 pub extensions_within : (text : List ℕ) (value : Place) → AreOctets text → IsEncodedPart text value → Within text Any (extensions value)
 unfolding extensions

@@ -12,7 +12,7 @@ use Rattle.relying_agreement.specs.declared.verdict.Verdict.{Verdict}
 use Rattle.statements_facts.specs.declared.counts.Counts.{Counts}
 use Rattle.path.specs.Query.{Query, Accepts}
 use Rattle.relying.specs.Asking.{Looks, LooksAtBoth}
-use Rattle.relying.specs.Run.{Ran, Runs, Takes}
+use Rattle.relying.specs.Run.{Ran, Runs, TakesDelivery}
 use Rattle.relying.specs.declared.fault.DeliverFault.{DeliverFault}
 use Rattle.cli.specs.Standing.{Leaving, Seen, Standing, database, seen_of}
 use Rattle.cli.specs.Delivered.{HasTaken, IsTakenAt}
@@ -47,7 +47,7 @@ compared_by stands leaves path beside accepts query old other_old (Err e) stood 
 -- a delivery
 one_taken : (accepts : Accepts) (issuer statement : List ℕ) (counts : Counts) (start held : Holdings) (now : Holdings → Type 0)
     → Runs accepts (Event.Deliver issuer statement ∷ []) (Ok counts ∷ []) start held → now held
-    → (next : Holdings) × now next × Takes accepts issuer statement start next (Ok counts)
+    → (next : Holdings) × now next × TakesDelivery accepts issuer statement start next (Ok counts)
 one_taken accepts issuer statement counts start held now (next, takes, same) stands = (next, subst now same stands, takes)
 
 pub taken : (leaves : Seen → Type 0) (accepts : Accepts) (issuer statement : List ℕ) (old new : State) (answers : List (Result Counts DeliverFault)) (counts : Counts)

@@ -11,7 +11,7 @@ use Rattle.relying.specs.Asking.{IsFormed, IsFormedOfEither}
 use Rattle.relying.specs.Run.{Ran, Runs}
 use Rattle.relying.specs.declared.fault.DeliverFault.{DeliverFault}
 use Rattle.relying.specs.declared.fault.DeliverFault.TheVariants.{Store as OfStore}
-use Rattle.store.specs.Adopts.{Keeps}
+use Rattle.store.specs.Adopts.{StaysIfOpen}
 use Rattle.store_sql.specs.declared.fault.StoreFault.TheVariants as S
 use Rattle.relying_verdicts.specs.declared.fault.Fault.{Fault}
 use Rattle.relying_verdicts.specs.declared.fault.Fault.TheVariants as F
@@ -25,11 +25,11 @@ use Rattle.cli.specs.Judged.{AreUnanswered, IsNoComparison, IsNotCompared, IsNot
 other : ◌≢◌ {A = ℕ} 71 72
 other same = omega (arith, same)
 
-kept : (old new : State) → Keeps old new → IsTrue new.is_open → (held : Holdings) → IsStoreOf old.now held → IsStoreOf new.now held
+kept : (old new : State) → StaysIfOpen old new → IsTrue new.is_open → (held : Holdings) → IsStoreOf old.now held → IsStoreOf new.now held
 kept old new keeps is_open held stands = subst (λ now. IsStoreOf now held) (sym (keeps.now_is is_open)) stands
 
 pub not_judged : (leaves : Seen → Type 0) (old new : State) (fault : Fault) (failure : Failure)
-    → failure ≡ told_of_party fault → leaves (seen_of new) → (HasCleanDisk new → Keeps old new × IsFormed old fault) → IsNoAnswer leaves (seen_of old) failure
+    → failure ≡ told_of_party fault → leaves (seen_of new) → (HasCleanDisk new → StaysIfOpen old new × IsFormed old fault) → IsNoAnswer leaves (seen_of old) failure
 not_judged leaves old new (F.Store S.Store) failure told left looks =
     inr (71, told, inl refl, (seen_of new, left, λ intact is_open held stands. (kept old new (looks intact).0 is_open held stands, other)))
 not_judged leaves old new (F.Store S.Schema) failure told left looks =
@@ -41,7 +41,7 @@ not_judged leaves old new F.Memory failure told left looks = inl told
 
 pub not_compared : (leaves others_leave : Seen → Type 0) (old new other_old other_new : State) (fault : Fault) (failure : Failure)
     → failure ≡ told_of_party fault → leaves (seen_of new) → others_leave (seen_of other_new)
-    → (HasCleanDisk new → HasCleanDisk other_new → Keeps old new × Keeps other_old other_new × IsFormedOfEither old other_old fault) → IsNoComparison leaves others_leave (seen_of old) (seen_of other_old) failure
+    → (HasCleanDisk new → HasCleanDisk other_new → StaysIfOpen old new × StaysIfOpen other_old other_new × IsFormedOfEither old other_old fault) → IsNoComparison leaves others_leave (seen_of old) (seen_of other_old) failure
 not_compared leaves others_leave old new other_old other_new (F.Store S.Store) failure told left other_left looks = inr (
   71,
   told,

@@ -7,7 +7,7 @@ use Rattle.store_maps.specs.Held.{IsStoreOf}
 use Rattle.statements_facts.specs.declared.counts.Counts.{Counts}
 use Rattle.cli_answers.specs.AnswerText.{counts_line}
 use Rattle.path.specs.Query.{Accepts}
-use Rattle.relying.specs.Run.{Takes}
+use Rattle.relying.specs.Run.{TakesDelivery}
 use Rattle.relying.specs.declared.fault.DeliverFault.{DeliverFault}
 use Rattle.relying.specs.declared.fault.DeliverFault.TheVariants.{Store}
 use Rattle.store_sql.specs.declared.fault.StoreFault.TheVariants.{Schema}
@@ -27,7 +27,7 @@ abbrev pub HasTaken : (Seen → Type 0) → Accepts → List ℕ → List ℕ �
 HasTaken leaves accepts issuer statement old counts =
     (new : Seen) × leaves new
     × (IsIntact new → IsTrue new.is_open → (start : Holdings) → IsStoreOf old.now start →
-    (next : Holdings) × IsStoreOf new.now next × Takes accepts issuer statement start next (Ok counts))
+    (next : Holdings) × IsStoreOf new.now next × TakesDelivery accepts issuer statement start next (Ok counts))
 
 -- the same, of the store at a path
 abbrev pub IsTakenAt : Standing → Leaving → List ℕ → Accepts → List ℕ → List ℕ → Counts → Type 0

@@ -13,7 +13,7 @@ use Rattle.clap.specs.declared.builder.value_parser.ValueParser.TheVariants as v
 use Rattle.clap.proofs.OnLiterals.{clap_on_literals}
 use Rattle.cli_words.specs.App.{program}
 use Rattle.cli_words.specs.CommandLine.{IsPlainWord}
-use Rattle.cli_words.proofs.Turns.{EntersFiles, Goes, all_accepted, at, goes_more, goes_none, goes_option, halted, halted_on, halted_well, is_other, later_fault, level_well, rest_fault, rows_are, shape_of, top_fault}
+use Rattle.cli_words.proofs.Turns.{EntersFiles, WalksTo, all_accepted, at, goes_more, goes_none, goes_option, halted, halted_on, halted_well, is_other, later_fault, level_well, rest_fault, rows_are, shape_of, top_fault}
 
 -- the words behind the subcommand
 abbrev pub compare_words : Text → Text → Text → Text → Text → List Text → List Text
@@ -86,16 +86,16 @@ unfolding clap_on_literals
 files_well before files [] plain = refl
 files_well before files (x ∷ xs) plain = files_well_at before files xs x (is_other x plain)
 
-goes_files : (before : List Row) (files more : List Text) → All IsPlainWord more → Goes shape (filing before files) more (filing before (files ++ more))
+goes_files : (before : List Row) (files more : List Text) → All IsPlainWord more → WalksTo shape (filing before files) more (filing before (files ++ more))
 goes_files before files [] plain = rw (append-nil files) (goes_none shape (filing before files))
 goes_files before files (file ∷ more) plain =
     let first : IsPlainWord file = plain 0 [] (omega arith) in
     let rest = goes_files before (files ++ file ∷ []) more (λ k d less. plain (suc k) d (omega (arith, less))) in
     goes_more shape (filing before files) (filing before (files ++ file ∷ [])) (filing before (files ++ file ∷ more)) file more (files_well before files file first) (files_more before files file first)
-    (subst (λ (all : List Text). Goes shape (filing before (files ++ file ∷ [])) more (filing before all)) (append_assoc files (file ∷ []) more) rest)
+    (subst (λ (all : List Text). WalksTo shape (filing before (files ++ file ∷ [])) more (filing before all)) (append_assoc files (file ∷ []) more) rest)
 
 goes : (store verdicts moment anchor beside file : Text) (more : List Text) → IsPlainWord store → IsPlainWord verdicts → IsPlainWord moment → IsPlainWord anchor → IsPlainWord beside → All IsPlainWord (file ∷ more)
-    → Goes shape (walk_from nothing_held) (compare_words store verdicts moment anchor beside (file ∷ more)) (filing (behind_other store verdicts moment anchor beside) (file ∷ more))
+    → WalksTo shape (walk_from nothing_held) (compare_words store verdicts moment anchor beside (file ∷ more)) (filing (behind_other store verdicts moment anchor beside) (file ∷ more))
 unfolding clap_on_literals
 goes store verdicts moment anchor beside file more store_plain verdicts_plain moment_plain anchor_plain beside_plain plain =
     let first : IsPlainWord file = plain 0 [] (omega arith) in

@@ -8,7 +8,7 @@ use Rattle.clap.specs.Walk.{Walk, arg_by_index, nothing_held, rows_after, settle
 use Rattle.clap.proofs.OnLiterals.{clap_on_literals}
 use Rattle.cli_words.specs.App.{program}
 use Rattle.cli_words.specs.CommandLine.{IsPlainWord}
-use Rattle.cli_words.proofs.Turns.{Enters, Goes, at, goes_more, goes_none, goes_option, is_other, level_well, rest_fault, rows_are, shape_of}
+use Rattle.cli_words.proofs.Turns.{Enters, WalksTo, at, goes_more, goes_none, goes_option, is_other, level_well, rest_fault, rows_are, shape_of}
 
 -- the words behind the subcommand
 abbrev pub deliver_words : Text → Text → Text → Text → List Text
@@ -54,7 +54,7 @@ ends_well store verdicts issuer [] plain = refl
 ends_well store verdicts issuer (x ∷ xs) plain = ends_well_at store verdicts issuer xs x (is_other x plain)
 
 goes : (store verdicts issuer file : Text) → IsPlainWord store → IsPlainWord verdicts → IsPlainWord issuer → IsPlainWord file
-    → Goes shape (walk_from nothing_held) (deliver_words store verdicts issuer file) (ended store verdicts issuer file)
+    → WalksTo shape (walk_from nothing_held) (deliver_words store verdicts issuer file) (ended store verdicts issuer file)
 unfolding clap_on_literals
 goes store verdicts issuer file plain plain' plain'' plain''' =
     goes_option shape _ (walk_from nothing_held) _ [] (codes "--store") (codes "store") store _ refl refl plain refl refl refl

@@ -5,7 +5,7 @@ use Rattle.cli_words.specs.App.{program}
 use Rattle.clap.specs.Kinds.{Kinds, HasKind, IsAmong}
 use Rattle.clap.specs.declared.error.Error.{Error}
 use Rattle.clap.specs.declared.error.kind.ErrorKind.TheVariants.{OutOfMemory}
-use Rattle.cli_words.specs.CommandLine.{Ask, AreRefusedWith, HasNoLine, HasOtherKind, IsCheck, IsCompare, IsDeliver, IsQuestion, IsLine, IsLineOf, IsPlainWord, IsPrints, IsShow, IsTree, Lack, Reads, TakesKind, kind_in, kind_named, of_check, of_compare, of_deliver, of_file, of_prints}
+use Rattle.cli_words.specs.CommandLine.{Ask, AreRefusedWith, HasNoLine, HasOtherKind, IsCheck, IsCompare, IsDeliver, IsQuestion, IsLine, IsLineOf, IsPlainWord, IsPrints, IsShow, IsTree, LacksOneOf, Reads, TakesKind, kind_in, kind_named, of_check, of_compare, of_deliver, of_file, of_prints}
 use Rattle.cli_words.specs.declared.line.Kind.TheVariants.{Certificate}
 use Rattle.cli_words.specs.declared.line.Line.{Line}
 use Rattle.cli_words.specs.declared.line.Line.TheVariants.{Tree, Show, Prints, Deliver, Check, Compare}
@@ -69,7 +69,7 @@ AreGiven (id ∷ ids) rows = ((text : Text) × (first_of id rows ≡ Some text))
 not_missing : (found : Option Text) (text : Text) → found ≡ Some text → found ≡ None → ⊥
 not_missing found text there missing = let both = sym there ∙ missing in cc
 
-not_lacking : (ids : List Text) (rows : List Row) → AreGiven ids rows → Lack ids rows → ⊥
+not_lacking : (ids : List Text) (rows : List Row) → AreGiven ids rows → LacksOneOf ids rows → ⊥
 not_lacking [] rows given lack = lack
 not_lacking (id ∷ ids) rows given lack =
     elim lack [ inl missing ↦ not_missing (first_of id rows) given.0.0 given.0.1 missing | inr more ↦ not_lacking ids rows given.1 more ]

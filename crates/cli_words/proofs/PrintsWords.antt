@@ -8,7 +8,7 @@ use Rattle.clap.specs.Walk.{Walk, arg_by_index, nothing_held, rows_after, to_pos
 use Rattle.clap.proofs.OnLiterals.{clap_on_literals}
 use Rattle.cli_words.specs.App.{program}
 use Rattle.cli_words.specs.CommandLine.{IsPlainWord}
-use Rattle.cli_words.proofs.Turns.{Enters, Goes, at, goes_more, goes_none, goes_option, is_other, level_well, rest_fault, rows_are, shape_of}
+use Rattle.cli_words.proofs.Turns.{Enters, WalksTo, at, goes_more, goes_none, goes_option, is_other, level_well, rest_fault, rows_are, shape_of}
 
 -- the words behind the subcommand
 abbrev pub prints_words : Text → Text → List Text
@@ -42,7 +42,7 @@ unfolding clap_on_literals
 ends_well issuer [] plain = refl
 ends_well issuer (x ∷ xs) plain = ends_well_at issuer x xs (is_other x plain)
 
-goes : (issuer file : Text) → IsPlainWord issuer → IsPlainWord file → Goes shape (walk_from nothing_held) (prints_words issuer file) (ended issuer file)
+goes : (issuer file : Text) → IsPlainWord issuer → IsPlainWord file → WalksTo shape (walk_from nothing_held) (prints_words issuer file) (ended issuer file)
 unfolding clap_on_literals
 goes issuer file plain plain' =
     goes_option shape _ (walk_from nothing_held) _ [] (codes "--issuer") (codes "issuer") issuer _ refl refl plain refl refl refl

@@ -22,16 +22,16 @@ abbrev pub shape_of : Text → Shape
 shape_of name = unwrap_or (find (λ s. answers_to name (label_of s)) (built program).subs) (built program).top
 
 -- the walk over the words breaks no rule and ends there
-pub record Goes (s : Shape) (w : Walk) (words : List Text) (end : Walk) : Type 0 where
+pub record WalksTo (s : Shape) (w : Walk) (words : List Text) (end : Walk) : Type 0 where
   pub well : walk_fault s [] w words ≡ []
   pub ends : fold (walked s.rules []) w words ≡ end
 
-pub goes_none : (s : Shape) (w : Walk) → Goes s w [] w
+pub goes_none : (s : Shape) (w : Walk) → WalksTo s w [] w
 unfolding walk_fault
 goes_none s w = record { well = refl; ends = refl }
 
 pub goes_more : (s : Shape) (w next end : Walk) (word : Text) (words : List Text) → turn_fault s [] w word ≡ [] → walked s.rules [] w word ≡ next
-    → Goes s next words end → Goes s w (word ∷ words) end
+    → WalksTo s next words end → WalksTo s w (word ∷ words) end
 unfolding walk_fault
 goes_more s w next end word words well is rest =
     record {
@@ -80,7 +80,7 @@ answers_well s rows id (x ∷ xs) plain = answers_well_at s rows id xs x (is_oth
 -- an option and its value
 pub goes_option : (s : Shape) (a : Rule) (w end : Walk) (rows : List Row) (flag id value : Text) (words : List Text)
     → turn_fault s [] w flag ≡ [] → walked s.rules [] w flag ≡ waits rows id → IsPlainWord value → arg_by_id s.rules id ≡ Some a → bytes_eq id a.id ≡ true → most_values a ≡ 1
-    → Goes s (at rows (Some (id, value ∷ []))) words end → Goes s w (flag ∷ value ∷ words) end
+    → WalksTo s (at rows (Some (id, value ∷ []))) words end → WalksTo s w (flag ∷ value ∷ words) end
 goes_option s a w end rows flag id value words well asks plain known same one rest =
     goes_more s w (waits rows id) end flag (value ∷ words) well asks
     (goes_more s (waits rows id) (at rows (Some (id, value ∷ []))) end value words (answers_well s rows id value plain)
@@ -94,10 +94,10 @@ later_fault s w =
 abbrev pub rest_fault : Shape → Walk → Kinds
 rest_fault s w = or_else (settle_fault s.rules s.args_override_self w.held) (later_fault s w)
 
-pub level_well : (s : Shape) (words : List Text) (end : Walk) → Goes s (walk_from nothing_held) words end → rest_fault s end ≡ [] → level_fault s [] nothing_held words false [] ≡ []
+pub level_well : (s : Shape) (words : List Text) (end : Walk) → WalksTo s (walk_from nothing_held) words end → rest_fault s end ≡ [] → level_fault s [] nothing_held words false [] ≡ []
 level_well s words end goes done = rw (goes.well, goes.ends) done
 
-pub rows_are : (s : Shape) (words : List Text) (end : Walk) → Goes s (walk_from nothing_held) words end → rows_after s.rules [] words ≡ finished s.rules end.held
+pub rows_are : (s : Shape) (words : List Text) (end : Walk) → WalksTo s (walk_from nothing_held) words end → rows_after s.rules [] words ≡ finished s.rules end.held
 rows_are s words end goes = ap (λ (w : Walk). finished s.rules w.held) goes.ends
 
 -- the rows have these first values

@@ -60,9 +60,9 @@ abbrev pub IsLineOf : Option (Text × List Row) → Line → Type 0
 IsLineOf entered line = (p : Text × List Row) × (entered ≡ Some p) × IsLine p line
 
 -- one of these arguments is missing
-abbrev pub Lack : List Text → List Row → Type 0
-Lack [] rows = ⊥
-Lack (id ∷ ids) rows = (first_of id rows ≡ None) ⊎ Lack ids rows
+abbrev pub LacksOneOf : List Text → List Row → Type 0
+LacksOneOf [] rows = ⊥
+LacksOneOf (id ∷ ids) rows = (first_of id rows ≡ None) ⊎ LacksOneOf ids rows
 
 -- the arguments that each subcommand has to have
 abbrev pub of_file : List Text
@@ -83,7 +83,7 @@ of_compare = codes "other" ∷ of_check
 
 -- where the subcommand was entered, one of these is missing
 abbrev pub EnteredWithout : Option (Text × List Row) → Text → List Text → Type 0
-EnteredWithout entered name ids = (rows : List Row) → entered ≡ Some (name, rows) → Lack ids rows
+EnteredWithout entered name ids = (rows : List Row) → entered ≡ Some (name, rows) → LacksOneOf ids rows
 
 -- no subcommand was entered with all that it has to have
 pub record HasNoLine (entered : Option (Text × List Row)) : Type 0 where
@@ -111,13 +111,13 @@ HasFlaw entered NoMemory = Unit {0}
 
 -- the same of the rows of a subcommand that takes a kind, and no memory
 abbrev pub IsFlaw : List Text → List Row → Flaw → Type 0
-IsFlaw ids rows ArgumentMissing = Lack ids rows
+IsFlaw ids rows ArgumentMissing = LacksOneOf ids rows
 IsFlaw ids rows OtherKind = kind_in rows ≡ None
 IsFlaw ids rows NoMemory = ⊥
 
 -- and of one that asks
 abbrev pub IsFlawOfQuestion : List Text → List Row → Flaw → Type 0
-IsFlawOfQuestion ids rows ArgumentMissing = Lack ids rows
+IsFlawOfQuestion ids rows ArgumentMissing = LacksOneOf ids rows
 IsFlawOfQuestion ids rows OtherKind = ⊥
 IsFlawOfQuestion ids rows NoMemory = Unit {0}
 

@@ -4,7 +4,7 @@ ghost use Rattle.std.specs.List.{All};
 ghost use Rattle.clap.specs.Words.{Text, first_of, found_of, kind_of, rows_of, subcommand_rows_of};
 ghost use Rattle.clap.specs.declared.error.kind.ErrorKind.TheVariants.{OutOfMemory};
 ghost use Rattle.cli_words.specs.declared.line.Flaw.TheVariants.{OtherKind};
-ghost use Rattle.cli_words.specs.CommandLine.{AreRefusedWith, HasFlaw, IsCheck, IsCompare, IsDeliver, IsFlaw, IsFlawOfQuestion, IsLine, IsLineOf, IsPlainWord, IsPrints, IsShow, IsTree, Lack, Reads, kind_in, kind_named, of_check, of_compare, of_deliver, of_file, of_prints};
+ghost use Rattle.cli_words.specs.CommandLine.{AreRefusedWith, HasFlaw, IsCheck, IsCompare, IsDeliver, IsFlaw, IsFlawOfQuestion, IsLine, IsLineOf, IsPlainWord, IsPrints, IsShow, IsTree, LacksOneOf, Reads, kind_in, kind_named, of_check, of_compare, of_deliver, of_file, of_prints};
 
 use crate::app::program;
 use crate::question::{Question, asked};
@@ -76,7 +76,7 @@ pub(crate) fn text<'a>(matches: &ArgMatches<'a>, id: &str) -> Option<&'a str>
 
 fn tree_line<'a>(matches: &ArgMatches<'a>) -> Option<Line<'a>>
     ensures some { IfSome result (IsLine (codes "tree", rows_of (found_of matches.now))) }
-    ensures none { IfNone result (Lack of_file (rows_of (found_of matches.now))) }
+    ensures none { IfNone result (LacksOneOf of_file (rows_of (found_of matches.now))) }
 {
     Some(Line::Tree {
         file: text(matches, "file")?,
@@ -96,7 +96,7 @@ fn kind_named(name: Option<&str>) -> Option<Kind>
 }
 
 // The kind that the rows name, if any.
-fn kind_of(matches: &ArgMatches<'_>) -> Result<Kind, Flaw>
+fn kind_asked(matches: &ArgMatches<'_>) -> Result<Kind, Flaw>
     ensures kind { IfOk result (λ kind. kind_in (rows_of (found_of matches.now)) ≡ Some kind) }
     ensures flaw { IfErr result (λ flaw.
         (flaw ≡ OtherKind) × (kind_in (rows_of (found_of matches.now)) ≡ None)) }
@@ -108,7 +108,7 @@ fn show_line<'a>(matches: &ArgMatches<'a>) -> Result<Line<'a>, Flaw>
     ensures line { IfOk result (IsLine (codes "show", rows_of (found_of matches.now))) }
     ensures flaw { IfErr result (IsFlaw of_file (rows_of (found_of matches.now))) }
 {
-    let kind = kind_of(matches)?;
+    let kind = kind_asked(matches)?;
     let Some(file) = text(matches, "file") else {
         return Err(Flaw::ArgumentMissing);
     };
@@ -119,7 +119,7 @@ fn prints_line<'a>(matches: &ArgMatches<'a>) -> Result<Line<'a>, Flaw>
     ensures line { IfOk result (IsLine (codes "prints", rows_of (found_of matches.now))) }
     ensures flaw { IfErr result (IsFlaw of_prints (rows_of (found_of matches.now))) }
 {
-    let kind = kind_of(matches)?;
+    let kind = kind_asked(matches)?;
     let (Some(issuer), Some(file)) = (text(matches, "issuer"), text(matches, "file")) else {
         return Err(Flaw::ArgumentMissing);
     };
@@ -128,7 +128,7 @@ fn prints_line<'a>(matches: &ArgMatches<'a>) -> Result<Line<'a>, Flaw>
 
 fn deliver_line<'a>(matches: &ArgMatches<'a>) -> Option<Line<'a>>
     ensures some { IfSome result (IsLine (codes "deliver", rows_of (found_of matches.now))) }
-    ensures none { IfNone result (Lack of_deliver (rows_of (found_of matches.now))) }
+    ensures none { IfNone result (LacksOneOf of_deliver (rows_of (found_of matches.now))) }
 {
     let (Some(store), Some(verdicts), Some(issuer), Some(file)) = (
         text(matches, "store"),

@@ -126,10 +126,10 @@ breaks TooDeep depth text = below deepest depth
 breaks Content depth text = both _ _ (is_bool (is_constructed (get_or text 0 0)) false) (never _ (contents (get_or text 0 0) (contents_of text)))
 breaks Trailing depth text = inr (λ e. e)
 
-abbrev Keeps : Rule → ℕ → List ℕ → Type 0
-Keeps rule depth text = Breaks rule depth text → ⊥
+abbrev DoesNotBreak : Rule → ℕ → List ℕ → Type 0
+DoesNotBreak rule depth text = Breaks rule depth text → ⊥
 
-kept : (depth : ℕ) (text : List ℕ) (n : ℕ) → (1 < n → Keeps TagForm depth text) → (2 < n → Keeps LengthForm depth text) → (3 < n → Keeps TooLong depth text) → (4 < n → Keeps Truncated depth text) → (5 < n → Keeps TooDeep depth text) → (6 < n → Keeps Content depth text) → (other : Rule) → rule_number other < n → Breaks other depth text → ⊥
+kept : (depth : ℕ) (text : List ℕ) (n : ℕ) → (1 < n → DoesNotBreak TagForm depth text) → (2 < n → DoesNotBreak LengthForm depth text) → (3 < n → DoesNotBreak TooLong depth text) → (4 < n → DoesNotBreak Truncated depth text) → (5 < n → DoesNotBreak TooDeep depth text) → (6 < n → DoesNotBreak Content depth text) → (other : Rule) → rule_number other < n → Breaks other depth text → ⊥
 kept depth text n a b c d e f TagForm lt w = a lt w
 kept depth text n a b c d e f LengthForm lt w = b lt w
 kept depth text n a b c d e f TooLong lt w = c lt w
@@ -139,7 +139,7 @@ kept depth text n a b c d e f Content lt w = f lt w
 kept depth text n a b c d e f Trailing lt w = w
 
 abbrev Judged : ℕ → List ℕ → Type 0
-Judged depth text = ((rule : Rule) × BreaksFirst rule depth text) ⊎ ((other : Rule) → Keeps other depth text)
+Judged depth text = ((rule : Rule) × BreaksFirst rule depth text) ⊎ ((other : Rule) → DoesNotBreak other depth text)
 
 first_broken : (depth : ℕ) (text : List ℕ) → Judged depth text
 first_broken depth text =
@@ -169,7 +169,7 @@ first_broken depth text =
           ]
     ]
 
-is_clean : (depth : ℕ) (text : List ℕ) → ((other : Rule) → Keeps other depth text) → (Keeps TooDeep depth text) → IsClean depth text
+is_clean : (depth : ℕ) (text : List ℕ) → ((other : Rule) → DoesNotBreak other depth text) → (DoesNotBreak TooDeep depth text) → IsClean depth text
 is_clean depth text keeps deep =
     let w = stable _ (both _ _ (header_whole text) (at_most (end_of text) (length text))) (keeps Truncated) in
     record {

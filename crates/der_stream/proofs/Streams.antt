@@ -1,7 +1,6 @@
 -- What is known of a source's octets by those that were read.
-use Rattle.std.proofs.Common.{◌≡◌, ◌==◌, ◌||◌, ℕ, ◌+◌, ◌<◌, ◌≤◌, Bool, true, false, List, [], ◌∷◌, ◌++◌, length, get_or, take, drop, refl, sym, ap, ◌∙◌, arith, inl, inr, subst, Option, Some, None, if◌then◌else◌, append-nil, drop_at, length-drop}
+use Rattle.std.proofs.Common.{◌≡◌, ◌==◌, ◌||◌, ℕ, ◌+◌, ◌<◌, ◌≤◌, Bool, true, false, List, [], ◌∷◌, ◌++◌, length, get_or, take, drop, refl, sym, ap, ◌∙◌, arith, inl, inr, subst, Option, Some, None, if◌then◌else◌, append-nil, drop_at, length-drop, eq-eqb}
 use Rattle.std.proofs.lemmas.Bool.{cases_lt, eqb-true}
-use Rattle.std.proofs.Common.{eq-eqb}
 use Rattle.std.proofs.lemmas.List.{length-append, length-take, get_or_append_left, take-append-le}
 use Rattle.std.proofs.Math.Seq.{take-add}
 use lib.Seq.{drop-append-le}
@@ -21,23 +20,23 @@ use Rattle.der.specs.FirstFault.{Breaks, BreaksFirst, itself, FirstFaultIn, IsFi
 use Rattle.der.specs.Header.{GoesOn, HasHeader, IsBrokenAhead}
 use Rattle.der.proofs.Laws.{two_octets, header_len-ahead, whole-ahead, end_of-ahead, header-back, fault-ahead, refused_itself, one_start, parts_of, front_of, clean_in, one_value, one_fault}
 use Rattle.der_stream.specs.declared.reading.ReadFault.TheVariants.{Fault, Limit}
-use Rattle.der_stream.specs.Stream.{Answer, value, ended, past_limit, refused, HasFaultlessHeader, octets_to_see, octets_read, Takes, TakesFrom, TakesFault, TakesValue, IsHeaderRead, OneAnswer}
+use Rattle.der_stream.specs.Stream.{StreamAnswer, value, ended, past_limit, refused, HasFaultlessHeader, octets_to_see, octets_read, ReadsNext, TakesFrom, TakesFault, TakesValue, IsHeaderRead, OneAnswer}
 
 -- what holds of all octets that were read, and those left, holds of a source that tells them
-from : (limit : ℕ) (a b : Option (List ℕ)) (octets : List ℕ) (answer : Answer) → Consumes a b octets
-    → ((left : List ℕ) → Takes limit (octets ++ left) left answer) → TakesFrom limit a b answer
+from : (limit : ℕ) (a b : Option (List ℕ)) (octets : List ℕ) (answer : StreamAnswer) → Consumes a b octets
+    → ((left : List ℕ) → ReadsNext limit (octets ++ left) left answer) → TakesFrom limit a b answer
 from limit None b octets answer read h = tt
 from limit (Some x) None octets answer read h = absurd read
-from limit (Some x) (Some y) octets answer read h = subst (λ (t : List ℕ). Takes limit t y answer) (sym read) (h y)
+from limit (Some x) (Some y) octets answer read h = subst (λ (t : List ℕ). ReadsNext limit t y answer) (sym read) (h y)
 
 -- the same where nothing is left
-from_end : (limit : ℕ) (a b : Option (List ℕ)) (octets : List ℕ) (answer : Answer) → Consumes a b octets → IsAtEnd b
-    → Takes limit octets [] answer → TakesFrom limit a b answer
+from_end : (limit : ℕ) (a b : Option (List ℕ)) (octets : List ℕ) (answer : StreamAnswer) → Consumes a b octets → IsAtEnd b
+    → ReadsNext limit octets [] answer → TakesFrom limit a b answer
 from_end limit None b octets answer read end h = tt
 from_end limit (Some x) None octets answer read end h = absurd read
 from_end limit (Some x) (Some y) octets answer read end h =
     let all : x ≡ octets = read ∙ ap (λ (t : List ℕ). octets ++ t) end ∙ append-nil octets in
-    subst (λ (t : List ℕ). Takes limit t y answer) (sym all) (subst (λ (t : List ℕ). Takes limit octets t answer) (sym end) h)
+    subst (λ (t : List ℕ). ReadsNext limit t y answer) (sym all) (subst (λ (t : List ℕ). ReadsNext limit octets t answer) (sym end) h)
 
 pub none_left : (limit : ℕ) (a b : Option (List ℕ)) → Consumes a b [] → IsAtEnd b → TakesValue limit a b None
 none_left limit a b read end = from_end limit a b [] ended read end (refl, refl)
@@ -188,7 +187,7 @@ module _ (header : List ℕ) (len : ℕ) (known : IsHeaderRead header len) where
   pick false n m e = refl
 
   inside_fault : (limit : ℕ) (octets left : List ℕ) (rule : Rule) (at : ℕ) → StartsWith octets header → length octets ≡ len → len ≤ limit → FirstFaultIn 1 octets rule at
-      → Takes limit (octets ++ left) left (refused rule at)
+      → ReadsNext limit (octets ++ left) left (refused rule at)
   inside_fault limit octets left rule at s long fits fault =
       let rest = starts octets s in
       let faultless : HasFaultlessHeader octets = subst HasFaultlessHeader (sym rest.1) (ahead_faultless rest.0) in

@@ -12,11 +12,11 @@ use Rattle.der_stream.specs.declared.reading.ReadFault.{ReadFault}
 use Rattle.der_stream.specs.declared.reading.ReadFault.TheVariants.{Fault, Limit, Io}
 
 -- what is answered, apart from errors of the source and want of memory
-pub data Answer : Type 0 where
-  value : List ℕ → Answer
-  ended : Answer
-  past_limit : Answer
-  refused : Rule → ℕ → Answer
+pub data StreamAnswer : Type 0 where
+  value : List ℕ → StreamAnswer
+  ended : StreamAnswer
+  past_limit : StreamAnswer
+  refused : Rule → ℕ → StreamAnswer
 
 -- the header is all there, and no rule on it is broken
 abbrev pub HasFaultlessHeader : List ℕ → Type 0
@@ -37,19 +37,19 @@ abbrev pub octets_read : Rule → ℕ → List ℕ → ℕ
 octets_read rule at text = if at == 0 then octets_to_see rule text else end_of text
 
 -- Before the call the source has the octets `text` left, and then the octets `left`.
-abbrev pub Takes : ℕ → List ℕ → List ℕ → Answer → Type 0
-Takes limit text left (value octets) = ((v : Value) × Encodes octets v) × (length octets ≤ limit) × (text ≡ octets ++ left)
-Takes limit text left ended = (text ≡ []) × (left ≡ [])
-Takes limit text left past_limit = HasFaultlessHeader text × (limit < end_of text) × (left ≡ drop (header_len text) text)
-Takes limit text left (refused rule at) =
+abbrev pub ReadsNext : ℕ → List ℕ → List ℕ → StreamAnswer → Type 0
+ReadsNext limit text left (value octets) = ((v : Value) × Encodes octets v) × (length octets ≤ limit) × (text ≡ octets ++ left)
+ReadsNext limit text left ended = (text ≡ []) × (left ≡ [])
+ReadsNext limit text left past_limit = HasFaultlessHeader text × (limit < end_of text) × (left ≡ drop (header_len text) text)
+ReadsNext limit text left (refused rule at) =
     (0 < length text) × FirstFaultIn 1 text rule at × (HasFaultlessHeader text → end_of text ≤ limit)
     × (left ≡ drop (octets_read rule at text) text)
 
 -- the same of a source that tells what it has left
-abbrev pub TakesFrom : ℕ → Option (List ℕ) → Option (List ℕ) → Answer → Type 0
+abbrev pub TakesFrom : ℕ → Option (List ℕ) → Option (List ℕ) → StreamAnswer → Type 0
 TakesFrom limit None left answer = ⊤
 TakesFrom limit (Some text) None answer = ⊥
-TakesFrom limit (Some text) (Some left) answer = Takes limit text left answer
+TakesFrom limit (Some text) (Some left) answer = ReadsNext limit text left answer
 
 abbrev pub TakesValue : ℕ → Option (List ℕ) → Option (List ℕ) → Option (List ℕ) → Type 0
 TakesValue limit text left None = TakesFrom limit text left ended
@@ -64,8 +64,8 @@ TakesFault limit text left Io = ⊤
 -- the octets that a source has left and the limit leave one answer, and one place behind it
 abbrev pub OneAnswer : Type 0
 OneAnswer =
-    (limit : ℕ) (text : List ℕ) (left right : List ℕ) (one other : Answer) →
-    Takes limit text left one → Takes limit text right other → (one ≡ other) × (left ≡ right)
+    (limit : ℕ) (text : List ℕ) (left right : List ℕ) (one other : StreamAnswer) →
+    ReadsNext limit text left one → ReadsNext limit text right other → (one ≡ other) × (left ≡ right)
 
 -- What the code knows of the octets that it has read: they are a header that breaks no rule, of a value with so many octets.
 pub record IsHeaderRead (octets : List ℕ) (len : ℕ) : Type 0 where

@@ -8,8 +8,7 @@ use Rattle.names_distinguished.specs.declared.attribute.Attribute.{Attribute}
 use Rattle.names_distinguished.specs.NameView.{entry_of}
 use Rattle.names_distinguished.specs.AttributeValue.{ComparedValue, Text, Other}
 use Rattle.names_distinguished.specs.DistinguishedName.{Entry, RdnMap}
-use Rattle.names_distinguished.specs.NameKey.{number, counted, value_key, entry_key, rdn_key, name_key, ValueFits, EntryFits, RdnFits, NameFits}
-use Rattle.names_distinguished.specs.NameKey.{KeyIsExact}
+use Rattle.names_distinguished.specs.NameKey.{number, counted, value_key, entry_key, rdn_key, name_key, ValueFits, EntryFits, RdnFits, NameFits, KeyIsExact}
 
 -- two equal joined lists whose first parts are of one length
 same_fronts : {X : Type 0} (a b c d : List X) → a ++ b ≡ c ++ d → length a ≡ length c → (a ≡ c) × (b ≡ d)

@@ -10,7 +10,7 @@ use Rattle.std.specs.Cmp.Lexicographic.{slice_cmp}
 use Rattle.std.proofs.lemmas.Bool.{both_ways, false_from_ne_true, cases_order, lt-ltb, le-ltb}
 use Rattle.std.proofs.lemmas.Cmp.{nat_list_cmp_total}
 use Rattle.std.proofs.lemmas.List.Sorted.{ranks_by}
-use Rattle.names_distinguished.specs.Repetition.{Placed, comes_before, Rises, Ascends, IsApart, Stops, Covers, IsPast, GoesOn, IsLimitBefore, IsNew, AreNew, IsRest}
+use Rattle.names_distinguished.specs.Repetition.{Placed, comes_before, Rises, Ascends, IsApart, EndsBefore, Covers, IsPast, GoesOn, IsLimitBefore, IsNew, AreNew, IsRest}
 
 -- the order of types
 rank : IsStrictWeakOrder (λ (kind other : List ℕ). is_lt (slice_cmp nat_cmp (length kind ∷ kind) (length other ∷ other)))
@@ -97,11 +97,11 @@ past_more kind run rest others x c is before = record {
 pub ascends_more : (limit : ℕ) (run rest others : List Placed) (x : Placed) → (Ascends limit run → Ascends limit rest) → rest ≡ x ∷ others → x.0 < limit → Ascends limit run → Ascends limit others
 ascends_more limit run rest others x h is below up = rises_tail limit x.1 others (subst (Ascends limit) is (h up) below)
 
-pub stops_here : (limit : ℕ) (kind : List ℕ) (rest others : List Placed) (x : Placed) → rest ≡ x ∷ others → ((x.0 < limit) → comes_before x.1 kind ≡ false) → Stops limit kind rest
-stops_here limit kind rest others x is h = subst (Stops limit kind) (sym is) h
+pub stops_here : (limit : ℕ) (kind : List ℕ) (rest others : List Placed) (x : Placed) → rest ≡ x ∷ others → ((x.0 < limit) → comes_before x.1 kind ≡ false) → EndsBefore limit kind rest
+stops_here limit kind rest others x is h = subst (EndsBefore limit kind) (sym is) h
 
-pub stops_at_end : (limit : ℕ) (kind : List ℕ) (rest : List Placed) → rest ≡ [] → Stops limit kind rest
-stops_at_end limit kind rest is = subst (Stops limit kind) (sym is) tt
+pub stops_at_end : (limit : ℕ) (kind : List ℕ) (rest : List Placed) → rest ≡ [] → EndsBefore limit kind rest
+stops_at_end limit kind rest is = subst (EndsBefore limit kind) (sym is) tt
 
 -- a search goes on in the run, or in what is left of it
 pub goes_back : (last kind : List ℕ) (run rest chosen : List Placed) → chosen ≡ run → GoesOn last kind run rest chosen
@@ -128,7 +128,7 @@ limit_stays kind limit rest others x is other = record {
   within = omega arith;
   apart = λ up stops. subst (IsApart limit kind) (sym is) (λ below. (
     other below,
-    rises_apart limit kind x.1 others (subst (Stops limit kind) is stops below) (subst (Ascends limit) is up below),
+    rises_apart limit kind x.1 others (subst (EndsBefore limit kind) is stops below) (subst (Ascends limit) is up below),
   ));
 }
 

@@ -61,9 +61,9 @@ IsApart limit kind [] = Unit {0}
 IsApart limit kind (x ∷ xs) = x.0 < limit → (x.1 ≡ kind → ⊥) × IsApart limit kind xs
 
 -- the first of them doesn't come before the type
-abbrev pub Stops : ℕ → List ℕ → List Placed → Type 0
-Stops limit kind [] = Unit {0}
-Stops limit kind (x ∷ xs) = x.0 < limit → comes_before x.1 kind ≡ false
+abbrev pub EndsBefore : ℕ → List ℕ → List Placed → Type 0
+EndsBefore limit kind [] = Unit {0}
+EndsBefore limit kind (x ∷ xs) = x.0 < limit → comes_before x.1 kind ≡ false
 
 -- what is left of a run has all of it that does not come before the type
 pub record Covers (kind : List ℕ) (run rest : List Placed) : Type 0 where
@@ -73,7 +73,7 @@ pub record Covers (kind : List ℕ) (run rest : List Placed) : Type 0 where
 pub record IsPast (kind : List ℕ) (limit : ℕ) (run rest : List Placed) : Type 0 where
   pub covers : Covers kind run rest
   pub ascends : Ascends limit run → Ascends limit rest
-  pub stops : Stops limit kind rest
+  pub stops : EndsBefore limit kind rest
 
 -- a search goes on for a type behind another, in what is left of the run or in the run
 pub record GoesOn (last kind : List ℕ) (run rest chosen : List Placed) : Type 0 where
@@ -83,7 +83,7 @@ pub record GoesOn (last kind : List ℕ) (run rest chosen : List Placed) : Type 
 -- the limit before the type, if it is the first
 pub record IsLimitBefore (kind : List ℕ) (limit : ℕ) (rest : List Placed) (least : ℕ) : Type 0 where
   pub within : least ≤ limit
-  pub apart : Ascends limit rest → Stops limit kind rest → IsApart least kind rest
+  pub apart : Ascends limit rest → EndsBefore limit kind rest → IsApart least kind rest
 
 -- no attribute that stands before the offset has the type
 abbrev pub IsNew : ℕ → List ℕ → List Placed → Type 0

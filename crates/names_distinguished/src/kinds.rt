@@ -42,7 +42,7 @@ fn first_body<'a>(members: Cursor<'a>) -> &'a [u8]
 }
 
 #[tactic(auto, unfolding(crate::specs::Repetition::kind_at))]
-fn kind_of<'a>(attribute: Tlv<'a>) -> &'a [u8]
+fn attribute_type<'a>(attribute: Tlv<'a>) -> &'a [u8]
     ensures { result.now ≡ kind_at (seen_tlv attribute.entry) }
 {
     match attribute.inside() {
@@ -61,7 +61,7 @@ impl<'a> Kinds<'a> {
         let attribute = self.attributes.next()?;
         Some(PlacedKind {
             at: attribute.at,
-            kind: kind_of(attribute),
+            kind: attribute_type(attribute),
         })
     }
 }

@@ -23,7 +23,7 @@ use Rattle.path.specs.Conditions.{IsNotRepeated, NamesArePermitted, NamesAreNotE
 use Rattle.path_conditions.specs.Narrowing.{is_in_one_of}
 use Rattle.path_conditions.specs.Constraints.{Constraints, PermitsIn, permits_in, permits_name, has_number, BearsOneOf}
 use Rattle.path.specs.State.{Progress, IsPermitted}
-use Rattle.path.specs.Keeping.{Keeps}
+use Rattle.path.specs.Keeping.{Represents}
 use Rattle.path_conditions.proofs.Laws.{Laws, laws_of_names, in_one, list_any-map}
 use Rattle.path.proofs.Rooms.{at_more, room_left, room_allows}
 
@@ -87,7 +87,7 @@ permits_in_says : Laws → (list : Option (List SubtreeBase)) (x : GeneralName) 
 permits_in_says laws None x = (λ _. tt, λ _. refl)
 permits_in_says laws (Some list) x = in_one laws list x
 
-module _ (laws : Laws) (q : Query) (k : ℕ) (issuer : NameContents) (key : List ℕ) (room : Option ℕ) (held : Constraints) (forms : FormSet) (is : Keeps q k issuer key room held forms) where
+module _ (laws : Laws) (q : Query) (k : ℕ) (issuer : NameContents) (key : List ℕ) (room : Option ℕ) (held : Constraints) (forms : FormSet) (is : Represents q k issuer key room held forms) where
   through : {A B C : Type 0} → A ↔ B → B ↔ C → A ↔ C
   through f g = (λ a. g.0 (f.0 a), λ c. f.1 (g.1 c))
 
@@ -259,7 +259,7 @@ module _ {V : Type 0} {v w : Progress V} (e : v ≡ w) where
   pub here_of : (c : Certificate) → c ≡ certificate_at w.query (w.done + 1) → c ≡ certificate_at v.query (v.done + 1)
   here_of c h = subst (λ u. c ≡ certificate_at u.query (u.done + 1)) (sym e) h
 
-  module _ (issuer : NameContents) (key : List ℕ) (room : Option ℕ) (forms : FormSet) (is : Keeps v.query v.done issuer key room v.constraints forms) (c : Certificate) (here : c ≡ certificate_at w.query (w.done + 1)) where
+  module _ (issuer : NameContents) (key : List ℕ) (room : Option ℕ) (forms : FormSet) (is : Represents v.query v.done issuer key room v.constraints forms) (c : Certificate) (here : c ≡ certificate_at w.query (w.done + 1)) where
     pub permitted_at : (b : Bool) → b ≡ list_all (λ x. permits_name v.constraints x) (names_of c) → (b ≡ true) ↔ NamesArePermitted w.query (w.done + 1)
     permitted_at b says =
         let f = subst (λ u. (list_all (λ x. permits_name v.constraints x) (names_of c) ≡ true) ↔ NamesArePermitted u.query (u.done + 1)) e

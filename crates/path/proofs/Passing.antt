@@ -20,9 +20,8 @@ use Rattle.path.specs.Validity.{IsServed}
 use Rattle.path_conditions.specs.Narrowing.{is_in_one_of, are_about, is_processed_base, of_form, narrowed, joined, change_of, changed}
 use Rattle.path_conditions.specs.Constraints.{Constraints, size_of, subtrees_in, narrowed_by, has_number}
 use Rattle.path.specs.State.{IsPermitted, IsExcluded, AdmitsExactly, Progress, subtrees_of, subtrees_up_to}
-use Rattle.path.specs.Keeping.{spent, lesser, Keeps, ListIs, IsConstrained}
-use Rattle.path_conditions.proofs.Laws.{list_any-filter, list_any-weaker, length-filter-le}
-use Rattle.path_conditions.proofs.Laws.{Laws, laws_of_names, in_one, about, narrowed_sound, narrowed_complete, of_form_is, of_form_from, length-narrowed, processed_test, three_forms}
+use Rattle.path.specs.Keeping.{spent, lesser, Represents, ListIs, IsConstrained}
+use Rattle.path_conditions.proofs.Laws.{list_any-filter, list_any-weaker, length-filter-le, Laws, laws_of_names, in_one, about, narrowed_sound, narrowed_complete, of_form_is, of_form_from, length-narrowed, processed_test, three_forms}
 use Rattle.path.proofs.Deciding.{take-map, below_of, here_of}
 use Rattle.path.proofs.Rooms.{split_last, at_more, room_spent, room_lesser, room_left}
 
@@ -30,7 +29,7 @@ both : {A B C D : Type 0} → (A ↔ B) → (C ↔ D) → ((A × (C → ⊥)) �
 both f g = (λ p. (f.0 p.0, λ d. p.1 (g.1 d)), λ p. (f.1 p.0, λ c. p.1 (g.0 c)))
 
 -- the constraints that are held admit exactly what they should
-pub admits_exactly : (q : Query) (k : ℕ) (issuer : NameContents) (key : List ℕ) (room : Option ℕ) (held : Constraints) (forms : FormSet) → Keeps q k issuer key room held forms → AdmitsExactly q k held
+pub admits_exactly : (q : Query) (k : ℕ) (issuer : NameContents) (key : List ℕ) (room : Option ℕ) (held : Constraints) (forms : FormSet) → Represents q k issuer key room held forms → AdmitsExactly q k held
 admits_exactly q k issuer key room held forms is (directory_name n) p = both (is.directory_is (directory_name n) refl) (is.excluded_is (directory_name n))
 admits_exactly q k issuer key room held forms is (dns_name n) p = both (is.dns_is (dns_name n) refl) (is.excluded_is (dns_name n))
 admits_exactly q k issuer key room held forms is (ip_address n) p = both (is.ip_is (ip_address n) refl) (is.excluded_is (ip_address n))
@@ -181,10 +180,10 @@ bound_more laws q k below held before =
     omega arith
 
 -- one more certificate
-pub keeps_more : Laws → (q : Query) (k : ℕ) (issuer : NameContents) (key : List ℕ) (room : Option ℕ) (held : Constraints) (forms : FormSet) → Keeps q k issuer key room held forms
+pub keeps_more : Laws → (q : Query) (k : ℕ) (issuer : NameContents) (key : List ℕ) (room : Option ℕ) (held : Constraints) (forms : FormSet) → Represents q k issuer key room held forms
     → k < count q → count q ≤ 128 → (k + 1 < count q → IsWithinPathLength q (k + 1))
     → (forms' : FormSet) → ((number : ℕ) → has_number forms' number ≡ ((has_number forms number || are_about (constraints_at q (k + 1)).permitted (F.Other number)) || are_about (constraints_at q (k + 1)).excluded (F.Other number)))
-    → Keeps q (k + 1) (certificate_at q (k + 1)).subject (certificate_at q (k + 1)).key_info.value.octets
+    → Represents q (k + 1) (certificate_at q (k + 1)).subject (certificate_at q (k + 1)).key_info.value.octets
     (lesser (spent room (is_self_issued (certificate_at q (k + 1)))) (path_length_of (certificate_at q (k + 1)))) (narrowed_by (constraints_at q (k + 1)) held) forms'
 keeps_more laws q k issuer key room held forms is below few allow forms' more =
     record {
@@ -203,7 +202,7 @@ keeps_more laws q k issuer key room held forms is below few allow forms' more =
 
 -- the same at a state, whose fields give the view v
 
-pub admits_of : {V : Type 0} {v w : Progress V} → v ≡ w → (issuer : NameContents) (key : List ℕ) (room : Option ℕ) (forms : FormSet) → Keeps v.query v.done issuer key room v.constraints forms → AdmitsExactly w.query w.done w.constraints
+pub admits_of : {V : Type 0} {v w : Progress V} → v ≡ w → (issuer : NameContents) (key : List ℕ) (room : Option ℕ) (forms : FormSet) → Represents v.query v.done issuer key room v.constraints forms → AdmitsExactly w.query w.done w.constraints
 admits_of {V} {v} {w} e issuer key room forms is = subst (λ u. AdmitsExactly u.query u.done u.constraints) e (admits_exactly v.query v.done issuer key room v.constraints forms is)
 
 few_subtrees : (path : List code.Certificate) → sum_by subtrees_of (map seen_certificate path) ≤ 4096 * length path
@@ -216,7 +215,7 @@ few_subtrees (c ∷ path) =
     let b = length-map carried.excluded.items subtree_base in
     omega (arith, carried.served, carried.permitted.ok.0, carried.excluded.ok.0)
 
-pub held_few : (q : Query) (k : ℕ) (issuer : NameContents) (key : List ℕ) (room : Option ℕ) (held : Constraints) (forms : FormSet) → Keeps q k issuer key room held forms
+pub held_few : (q : Query) (k : ℕ) (issuer : NameContents) (key : List ℕ) (room : Option ℕ) (held : Constraints) (forms : FormSet) → Represents q k issuer key room held forms
     → (path : List code.Certificate) → q.certificates ≡ map seen_certificate path → subtrees_in held ≤ 524288
 held_few q k issuer key room held forms is path all =
     let some = few_subtrees (take k path) in
@@ -227,18 +226,18 @@ held_few q k issuer key room held forms is path all =
     let short : length (take k path) ≤ 128 = omega arith in
     omega arith
 
-pub keeps_passed : {V : Type 0} {v w : Progress V} → v ≡ w → (issuer : NameContents) (key : List ℕ) (room : Option ℕ) (forms : FormSet) → Keeps v.query v.done issuer key room v.constraints forms
+pub keeps_passed : {V : Type 0} {v w : Progress V} → v ≡ w → (issuer : NameContents) (key : List ℕ) (room : Option ℕ) (forms : FormSet) → Represents v.query v.done issuer key room v.constraints forms
     → w.done < count w.query → IsServed w.query → (w.done + 1 < count w.query → IsWithinPathLength w.query (w.done + 1))
     → (c : Certificate) → c ≡ certificate_at w.query (w.done + 1)
     → (self : Bool) → self ≡ is_self_issued c → (limit room' : Option ℕ) → limit ≡ path_length_of c → room' ≡ lesser (spent room self) limit
     → (held' : Constraints) → held' ≡ narrowed_by c.extensions.name_constraints v.constraints
     → (forms' : FormSet) → ((number : ℕ) → has_number forms' number ≡ ((has_number forms number || are_about c.extensions.name_constraints.permitted (F.Other number)) || are_about c.extensions.name_constraints.excluded (F.Other number)))
-    → Keeps v.query (v.done + 1) c.subject c.key_info.value.octets room' held' forms'
+    → Represents v.query (v.done + 1) c.subject c.key_info.value.octets room' held' forms'
 keeps_passed {V} {v} {w} e issuer key room forms is below served allow c at self es limit room' el er held' eh forms' more =
     let here = here_of e c at in
     let allow' = subst (λ (u : Progress V). u.done + 1 < count u.query → IsWithinPathLength u.query (u.done + 1)) (sym e) allow in
     let few = subst (λ (u : Progress V). IsServed u.query) (sym e) served in
     let all = keeps_more laws_of_names v.query v.done issuer key room v.constraints forms is (below_of e below) few.few allow' forms'
     (subst (λ (d : Certificate). (number : ℕ) → has_number forms' number ≡ ((has_number forms number || are_about d.extensions.name_constraints.permitted (F.Other number)) || are_about d.extensions.name_constraints.excluded (F.Other number))) here more) in
-    let all' = subst (λ (d : Certificate). Keeps v.query (v.done + 1) d.subject d.key_info.value.octets (lesser (spent room (is_self_issued d)) (path_length_of d)) (narrowed_by d.extensions.name_constraints v.constraints) forms') (sym here) all in
+    let all' = subst (λ (d : Certificate). Represents v.query (v.done + 1) d.subject d.key_info.value.octets (lesser (spent room (is_self_issued d)) (path_length_of d)) (narrowed_by d.extensions.name_constraints v.constraints) forms') (sym here) all in
     rw (er, el, es, eh) all'

@@ -42,7 +42,7 @@ ListIs q k form list = (name : GeneralName) → form_of_general_name name ≡ fo
 abbrev pub IsConstrained : Query → ℕ → ℕ → Type 0
 IsConstrained q k number = (i : ℕ) × (1 ≤ i) × (i ≤ k) × Constrains (constraints_at q i) (F.Other number)
 
-pub record Keeps (q : Query) (k : ℕ) (issuer : NameContents) (key : List ℕ) (room : Option ℕ) (held : Constraints) (forms : FormSet) : Type 0 where
+pub record Represents (q : Query) (k : ℕ) (issuer : NameContents) (key : List ℕ) (room : Option ℕ) (held : Constraints) (forms : FormSet) : Type 0 where
   pub within : k ≤ count q
   pub few : k ≤ 128
   pub issuer_is : issuer ≡ (certificate_at q k).subject

@@ -1,7 +1,8 @@
 -- A question about a path of certificates (RFC 5280, 6.1.1). Certificates are numbered from 1 on; certificate 0 is the trust
 -- anchor, of which the name and the key alone are used.
-use Rattle.std.specs.Prelude.{ℕ, ℤ, List, ◌∷◌, Option, length, slice_index_or, Bool}
+use Rattle.std.specs.Prelude.{ℕ, ℤ, List, ◌∷◌, Option, length, slice_index_or}
 use Rattle.cert.specs.Certificate.{Certificate}
+pub use Rattle.path_verifiers.specs.Accepts.{Accepts}
 
 pub record Query : Type 0 where
   pub anchor : Certificate
@@ -10,10 +11,6 @@ pub record Query : Type 0 where
   pub moment : ℤ
   -- the contents of an OBJECT IDENTIFIER
   pub purpose : Option (List ℕ)
-
--- what a verifier accepts, of algorithm, key, message and signature
-abbrev pub Accepts : Type 0
-Accepts = List ℕ → List ℕ → List ℕ → List ℕ → Bool
 
 -- how many certificates the path has
 abbrev pub count : Query → ℕ

@@ -72,7 +72,7 @@ impl<'p, 'c, V> Model for State<'p, 'c, V> {
     ghost use Rattle.names.specs.GeneralView.{name_contents};
     ghost use Rattle.path.specs.State.{Progress, query_of};
     ghost use Rattle.path_conditions.specs.Constraints.{seen_constraints};
-    ghost use Rattle.path.specs.Keeping.{Keeps};
+    ghost use Rattle.path.specs.Keeping.{Represents};
     ghost use Rattle.std.specs.Coded.{codes};
     ghost use Rattle.path.specs.Codes.{rdn_code};
 
@@ -87,7 +87,7 @@ impl<'p, 'c, V> Model for State<'p, 'c, V> {
       constraints = seen_constraints s.constraints;
     } };
 
-    ghost invariant = { λ s. Keeps (query_of s.anchor.now s.path.now s.moment (option_copied s.purpose)) s.done
+    ghost invariant = { λ s. Represents (query_of s.anchor.now s.path.now s.moment (option_copied s.purpose)) s.done
         (name_contents s.issuer) s.key.now s.room (seen_constraints s.constraints) s.forms };
 }
 

@@ -38,9 +38,9 @@ found xs x (Err i) within at sorted =
     ]))
 
 -- what the test finds is in the list
-listed_in : (xs : List (List ℕ)) (x : List ℕ) → list_any (bytes_eq x) xs ≡ true → Contains xs x
-listed_in [] x e = absurd cc
-listed_in (y ∷ ys) x e = by (listed_in ys x) (bytes_eq x y) refl e where
+found_is_contained : (xs : List (List ℕ)) (x : List ℕ) → list_any (bytes_eq x) xs ≡ true → Contains xs x
+found_is_contained [] x e = absurd cc
+found_is_contained (y ∷ ys) x e = by (found_is_contained ys x) (bytes_eq x y) refl e where
   by : (list_any (bytes_eq x) ys ≡ true → Contains ys x) → (b : Bool) → bytes_eq x y ≡ b → list_any (bytes_eq x) (y ∷ ys) ≡ true → Contains (y ∷ ys) x
   by rest true same e = (0, omega arith, sym ((bytes_eq-Decides x y).0 same))
   by rest false other e = let e = rw other at e in let behind = rest e in (suc behind.0, omega (arith, behind.1), behind.2)
@@ -52,4 +52,4 @@ in_listed xs x (i, within, is) = list_any_at (bytes_eq x) xs i x within ((bytes_
 pub believed : (old new : List (List ℕ)) → IsPermutation old new → (x : List ℕ) → (IsTrue (list_any (bytes_eq x) new) → Contains old x) × (Contains old x → IsTrue (list_any (bytes_eq x) new))
 believed old new same x =
     let alike = list_any-IsPermutation (bytes_eq x) old new same in
-    (λ e. listed_in old x (alike ∙ e), λ c. sym alike ∙ in_listed old x c)
+    (λ e. found_is_contained old x (alike ∙ e), λ c. sym alike ∙ in_listed old x c)

@@ -1,3 +1,4 @@
+pub mod Accepts
 pub mod Fingerprint
 pub mod FramingLaws
 pub mod ListVerifier

@@ -14,7 +14,7 @@ use Rattle.store.specs.Adopts.{Restarts}
 use Rattle.relying.specs.declared.fault.DeliverFault.{DeliverFault}
 use Rattle.relying.specs.declared.fault.DeliverFault.TheVariants.{Issuer, Statement, Store}
 use Rattle.relying.specs.Delivery.{IsAnswered, Says}
-use Rattle.relying.specs.Run.{Runs, RanSoFar, Ran, HasHappened, RunsAreRuns, seen_answer}
+use Rattle.relying.specs.Run.{Runs, RanSoFar, Ran, HasHappened, RunsAreRuns, as_answered}
 
 -- ---- one event
 
@@ -84,22 +84,22 @@ facts_said : (accepts : Accepts) (issuer statement : List ℕ) (facts : List Fac
 facts_said accepts issuer statement facts says = ap (facts_under accepts statement) says.by_is ∙ ap facts_or_none says.said
 
 runs_take : (accepts : Accepts) (events : List Event) (answers : List (Result Counts DeliverFault)) (start held : Holdings)
-    → Runs accepts events answers start held → held ≡ after_all start (facts_taken genuine_facts accepts events (map seen_answer answers))
+    → Runs accepts events answers start held → held ≡ after_all start (facts_taken genuine_facts accepts events (map as_answered answers))
 runs_take accepts [] [] start held same = same
 runs_take accepts [] (a ∷ told) start held none = absurd none
 runs_take accepts (Event.Restart ∷ events) told start held rest = runs_take accepts events told start held rest
 runs_take accepts (Event.Deliver issuer statement ∷ events) [] start held none = absurd none
 runs_take accepts (Event.Deliver issuer statement ∷ events) (Ok counts ∷ told) start held (next, (facts, says, counted, is), rest) =
-    let later = facts_taken genuine_facts accepts events (map seen_answer told) in
+    let later = facts_taken genuine_facts accepts events (map as_answered told) in
     runs_take accepts events told next held rest
     ∙ ap (λ h. after_all h later) (is ∙ ap (after_all start) (sym (facts_said accepts issuer statement facts says)))
     ∙ takes_both start (genuine_facts accepts issuer statement) later
 runs_take accepts (Event.Deliver issuer statement ∷ events) (Err fault ∷ told) start held (next, (why, formed, is), rest) =
-    runs_take accepts events told next held rest ∙ ap (λ h. after_all h (facts_taken genuine_facts accepts events (map seen_answer told))) is
+    runs_take accepts events told next held rest ∙ ap (λ h. after_all h (facts_taken genuine_facts accepts events (map as_answered told))) is
 
 pub runs_are_runs : RunsAreRuns
 runs_are_runs accepts events answers start held runs =
-    let taken = facts_taken genuine_facts accepts events (map seen_answer answers) in
+    let taken = facts_taken genuine_facts accepts events (map as_answered answers) in
     record { taken = refl; newest = subst (HoldsNewest start taken) (sym (runs_take accepts events answers start held runs)) (holds_newest start taken) }
 
 pub ends : (accepts : Accepts) (events : List Event) (answers : List (Result Counts DeliverFault)) (old new : State) → RanSoFar accepts events answers old new → Ran accepts events answers old new

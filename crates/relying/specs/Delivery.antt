@@ -9,8 +9,8 @@ use Rattle.statements_parts.specs.declared.fault.StatementFault.{StatementFault}
 use Rattle.statements.specs.Genuine.{Accepts, FailsUnlessFull}
 use Rattle.statements.specs.OcspFact.{genuine_statement}
 use Rattle.statements_facts.specs.declared.counts.Counts.{Counts}
-use Rattle.store.specs.Adopts.{Keeps}
-use Rattle.store_taking.specs.Delivery.{Delivers, GivesUp}
+use Rattle.store.specs.Adopts.{StaysIfOpen}
+use Rattle.store_taking.specs.Delivery.{Delivers, PutFails}
 use Rattle.relying.specs.declared.fault.DeliverFault.{DeliverFault}
 use Rattle.relying.specs.declared.fault.DeliverFault.TheVariants.{Issuer, Statement, Store}
 
@@ -39,8 +39,8 @@ pub record Says (accepts : Accepts) (issuer statement : List ℕ) (facts : List 
 
 -- what becomes of the database: after a fault that is not the store's it is as it was
 abbrev pub Leaves : State → State → DeliverFault → Type 0
-Leaves old new (Store fault) = GivesUp old new fault
-Leaves old new fault = Keeps old new
+Leaves old new (Store fault) = PutFails old new fault
+Leaves old new fault = StaysIfOpen old new
 
 abbrev pub IsAnswered : Accepts → List ℕ → List ℕ → State → State → Result Counts DeliverFault → Type 0
 IsAnswered accepts issuer statement old new (Ok counts) = (facts : List Fact) × Says accepts issuer statement facts × Delivers old new facts counts

@@ -12,7 +12,7 @@ use Rattle.store_maps.specs.Held.{IsStoreOf}
 use Rattle.statements_facts.specs.declared.counts.Counts.{Counts}
 use Rattle.statements_facts.specs.Coming.{after_all, AreCounts}
 use Rattle.path.specs.Query.{Accepts}
-use Rattle.relying_agreement.specs.Run.{Event, Answer, facts_taken, genuine_facts, HasRun}
+use Rattle.relying_agreement.specs.Run.{Event, DeliveryAnswer, facts_taken, genuine_facts, HasRun}
 use Rattle.relying.specs.declared.events.Event as said
 use Rattle.relying.specs.declared.fault.DeliverFault.{DeliverFault}
 use Rattle.relying.specs.declared.fault.DeliverFault.TheVariants.{Store}
@@ -24,16 +24,16 @@ abbrev pub seen_event : said.Event → Event
 seen_event (said.TheVariants.Deliver issuer statement) = Event.Deliver issuer.now statement.now
 seen_event said.TheVariants.Restart = Event.Restart
 
-abbrev pub seen_answer : Result Counts DeliverFault → Answer
-seen_answer (Ok counts) = Answer.Taken
-seen_answer (Err fault) = Answer.Refused
+abbrev pub as_answered : Result Counts DeliverFault → DeliveryAnswer
+as_answered (Ok counts) = DeliveryAnswer.Taken
+as_answered (Err fault) = DeliveryAnswer.Refused
 
 -- A delivery at a party that holds this, its answer, and what is held next: all facts of a genuine statement are taken, and counted
 -- so; or nothing is, for the reason that is told, which is never the form of the store's rows.
-abbrev pub Takes : Accepts → List ℕ → List ℕ → Holdings → Holdings → Result Counts DeliverFault → Type 0
-Takes accepts issuer statement held next (Ok counts) =
+abbrev pub TakesDelivery : Accepts → List ℕ → List ℕ → Holdings → Holdings → Result Counts DeliverFault → Type 0
+TakesDelivery accepts issuer statement held next (Ok counts) =
     (facts : List Fact) × Says accepts issuer statement facts × AreCounts held facts counts × (next ≡ after_all held facts)
-Takes accepts issuer statement held next (Err fault) =
+TakesDelivery accepts issuer statement held next (Err fault) =
     IsReason accepts issuer statement fault × (fault ≢ Store NotOurs) × (next ≡ held)
 
 -- one event after another, with the answers to the deliveries in order; a restart leaves what is held
@@ -43,22 +43,22 @@ Runs accepts [] (answer ∷ answers) start held = ⊥
 Runs accepts (Event.Restart ∷ events) answers start held = Runs accepts events answers start held
 Runs accepts (Event.Deliver issuer statement ∷ events) [] start held = ⊥
 Runs accepts (Event.Deliver issuer statement ∷ events) (answer ∷ answers) start held =
-    (next : Holdings) × Takes accepts issuer statement start next answer × Runs accepts events answers next held
+    (next : Holdings) × TakesDelivery accepts issuer statement start next answer × Runs accepts events answers next held
 
 -- What the store holds after a run is what the events make of what it held before: of each slot the newest of what was held and of
 -- what was taken.
-pub record HasEnded (accepts : Accepts) (events : List Event) (answers : List (Result Counts DeliverFault)) (start : Holdings) (new : State) : Type 0 where
+pub record IsEndOfRun (accepts : Accepts) (events : List Event) (answers : List (Result Counts DeliverFault)) (start : Holdings) (new : State) : Type 0 where
   pub held : Holdings
   pub store : IsStoreOf new.now held
   pub runs : Runs accepts events answers start held
   pub newest :
-      HasRun genuine_facts events (map seen_answer answers)
-      (record { accepts = accepts; start = start; taken = facts_taken genuine_facts accepts events (map seen_answer answers); held = held })
+      HasRun genuine_facts events (map as_answered answers)
+      (record { accepts = accepts; start = start; taken = facts_taken genuine_facts accepts events (map as_answered answers); held = held })
 
 -- Where the connection is open in the end it was from the start, and the run has ended so.
 pub record Ran (accepts : Accepts) (events : List Event) (answers : List (Result Counts DeliverFault)) (old new : State) : Type 0 where
   pub was_open : IsTrue new.is_open → IsTrue old.is_open
-  pub ended : IsTrue new.is_open → (start : Holdings) → IsStoreOf old.now start → HasEnded accepts events answers start new
+  pub ended : IsTrue new.is_open → (start : Holdings) → IsStoreOf old.now start → IsEndOfRun accepts events answers start new
 
 -- ---- on the way
 
@@ -90,5 +90,5 @@ abbrev pub RunsAreRuns : Type 0
 RunsAreRuns =
     (accepts : Accepts) (events : List Event) (answers : List (Result Counts DeliverFault)) (start held : Holdings) →
     Runs accepts events answers start held →
-    HasRun genuine_facts events (map seen_answer answers)
-    (record { accepts = accepts; start = start; taken = facts_taken genuine_facts accepts events (map seen_answer answers); held = held })
+    HasRun genuine_facts events (map as_answered answers)
+    (record { accepts = accepts; start = start; taken = facts_taken genuine_facts accepts events (map as_answered answers); held = held })

@@ -3,9 +3,9 @@
 ghost use Rattle.std.specs.Prelude.{◌≡◌, false};
 ghost use Rattle.sqlite.specs.Held.{state};
 ghost use Rattle.sqlite.specs.State.{HasCleanDisk};
-ghost use Rattle.store_adoption.specs.Creates.{IsDurable, IsSettled};
+ghost use Rattle.store_adoption.specs.Creates.{IsSettled};
+ghost use Rattle.store_sql.specs.Statements.{IsDurable, CommitsNothing};
 ghost use Rattle.relying_agreement.specs.Verdict.{IsVerdict};
-ghost use Rattle.store_sql.specs.Statements.{CommitsNothing};
 ghost use Rattle.relying.specs.Asking.{Looks, LooksInside};
 ghost use Rattle.relying_verdicts.specs.View.{seen_query};
 

@@ -3,11 +3,10 @@
 ghost use Rattle.std.specs.Prelude.{◌≡◌, IfErr, IfOk};
 ghost use Rattle.sqlite.specs.Files.{file_state};
 ghost use Rattle.sqlite.specs.State.{HasCleanDisk, Survives};
-ghost use Rattle.store_adoption.specs.Creates.{IsDurable};
+ghost use Rattle.store_sql.specs.Statements.{IsDurable, CommitsNothing};
 ghost use Rattle.relying_agreement.specs.Run.{genuine_facts};
 ghost use Rattle.relying_agreement.specs.Verdict.{IsVerdict};
 ghost use Rattle.store.specs.Adopts.{Restarts};
-ghost use Rattle.store_sql.specs.Statements.{CommitsNothing};
 ghost use Rattle.store_taking.specs.Delivery.{CommitsWhole};
 ghost use Rattle.relying.specs.Asking.{Looks};
 ghost use Rattle.relying.specs.Delivery.{IsAnswered};

@@ -4,7 +4,7 @@ ghost use Rattle.std.specs.Prelude.{◌≡◌, ◌≤◌, [], IfErr, IfOk, lengt
 ghost use Rattle.sqlite.specs.Files.{file_state};
 ghost use Rattle.sqlite.specs.State.{HasCleanDisk};
 ghost use Rattle.relying.specs.Run.{Ran, RunsAreRuns, StopsAt, seen_event};
-ghost use Rattle.relying.specs.Stopping.{StopsShort};
+ghost use Rattle.relying.specs.Stopping.{RunFails};
 
 use crate::events::{Answer, Event, take_event};
 use crate::fault::RunFault;
@@ -49,7 +49,7 @@ impl<V: Verifier + Drop, D: Disk + Drop> Node<V, D> {
         ensures verifier { IfOk result (λ run. run.0.verifier ≡ self.verifier) }
         ensures clean { IfOk result (λ run. HasCleanDisk (file_state run.0.store.conn) → HasCleanDisk (file_state self.store.conn)) }
         ensures ran { IfOk result (λ run. HasCleanDisk (file_state run.0.store.conn) → Ran (V.accepts self.verifier) (map seen_event events.now) run.1.items (file_state self.store.conn) (file_state run.0.store.conn)) }
-        ensures stops { IfErr result (StopsShort (V.accepts self.verifier) self (map seen_event events.now)) }
+        ensures stops { IfErr result (RunFails (V.accepts self.verifier) self (map seen_event events.now)) }
     {
         let mut answers = match Vec::with_capacity(alloc, events.len()) {
             Ok(answers) => answers,

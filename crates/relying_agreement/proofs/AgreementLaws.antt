@@ -4,40 +4,40 @@ use Rattle.std.specs.List.{AllByRecursion}
 use Rattle.std.proofs.lemmas.List.Elements.{Contains-append_left, Contains-append_right, Contains-append_cases}
 use Rattle.cert.specs.Place.{body}
 use Rattle.statements_facts.specs.declared.scope.Scope.TheVariants.{All}
-use Rattle.statements_facts.specs.Statement.{Holdings, CrlSlot, OcspSlot, CrlFact, OcspFact}
+use Rattle.statements_facts.specs.Statement.{Holdings, CrlSlot, OcspSlot, CrlFact, OcspFact, CrlAnswer, answer_for}
 use Rattle.path.specs.Query.{Query, Accepts}
 use Rattle.path.specs.Validity.{OutcomeIsOne}
 use Rattle.relying_agreement.specs.declared.verdict.Verdict.{Verdict}
-use Rattle.relying_agreement.specs.Link.{Link, links_of, kind_of, crl_slot, ocsp_slot}
+use Rattle.relying_agreement.specs.Link.{Link, links_of, own_scope, crl_slot, ocsp_slot}
 use Rattle.statements_facts.specs.Newest.{is_unexceeded, newer_crl, newer_ocsp}
-use Rattle.relying_agreement.specs.Status.{CrlAnswer, Answers, answer_for}
+use Rattle.relying_agreement.specs.Status.{Answers}
 use Rattle.relying_agreement.specs.Verdict.{verdict_of, IsVerdict}
-use Rattle.relying_agreement.specs.Run.{Party, HoldsNewest, crls_seen, responses_seen}
+use Rattle.relying_agreement.specs.Run.{Party, PartyHoldsNewest, crls_seen, responses_seen}
 use Rattle.relying_agreement.specs.Agreement.{HoldSameNewest, HoldSameNewestOf, CrlsSeenAreConsistent, ResponsesSeenAreConsistent, IssuerIsConsistent, AllAreConsistent, AllIsEnough, CrlsHeldAreConsistent, ResponsesHeldAreConsistent, HeldIsConsistent, HeldAreConsistent, PartiesAgree, RunsAgree, RunsAgreeWhereAllAreConsistent, HeldWasSeen, SameNewestIsTheSame, OneOfANumberIsConsistent, PointwiseIsEnough}
 use Rattle.relying_agreement.specs.Comparison.{HoldSameOf}
 use Rattle.relying_agreement.proofs.Options.{found_within, same_by_mark}
 use Rattle.relying_agreement.proofs.VerdictLaws.{same_verdicts, verdict_is_one}
 
 -- what is held was held at the start or taken
-crls_were_seen : (one other : Party) → HoldsNewest one → HoldsNewest other → (slot : CrlSlot) → CrlsSeenAreConsistent one other slot
+crls_were_seen : (one other : Party) → PartyHoldsNewest one → PartyHoldsNewest other → (slot : CrlSlot) → CrlsSeenAreConsistent one other slot
     → CrlsHeldAreConsistent one.held other.held slot
 crls_were_seen one other a b slot consistent = λ f g is_f is_g. consistent f g
     (Contains-append_left (crls_seen one slot) (crls_seen other slot) f (found_within (is_unexceeded newer_crl (crls_seen one slot)) (crls_seen one slot) f (sym (a.crl slot) ∙ is_f)))
     (Contains-append_right (crls_seen one slot) (crls_seen other slot) g (found_within (is_unexceeded newer_crl (crls_seen other slot)) (crls_seen other slot) g (sym (b.crl slot) ∙ is_g)))
 
-responses_were_seen : (one other : Party) → HoldsNewest one → HoldsNewest other → (slot : OcspSlot) → ResponsesSeenAreConsistent one other slot
+responses_were_seen : (one other : Party) → PartyHoldsNewest one → PartyHoldsNewest other → (slot : OcspSlot) → ResponsesSeenAreConsistent one other slot
     → ResponsesHeldAreConsistent one.held other.held slot
 responses_were_seen one other a b slot consistent = λ f g is_f is_g. consistent f g
     (Contains-append_left (responses_seen one slot) (responses_seen other slot) f (found_within (is_unexceeded newer_ocsp (responses_seen one slot)) (responses_seen one slot) f (sym (a.ocsp slot) ∙ is_f)))
     (Contains-append_right (responses_seen one slot) (responses_seen other slot) g (found_within (is_unexceeded newer_ocsp (responses_seen other slot)) (responses_seen other slot) g (sym (b.ocsp slot) ∙ is_g)))
 
-each_was_seen : (one other : Party) → HoldsNewest one → HoldsNewest other → (links : List Link) → AllByRecursion (IssuerIsConsistent one other) links
+each_was_seen : (one other : Party) → PartyHoldsNewest one → PartyHoldsNewest other → (links : List Link) → AllByRecursion (IssuerIsConsistent one other) links
     → AllByRecursion (HeldIsConsistent one.held other.held) links
 each_was_seen one other a b [] consistent = tt
 each_was_seen one other a b (link ∷ links) consistent = (
   record {
     all = crls_were_seen one other a b (crl_slot link All) consistent.0.all;
-    own = crls_were_seen one other a b (crl_slot link (kind_of link.certificate)) consistent.0.own;
+    own = crls_were_seen one other a b (crl_slot link (own_scope link.certificate)) consistent.0.own;
     ocsp = responses_were_seen one other a b (ocsp_slot link) consistent.0.ocsp;
   },
   each_was_seen one other a b links consistent.1,
@@ -49,7 +49,7 @@ held_was_seen query one other a b consistent = each_was_seen one other a b (link
 enough : (one other : Party) → AllAreConsistent one other → (links : List Link) → AllByRecursion (IssuerIsConsistent one other) links
 enough one other all [] = tt
 enough one other all (link ∷ links) = (
-  record { all = all.crls (crl_slot link All); own = all.crls (crl_slot link (kind_of link.certificate)); ocsp = all.responses (ocsp_slot link) },
+  record { all = all.crls (crl_slot link All); own = all.crls (crl_slot link (own_scope link.certificate)); ocsp = all.responses (ocsp_slot link) },
   enough one other all links,
 )
 
@@ -71,7 +71,7 @@ pub same_of_newest : SameNewestIsTheSame
 same_of_newest one other link consistent newest =
     same_answers _ _ _ _ _ _
     (ap (option_map (answer_for (body link.certificate.serial))) (same_crl one other (crl_slot link All) consistent.all newest.all))
-    (ap (option_map (answer_for (body link.certificate.serial))) (same_crl one other (crl_slot link (kind_of link.certificate)) consistent.own newest.own))
+    (ap (option_map (answer_for (body link.certificate.serial))) (same_crl one other (crl_slot link (own_scope link.certificate)) consistent.own newest.own))
     (same_by_mark (λ (fact : OcspFact). fact.times) (one.ocsp (ocsp_slot link)) (other.ocsp (ocsp_slot link)) consistent.ocsp newest.ocsp)
 
 all_same : (one other : Holdings) (links : List Link) → AllByRecursion (HeldIsConsistent one other) links → AllByRecursion (HoldSameNewestOf one other) links

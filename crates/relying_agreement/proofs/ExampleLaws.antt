@@ -8,17 +8,17 @@ use Rattle.sha1.specs.Sha1.{sha1}
 use Rattle.names.specs.NameKey.{name_key}
 use Rattle.cert.specs.Part.{contents}
 use Rattle.statements_facts.specs.Fact.{Fact}
-use Rattle.statements_facts.specs.Statement.{CrlSlot, CrlFact, OcspSlot, OcspFact, same_crl_slot, same_ocsp_slot}
+use Rattle.statements_facts.specs.Statement.{CrlSlot, CrlFact, OcspSlot, OcspFact, same_crl_slot, same_ocsp_slot, empty_holdings}
 use Rattle.path.specs.declared.reason.Outcome.TheVariants.{Good, Bad}
 use Rattle.path.specs.declared.reason.Reason.TheVariants.{Signature}
 use Rattle.path.specs.Query.{Accepts}
 use Rattle.relying_agreement.specs.declared.verdict.Verdict.{Verdict}
 use Rattle.relying_agreement.specs.declared.verdict.Verdict.TheVariants.{Invalid, Revoked, Unknown, Valid}
 use Rattle.relying_agreement.specs.Verdict.{IsVerdict, verdict_of}
-use Rattle.relying_agreement.specs.Run.{Party, HoldsNewest}
+use Rattle.relying_agreement.specs.Run.{Party, PartyHoldsNewest}
 use Rattle.statements_facts.specs.Coming.{crl_for, ocsp_for}
 use Rattle.relying_agreement.specs.Agreement.{IsIssued, IssuersAreConsistent, HoldSameNewest}
-use Rattle.relying_agreement.specs.Examples.{query, list_slot, stranger_slot, StrangersDoNotMatter, crl, crl_with_entry, good_at, given_crl, accepts_all, accepts_none, nothing_held, starting, one, other, AllPremisesHold, NeedsConsistency, NeedsSameNewest, NeedsHoldsNewest, NeedsOneVerifier}
+use Rattle.relying_agreement.specs.Examples.{query, list_slot, stranger_slot, StrangersDoNotMatter, crl, crl_with_entry, good_at, given_crl, accepts_all, accepts_none, starting, one, other, AllPremisesHold, NeedsConsistency, NeedsSameNewest, NeedsHoldsNewest, NeedsOneVerifier}
 use Rattle.relying_agreement.proofs.AgreementLaws.{all_is_enough, one_of_a_number}
 use Rattle.relying_agreement.proofs.ExamplePath.{path_is_valid, signature_is_denied}
 
@@ -56,7 +56,7 @@ ours accepts taken all = record {
       (All-from_recursion (λ (f : OcspFact). f ≡ good_at f.times) (filter_map (ocsp_for slot) taken) (responses_say (λ f. f ≡ crl f.number) (λ f. f ≡ good_at f.times) slot taken all)) among;
 }
 
-newest : (accepts : Accepts) (taken : List Fact) → HoldsNewest (starting accepts taken)
+newest : (accepts : Accepts) (taken : List Fact) → PartyHoldsNewest (starting accepts taken)
 newest accepts taken = record { crl = λ slot. refl; ocsp = λ slot. refl }
 
 consistent : (accepts accepts' : Accepts) (taken taken' : List Fact) → AllByRecursion IsOurs taken → AllByRecursion IsOurs taken'
@@ -94,7 +94,7 @@ all_premises_hold = record {
 abbrev planted : Party
 planted = record {
   accepts = accepts_all;
-  start = nothing_held;
+  start = empty_holdings;
   taken = [];
   held = record { crl = λ slot. if same_crl_slot list_slot slot then Some (crl_with_entry 5) else None; ocsp = λ slot. None };
 }

@@ -5,7 +5,8 @@ use Rattle.names.specs.NameKey.{name_key}
 use Rattle.cert.specs.Part.{contents}
 use Rattle.relying_agreement.specs.declared.verdict.Verdict.{Verdict}
 use Rattle.relying_agreement.specs.declared.verdict.Verdict.TheVariants.{Valid}
-use Rattle.relying_agreement.specs.Status.{Answers, CrlAnswer}
+use Rattle.relying_agreement.specs.Status.{Answers}
+use Rattle.statements_facts.specs.Statement.{CrlAnswer}
 use Rattle.relying_agreement.specs.KnownVerdicts.{KnownVerdicts, NamesFirstDifference}
 use Rattle.relying_agreement.proofs.ExampleLaws.{itself}
 

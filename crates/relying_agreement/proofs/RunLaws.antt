@@ -5,7 +5,7 @@ use Rattle.statements_facts.specs.Fact.{Fact}
 use Rattle.statements_facts.specs.Statement.{Holdings}
 use Rattle.statements_facts.specs.Newest.{newer_crl, newer_ocsp, newest_in, KeepsNewest}
 use Rattle.path.specs.Query.{Accepts}
-use Rattle.relying_agreement.specs.Run.{Event, Answer, FactsOf, facts_taken, Proceeds, StepsMakeARun, HoldsNewest, RunsCompose, EachHoldsNewest}
+use Rattle.relying_agreement.specs.Run.{Event, DeliveryAnswer, FactsOf, facts_taken, Proceeds, StepsMakeARun, PartyHoldsNewest, RunsCompose, EachHoldsNewest}
 use Rattle.statements_facts.specs.Coming.{crl_for, ocsp_for}
 use Rattle.statements_facts.proofs.Laws.{crls_keep_newest, responses_keep_newest}
 
@@ -42,9 +42,9 @@ each_holds_newest accepts start taken = record { crl = λ slot. refl; ocsp = λ 
 nothing_taken : {F : Type 0} (newer : F → F → Bool) → KeepsNewest newer → (start : Option F) → start ≡ newest_in newer (option_to_list start ++ [])
 nothing_taken newer keeps start = keeps.held start []
 
-proceeds : (facts_of : FactsOf) (accepts : Accepts) (events : List Event) (answers : List Answer) (start held : Holdings)
+proceeds : (facts_of : FactsOf) (accepts : Accepts) (events : List Event) (answers : List DeliveryAnswer) (start held : Holdings)
     → Proceeds facts_of accepts start events answers held
-    → HoldsNewest (record { accepts = accepts; start = start; taken = facts_taken facts_of accepts events answers; held = held })
+    → PartyHoldsNewest (record { accepts = accepts; start = start; taken = facts_taken facts_of accepts events answers; held = held })
 proceeds facts_of accepts [] [] start held same = record {
   crl = λ slot. ap (λ (h : Holdings). h.crl slot) same ∙ nothing_taken newer_crl crls_keep_newest (start.crl slot);
   ocsp = λ slot. ap (λ (h : Holdings). h.ocsp slot) same ∙ nothing_taken newer_ocsp responses_keep_newest (start.ocsp slot);
@@ -52,8 +52,8 @@ proceeds facts_of accepts [] [] start held same = record {
 proceeds facts_of accepts [] (answer ∷ answers) start held none = absurd none
 proceeds facts_of accepts (Event.Restart ∷ events) answers start held rest = proceeds facts_of accepts events answers start held rest
 proceeds facts_of accepts (Event.Deliver issuer statement ∷ events) [] start held none = absurd none
-proceeds facts_of accepts (Event.Deliver issuer statement ∷ events) (Answer.Refused ∷ answers) start held rest = proceeds facts_of accepts events answers start held rest
-proceeds facts_of accepts (Event.Deliver issuer statement ∷ events) (Answer.Taken ∷ answers) start held (next, newest, rest) =
+proceeds facts_of accepts (Event.Deliver issuer statement ∷ events) (DeliveryAnswer.Refused ∷ answers) start held rest = proceeds facts_of accepts events answers start held rest
+proceeds facts_of accepts (Event.Deliver issuer statement ∷ events) (DeliveryAnswer.Taken ∷ answers) start held (next, newest, rest) =
     runs_compose
     (record { accepts = accepts; start = start; taken = facts_of accepts issuer statement; held = next })
     (record { accepts = accepts; start = next; taken = facts_taken facts_of accepts events answers; held = held })

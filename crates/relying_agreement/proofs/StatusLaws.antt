@@ -8,9 +8,9 @@ use Rattle.statements_facts.specs.declared.scope.Scope.{Scope}
 use Rattle.statements_facts.specs.declared.scope.Scope.TheVariants.{All}
 use Rattle.statements_facts.specs.declared.single.Status.{Status}
 use Rattle.statements_facts.specs.declared.single.Status.TheVariants as said
-use Rattle.statements_facts.specs.Statement.{Window, CrlFact, OcspFact, Holdings}
-use Rattle.relying_agreement.specs.Link.{Link, kind_of, crl_slot, ocsp_slot}
-use Rattle.relying_agreement.specs.Status.{IsCurrent, is_current, may_sign_crls, CrlAnswer, answer_for, crl_answer, evidence_of, kept_if, crl_that_counts, ocsp_that_counts, reason_of_status, is_good, listed_reason, told_reason, reason_in, is_covered_by, CrlCounts, OcspCounts, SomeRevokes, IsCovered}
+use Rattle.statements_facts.specs.Statement.{Window, CrlFact, OcspFact, Holdings, CrlAnswer, answer_for}
+use Rattle.relying_agreement.specs.Link.{Link, own_scope, crl_slot, ocsp_slot}
+use Rattle.relying_agreement.specs.Status.{IsCurrent, is_current, may_sign_crls, crl_answer, evidence_of, kept_if, crl_that_counts, ocsp_that_counts, reason_of_status, is_good, crl_reason, ocsp_reason, deciding_reason, is_covered_by, CrlCounts, OcspCounts, SomeRevokes, IsCovered}
 use Rattle.relying_agreement.proofs.Options.{kept_is, is_kept, kept_some, mapped_is, chained_is, is_chained, either_decides, some_value}
 
 is_so : (b : Bool) → T b → b ≡ true
@@ -66,11 +66,11 @@ module _ (held : Holdings) (moment : ℤ) (link : Link) where
   abbrev Lists : Scope → Type 0
   Lists scope = (fact : CrlFact) × CountsIn scope fact × IsSome (fact.reasons (body link.certificate.serial))
 
-  crl_lists : (scope : Scope) → Decides (is_some (listed_reason moment may_sign (crl_answer held link scope))) (Lists scope)
+  crl_lists : (scope : Scope) → Decides (is_some (crl_reason moment may_sign (crl_answer held link scope))) (Lists scope)
   crl_lists scope = (
-    λ some. let found = chained_is (λ (counted : CrlAnswer). counted.entry) (crl_that_counts moment may_sign (crl_answer held link scope)) some in
-        let c = counted scope found.0 found.1 in (c.0, c.1, ap (λ (a : CrlAnswer). is_some a.entry) c.2 ∙ found.2),
-    λ (fact, c, some). is_chained (λ (counted : CrlAnswer). counted.entry) (crl_that_counts moment may_sign (crl_answer held link scope)) (answer fact) (counts scope fact c) some,
+    λ some. let found = chained_is (λ (counted : CrlAnswer). counted.reason) (crl_that_counts moment may_sign (crl_answer held link scope)) some in
+        let c = counted scope found.0 found.1 in (c.0, c.1, ap (λ (a : CrlAnswer). is_some a.reason) c.2 ∙ found.2),
+    λ (fact, c, some). is_chained (λ (counted : CrlAnswer). counted.reason) (crl_that_counts moment may_sign (crl_answer held link scope)) (answer fact) (counts scope fact c) some,
   )
 
   abbrev response_test : OcspFact → Bool
@@ -99,7 +99,7 @@ module _ (held : Holdings) (moment : ℤ) (link : Link) where
   abbrev RevokesByResponse : Type 0
   RevokesByResponse = (fact : OcspFact) × OcspCounts held moment link fact × IsSome (reason_of_status fact.status)
 
-  response_revokes : Decides (is_some (told_reason moment (held.ocsp (ocsp_slot link)))) RevokesByResponse
+  response_revokes : Decides (is_some (ocsp_reason moment (held.ocsp (ocsp_slot link)))) RevokesByResponse
   response_revokes = (
     λ some. let found = chained_is (λ (response : OcspFact). reason_of_status response.status) the_response some in
         (found.0, response_counted found.0 found.1, found.2),
@@ -107,7 +107,7 @@ module _ (held : Holdings) (moment : ℤ) (link : Link) where
   )
 
   abbrev own : Scope
-  own = kind_of link.certificate
+  own = own_scope link.certificate
 
   in_words : (scope : Scope) (fact : CrlFact) → (scope ≡ All) ⊎ (scope ≡ own) → CountsIn scope fact → CrlCounts held moment link fact
   in_words scope fact speaks c = record { scope = scope; speaks = speaks; is_held = c.0; may_sign = c.1; current = c.2 }
@@ -130,9 +130,9 @@ module _ (held : Holdings) (moment : ℤ) (link : Link) where
       (Decides-or _ _ (crl_covers All) (Decides-or _ _ (crl_covers own) response_covers))
 
   -- and so is the test of revocation
-  pub revoke_decides : Decides (is_some (reason_in moment (evidence_of held link))) (SomeRevokes held moment link)
+  pub revoke_decides : Decides (is_some (deciding_reason moment (evidence_of held link))) (SomeRevokes held moment link)
   revoke_decides =
-      Decides-like (is_some (reason_in moment (evidence_of held link)))
+      Decides-like (is_some (deciding_reason moment (evidence_of held link)))
       (λ either. elim either [
         | inl (fact, c, some) ↦ inl (fact, in_words All fact (inl refl) c, some)
         | inr others ↦ elim others [ inl (fact, c, some) ↦ inl (fact, in_words own fact (inr refl) c, some) | inr response ↦ inr response ]

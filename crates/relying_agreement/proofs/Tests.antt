@@ -5,10 +5,10 @@ use Rattle.std.proofs.lemmas.Option.{none-some, same_Some}
 use Rattle.std.proofs.lemmas.Bool.Decides.{Decides-and, Decides-like, Decides-eqb, Decides-int_eq}
 use Rattle.statements_facts.specs.declared.single.Status.{Status}
 use Rattle.statements_facts.specs.declared.single.Status.TheVariants as said
-use Rattle.statements_facts.specs.Statement.{Window, Times, OcspFact}
+use Rattle.statements_facts.specs.Statement.{Window, Times, OcspFact, CrlAnswer}
 use Rattle.relying_agreement.specs.declared.verdict.Verdict.{Verdict}
 use Rattle.relying_agreement.specs.declared.verdict.Verdict.TheVariants.{Invalid, Revoked, Unknown, Valid}
-use Rattle.relying_agreement.specs.Status.{CrlAnswer, Answers}
+use Rattle.relying_agreement.specs.Status.{Answers}
 use Rattle.relying_agreement.proofs.ValidLaws.{is_invalid}
 
 option_decides : {A : Type 0} (test : A → A → Bool) → ((x y : A) → Decides (test x y) (x ≡ y)) → (a b : Option A) → Decides (option_eq test a b) (a ≡ b)
@@ -109,19 +109,19 @@ times_decides a b =
     (λ e. (ap (λ (t : Times). t.this_update) e, ap (λ (t : Times). t.produced_at) e))
     (Decides-and _ _ (Decides-int_eq a.this_update b.this_update) (Decides-int_eq a.produced_at b.produced_at))
 
-abbrev same_entry : Option ℕ → Option ℕ → Bool
-same_entry a b = option_eq ◌==◌ a b
+abbrev same_reason : Option ℕ → Option ℕ → Bool
+same_reason a b = option_eq ◌==◌ a b
 
 abbrev same_crl : CrlAnswer → CrlAnswer → Bool
-same_crl a b = a.number == b.number && (same_window a.window b.window && same_entry a.entry b.entry)
+same_crl a b = a.number == b.number && (same_window a.window b.window && same_reason a.reason b.reason)
 
 crl_decides : (a b : CrlAnswer) → Decides (same_crl a b) (a ≡ b)
 crl_decides a b =
     Decides-like (same_crl a b)
-    (λ (number, (window, entry)). λ i. record { number = number i; window = window i; entry = entry i })
-    (λ e. (ap (λ (c : CrlAnswer). c.number) e, (ap (λ (c : CrlAnswer). c.window) e, ap (λ (c : CrlAnswer). c.entry) e)))
+    (λ (number, (window, reason)). λ i. record { number = number i; window = window i; reason = reason i })
+    (λ e. (ap (λ (c : CrlAnswer). c.number) e, (ap (λ (c : CrlAnswer). c.window) e, ap (λ (c : CrlAnswer). c.reason) e)))
     (Decides-and _ _ (Decides-eqb a.number b.number)
-    (Decides-and _ _ (window_decides a.window b.window) (option_decides ◌==◌ Decides-eqb a.entry b.entry)))
+    (Decides-and _ _ (window_decides a.window b.window) (option_decides ◌==◌ Decides-eqb a.reason b.reason)))
 
 abbrev same_response : OcspFact → OcspFact → Bool
 same_response a b = same_times a.times b.times && (same_window a.window b.window && same_status a.status b.status)

@@ -11,7 +11,7 @@ use Rattle.path.specs.Validity.{IsOutcome, IsValidPath, IsFirstFailure}
 use Rattle.relying_agreement.specs.declared.verdict.Verdict.{Verdict}
 use Rattle.relying_agreement.specs.declared.verdict.Verdict.TheVariants.{Invalid, Valid}
 use Rattle.relying_agreement.specs.Link.{Link, links_of}
-use Rattle.relying_agreement.specs.Status.{Evidence, evidence_of, reason_in, is_covered_by}
+use Rattle.relying_agreement.specs.Status.{Evidence, evidence_of, deciding_reason, is_covered_by}
 use Rattle.relying_agreement.specs.Verdict.{or_revoked, first_revoked, first_uncovered, evidence_on, verdict_from, verdict_by, verdict_of, IsVerdict, IsClear, ValidExactlyWhere, InvalidExactlyWhere}
 use Rattle.relying_agreement.proofs.Options.{no_value}
 use Rattle.relying_agreement.proofs.StatusLaws.{cover_decides, revoke_decides}
@@ -88,7 +88,7 @@ module _ (held : Holdings) (moment : ℤ) where
       → AllByRecursion (IsClear held moment) links
   all_clear [] revoked uncovered = tt
   all_clear (link ∷ links) revoked uncovered =
-      let r = none_of_both link.number (reason_in moment (evidence_of held link)) (first_revoked moment (seen links)) revoked in
+      let r = none_of_both link.number (deciding_reason moment (evidence_of held link)) (first_revoked moment (seen links)) revoked in
       let u = covered_both (is_covered_by moment (evidence_of held link)) link.number (first_uncovered moment (seen links)) uncovered in (
         record {
           covered = (cover_decides held moment link).0 u.0;
@@ -101,7 +101,7 @@ module _ (held : Holdings) (moment : ℤ) where
   none_revoked [] clear = refl
   none_revoked (link ∷ links) clear =
       ap₂ (or_revoked link.number)
-      (no_value (reason_in moment (evidence_of held link)) (λ some. clear.0.not_revoked ((revoke_decides held moment link).0 some)))
+      (no_value (deciding_reason moment (evidence_of held link)) (λ some. clear.0.not_revoked ((revoke_decides held moment link).0 some)))
       (none_revoked links clear.1)
 
   none_uncovered : (links : List Link) → AllByRecursion (IsClear held moment) links → first_uncovered moment (seen links) ≡ None

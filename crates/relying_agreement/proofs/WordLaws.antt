@@ -7,7 +7,7 @@ use Rattle.statements_facts.specs.Statement.{Holdings}
 use Rattle.relying_agreement.specs.declared.verdict.Verdict.{Verdict}
 use Rattle.relying_agreement.specs.declared.verdict.Verdict.TheVariants.{Invalid, Revoked, Unknown, Valid}
 use Rattle.relying_agreement.specs.Link.{Link, links_of}
-use Rattle.relying_agreement.specs.Status.{Evidence, evidence_of, reason_in, is_covered_by, SomeRevokes, IsCovered, IsRevoked}
+use Rattle.relying_agreement.specs.Status.{Evidence, evidence_of, deciding_reason, is_covered_by, SomeRevokes, IsCovered, IsRevoked}
 use Rattle.relying_agreement.specs.Verdict.{or_revoked, first_revoked, first_uncovered, evidence_on, verdict_from, IsFirst, RevokedExactlyWhere, UnknownExactlyWhere}
 use Rattle.relying_agreement.proofs.Options.{no_value}
 use Rattle.relying_agreement.proofs.ValidLaws.{none_of_both, of_valid_path, from_valid_path}
@@ -62,16 +62,16 @@ module _ (held : Holdings) (moment : ℤ) where
   abbrev NotCovered : Link → Type 0
   NotCovered link = ¬ (IsCovered held moment link)
 
-  not_revoked : (link : Link) → reason_in moment (evidence_of held link) ≡ None → ¬ (Revokes link)
+  not_revoked : (link : Link) → deciding_reason moment (evidence_of held link) ≡ None → ¬ (Revokes link)
   not_revoked link none = λ some. true≢false (sym ((revoke_decides held moment link).1 some) ∙ ap is_some none)
 
-  no_reason : (link : Link) → ¬ (Revokes link) → reason_in moment (evidence_of held link) ≡ None
-  no_reason link none = no_value (reason_in moment (evidence_of held link)) (λ some. none ((revoke_decides held moment link).0 some))
+  no_reason : (link : Link) → ¬ (Revokes link) → deciding_reason moment (evidence_of held link) ≡ None
+  no_reason link none = no_value (deciding_reason moment (evidence_of held link)) (λ some. none ((revoke_decides held moment link).0 some))
 
   found_revoked : (links : List Link) (j reason : ℕ) → first_revoked moment (seen links) ≡ Some (j, reason)
       → (link : Link) × IsFirst Revokes links link × (j ≡ link.number) × IsRevoked held moment link reason
   found_revoked [] j reason e = absurd (none-some (j, reason) e)
-  found_revoked (link ∷ links) j reason e = elim (revoked_either link.number (reason_in moment (evidence_of held link)) (first_revoked moment (seen links)) j reason e) [
+  found_revoked (link ∷ links) j reason e = elim (revoked_either link.number (deciding_reason moment (evidence_of held link)) (first_revoked moment (seen links)) j reason e) [
     | inl (here, is) ↦ (link, record { before = []; after = links; is = refl; here = (revoke_decides held moment link).0 (ap is_some is); none_before = tt }, here, is)
     | inr (none, later) ↦ let rest = found_revoked links j reason later in
         (rest.0, record { before = link ∷ rest.1.before; after = rest.1.after; is = ap (λ xs. link ∷ xs) rest.1.is; here = rest.1.here; none_before = (not_revoked link none, rest.1.none_before) }, rest.2, rest.3)
@@ -91,7 +91,7 @@ module _ (held : Holdings) (moment : ℤ) where
   all_not_revoked : (links : List Link) → first_revoked moment (seen links) ≡ None → AllByRecursion (λ link. ¬ (Revokes link)) links
   all_not_revoked [] e = tt
   all_not_revoked (link ∷ links) e =
-      let parts = none_of_both link.number (reason_in moment (evidence_of held link)) (first_revoked moment (seen links)) e in
+      let parts = none_of_both link.number (deciding_reason moment (evidence_of held link)) (first_revoked moment (seen links)) e in
       (not_revoked link parts.0, all_not_revoked links parts.1)
 
   not_covered : (link : Link) → is_covered_by moment (evidence_of held link) ≡ false → NotCovered link

@@ -5,10 +5,10 @@ use Rattle.statements_facts.specs.declared.scope.Scope.TheVariants.{All}
 use Rattle.statements_facts.specs.Statement.{Holdings, Times, CrlSlot, CrlFact, OcspSlot, OcspFact}
 use Rattle.path.specs.Query.{Query, Accepts}
 use Rattle.relying_agreement.specs.declared.verdict.Verdict.{Verdict}
-use Rattle.relying_agreement.specs.Link.{Link, links_of, kind_of, crl_slot, ocsp_slot}
+use Rattle.relying_agreement.specs.Link.{Link, links_of, own_scope, crl_slot, ocsp_slot}
 use Rattle.relying_agreement.specs.Status.{answers_of}
 use Rattle.relying_agreement.specs.Verdict.{IsVerdict}
-use Rattle.relying_agreement.specs.Run.{Event, Answer, FactsOf, Party, crls_seen, responses_seen, HoldsNewest, HasRun}
+use Rattle.relying_agreement.specs.Run.{Event, DeliveryAnswer, FactsOf, Party, crls_seen, responses_seen, PartyHoldsNewest, HasRun}
 
 -- ---- the same newest
 
@@ -21,7 +21,7 @@ times_held held slot = option_map (λ fact. fact.times) (held.ocsp slot)
 -- in each slot that speaks of the certificate both hold nothing, or lists of one number, or responses of the same times
 pub record HoldSameNewestOf (one other : Holdings) (link : Link) : Type 0 where
   pub all : number_held one (crl_slot link All) ≡ number_held other (crl_slot link All)
-  pub own : number_held one (crl_slot link (kind_of link.certificate)) ≡ number_held other (crl_slot link (kind_of link.certificate))
+  pub own : number_held one (crl_slot link (own_scope link.certificate)) ≡ number_held other (crl_slot link (own_scope link.certificate))
   pub ocsp : times_held one (ocsp_slot link) ≡ times_held other (ocsp_slot link)
 
 abbrev pub HoldSameNewest : Query → Holdings → Holdings → Type 0
@@ -49,7 +49,7 @@ ResponsesSeenAreConsistent one other slot = ResponsesAreConsistent (responses_se
 -- in the slots that speak of the certificate
 pub record IssuerIsConsistent (one other : Party) (link : Link) : Type 0 where
   pub all : CrlsSeenAreConsistent one other (crl_slot link All)
-  pub own : CrlsSeenAreConsistent one other (crl_slot link (kind_of link.certificate))
+  pub own : CrlsSeenAreConsistent one other (crl_slot link (own_scope link.certificate))
   pub ocsp : ResponsesSeenAreConsistent one other (ocsp_slot link)
 
 -- The issuers of a path are consistent; of others nothing is asked.
@@ -75,7 +75,7 @@ ResponsesHeldAreConsistent one other slot =
 
 pub record HeldIsConsistent (one other : Holdings) (link : Link) : Type 0 where
   pub all : CrlsHeldAreConsistent one other (crl_slot link All)
-  pub own : CrlsHeldAreConsistent one other (crl_slot link (kind_of link.certificate))
+  pub own : CrlsHeldAreConsistent one other (crl_slot link (own_scope link.certificate))
   pub ocsp : ResponsesHeldAreConsistent one other (ocsp_slot link)
 
 -- what two maps hold of a path is consistent
@@ -90,8 +90,8 @@ abbrev pub PartiesAgree : Type 0
 PartiesAgree =
     (query : Query) (one other : Party) (v w : Verdict) →
     one.accepts ≡ other.accepts →
-    HoldsNewest one →
-    HoldsNewest other →
+    PartyHoldsNewest one →
+    PartyHoldsNewest other →
     IssuersAreConsistent query one other →
     HoldSameNewest query one.held other.held →
     IsVerdict one.accepts query one.held v →
@@ -102,7 +102,7 @@ PartiesAgree =
 abbrev pub RunsAgree : Type 0
 RunsAgree =
     (facts_of : FactsOf) (query : Query) (one other : Party) (v w : Verdict)
-    (events_of_one events_of_other : List Event) (answers_of_one answers_of_other : List Answer) →
+    (events_of_one events_of_other : List Event) (answers_of_one answers_of_other : List DeliveryAnswer) →
     one.accepts ≡ other.accepts →
     HasRun facts_of events_of_one answers_of_one one →
     HasRun facts_of events_of_other answers_of_other other →
@@ -116,7 +116,7 @@ RunsAgree =
 abbrev pub RunsAgreeWhereAllAreConsistent : Type 0
 RunsAgreeWhereAllAreConsistent =
     (facts_of : FactsOf) (query : Query) (one other : Party) (v w : Verdict)
-    (events_of_one events_of_other : List Event) (answers_of_one answers_of_other : List Answer) →
+    (events_of_one events_of_other : List Event) (answers_of_one answers_of_other : List DeliveryAnswer) →
     one.accepts ≡ other.accepts →
     HasRun facts_of events_of_one answers_of_one one →
     HasRun facts_of events_of_other answers_of_other other →
@@ -129,7 +129,7 @@ RunsAgreeWhereAllAreConsistent =
 -- what each holds was held at the start or taken, so what both hold is consistent
 abbrev pub HeldWasSeen : Type 0
 HeldWasSeen =
-    (query : Query) (one other : Party) → HoldsNewest one → HoldsNewest other → IssuersAreConsistent query one other →
+    (query : Query) (one other : Party) → PartyHoldsNewest one → PartyHoldsNewest other → IssuersAreConsistent query one other →
     HeldAreConsistent query one.held other.held
 
 -- Of a certificate for which both hold the same newest they hold the same, so its status is the same at every moment.

@@ -16,7 +16,7 @@ use Rattle.statements.specs.Issuer.{identity_of}
 use Rattle.relying_agreement.specs.declared.verdict.Verdict.{Verdict}
 use Rattle.relying_agreement.specs.declared.verdict.Verdict.TheVariants.{Valid}
 use Rattle.relying_agreement.specs.Verdict.{IsVerdict}
-use Rattle.relying_agreement.specs.Run.{Event, Answer, FactsOf, Party, facts_taken, after_taking, HoldsNewest, HasRun}
+use Rattle.relying_agreement.specs.Run.{Event, DeliveryAnswer, FactsOf, Party, facts_taken, after_taking, PartyHoldsNewest, HasRun}
 use Rattle.relying_agreement.specs.Agreement.{AllAreConsistent, HoldSameNewest, IssuersAreConsistent}
 
 -- ---- a path of one certificate below its anchor, with serial 05
@@ -91,16 +91,16 @@ delivered statement = Event.Deliver (82 ∷ []) statement
 abbrev pub events_of_one : List Event
 events_of_one = delivered (1 ∷ []) ∷ delivered (2 ∷ []) ∷ delivered (60 ∷ 60 ∷ []) ∷ delivered (3 ∷ []) ∷ delivered (70 ∷ 71 ∷ []) ∷ []
 
-abbrev pub answers_of_one : List Answer
-answers_of_one = Answer.Taken ∷ Answer.Taken ∷ Answer.Taken ∷ Answer.Taken ∷ Answer.Taken ∷ []
+abbrev pub answers_of_one : List DeliveryAnswer
+answers_of_one = DeliveryAnswer.Taken ∷ DeliveryAnswer.Taken ∷ DeliveryAnswer.Taken ∷ DeliveryAnswer.Taken ∷ DeliveryAnswer.Taken ∷ []
 
 -- the second response, list 3, a restart, list 1 twice, and list 9, which is refused; list 2 and the first response are lost
 abbrev pub events_of_other : List Event
 events_of_other =
     delivered (70 ∷ 71 ∷ []) ∷ delivered (3 ∷ []) ∷ Event.Restart ∷ delivered (1 ∷ []) ∷ delivered (1 ∷ []) ∷ delivered (9 ∷ []) ∷ []
 
-abbrev pub answers_of_other : List Answer
-answers_of_other = Answer.Taken ∷ Answer.Taken ∷ Answer.Taken ∷ Answer.Taken ∷ Answer.Refused ∷ []
+abbrev pub answers_of_other : List DeliveryAnswer
+answers_of_other = DeliveryAnswer.Taken ∷ DeliveryAnswer.Taken ∷ DeliveryAnswer.Taken ∷ DeliveryAnswer.Taken ∷ DeliveryAnswer.Refused ∷ []
 
 abbrev pub accepts_all : Accepts
 accepts_all algorithm key message signature = true
@@ -108,11 +108,8 @@ accepts_all algorithm key message signature = true
 abbrev pub accepts_none : Accepts
 accepts_none algorithm key message signature = false
 
-abbrev pub nothing_held : Holdings
-nothing_held = record { crl = λ slot. None; ocsp = λ slot. None }
-
 abbrev pub starting : Accepts → List Fact → Party
-starting accepts taken = after_taking accepts nothing_held taken
+starting accepts taken = after_taking accepts empty_holdings taken
 
 abbrev pub one : Party
 one = starting accepts_all (facts_taken told accepts_all events_of_one answers_of_one)
@@ -163,8 +160,8 @@ pub record NeedsConsistency : Type 0 where
   pub a : Party
   pub b : Party
   pub one_verifier : a.accepts ≡ b.accepts
-  pub a_newest : HoldsNewest a
-  pub b_newest : HoldsNewest b
+  pub a_newest : PartyHoldsNewest a
+  pub b_newest : PartyHoldsNewest b
   pub same_newest : HoldSameNewest query a.held b.held
   pub disagree : Disagree a b
 
@@ -173,8 +170,8 @@ pub record NeedsSameNewest : Type 0 where
   pub a : Party
   pub b : Party
   pub one_verifier : a.accepts ≡ b.accepts
-  pub a_newest : HoldsNewest a
-  pub b_newest : HoldsNewest b
+  pub a_newest : PartyHoldsNewest a
+  pub b_newest : PartyHoldsNewest b
   pub consistent : IssuersAreConsistent query a b
   pub disagree : Disagree a b
 
@@ -183,7 +180,7 @@ pub record NeedsHoldsNewest : Type 0 where
   pub a : Party
   pub b : Party
   pub one_verifier : a.accepts ≡ b.accepts
-  pub a_newest : HoldsNewest a
+  pub a_newest : PartyHoldsNewest a
   pub consistent : IssuersAreConsistent query a b
   pub same_newest : HoldSameNewest query a.held b.held
   pub disagree : Disagree a b
@@ -192,8 +189,8 @@ pub record NeedsHoldsNewest : Type 0 where
 pub record NeedsOneVerifier : Type 0 where
   pub a : Party
   pub b : Party
-  pub a_newest : HoldsNewest a
-  pub b_newest : HoldsNewest b
+  pub a_newest : PartyHoldsNewest a
+  pub b_newest : PartyHoldsNewest b
   pub consistent : IssuersAreConsistent query a b
   pub same_newest : HoldSameNewest query a.held b.held
   pub disagree : Disagree a b

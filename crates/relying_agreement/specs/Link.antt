@@ -30,8 +30,8 @@ has_ca None = false
 has_ca (Some constraints) = constraints.ca
 
 -- whether a certificate is a user's or an authority's, by its basicConstraints (5.2.5; 6.3.3 (b) (2))
-abbrev pub kind_of : Certificate → Scope
-kind_of certificate = if has_ca certificate.extensions.basic_constraints then Ca else User
+abbrev pub own_scope : Certificate → Scope
+own_scope certificate = if has_ca certificate.extensions.basic_constraints then Ca else User
 
 -- The slot of a list that speaks of the certificate: its issuer's, with the scope.
 abbrev pub crl_slot : Link → Scope → CrlSlot

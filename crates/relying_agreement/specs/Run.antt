@@ -9,7 +9,7 @@ use Rattle.statements_facts.specs.Statement.{Holdings, CrlSlot, CrlFact, OcspSlo
 use Rattle.path.specs.Query.{Accepts}
 use Rattle.statements_parts.specs.declared.fault.StatementFault.{StatementFault}
 use Rattle.statements.specs.OcspFact.{genuine_statement}
-use Rattle.statements_facts.specs.Coming.{crl_for, ocsp_for, HoldsNewest as SlotsHoldNewest}
+use Rattle.statements_facts.specs.Coming.{crl_for, ocsp_for, PartyHoldsNewest as SlotsHoldNewest}
 use Rattle.statements_facts.specs.Newest.{newest_in, newer_crl, newer_ocsp}
 
 -- a statement is delivered, with the issuer's certificate; or the store's files are closed and opened again
@@ -18,9 +18,9 @@ pub data Event : Type 0 where
   Restart : Event
 
 -- how a delivery was answered: its facts were taken, or it was refused
-pub data Answer : Type 0 where
-  Taken : Answer
-  Refused : Answer
+pub data DeliveryAnswer : Type 0 where
+  Taken : DeliveryAnswer
+  Refused : DeliveryAnswer
 
 -- ---- the facts of statements
 
@@ -41,12 +41,12 @@ abbrev pub genuine_facts : FactsOf
 genuine_facts accepts issuer statement = facts_under accepts statement (certificate issuer)
 
 -- the facts of the deliveries that were taken, in order
-abbrev pub facts_taken : FactsOf → Accepts → List Event → List Answer → List Fact
+abbrev pub facts_taken : FactsOf → Accepts → List Event → List DeliveryAnswer → List Fact
 facts_taken facts_of accepts [] answers = []
 facts_taken facts_of accepts (Event.Restart ∷ events) answers = facts_taken facts_of accepts events answers
 facts_taken facts_of accepts (Event.Deliver issuer statement ∷ events) [] = []
-facts_taken facts_of accepts (Event.Deliver issuer statement ∷ events) (Answer.Refused ∷ answers) = facts_taken facts_of accepts events answers
-facts_taken facts_of accepts (Event.Deliver issuer statement ∷ events) (Answer.Taken ∷ answers) =
+facts_taken facts_of accepts (Event.Deliver issuer statement ∷ events) (DeliveryAnswer.Refused ∷ answers) = facts_taken facts_of accepts events answers
+facts_taken facts_of accepts (Event.Deliver issuer statement ∷ events) (DeliveryAnswer.Taken ∷ answers) =
     facts_of accepts issuer statement ++ facts_taken facts_of accepts events answers
 
 -- ---- what is held
@@ -78,43 +78,43 @@ after_taking accepts start taken = record {
 }
 
 -- Each slot holds the newest of its facts, the first among equals; and nothing where there is none.
-abbrev pub HoldsNewest : Party → Type 0
-HoldsNewest party = SlotsHoldNewest party.start party.taken party.held
+abbrev pub PartyHoldsNewest : Party → Type 0
+PartyHoldsNewest party = SlotsHoldNewest party.start party.taken party.held
 
 -- What a run promises: the facts taken are those of the deliveries that were answered so, and the newest is held.
-pub record HasRun (facts_of : FactsOf) (events : List Event) (answers : List Answer) (party : Party) : Type 0 where
+pub record HasRun (facts_of : FactsOf) (events : List Event) (answers : List DeliveryAnswer) (party : Party) : Type 0 where
   pub taken : party.taken ≡ facts_taken facts_of party.accepts events answers
-  pub newest : HoldsNewest party
+  pub newest : PartyHoldsNewest party
 
 -- ---- laws
 
 -- One run after another is a run: what is held is the newest of what was held at the first start and taken in both.
 abbrev pub RunsCompose : Type 0
 RunsCompose =
-    (first second : Party) → HoldsNewest first → HoldsNewest second → second.start ≡ first.held →
-    HoldsNewest (record { accepts = second.accepts; start = first.start; taken = first.taken ++ second.taken; held = second.held })
+    (first second : Party) → PartyHoldsNewest first → PartyHoldsNewest second → second.start ≡ first.held →
+    PartyHoldsNewest (record { accepts = second.accepts; start = first.start; taken = first.taken ++ second.taken; held = second.held })
 
 -- Whatever a party held at the start and took, something is the newest.
 abbrev pub EachHoldsNewest : Type 0
-EachHoldsNewest = (accepts : Accepts) (start : Holdings) (taken : List Fact) → HoldsNewest (after_taking accepts start taken)
+EachHoldsNewest = (accepts : Accepts) (start : Holdings) (taken : List Fact) → PartyHoldsNewest (after_taking accepts start taken)
 
 -- One event after another: a restart and a refused delivery leave what is held, and a delivery that is taken leaves the newest
 -- of what was held and of its facts.
-abbrev pub Proceeds : FactsOf → Accepts → Holdings → List Event → List Answer → Holdings → Type 0
+abbrev pub Proceeds : FactsOf → Accepts → Holdings → List Event → List DeliveryAnswer → Holdings → Type 0
 Proceeds facts_of accepts start [] [] held = held ≡ start
 Proceeds facts_of accepts start [] (answer ∷ answers) held = ⊥
 Proceeds facts_of accepts start (Event.Restart ∷ events) answers held = Proceeds facts_of accepts start events answers held
 Proceeds facts_of accepts start (Event.Deliver issuer statement ∷ events) [] held = ⊥
-Proceeds facts_of accepts start (Event.Deliver issuer statement ∷ events) (Answer.Refused ∷ answers) held =
+Proceeds facts_of accepts start (Event.Deliver issuer statement ∷ events) (DeliveryAnswer.Refused ∷ answers) held =
     Proceeds facts_of accepts start events answers held
-Proceeds facts_of accepts start (Event.Deliver issuer statement ∷ events) (Answer.Taken ∷ answers) held =
+Proceeds facts_of accepts start (Event.Deliver issuer statement ∷ events) (DeliveryAnswer.Taken ∷ answers) held =
     (next : Holdings)
-    × HoldsNewest (record { accepts = accepts; start = start; taken = facts_of accepts issuer statement; held = next })
+    × PartyHoldsNewest (record { accepts = accepts; start = start; taken = facts_of accepts issuer statement; held = next })
     × Proceeds facts_of accepts next events answers held
 
 -- so calls that each do their part make a run
 abbrev pub StepsMakeARun : Type 0
 StepsMakeARun =
-    (facts_of : FactsOf) (accepts : Accepts) (events : List Event) (answers : List Answer) (start held : Holdings) →
+    (facts_of : FactsOf) (accepts : Accepts) (events : List Event) (answers : List DeliveryAnswer) (start held : Holdings) →
     Proceeds facts_of accepts start events answers held →
     HasRun facts_of events answers (record { accepts = accepts; start = start; taken = facts_taken facts_of accepts events answers; held = held })

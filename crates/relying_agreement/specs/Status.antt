@@ -3,12 +3,15 @@ use Rattle.std.specs.Prelude.{◌≡◌, ◌⊎◌, ◌==◌, ◌||◌, ◌&&◌
 use Rattle.std.specs.Option.{option_or}
 use Rattle.cert.specs.Place.{body}
 use Rattle.cert.specs.KeyUsage.{has_bit}
+use Rattle.cert.specs.Certificate.{Certificate}
 use Rattle.statements_facts.specs.declared.scope.Scope.{Scope}
 use Rattle.statements_facts.specs.declared.scope.Scope.TheVariants.{All}
 use Rattle.statements_facts.specs.declared.single.Status.{Status}
 use Rattle.statements_facts.specs.declared.single.Status.TheVariants as said
-use Rattle.statements_facts.specs.Statement.{Window, CrlFact, OcspFact, Holdings}
-use Rattle.relying_agreement.specs.Link.{Link, kind_of, crl_slot, ocsp_slot}
+use Rattle.sha1.specs.Sha1.{sha1}
+use Rattle.statements_facts.specs.Statement.{IssuerIdentity, Window, CrlAnswer, OcspFact, Holdings, answer_for}
+use Rattle.statements.specs.Issuer.{identity_of}
+use Rattle.relying_agreement.specs.Link.{Link, own_scope}
 
 -- thisUpdate is not after the moment, nextUpdate not before it (RFC 5280, 6.3.3 (a); RFC 6960, 3.2)
 abbrev pub IsCurrent : Window → ℤ → Type 0
@@ -28,17 +31,12 @@ may_sign_crls link = link.number == 1 || has_crl_sign link.issuer.extensions.key
 
 -- ---- what a store answers of a certificate
 
--- of a list: its number, its window, and the entry of one serial number
-pub record CrlAnswer : Type 0 where
-  pub number : ℕ
-  pub window : Window
-  pub entry : Option ℕ
-
-abbrev pub answer_for : List ℕ → CrlFact → CrlAnswer
-answer_for serial fact = record { number = fact.number; window = fact.window; entry = fact.reasons serial }
+-- the list of a scope under an issuer, and its entry for one serial number
+abbrev pub list_held : Holdings → IssuerIdentity → Scope → List ℕ → Option CrlAnswer
+list_held held issuer scope serial = option_map (answer_for serial) (held.crl (record { issuer = issuer; scope = scope }))
 
 abbrev pub crl_answer : Holdings → Link → Scope → Option CrlAnswer
-crl_answer held link scope = option_map (answer_for (body link.certificate.serial)) (held.crl (crl_slot link scope))
+crl_answer held link scope = list_held held (identity_of link.issuer) scope (body link.certificate.serial)
 
 -- the list of all certificates, that of the certificate's own kind, and the response
 pub record Answers : Type 0 where
@@ -46,12 +44,16 @@ pub record Answers : Type 0 where
   pub own : Option CrlAnswer
   pub ocsp : Option OcspFact
 
-abbrev pub answers_of : Holdings → Link → Answers
-answers_of held link = record {
-  all = crl_answer held link All;
-  own = crl_answer held link (kind_of link.certificate);
-  ocsp = held.ocsp (ocsp_slot link);
+-- the answers on a certificate of the issuer
+abbrev pub answers_held : Holdings → IssuerIdentity → Certificate → Answers
+answers_held held issuer certificate = record {
+  all = list_held held issuer All (body certificate.serial);
+  own = list_held held issuer (own_scope certificate) (body certificate.serial);
+  ocsp = held.ocsp (record { issuer = issuer; name_hash = sha1 certificate.issuer.octets; serial = body certificate.serial });
 }
+
+abbrev pub answers_of : Holdings → Link → Answers
+answers_of held link = answers_held held (identity_of link.issuer) link.certificate
 
 -- what bears on a certificate: its number, whether its issuer may sign lists, and what is held
 pub record Evidence : Type 0 where
@@ -87,18 +89,18 @@ is_good (said.Revoked reason) = false
 is_good said.Unknown = false
 
 -- the reason that a list gives, where it counts and lists the certificate
-abbrev pub listed_reason : ℤ → Bool → Option CrlAnswer → Option ℕ
-listed_reason moment may_sign crl = option_and_then (λ counted. counted.entry) (crl_that_counts moment may_sign crl)
+abbrev pub crl_reason : ℤ → Bool → Option CrlAnswer → Option ℕ
+crl_reason moment may_sign crl = option_and_then (λ counted. counted.reason) (crl_that_counts moment may_sign crl)
 
 -- the reason that a response gives, where it counts and says that the certificate is revoked
-abbrev pub told_reason : ℤ → Option OcspFact → Option ℕ
-told_reason moment response = option_and_then (λ counted. reason_of_status counted.status) (ocsp_that_counts moment response)
+abbrev pub ocsp_reason : ℤ → Option OcspFact → Option ℕ
+ocsp_reason moment response = option_and_then (λ counted. reason_of_status counted.status) (ocsp_that_counts moment response)
 
 -- the reason of the list of all certificates, else of the list of its kind, else of the response
-abbrev pub reason_in : ℤ → Evidence → Option ℕ
-reason_in moment it =
-    option_or (listed_reason moment it.may_sign_crls it.answers.all)
-    (option_or (listed_reason moment it.may_sign_crls it.answers.own) (told_reason moment it.answers.ocsp))
+abbrev pub deciding_reason : ℤ → Evidence → Option ℕ
+deciding_reason moment it =
+    option_or (crl_reason moment it.may_sign_crls it.answers.all)
+    (option_or (crl_reason moment it.may_sign_crls it.answers.own) (ocsp_reason moment it.answers.ocsp))
 
 -- a list counts, or a response that says good does
 abbrev pub is_covered_by : ℤ → Evidence → Bool
@@ -112,7 +114,7 @@ is_covered_by moment it =
 -- A list that speaks of the certificate is held, is current, and its issuer may sign lists.
 pub record CrlCounts (held : Holdings) (moment : ℤ) (link : Link) (fact : CrlFact) : Type 0 where
   pub scope : Scope
-  pub speaks : (scope ≡ All) ⊎ (scope ≡ kind_of link.certificate)
+  pub speaks : (scope ≡ All) ⊎ (scope ≡ own_scope link.certificate)
   pub is_held : held.crl (crl_slot link scope) ≡ Some fact
   pub may_sign : IsTrue (may_sign_crls link)
   pub current : IsCurrent fact.window moment
@@ -130,7 +132,7 @@ SomeRevokes held moment link =
 
 -- revoked, and why
 abbrev pub IsRevoked : Holdings → ℤ → Link → ℕ → Type 0
-IsRevoked held moment link reason = reason_in moment (evidence_of held link) ≡ Some reason
+IsRevoked held moment link reason = deciding_reason moment (evidence_of held link) ≡ Some reason
 
 -- a list counts, or a response that says good
 abbrev pub IsCovered : Holdings → ℤ → Link → Type 0

@@ -10,7 +10,7 @@ use Rattle.path.specs.Validity.{IsValidPath, IsFirstFailure, IsOutcome}
 use Rattle.relying_agreement.specs.declared.verdict.Verdict.{Verdict}
 use Rattle.relying_agreement.specs.declared.verdict.Verdict.TheVariants.{Invalid, Revoked, Unknown, Valid}
 use Rattle.relying_agreement.specs.Link.{Link, links_of}
-use Rattle.relying_agreement.specs.Status.{Evidence, evidence_of, reason_in, is_covered_by, IsCovered, IsRevoked, SomeRevokes}
+use Rattle.relying_agreement.specs.Status.{Evidence, evidence_of, deciding_reason, is_covered_by, IsCovered, IsRevoked, SomeRevokes}
 
 abbrev pub or_revoked : ℕ → Option ℕ → Option (ℕ × ℕ) → Option (ℕ × ℕ)
 or_revoked j None later = later
@@ -19,7 +19,7 @@ or_revoked j (Some reason) later = Some (j, reason)
 -- the first revoked certificate, with the reason
 abbrev pub first_revoked : ℤ → List Evidence → Option (ℕ × ℕ)
 first_revoked moment [] = None
-first_revoked moment (it ∷ more) = or_revoked it.number (reason_in moment it) (first_revoked moment more)
+first_revoked moment (it ∷ more) = or_revoked it.number (deciding_reason moment it) (first_revoked moment more)
 
 -- the first certificate of which no statement speaks
 abbrev pub first_uncovered : ℤ → List Evidence → Option ℕ

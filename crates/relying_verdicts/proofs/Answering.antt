@@ -1,38 +1,24 @@
 -- What look-ups answer, as what bears on a certificate.
 use Rattle.std.proofs.Common.{◌≡◌, ℕ, ◌+◌, Bool, true, List, Option, Some, None, option_map, refl, sym, ap, ◌∙◌, if◌then◌else◌}
-use Rattle.std.proofs.lemmas.Option.{none-some, same_Some}
 use Rattle.sha1.specs.Sha1.{sha1}
 use Rattle.asn.specs.Place.{body}
 use Rattle.cert.specs.Certificate.{Certificate}
 use Rattle.statements_facts.specs.declared.scope.Scope.{Scope}
 use Rattle.statements_facts.specs.declared.scope.Scope.TheVariants.{All}
-use Rattle.statements_facts.specs.Statement.{IssuerIdentity, CrlFact, OcspFact, Holdings}
+use Rattle.statements_facts.specs.Statement.{IssuerIdentity, CrlAnswer, OcspFact, Holdings}
 use Rattle.statements.specs.Issuer.{identity_of}
-use Rattle.store_maps.specs.declared.crl_slot.HeldCrl.{HeldCrl}
-use Rattle.store_maps.specs.Held.{CrlPart, part_of, seen_crl}
-use Rattle.relying_agreement.specs.Link.{Link, kind_of}
-use Rattle.relying_agreement.specs.Status.{CrlAnswer, Answers, Evidence, answer_for, evidence_of, may_sign_crls}
-use Rattle.relying_verdicts.specs.Held.{list_held, answers_held}
-use Rattle.relying_verdicts.specs.View.{seen_answer}
-
-abbrev answer_in : CrlPart → CrlAnswer
-answer_in part = record { number = part.number; window = part.window; entry = part.reason }
-
-pub as_answer : (serial : List ℕ) (fact : Option CrlFact) (crl : Option HeldCrl) → option_map seen_crl crl ≡ option_map (part_of serial) fact → option_map seen_answer crl ≡ option_map (answer_for serial) fact
-as_answer serial None None is = refl
-as_answer serial None (Some crl) is = absurd (none-some (seen_crl crl) (sym is))
-as_answer serial (Some fact) None is = absurd (none-some (part_of serial fact) is)
-as_answer serial (Some fact) (Some crl) is = ap (λ part. Some (answer_in part)) (same_Some (seen_crl crl) (part_of serial fact) is)
+use Rattle.relying_agreement.specs.Link.{Link, own_scope}
+use Rattle.relying_agreement.specs.Status.{Answers, Evidence, evidence_of, may_sign_crls, list_held, answers_held}
 
 pub answers_are : (held : Holdings) (issuer : IssuerIdentity) (certificate : Certificate) (kind : Scope) (serial hash : List ℕ) (all own : Option CrlAnswer) (ocsp : Option OcspFact)
-    → kind ≡ kind_of certificate → serial ≡ body certificate.serial → hash ≡ sha1 certificate.issuer.octets
+    → kind ≡ own_scope certificate → serial ≡ body certificate.serial → hash ≡ sha1 certificate.issuer.octets
     → all ≡ list_held held issuer All serial → own ≡ list_held held issuer kind serial
     → ocsp ≡ held.ocsp (record { issuer = issuer; name_hash = hash; serial = serial })
     → ◌≡◌ {A = Answers} (record { all = all; own = own; ocsp = ocsp }) (answers_held held issuer certificate)
 answers_are held issuer certificate kind serial hash all own ocsp kind_is serial_is hash_is all_is own_is ocsp_is =
     let of_all : all ≡ list_held held issuer All (body certificate.serial) = all_is ∙ ap (λ s. list_held held issuer All s) serial_is in
-    let of_kind : own ≡ list_held held issuer (kind_of certificate) (body certificate.serial) =
-    own_is ∙ ap (λ k. list_held held issuer k serial) kind_is ∙ ap (λ s. list_held held issuer (kind_of certificate) s) serial_is in
+    let of_kind : own ≡ list_held held issuer (own_scope certificate) (body certificate.serial) =
+    own_is ∙ ap (λ k. list_held held issuer k serial) kind_is ∙ ap (λ s. list_held held issuer (own_scope certificate) s) serial_is in
     let by_hash : ocsp ≡ held.ocsp (record { issuer = issuer; name_hash = sha1 certificate.issuer.octets; serial = body certificate.serial }) =
     ocsp_is
     ∙ ap (λ h. held.ocsp (record { issuer = issuer; name_hash = h; serial = serial })) hash_is

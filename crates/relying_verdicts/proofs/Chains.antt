@@ -11,7 +11,7 @@ use Rattle.store_maps.specs.Held.{IsStoreOf}
 use Rattle.store_maps.specs.LooksUp.{IsFoundIn, FailsIn}
 use Rattle.relying_verdicts.specs.declared.fault.Fault.{Fault}
 use Rattle.relying_verdicts.specs.declared.fault.Fault.TheVariants.{Store, Memory}
-use Rattle.relying_verdicts.specs.Asking.{GivesUp, IsFoundInBoth, GivesUpBoth, AsksBoth}
+use Rattle.relying_verdicts.specs.Asking.{AskFails, IsFoundInBoth, GivesUpBoth, AsksBoth}
 
 pub keeps_itself : (s : State) → KeepsCommit s s
 keeps_itself s = record { was_open = λ is. is; committed = λ is. refl }
@@ -53,19 +53,19 @@ fails_then old mid new P a fault one two = record {
 -- ---- with want of memory
 
 -- a fault behind something that was found
-pub gives_up_then : {A : Type 0} (old mid new : State) (P : Holdings → A → Type 0) (a : A) (fault : Fault) → IsFoundIn old mid P a → GivesUp mid new fault → GivesUp old new fault
+pub gives_up_then : {A : Type 0} (old mid new : State) (P : Holdings → A → Type 0) (a : A) (fault : Fault) → IsFoundIn old mid P a → AskFails mid new fault → AskFails old new fault
 gives_up_then old mid new P a (Store fault) one two = fails_then old mid new P a fault one two
 gives_up_then old mid new P a Memory one two = keeps_then old mid new one.keeps two
 
 -- ---- two stores
 
 -- the first fails, and the other was not asked
-pub first_fails : (old new other : State) (fault : Fault) → GivesUp old new fault → GivesUpBoth old new other other fault
+pub first_fails : (old new other : State) (fault : Fault) → AskFails old new fault → GivesUpBoth old new other other fault
 first_fails old new other (Store fault) is = record { keeps = is.keeps; other_keeps = keeps_itself other; formed = λ e one others store stores. is.formed e one store }
 first_fails old new other Memory is = (is, keeps_itself other)
 
 -- the first is asked, and the other fails
-pub other_fails : {A : Type 0} (old new other_old other_new : State) (P : Holdings → A → Type 0) (a : A) (fault : Fault) → IsFoundIn old new P a → GivesUp other_old other_new fault → GivesUpBoth old new other_old other_new fault
+pub other_fails : {A : Type 0} (old new other_old other_new : State) (P : Holdings → A → Type 0) (a : A) (fault : Fault) → IsFoundIn old new P a → AskFails other_old other_new fault → GivesUpBoth old new other_old other_new fault
 other_fails old new other_old other_new P a (Store fault) one is = record { keeps = one.keeps; other_keeps = is.keeps; formed = λ e held others store stores. is.formed e others stores }
 other_fails old new other_old other_new P a Memory one is = (one.keeps, is)
 

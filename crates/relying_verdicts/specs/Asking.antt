@@ -11,14 +11,14 @@ use Rattle.relying_verdicts.specs.declared.fault.Fault.{Fault}
 use Rattle.relying_verdicts.specs.declared.fault.Fault.TheVariants.{Store, Memory}
 
 -- a fault of the store is never for the form of the rows of a store; and nothing was committed
-abbrev pub GivesUp : State → State → Fault → Type 0
-GivesUp old new (Store fault) = FailsIn old new fault
-GivesUp old new Memory = KeepsCommit old new
+abbrev pub AskFails : State → State → Fault → Type 0
+AskFails old new (Store fault) = FailsIn old new fault
+AskFails old new Memory = KeepsCommit old new
 
 -- what is found is said of what is held, and all is as it was
 abbrev pub Asks : {A : Type 0} → State → State → (Holdings → A → Type 0) → Result A Fault → Type 0
 Asks old new Is (Ok found) = IsFoundIn old new Is found
-Asks old new Is (Err fault) = GivesUp old new fault
+Asks old new Is (Err fault) = AskFails old new fault
 
 -- ---- of two stores
 

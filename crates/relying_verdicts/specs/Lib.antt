@@ -1,6 +1,5 @@
 pub mod View
 pub mod Reading
-pub mod Held
 pub mod Asking
 pub mod Difference
 pub use Rattle.relying_agreement.specs.Verdict

@@ -5,10 +5,10 @@ use denote.Ref.{Bor}
 use Rattle.cert.specs.Certificate.{seen_certificate}
 use Rattle.path.specs.Query.{Query}
 use Rattle.path.specs.State.{query_of}
-use Rattle.store_maps.specs.declared.crl_slot.HeldCrl.{HeldCrl}
-use Rattle.store_rows.specs.Seen.{seen_said}
+use Rattle.store_maps.specs.Held.{seen_crl}
+use Rattle.store_rows.specs.Seen.{seen_held_status}
 use Rattle.relying_agreement.specs.Link.{Link}
-use Rattle.relying_agreement.specs.Status.{CrlAnswer, Answers, Evidence}
+use Rattle.relying_agreement.specs.Status.{Answers, Evidence}
 use Rattle.relying_verdicts.specs.declared.query.Query as asked
 use Rattle.relying_verdicts.specs.declared.evidence.Answers as answered
 use Rattle.relying_verdicts.specs.declared.evidence.Evidence as known
@@ -29,14 +29,11 @@ seen_link link = record {
   certificate = seen_certificate link.certificate.now;
 }
 
-abbrev pub seen_answer : HeldCrl → CrlAnswer
-seen_answer crl = record { number = crl.number; window = record { from = crl.from; until = crl.until }; entry = crl.reason }
-
 abbrev pub seen_answers : answered.Answers → Answers
 seen_answers answers = record {
-  all = option_map seen_answer answers.all;
-  own = option_map seen_answer answers.own;
-  ocsp = option_map seen_said answers.ocsp;
+  all = option_map seen_crl answers.all;
+  own = option_map seen_crl answers.own;
+  ocsp = option_map seen_held_status answers.ocsp;
 }
 
 abbrev pub seen_evidence : known.Evidence → Evidence

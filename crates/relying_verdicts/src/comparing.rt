@@ -3,13 +3,14 @@
 ghost use Rattle.std.specs.Prelude.{◌≡◌, ◌↔◌, IsTrue, length, map, option_map};
 ghost use Rattle.sqlite.specs.Held.{state};
 ghost use Rattle.sqlite.specs.State.{HasCleanDisk};
-ghost use Rattle.store_rows.specs.Seen.{seen_said};
+ghost use Rattle.store_rows.specs.Seen.{seen_held_status};
 ghost use Rattle.store_sql.specs.Statements.{CommitsNothing};
 ghost use Rattle.relying_agreement.specs.Comparison.{IsComparison};
 ghost use Rattle.relying_agreement.specs.Verdict.{evidence_on};
 ghost use Rattle.relying_verdicts.specs.Asking.{AsksBoth};
 ghost use Rattle.relying_verdicts.specs.Difference.{ComparesEvidence, IsFirstApart};
-ghost use Rattle.relying_verdicts.specs.View.{seen_answer, seen_answers, seen_evidence, seen_query};
+ghost use Rattle.relying_verdicts.specs.View.{seen_answers, seen_evidence, seen_query};
+ghost use Rattle.store_maps.specs.Held.{seen_crl};
 
 use crate::evidence::{Answers, Evidence, verdict_by};
 use crate::fault::Fault;
@@ -21,11 +22,11 @@ use relying_agreement::{Comparison, Verdict};
 use sqlite::{Alter, Transaction};
 use std::alloc::Global;
 use store_maps::HeldCrl;
-use store_rows::Said;
+use store_rows::HeldStatus;
 
 /// Whether two lists have the same number, window and entry.
 fn same_list(one: &HeldCrl, other: &HeldCrl) -> bool
-    ensures { IsTrue result ↔ (seen_answer one.now ≡ seen_answer other.now) }
+    ensures { IsTrue result ↔ (seen_crl one.now ≡ seen_crl other.now) }
 {
     one.number == other.number
         && (one.from == other.from && (one.until == other.until && one.reason == other.reason))
@@ -33,7 +34,7 @@ fn same_list(one: &HeldCrl, other: &HeldCrl) -> bool
 
 /// Whether nothing is held twice, or two lists of which the same is said.
 fn same_lists(one: Option<HeldCrl>, other: Option<HeldCrl>) -> bool
-    ensures { IsTrue result ↔ (option_map seen_answer one ≡ option_map seen_answer other) }
+    ensures { IsTrue result ↔ (option_map seen_crl one ≡ option_map seen_crl other) }
 {
     match (one, other) {
         (None, None) => true,
@@ -43,16 +44,16 @@ fn same_lists(one: Option<HeldCrl>, other: Option<HeldCrl>) -> bool
 }
 
 /// Whether two responses have the same times, window and status.
-fn same_said(one: &Said, other: &Said) -> bool
-    ensures { IsTrue result ↔ (seen_said one.now ≡ seen_said other.now) }
+fn same_said(one: &HeldStatus, other: &HeldStatus) -> bool
+    ensures { IsTrue result ↔ (seen_held_status one.now ≡ seen_held_status other.now) }
 {
     (one.this_update == other.this_update && one.produced_at == other.produced_at)
         && ((one.from == other.from && one.until == other.until) && one.status == other.status)
 }
 
 /// Whether nothing is held twice, or two responses that say the same.
-fn same_responses(one: Option<Said>, other: Option<Said>) -> bool
-    ensures { IsTrue result ↔ (option_map seen_said one ≡ option_map seen_said other) }
+fn same_responses(one: Option<HeldStatus>, other: Option<HeldStatus>) -> bool
+    ensures { IsTrue result ↔ (option_map seen_held_status one ≡ option_map seen_held_status other) }
 {
     match (one, other) {
         (None, None) => true,

@@ -1,15 +1,16 @@
 //! What bears on a certificate of a path, and what it says (RFC 5280, 6.3.3; RFC 6960, 2.2).
 
 ghost use Rattle.std.specs.Prelude.{◌≡◌, ◌&&◌, is_some, map, option_map};
-ghost use Rattle.relying_agreement.specs.Status.{crl_that_counts, is_covered_by, is_current, is_good, kept_if, listed_reason, ocsp_that_counts, reason_in, reason_of_status, told_reason};
+ghost use Rattle.relying_agreement.specs.Status.{crl_that_counts, is_covered_by, is_current, is_good, kept_if, crl_reason, ocsp_that_counts, deciding_reason, reason_of_status, ocsp_reason};
 ghost use Rattle.relying_agreement.specs.Verdict.{first_revoked, first_uncovered, verdict_by};
-ghost use Rattle.store_rows.specs.Seen.{seen_said};
-ghost use Rattle.relying_verdicts.specs.View.{seen_answer, seen_evidence};
+ghost use Rattle.store_rows.specs.Seen.{seen_held_status};
+ghost use Rattle.relying_verdicts.specs.View.{seen_evidence};
+ghost use Rattle.store_maps.specs.Held.{seen_crl};
 
 use relying_agreement::Verdict;
 use statements_facts::Status;
 use store_maps::HeldCrl;
-use store_rows::Said;
+use store_rows::HeldStatus;
 
 /// What a store holds of a certificate.
 #[derive(Clone, Copy)]
@@ -19,7 +20,7 @@ pub(crate) struct Answers {
     /// The list that is about certificates of its kind.
     pub own: Option<HeldCrl>,
     /// What a response says of it.
-    pub ocsp: Option<Said>,
+    pub ocsp: Option<HeldStatus>,
 }
 
 /// What bears on a certificate.
@@ -34,14 +35,14 @@ pub(crate) struct Evidence {
 
 /// Whether a list counts: it is current, and its issuer may sign lists (RFC 5280, 6.3.3 (a) and (f)).
 fn is_list_counted(crl: &HeldCrl, may_sign: bool, moment: i64) -> bool
-    ensures { result ≡ (may_sign && is_current (seen_answer crl.now).window moment) }
+    ensures { result ≡ (may_sign && is_current (seen_crl crl.now).window moment) }
 {
     may_sign && (crl.from <= moment && moment <= crl.until)
 }
 
 /// Whether there is a list that counts.
 fn has_list(crl: Option<HeldCrl>, may_sign: bool, moment: i64) -> bool
-    ensures { result ≡ is_some (crl_that_counts moment may_sign (option_map seen_answer crl)) }
+    ensures { result ≡ is_some (crl_that_counts moment may_sign (option_map seen_crl crl)) }
 {
     match crl {
         None => false,
@@ -50,8 +51,8 @@ fn has_list(crl: Option<HeldCrl>, may_sign: bool, moment: i64) -> bool
 }
 
 /// The number of the reason that a list gives, where it counts and lists the certificate.
-fn listed_reason(crl: Option<HeldCrl>, may_sign: bool, moment: i64) -> Option<u8>
-    ensures { result ≡ listed_reason moment may_sign (option_map seen_answer crl) }
+fn crl_reason(crl: Option<HeldCrl>, may_sign: bool, moment: i64) -> Option<u8>
+    ensures { result ≡ crl_reason moment may_sign (option_map seen_crl crl) }
 {
     match crl {
         None => None,
@@ -66,8 +67,8 @@ fn listed_reason(crl: Option<HeldCrl>, may_sign: bool, moment: i64) -> Option<u8
 }
 
 /// Whether a response counts: it is current (RFC 6960, 3.2).
-fn is_response_counted(said: &Said, moment: i64) -> bool
-    ensures { result ≡ is_current (seen_said said.now).window moment }
+fn is_response_counted(said: &HeldStatus, moment: i64) -> bool
+    ensures { result ≡ is_current (seen_held_status said.now).window moment }
 {
     said.from <= moment && moment <= said.until
 }
@@ -83,8 +84,8 @@ fn reason_of(status: Status) -> Option<u8>
 }
 
 /// The number of the reason that a response gives, where it counts and says that the certificate is revoked.
-fn told_reason(said: Option<Said>, moment: i64) -> Option<u8>
-    ensures { result ≡ told_reason moment (option_map seen_said said) }
+fn ocsp_reason(said: Option<HeldStatus>, moment: i64) -> Option<u8>
+    ensures { result ≡ ocsp_reason moment (option_map seen_held_status said) }
 {
     match said {
         None => None,
@@ -109,8 +110,8 @@ fn is_good(status: Status) -> bool
 }
 
 /// Whether there is a response that counts and says good.
-fn has_good_response(said: Option<Said>, moment: i64) -> bool
-    ensures { result ≡ is_some (kept_if (λ response. is_good response.status) (ocsp_that_counts moment (option_map seen_said said))) }
+fn has_good_response(said: Option<HeldStatus>, moment: i64) -> bool
+    ensures { result ≡ is_some (kept_if (λ response. is_good response.status) (ocsp_that_counts moment (option_map seen_held_status said))) }
 {
     match said {
         None => false,
@@ -122,12 +123,12 @@ impl Evidence {
     /// Why the certificate is revoked, where it is: the reason of the list of all certificates, else of the list of its kind, else
     /// of the response.
     fn reason(&self, moment: i64) -> Option<u8>
-        ensures { result ≡ reason_in moment (seen_evidence self.now) }
+        ensures { result ≡ deciding_reason moment (seen_evidence self.now) }
     {
         let may_sign = self.may_sign_crls;
-        let told = told_reason(self.answers.ocsp, moment);
-        let own = listed_reason(self.answers.own, may_sign, moment);
-        listed_reason(self.answers.all, may_sign, moment).or(own.or(told))
+        let told = ocsp_reason(self.answers.ocsp, moment);
+        let own = crl_reason(self.answers.own, may_sign, moment);
+        crl_reason(self.answers.all, may_sign, moment).or(own.or(told))
     }
 
     /// Whether a statement speaks of the certificate: a list that counts, or a response that says good.

@@ -7,12 +7,12 @@ ghost use Rattle.cert.specs.Certificate.{seen_certificate};
 ghost use Rattle.statements_facts.specs.Fact.{issuer_of as seen_issuer};
 ghost use Rattle.store_sql.specs.Statements.{CommitsNothing};
 ghost use Rattle.store_maps.specs.LooksUp.{LooksUp};
-ghost use Rattle.relying_agreement.specs.Link.{kind_of};
-ghost use Rattle.relying_agreement.specs.Status.{may_sign_crls, evidence_of};
+ghost use Rattle.relying_agreement.specs.Link.{own_scope};
+ghost use Rattle.relying_agreement.specs.Status.{may_sign_crls, evidence_of, list_held, answers_held};
 ghost use Rattle.relying_agreement.specs.Verdict.{evidence_on};
 ghost use Rattle.relying_verdicts.specs.Asking.{Asks};
-ghost use Rattle.relying_verdicts.specs.Held.{list_held, answers_held};
-ghost use Rattle.relying_verdicts.specs.View.{seen_answer, seen_answers, seen_evidence, seen_link, seen_query};
+ghost use Rattle.relying_verdicts.specs.View.{seen_answers, seen_evidence, seen_link, seen_query};
+ghost use Rattle.store_maps.specs.Held.{seen_crl};
 
 use crate::evidence::{Answers, Evidence};
 use crate::fault::Fault;
@@ -38,8 +38,8 @@ pub(crate) struct Link<'p, 'c> {
 }
 
 /// Whether the certificate is that of an authority or of a user (RFC 5280, 5.2.5).
-fn kind_of(certificate: &Certificate<'_>) -> Scope
-    ensures { result ≡ kind_of (seen_certificate certificate.now) }
+fn own_scope(certificate: &Certificate<'_>) -> Scope
+    ensures { result ≡ own_scope (seen_certificate certificate.now) }
 {
     match certificate.extensions.basic_constraints {
         None => Scope::User,
@@ -75,7 +75,7 @@ fn look_up_lists<S: Alter>(
 ) -> Result<(Option<HeldCrl>, Option<HeldCrl>), StoreFault>
     requires inside { HasCleanDisk (state S.Store tx.old.conn.now) → IsTrue (state S.Store tx.old.conn.now).in_transaction }
     ensures same_reference { tx.new.conn.ghost_name ≡ tx.old.conn.ghost_name }
-    ensures looks_up { HasCleanDisk (state S.Store tx.new.conn.now) → LooksUp (state S.Store tx.old.conn.now) (state S.Store tx.new.conn.now) (λ held both. (option_map seen_answer both.0 ≡ list_held held (seen_issuer issuer.now) Scope.All serial.now) × (option_map seen_answer both.1 ≡ list_held held (seen_issuer issuer.now) kind serial.now)) result }
+    ensures looks_up { HasCleanDisk (state S.Store tx.new.conn.now) → LooksUp (state S.Store tx.old.conn.now) (state S.Store tx.new.conn.now) (λ held both. (option_map seen_crl both.0 ≡ list_held held (seen_issuer issuer.now) Scope.All serial.now) × (option_map seen_crl both.1 ≡ list_held held (seen_issuer issuer.now) kind serial.now)) result }
     ensures survives { CommitsNothing (state S.Store tx.old.conn.now) (state S.Store tx.new.conn.now) }
 {
     let all = match crl(tx, issuer, Scope::All, serial) {
@@ -99,7 +99,7 @@ fn look_up<S: Alter>(
     ensures looks_up { HasCleanDisk (state S.Store tx.new.conn.now) → LooksUp (state S.Store tx.old.conn.now) (state S.Store tx.new.conn.now) (λ held answers. seen_answers answers ≡ answers_held held (seen_issuer issuer.now) (seen_certificate certificate.now)) result }
     ensures survives { CommitsNothing (state S.Store tx.old.conn.now) (state S.Store tx.new.conn.now) }
 {
-    let kind = kind_of(certificate);
+    let kind = own_scope(certificate);
     let (all, own) = match look_up_lists(tx, issuer, kind, certificate.serial.body) {
         Ok(lists) => lists,
         Err(fault) => return Err(fault),

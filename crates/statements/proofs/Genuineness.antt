@@ -10,7 +10,7 @@ use Rattle.statements_parts.specs.declared.fault.StatementFault.TheVariants.{Ref
 use Rattle.statements_facts.specs.Statement.{CrlSlot, CrlFact}
 use Rattle.statements_parts.specs.Fault as reading
 use Rattle.statements.specs.Genuine.{Accepts, ◌then◌, as_refused, or_else, FailsUnlessFull}
-use Rattle.statements.specs.CrlFact.{IsCrlFact, GenuineListsAreFacts, genuine_list, of_issuer, is_signed, slot_of, fact_of}
+use Rattle.statements.specs.CrlFact.{IsCrlFact, GenuineListsAreFacts, genuine_list, of_issuer, is_signed, slot_of, fact_of_list}
 
 pub then_ok : {A B : Type 0} (r : Result A StatementFault) (f : A → Result B StatementFault) (y : B) → (r then f) ≡ Ok y → (x : A) × (r ≡ Ok x) × (f x ≡ Ok y)
 then_ok (Ok x) f y e = (x, refl, e)
@@ -41,11 +41,11 @@ module _ (accepts : Accepts) (issuer : Certificate) (octets : List ℕ) (slot : 
   is_fact : genuine_list accepts issuer octets ≡ Ok (slot, fact) → IsCrlFact accepts issuer octets slot fact
   unfolding genuine_list
   is_fact e =
-      let said : CertificateList → Result (CrlSlot × CrlFact) StatementFault = λ list. Ok (slot_of issuer list, fact_of list) in
+      let said : CertificateList → Result (CrlSlot × CrlFact) StatementFault = λ list. Ok (slot_of issuer list, fact_of_list list) in
       let list = then_ok (as_refused (certificate_list octets)) (λ list. of_issuer accepts issuer list then λ is. said list) (slot, fact) e in
       let is = then_ok (of_issuer accepts issuer list.0) (λ is. said list.0) (slot, fact) list.2 in
       let checked = is_of_issuer accepts issuer list.0 is.1 in
-      let both : (slot_of issuer list.0, fact_of list.0) ≡ (slot, fact) = said_is (slot_of issuer list.0, fact_of list.0) (slot, fact) is.2 in
+      let both : (slot_of issuer list.0, fact_of_list list.0) ≡ (slot, fact) = said_is (slot_of issuer list.0, fact_of_list list.0) (slot, fact) is.2 in
       record {
         list = list.0;
         reads = was_read (certificate_list octets) list.0 list.1;
@@ -84,6 +84,6 @@ issuer_refused accepts issuer octets list NoSigner reads fails = rw (reads, fail
 issuer_refused accepts issuer octets list NothingForIssuer reads fails = rw (reads, fails) refl
 issuer_refused accepts issuer octets list Memory reads fails = tt
 
-pub list_believed : (accepts : Accepts) (issuer : Certificate) (octets : List ℕ) (list : CertificateList) (slot : CrlSlot) (fact : CrlFact) → certificate_list octets ≡ Ok list → of_issuer accepts issuer list ≡ Ok tt → slot ≡ slot_of issuer list → fact ≡ fact_of list → genuine_list accepts issuer octets ≡ Ok (slot, fact)
+pub list_believed : (accepts : Accepts) (issuer : Certificate) (octets : List ℕ) (list : CertificateList) (slot : CrlSlot) (fact : CrlFact) → certificate_list octets ≡ Ok list → of_issuer accepts issuer list ≡ Ok tt → slot ≡ slot_of issuer list → fact ≡ fact_of_list list → genuine_list accepts issuer octets ≡ Ok (slot, fact)
 unfolding genuine_list
 list_believed accepts issuer octets list slot fact reads is slot_is fact_is = rw (reads, is, slot_is, fact_is) refl

@@ -10,17 +10,17 @@ use Rattle.statements_crl.specs.Entry.{Entry, reason_listed}
 use Rattle.statements_facts.specs.Listed.{ListedSerial, first_reason}
 use Rattle.statements_crl.specs.CertificateList.{CertificateList}
 use Rattle.statements_facts.specs.Statement.{CrlFact}
-use Rattle.statements.specs.CrlFact.{listed_in, fact_of}
+use Rattle.statements.specs.CrlFact.{listed_serial, fact_of_list}
 
 -- what the listed serial numbers say first, the entries say first
-reason_at : (serial : List ℕ) (entries : List Entry) → first_reason (map listed_in entries) serial ≡ reason_listed entries serial
+reason_at : (serial : List ℕ) (entries : List Entry) → first_reason (map listed_serial entries) serial ≡ reason_listed entries serial
 reason_at serial [] = refl
 reason_at serial (entry ∷ entries) = by (reason_at serial entries) (bytes_eq entry.serial serial) refl where
-  by : first_reason (map listed_in entries) serial ≡ reason_listed entries serial → (b : Bool) → bytes_eq entry.serial serial ≡ b → first_reason (map listed_in (entry ∷ entries)) serial ≡ reason_listed (entry ∷ entries) serial
+  by : first_reason (map listed_serial entries) serial ≡ reason_listed entries serial → (b : Bool) → bytes_eq entry.serial serial ≡ b → first_reason (map listed_serial (entry ∷ entries)) serial ≡ reason_listed (entry ∷ entries) serial
   by rest true e = rw e refl
   by rest false e = rw e rest
 
-pub reasons_are : (revoked : List ListedSerial) (entries : List Entry) → ((serial : List ℕ) → first_reason revoked serial ≡ first_reason (map listed_in entries) serial) → first_reason revoked ≡ reason_listed entries
+pub reasons_are : (revoked : List ListedSerial) (entries : List Entry) → ((serial : List ℕ) → first_reason revoked serial ≡ first_reason (map listed_serial entries) serial) → first_reason revoked ≡ reason_listed entries
 reasons_are revoked entries same = fun_ext (λ serial. same serial ∙ reason_at serial entries)
 
 -- ---- the number of a list
@@ -37,7 +37,7 @@ value_is contents found number some e each = sym (is_binary contents number each
 pub fact_equal :
     (number : ℕ) (from until : ℤ) (revoked listed : List ListedSerial) (list : CertificateList) →
     number ≡ binary_value list.number → from ≡ list.this_update → until ≡ list.next_update →
-    ((serial : List ℕ) → first_reason revoked serial ≡ first_reason listed serial) → listed ≡ map listed_in list.entries →
-    Path CrlFact (record { number = number; window = record { from = from; until = until }; reasons = first_reason revoked }) (fact_of list)
+    ((serial : List ℕ) → first_reason revoked serial ≡ first_reason listed serial) → listed ≡ map listed_serial list.entries →
+    Path CrlFact (record { number = number; window = record { from = from; until = until }; reasons = first_reason revoked }) (fact_of_list list)
 fact_equal number from until revoked listed list number_is from_is until_is reasons listed_is =
     rw (number_is, from_is, until_is, reasons_are revoked list.entries (λ serial. reasons serial ∙ ap (λ listed. first_reason listed serial) listed_is)) refl

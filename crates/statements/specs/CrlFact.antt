@@ -13,8 +13,8 @@ use Rattle.statements.specs.Issuer.{identity_of}
 use Rattle.statements.specs.Genuine.{Accepts, ◌then◌, as_refused, or_else}
 
 -- the serial number of an entry, with the number of the reason
-abbrev pub listed_in : Entry → ListedSerial
-listed_in entry = record { serial = entry.serial; reason = entry.reason }
+abbrev pub listed_serial : Entry → ListedSerial
+listed_serial entry = record { serial = entry.serial; reason = entry.reason }
 
 -- the list is of the issuer by its name
 abbrev pub IsNamed : Certificate → CertificateList → Type 0
@@ -29,8 +29,8 @@ abbrev pub slot_of : Certificate → CertificateList → CrlSlot
 slot_of issuer list = record { issuer = identity_of issuer; scope = list.scope }
 
 -- A serial number that is listed twice counts once, with its first reason.
-abbrev pub fact_of : CertificateList → CrlFact
-fact_of list = record {
+abbrev pub fact_of_list : CertificateList → CrlFact
+fact_of_list list = record {
   number = binary_value list.number;
   window = record { from = list.this_update; until = list.next_update };
   reasons = reason_listed list.entries;
@@ -43,7 +43,7 @@ pub record IsCrlFact (accepts : Accepts) (issuer : Certificate) (octets : List �
   pub named : IsNamed issuer list
   pub signed : IsTrue (is_signed accepts issuer list)
   pub slot_is : slot ≡ slot_of issuer list
-  pub fact_is : fact ≡ fact_of list
+  pub fact_is : fact ≡ fact_of_list list
 
 -- the checks of the issuer in their order: its name, the signature
 unfoldable pub of_issuer : Accepts → Certificate → CertificateList → Result (Unit {0}) StatementFault
@@ -55,7 +55,7 @@ unfoldable pub genuine_list : Accepts → Certificate → List ℕ → Result (C
 genuine_list accepts issuer octets =
     as_refused (certificate_list octets) then λ list.
     of_issuer accepts issuer list then λ is.
-    Ok (slot_of issuer list, fact_of list)
+    Ok (slot_of issuer list, fact_of_list list)
 
 -- They succeed exactly where the octets are a list of the issuer.
 abbrev pub GenuineListsAreFacts : Type 0

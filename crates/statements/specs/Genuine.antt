@@ -1,12 +1,9 @@
 -- Statements that are believed or refused.
-use Rattle.std.specs.Prelude.{◌≡◌, ℕ, Bool, true, false, List, Result, Ok, Err}
+use Rattle.std.specs.Prelude.{◌≡◌, ℕ, Bool, true, false, Result, Ok, Err}
 use Rattle.statements_parts.specs.declared.fault.StatementFault.{StatementFault}
 use Rattle.statements_parts.specs.declared.fault.StatementFault.TheVariants.{Refused, Memory}
 use Rattle.statements_parts.specs.declared.fault.StatementRule.{StatementRule}
-
--- what a verifier accepts, of algorithm, key, message and signature
-abbrev pub Accepts : Type 0
-Accepts = List ℕ → List ℕ → List ℕ → List ℕ → Bool
+pub use Rattle.path_verifiers.specs.Accepts.{Accepts}
 
 -- what was read, or the rule that is broken, with the place
 abbrev pub as_refused : {A : Type 0} → Result A (StatementRule × ℕ) → Result A StatementFault

@@ -5,7 +5,7 @@ ghost use Rattle.cert.specs.Certificate.{seen_certificate};
 ghost use Rattle.statements_crl.specs.CertificateList.{seen_list};
 ghost use Rattle.statements_crl.specs.CrlNumber.{is_crl_number};
 ghost use Rattle.statements_facts.specs.Fact.{crl_fact, crl_slot};
-ghost use Rattle.statements.specs.CrlFact.{GenuineListsAreFacts, fact_of, genuine_list, of_issuer, slot_of};
+ghost use Rattle.statements.specs.CrlFact.{GenuineListsAreFacts, fact_of_list, genuine_list, of_issuer, slot_of};
 ghost use Rattle.statements.specs.Genuine.{AnswersUnlessFull};
 
 use crate::issuing::issuer_of;
@@ -44,7 +44,7 @@ fn facts_of<'a>(
 ) -> Result<CrlFacts<'a>, AllocError>
     requires { IsTrue (is_crl_number list.now.number.now) }
     ensures slot { IfOk result (λ facts. crl_slot facts ≡ slot_of (seen_certificate issuer.now) (seen_list list.now)) }
-    ensures fact { IfOk result (λ facts. crl_fact facts ≡ fact_of (seen_list list.now)) }
+    ensures fact { IfOk result (λ facts. crl_fact facts ≡ fact_of_list (seen_list list.now)) }
 {
     let listed = listed_by(alloc, list.revoked)?;
     Ok(CrlFacts {

@@ -10,7 +10,7 @@ use Rattle.statements_parts.specs.declared.fault.StatementRule.TheVariants.{Layo
 use Rattle.cert.specs.Extension.{Extension, extension}
 use Rattle.cert.specs.OidSet.{Oids}
 use Rattle.statements_parts.specs.Parts.{component, serial_number, new_extension}
-use Rattle.statements_crl.specs.EntryExtension.{TakenOfEntry, nothing_taken, one_extension, reason_after, reason_behind, reason_given, reason_of_list, optional_reason, reason_told}
+use Rattle.statements_crl.specs.EntryExtension.{TakenOfEntry, nothing_taken, one_extension, reason_after, reason_behind, reason_given, reason_of_list, optional_reason, reason_with}
 use Rattle.statements_crl.specs.Entry.{Entry, entry, entry_again, entries, entries_again, checked}
 
 is_extension : (types : Oids) (value : Place) (read : Extension × Oids) → new_extension types value ≡ Ok read → extension Layout value ≡ Ok read.0
@@ -27,7 +27,7 @@ reason_step earlier next value e =
     let reason = bind_ok {A = ℕ} _ _ next read.2 in
     let taken : TakenOfEntry = record { types = read.0.1; reason = reason.0 } in
     let is_read : extension Layout value ≡ Ok read.0.0 = is_extension earlier.types value read.0 read.1 in
-    let is_told : reason_told read.0.0 earlier.reason ≡ Ok reason.0 = reason.1 in
+    let is_told : reason_with read.0.0 earlier.reason ≡ Ok reason.0 = reason.1 in
     rw (is_read, is_told) (ap (λ t. t.reason) (ok_is {E = StatementRule × ℕ} taken next reason.2))
 
 reasons : (earlier taken : TakenOfEntry) (values : List Place) → each one_extension earlier values ≡ Ok taken → reason_behind earlier.reason values ≡ taken.reason

@@ -31,7 +31,7 @@ use Rattle.statements_crl.specs.declared.list_extension.ListExtensionKind.{ListE
 use Rattle.statements_crl.specs.declared.list_extension.ListExtensionKind.TheVariants as Kind
 use Rattle.statements_crl.specs.CrlNumber.{is_crl_number, number_in}
 use Rattle.statements_crl.specs.IssuerScope.{user_certificates, ca_certificates, scope_in}
-use Rattle.statements_crl.specs.ListExtension.{kind_of, Said, numbered, scoped, said_with, said_by, TakenOfList, nothing_taken, one_extension, Named, extensions}
+use Rattle.statements_crl.specs.ListExtension.{list_extension_kind, ListExtensions, numbered, scoped, said_with, said_by, TakenOfList, nothing_taken, one_extension, NumberAndScope, extensions}
 use Rattle.statements_crl.specs.EntryForms.{id_ce}
 use Rattle.statements_crl.specs.ListForms.{IsCrlNumber, HasScope, HasListExtensions}
 use Rattle.statements_crl.proofs.Numbers.{test_finds, test_knows}
@@ -143,7 +143,7 @@ GivesNumber number one = one.oid ≡ id_ce 20 → HasNumber one number
 abbrev GivesScope : Scope → Extension → Type 0
 GivesScope scope one = one.oid ≡ id_ce 28 → HasScope one scope
 
-record Tells (one : Extension) (before after : Said) : Type 0 where
+record Tells (one : Extension) (before after : ListExtensions) : Type 0 where
   number : GivesNumber after.number one
   number_kept : one.oid ≢ id_ce 20 → after.number ≡ before.number
   complete : one.oid ≢ id_ce 27
@@ -151,7 +151,7 @@ record Tells (one : Extension) (before after : Said) : Type 0 where
   scope_kept : one.oid ≢ id_ce 28 → after.scope ≡ before.scope
   known : IsKnown one
 
-tells_by : (kind : ListExtensionKind) (one : Extension) (before after : Said) → AreOctets (body one.value) → HasListType kind one.oid → said_with kind one before ≡ Ok after → Tells one before after
+tells_by : (kind : ListExtensionKind) (one : Extension) (before after : ListExtensions) → AreOctets (body one.value) → HasListType kind one.oid → said_with kind one before ≡ Ok after → Tells one before after
 tells_by Kind.CrlNumber one before after fits is e =
     let number = bind_ok {A = List ℕ} (or_fault (number_in (body one.value)) R.NumberRange one.whole.at) (λ number. Ok (numbered before number)) after e in
     let found = some_is (number_in (body one.value)) R.NumberRange one.whole.at number.0 number.1 in
@@ -186,37 +186,37 @@ tells_by Kind.Other one before after fits is e =
       known = λ critical. absurd (not_critical one.critical (false_of one.critical (check_ok _ _ _ _ free.1)) critical);
     }
 
-said_ok : (one : Extension) (before after : Said) → AreOctets (body one.value) → said_by one before ≡ Ok after → Tells one before after
+said_ok : (one : Extension) (before after : ListExtensions) → AreOctets (body one.value) → said_by one before ≡ Ok after → Tells one before after
 unfolding said_by
-said_ok one before after fits e = tells_by (kind_of one.oid) one before after fits (has_list_type one.oid) e
+said_ok one before after fits e = tells_by (list_extension_kind one.oid) one before after fits (has_list_type one.oid) e
 
 -- and back
-number_said : (one : Extension) (before : Said) (contents : List ℕ) → AreOctets (body one.value) → one.oid ≡ id_ce 20 → IsCrlNumber one contents → said_by one before ≡ Ok (numbered before contents)
-unfolding said_by kind_of certificate_extension
+number_said : (one : Extension) (before : ListExtensions) (contents : List ℕ) → AreOctets (body one.value) → one.oid ≡ id_ce 20 → IsCrlNumber one contents → said_by one before ≡ Ok (numbered before contents)
+unfolding said_by list_extension_kind certificate_extension
 number_said one before contents fits same is =
     let spelled = number_spelled one contents fits is in
     let read : number_in (body one.value) ≡ Some contents = ap number_in spelled.0 ∙ number_read contents spelled.1 in
-    ap (λ oid. said_with (kind_of oid) one before) same ∙ ap (λ o. or_fault o R.NumberRange one.whole.at >>= λ number. Ok (numbered before number)) read
+    ap (λ oid. said_with (list_extension_kind oid) one before) same ∙ ap (λ o. or_fault o R.NumberRange one.whole.at >>= λ number. Ok (numbered before number)) read
 
-scope_said : (one : Extension) (before : Said) (scope : Scope) → one.oid ≡ id_ce 28 → HasScope one scope → said_by one before ≡ Ok (scoped before scope)
-unfolding said_by kind_of certificate_extension
+scope_said : (one : Extension) (before : ListExtensions) (scope : Scope) → one.oid ≡ id_ce 28 → HasScope one scope → said_by one before ≡ Ok (scoped before scope)
+unfolding said_by list_extension_kind certificate_extension
 scope_said one before scope same is =
-    ap (λ oid. said_with (kind_of oid) one before) same ∙ ap (λ o. or_fault o R.Scope one.whole.at >>= λ scope. Ok (scoped before scope)) (scope_read one scope is)
+    ap (λ oid. said_with (list_extension_kind oid) one before) same ∙ ap (λ o. or_fault o R.Scope one.whole.at >>= λ scope. Ok (scoped before scope)) (scope_read one scope is)
 
 neither : (one : Extension) → one.oid ≢ id_ce 20 → one.oid ≢ id_ce 28 → (one.oid ≡ id_ce 20) ⊎ (one.oid ≡ id_ce 28) → ⊥
 neither one first second (inl same) = first same
 neither one first second (inr same) = second same
 
-nothing_by : (kind : ListExtensionKind) (one : Extension) (before : Said) → HasListType kind one.oid → one.oid ≢ id_ce 20 → one.oid ≢ id_ce 27 → one.oid ≢ id_ce 28 → IsKnown one → said_with kind one before ≡ Ok before
+nothing_by : (kind : ListExtensionKind) (one : Extension) (before : ListExtensions) → HasListType kind one.oid → one.oid ≢ id_ce 20 → one.oid ≢ id_ce 27 → one.oid ≢ id_ce 28 → IsKnown one → said_with kind one before ≡ Ok before
 nothing_by Kind.CrlNumber one before is number complete scope known = absurd (number is)
 nothing_by Kind.DeltaIndicator one before is number complete scope known = absurd (complete is)
 nothing_by Kind.IssuingDistributionPoint one before is number complete scope known = absurd (scope is)
 nothing_by Kind.Other one before is number complete scope known =
     rw (check_again (not one.critical) R.CriticalUnknown one.whole.at (uncritical one.critical (λ critical. neither one number scope (known critical)))) refl
 
-nothing_said_by : (one : Extension) (before : Said) → one.oid ≢ id_ce 20 → one.oid ≢ id_ce 27 → one.oid ≢ id_ce 28 → IsKnown one → said_by one before ≡ Ok before
+nothing_said_by : (one : Extension) (before : ListExtensions) → one.oid ≢ id_ce 20 → one.oid ≢ id_ce 27 → one.oid ≢ id_ce 28 → IsKnown one → said_by one before ≡ Ok before
 unfolding said_by
-nothing_said_by one before number complete scope known = nothing_by (kind_of one.oid) one before (has_list_type one.oid) number complete scope known
+nothing_said_by one before number complete scope known = nothing_by (list_extension_kind one.oid) one before (has_list_type one.oid) number complete scope known
 
 -- what holds of all of a list holds of those at its end
 pub all_behind : (P : Place → Type 0) (front behind : List Place) → AllByRecursion P (front ++ behind) → AllByRecursion P behind
@@ -242,7 +242,7 @@ record Step (from : TakenOfList) (value : Place) (to : TakenOfList) : Type 0 whe
   added : to.types ≡ insert from.types one.oid
   tells : Tells one from.said to.said
 
-abbrev taken_with : Oids → Said → TakenOfList
+abbrev taken_with : Oids → ListExtensions → TakenOfList
 taken_with types said = record { types = types; said = said }
 
 abbrev StepIn : TakenOfList → Place → TakenOfList → Type 0
@@ -252,7 +252,7 @@ step_ok : (from : TakenOfList) (value : Place) (to : TakenOfList) → one_extens
 unfolding one_extension
 step_ok from value to e fits =
     let read = bind_ok {A = Extension × Oids} (new_extension from.types value) _ to e in
-    let said = bind_ok {A = Said} (said_by read.0.0 from.said) _ to read.2 in
+    let said = bind_ok {A = ListExtensions} (said_by read.0.0 from.said) _ to read.2 in
     let found = new_extension_ok from.types value read.0 read.1 in
     let made = taken_with read.0.1 said.0 in
     subst (Step from value) {x = made} (ok_is {E = StatementRule × ℕ} made to said.2) record {
@@ -263,7 +263,7 @@ step_ok from value to e fits =
       tells = said_ok read.0.0 from.said said.0 (value_octets value read.0.0 fits found.is) said.1;
     }
 
-step_again : (from : TakenOfList) (value : Place) (one : Extension) (after : Said) → IsExtension value one → contains from.types one.oid ≡ false → said_by one from.said ≡ Ok after → one_extension from value ≡ Ok (taken_with (insert from.types one.oid) after)
+step_again : (from : TakenOfList) (value : Place) (one : Extension) (after : ListExtensions) → IsExtension value one → contains from.types one.oid ≡ false → said_by one from.said ≡ Ok after → one_extension from value ≡ Ok (taken_with (insert from.types one.oid) after)
 unfolding one_extension
 step_again from value one after is new says = rw (new_extension_again from.types value one is new, says) refl
 
@@ -282,11 +282,11 @@ record Reads (from : TakenOfList) (values : List Place) (to : TakenOfList) : Typ
 abbrev Pairs : List Extension → Type 0
 Pairs list = AllPairs (λ one other. one.oid ≢ other.oid) list
 
-first_number : (one : Extension) (others : List Extension) (from next to : Said) → Tells one from next → Pairs (one ∷ others) → (All (Differs 20) others → to.number ≡ next.number) → GivesNumber to.number one
+first_number : (one : Extension) (others : List Extension) (from next to : ListExtensions) → Tells one from next → Pairs (one ∷ others) → (All (Differs 20) others → to.number ≡ next.number) → GivesNumber to.number one
 first_number one others from next to tells pairs kept is =
     subst (HasNumber one) (sym (kept (others_differ 20 one others pairs is))) (tells.number is)
 
-first_scope : (one : Extension) (others : List Extension) (from next to : Said) → Tells one from next → Pairs (one ∷ others) → (All (Differs 28) others → to.scope ≡ next.scope) → GivesScope to.scope one
+first_scope : (one : Extension) (others : List Extension) (from next to : ListExtensions) → Tells one from next → Pairs (one ∷ others) → (All (Differs 28) others → to.scope ≡ next.scope) → GivesScope to.scope one
 first_scope one others from next to tells pairs kept is =
     subst (HasScope one) (sym (kept (others_differ 28 one others pairs is))) (tells.scope is)
 
@@ -320,13 +320,13 @@ reads_of from (value ∷ values) to (next, step_in, others) fits =
     }
 
 -- and back: the extensions give this number and this scope
-record Given (fields : Named) (list : List Extension) : Type 0 where
+record Given (fields : NumberAndScope) (list : List Extension) : Type 0 where
   number : All (GivesNumber (Some fields.number)) list
   complete : All (Differs 27) list
   scope : All (GivesScope fields.scope) list
   known : All IsKnown list
 
-rest_given : (fields : Named) (one : Extension) (others : List Extension) → Given fields (one ∷ others) → Given fields others
+rest_given : (fields : NumberAndScope) (one : Extension) (others : List Extension) → Given fields (one ∷ others) → Given fields others
 rest_given fields one others all = record {
   number = All-tail (GivesNumber (Some fields.number)) one others all.number;
   complete = All-tail (Differs 27) one others all.complete;
@@ -335,14 +335,14 @@ rest_given fields one others all = record {
 }
 
 -- what was said before is what the fields tell, but for what these extensions say
-record Lacks (fields : Named) (list : List Extension) (before : Said) : Type 0 where
+record Lacks (fields : NumberAndScope) (list : List Extension) (before : ListExtensions) : Type 0 where
   number : All (Differs 20) list → before.number ≡ Some fields.number
   scope : All (Differs 28) list → before.scope ≡ fields.scope
 
-abbrev Reaches : Named → TakenOfList → List Place → Type 0
+abbrev Reaches : NumberAndScope → TakenOfList → List Place → Type 0
 Reaches fields from values = (to : TakenOfList) × (each one_extension from values ≡ Ok to) × (to.said.number ≡ Some fields.number) × (to.said.scope ≡ fields.scope)
 
-each_again : (from : TakenOfList) (values : List Place) (list : List Extension) (fields : Named) → AllZip IsExtension values list → AllByRecursion Octets values → AreNew type_of from.types list → Given fields list → Lacks fields list from.said → Reaches fields from values
+each_again : (from : TakenOfList) (values : List Place) (list : List Extension) (fields : NumberAndScope) → AllZip IsExtension values list → AllByRecursion Octets values → AreNew type_of from.types list → Given fields list → Lacks fields list from.said → Reaches fields from values
 each_again from [] [] fields zip fits new all lacks = (from, refl, lacks.number (All-nil (Differs 20)), lacks.scope (All-nil (Differs 28)))
 each_again from [] (one ∷ list) fields zip fits new all lacks = absurd zip
 each_again from (value ∷ values) [] fields zip fits new all lacks = absurd zip
@@ -350,12 +350,12 @@ each_again from (value ∷ values) (one ∷ list) fields zip fits new all lacks 
     by (has_number 20 one.oid) (has_number 28 one.oid) (λ said left. each_again (taken_with (insert from.types one.oid) said) values list fields zip.1 fits.1 new.1 (rest_given fields one list all) left)
   where
     Continues : Type 0
-    Continues = (said : Said) → Lacks fields list said → Reaches fields (taken_with (insert from.types one.oid) said) values
+    Continues = (said : ListExtensions) → Lacks fields list said → Reaches fields (taken_with (insert from.types one.oid) said) values
 
     octets : AreOctets (body one.value)
     octets = value_octets value one fits.0 zip.0
 
-    next : (said : Said) → said_by one from.said ≡ Ok said → Reaches fields (taken_with (insert from.types one.oid) said) values → Reaches fields from (value ∷ values)
+    next : (said : ListExtensions) → said_by one from.said ≡ Ok said → Reaches fields (taken_with (insert from.types one.oid) said) values → Reaches fields from (value ∷ values)
     next said says rest = (rest.0, rw (step_again from value one said zip.0 new.0 says) rest.1, rest.2, rest.3)
 
     by : (one.oid ≡ id_ce 20) ⊎ (one.oid ≢ id_ce 20) → (one.oid ≡ id_ce 28) ⊎ (one.oid ≢ id_ce 28) → Continues → Reaches fields from (value ∷ values)
@@ -385,10 +385,10 @@ is_there list o contents e kept = by (some_or_none 20 list) where
   by (inl found) = found
   by (inr absent) = let both : Some contents ≡ None = sym e ∙ kept absent in absurd cc
 
-named_from : List ℕ → Scope → Named
+named_from : List ℕ → Scope → NumberAndScope
 named_from number scope = record { number = number; scope = scope }
 
-pub has_extensions : (list : Place) (fields : Named) → AreOctets list.octets → extensions list ≡ Ok fields → HasListExtensions list fields
+pub has_extensions : (list : Place) (fields : NumberAndScope) → AreOctets list.octets → extensions list ≡ Ok fields → HasListExtensions list fields
 unfolding extensions named_from
 has_extensions list fields fits e =
     let sequence = bind_ok {A = Unit {0}} (is_a 0x30 R.Layout list) _ fields e in
@@ -414,7 +414,7 @@ has_extensions list fields fits e =
 first_of : (list : List Extension) → Any (λ one. one.oid ≡ id_ce 20) list → list ≢ []
 first_of list (k, one, within, at, is) empty_list = let short : length list ≡ 0 = ap length empty_list in absurd (omega arith)
 
-pub extensions_has : (list : Place) (fields : Named) → AreOctets list.octets → HasListExtensions list fields → extensions list ≡ Ok fields
+pub extensions_has : (list : Place) (fields : NumberAndScope) → AreOctets list.octets → HasListExtensions list fields → extensions list ≡ Ok fields
 unfolding extensions
 extensions_has list fields fits is =
     let first = is_some_of ((members list).values) is.extensions is.each (first_of is.extensions is.numbered) in

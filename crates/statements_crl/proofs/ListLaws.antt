@@ -1,9 +1,8 @@
 -- The walk of a revocation list finds what the standard calls one, and nothing else.
-use Rattle.std.proofs.Common.{◌≡◌, ◌≢◌, ◌==◌, ◌&&◌, ℕ, ℤ, true, false, not, List, [], ◌∷◌, ◌++◌, Option, Some, None, Result, Ok, refl, sym, ap, ◌∙◌, subst}
+use Rattle.std.proofs.Common.{◌≡◌, ◌≢◌, ◌==◌, ◌&&◌, ℕ, ℤ, true, false, not, List, [], ◌∷◌, ◌++◌, Option, Some, None, Result, Ok, refl, sym, ap, ◌∙◌, subst, eq-eqb}
 use Rattle.std.specs.Str.{bytes_eq}
 use Rattle.std.specs.List.{AllByRecursion}
 use Rattle.std.proofs.lemmas.Bool.{and_parts, and_from, eqb-true}
-use Rattle.std.proofs.Common.{eq-eqb}
 use Rattle.std.proofs.lemmas.Slice.Eq.{bytes_eq-Decides}
 use Rattle.asn.specs.DerLaws.{AreOctets}
 use Rattle.asn.specs.Place.{Place, tag, body}
@@ -25,7 +24,7 @@ use Rattle.statements_parts.specs.declared.fault.StatementRule.{StatementRule}
 use Rattle.statements_parts.specs.declared.fault.StatementRule.TheVariants.{Layout, NotV2, NoNumber, NoNextUpdate}
 use Rattle.statements_crl.specs.Parts.{issuer, same_algorithm}
 use Rattle.statements_crl.specs.Entry.{Entry, entries}
-use Rattle.statements_crl.specs.ListExtension.{Named, extensions, list_extensions}
+use Rattle.statements_crl.specs.ListExtension.{NumberAndScope, extensions, list_extensions}
 use Rattle.statements_crl.specs.CertificateList.{version_2, ListHead, list_head, revoked_in, revoked, TbsCertList, tbs_cert_list, CertificateList, list_with, certificate_list_at, certificate_list}
 use Rattle.statements_crl.specs.ListForms.{AreRevoked, IsTbsCertList, IsCertificateListAt, CertificateListIsExact, CertificateListIsUnique}
 use Rattle.statements_crl.proofs.EntryLaws.{in_order, then, are_entries, entries_are}
@@ -190,7 +189,7 @@ revoked_again left (place ∷ []) explicit list e t are = (
 revoked_again left (place ∷ other ∷ lists) explicit list e t are = absurd are
 
 -- the extensions
-record TakesExtensions (left : Members) (found : Named) (others : Members) : Type 0 where
+record TakesExtensions (left : Members) (found : NumberAndScope) (others : Members) : Type 0 where
   explicit : Place
   list : Place
   values : left.values ≡ explicit ∷ others.values
@@ -198,20 +197,20 @@ record TakesExtensions (left : Members) (found : Named) (others : Members) : Typ
   one_inside : (members explicit).values ≡ list ∷ []
   read : extensions list ≡ Ok found
 
-abbrev extensions_end : Members → Members → Named → Result (Named × Members) (StatementRule × ℕ)
+abbrev extensions_end : Members → Members → NumberAndScope → Result (NumberAndScope × Members) (StatementRule × ℕ)
 extensions_end others rest said = ended Layout rest >>= λ done. Ok (said, others)
 
-extensions_ok : (left : Members) (x : Named × Members) → list_extensions left ≡ Ok x → TakesExtensions left x.0 x.1
+extensions_ok : (left : Members) (x : NumberAndScope × Members) → list_extensions left ≡ Ok x → TakesExtensions left x.0 x.1
 unfolding list_extensions
 extensions_ok left x e =
     let any = bind_ok {A = Unit {0}} (some NoNumber left) _ x e in
     let explicit = bind_ok {A = Place × Members} (required 0xA0 Layout left) _ x any.2 in
     let list = bind_ok {A = Place × Members} (next_or Layout (members explicit.0.0)) (λ list. extensions list.0 >>= extensions_end explicit.0.1 list.1) x explicit.2 in
-    let said = bind_ok {A = Named} (extensions list.0.0) (extensions_end explicit.0.1 list.0.1) x list.2 in
+    let said = bind_ok {A = NumberAndScope} (extensions list.0.0) (extensions_end explicit.0.1 list.0.1) x list.2 in
     let done = bind_ok {A = Unit {0}} (ended Layout list.0.1) (λ done. Ok (said.0, explicit.0.1)) x said.2 in
     let outer = required_ok 0xA0 Layout left explicit.0 explicit.1 in
     let inner = next_or_ok Layout (members explicit.0.0) list.0 list.1 in
-    let P : Named × Members → Type 0 = λ y. TakesExtensions left y.0 y.1 in
+    let P : NumberAndScope × Members → Type 0 = λ y. TakesExtensions left y.0 y.1 in
     subst P {x = (said.0, explicit.0.1)} (ok_is {E = StatementRule × ℕ} (said.0, explicit.0.1) x done.2) record {
       explicit = explicit.0.0;
       list = list.0.0;
@@ -221,7 +220,7 @@ extensions_ok left x e =
       read = said.1;
     }
 
-extensions_again : (left : Members) (explicit list : Place) (found : Named) → left.values ≡ explicit ∷ [] → tag explicit ≡ 0xA0 → (members explicit).values ≡ list ∷ [] → extensions list ≡ Ok found → list_extensions left ≡ Ok (found, record { values = []; end = left.end })
+extensions_again : (left : Members) (explicit list : Place) (found : NumberAndScope) → left.values ≡ explicit ∷ [] → tag explicit ≡ 0xA0 → (members explicit).values ≡ list ∷ [] → extensions list ≡ Ok found → list_extensions left ≡ Ok (found, record { values = []; end = left.end })
 unfolding list_extensions
 extensions_again left explicit list found e tagged inside read =
     rw (
@@ -244,10 +243,10 @@ behind_head : (all others lists behind rest : List Place) (a b c d f explicit : 
 behind_head all others lists behind rest a b c d f explicit head entries extensions none =
     head ∙ ap (λ vs. a ∷ b ∷ c ∷ d ∷ f ∷ vs) (entries ∙ ap (◌++◌ lists) (extensions ∙ ap (◌∷◌ explicit) none))
 
-abbrev tbs_from : ListHead × Members → List Entry × Members → Named × Members → TbsCertList
+abbrev tbs_from : ListHead × Members → List Entry × Members → NumberAndScope × Members → TbsCertList
 tbs_from head list named = record { head = head.0; entries = list.0; named = named.0 }
 
-abbrev tbs_end : ListHead × Members → List Entry × Members → Named × Members → Result TbsCertList (StatementRule × ℕ)
+abbrev tbs_end : ListHead × Members → List Entry × Members → NumberAndScope × Members → Result TbsCertList (StatementRule × ℕ)
 tbs_end head list named = ended Layout named.1 >>= λ done. Ok (tbs_from head list named)
 
 is_tbs : (value : Place) (fields : TbsCertList) → AreOctets value.octets → tbs_cert_list value ≡ Ok fields → IsTbsCertList value fields
@@ -256,7 +255,7 @@ is_tbs value fields fits e =
     let sequence = bind_ok {A = Unit {0}} (is_a 0x30 Layout value) _ fields e in
     let head = bind_ok {A = ListHead × Members} (list_head (members value)) _ fields sequence.2 in
     let list = bind_ok {A = List Entry × Members} (revoked head.0.1) (λ list. list_extensions list.1 >>= tbs_end head.0 list) fields head.2 in
-    let named = bind_ok {A = Named × Members} (list_extensions list.0.1) (tbs_end head.0 list.0) fields list.2 in
+    let named = bind_ok {A = NumberAndScope × Members} (list_extensions list.0.1) (tbs_end head.0 list.0) fields list.2 in
     let done = bind_ok {A = Unit {0}} (ended Layout named.0.1) (λ done. Ok (tbs_from head.0 list.0 named.0)) fields named.2 in
     let first = head_ok (members value) head.0 head.1 in
     let second = revoked_ok head.0.1 list.0 list.1 in

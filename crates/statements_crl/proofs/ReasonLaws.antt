@@ -18,7 +18,7 @@ use Rattle.statements_parts.specs.declared.fault.StatementRule.{StatementRule}
 use Rattle.statements_parts.specs.declared.fault.StatementRule.TheVariants.{Layout, CriticalUnknown, BadReason, RemoveInComplete}
 use Rattle.statements_crl.specs.declared.entry_extension.EntryExtensionKind.{EntryExtensionKind}
 use Rattle.statements_crl.specs.declared.entry_extension.EntryExtensionKind.TheVariants as Kind
-use Rattle.statements_crl.specs.EntryExtension.{kind_of, reason_in, reason_code, told_reason, reason_told, TakenOfEntry, nothing_taken, one_extension}
+use Rattle.statements_crl.specs.EntryExtension.{entry_extension_kind, encoded_reason, reason_code, reason_by_kind, reason_with, TakenOfEntry, nothing_taken, one_extension}
 use Rattle.statements_crl.specs.EntryForms.{id_ce, IsReasonCode, GivesReason}
 use Rattle.statements_crl.proofs.ExtensionTypes.{some_where, one_number, HasType, has_type, has_number, Differs, others_differ, not_none, is_some_of, false_of, not_critical, uncritical}
 
@@ -34,8 +34,8 @@ some_is None fault at x e = absurd cc
 some_is (Some y) fault at x e = ap (λ z. Some z) (ok_is y x e)
 
 -- the octets of a CRLReason
-reason_octets : (octets : List ℕ) (code : ℕ) → reason_in octets ≡ Some code → (octets ≡ 0x0A ∷ 1 ∷ code ∷ []) × (code ≤ 10) × (code ≢ 7)
-unfolding reason_in
+reason_octets : (octets : List ℕ) (code : ℕ) → encoded_reason octets ≡ Some code → (octets ≡ 0x0A ∷ 1 ∷ code ∷ []) × (code ≤ 10) × (code ≢ 7)
+unfolding encoded_reason
 reason_octets [] code e = absurd cc
 reason_octets (identifier ∷ []) code e = absurd cc
 reason_octets (identifier ∷ size ∷ []) code e = absurd cc
@@ -55,8 +55,8 @@ encodes_reason : (octets : List ℕ) (code : ℕ) → octets ≡ 0x0A ∷ 1 ∷ 
 encodes_reason octets code e =
     (omega arith, refl, refl, (λ i. absurd cc, λ i. absurd cc, λ i. absurd cc, λ i. absurd cc, λ i. absurd cc, λ i. tt), omega arith, e)
 
-reason_read : (code : ℕ) → code ≤ 10 → code ≢ 7 → reason_in (0x0A ∷ 1 ∷ code ∷ []) ≡ Some code
-unfolding reason_in
+reason_read : (code : ℕ) → code ≤ 10 → code ≢ 7 → encoded_reason (0x0A ∷ 1 ∷ code ∷ []) ≡ Some code
+unfolding encoded_reason
 reason_read code most used =
     let served = and_from (nat_lt code 11) (not (code == 7)) (lt-ltb code 11 (omega arith)) (is_other (code == 7) code 7 refl used) in
     ap (λ b. if b then Some code else None) served
@@ -64,9 +64,9 @@ reason_read code most used =
 code_ok : (one : Extension) (code : ℕ) → reason_code one ≡ Ok code → IsReasonCode one code
 unfolding reason_code
 code_ok one code e =
-    let found = bind_ok {A = ℕ} (or_fault (reason_in (body one.value)) BadReason one.whole.at) _ code e in
+    let found = bind_ok {A = ℕ} (or_fault (encoded_reason (body one.value)) BadReason one.whole.at) _ code e in
     let stays = bind_ok {A = Unit {0}} (check_that (not (found.0 == 8)) RemoveInComplete one.whole.at) _ code found.2 in
-    let read = reason_octets (body one.value) found.0 (some_is (reason_in (body one.value)) BadReason one.whole.at found.0 found.1) in
+    let read = reason_octets (body one.value) found.0 (some_is (encoded_reason (body one.value)) BadReason one.whole.at found.0 found.1) in
     subst (IsReasonCode one) (ok_is {E = StatementRule × ℕ} found.0 code stays.2) record {
       enumerated = encodes_reason (body one.value) found.0 read.0;
       most = read.1;
@@ -77,7 +77,7 @@ code_ok one code e =
 code_again : (one : Extension) (code : ℕ) → IsReasonCode one code → reason_code one ≡ Ok code
 unfolding reason_code
 code_again one code is =
-    let read : reason_in (body one.value) ≡ Some code = ap reason_in is.enumerated.5 ∙ reason_read code is.most is.used in
+    let read : encoded_reason (body one.value) ≡ Some code = ap encoded_reason is.enumerated.5 ∙ reason_read code is.most is.used in
     rw (read, check_again (not (code == 8)) RemoveInComplete one.whole.at (is_other (code == 8) code 8 refl is.stays)) refl
 
 -- what one extension says of the reason
@@ -90,7 +90,7 @@ record Tells (one : Extension) (before after : ℕ) : Type 0 where
   own : one.oid ≢ id_ce 29
   known : IsKnown one
 
-tells_by : (kind : EntryExtensionKind) (one : Extension) (before after : ℕ) → HasType kind one.oid → told_reason kind one before ≡ Ok after → Tells one before after
+tells_by : (kind : EntryExtensionKind) (one : Extension) (before after : ℕ) → HasType kind one.oid → reason_by_kind kind one before ≡ Ok after → Tells one before after
 tells_by Kind.ReasonCode one before after is e = record {
   given = λ same. code_ok one after e;
   kept = λ differ. absurd (differ is);
@@ -112,24 +112,24 @@ tells_by Kind.Other one before after is e =
       known = λ critical. absurd (not_critical one.critical (false_of one.critical (check_ok _ _ _ _ free.1)) critical);
     }
 
-told_ok : (one : Extension) (before after : ℕ) → reason_told one before ≡ Ok after → Tells one before after
-unfolding reason_told
-told_ok one before after e = tells_by (kind_of one.oid) one before after (has_type one.oid) e
+told_ok : (one : Extension) (before after : ℕ) → reason_with one before ≡ Ok after → Tells one before after
+unfolding reason_with
+told_ok one before after e = tells_by (entry_extension_kind one.oid) one before after (has_type one.oid) e
 
 neither : (one : Extension) → HasType Kind.Other one.oid → (one.oid ≡ id_ce 21) ⊎ (one.oid ≡ id_ce 24) → ⊥
 neither one is (inl same) = is.0 same
 neither one is (inr same) = is.1 same
 
-again_by : (kind : EntryExtensionKind) (one : Extension) (before after : ℕ) → HasType kind one.oid → Tells one before after → told_reason kind one before ≡ Ok after
+again_by : (kind : EntryExtensionKind) (one : Extension) (before after : ℕ) → HasType kind one.oid → Tells one before after → reason_by_kind kind one before ≡ Ok after
 again_by Kind.ReasonCode one before after is tells = code_again one after (tells.given is)
 again_by Kind.InvalidityDate one before after is tells = ap (λ n. Ok n) (sym (tells.kept (one_number one.oid 24 21 is refl)))
 again_by Kind.CertificateIssuer one before after is tells = absurd (tells.own is)
 again_by Kind.Other one before after is tells =
     rw (check_again (not one.critical) CriticalUnknown one.whole.at (uncritical one.critical (λ yes. neither one is (tells.known yes)))) (ap (λ n. Ok n) (sym (tells.kept is.0)))
 
-told_again : (one : Extension) (before after : ℕ) → Tells one before after → reason_told one before ≡ Ok after
-unfolding reason_told
-told_again one before after tells = again_by (kind_of one.oid) one before after (has_type one.oid) tells
+told_again : (one : Extension) (before after : ℕ) → Tells one before after → reason_with one before ≡ Ok after
+unfolding reason_with
+told_again one before after tells = again_by (entry_extension_kind one.oid) one before after (has_type one.oid) tells
 
 -- one more extension
 abbrev type_of : Extension → List ℕ
@@ -149,7 +149,7 @@ step_ok : (from : TakenOfEntry) (value : Place) (to : TakenOfEntry) → one_exte
 unfolding one_extension
 step_ok from value to e =
     let read = bind_ok {A = Extension × Oids} (new_extension from.types value) _ to e in
-    let reason = bind_ok {A = ℕ} (reason_told read.0.0 from.reason) _ to read.2 in
+    let reason = bind_ok {A = ℕ} (reason_with read.0.0 from.reason) _ to read.2 in
     let found = new_extension_ok from.types value read.0 read.1 in
     let made = taken_with read.0.1 reason.0 in
     subst (Step from value) {x = made} (ok_is {E = StatementRule × ℕ} made to reason.2) record {

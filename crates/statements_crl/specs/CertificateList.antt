@@ -19,7 +19,7 @@ use Rattle.statements_parts.specs.Parts.{component, next_read, signature_value}
 use Rattle.statements_crl.specs.Parts.{issuer, same_algorithm}
 use Rattle.statements_crl.specs.CrlNumber.{is_crl_number}
 use Rattle.statements_crl.specs.Entry.{Entry, entries, entries_left}
-use Rattle.statements_crl.specs.ListExtension.{Named, seen_named, list_extensions}
+use Rattle.statements_crl.specs.ListExtension.{NumberAndScope, seen_named, list_extensions}
 
 -- version (5.1.2.1): an INTEGER, which is 1 for v2
 unfoldable pub version_2 : Members → Result Members (StatementRule × ℕ)
@@ -59,7 +59,7 @@ revoked left = revoked_in (optional 0x30 left).0 (optional 0x30 left).1
 pub record TbsCertList : Type 0 where
   pub head : ListHead
   pub entries : List Entry
-  pub named : Named
+  pub named : NumberAndScope
 
 abbrev pub seen_tbs : signed_part.TbsCertList → TbsCertList
 seen_tbs read = record { head = seen_head read.head; entries = entries_left read.revoked; named = seen_named read.named }

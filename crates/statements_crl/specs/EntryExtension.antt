@@ -26,34 +26,34 @@ abbrev pub kind_in : Option ℕ → EntryExtensionKind
 kind_in None = Kind.Other
 kind_in (Some number) = kind_of_number number
 
-unfoldable pub kind_of : List ℕ → EntryExtensionKind
-kind_of oid = kind_in (certificate_extension oid)
+unfoldable pub entry_extension_kind : List ℕ → EntryExtensionKind
+entry_extension_kind oid = kind_in (certificate_extension oid)
 
 -- the CRLReason whose encoding these octets are, all of them
-unfoldable pub reason_in : List ℕ → Option ℕ
-reason_in [] = None
-reason_in (identifier ∷ []) = None
-reason_in (identifier ∷ size ∷ []) = None
-reason_in (identifier ∷ size ∷ code ∷ []) = if identifier == 0x0A && (size == 1 && is_reason code) then Some code else None
-reason_in (identifier ∷ size ∷ code ∷ other ∷ octets) = None
+unfoldable pub encoded_reason : List ℕ → Option ℕ
+encoded_reason [] = None
+encoded_reason (identifier ∷ []) = None
+encoded_reason (identifier ∷ size ∷ []) = None
+encoded_reason (identifier ∷ size ∷ code ∷ []) = if identifier == 0x0A && (size == 1 && is_reason code) then Some code else None
+encoded_reason (identifier ∷ size ∷ code ∷ other ∷ octets) = None
 
 -- The reason that a reasonCode gives. removeFromCRL is for delta lists alone.
 unfoldable pub reason_code : Extension → Result ℕ (StatementRule × ℕ)
 reason_code e = do
-  code ← or_fault (reason_in (body e.value)) BadReason e.whole.at
+  code ← or_fault (encoded_reason (body e.value)) BadReason e.whole.at
   complete ← check_that (not (code == 8)) RemoveInComplete e.whole.at
   Ok code
 
 -- What is known of the reason once one more extension was read. An entry for a certificate of another issuer is not served, and
 -- a critical extension has to be known.
-abbrev pub told_reason : EntryExtensionKind → Extension → ℕ → Result ℕ (StatementRule × ℕ)
-told_reason Kind.ReasonCode e before = reason_code e
-told_reason Kind.InvalidityDate e before = Ok before
-told_reason Kind.CertificateIssuer e before = Err (Indirect, e.whole.at)
-told_reason Kind.Other e before = check_that (not e.critical) CriticalUnknown e.whole.at >>= λ free. Ok before
+abbrev pub reason_by_kind : EntryExtensionKind → Extension → ℕ → Result ℕ (StatementRule × ℕ)
+reason_by_kind Kind.ReasonCode e before = reason_code e
+reason_by_kind Kind.InvalidityDate e before = Ok before
+reason_by_kind Kind.CertificateIssuer e before = Err (Indirect, e.whole.at)
+reason_by_kind Kind.Other e before = check_that (not e.critical) CriticalUnknown e.whole.at >>= λ free. Ok before
 
-unfoldable pub reason_told : Extension → ℕ → Result ℕ (StatementRule × ℕ)
-reason_told e before = told_reason (kind_of e.oid) e before
+unfoldable pub reason_with : Extension → ℕ → Result ℕ (StatementRule × ℕ)
+reason_with e before = reason_by_kind (entry_extension_kind e.oid) e before
 
 -- The types that were taken, and the reason so far: unspecified where none is given.
 pub record TakenOfEntry : Type 0 where
@@ -70,7 +70,7 @@ nothing_taken = record { types = empty; reason = 0 }
 unfoldable pub one_extension : TakenOfEntry → Place → Result TakenOfEntry (StatementRule × ℕ)
 one_extension earlier value = do
   read ← new_extension earlier.types value
-  reason ← reason_told read.0 earlier.reason
+  reason ← reason_with read.0 earlier.reason
   Ok (record { types = read.1; reason = reason })
 
 -- crlEntryExtensions Extensions OPTIONAL: the reason that they give
@@ -86,7 +86,7 @@ optional_reason left = reason_of_list (optional 0x30 left).0 (optional 0x30 left
 
 -- The same of extensions that were read once: no type is looked at twice, so that no set of them is kept.
 unfoldable pub reason_after : ℕ → Place → ℕ
-reason_after before value = result_unwrap_or (extension Layout value >>= λ read. reason_told read before) before
+reason_after before value = result_unwrap_or (extension Layout value >>= λ read. reason_with read before) before
 
 abbrev pub reason_behind : ℕ → List Place → ℕ
 reason_behind before [] = before

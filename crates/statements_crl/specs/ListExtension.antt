@@ -12,9 +12,9 @@ use Rattle.statements_facts.specs.declared.scope.Scope.TheVariants.{All}
 use Rattle.statements_parts.specs.Parts.{new_extension}
 use Rattle.statements_crl.specs.declared.list_extension.ListExtensionKind.{ListExtensionKind}
 use Rattle.statements_crl.specs.declared.list_extension.ListExtensionKind.TheVariants as Kind
-use Rattle.statements_crl.specs.declared.list_extension.Said as said
+use Rattle.statements_crl.specs.declared.list_extension.ListExtensions as read_of
 use Rattle.statements_crl.specs.declared.list_extension.TakenOfList as taken
-use Rattle.statements_crl.specs.declared.list_extension.Named as told
+use Rattle.statements_crl.specs.declared.list_extension.NumberAndScope as told
 use Rattle.statements_parts.specs.declared.fault.StatementRule.{StatementRule}
 use Rattle.statements_parts.specs.declared.fault.StatementRule.TheVariants as R
 use Rattle.statements_crl.specs.CrlNumber.{number_in}
@@ -31,45 +31,45 @@ abbrev pub kind_in : Option ℕ → ListExtensionKind
 kind_in None = Kind.Other
 kind_in (Some number) = kind_of_number number
 
-unfoldable pub kind_of : List ℕ → ListExtensionKind
-kind_of oid = kind_in (certificate_extension oid)
+unfoldable pub list_extension_kind : List ℕ → ListExtensionKind
+list_extension_kind oid = kind_in (certificate_extension oid)
 
 -- What the extensions say so far: the contents octets of the number, and the scope.
-pub record Said : Type 0 where
+pub record ListExtensions : Type 0 where
   pub number : Option (List ℕ)
   pub scope : Scope
 
-abbrev pub seen_said : said.Said → Said
-seen_said read = record { number = seen (λ octets. octets.now) read.number; scope = read.scope }
+abbrev pub seen_list_extensions : read_of.ListExtensions → ListExtensions
+seen_list_extensions read = record { number = seen (λ octets. octets.now) read.number; scope = read.scope }
 
-abbrev pub nothing_said : Said
-nothing_said = record { number = None; scope = All }
+abbrev pub no_list_extensions : ListExtensions
+no_list_extensions = record { number = None; scope = All }
 
-abbrev pub numbered : Said → List ℕ → Said
+abbrev pub numbered : ListExtensions → List ℕ → ListExtensions
 numbered before number = record { number = Some number; scope = before.scope }
 
-abbrev pub scoped : Said → Scope → Said
+abbrev pub scoped : ListExtensions → Scope → ListExtensions
 scoped before scope = record { number = before.number; scope = scope }
 
 -- What is known once one more extension was read. A delta list is not served, and a critical extension has to be known.
-abbrev pub said_with : ListExtensionKind → Extension → Said → Result Said (StatementRule × ℕ)
+abbrev pub said_with : ListExtensionKind → Extension → ListExtensions → Result ListExtensions (StatementRule × ℕ)
 said_with Kind.CrlNumber e before = or_fault (number_in (body e.value)) R.NumberRange e.whole.at >>= λ number. Ok (numbered before number)
 said_with Kind.DeltaIndicator e before = Err (R.Delta, e.whole.at)
 said_with Kind.IssuingDistributionPoint e before = or_fault (scope_in (body e.value)) R.Scope e.whole.at >>= λ scope. Ok (scoped before scope)
 said_with Kind.Other e before = check_that (not e.critical) R.CriticalUnknown e.whole.at >>= λ free. Ok before
 
-unfoldable pub said_by : Extension → Said → Result Said (StatementRule × ℕ)
-said_by e before = said_with (kind_of e.oid) e before
+unfoldable pub said_by : Extension → ListExtensions → Result ListExtensions (StatementRule × ℕ)
+said_by e before = said_with (list_extension_kind e.oid) e before
 
 pub record TakenOfList : Type 0 where
   pub types : Oids
-  pub said : Said
+  pub said : ListExtensions
 
 abbrev pub seen_taken : taken.TakenOfList → TakenOfList
-seen_taken read = record { types = oids_in read.types; said = seen_said read.said }
+seen_taken read = record { types = oids_in read.types; said = seen_list_extensions read.said }
 
 abbrev pub nothing_taken : TakenOfList
-nothing_taken = record { types = empty; said = nothing_said }
+nothing_taken = record { types = empty; said = no_list_extensions }
 
 -- One more extension, of a type that none of the earlier ones has.
 unfoldable pub one_extension : TakenOfList → Place → Result TakenOfList (StatementRule × ℕ)
@@ -79,18 +79,18 @@ one_extension earlier value = do
   Ok (record { types = read.1; said = said })
 
 -- What a list is told by its extensions: the contents octets of its number, and its scope.
-pub record Named : Type 0 where
+pub record NumberAndScope : Type 0 where
   pub number : List ℕ
   pub scope : Scope
 
-abbrev pub seen_named : told.Named → Named
+abbrev pub seen_named : told.NumberAndScope → NumberAndScope
 seen_named read = record { number = read.number.now; scope = read.scope }
 
 -- Extensions ::= SEQUENCE SIZE (1..MAX) OF Extension, one of which is the number
-abbrev pub named : Said → ℕ → Result Named (StatementRule × ℕ)
+abbrev pub named : ListExtensions → ℕ → Result NumberAndScope (StatementRule × ℕ)
 named said end = or_fault said.number R.NoNumber end >>= λ number. Ok (record { number = number; scope = said.scope })
 
-unfoldable pub extensions : Place → Result Named (StatementRule × ℕ)
+unfoldable pub extensions : Place → Result NumberAndScope (StatementRule × ℕ)
 extensions list = do
   sequence ← is_a 0x30 R.Layout list
   one ← some R.Layout (members list)
@@ -98,7 +98,7 @@ extensions list = do
   named taken.said (members list).end
 
 -- crlExtensions [0] EXPLICIT Extensions, which have to be there
-unfoldable pub list_extensions : Members → Result (Named × Members) (StatementRule × ℕ)
+unfoldable pub list_extensions : Members → Result (NumberAndScope × Members) (StatementRule × ℕ)
 list_extensions left = do
   any ← some R.NoNumber left
   explicit ← required 0xA0 R.Layout left

@@ -15,7 +15,7 @@ use Rattle.statements_facts.specs.declared.scope.Scope.{Scope}
 use Rattle.statements_facts.specs.declared.scope.Scope.TheVariants as S
 use Rattle.statements_crl.specs.Entry.{Entry}
 use Rattle.statements_crl.specs.EntryForms.{IsEntry, id_ce}
-use Rattle.statements_crl.specs.ListExtension.{Named}
+use Rattle.statements_crl.specs.ListExtension.{NumberAndScope}
 use Rattle.statements_crl.specs.CertificateList.{TbsCertList, CertificateList, certificate_list}
 
 -- The value of a cRLNumber (5.2.3): CRLNumber ::= INTEGER (0..MAX), of at most 20 octets, here below 2^160, by its contents octets
@@ -33,7 +33,7 @@ HasScope one S.Ca = Encodes (body one.value) (constructed 0x30 (more (primitive 
 
 -- Extensions ::= SEQUENCE SIZE (1..MAX) OF Extension (4.2), at least the number, no two of one type: of a list (5.2), with this number
 -- and scope
-pub record HasListExtensions (list : Place) (fields : Named) : Type 0 where
+pub record HasListExtensions (list : Place) (fields : NumberAndScope) : Type 0 where
   pub extensions : List Extension
   pub sequence : tag list ≡ 0x30
   pub each : AllZip IsExtension (members list).values extensions

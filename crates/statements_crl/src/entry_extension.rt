@@ -4,7 +4,7 @@ ghost use Rattle.std.specs.Prelude.{◌≡◌, IfSome};
 ghost use Rattle.asn.specs.Reading.{seen_tlv, left, Gives, seen, each};
 ghost use Rattle.asn.specs.Oid.{oid_contents};
 ghost use Rattle.cert.specs.Extension.{seen_extension};
-ghost use Rattle.statements_crl.specs.EntryExtension.{kind_of, nothing_taken, one_extension, optional_reason, reason_after, reason_code, reason_behind, reason_given, reason_in, reason_told, seen_taken};
+ghost use Rattle.statements_crl.specs.EntryExtension.{entry_extension_kind, nothing_taken, one_extension, optional_reason, reason_after, reason_code, reason_behind, reason_given, encoded_reason, reason_with, seen_taken};
 ghost use Rattle.statements_parts.specs.Fault.{GivesUnlessFull};
 
 use asn::{Cursor, ENUMERATED, SEQUENCE, Tlv};
@@ -27,9 +27,9 @@ pub(crate) enum EntryExtensionKind {
 
 impl EntryExtensionKind {
     /// The kind of the extensions whose type has these contents.
-    #[tactic(auto, unfolding(crate::specs::EntryExtension::kind_of))]
+    #[tactic(auto, unfolding(crate::specs::EntryExtension::entry_extension_kind))]
     fn of(oid: &[u8]) -> EntryExtensionKind
-        ensures { result ≡ kind_of oid.now }
+        ensures { result ≡ entry_extension_kind oid.now }
     {
         match certificate_extension_number(oid) {
             Some(21) => EntryExtensionKind::ReasonCode,
@@ -44,9 +44,9 @@ impl EntryExtensionKind {
 const REMOVE_FROM_CRL: u8 = 8;
 
 /// The number of the reason that the octets are the encoding of: CRLReason ::= ENUMERATED
-#[tactic(auto, unfolding(crate::specs::EntryExtension::reason_in))]
+#[tactic(auto, unfolding(crate::specs::EntryExtension::encoded_reason))]
 fn reason_of(octets: &[u8]) -> Option<u8>
-    ensures { result ≡ reason_in octets.now }
+    ensures { result ≡ encoded_reason octets.now }
 {
     let [identifier, size, code] = octets else {
         return None;
@@ -71,9 +71,9 @@ fn reason_code(extension: Extension<'_>) -> Result<u8, Refusal>
 }
 
 /// What is known of the reason once one more extension was read; or its fault, at the extension.
-#[tactic(auto, unfolding(crate::specs::EntryExtension::reason_told, asn::specs::Walk::check_that))]
+#[tactic(auto, unfolding(crate::specs::EntryExtension::reason_with, asn::specs::Walk::check_that))]
 fn tell_reason(extension: Extension<'_>, before: u8) -> Result<u8, Refusal>
-    ensures { Gives (λ code. code) result (reason_told (seen_extension extension.entry) before) }
+    ensures { Gives (λ code. code) result (reason_with (seen_extension extension.entry) before) }
 {
     match EntryExtensionKind::of(extension.oid.contents()) {
         EntryExtensionKind::ReasonCode => reason_code(extension),

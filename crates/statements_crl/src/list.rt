@@ -7,7 +7,7 @@ ghost use Rattle.statements_crl.specs.Entry.{entries_left, reason_listed};
 ghost use Rattle.statements_parts.specs.Fault.{GivesUnlessFull};
 
 use crate::entry_list::{Entries, take_entries};
-use crate::list_extension::Named;
+use crate::list_extension::NumberAndScope;
 use crate::parts::{take_issuer, take_same_algorithm};
 use asn::{Cursor, INTEGER, SEQUENCE, Tlv};
 use cert::AlgorithmIdentifier;
@@ -88,7 +88,7 @@ impl<'a> ListHead<'a> {
 pub(crate) struct TbsCertList<'a> {
     head: ListHead<'a>,
     revoked: Entries<'a>,
-    named: Named<'a>,
+    named: NumberAndScope<'a>,
 }
 
 impl<'a> TbsCertList<'a> {
@@ -101,7 +101,7 @@ impl<'a> TbsCertList<'a> {
         let mut members = value.members();
         let head = ListHead::take(&mut members)?;
         let revoked = take_entries(alloc, &mut members)?;
-        let named = Named::take(alloc, &mut members)?;
+        let named = NumberAndScope::take(alloc, &mut members)?;
         members.ended(StatementRule::Layout)?;
         Ok(TbsCertList {
             head,

@@ -4,7 +4,7 @@ ghost use Rattle.std.specs.Prelude.{◌≡◌};
 ghost use Rattle.asn.specs.Reading.{seen_tlv, left, members, Gives, each};
 ghost use Rattle.asn.specs.Oid.{oid_contents};
 ghost use Rattle.cert.specs.Extension.{seen_extension};
-ghost use Rattle.statements_crl.specs.ListExtension.{extensions, kind_of, list_extensions, nothing_taken, one_extension, said_by, seen_named, seen_said, seen_taken};
+ghost use Rattle.statements_crl.specs.ListExtension.{extensions, list_extension_kind, list_extensions, nothing_taken, one_extension, said_by, seen_named, seen_list_extensions, seen_taken};
 ghost use Rattle.statements_parts.specs.Fault.{GivesUnlessFull};
 
 use crate::issuer_scope::scope_of;
@@ -30,9 +30,9 @@ pub(crate) enum ListExtensionKind {
 
 impl ListExtensionKind {
     /// The kind of the extensions whose type has these contents.
-    #[tactic(auto, unfolding(crate::specs::ListExtension::kind_of))]
+    #[tactic(auto, unfolding(crate::specs::ListExtension::list_extension_kind))]
     fn of(oid: &[u8]) -> ListExtensionKind
-        ensures { result ≡ kind_of oid.now }
+        ensures { result ≡ list_extension_kind oid.now }
     {
         match certificate_extension_number(oid) {
             Some(20) => ListExtensionKind::CrlNumber,
@@ -45,21 +45,21 @@ impl ListExtensionKind {
 
 /// What the extensions say so far: the contents of the number, and the scope.
 #[derive(Clone, Copy)]
-struct Said<'a> {
+struct ListExtensions<'a> {
     number: Option<&'a [u8]>,
     scope: Scope,
 }
 
-impl<'a> Said<'a> {
+impl<'a> ListExtensions<'a> {
     /// What is known once one more extension was read; or its fault, at the extension.
     #[tactic(auto, unfolding(crate::specs::ListExtension::said_by, asn::specs::Walk::check_that))]
-    fn with(self, extension: Extension<'a>) -> Result<Said<'a>, Refusal>
-        ensures { Gives seen_said result (said_by (seen_extension extension.entry) (seen_said self.entry)) }
+    fn with(self, extension: Extension<'a>) -> Result<ListExtensions<'a>, Refusal>
+        ensures { Gives seen_list_extensions result (said_by (seen_extension extension.entry) (seen_list_extensions self.entry)) }
     {
         let at = extension.whole.at;
         match ListExtensionKind::of(extension.oid.contents()) {
             ListExtensionKind::CrlNumber => match number_of(extension.value.body) {
-                Some(number) => Ok(Said {
+                Some(number) => Ok(ListExtensions {
                     number: Some(number),
                     scope: self.scope,
                 }),
@@ -67,7 +67,7 @@ impl<'a> Said<'a> {
             },
             ListExtensionKind::DeltaIndicator => Err((StatementRule::Delta, at)),
             ListExtensionKind::IssuingDistributionPoint => match scope_of(extension.value.body) {
-                Some(scope) => Ok(Said {
+                Some(scope) => Ok(ListExtensions {
                     number: self.number,
                     scope,
                 }),
@@ -85,7 +85,7 @@ impl<'a> Said<'a> {
 #[derive(Drop)]
 struct TakenOfList<'a> {
     types: OidSet<'a>,
-    said: Said<'a>,
+    said: ListExtensions<'a>,
 }
 
 impl<'a> TakenOfList<'a> {
@@ -107,7 +107,7 @@ fn take_all<'a>(alloc: Global, members: Cursor<'a>) -> Result<TakenOfList<'a>, S
     let mut members = members;
     let mut taken = TakenOfList {
         types: OidSet::new(alloc),
-        said: Said {
+        said: ListExtensions {
             number: None,
             scope: Scope::All,
         },
@@ -123,7 +123,7 @@ fn take_all<'a>(alloc: Global, members: Cursor<'a>) -> Result<TakenOfList<'a>, S
 
 /// What a list is told by its extensions.
 #[derive(Clone, Copy)]
-pub(crate) struct Named<'a> {
+pub(crate) struct NumberAndScope<'a> {
     /// The contents of the CRL number.
     pub(crate) number: &'a [u8],
     pub(crate) scope: Scope,
@@ -137,10 +137,10 @@ fn end_of(list: Tlv<'_>) -> usize
     list.body_at() + list.body.len()
 }
 
-impl<'a> Named<'a> {
+impl<'a> NumberAndScope<'a> {
     /// Extensions ::= SEQUENCE SIZE (1..MAX) OF Extension, one of which is the number
     #[tactic(auto, unfolding(crate::specs::ListExtension::extensions))]
-    fn read(alloc: Global, list: Tlv<'a>) -> Result<Named<'a>, StatementFault>
+    fn read(alloc: Global, list: Tlv<'a>) -> Result<NumberAndScope<'a>, StatementFault>
         ensures { GivesUnlessFull seen_named result (extensions (seen_tlv list.entry)) }
     {
         list.is_a(SEQUENCE, StatementRule::Layout)?;
@@ -150,7 +150,7 @@ impl<'a> Named<'a> {
         let Some(number) = taken.said.number else {
             return Err(StatementFault::Refused(StatementRule::NoNumber, end_of(list)));
         };
-        Ok(Named {
+        Ok(NumberAndScope {
             number,
             scope: taken.said.scope,
         })
@@ -158,14 +158,17 @@ impl<'a> Named<'a> {
 
     /// Takes crlExtensions [0] EXPLICIT Extensions, which have to be there.
     #[tactic(auto, unfolding(crate::specs::ListExtension::list_extensions))]
-    pub(crate) fn take(alloc: Global, members: &mut Cursor<'a>) -> Result<Named<'a>, StatementFault>
+    pub(crate) fn take(
+        alloc: Global,
+        members: &mut Cursor<'a>,
+    ) -> Result<NumberAndScope<'a>, StatementFault>
         ensures { GivesUnlessFull (λ named. (seen_named named, left members.new)) result (list_extensions (left members.old)) }
     {
         members.some(StatementRule::NoNumber)?;
         let explicit = members.required(0xA0, StatementRule::Layout)?;
         let mut inside = explicit.members();
         let list = inside.next_or(StatementRule::Layout)?;
-        let named = Named::read(alloc, list)?;
+        let named = NumberAndScope::read(alloc, list)?;
         inside.ended(StatementRule::Layout)?;
         Ok(named)
     }

@@ -7,10 +7,10 @@ use Rattle.statements_facts.specs.declared.scope.Scope.{Scope}
 use Rattle.statements_facts.specs.declared.scope.Scope.TheVariants.{All, User, Ca}
 use Rattle.statements_facts.specs.Statement.{IssuerIdentity, CrlSlot, CrlFact, OcspSlot, OcspFact, Holdings, same_issuer, same_scope, same_crl_slot, same_ocsp_slot}
 use Rattle.statements_facts.specs.Fact.{Fact}
-use Rattle.statements_facts.specs.declared.counts.Outcome.{Outcome}
-use Rattle.statements_facts.specs.declared.counts.Outcome.TheVariants.{Stored, Kept, Contradicted}
+use Rattle.statements_facts.specs.declared.counts.TakenAs.{TakenAs}
+use Rattle.statements_facts.specs.declared.counts.TakenAs.TheVariants.{Stored, Kept, Contradicted}
 use Rattle.statements_facts.specs.Newest.{newer_crl, newer_ocsp, newer_of, held_after}
-use Rattle.statements_facts.specs.Coming.{is_stored, ContradictsCrl, ContradictsOcsp, ComesBeside, after_one, after_all, crl_for, ocsp_for, ComesAsOne, TakingHoldsNewest, TakesBoth}
+use Rattle.statements_facts.specs.Coming.{is_stored, ContradictsCrl, ContradictsOcsp, IsTakenBeside, after_one, after_all, crl_for, ocsp_for, ComesAsOne, TakingHoldsNewest, TakesBoth}
 use Rattle.statements_facts.proofs.NewestLaws.{crls_keep_newest, responses_keep_newest, never_itself_crl, never_itself_ocsp}
 
 -- ---- slots that pass the test are one
@@ -131,7 +131,7 @@ ocsp_never None fact up against = against
 ocsp_never (Some h) fact up against = never_itself_ocsp fact h against.0 up
 
 once : {Said : Type 0} (newer : Said → Said → Bool) (Contradicts : Option Said → Said → Type 0) (held : Option Said) (fact : Said) → (IsTrue (is_stored newer held fact) → Contradicts held fact → ⊥)
-    → (one other : Outcome) → ComesBeside newer Contradicts held fact one → ComesBeside newer Contradicts held fact other → one ≡ other
+    → (one other : TakenAs) → IsTakenBeside newer Contradicts held fact one → IsTakenBeside newer Contradicts held fact other → one ≡ other
 once newer Contradicts held fact never Stored Stored x y = refl
 once newer Contradicts held fact never Kept Kept x y = refl
 once newer Contradicts held fact never Contradicted Contradicted x y = refl

@@ -3,24 +3,24 @@ use Rattle.std.proofs.Common.{◌≡◌, ◌≢◌, ℕ, ◌+◌, List, [], ◌�
 use Rattle.std.proofs.lemmas.Bool.{cases_Bool}
 use Rattle.statements_facts.specs.Statement.{Holdings}
 use Rattle.statements_facts.specs.Fact.{Fact}
-use Rattle.statements_facts.specs.declared.counts.Outcome.{Outcome}
-use Rattle.statements_facts.specs.declared.counts.Outcome.TheVariants.{Stored, Kept, Contradicted}
+use Rattle.statements_facts.specs.declared.counts.TakenAs.{TakenAs}
+use Rattle.statements_facts.specs.declared.counts.TakenAs.TheVariants.{Stored, Kept, Contradicted}
 use Rattle.statements_facts.specs.declared.counts.Counts.{Counts}
 use Rattle.statements_facts.specs.Newest.{newer_crl, newer_ocsp}
-use Rattle.statements_facts.specs.Coming.{is_stored, Comes, ComeTo, after_one, after_all, same_outcome, how_often, number_of, AreCounts, KeptLeaveAll}
+use Rattle.statements_facts.specs.Coming.{is_stored, IsTakenAs, ComeTo, after_one, after_all, same_outcome, how_often, number_of, AreCounts, KeptLeaveAll}
 use Rattle.statements_facts.proofs.ComingLaws.{comes_as_one, takes_both}
 
 pub one_more_taken : (held : Holdings) (facts : List Fact) (fact : Fact) → after_one (after_all held facts) fact ≡ after_all held (facts ++ fact ∷ [])
 one_more_taken held facts fact = takes_both held facts (fact ∷ [])
 
-comes_then : (held : Holdings) (facts : List Fact) (outcomes : List Outcome) (fact : Fact) (outcome : Outcome) → ComeTo held facts outcomes → Comes (after_all held facts) fact outcome
+comes_then : (held : Holdings) (facts : List Fact) (outcomes : List TakenAs) (fact : Fact) (outcome : TakenAs) → ComeTo held facts outcomes → IsTakenAs (after_all held facts) fact outcome
     → ComeTo held (facts ++ fact ∷ []) (outcomes ++ outcome ∷ [])
 comes_then held [] [] fact outcome so one = (one, tt)
 comes_then held (f ∷ facts) (o ∷ outcomes) fact outcome so one = (so.0, comes_then (after_one held f) facts outcomes fact outcome so.1 one)
 comes_then held [] (o ∷ outcomes) fact outcome so one = absurd so
 comes_then held (f ∷ facts) [] fact outcome so one = absurd so
 
-one_more_often : (each : Outcome) (outcomes : List Outcome) (outcome : Outcome) → how_often each (outcomes ++ outcome ∷ []) ≡ how_often each outcomes + (if same_outcome each outcome then 1 else 0)
+one_more_often : (each : TakenAs) (outcomes : List TakenAs) (outcome : TakenAs) → how_often each (outcomes ++ outcome ∷ []) ≡ how_often each outcomes + (if same_outcome each outcome then 1 else 0)
 one_more_often each [] outcome = refl
 one_more_often each (o ∷ outcomes) outcome =
     let more = one_more_often each outcomes outcome in
@@ -29,11 +29,11 @@ one_more_often each (o ∷ outcomes) outcome =
     turned : (a b c : ℕ) → (a + b) + c ≡ (a + c) + b
     turned a b c = omega arith
 
-pub nothing_counted : (held : Holdings) (counts : Counts) → ((outcome : Outcome) → number_of outcome counts ≡ 0) → AreCounts held [] counts
+pub nothing_counted : (held : Holdings) (counts : Counts) → ((outcome : TakenAs) → number_of outcome counts ≡ 0) → AreCounts held [] counts
 nothing_counted held counts none = record { outcomes = []; come = tt; counted = none }
 
-pub one_more_counted : (held : Holdings) (facts : List Fact) (counts after : Counts) (fact : Fact) (outcome : Outcome) → AreCounts held facts counts → Comes (after_all held facts) fact outcome
-    → ((each : Outcome) → number_of each after ≡ number_of each counts + (if same_outcome each outcome then 1 else 0)) → AreCounts held (facts ++ fact ∷ []) after
+pub one_more_counted : (held : Holdings) (facts : List Fact) (counts after : Counts) (fact : Fact) (outcome : TakenAs) → AreCounts held facts counts → IsTakenAs (after_all held facts) fact outcome
+    → ((each : TakenAs) → number_of each after ≡ number_of each counts + (if same_outcome each outcome then 1 else 0)) → AreCounts held (facts ++ fact ∷ []) after
 one_more_counted held facts counts after fact outcome so one added = record {
   outcomes = so.outcomes ++ outcome ∷ [];
   come = comes_then held facts so.outcomes fact outcome so.come one;
@@ -42,7 +42,7 @@ one_more_counted held facts counts after fact outcome so one added = record {
 
 -- ---- one fact
 
-pub left_out : (held : Holdings) (fact : Fact) (outcome : Outcome) → outcome ≢ Stored → Comes held fact outcome → after_one held fact ≡ held
+pub left_out : (held : Holdings) (fact : Fact) (outcome : TakenAs) → outcome ≢ Stored → IsTakenAs held fact outcome → after_one held fact ≡ held
 left_out held (Fact.OfCrl slot fact) outcome other comes = elim (cases_Bool (is_stored newer_crl (held.crl slot) fact)) [
   | inl stored ↦ absurd (other (comes_as_one held (Fact.OfCrl slot fact) outcome Stored comes stored))
   | inr left ↦ rw left refl
@@ -52,12 +52,12 @@ left_out held (Fact.OfResponse slot fact) outcome other comes = elim (cases_Bool
   | inr left ↦ rw left refl
 ]
 
-none_stored : (n : ℕ) (outcome : Outcome) → n + (if same_outcome Stored outcome then 1 else 0) ≡ 0 → (outcome ≢ Stored) × (n ≡ 0)
+none_stored : (n : ℕ) (outcome : TakenAs) → n + (if same_outcome Stored outcome then 1 else 0) ≡ 0 → (outcome ≢ Stored) × (n ≡ 0)
 none_stored n Stored none = absurd (omega arith)
 none_stored n Kept none = (λ e. cc, omega arith)
 none_stored n Contradicted none = (λ e. cc, omega arith)
 
-leave_all : (held : Holdings) (facts : List Fact) (outcomes : List Outcome) → ComeTo held facts outcomes → how_often Stored outcomes ≡ 0 → after_all held facts ≡ held
+leave_all : (held : Holdings) (facts : List Fact) (outcomes : List TakenAs) → ComeTo held facts outcomes → how_often Stored outcomes ≡ 0 → after_all held facts ≡ held
 leave_all held [] [] so none = refl
 leave_all held (fact ∷ facts) (outcome ∷ outcomes) so none =
     let other = none_stored (how_often Stored outcomes) outcome none in

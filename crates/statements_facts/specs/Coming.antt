@@ -4,8 +4,8 @@ use Rattle.std.specs.List.{filter_map}
 use Rattle.std.specs.Option.{option_to_list}
 use Rattle.statements_facts.specs.Statement.{Holdings, CrlSlot, CrlFact, OcspSlot, OcspFact, same_crl_slot, same_ocsp_slot}
 use Rattle.statements_facts.specs.Fact.{Fact}
-use Rattle.statements_facts.specs.declared.counts.Outcome.{Outcome}
-use Rattle.statements_facts.specs.declared.counts.Outcome.TheVariants.{Stored, Kept, Contradicted}
+use Rattle.statements_facts.specs.declared.counts.TakenAs.{TakenAs}
+use Rattle.statements_facts.specs.declared.counts.TakenAs.TheVariants.{Stored, Kept, Contradicted}
 use Rattle.statements_facts.specs.declared.counts.Counts.{Counts}
 use Rattle.statements_facts.specs.Newest.{newer_crl, newer_ocsp, newest_in}
 
@@ -27,20 +27,20 @@ ContradictsOcsp None fact = ⊥
 ContradictsOcsp (Some held) fact = (fact.times ≡ held.times) × (fact ≢ held)
 
 -- what becomes of a fact beside what is held in its slot: one that is neither stored nor contradicts is kept out, and no more
-abbrev pub ComesBeside : {Said : Type 0} → (Said → Said → Bool) → (Option Said → Said → Type 0) → Option Said → Said → Outcome → Type 0
-ComesBeside newer Contradicts held fact Stored = IsTrue (is_stored newer held fact)
-ComesBeside newer Contradicts held fact Kept = (¬ IsTrue (is_stored newer held fact)) × (¬ Contradicts held fact)
-ComesBeside newer Contradicts held fact Contradicted = Contradicts held fact
+abbrev pub IsTakenBeside : {Said : Type 0} → (Said → Said → Bool) → (Option Said → Said → Type 0) → Option Said → Said → TakenAs → Type 0
+IsTakenBeside newer Contradicts held fact Stored = IsTrue (is_stored newer held fact)
+IsTakenBeside newer Contradicts held fact Kept = (¬ IsTrue (is_stored newer held fact)) × (¬ Contradicts held fact)
+IsTakenBeside newer Contradicts held fact Contradicted = Contradicts held fact
 
-abbrev pub CrlComes : Option CrlFact → CrlFact → Outcome → Type 0
-CrlComes = ComesBeside newer_crl ContradictsCrl
+abbrev pub CrlIsTakenAs : Option CrlFact → CrlFact → TakenAs → Type 0
+CrlIsTakenAs = IsTakenBeside newer_crl ContradictsCrl
 
-abbrev pub OcspComes : Option OcspFact → OcspFact → Outcome → Type 0
-OcspComes = ComesBeside newer_ocsp ContradictsOcsp
+abbrev pub OcspIsTakenAs : Option OcspFact → OcspFact → TakenAs → Type 0
+OcspIsTakenAs = IsTakenBeside newer_ocsp ContradictsOcsp
 
-abbrev pub Comes : Holdings → Fact → Outcome → Type 0
-Comes held (Fact.OfCrl slot fact) outcome = CrlComes (held.crl slot) fact outcome
-Comes held (Fact.OfResponse slot fact) outcome = OcspComes (held.ocsp slot) fact outcome
+abbrev pub IsTakenAs : Holdings → Fact → TakenAs → Type 0
+IsTakenAs held (Fact.OfCrl slot fact) outcome = CrlIsTakenAs (held.crl slot) fact outcome
+IsTakenAs held (Fact.OfResponse slot fact) outcome = OcspIsTakenAs (held.ocsp slot) fact outcome
 
 -- one more list, in the place of what its slot held
 abbrev pub with_crl_fact : Holdings → CrlSlot → CrlFact → Holdings
@@ -61,23 +61,23 @@ abbrev pub after_all : Holdings → List Fact → Holdings
 after_all held [] = held
 after_all held (fact ∷ facts) = after_all (after_one held fact) facts
 
-abbrev pub ComeTo : Holdings → List Fact → List Outcome → Type 0
+abbrev pub ComeTo : Holdings → List Fact → List TakenAs → Type 0
 ComeTo held [] [] = ⊤
-ComeTo held (fact ∷ facts) (outcome ∷ outcomes) = Comes held fact outcome × ComeTo (after_one held fact) facts outcomes
+ComeTo held (fact ∷ facts) (outcome ∷ outcomes) = IsTakenAs held fact outcome × ComeTo (after_one held fact) facts outcomes
 ComeTo held [] (outcome ∷ outcomes) = ⊥
 ComeTo held (fact ∷ facts) [] = ⊥
 
-abbrev pub same_outcome : Outcome → Outcome → Bool
+abbrev pub same_outcome : TakenAs → TakenAs → Bool
 same_outcome Stored Stored = true
 same_outcome Kept Kept = true
 same_outcome Contradicted Contradicted = true
 same_outcome _ _ = false
 
-abbrev pub how_often : Outcome → List Outcome → ℕ
+abbrev pub how_often : TakenAs → List TakenAs → ℕ
 how_often outcome [] = 0
 how_often outcome (other ∷ others) = how_often outcome others + (if same_outcome outcome other then 1 else 0)
 
-abbrev pub number_of : Outcome → Counts → ℕ
+abbrev pub number_of : TakenAs → Counts → ℕ
 number_of Stored counts = counts.stored
 number_of Kept counts = counts.kept
 number_of Contradicted counts = counts.contradicted
@@ -87,9 +87,9 @@ total_of counts = counts.stored + counts.kept + counts.contradicted
 
 -- of these facts so many are stored, kept out, and contradict what is held when they come
 pub record AreCounts (held : Holdings) (facts : List Fact) (counts : Counts) : Type 0 where
-  pub outcomes : List Outcome
+  pub outcomes : List TakenAs
   pub come : ComeTo held facts outcomes
-  pub counted : (outcome : Outcome) → number_of outcome counts ≡ how_often outcome outcomes
+  pub counted : (outcome : TakenAs) → number_of outcome counts ≡ how_often outcome outcomes
 
 -- ---- what is held then
 
@@ -112,7 +112,7 @@ pub record HoldsNewest (start : Holdings) (came : List Fact) (held : Holdings) :
 
 -- a fact comes to one thing
 abbrev pub ComesAsOne : Type 0
-ComesAsOne = (held : Holdings) (fact : Fact) (one other : Outcome) → Comes held fact one → Comes held fact other → one ≡ other
+ComesAsOne = (held : Holdings) (fact : Fact) (one other : TakenAs) → IsTakenAs held fact one → IsTakenAs held fact other → one ≡ other
 
 abbrev pub TakingHoldsNewest : Type 0
 TakingHoldsNewest = (start : Holdings) (came : List Fact) → HoldsNewest start came (after_all start came)

@@ -1,5 +1,5 @@
 -- What signed statements say of certificates, and what is held of them (RFC 5280, 5; RFC 6960, 4.2).
-use Rattle.std.specs.Prelude.{◌&&◌, ℕ, ℤ, Bool, true, false, List, Option}
+use Rattle.std.specs.Prelude.{◌&&◌, ℕ, ℤ, Bool, true, false, List, Option, None}
 use Rattle.std.specs.Str.{bytes_eq}
 use Rattle.statements_facts.specs.declared.scope.Scope.{Scope}
 use Rattle.statements_facts.specs.declared.scope.Scope.TheVariants.{All, User, Ca}
@@ -27,6 +27,15 @@ pub record Times : Type 0 where
   pub this_update : ℤ
   pub produced_at : ℤ
 
+-- what a list says of one serial number: the reason, where it is listed
+pub record CrlAnswer : Type 0 where
+  pub number : ℕ
+  pub window : Window
+  pub reason : Option ℕ
+
+abbrev pub answer_for : List ℕ → CrlFact → CrlAnswer
+answer_for serial fact = record { number = fact.number; window = fact.window; reason = fact.reasons serial }
+
 -- what a response says of one certificate
 pub record OcspFact : Type 0 where
   pub times : Times
@@ -49,6 +58,9 @@ pub record OcspSlot : Type 0 where
 pub record Holdings : Type 0 where
   pub crl : CrlSlot → Option CrlFact
   pub ocsp : OcspSlot → Option OcspFact
+
+abbrev pub empty_holdings : Holdings
+empty_holdings = record { crl = λ slot. None; ocsp = λ slot. None }
 
 -- ---- tests
 

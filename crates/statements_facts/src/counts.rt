@@ -5,7 +5,7 @@ ghost use Rattle.statements_facts.specs.Coming.{number_of, same_outcome, total_o
 
 /// What becomes of a fact that comes to a store.
 #[derive(Clone, Copy, Debug, PartialEq, Eq)]
-pub enum Outcome {
+pub enum TakenAs {
     /// Its slot was empty, or it is newer than what was held there.
     Stored,
     /// It is not newer, and does not contradict what is held.
@@ -36,16 +36,16 @@ impl Counts {
     }
 
     /// Of one fact more.
-    pub fn and(self, outcome: Outcome) -> Counts
+    pub fn and(self, outcome: TakenAs) -> Counts
         requires { total_of self < usize.MAX }
         ensures counted { (each : _) → number_of each result ≡ number_of each self + (if same_outcome each outcome then 1 else 0) }
         ensures total { total_of result ≡ total_of self + 1 }
     {
         let mut counts = self;
         match outcome {
-            Outcome::Stored => counts.stored += 1,
-            Outcome::Kept => counts.kept += 1,
-            Outcome::Contradicted => counts.contradicted += 1,
+            TakenAs::Stored => counts.stored += 1,
+            TakenAs::Kept => counts.kept += 1,
+            TakenAs::Contradicted => counts.contradicted += 1,
         }
         counts
     }

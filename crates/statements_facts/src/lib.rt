@@ -13,7 +13,7 @@ mod revoked;
 mod scope;
 mod single;
 
-pub use counts::{Counts, Outcome};
+pub use counts::{Counts, TakenAs};
 pub use fact::{CrlFacts, Facts, OcspFacts};
 pub use issuer::{Issuer, NameKey};
 pub use order::{coming_laws, newest_laws};

@@ -9,7 +9,7 @@ use Rattle.asn.specs.Encoding.{EncodesAt, Encodes}
 use Rattle.asn.specs.Length.{header_len}
 use Rattle.asn.specs.Place.{Place, tag}
 use Rattle.asn.specs.Members.{members, begins, begins_in}
-use Rattle.asn.specs.Layout.{AreMembersAt, Holds}
+use Rattle.asn.specs.Layout.{AreMembersAt, IsValueAt}
 use Rattle.asn.specs.Judgement.{outermost}
 use Rattle.asn.proofs.Laws.{holds, outermost_ok, outermost_again}
 use Rattle.statements_ocsp.specs.Kind.{begins_with_status, is_response, BeginsWithStatus, KindIsExact}
@@ -37,7 +37,7 @@ never true e f = absurd cc
 never false e f = absurd cc
 
 -- a value whose place begins with a status, by its first value
-of_first : (octets : List ℕ) (identifier depth : ℕ) (first : Value) (rest : Values) (place : Place) → Encodes octets (constructed identifier (more first rest)) → Holds depth first place → tag place ≡ 0x0A → BeginsWithStatus octets
+of_first : (octets : List ℕ) (identifier depth : ℕ) (first : Value) (rest : Values) (place : Place) → Encodes octets (constructed identifier (more first rest)) → IsValueAt depth first place → tag place ≡ 0x0A → BeginsWithStatus octets
 of_first octets identifier depth (primitive kind code) rest place encodes shows is =
     let kind_is : kind ≡ 0x0A = sym shows.0 ∙ is in
     record { identifier = identifier; code = code; others = rest; encoded = subst (λ k. Encodes octets (constructed identifier (more (primitive k code) rest))) kind_is encodes }
@@ -45,7 +45,7 @@ of_first octets identifier depth (constructed kind values) rest place encodes sh
     let kind_is : kind ≡ 0x0A = sym shows.0 ∙ is in
     absurd (never (is_constructed kind) (ap is_constructed kind_is) shows.1)
 
-of_value : (octets : List ℕ) (value : Value) → Encodes octets value → Holds 1 value (whole octets) → is_constructed (tag (whole octets)) ≡ true → begins_in 0x0A (members (whole octets)).values ≡ true → BeginsWithStatus octets
+of_value : (octets : List ℕ) (value : Value) → Encodes octets value → IsValueAt 1 value (whole octets) → is_constructed (tag (whole octets)) ≡ true → begins_in 0x0A (members (whole octets)).values ≡ true → BeginsWithStatus octets
 of_value octets (primitive identifier contents) encodes shows constructed_is e =
     absurd (never (is_constructed (tag (whole octets))) (ap is_constructed shows.0 ∙ shows.1) constructed_is)
 of_value octets (constructed identifier none) encodes shows constructed_is e =

@@ -18,7 +18,7 @@ use Rattle.statements_ocsp.specs.GeneralizedTime.{generalized_time}
 use Rattle.statements_ocsp.specs.CertificateStatus.{cert_status}
 use Rattle.statements_ocsp.specs.ResponseExtensions.{optional_extensions}
 use Rattle.statements_ocsp.specs.Single.{SingleResponse, next_update_of, next_update, single_fields, single, single_behind, singles}
-use Rattle.statements_ocsp.specs.SingleForms.{IsMoment, IsCertId, IsCertStatus, IsNextUpdate, AreOptionalExtensions, IsSingleResponse, SingleResponseIsExact}
+use Rattle.statements_ocsp.specs.SingleForms.{IsGeneralizedTimeAt, IsCertId, IsCertStatus, IsNextUpdate, AreOptionalExtensions, IsSingleResponse, SingleResponseIsExact}
 use Rattle.statements_ocsp.proofs.ListOfExtensions.{extensions_ok, extensions_again}
 use Rattle.statements_ocsp.proofs.StatusLaws.{moment_ok, moment_again, status_ok, status_again}
 
@@ -144,7 +144,7 @@ record TakesFields (value : Place) (fields : SingleResponse) (others : Members) 
   values : (members value).values ≡ id ∷ status ∷ this_update ∷ next_updates ++ others.values
   id_is : IsCertId id fields.id
   status_is : IsCertStatus status fields.status
-  this_update_is : IsMoment this_update fields.this_update
+  this_update_is : IsGeneralizedTimeAt this_update fields.this_update
   next_update_is : IsNextUpdate next_updates fields.next_update
 
 abbrev fields_from : CertId × Members → CertStatus × Members → ℤ × Members → Option ℤ × Members → SingleResponse × Members

@@ -12,8 +12,8 @@ use Rattle.statements_parts.specs.declared.fault.StatementRule.TheVariants.{Layo
 use Rattle.statements_ocsp.specs.declared.cert_status.CertStatus.{CertStatus}
 use Rattle.statements_ocsp.specs.declared.cert_status.CertStatus.TheVariants.{Good, Revoked, Unknown}
 use Rattle.statements_ocsp.specs.GeneralizedTime.{generalized_time}
-use Rattle.statements_ocsp.specs.CertificateStatus.{reason_in, reason, reason_of, revocation_reason, revoked_info, null, status_at, cert_status}
-use Rattle.statements_ocsp.specs.SingleForms.{IsMoment, IsReason, IsOptionalReason, IsRevokedInfo, IsCertStatus}
+use Rattle.statements_ocsp.specs.CertificateStatus.{reason_of_contents, reason, reason_of, revocation_reason, revoked_info, null, status_at, cert_status}
+use Rattle.statements_ocsp.specs.SingleForms.{IsGeneralizedTimeAt, IsReason, IsOptionalReason, IsRevokedInfo, IsCertStatus}
 
 -- the next value is there, and is that
 pub record TakesValue (Is : Place → Type 0) (left others : Members) : Type 0 where
@@ -21,7 +21,7 @@ pub record TakesValue (Is : Place → Type 0) (left others : Members) : Type 0 w
   pub values : left.values ≡ value ∷ others.values
   pub is : Is value
 
-pub moment_ok : (left : Members) (x : ℤ × Members) → generalized_time left ≡ Ok x → TakesValue (λ value. IsMoment value x.0) left x.1
+pub moment_ok : (left : Members) (x : ℤ × Members) → generalized_time left ≡ Ok x → TakesValue (λ value. IsGeneralizedTimeAt value x.0) left x.1
 unfolding generalized_time
 moment_ok left x e =
     let found = component_ok 0x18 (seconds Layout) left x e in
@@ -31,7 +31,7 @@ moment_ok left x e =
       is = record { generalized = found.took.tag_is; is_time = seconds_ok Layout found.value x.0 found.read_is };
     }
 
-pub moment_again : (left : Members) (value : Place) (others : List Place) (moment : ℤ) → left.values ≡ value ∷ others → IsMoment value moment → generalized_time left ≡ Ok (moment, record { values = others; end = left.end })
+pub moment_again : (left : Members) (value : Place) (others : List Place) (moment : ℤ) → left.values ≡ value ∷ others → IsGeneralizedTimeAt value moment → generalized_time left ≡ Ok (moment, record { values = others; end = left.end })
 unfolding generalized_time
 moment_again left value others moment e is = component_again 0x18 (seconds Layout) left value others moment e is.generalized (seconds_are Layout value moment is.is_time)
 
@@ -51,7 +51,7 @@ some_is : {A F : Type 0} (o : Option A) (fault : F) (at : ℕ) (x : A) → or_fa
 some_is None fault at x e = absurd cc
 some_is (Some y) fault at x e = ap (λ z. Some z) (ok_is y x e)
 
-of_code : (code found : ℕ) → reason_in (code ∷ []) ≡ Some found → (code ≡ found) × (code ≤ 10) × (code ≢ 7) × (code ≢ 8)
+of_code : (code found : ℕ) → reason_of_contents (code ∷ []) ≡ Some found → (code ≡ found) × (code ≤ 10) × (code ≢ 7) × (code ≢ 8)
 of_code code found e =
     let chosen = some_where _ code found e in
     let served = and_parts (is_reason code) (not (code == 8)) chosen.0 in
@@ -59,7 +59,7 @@ of_code code found e =
     let low = ltb-true code 11 used.0 in
     (chosen.1, omega arith, differs code 7 used.1, differs code 8 served.1)
 
-in_contents : (value : Place) (contents : List ℕ) (found : ℕ) → body value ≡ contents → tag value ≡ 0x0A → reason_in contents ≡ Some found → IsReason value found
+in_contents : (value : Place) (contents : List ℕ) (found : ℕ) → body value ≡ contents → tag value ≡ 0x0A → reason_of_contents contents ≡ Some found → IsReason value found
 in_contents value [] found b t e = absurd cc
 in_contents value (code ∷ other ∷ octets) found b t e = absurd cc
 in_contents value (code ∷ []) found b t e =
@@ -68,9 +68,9 @@ in_contents value (code ∷ []) found b t e =
 
 reason_ok : (value : Place) (code : ℕ) → tag value ≡ 0x0A → reason value ≡ Ok code → IsReason value code
 unfolding reason
-reason_ok value code t e = in_contents value (body value) code refl t (some_is (reason_in (body value)) BadReason value.at code e)
+reason_ok value code t e = in_contents value (body value) code refl t (some_is (reason_of_contents (body value)) BadReason value.at code e)
 
-code_again : (code : ℕ) → code ≤ 10 → code ≢ 7 → code ≢ 8 → reason_in (code ∷ []) ≡ Some code
+code_again : (code : ℕ) → code ≤ 10 → code ≢ 7 → code ≢ 8 → reason_of_contents (code ∷ []) ≡ Some code
 code_again code most used stays =
     let low = lt-ltb code 11 (omega arith) in
     let served = and_from (nat_lt code 11) (not (code == 7)) low (is_other (code == 7) code 7 refl used) in
@@ -79,7 +79,7 @@ code_again code most used stays =
 
 reason_again : (value : Place) (code : ℕ) → IsReason value code → reason value ≡ Ok code
 unfolding reason
-reason_again value code is = ap (λ o. or_fault o BadReason value.at) (ap reason_in is.contents ∙ code_again code is.most is.used is.stays)
+reason_again value code is = ap (λ o. or_fault o BadReason value.at) (ap reason_of_contents is.contents ∙ code_again code is.most is.used is.stays)
 
 record TakesReason (left : Members) (code : ℕ) (others : Members) : Type 0 where
   tagged : List Place

@@ -11,13 +11,13 @@ use Rattle.statements_ocsp.specs.declared.cert_status.CertStatus.{CertStatus}
 use Rattle.statements_ocsp.specs.declared.cert_status.CertStatus.TheVariants.{Good, Revoked, Unknown}
 
 -- the number of the CRLReason (RFC 5280, 5.3.1) that the contents of an ENUMERATED are; removeFromCRL is for delta lists alone
-abbrev pub reason_in : List ℕ → Option ℕ
-reason_in [] = None
-reason_in (code ∷ []) = if is_reason code && not (code == 8) then Some code else None
-reason_in (code ∷ other ∷ octets) = None
+abbrev pub reason_of_contents : List ℕ → Option ℕ
+reason_of_contents [] = None
+reason_of_contents (code ∷ []) = if is_reason code && not (code == 8) then Some code else None
+reason_of_contents (code ∷ other ∷ octets) = None
 
 unfoldable pub reason : Place → Result ℕ (StatementRule × ℕ)
-reason value = or_fault (reason_in (body value)) BadReason value.at
+reason value = or_fault (reason_of_contents (body value)) BadReason value.at
 
 -- revocationReason [0] EXPLICIT CRLReason OPTIONAL: unspecified, which is 0, where it is not there
 abbrev pub reason_of : Option Place → Members → Result (ℕ × Members) (StatementRule × ℕ)

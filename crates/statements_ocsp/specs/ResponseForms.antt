@@ -9,7 +9,7 @@ use Rattle.asn.specs.Members.{members}
 use Rattle.cert.specs.AlgorithmIdentifier.{AlgorithmIdentifier, IsAlgorithmIdentifier}
 use Rattle.cert.specs.CertificateForms.{IsNameOf, IsSignature}
 use Rattle.statements_ocsp.specs.Responder.{Responder, by_name, by_key}
-use Rattle.statements_ocsp.specs.SingleForms.{IsTagged, IsMoment, IsSingleResponse, AreOptionalExtensions}
+use Rattle.statements_ocsp.specs.SingleForms.{IsTagged, IsGeneralizedTimeAt, IsSingleResponse, AreOptionalExtensions}
 use Rattle.statements_ocsp.specs.OcspResponse.{OcspResponse, ResponseData, ocsp_response}
 
 -- ResponderID ::= CHOICE { byName [1] EXPLICIT Name, byKey [2] EXPLICIT KeyHash }, KeyHash ::= OCTET STRING
@@ -27,7 +27,7 @@ pub record IsResponseData (value : Place) (fields : ResponseData) : Type 0 where
   pub sequence : tag value ≡ 0x30
   pub members_are : (members value).values ≡ responder ∷ produced_at ∷ responses ∷ extensions
   pub responder_is : IsResponderId responder fields.responder
-  pub produced_at_is : IsMoment produced_at fields.produced_at
+  pub produced_at_is : IsGeneralizedTimeAt produced_at fields.produced_at
   pub responses_sequence : tag responses ≡ 0x30
   pub responses_are : AllZip IsSingleResponse (members responses).values fields.responses
   pub few : length fields.responses ≤ 256

@@ -18,7 +18,7 @@ pub record IsTagged (identifier : ℕ) (value inside : Place) : Type 0 where
   pub members_are : (members value).values ≡ inside ∷ []
 
 -- GeneralizedTime, the time of that many seconds from 1970-01-01T00:00:00Z (RFC 6960, 4.2.2.1)
-pub record IsMoment (value : Place) (seconds : ℤ) : Type 0 where
+pub record IsGeneralizedTimeAt (value : Place) (seconds : ℤ) : Type 0 where
   pub generalized : tag value ≡ 0x18
   pub is_time : IsTime (tag value) (body value) seconds
 
@@ -60,7 +60,7 @@ pub record IsRevokedInfo (value : Place) (reason : ℕ) : Type 0 where
   pub seconds : ℤ
   pub revoked : tag value ≡ 0xA1
   pub members_are : (members value).values ≡ time ∷ reasons
-  pub time_is : IsMoment time seconds
+  pub time_is : IsGeneralizedTimeAt time seconds
   pub reason_is : IsOptionalReason reasons reason
 
 -- CertStatus ::= CHOICE { good [0] IMPLICIT NULL, revoked [1] IMPLICIT RevokedInfo, unknown [2] IMPLICIT UnknownInfo }
@@ -74,7 +74,7 @@ abbrev pub IsNextUpdate : List Place → Option ℤ → Type 0
 IsNextUpdate [] None = Unit {0}
 IsNextUpdate [] (Some seconds) = ⊥
 IsNextUpdate (value ∷ []) None = ⊥
-IsNextUpdate (value ∷ []) (Some seconds) = (inside : Place) × IsTagged 0xA0 value inside × IsMoment inside seconds
+IsNextUpdate (value ∷ []) (Some seconds) = (inside : Place) × IsTagged 0xA0 value inside × IsGeneralizedTimeAt inside seconds
 IsNextUpdate (value ∷ other ∷ values) moment = ⊥
 
 -- Extensions ::= SEQUENCE SIZE (1..MAX) OF Extension (RFC 5280, 4.2): no two of one type, none critical
@@ -103,7 +103,7 @@ pub record IsSingleResponse (value : Place) (fields : SingleResponse) : Type 0 w
   pub members_are : (members value).values ≡ id ∷ status ∷ this_update ∷ next_updates ++ extensions
   pub id_is : IsCertId id fields.id
   pub status_is : IsCertStatus status fields.status
-  pub this_update_is : IsMoment this_update fields.this_update
+  pub this_update_is : IsGeneralizedTimeAt this_update fields.this_update
   pub next_update_is : IsNextUpdate next_updates fields.next_update
   pub extensions_are : AreOptionalExtensions extensions
 

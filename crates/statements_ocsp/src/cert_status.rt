@@ -3,7 +3,7 @@
 ghost use Rattle.std.specs.Prelude.{◌≡◌};
 ghost use Rattle.asn.specs.Reading.{seen_tlv, left, Gives};
 ghost use Rattle.statements_parts.specs.Parts.{component};
-ghost use Rattle.statements_ocsp.specs.CertificateStatus.{cert_status, null, reason, reason_in, revocation_reason, revoked_info, status_at};
+ghost use Rattle.statements_ocsp.specs.CertificateStatus.{cert_status, null, reason, reason_of_contents, revocation_reason, revoked_info, status_at};
 
 use crate::generalized_time::take_time;
 use asn::{Cursor, ENUMERATED, Tlv};
@@ -32,7 +32,7 @@ const REMOVE_FROM_CRL: u8 = 8;
 
 /// The number of the CRLReason that the contents of an ENUMERATED are.
 fn reason_of(contents: &[u8]) -> Option<u8>
-    ensures { result ≡ reason_in contents.now }
+    ensures { result ≡ reason_of_contents contents.now }
 {
     match contents {
         [code] if is_reason(*code) && *code != REMOVE_FROM_CRL => Some(*code),

@@ -24,7 +24,7 @@ use Rattle.sqlite.specs.Schema.{Schema}
 use Rattle.store_sql.specs.declared.origin.Origin.{Origin}
 use Rattle.store_sql.specs.declared.origin.Origin.TheVariants.{Made, Migrated}
 use Rattle.store_sql.specs.Tables.{version_1_schema, store_schema}
-use Rattle.store_adoption.specs.Inspects.{AreInOrder, InOrder, InOrderOfVersion1}
+use Rattle.store_adoption.specs.Inspects.{TablesAreInOrder, InOrder, InOrderOfVersion1}
 
 module _ {D : Type 0} {g : Ghosts D} (it : FileStore D g) (is_open : IsTrue (view it).is_open) where
   committed_ordered : IsOrdered (all_shapes (kept_schema it.saved (schema_of it))) (view it).committed
@@ -57,7 +57,7 @@ of_version_1 : (db : Database) → db.schema ≡ version_1_schema → AllByRecur
 of_version_1 db is h = let all = subst (λ (s : Schema). AllByRecursion (λ t. IsShaped Table (db.trees t.tree)) s.tables) is h in
     record { versions = all.0; issuers = all.1.0; singles = all.1.1.0; crls = all.1.1.1.0; entries = all.1.1.1.1.0 }
 
-pub open_in_order : {D : Type 0} {g : Ghosts D} (h : Held (FileStore D g)) → IsTrue (file_state h).is_open → (file_state h).now ≡ (file_state h).committed → IsDatabase (file_state h).now → AreInOrder (file_state h).now
+pub open_in_order : {D : Type 0} {g : Ghosts D} (h : Held (FileStore D g)) → IsTrue (file_state h).is_open → (file_state h).now ≡ (file_state h).committed → IsDatabase (file_state h).now → TablesAreInOrder (file_state h).now
 open_in_order h is_open settled sound = record {
   version_1 = λ has. of_version_1 (file_state h).now has (all_in_order h is_open settled sound);
   version_2 = λ origin has. of_tables origin (file_state h).now has (all_in_order h is_open settled sound);

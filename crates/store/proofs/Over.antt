@@ -7,7 +7,7 @@ use Rattle.store_sql.specs.declared.fault.StoreFault.{StoreFault}
 use Rattle.store_sql.specs.declared.fault.StoreFault.TheVariants.{Schema as NotOurs}
 use Rattle.store_sql.specs.Tables.{version_1_schema}
 use Rattle.store_maps.specs.Held.{IsStoreOf}
-use Rattle.store_adoption.specs.Inspects.{AreInOrder, IsStore}
+use Rattle.store_adoption.specs.Inspects.{TablesAreInOrder, IsStore}
 use Rattle.store_adoption.specs.Version1.{IsVersion1Of}
 use Rattle.store_adoption.proofs.Laws.{not_version_1}
 use Rattle.store_migration.specs.Migrates.{IsMigrated}
@@ -16,7 +16,7 @@ use Rattle.store.specs.Adopts.{IsTakenOver}
 other : (db : Database) (held : Holdings) → db.schema ≡ version_1_schema → IsStoreOf db held → ⊥
 other db held has it = not_version_1 it.origin (sym it.rows.schema_is ∙ has)
 
-pub migrated_over : (old new : State) → old.now.schema ≡ version_1_schema → AreInOrder old.now → IsMigrated old new → IsTakenOver old new
+pub migrated_over : (old new : State) → old.now.schema ≡ version_1_schema → TablesAreInOrder old.now → IsMigrated old new → IsTakenOver old new
 migrated_over old new has ordered m =
     let was = m.version_1 ordered in
     record {

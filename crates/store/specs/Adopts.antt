@@ -46,13 +46,13 @@ LooksAt old new Is (Ok found) = KeepsCommit old new × ((held : Holdings) → Is
 LooksAt old new Is (Err fault) = KeepsCommit old new × (fault ≡ Schema → (held : Holdings) → IsStoreOf old.now held → ⊥)
 
 -- where the connection is still open the database is as it was, and so are both maps
-pub record Keeps (old new : State) : Type 0 where
+pub record StaysIfOpen (old new : State) : Type 0 where
   pub was_open : IsTrue new.is_open → IsTrue old.is_open
   pub now_is : IsTrue new.is_open → new.now ≡ old.now
 
 abbrev pub LookedUp : {A : Type 0} → State → State → (Holdings → A → Type 0) → Result A StoreFault → Type 0
-LookedUp old new Is (Ok found) = Keeps old new × ((held : Holdings) → IsStoreOf old.now held → Is held found)
-LookedUp old new Is (Err fault) = Keeps old new × (fault ≡ Schema → (held : Holdings) → IsStoreOf old.now held → ⊥)
+LookedUp old new Is (Ok found) = StaysIfOpen old new × ((held : Holdings) → IsStoreOf old.now held → Is held found)
+LookedUp old new Is (Err fault) = StaysIfOpen old new × (fault ≡ Schema → (held : Holdings) → IsStoreOf old.now held → ⊥)
 
 -- a connection that was opened on the files that a close gave back is the same store
 abbrev pub Reopens : {D : Type 0} {g : Ghosts D} → Held (FileStore D g) → Files D → Type 0

@@ -3,8 +3,8 @@
 ghost use Rattle.std.specs.Prelude.{◌≡◌, false, OnOk};
 ghost use Rattle.sqlite.specs.Files.{file_state};
 ghost use Rattle.sqlite.specs.State.{HasCleanDisk, Survives};
-ghost use Rattle.store_sql.specs.Statements.{CommitsNothing};
-ghost use Rattle.store_adoption.specs.Creates.{IsDurable, IsSettled};
+ghost use Rattle.store_sql.specs.Statements.{CommitsNothing, IsDurable};
+ghost use Rattle.store_adoption.specs.Creates.{IsSettled};
 ghost use Rattle.store_migration.specs.Migrates.{LeavesMigrated};
 ghost use Rattle.store.specs.Adopts.{Adopts, IsMigratedFrom, TakesOver};
 

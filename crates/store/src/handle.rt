@@ -6,12 +6,11 @@ ghost use Rattle.sqlite.specs.Closing.{IsCopied};
 ghost use Rattle.sqlite.specs.WalReads.{AreClean};
 ghost use Rattle.sqlite.specs.State.{HasCleanDisk, IsUnchanged, Survives};
 ghost use Rattle.statements_facts.specs.Fact.{facts_in, issuer_of};
-ghost use Rattle.statements_facts.specs.Statement.{Holdings};
-ghost use Rattle.store_sql.specs.Statements.{CommitsNothing};
-ghost use Rattle.store_rows.specs.Seen.{seen_said};
-ghost use Rattle.store_maps.specs.Held.{IsStoreOf, part_of, seen_crl};
-ghost use Rattle.store_maps.specs.Creation.{nothing_held};
-ghost use Rattle.store_adoption.specs.Creates.{AreTreesOf, IsCreated, IsDurable, IsSettled};
+ghost use Rattle.statements_facts.specs.Statement.{Holdings, empty_holdings, answer_for};
+ghost use Rattle.store_sql.specs.Statements.{CommitsNothing, IsDurable};
+ghost use Rattle.store_rows.specs.Seen.{seen_held_status};
+ghost use Rattle.store_maps.specs.Held.{IsStoreOf, seen_crl};
+ghost use Rattle.store_adoption.specs.Creates.{AreTreesOf, IsCreated, IsSettled};
 ghost use Rattle.store_adoption.specs.Inspects.{IsStore};
 ghost use Rattle.store_adoption.specs.Version1.{IsVersion1Of, IsVersion1};
 ghost use Rattle.store.specs.Adopts.{FailsToReopen, IsMigratedFrom, LookedUp, Reopens, Restarts};
@@ -26,7 +25,7 @@ use statements_facts::{Counts, Facts, Issuer, Scope};
 use std::alloc::Global;
 use store_adoption::create;
 use store_maps::HeldCrl;
-use store_rows::Said;
+use store_rows::HeldStatus;
 use store_sql::StoreFault;
 use store_taking::put;
 
@@ -47,9 +46,9 @@ impl<D: Disk + Drop> Store<D> {
     pub fn create(mut conn: Connection<FileStore<D>>) -> Result<Store<D>, StoreFault>
         requires idle { conn.in_transaction ≡ false }
         ensures created { IfOk result (λ store. HasCleanDisk (file_state store.conn) → IsCreated (file_state conn) (file_state store.conn)) }
-        ensures nothing { IfOk result (λ store. HasCleanDisk (file_state store.conn) → IsStoreOf (file_state store.conn).now nothing_held) }
+        ensures nothing { IfOk result (λ store. HasCleanDisk (file_state store.conn) → IsStoreOf (file_state store.conn).now empty_holdings) }
         ensures durable { IfOk result (λ store. IsDurable (file_state store.conn)) }
-        ensures crash { IfOk result (λ store. Survives (file_state conn) (file_state store.conn) (AreTreesOf nothing_held)) }
+        ensures crash { IfOk result (λ store. Survives (file_state conn) (file_state store.conn) (AreTreesOf empty_holdings)) }
     {
         match create(&mut conn) {
             Ok(()) => Ok(Store { conn }),
@@ -89,7 +88,7 @@ impl<D: Disk + Drop> Store<D> {
         scope: Scope,
         serial: &[u8],
     ) -> Result<Option<HeldCrl>, StoreFault>
-        ensures looks_up { HasCleanDisk (file_state self.new.conn) → LookedUp (file_state self.old.conn) (file_state self.new.conn) (λ held crl. option_map seen_crl crl ≡ option_map (part_of serial.now) (held.crl (record { issuer = issuer_of issuer.now; scope = scope }))) result }
+        ensures looks_up { HasCleanDisk (file_state self.new.conn) → LookedUp (file_state self.old.conn) (file_state self.new.conn) (λ held crl. option_map seen_crl crl ≡ option_map (answer_for serial.now) (held.crl (record { issuer = issuer_of issuer.now; scope = scope }))) result }
         ensures durable { IsDurable (file_state self.new.conn) }
         ensures survives { CommitsNothing (file_state self.old.conn) (file_state self.new.conn) }
     {
@@ -103,8 +102,8 @@ impl<D: Disk + Drop> Store<D> {
         issuer: &Issuer<'_>,
         name_hash: &'x [u8],
         serial: &'x [u8],
-    ) -> Result<Option<Said>, StoreFault>
-        ensures looks_up { HasCleanDisk (file_state self.new.conn) → LookedUp (file_state self.old.conn) (file_state self.new.conn) (λ held said. option_map seen_said said ≡ held.ocsp (record { issuer = issuer_of issuer.now; name_hash = name_hash.now; serial = serial.now })) result }
+    ) -> Result<Option<HeldStatus>, StoreFault>
+        ensures looks_up { HasCleanDisk (file_state self.new.conn) → LookedUp (file_state self.old.conn) (file_state self.new.conn) (λ held said. option_map seen_held_status said ≡ held.ocsp (record { issuer = issuer_of issuer.now; name_hash = name_hash.now; serial = serial.now })) result }
         ensures durable { IsDurable (file_state self.new.conn) }
         ensures survives { CommitsNothing (file_state self.old.conn) (file_state self.new.conn) }
     {

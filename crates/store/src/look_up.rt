@@ -4,16 +4,17 @@ ghost use Rattle.std.specs.Prelude.{◌≡◌, false, option_map};
 ghost use Rattle.sqlite.specs.Held.{state};
 ghost use Rattle.sqlite.specs.State.{HasCleanDisk};
 ghost use Rattle.statements_facts.specs.Fact.{issuer_of};
-ghost use Rattle.store_sql.specs.Statements.{CommitsNothing};
-ghost use Rattle.store_rows.specs.Seen.{seen_said};
-ghost use Rattle.store_maps.specs.Held.{part_of, seen_crl};
-ghost use Rattle.store_adoption.specs.Creates.{IsDurable, IsSettled};
+ghost use Rattle.store_sql.specs.Statements.{CommitsNothing, IsDurable};
+ghost use Rattle.store_rows.specs.Seen.{seen_held_status};
+ghost use Rattle.store_maps.specs.Held.{seen_crl};
+ghost use Rattle.statements_facts.specs.Statement.{answer_for};
+ghost use Rattle.store_adoption.specs.Creates.{IsSettled};
 ghost use Rattle.store.specs.Adopts.{LooksAt, LookedUp};
 
 use sqlite::{Alter, Connection};
 use statements_facts::{Issuer, Scope};
 use store_maps::{HeldCrl, crl, ocsp};
-use store_rows::Said;
+use store_rows::HeldStatus;
 use store_sql::StoreFault;
 
 fn crl_in_transaction<S: Alter>(
@@ -24,7 +25,7 @@ fn crl_in_transaction<S: Alter>(
 ) -> Result<Option<HeldCrl>, StoreFault>
     requires idle { conn.old.in_transaction ≡ false }
     ensures idle { conn.new.in_transaction ≡ false }
-    ensures looks_at { HasCleanDisk (state S.Store conn.new) → LooksAt (state S.Store conn.old) (state S.Store conn.new) (λ held crl. option_map seen_crl crl ≡ option_map (part_of serial.now) (held.crl (record { issuer = issuer_of issuer.now; scope = scope }))) result }
+    ensures looks_at { HasCleanDisk (state S.Store conn.new) → LooksAt (state S.Store conn.old) (state S.Store conn.new) (λ held crl. option_map seen_crl crl ≡ option_map (answer_for serial.now) (held.crl (record { issuer = issuer_of issuer.now; scope = scope }))) result }
     ensures survives { CommitsNothing (state S.Store conn.old) (state S.Store conn.new) }
 {
     let mut tx = conn.transaction();
@@ -43,7 +44,7 @@ pub fn look_up_crl<S: Alter>(
 ) -> Result<Option<HeldCrl>, StoreFault>
     requires idle { conn.old.in_transaction ≡ false }
     ensures idle { conn.new.in_transaction ≡ false }
-    ensures looks_up { HasCleanDisk (state S.Store conn.new) → LookedUp (state S.Store conn.old) (state S.Store conn.new) (λ held crl. option_map seen_crl crl ≡ option_map (part_of serial.now) (held.crl (record { issuer = issuer_of issuer.now; scope = scope }))) result }
+    ensures looks_up { HasCleanDisk (state S.Store conn.new) → LookedUp (state S.Store conn.old) (state S.Store conn.new) (λ held crl. option_map seen_crl crl ≡ option_map (answer_for serial.now) (held.crl (record { issuer = issuer_of issuer.now; scope = scope }))) result }
     ensures settled { IsSettled (state S.Store conn.old) × IsSettled (state S.Store conn.new) }
     ensures durable { IsDurable (state S.Store conn.new) }
     ensures survives { CommitsNothing (state S.Store conn.old) (state S.Store conn.new) }
@@ -59,10 +60,10 @@ fn ocsp_in_transaction<'x, S: Alter>(
     issuer: &Issuer<'_>,
     name_hash: &'x [u8],
     serial: &'x [u8],
-) -> Result<Option<Said>, StoreFault>
+) -> Result<Option<HeldStatus>, StoreFault>
     requires idle { conn.old.in_transaction ≡ false }
     ensures idle { conn.new.in_transaction ≡ false }
-    ensures looks_at { HasCleanDisk (state S.Store conn.new) → LooksAt (state S.Store conn.old) (state S.Store conn.new) (λ held said. option_map seen_said said ≡ held.ocsp (record { issuer = issuer_of issuer.now; name_hash = name_hash.now; serial = serial.now })) result }
+    ensures looks_at { HasCleanDisk (state S.Store conn.new) → LooksAt (state S.Store conn.old) (state S.Store conn.new) (λ held said. option_map seen_held_status said ≡ held.ocsp (record { issuer = issuer_of issuer.now; name_hash = name_hash.now; serial = serial.now })) result }
     ensures survives { CommitsNothing (state S.Store conn.old) (state S.Store conn.new) }
 {
     let mut tx = conn.transaction();
@@ -79,10 +80,10 @@ pub fn look_up_ocsp<'x, S: Alter>(
     issuer: &Issuer<'_>,
     name_hash: &'x [u8],
     serial: &'x [u8],
-) -> Result<Option<Said>, StoreFault>
+) -> Result<Option<HeldStatus>, StoreFault>
     requires idle { conn.old.in_transaction ≡ false }
     ensures idle { conn.new.in_transaction ≡ false }
-    ensures looks_up { HasCleanDisk (state S.Store conn.new) → LookedUp (state S.Store conn.old) (state S.Store conn.new) (λ held said. option_map seen_said said ≡ held.ocsp (record { issuer = issuer_of issuer.now; name_hash = name_hash.now; serial = serial.now })) result }
+    ensures looks_up { HasCleanDisk (state S.Store conn.new) → LookedUp (state S.Store conn.old) (state S.Store conn.new) (λ held said. option_map seen_held_status said ≡ held.ocsp (record { issuer = issuer_of issuer.now; name_hash = name_hash.now; serial = serial.now })) result }
     ensures settled { IsSettled (state S.Store conn.old) × IsSettled (state S.Store conn.new) }
     ensures durable { IsDurable (state S.Store conn.new) }
     ensures survives { CommitsNothing (state S.Store conn.old) (state S.Store conn.new) }

@@ -4,7 +4,7 @@ ghost use Rattle.std.specs.Prelude.{IfOk};
 ghost use Rattle.sqlite.specs.Files.{file_state};
 ghost use Rattle.sqlite.specs.State.{HasCleanDisk};
 ghost use Rattle.store_maps.specs.Held.{IsStoreOf};
-ghost use Rattle.store_maps.specs.Creation.{nothing_held};
+ghost use Rattle.statements_facts.specs.Statement.{empty_holdings};
 ghost use Rattle.store_adoption.specs.Inspects.{IsStore};
 
 use crate::handle::Store;
@@ -31,7 +31,7 @@ impl Store<File> {
 
     /// Makes a store at a path, which holds nothing: `StoreFault::Store` where a file is there.
     pub fn make(rt: &HostRuntime, path: &str) -> Result<Store<File>, StoreFault>
-        ensures store { IfOk result (λ store. HasCleanDisk (file_state store.conn) → IsStoreOf (file_state store.conn).now nothing_held) }
+        ensures store { IfOk result (λ store. HasCleanDisk (file_state store.conn) → IsStoreOf (file_state store.conn).now empty_holdings) }
     {
         if fs::open(rt, path).is_ok() {
             return Err(StoreFault::Store);

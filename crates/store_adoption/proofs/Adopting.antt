@@ -30,7 +30,7 @@ use Rattle.store_sql.proofs.Laws.{less_is}
 use Rattle.store_rows.proofs.Laws.{value_back}
 use Rattle.store_maps.specs.Held.{held_in}
 use Rattle.store_adoption.specs.Cells.{natural_in, HasNumber, IsIssuerCells, IsCrlCells, IsSingleCells, IsEntryCells, IsVersionCells, AreChained, entry_in, next_after}
-use Rattle.store_adoption.specs.Inspects.{AreInOrder, InOrder, IsStore, HasHeads, HasEntries, version_cells, issuer_cells, crl_cells, single_cells, entry_cells}
+use Rattle.store_adoption.specs.Inspects.{TablesAreInOrder, InOrder, IsStore, HasHeads, HasEntries, version_cells, issuer_cells, crl_cells, single_cells, entry_cells}
 use Rattle.store_adoption.proofs.Chained.{placed_of_chain, chain_of_placed}
 use Rattle.store_adoption.proofs.Typed.{IsKeyed, HasId, keyed_rows, rows_with_id}
 use Rattle.store_adoption.proofs.Decoded.{all_is, all_read, all_shown, issuer_in, issuer_is, crl_in, crl_is, single_in, single_is, entry_is, reason_fits}
@@ -159,7 +159,7 @@ next_same rows = go 1 rows
     go start [] = refl
     go start (r ∷ rs) = go (natural_in (column r 0) + 1) rs
 
-pub store_of : (origin : Origin) (db : Database) → db.schema ≡ store_schema origin → IsDatabase db → AreInOrder db → HasHeads origin db → HasEntries origin db → IsStore db
+pub store_of : (origin : Origin) (db : Database) → db.schema ≡ store_schema origin → IsDatabase db → TablesAreInOrder db → HasHeads origin db → HasEntries origin db → IsStore db
 store_of origin db has sound ordered heads entries =
     let o = in_order origin db has ordered in
     let t = typed origin db has sound o in
@@ -328,7 +328,7 @@ pub not_version_1 : (origin : Origin) → store_schema origin ≡ version_1_sche
 not_version_1 Made same = let sizes : 24 ≡ 21 = ap width same in omega (arith, sizes)
 not_version_1 Migrated same = let sizes : 31 ≡ 21 = ap width same in omega (arith, sizes)
 
-pub order_of_store : (db : Database) → IsStore db → AreInOrder db
+pub order_of_store : (db : Database) → IsStore db → TablesAreInOrder db
 order_of_store db it = record {
   version_1 = λ has. absurd (not_version_1 it.1.origin (sym it.1.rows.schema_is ∙ has));
   version_2 = λ origin has. order_of_origin db it origin has;

@@ -14,7 +14,7 @@ use Rattle.store_sql.specs.declared.fault.StoreFault.{StoreFault}
 use Rattle.store_sql.specs.declared.fault.StoreFault.TheVariants.{Schema as NotOurs}
 use Rattle.store_sql.proofs.Laws.{shown_as}
 use Rattle.store_adoption.specs.Tests.{AllPass, SomeFail, Tests}
-use Rattle.store_adoption.specs.Inspects.{AreInOrder, Checks}
+use Rattle.store_adoption.specs.Inspects.{TablesAreInOrder, Checks}
 use Rattle.store_adoption.proofs.Ordered.{in_order_of_ids, ordered_whole, ordered_start}
 
 map_same : (f g : Row → Row) → ((r : Row) → f r ≡ g r) → (rows : List Row) → map f rows ≡ map g rows
@@ -38,27 +38,27 @@ module _ (schema : Schema) (text : List ℕ) (tree : ℕ) (project : List Term) 
       let start = ordered_start tree project [] new.now fail.rows (subst (λ (d : Database). IsTable (d.trees tree)) (sym same) rising) first.1 in
       fail.refused start.0 (subst Formed (sym (start.1 ∙ map_same (shown_as project []) show shows (new.now.trees tree) ∙ ap (λ (d : Database). map show (d.trees tree)) same)) formed)
 
-  pub checked : {A : Type 0} (old new : State) (Passed Formed : List Row → Type 0) (result : Result A StoreFault) → old.now.schema ≡ schema → (AreInOrder old.now → IsTable (old.now.trees tree))
+  pub checked : {A : Type 0} (old new : State) (Passed Formed : List Row → Type 0) (result : Result A StoreFault) → old.now.schema ≡ schema → (TablesAreInOrder old.now → IsTable (old.now.trees tree))
       → Tests old new text Passed Formed result → Checks old new (λ done db. Passed (map show (db.trees tree))) (λ db. Formed (map show (db.trees tree))) result
   checked old new Passed Formed (Ok done) has rising all = (all.unchanged, λ ordered. passed_all old new Passed has all (rising ordered))
   checked old new Passed Formed (Err fault) has rising stops = (stops.keeps, λ ours ordered formed. let why = stops.why ours in failed_some old new Formed has why.0 why.1 (rising ordered) formed)
 
 -- what is checked says less, or is asked of more
 pub checked_as : {A B : Type 0} (old new : State) (P : A → Database → Type 0) (P′ : B → Database → Type 0) (Q Q′ : Database → Type 0) (a : A) (b : B)
-    → IsUnchanged old new × (AreInOrder old.now → P a old.now) → (P a old.now → P′ b old.now) → IsUnchanged old new × (AreInOrder old.now → P′ b old.now)
+    → IsUnchanged old new × (TablesAreInOrder old.now → P a old.now) → (P a old.now → P′ b old.now) → IsUnchanged old new × (TablesAreInOrder old.now → P′ b old.now)
 checked_as old new P P′ Q Q′ a b h f = (h.0, λ ordered. f (h.1 ordered))
 
 -- a test that passes, and another behind it
 pub checks_then : {A B : Type 0} (old mid new : State) (P : A → Database → Type 0) (P′ : B → Database → Type 0) (Q′ : Database → Type 0) (R : B → Database → Type 0) (S : Database → Type 0) (a : A) (result : Result B StoreFault)
-    → IsUnchanged old mid × (AreInOrder old.now → P a old.now) → Checks mid new P′ Q′ result
-    → ((b : B) → AreInOrder old.now → P a old.now → P′ b old.now → R b old.now) → (AreInOrder old.now → P a old.now → S old.now → Q′ old.now)
+    → IsUnchanged old mid × (TablesAreInOrder old.now → P a old.now) → Checks mid new P′ Q′ result
+    → ((b : B) → TablesAreInOrder old.now → P a old.now → P′ b old.now → R b old.now) → (TablesAreInOrder old.now → P a old.now → S old.now → Q′ old.now)
     → Checks old new R S result
 checks_then old mid new P P′ Q′ R S a (Ok b) first second both asks =
-    (unchanged_then old mid new first.0 second.0, λ ordered. both b ordered (first.1 ordered) (subst (P′ b) first.0.0.now_is (second.1 (subst AreInOrder (sym first.0.0.now_is) ordered))))
+    (unchanged_then old mid new first.0 second.0, λ ordered. both b ordered (first.1 ordered) (subst (P′ b) first.0.0.now_is (second.1 (subst TablesAreInOrder (sym first.0.0.now_is) ordered))))
 checks_then old mid new P P′ Q′ R S a (Err fault) first second both asks =
-    (keeps_then old mid new (unchanged_keeps old mid (inl first.0)) second.0, λ ours ordered all. second.1 ours (subst AreInOrder (sym first.0.0.now_is) ordered) (subst Q′ (sym first.0.0.now_is) (asks ordered (first.1 ordered) all)))
+    (keeps_then old mid new (unchanged_keeps old mid (inl first.0)) second.0, λ ours ordered all. second.1 ours (subst TablesAreInOrder (sym first.0.0.now_is) ordered) (subst Q′ (sym first.0.0.now_is) (asks ordered (first.1 ordered) all)))
 
 -- the first test fails
-pub first_fails : (old new : State) (Q S : Database → Type 0) (fault : StoreFault) → KeepsCommit old new × (fault ≡ NotOurs → AreInOrder old.now → Q old.now → ⊥) → (AreInOrder old.now → S old.now → Q old.now)
-    → KeepsCommit old new × (fault ≡ NotOurs → AreInOrder old.now → S old.now → ⊥)
+pub first_fails : (old new : State) (Q S : Database → Type 0) (fault : StoreFault) → KeepsCommit old new × (fault ≡ NotOurs → TablesAreInOrder old.now → Q old.now → ⊥) → (TablesAreInOrder old.now → S old.now → Q old.now)
+    → KeepsCommit old new × (fault ≡ NotOurs → TablesAreInOrder old.now → S old.now → ⊥)
 first_fails old new Q S fault h asks = (h.0, λ ours ordered all. h.1 ours ordered (asks ordered all))

@@ -13,7 +13,7 @@ use Rattle.sqlite.proofs.StateLemmas.{survives_weaker}
 use Rattle.sqlite.proofs.Callers.{IsPlain, never_commits, unchanged_then}
 use Rattle.store_sql.specs.declared.fault.StoreFault.{StoreFault}
 use Rattle.store_sql.specs.declared.fault.StoreFault.TheVariants.{Schema as NotOurs}
-use Rattle.store_adoption.specs.Tests.{AllPass, Stops}
+use Rattle.store_adoption.specs.Tests.{AllPass, TestFails}
 
 pub unchanged_itself : (s : State) → IsTrue s.is_open → IsUnchanged s s
 unchanged_itself s live = (record { was_open = live; is_open = live; now_is = refl; committed_is = refl; mode = refl }, record { changes = refl; last_rowid = refl }, refl)
@@ -62,12 +62,12 @@ all_pass text old mid new rows Passed plain first last shown passed = record {
   passed = passed;
 }
 
-pub gave_up : (text : List ℕ) (old new : State) (Formed : List Row → Type 0) (fault : StoreFault) → fault ≢ NotOurs → KeepsCommit old new → Stops old new text Formed fault
+pub gave_up : (text : List ℕ) (old new : State) (Formed : List Row → Type 0) (fault : StoreFault) → fault ≢ NotOurs → KeepsCommit old new → TestFails old new text Formed fault
 gave_up text old new Formed fault other keeps = record { keeps = keeps; why = λ ours. absurd (other ours) }
 
 -- a row was refused
 pub refused : (text : List ℕ) (old new : State) (rows : List Row) (row : Row) (Formed : List Row → Type 0) (fault : StoreFault) → IsUnchanged old new → Begins text [] new (rows ++ row ∷ [])
-    → (fault ≡ NotOurs → (later : List Row) → Formed (rows ++ row ∷ later) → ⊥) → Stops old new text Formed fault
+    → (fault ≡ NotOurs → (later : List Row) → Formed (rows ++ row ∷ later) → ⊥) → TestFails old new text Formed fault
 refused text old new rows row Formed fault same begins why = record {
   keeps = unchanged_keeps old new (inl same);
   why = λ ours. (same, record { rows = rows ++ row ∷ []; begins = begins; refused = λ later formed. why ours later (subst Formed (append_assoc rows (row ∷ []) later) formed) });

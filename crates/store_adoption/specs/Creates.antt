@@ -2,21 +2,16 @@
 use Rattle.std.specs.Prelude.{◌≡◌, ◌≢◌, Result, Ok, Err, IsTrue}
 use Rattle.sqlite.specs.Tree.{Trees}
 use Rattle.sqlite.specs.State.{State, KeepsCommit}
-use Rattle.statements_facts.specs.Statement.{Holdings}
+use Rattle.statements_facts.specs.Statement.{Holdings, empty_holdings}
 use Rattle.store_sql.specs.declared.origin.Origin.{Origin}
 use Rattle.store_sql.specs.declared.fault.StoreFault.{StoreFault}
 use Rattle.store_sql.specs.declared.fault.StoreFault.TheVariants.{Schema}
 use Rattle.store_sql.specs.Tables.{no_schema, store_schema}
 use Rattle.store_maps.specs.Held.{IsStoreOf}
-use Rattle.store_maps.specs.Creation.{nothing_held}
 
 -- what is shown is committed
 abbrev pub IsSettled : State → Type 0
 IsSettled s = IsTrue s.is_open → s.now ≡ s.committed
-
--- while the connection is open a crash leaves the last commit, and nothing else
-abbrev pub IsDurable : State → Type 0
-IsDurable s = IsTrue s.is_open → (trees : Trees) → s.may_leave trees → trees ≡ s.committed.trees
 
 -- these are the trees of a store that holds this
 abbrev pub AreTreesOf : Holdings → Trees → Type 0
@@ -27,7 +22,7 @@ pub record IsCreated (old new : State) : Type 0 where
   pub was_open : IsTrue old.is_open
   pub was_empty : old.now.schema ≡ no_schema
   pub is_open : IsTrue new.is_open
-  pub store : IsStoreOf new.now nothing_held
+  pub store : IsStoreOf new.now empty_holdings
   pub committed_is : new.committed ≡ new.now
 
 abbrev pub Creates : {A : Type 0} → State → State → Result A StoreFault → Type 0

@@ -31,7 +31,7 @@ pub record InOrderOfVersion1 (db : Database) : Type 0 where
   pub crls : IsShaped Table (db.trees 5)
   pub entries : IsShaped Table (db.trees 6)
 
-pub record AreInOrder (db : Database) : Type 0 where
+pub record TablesAreInOrder (db : Database) : Type 0 where
   pub version_1 : db.schema ≡ version_1_schema → InOrderOfVersion1 db
   pub version_2 : (origin : Origin) → db.schema ≡ store_schema origin → InOrder origin db
 
@@ -41,8 +41,8 @@ IsStore db = (held : Holdings) × IsStoreOf db held
 
 -- nothing changes, and this holds; or a fault, which is for the rows only where that does not hold
 abbrev pub Checks : {A : Type 0} → State → State → (A → Database → Type 0) → (Database → Type 0) → Result A StoreFault → Type 0
-Checks old new P Q (Ok answer) = IsUnchanged old new × (AreInOrder old.now → P answer old.now)
-Checks old new P Q (Err fault) = KeepsCommit old new × (fault ≡ Schema → AreInOrder old.now → Q old.now → ⊥)
+Checks old new P Q (Ok answer) = IsUnchanged old new × (TablesAreInOrder old.now → P answer old.now)
+Checks old new P Q (Err fault) = KeepsCommit old new × (fault ≡ Schema → TablesAreInOrder old.now → Q old.now → ⊥)
 
 -- what is answered are the lists of a database of version 1, and their entries
 abbrev pub ReadsVersion1 : {A : Type 0} → State → State → (A → List UnscopedCrl) → (A → List UnscopedEntry) → Result A StoreFault → Type 0

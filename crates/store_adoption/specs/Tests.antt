@@ -18,10 +18,10 @@ pub record SomeFail (new : State) (text : List ℕ) (AreFormed : List Row → Ty
   pub begins : Begins text [] new rows
   pub refused : (later : List Row) → AreFormed (rows ++ later) → ⊥
 
-pub record Stops (old new : State) (text : List ℕ) (AreFormed : List Row → Type 0) (fault : StoreFault) : Type 0 where
+pub record TestFails (old new : State) (text : List ℕ) (AreFormed : List Row → Type 0) (fault : StoreFault) : Type 0 where
   pub keeps : KeepsCommit old new
   pub why : fault ≡ Schema → IsUnchanged old new × SomeFail new text AreFormed
 
 abbrev pub Tests : {A : Type 0} → State → State → List ℕ → (List Row → Type 0) → (List Row → Type 0) → Result A StoreFault → Type 0
 Tests old new text Passed AreFormed (Ok done) = AllPass old new text Passed
-Tests old new text Passed AreFormed (Err fault) = Stops old new text AreFormed fault
+Tests old new text Passed AreFormed (Err fault) = TestFails old new text AreFormed fault

@@ -3,8 +3,9 @@
 ghost use Rattle.std.specs.Prelude.{◌≡◌, false};
 ghost use Rattle.sqlite.specs.Held.{state};
 ghost use Rattle.sqlite.specs.State.{HasCleanDisk, Survives};
-ghost use Rattle.store_adoption.specs.Creates.{AreTreesOf, Creates, IsDurable, IsSettled};
-ghost use Rattle.store_maps.specs.Creation.{nothing_held};
+ghost use Rattle.store_adoption.specs.Creates.{AreTreesOf, Creates, IsSettled};
+ghost use Rattle.store_sql.specs.Statements.{IsDurable};
+ghost use Rattle.statements_facts.specs.Statement.{empty_holdings};
 
 use sqlite::{Alter, Connection};
 use store_maps::make;
@@ -14,7 +15,7 @@ fn make_committed<S: Alter>(conn: &mut Connection<S>) -> Result<(), StoreFault>
     requires idle { conn.old.in_transaction ≡ false }
     ensures idle { conn.new.in_transaction ≡ false }
     ensures creates { HasCleanDisk (state S.Store conn.new) → Creates (state S.Store conn.old) (state S.Store conn.new) result }
-    ensures crash { Survives (state S.Store conn.old) (state S.Store conn.new) (AreTreesOf nothing_held) }
+    ensures crash { Survives (state S.Store conn.old) (state S.Store conn.new) (AreTreesOf empty_holdings) }
 {
     if !is_empty(conn.schema()) {
         return Err(StoreFault::Store);
@@ -37,7 +38,7 @@ pub fn create<S: Alter>(conn: &mut Connection<S>) -> Result<(), StoreFault>
     ensures creates { HasCleanDisk (state S.Store conn.new) → Creates (state S.Store conn.old) (state S.Store conn.new) result }
     ensures settled { IsSettled (state S.Store conn.old) × IsSettled (state S.Store conn.new) }
     ensures durable { IsDurable (state S.Store conn.new) }
-    ensures crash { Survives (state S.Store conn.old) (state S.Store conn.new) (AreTreesOf nothing_held) }
+    ensures crash { Survives (state S.Store conn.old) (state S.Store conn.new) (AreTreesOf empty_holdings) }
 {
     let _before = conn.is_autocommit();
     let made = make_committed(conn);

@@ -3,9 +3,9 @@
 ghost use Rattle.std.specs.Prelude.{◌≡◌, false};
 ghost use Rattle.sqlite.specs.Held.{state};
 ghost use Rattle.sqlite.specs.State.{HasCleanDisk};
-ghost use Rattle.store_sql.specs.Statements.{CommitsNothing};
+ghost use Rattle.store_sql.specs.Statements.{CommitsNothing, IsDurable};
 ghost use Rattle.store_sql.specs.Tables.{store_schema};
-ghost use Rattle.store_adoption.specs.Creates.{IsDurable, IsSettled};
+ghost use Rattle.store_adoption.specs.Creates.{IsSettled};
 ghost use Rattle.store_adoption.specs.Inspects.{Checks, Inspects, HasVersion, HasIssuers, HasNext, HasCrls, HasSingles, HasEntries, HasHeads, HasIds};
 
 use crate::crl_test::CrlTest;

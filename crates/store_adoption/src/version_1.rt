@@ -3,9 +3,9 @@
 ghost use Rattle.std.specs.Prelude.{◌≡◌, false, map};
 ghost use Rattle.sqlite.specs.Held.{state};
 ghost use Rattle.sqlite.specs.State.{HasCleanDisk};
-ghost use Rattle.store_sql.specs.Statements.{CommitsNothing};
+ghost use Rattle.store_sql.specs.Statements.{CommitsNothing, IsDurable};
 ghost use Rattle.store_sql.specs.Tables.{version_1_schema};
-ghost use Rattle.store_adoption.specs.Creates.{IsDurable, IsSettled};
+ghost use Rattle.store_adoption.specs.Creates.{IsSettled};
 ghost use Rattle.store_adoption.specs.Seen.{seen_list, seen_own};
 ghost use Rattle.store_adoption.specs.Inspects.{Checks, ReadsVersion1, HasVersion, HasIssuers, HasNext, HasSingles, HasIdsOfVersion1, HasUnscopedCrls, HasUnscopedEntries, ShowsCrls, ShowsEntries, HasListsUnder, HasUnder, ShowsLists};
 

@@ -18,7 +18,7 @@ use Rattle.store_rows.specs.Holding.{AreInForm, with_crl, with_entries}
 use Rattle.store_rows.proofs.Laws.{replaces, ascends}
 use Rattle.store_maps.specs.Held.{crl_under, held_in}
 use Rattle.statements_facts.specs.Coming.{with_crl_fact}
-use Rattle.store_maps.specs.Laws.{fact_of}
+use Rattle.store_maps.specs.Laws.{fact_of_rows}
 
 module _ {X : Type 0} (p q : X → Bool) where
   -- what is put behind the others is found where they are gone
@@ -142,7 +142,7 @@ module _ (it : Contents) (slot : CrlSlot) (id : ℕ) (head : CrlHead) (listed : 
   places : Replaces it.entries (replaced it.entries id (scope_number slot.scope) listed) id (scope_number slot.scope) listed
   places = replaces it.entries id (scope_number slot.scope) listed form.placed room (scope_low slot.scope) few (ascends listed up)
 
-  own : crl_under after slot.scope id ≡ Some (fact_of head listed)
+  own : crl_under after slot.scope id ≡ Some (fact_of_rows head listed)
   own =
       ap (option_map _) (find_new (is_crl_of id slot.scope) (is_crl_of id slot.scope) it.crls _ (ap₂ (λ a b. a && b) (is_eq_of id id refl) (is_eq_of (scope_number slot.scope) (scope_number slot.scope) refl)))
       ∙ ap (λ all. Some (record { number = head.number; window = head.window; reasons = first_reason all })) places.own
@@ -180,11 +180,11 @@ module _ (it : Contents) (slot : CrlSlot) (id : ℕ) (head : CrlHead) (listed : 
     | inr apart ↦ inl (λ e. true≢false (sym (is_eq_of j id e) ∙ apart))
   ])
 
-  at_slot : (other : CrlSlot) → (held_in after).crl other ≡ (with_crl_fact (held_in it) slot (fact_of head listed)).crl other
+  at_slot : (other : CrlSlot) → (held_in after).crl other ≡ (with_crl_fact (held_in it) slot (fact_of_rows head listed)).crl other
   at_slot other = elim (cases_Bool (same_crl_slot slot other)) [
-    | inl same ↦ rw same (subst (λ o. (held_in after).crl o ≡ Some (fact_of head listed)) (slots_are slot other same) (ap (option_and_then (crl_under after slot.scope)) known ∙ own))
+    | inl same ↦ rw same (subst (λ o. (held_in after).crl o ≡ Some (fact_of_rows head listed)) (slots_are slot other same) (ap (option_and_then (crl_under after slot.scope)) known ∙ own))
     | inr far ↦ rw far (held_elsewhere other far (id_of it.issuers other.issuer) refl)
   ]
 
-  pub list_held : held_in after ≡ with_crl_fact (held_in it) slot (fact_of head listed)
+  pub list_held : held_in after ≡ with_crl_fact (held_in it) slot (fact_of_rows head listed)
   list_held = let crls = fun_ext at_slot in λ i. record { crl = crls i; ocsp = (held_in it).ocsp }

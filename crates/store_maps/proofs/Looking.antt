@@ -3,37 +3,37 @@ use Rattle.std.proofs.Common.{◌≡◌, ℕ, List, Option, Some, None, option_m
 use Rattle.sqlite.specs.State.{State}
 use Rattle.statements_facts.specs.declared.scope.Scope.{Scope}
 use Rattle.statements_facts.specs.Listed.{first_reason}
-use Rattle.statements_facts.specs.Statement.{IssuerIdentity, Holdings}
+use Rattle.statements_facts.specs.Statement.{IssuerIdentity, Holdings, CrlAnswer, answer_for}
 use Rattle.store_sql.specs.declared.fault.StoreFault.{StoreFault}
 use Rattle.store_rows.specs.declared.crl.Head.{Head}
 use Rattle.store_rows.specs.Contents.{CrlRow, Contents, head_of, is_crl_of, id_of, scope_number}
-use Rattle.store_rows.specs.Places.{listed_in}
+use Rattle.store_rows.specs.Places.{entries_under}
 use Rattle.store_rows.specs.Seen.{seen_head}
-use Rattle.store_rows.specs.Steps.{Finds, IsAnswered}
+use Rattle.store_rows.specs.Steps.{Finds, HasFound}
 use Rattle.store_maps.specs.declared.crl_slot.HeldCrl.{HeldCrl}
-use Rattle.store_maps.specs.Held.{CrlPart, crl_under, part_of, seen_crl, held_in}
+use Rattle.store_maps.specs.Held.{crl_under, seen_crl, held_in}
 use Rattle.store_maps.specs.LooksUp.{LooksUp}
 use Rattle.store_maps.proofs.Chains.{finds_then, fails_then, found_in, fails_in}
 
 -- ---- a list under an id
 
 pub no_list : (it : Contents) (scope : Scope) (id : ℕ) (serial : List ℕ) (answer : Option Head) → answer ≡ None → option_map seen_head answer ≡ option_map head_of (find (is_crl_of id scope) it.crls)
-    → None ≡ option_map (part_of serial) (crl_under it scope id)
+    → None ≡ option_map (answer_for serial) (crl_under it scope id)
 no_list it scope id serial answer none is = cases (find (is_crl_of id scope) it.crls) (sym (ap (option_map seen_head) none) ∙ is)
   where
     cases : (row : Option CrlRow) → None ≡ option_map head_of row
-        → ◌≡◌ {A = Option CrlPart} None (option_map (part_of serial) (option_map (λ (row : CrlRow). record { number = row.number; window = row.window; reasons = first_reason (listed_in it.entries id (scope_number scope)) }) row))
+        → ◌≡◌ {A = Option CrlAnswer} None (option_map (answer_for serial) (option_map (λ (row : CrlRow). record { number = row.number; window = row.window; reasons = first_reason (entries_under it.entries id (scope_number scope)) }) row))
     cases None e = refl
     cases (Some row) e = absurd cc
 
 pub a_list : (it : Contents) (scope : Scope) (id : ℕ) (serial : List ℕ) (answer : Option Head) (head : Head) (reason : Option ℕ) (crl : HeldCrl) → answer ≡ Some head
     → seen_crl crl ≡ record { number = head.number; window = record { from = head.from; until = head.until }; reason = reason }
-    → option_map seen_head answer ≡ option_map head_of (find (is_crl_of id scope) it.crls) → reason ≡ first_reason (listed_in it.entries id (scope_number scope)) serial
-    → Some (seen_crl crl) ≡ option_map (part_of serial) (crl_under it scope id)
+    → option_map seen_head answer ≡ option_map head_of (find (is_crl_of id scope) it.crls) → reason ≡ first_reason (entries_under it.entries id (scope_number scope)) serial
+    → Some (seen_crl crl) ≡ option_map (answer_for serial) (crl_under it scope id)
 a_list it scope id serial answer head reason crl some made is listed = cases (find (is_crl_of id scope) it.crls) (sym (ap (option_map seen_head) some) ∙ is)
   where
     cases : (row : Option CrlRow) → Some (seen_head head) ≡ option_map head_of row
-        → Some (seen_crl crl) ≡ option_map (part_of serial) (option_map (λ (row : CrlRow). record { number = row.number; window = row.window; reasons = first_reason (listed_in it.entries id (scope_number scope)) }) row)
+        → Some (seen_crl crl) ≡ option_map (answer_for serial) (option_map (λ (row : CrlRow). record { number = row.number; window = row.window; reasons = first_reason (entries_under it.entries id (scope_number scope)) }) row)
     cases None e = absurd cc
     cases (Some row) e =
         let same : seen_head head ≡ head_of row = cc in
@@ -50,7 +50,7 @@ id_held id found n under some is = ap (option_and_then under) (sym is ∙ some)
 
 -- a look-up under the id of an issuer is one of what is held of the issuer
 pub looks_under : {A Fact Part : Type 0} (old mid new : State) (identity : IssuerIdentity) (answer : Option ℕ) (id : ℕ) (result : Result A StoreFault) (view : A → Option Part) (part : Fact → Part) (under : Contents → ℕ → Option Fact)
-    → answer ≡ Some id → IsAnswered old mid (λ it found. found ≡ id_of it.issuers identity) answer
+    → answer ≡ Some id → HasFound old mid (λ it found. found ≡ id_of it.issuers identity) answer
     → Finds mid new (λ it found. view found ≡ option_map part (under it id)) result
     → Finds old new (λ it found. view found ≡ option_map part (option_and_then (under it) (id_of it.issuers identity))) result
 looks_under old mid new identity answer id (Ok found) view part under some one two =
@@ -60,7 +60,7 @@ looks_under old mid new identity answer id (Err fault) view part under some one 
 
 -- the same where the whole fact is looked for
 pub looks_same : {A Fact : Type 0} (old mid new : State) (identity : IssuerIdentity) (answer : Option ℕ) (id : ℕ) (result : Result A StoreFault) (view : A → Option Fact) (under : Contents → ℕ → Option Fact)
-    → answer ≡ Some id → IsAnswered old mid (λ it found. found ≡ id_of it.issuers identity) answer
+    → answer ≡ Some id → HasFound old mid (λ it found. found ≡ id_of it.issuers identity) answer
     → Finds mid new (λ it found. view found ≡ under it id) result
     → Finds old new (λ it found. view found ≡ option_and_then (under it) (id_of it.issuers identity)) result
 looks_same old mid new identity answer id (Ok found) view under some one two =

@@ -2,11 +2,11 @@
 use Rattle.std.proofs.Common.{refl}
 use Rattle.sqlite.specs.Effect.{Database}
 use Rattle.store_sql.specs.declared.origin.Origin.TheVariants.{Made}
-use Rattle.store_rows.specs.Holding.{Holds, no_contents}
+use Rattle.store_rows.specs.Holding.{HasContents, no_contents}
 use Rattle.store_maps.specs.Held.{IsStoreOf}
-use Rattle.store_maps.specs.Creation.{nothing_held}
+use Rattle.statements_facts.specs.Statement.{empty_holdings}
 
-pub holds_nothing : (db : Database) → Holds db Made no_contents → IsStoreOf db nothing_held
+pub holds_nothing : (db : Database) → HasContents db Made no_contents → IsStoreOf db empty_holdings
 holds_nothing db rows = record {
   origin = Made;
   contents = no_contents;

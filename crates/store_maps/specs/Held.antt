@@ -4,18 +4,18 @@ use Rattle.std.specs.List.{AllByRecursion}
 use Rattle.sqlite.specs.Effect.{Database}
 use Rattle.statements_facts.specs.declared.scope.Scope.{Scope}
 use Rattle.statements_facts.specs.Listed.{first_reason}
-use Rattle.statements_facts.specs.Statement.{Window, CrlFact, OcspFact, Holdings}
+use Rattle.statements_facts.specs.Statement.{Window, CrlFact, OcspFact, Holdings, CrlAnswer}
 use Rattle.store_sql.specs.declared.origin.Origin.{Origin}
 use Rattle.store_rows.specs.Contents.{Contents, is_crl_of, is_single_of, id_of, said_of, scope_number}
-use Rattle.store_rows.specs.Places.{listed_in}
-use Rattle.store_rows.specs.Holding.{Holds, AreInForm, next_id}
+use Rattle.store_rows.specs.Places.{entries_under}
+use Rattle.store_rows.specs.Holding.{HasContents, AreInForm, next_id}
 use Rattle.store_maps.specs.declared.crl_slot.HeldCrl.{HeldCrl}
 
 -- ---- from rows to facts
 
 -- the list that stands under an issuer's id, with the reasons that its entries give
 abbrev pub crl_under : Contents → Scope → ℕ → Option CrlFact
-crl_under it scope id = option_map (λ row. record { number = row.number; window = row.window; reasons = first_reason (listed_in it.entries id (scope_number scope)) }) (find (is_crl_of id scope) it.crls)
+crl_under it scope id = option_map (λ row. record { number = row.number; window = row.window; reasons = first_reason (entries_under it.entries id (scope_number scope)) }) (find (is_crl_of id scope) it.crls)
 
 abbrev pub ocsp_under : Contents → List ℕ → List ℕ → ℕ → Option OcspFact
 ocsp_under it name_hash serial id = option_map said_of (find (is_single_of id name_hash serial) it.singles)
@@ -37,21 +37,12 @@ pub record IsOwned (it : Contents) : Type 0 where
 pub record IsStoreOf (db : Database) (held : Holdings) : Type 0 where
   pub origin : Origin
   pub contents : Contents
-  pub rows : Holds db origin contents
+  pub rows : HasContents db origin contents
   pub form : AreInForm contents
   pub owned : IsOwned contents
   pub held_is : held_in contents ≡ held
 
 -- ---- look-ups
 
--- what a list says of one serial number
-pub record CrlPart : Type 0 where
-  pub number : ℕ
-  pub window : Window
-  pub reason : Option ℕ
-
-abbrev pub part_of : List ℕ → CrlFact → CrlPart
-part_of serial fact = record { number = fact.number; window = fact.window; reason = fact.reasons serial }
-
-abbrev pub seen_crl : HeldCrl → CrlPart
+abbrev pub seen_crl : HeldCrl → CrlAnswer
 seen_crl crl = record { number = crl.number; window = record { from = crl.from; until = crl.until }; reason = crl.reason }

@@ -12,14 +12,14 @@ use Rattle.store_maps.specs.Held.{held_in, IsOwned}
 abbrev pub NewIssuerChangesNoMap : Type 0
 NewIssuerChangesNoMap = (it : Contents) (identity : IssuerIdentity) → IsOwned it → held_in (with_issuer identity it) ≡ held_in it
 
-abbrev pub fact_of : CrlHead → List ListedSerial → CrlFact
-fact_of head listed = record { number = head.number; window = head.window; reasons = first_reason listed }
+abbrev pub fact_of_rows : CrlHead → List ListedSerial → CrlFact
+fact_of_rows head listed = record { number = head.number; window = head.window; reasons = first_reason listed }
 
 -- A list that takes the place of another, row and entries, is held in its slot, and each other slot holds what it held.
 abbrev pub ReplacedListIsHeld : Type 0
 ReplacedListIsHeld = (it : Contents) (slot : CrlSlot) (id : ℕ) (head : CrlHead) (listed : List ListedSerial) → AreInForm it → Ascends (λ (one other : IssuerRow). one.id < other.id) it.issuers → HasRoom id
     → length listed ≤ 4294967296 → IsAscending listed → id_of it.issuers slot.issuer ≡ Some id
-    → held_in (with_entries id (scope_number slot.scope) listed (with_crl id slot.scope head.number head.window it)) ≡ with_crl_fact (held_in it) slot (fact_of head listed)
+    → held_in (with_entries id (scope_number slot.scope) listed (with_crl id slot.scope head.number head.window it)) ≡ with_crl_fact (held_in it) slot (fact_of_rows head listed)
 
 abbrev pub ReplacedSingleIsHeld : Type 0
 ReplacedSingleIsHeld = (it : Contents) (slot : OcspSlot) (id : ℕ) (fact : OcspFact) → Ascends (λ (one other : IssuerRow). one.id < other.id) it.issuers → id_of it.issuers slot.issuer ≡ Some id

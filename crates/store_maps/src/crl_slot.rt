@@ -6,7 +6,8 @@ ghost use Rattle.sqlite.specs.State.{HasCleanDisk};
 ghost use Rattle.statements_facts.specs.Fact.{issuer_of};
 ghost use Rattle.store_sql.specs.Statements.{CommitsNothing};
 ghost use Rattle.store_rows.specs.Steps.{Finds};
-ghost use Rattle.store_maps.specs.Held.{crl_under, part_of, seen_crl};
+ghost use Rattle.store_maps.specs.Held.{crl_under, seen_crl};
+ghost use Rattle.statements_facts.specs.Statement.{answer_for};
 ghost use Rattle.store_maps.specs.LooksUp.{LooksUp};
 
 use asn::Number20;
@@ -47,7 +48,7 @@ fn look_under<S: Alter>(
     requires issuer { list.now.issuer < 536870911 }
     requires inside { HasCleanDisk (state S.Store tx.old.conn.now) → IsTrue (state S.Store tx.old.conn.now).in_transaction }
     ensures same_reference { tx.new.conn.ghost_name ≡ tx.old.conn.ghost_name }
-    ensures finds { HasCleanDisk (state S.Store tx.new.conn.now) → Finds (state S.Store tx.old.conn.now) (state S.Store tx.new.conn.now) (λ it crl. option_map seen_crl crl ≡ option_map (part_of serial.now) (crl_under it list.now.scope list.now.issuer)) result }
+    ensures finds { HasCleanDisk (state S.Store tx.new.conn.now) → Finds (state S.Store tx.old.conn.now) (state S.Store tx.new.conn.now) (λ it crl. option_map seen_crl crl ≡ option_map (answer_for serial.now) (crl_under it list.now.scope list.now.issuer)) result }
     ensures survives { CommitsNothing (state S.Store tx.old.conn.now) (state S.Store tx.new.conn.now) }
 {
     let head = match find_crl(tx, list.issuer, list.scope) {
@@ -70,7 +71,7 @@ pub fn crl<S: Alter>(
 ) -> Result<Option<HeldCrl>, StoreFault>
     requires inside { HasCleanDisk (state S.Store tx.old.conn.now) → IsTrue (state S.Store tx.old.conn.now).in_transaction }
     ensures same_reference { tx.new.conn.ghost_name ≡ tx.old.conn.ghost_name }
-    ensures looks_up { HasCleanDisk (state S.Store tx.new.conn.now) → LooksUp (state S.Store tx.old.conn.now) (state S.Store tx.new.conn.now) (λ held crl. option_map seen_crl crl ≡ option_map (part_of serial.now) (held.crl (record { issuer = issuer_of issuer.now; scope = scope }))) result }
+    ensures looks_up { HasCleanDisk (state S.Store tx.new.conn.now) → LooksUp (state S.Store tx.old.conn.now) (state S.Store tx.new.conn.now) (λ held crl. option_map seen_crl crl ≡ option_map (answer_for serial.now) (held.crl (record { issuer = issuer_of issuer.now; scope = scope }))) result }
     ensures survives { CommitsNothing (state S.Store tx.old.conn.now) (state S.Store tx.new.conn.now) }
 {
     let id = match find_issuer(tx, issuer) {

@@ -5,12 +5,12 @@ ghost use Rattle.sqlite.specs.Held.{state};
 ghost use Rattle.sqlite.specs.State.{HasCleanDisk};
 ghost use Rattle.statements_facts.specs.Fact.{issuer_of};
 ghost use Rattle.store_sql.specs.Statements.{CommitsNothing};
-ghost use Rattle.store_rows.specs.Seen.{seen_said};
+ghost use Rattle.store_rows.specs.Seen.{seen_held_status};
 ghost use Rattle.store_maps.specs.LooksUp.{LooksUp};
 
 use sqlite::{Alter, Transaction};
 use statements_facts::Issuer;
-use store_rows::{Said, find_issuer, find_single};
+use store_rows::{HeldStatus, find_issuer, find_single};
 use store_sql::StoreFault;
 
 /// What is held of one certificate of an issuer: the hash of the issuer's name, as the certificate spells it, and the contents
@@ -20,10 +20,10 @@ pub fn ocsp<'x, S: Alter>(
     issuer: &Issuer<'_>,
     name_hash: &'x [u8],
     serial: &'x [u8],
-) -> Result<Option<Said>, StoreFault>
+) -> Result<Option<HeldStatus>, StoreFault>
     requires inside { HasCleanDisk (state S.Store tx.old.conn.now) → IsTrue (state S.Store tx.old.conn.now).in_transaction }
     ensures same_reference { tx.new.conn.ghost_name ≡ tx.old.conn.ghost_name }
-    ensures looks_up { HasCleanDisk (state S.Store tx.new.conn.now) → LooksUp (state S.Store tx.old.conn.now) (state S.Store tx.new.conn.now) (λ held said. option_map seen_said said ≡ held.ocsp (record { issuer = issuer_of issuer.now; name_hash = name_hash.now; serial = serial.now })) result }
+    ensures looks_up { HasCleanDisk (state S.Store tx.new.conn.now) → LooksUp (state S.Store tx.old.conn.now) (state S.Store tx.new.conn.now) (λ held said. option_map seen_held_status said ≡ held.ocsp (record { issuer = issuer_of issuer.now; name_hash = name_hash.now; serial = serial.now })) result }
     ensures survives { CommitsNothing (state S.Store tx.old.conn.now) (state S.Store tx.new.conn.now) }
 {
     let id = match find_issuer(tx, issuer) {

@@ -18,13 +18,13 @@ use Rattle.store_sql.proofs.Laws.{makes, makes_crls, makes_entries, deletes_vers
 use Rattle.store_rows.specs.Contents.{SingleRow}
 use Rattle.store_rows.specs.Holding.{IsSaid, next_id}
 use Rattle.store_adoption.specs.Version1.{UnscopedCrl, UnscopedEntry, without_lists, unscoped_crl_under, for_all_certificates, version_1_row}
-use Rattle.store_taking.specs.Passing.{Passes}
+use Rattle.store_taking.specs.Passing.{HasStepped}
 use Rattle.store_migration.specs.Moved.{IsOld, HasTables, HasMoved}
 
 -- ---- the tables
 
 pub tables_made : (old mid new : State) (one two : ℕ) (crls : List UnscopedCrl) (entries : List UnscopedEntry) → ExecutesInside 0 create_scoped_crls [] old mid (Ok one) → ExecutesInside 0 create_scoped_entries [] mid new (Ok two)
-    → Passes old new (IsOld crls entries) (HasTables crls entries)
+    → HasStepped old new (IsOld crls entries) (HasTables crls entries)
 tables_made old mid new one two crls entries a b = record {
   keeps = record { was_open = λ _. a.1.was_open; committed = λ _. b.1.committed_is ∙ a.1.committed_is };
   mode = rw b.1.mode refl;
@@ -80,7 +80,7 @@ no_list entries id User = refl
 no_list entries id Ca = refl
 
 pub version_set : (old mid new : State) (one two : ℕ) (crls : List UnscopedCrl) (entries : List UnscopedEntry) → ExecutesInside 0 delete_version (Int (pos 1) ∷ []) old mid (Ok one) → ExecutesInside 0 insert_version (Int (pos 1) ∷ Int (pos 2) ∷ []) mid new (Ok two)
-    → Passes old new (HasTables crls entries) (HasMoved crls entries [])
+    → HasStepped old new (HasTables crls entries) (HasMoved crls entries [])
 version_set old mid new one two crls entries a b = record {
   keeps = record { was_open = λ _. a.1.was_open; committed = λ _. b.1.committed_is ∙ a.1.committed_is };
   mode = rw b.1.mode refl;

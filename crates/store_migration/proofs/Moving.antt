@@ -18,7 +18,7 @@ use Rattle.store_sql.specs.declared.fault.StoreFault.TheVariants.{Schema as NotO
 use Rattle.store_sql.specs.declared.origin.Origin.TheVariants.{Migrated}
 use Rattle.store_rows.specs.Contents.{CrlRow, CrlHead, Contents, crl_row, id_of, is_crl_of, scope_number}
 use Rattle.store_rows.specs.Places.{Replaces, replaced}
-use Rattle.store_rows.specs.Holding.{AreInForm, AreInOrder, HasRoom, IsNumbered, next_id, with_crl}
+use Rattle.store_rows.specs.Holding.{AreInForm, FitInList, HasRoom, IsNumbered, next_id, with_crl}
 use Rattle.store_rows.specs.Steps.{Moves, Fails}
 use Rattle.store_rows.proofs.Laws.{replaces, ascends}
 use Rattle.store_maps.specs.Held.{crl_under, held_in, IsStoreOf}
@@ -27,7 +27,7 @@ use Rattle.store_adoption.specs.declared.unscoped.UnscopedList.{UnscopedList}
 use Rattle.store_adoption.specs.Seen.{seen_list}
 use Rattle.store_adoption.specs.Version1.{UnscopedCrl, UnscopedEntry, UnscopedContents, entries_in, held_in_version_1, listed_under, unscoped_crl_under, for_all_certificates}
 use Rattle.store_taking.specs.Lists.{with_list}
-use Rattle.store_taking.specs.Passing.{Passes, Stops}
+use Rattle.store_taking.specs.Passing.{HasStepped, StepFails}
 use Rattle.store_taking.proofs.Laws.{crl_in_form, entries_in_form, list_owned}
 use Rattle.store_migration.specs.Moved.{HasMoved, IsNext}
 
@@ -53,7 +53,7 @@ module _ {X : Type 0} (p q : X → Bool) where
 
 -- ---- what stands under each id, once a list took its place
 
-module _ (it : Contents) (id : ℕ) (head : CrlHead) (listed : List ListedSerial) (form : AreInForm it) (room : HasRoom id) (formed : AreInOrder listed) where
+module _ (it : Contents) (id : ℕ) (head : CrlHead) (listed : List ListedSerial) (form : AreInForm it) (room : HasRoom id) (formed : FitInList listed) where
   abbrev after : Contents
   after = with_list id All head listed it
 
@@ -124,7 +124,7 @@ found_before (c ∷ moved) crl id far = elim (cases_Bool (c.issuer == id)) [
   | inr gone ↦ rw gone (found_before moved crl id far)
 ]
 
-module _ (entries : List UnscopedEntry) (moved : List UnscopedCrl) (crl : UnscopedCrl) (listed : List ListedSerial) (formed : AreInOrder listed) (room : HasRoom crl.issuer)
+module _ (entries : List UnscopedEntry) (moved : List UnscopedCrl) (crl : UnscopedCrl) (listed : List ListedSerial) (formed : FitInList listed) (room : HasRoom crl.issuer)
     (reasons : (serial : List ℕ) → first_reason listed serial ≡ first_reason (listed_under entries crl.issuer) serial) (low : AllByRecursion (λ (c : UnscopedCrl). c.issuer < crl.issuer) moved) where
   stands : (it : Contents) → AreInForm it → ((id : ℕ) (scope : Scope) → crl_under it scope id ≡ for_all_certificates scope (unscoped_crl_under moved entries id))
       → (id : ℕ) (scope : Scope) → crl_under (with_list crl.issuer All crl.head listed it) scope id ≡ for_all_certificates scope (unscoped_crl_under (moved ++ crl ∷ []) entries id)
@@ -144,8 +144,8 @@ module _ (entries : List UnscopedEntry) (moved : List UnscopedCrl) (crl : Unscop
 
 -- ---- a list in its place
 
-pub list_moves : (old new : State) (crls : List UnscopedCrl) (entries : List UnscopedEntry) (moved : List UnscopedCrl) (crl : UnscopedCrl) (listed : List ListedSerial) → Moves old new (with_list crl.issuer All crl.head listed) → AreInOrder listed → HasRoom crl.issuer
-    → ((serial : List ℕ) → first_reason listed serial ≡ first_reason (listed_under entries crl.issuer) serial) → IsNext crls moved crl → Passes old new (HasMoved crls entries moved) (HasMoved crls entries (moved ++ crl ∷ []))
+pub list_moves : (old new : State) (crls : List UnscopedCrl) (entries : List UnscopedEntry) (moved : List UnscopedCrl) (crl : UnscopedCrl) (listed : List ListedSerial) → Moves old new (with_list crl.issuer All crl.head listed) → FitInList listed → HasRoom crl.issuer
+    → ((serial : List ℕ) → first_reason listed serial ≡ first_reason (listed_under entries crl.issuer) serial) → IsNext crls moved crl → HasStepped old new (HasMoved crls entries moved) (HasMoved crls entries (moved ++ crl ∷ []))
 list_moves old new crls entries moved crl listed moves formed room reasons next = record {
   keeps = record { was_open = λ _. moves.was_open; committed = λ _. moves.committed_is };
   mode = moves.mode;
@@ -168,15 +168,15 @@ list_moves old new crls entries moved crl listed moves formed room reasons next 
       };
 }
 
-pub list_stops : (old new : State) (crls : List UnscopedCrl) (entries : List UnscopedEntry) (moved : List UnscopedCrl) (fault : StoreFault) → Fails old new fault → Stops old new (HasMoved crls entries moved) fault
+pub list_stops : (old new : State) (crls : List UnscopedCrl) (entries : List UnscopedEntry) (moved : List UnscopedCrl) (fault : StoreFault) → Fails old new fault → StepFails old new (HasMoved crls entries moved) fault
 list_stops _ _ crls entries moved fault f = record { keeps = f.keeps; formed = λ e held was. f.formed e Migrated was.contents was.rows was.form }
 
-pub stops_here : (s : State) (P : Database → Holdings → Type 0) (fault : StoreFault) → fault ≢ NotOurs → Stops s s P fault
+pub stops_here : (s : State) (P : Database → Holdings → Type 0) (fault : StoreFault) → fault ≢ NotOurs → StepFails s s P fault
 stops_here s P fault other = record { keeps = record { was_open = λ h. h; committed = λ _. refl }; formed = λ e held was. other e }
 
 -- ---- the loop
 
-pub nothing_passes : (s : State) (P : Database → Holdings → Type 0) → IsTrue s.in_transaction → Passes s s P P
+pub nothing_passes : (s : State) (P : Database → Holdings → Type 0) → IsTrue s.in_transaction → HasStepped s s P P
 nothing_passes s P inside = record { keeps = record { was_open = λ h. h; committed = λ _. refl }; mode = inside; held = λ held was. was }
 
 -- the lists so far with the next, and what is left
@@ -224,5 +224,5 @@ store_of_moved db crls entries held m =
       held_is = (λ i. record { crl = by_slot i; ocsp = ocsp i }) ∙ m.was.held_is;
     }
 
-pub stores_pass : (old new : State) (P : Database → Holdings → Type 0) (crls : List UnscopedCrl) (entries : List UnscopedEntry) → Passes old new P (HasMoved crls entries crls) → Passes old new P IsStoreOf
+pub stores_pass : (old new : State) (P : Database → Holdings → Type 0) (crls : List UnscopedCrl) (entries : List UnscopedEntry) → HasStepped old new P (HasMoved crls entries crls) → HasStepped old new P IsStoreOf
 stores_pass old new P crls entries passes = record { keeps = passes.keeps; mode = passes.mode; held = λ held was. store_of_moved new.now crls entries held (passes.held held was) }

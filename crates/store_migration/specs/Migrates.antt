@@ -7,14 +7,14 @@ use Rattle.store_sql.specs.declared.fault.StoreFault.{StoreFault}
 use Rattle.store_sql.specs.declared.fault.StoreFault.TheVariants.{Schema}
 use Rattle.store_maps.specs.Held.{IsStoreOf}
 use Rattle.store_adoption.specs.Creates.{AreTreesOf}
-use Rattle.store_adoption.specs.Inspects.{AreInOrder}
+use Rattle.store_adoption.specs.Inspects.{TablesAreInOrder}
 use Rattle.store_adoption.specs.Version1.{UnscopedCrl, UnscopedEntry, IsVersion1Of, IsVersion1}
 use Rattle.store_migration.specs.Moved.{IsOld}
 
 -- what version 1 held is held by version 2, and is committed
 pub record IsMigrated (old new : State) : Type 0 where
   pub was_open : IsTrue old.is_open
-  pub version_1 : AreInOrder old.now → IsVersion1 old.now
+  pub version_1 : TablesAreInOrder old.now → IsVersion1 old.now
   pub is_open : IsTrue new.is_open
   pub held : (held : Holdings) → IsVersion1Of old.now held → IsStoreOf new.now held
   pub committed_is : new.committed ≡ new.now
@@ -26,7 +26,7 @@ Migrates old new (Err fault) = KeepsCommit old new × (fault ≡ Schema → (hel
 
 -- what a crash may leave beside what it could leave before, and that only where the database was of version 1: the store of version 2
 abbrev pub LeavesMigrated : State → Trees → Type 0
-LeavesMigrated old trees = (AreInOrder old.now → IsVersion1 old.now) × ((held : Holdings) → IsVersion1Of old.now held → AreTreesOf held trees)
+LeavesMigrated old trees = (TablesAreInOrder old.now → IsVersion1 old.now) × ((held : Holdings) → IsVersion1Of old.now held → AreTreesOf held trees)
 
 -- ---- on the way, where these are the lists and their entries
 

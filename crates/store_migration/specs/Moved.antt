@@ -7,7 +7,7 @@ use Rattle.statements_facts.specs.Statement.{Holdings}
 use Rattle.store_sql.specs.declared.origin.Origin.TheVariants.{Migrated}
 use Rattle.store_sql.specs.Tables.{store_schema}
 use Rattle.store_rows.specs.Contents.{Contents, issuer_row, single_row}
-use Rattle.store_rows.specs.Holding.{Holds, AreInForm}
+use Rattle.store_rows.specs.Holding.{HasContents, AreInForm}
 use Rattle.store_maps.specs.Held.{crl_under, IsOwned}
 use Rattle.store_adoption.specs.Version1.{UnscopedCrl, UnscopedEntry, UnscopedContents, HoldsVersion1, AreUnscopedInForm, AreLists, held_in_version_1, unscoped_crl_under, for_all_certificates, version_1_row}
 
@@ -43,7 +43,7 @@ pub record HasMoved (crls : List UnscopedCrl) (entries : List UnscopedEntry) (mo
   pub it : UnscopedContents
   pub was : HeldBefore crls entries it held
   pub contents : Contents
-  pub rows : Holds db Migrated contents
+  pub rows : HasContents db Migrated contents
   pub form : AreInForm contents
   pub owned : IsOwned contents
   pub issuers_are : contents.issuers ≡ it.issuers

@@ -7,13 +7,13 @@ ghost use Rattle.statements_facts.specs.declared.scope.Scope.TheVariants.{All};
 ghost use Rattle.statements_facts.specs.Listed.{first_reason};
 ghost use Rattle.std.specs.List.Sorted.{IsNonDecreasingBy};
 ghost use Rattle.store_sql.specs.Statements.{CommitsNothing};
-ghost use Rattle.store_rows.specs.Holding.{AreInOrder};
+ghost use Rattle.store_rows.specs.Holding.{FitInList};
 ghost use Rattle.store_rows.specs.Seen.{seen_head};
-ghost use Rattle.store_rows.specs.Steps.{Changes};
+ghost use Rattle.store_rows.specs.StepsTo.{Changes};
 ghost use Rattle.store_adoption.specs.Seen.{seen_list, seen_own};
 ghost use Rattle.store_adoption.specs.Version1.{UnscopedCrl, UnscopedEntry, listed_under};
 ghost use Rattle.store_taking.specs.Lists.{with_list};
-ghost use Rattle.store_taking.specs.Passing.{Goes};
+ghost use Rattle.store_taking.specs.Passing.{StepsTo};
 ghost use Rattle.store_migration.specs.Grouped.{HasSameLists, seen_entry};
 ghost use Rattle.store_migration.specs.Moved.{HasMoved, IsNext};
 
@@ -62,7 +62,7 @@ fn put_revoked<S: Alter>(
     requires issuer { list.now.issuer < 536870911 }
     requires inside { HasCleanDisk (state S.Store tx.old.conn.now) → IsTrue (state S.Store tx.old.conn.now).in_transaction }
     ensures same_reference { tx.new.conn.ghost_name ≡ tx.old.conn.ghost_name }
-    ensures formed { OnOk result (AreInOrder revoked.now) }
+    ensures formed { OnOk result (FitInList revoked.now) }
     ensures changes { HasCleanDisk (state S.Store tx.new.conn.now) → Changes (state S.Store tx.old.conn.now) (state S.Store tx.new.conn.now) (with_list list.now.issuer All (seen_head list.now.head) revoked.now) result }
     ensures survives { CommitsNothing (state S.Store tx.old.conn.now) (state S.Store tx.new.conn.now) }
 {
@@ -91,7 +91,7 @@ fn put_list<S: Alter>(
     requires rise { IsNonDecreasingBy (λ entry. entry.issuer) sorted.now }
     requires inside { HasCleanDisk (state S.Store tx.old.conn.now) → IsTrue (state S.Store tx.old.conn.now).in_transaction }
     ensures same_reference { tx.new.conn.ghost_name ≡ tx.old.conn.ghost_name }
-    ensures puts { HasCleanDisk (state S.Store tx.new.conn.now) → (crls moved : List UnscopedCrl) (entries : List UnscopedEntry) → HasSameLists (map seen_entry sorted.now) entries → IsNext crls moved (seen_list list.now) → Goes (state S.Store tx.old.conn.now) (state S.Store tx.new.conn.now) (HasMoved crls entries moved) (λ done. HasMoved crls entries (moved ++ seen_list list.now ∷ [])) result }
+    ensures puts { HasCleanDisk (state S.Store tx.new.conn.now) → (crls moved : List UnscopedCrl) (entries : List UnscopedEntry) → HasSameLists (map seen_entry sorted.now) entries → IsNext crls moved (seen_list list.now) → StepsTo (state S.Store tx.old.conn.now) (state S.Store tx.new.conn.now) (HasMoved crls entries moved) (λ done. HasMoved crls entries (moved ++ seen_list list.now ∷ [])) result }
     ensures survives { CommitsNothing (state S.Store tx.old.conn.now) (state S.Store tx.new.conn.now) }
 {
     if list.issuer >= ID_LIMIT {
@@ -117,7 +117,7 @@ fn put_each<S: Alter>(
     requires rise { IsNonDecreasingBy (λ entry. entry.issuer) sorted.now }
     requires inside { HasCleanDisk (state S.Store tx.old.conn.now) → IsTrue (state S.Store tx.old.conn.now).in_transaction }
     ensures same_reference { tx.new.conn.ghost_name ≡ tx.old.conn.ghost_name }
-    ensures puts { HasCleanDisk (state S.Store tx.new.conn.now) → (entries : List UnscopedEntry) → HasSameLists (map seen_entry sorted.now) entries → Goes (state S.Store tx.old.conn.now) (state S.Store tx.new.conn.now) (HasMoved (map seen_list lists.now) entries []) (λ done. HasMoved (map seen_list lists.now) entries (map seen_list lists.now)) result }
+    ensures puts { HasCleanDisk (state S.Store tx.new.conn.now) → (entries : List UnscopedEntry) → HasSameLists (map seen_entry sorted.now) entries → StepsTo (state S.Store tx.old.conn.now) (state S.Store tx.new.conn.now) (HasMoved (map seen_list lists.now) entries []) (λ done. HasMoved (map seen_list lists.now) entries (map seen_list lists.now)) result }
     ensures survives { CommitsNothing (state S.Store tx.old.conn.now) (state S.Store tx.new.conn.now) }
 {
     'each: for list in lists {
@@ -137,7 +137,7 @@ pub(crate) fn put_lists<S: Alter>(
 ) -> Result<(), StoreFault>
     requires inside { HasCleanDisk (state S.Store tx.old.conn.now) → IsTrue (state S.Store tx.old.conn.now).in_transaction }
     ensures same_reference { tx.new.conn.ghost_name ≡ tx.old.conn.ghost_name }
-    ensures puts { HasCleanDisk (state S.Store tx.new.conn.now) → Goes (state S.Store tx.old.conn.now) (state S.Store tx.new.conn.now) (HasMoved (map seen_list all.now.lists.items) (map seen_own all.now.entries.items) []) (λ done. HasMoved (map seen_list all.now.lists.items) (map seen_own all.now.entries.items) (map seen_list all.now.lists.items)) result }
+    ensures puts { HasCleanDisk (state S.Store tx.new.conn.now) → StepsTo (state S.Store tx.old.conn.now) (state S.Store tx.new.conn.now) (HasMoved (map seen_list all.now.lists.items) (map seen_own all.now.entries.items) []) (λ done. HasMoved (map seen_list all.now.lists.items) (map seen_own all.now.entries.items) (map seen_list all.now.lists.items)) result }
     ensures survives { CommitsNothing (state S.Store tx.old.conn.now) (state S.Store tx.new.conn.now) }
 {
     let sorted = match by_issuer(alloc, all.entries.as_slice()) {

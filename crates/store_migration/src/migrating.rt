@@ -3,11 +3,11 @@
 ghost use Rattle.std.specs.Prelude.{◌≡◌, false, map, IsTrue};
 ghost use Rattle.sqlite.specs.Held.{state};
 ghost use Rattle.sqlite.specs.State.{HasCleanDisk, Survives};
-ghost use Rattle.store_sql.specs.Statements.{CommitsNothing};
+ghost use Rattle.store_sql.specs.Statements.{CommitsNothing, IsDurable};
 ghost use Rattle.store_maps.specs.Held.{IsStoreOf};
-ghost use Rattle.store_adoption.specs.Creates.{IsDurable, IsSettled};
+ghost use Rattle.store_adoption.specs.Creates.{IsSettled};
 ghost use Rattle.store_adoption.specs.Seen.{seen_list, seen_own};
-ghost use Rattle.store_taking.specs.Passing.{Goes};
+ghost use Rattle.store_taking.specs.Passing.{StepsTo};
 ghost use Rattle.store_migration.specs.Moved.{IsOld};
 ghost use Rattle.store_migration.specs.Migrates.{Migrates, MigratesLists, LeavesMigrated, LeavesMoved};
 
@@ -25,7 +25,7 @@ fn move_lists<S: Alter>(
 ) -> Result<(), StoreFault>
     requires inside { HasCleanDisk (state S.Store tx.old.conn.now) → IsTrue (state S.Store tx.old.conn.now).in_transaction }
     ensures same_reference { tx.new.conn.ghost_name ≡ tx.old.conn.ghost_name }
-    ensures moves { HasCleanDisk (state S.Store tx.new.conn.now) → Goes (state S.Store tx.old.conn.now) (state S.Store tx.new.conn.now) (IsOld (map seen_list all.now.lists.items) (map seen_own all.now.entries.items)) (λ done. IsStoreOf) result }
+    ensures moves { HasCleanDisk (state S.Store tx.new.conn.now) → StepsTo (state S.Store tx.old.conn.now) (state S.Store tx.new.conn.now) (IsOld (map seen_list all.now.lists.items) (map seen_own all.now.entries.items)) (λ done. IsStoreOf) result }
     ensures survives { CommitsNothing (state S.Store tx.old.conn.now) (state S.Store tx.new.conn.now) }
 {
     if let Err(fault) = prepare(tx) {

@@ -5,7 +5,7 @@ ghost use Rattle.sqlite.specs.Held.{state};
 ghost use Rattle.sqlite.specs.State.{HasCleanDisk};
 ghost use Rattle.store_sql.specs.Statements.{CommitsNothing};
 ghost use Rattle.store_adoption.specs.Version1.{UnscopedCrl, UnscopedEntry};
-ghost use Rattle.store_taking.specs.Passing.{Goes};
+ghost use Rattle.store_taking.specs.Passing.{StepsTo};
 ghost use Rattle.store_migration.specs.Moved.{IsOld, HasTables, HasMoved};
 
 use sqlite::{Alter, Transaction};
@@ -16,7 +16,7 @@ use store_sql::{
 fn make_tables<S: Alter>(tx: &mut Transaction<'_, S>) -> Result<(), StoreFault>
     requires inside { HasCleanDisk (state S.Store tx.old.conn.now) → IsTrue (state S.Store tx.old.conn.now).in_transaction }
     ensures same_reference { tx.new.conn.ghost_name ≡ tx.old.conn.ghost_name }
-    ensures makes { HasCleanDisk (state S.Store tx.new.conn.now) → (crls : List UnscopedCrl) (entries : List UnscopedEntry) → Goes (state S.Store tx.old.conn.now) (state S.Store tx.new.conn.now) (IsOld crls entries) (λ done. HasTables crls entries) result }
+    ensures makes { HasCleanDisk (state S.Store tx.new.conn.now) → (crls : List UnscopedCrl) (entries : List UnscopedEntry) → StepsTo (state S.Store tx.old.conn.now) (state S.Store tx.new.conn.now) (IsOld crls entries) (λ done. HasTables crls entries) result }
     ensures survives { CommitsNothing (state S.Store tx.old.conn.now) (state S.Store tx.new.conn.now) }
 {
     if let Err(error) = create_scoped_crls(tx) {
@@ -31,7 +31,7 @@ fn make_tables<S: Alter>(tx: &mut Transaction<'_, S>) -> Result<(), StoreFault>
 fn set_version<S: Alter>(tx: &mut Transaction<'_, S>) -> Result<(), StoreFault>
     requires inside { HasCleanDisk (state S.Store tx.old.conn.now) → IsTrue (state S.Store tx.old.conn.now).in_transaction }
     ensures same_reference { tx.new.conn.ghost_name ≡ tx.old.conn.ghost_name }
-    ensures sets { HasCleanDisk (state S.Store tx.new.conn.now) → (crls : List UnscopedCrl) (entries : List UnscopedEntry) → Goes (state S.Store tx.old.conn.now) (state S.Store tx.new.conn.now) (HasTables crls entries) (λ done. HasMoved crls entries []) result }
+    ensures sets { HasCleanDisk (state S.Store tx.new.conn.now) → (crls : List UnscopedCrl) (entries : List UnscopedEntry) → StepsTo (state S.Store tx.old.conn.now) (state S.Store tx.new.conn.now) (HasTables crls entries) (λ done. HasMoved crls entries []) result }
     ensures survives { CommitsNothing (state S.Store tx.old.conn.now) (state S.Store tx.new.conn.now) }
 {
     if let Err(error) = delete_version(tx) {
@@ -47,7 +47,7 @@ fn set_version<S: Alter>(tx: &mut Transaction<'_, S>) -> Result<(), StoreFault>
 pub(crate) fn prepare<S: Alter>(tx: &mut Transaction<'_, S>) -> Result<(), StoreFault>
     requires inside { HasCleanDisk (state S.Store tx.old.conn.now) → IsTrue (state S.Store tx.old.conn.now).in_transaction }
     ensures same_reference { tx.new.conn.ghost_name ≡ tx.old.conn.ghost_name }
-    ensures prepares { HasCleanDisk (state S.Store tx.new.conn.now) → (crls : List UnscopedCrl) (entries : List UnscopedEntry) → Goes (state S.Store tx.old.conn.now) (state S.Store tx.new.conn.now) (IsOld crls entries) (λ done. HasMoved crls entries []) result }
+    ensures prepares { HasCleanDisk (state S.Store tx.new.conn.now) → (crls : List UnscopedCrl) (entries : List UnscopedEntry) → StepsTo (state S.Store tx.old.conn.now) (state S.Store tx.new.conn.now) (IsOld crls entries) (λ done. HasMoved crls entries []) result }
     ensures survives { CommitsNothing (state S.Store tx.old.conn.now) (state S.Store tx.new.conn.now) }
 {
     if let Err(fault) = make_tables(tx) {

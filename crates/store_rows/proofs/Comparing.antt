@@ -10,12 +10,12 @@ use Rattle.statements_facts.specs.declared.revoked.Listed.{Listed}
 use Rattle.statements_facts.specs.Listed.{ListedSerial, seen_listed}
 use Rattle.store_sql.specs.declared.origin.Origin.{Origin}
 use Rattle.store_sql.specs.declared.fault.StoreFault.{StoreFault}
-use Rattle.store_rows.specs.declared.beside.Beside.{Beside}
-use Rattle.store_rows.specs.declared.beside.Beside.TheVariants.{Nothing, Same}
+use Rattle.store_rows.specs.declared.beside.SerialAtPlace.{SerialAtPlace}
+use Rattle.store_rows.specs.declared.beside.SerialAtPlace.TheVariants.{Nothing, Same}
 use Rattle.store_rows.specs.Contents.{Contents}
-use Rattle.store_rows.specs.Places.{compared, beside_of, listed_in}
-use Rattle.store_rows.specs.Holding.{Holds, AreInForm}
-use Rattle.store_rows.specs.Steps.{Stays, Fails, Finds, IsAnswered}
+use Rattle.store_rows.specs.Places.{compared, beside_of, entries_under}
+use Rattle.store_rows.specs.Holding.{HasContents, AreInForm}
+use Rattle.store_rows.specs.Steps.{Stays, Fails, Finds, HasFound}
 use Rattle.store_rows.proofs.Halving.{is_same}
 use Rattle.store_rows.proofs.Entries.{begun_stays, then_stays, still_holds}
 
@@ -43,7 +43,7 @@ stands_there (Some there) listed e =
 beside_itself : (listed : ListedSerial) → beside_of (Some listed) listed.serial ≡ Same listed.reason
 beside_itself listed = ap (λ o. compared o listed.reason) (itself listed.serial)
 
-pub there_is : (there : _) (found : Option ListedSerial) (beside : Beside) (listed : ListedSerial) → (IsTrue there ↔ (beside ≡ Same listed.reason)) → beside ≡ beside_of found listed.serial
+pub there_is : (there : _) (found : Option ListedSerial) (beside : SerialAtPlace) (listed : ListedSerial) → (IsTrue there ↔ (beside ≡ Same listed.reason)) → beside ≡ beside_of found listed.serial
     → IsTrue there ↔ (found ≡ Some listed)
 there_is there found beside listed tests is = (
   λ yes. stands_there found listed (sym is ∙ tests.0 yes),
@@ -59,11 +59,11 @@ ended : (found : Option ListedSerial) (serial : List ℕ) → beside_of found se
 ended None serial e = refl
 ended (Some there) serial e = absurd (never_nothing (slice_cmp nat_cmp there.serial serial) there.reason e)
 
-pub end_is : (ends : _) (found : Option ListedSerial) (beside : Beside) (serial : List ℕ) → (IsTrue ends ↔ (beside ≡ Nothing)) → beside ≡ beside_of found serial → IsTrue ends ↔ (found ≡ None)
+pub end_is : (ends : _) (found : Option ListedSerial) (beside : SerialAtPlace) (serial : List ℕ) → (IsTrue ends ↔ (beside ≡ Nothing)) → beside ≡ beside_of found serial → IsTrue ends ↔ (found ≡ None)
 end_is ends found beside serial tests is = (λ yes. ended found serial (sym is ∙ tests.0 yes), λ e. tests.1 (is ∙ ap (λ o. beside_of o serial) e))
 
 -- what is said of the rows says something else of them
-pub finds_as : {A B : Type 0} (old new : State) (P : Contents → A → Type 0) (a : A) (R : Contents → B → Type 0) (b : B) → IsAnswered old new P a → ((it : Contents) → P it a → R it b) → IsAnswered old new R b
+pub finds_as : {A B : Type 0} (old new : State) (P : Contents → A → Type 0) (a : A) (R : Contents → B → Type 0) (b : B) → HasFound old new P a → ((it : Contents) → P it a → R it b) → HasFound old new R b
 finds_as old new P a R b answer leads = record {
   keeps = answer.keeps;
   mode = answer.mode;
@@ -95,7 +95,7 @@ got (x ∷ all) (suc k) d low = got all k d (omega arith)
 pub record AgreeUpTo (first now : State) (issuer scope : ℕ) (all : List ListedSerial) (k : ℕ) : Type 0 where
   pub keeps : KeepsCommit first now
   pub mode : IsTrue now.in_transaction
-  pub rows : (origin : Origin) (it : Contents) → Holds first.now origin it → AreInForm it → Stays first now × ((j : ℕ) → j < k → slice_get (listed_in it.entries issuer scope) j ≡ slice_get all j)
+  pub rows : (origin : Origin) (it : Contents) → HasContents first.now origin it → AreInForm it → Stays first now × ((j : ℕ) → j < k → slice_get (entries_under it.entries issuer scope) j ≡ slice_get all j)
 
 pub comparison_begins : (s : State) (issuer scope : ℕ) (all : List ListedSerial) → IsTrue s.in_transaction → AgreeUpTo s s issuer scope all 0
 comparison_begins s issuer scope all inside = record {
@@ -114,7 +114,7 @@ one_more xs ys k so here j low = elim (split j k (omega arith)) [
     split j k h = grind arith
 
 module _ (first mid now : State) (issuer scope : ℕ) (all : List Listed) (k : ℕ) (so : AgreeUpTo first mid issuer scope (map seen_listed all) k) where
-  pub comparison_goes_on : (d : Listed) → k < length all → IsAnswered mid now (λ it there. IsTrue there ↔ (slice_get (listed_in it.entries issuer scope) k ≡ Some (seen_listed (get_or all k d)))) true
+  pub comparison_goes_on : (d : Listed) → k < length all → HasFound mid now (λ it there. IsTrue there ↔ (slice_get (entries_under it.entries issuer scope) k ≡ Some (seen_listed (get_or all k d)))) true
       → AgreeUpTo first now issuer scope (map seen_listed all) (k + 1)
   comparison_goes_on d low answer = record {
     keeps = keeps_then first mid now so.keeps answer.keeps;
@@ -122,12 +122,12 @@ module _ (first mid now : State) (issuer scope : ℕ) (all : List Listed) (k : �
     rows = λ origin it held form.
         let was = so.rows origin it held form in
         let is = answer.rows origin it (still_holds first mid origin it was.0 held) form in
-        (then_stays first mid now was.0 is.0, one_more (listed_in it.entries issuer scope) (map seen_listed all) k was.1 (is.1.0 refl ∙ sym (got all k d low)));
+        (then_stays first mid now was.0 is.0, one_more (entries_under it.entries issuer scope) (map seen_listed all) k was.1 (is.1.0 refl ∙ sym (got all k d low)));
   }
 
   -- another entry stands there
-  pub comparison_stops : (d : Listed) → k < length all → IsAnswered mid now (λ it there. IsTrue there ↔ (slice_get (listed_in it.entries issuer scope) k ≡ Some (seen_listed (get_or all k d)))) false
-      → IsAnswered first now (λ it same. IsTrue same ↔ (listed_in it.entries issuer scope ≡ map seen_listed all)) false
+  pub comparison_stops : (d : Listed) → k < length all → HasFound mid now (λ it there. IsTrue there ↔ (slice_get (entries_under it.entries issuer scope) k ≡ Some (seen_listed (get_or all k d)))) false
+      → HasFound first now (λ it same. IsTrue same ↔ (entries_under it.entries issuer scope ≡ map seen_listed all)) false
   comparison_stops d low answer = record {
     keeps = keeps_then first mid now so.keeps answer.keeps;
     mode = answer.mode;
@@ -149,8 +149,8 @@ length_seen (x ∷ all) = ap suc (length_seen all)
 
 -- all agree, so the lists are one where the first ends there too
 pub comparison_ends : (first mid now : State) (issuer scope : ℕ) (all : List Listed) (result : Result _ StoreFault) → AgreeUpTo first mid issuer scope (map seen_listed all) (length all)
-    → Finds mid now (λ it ends. IsTrue ends ↔ (slice_get (listed_in it.entries issuer scope) (length all) ≡ None)) result
-    → Finds first now (λ it same. IsTrue same ↔ (listed_in it.entries issuer scope ≡ map seen_listed all)) result
+    → Finds mid now (λ it ends. IsTrue ends ↔ (slice_get (entries_under it.entries issuer scope) (length all) ≡ None)) result
+    → Finds first now (λ it same. IsTrue same ↔ (entries_under it.entries issuer scope ≡ map seen_listed all)) result
 comparison_ends first mid now issuer scope all (Ok ends) so answer = record {
   keeps = keeps_then first mid now so.keeps answer.keeps;
   mode = answer.mode;
@@ -160,7 +160,7 @@ comparison_ends first mid now issuer scope all (Ok ends) so answer = record {
       let size = length_seen all in (
         then_stays first mid now was.0 is.0,
         (
-          λ yes. same_lists (listed_in it.entries issuer scope) (map seen_listed all) (λ j low. was.1 j (omega (arith, low, size))) (ap (slice_get (listed_in it.entries issuer scope)) size ∙ is.1.0 yes),
+          λ yes. same_lists (entries_under it.entries issuer scope) (map seen_listed all) (λ j low. was.1 j (omega (arith, low, size))) (ap (slice_get (entries_under it.entries issuer scope)) size ∙ is.1.0 yes),
           λ e. is.1.1 (ap (λ xs. slice_get xs (length all)) e ∙ ap (slice_get (map seen_listed all)) (sym size) ∙ past_end (map seen_listed all)),
         ),
       );

@@ -16,11 +16,10 @@ use Rattle.store_sql.specs.declared.origin.Origin.{Origin}
 use Rattle.store_sql.specs.declared.origin.Origin.TheVariants.{Made, Migrated}
 use Rattle.store_sql.specs.Tables.{store_schema, scoped_entries_table, entries_at, entries_tree}
 use Rattle.store_sql.specs.Texts.{select_entry, select_entries, delete_entries, insert_entry}
-use Rattle.store_sql.proofs.Laws.{deletes_by, inserts_at, finds_by, at_most as one_at_most, less_is}
-use Rattle.store_sql.proofs.Laws.{selects_entry, selects_entries, deletes_entries, inserts_entry}
+use Rattle.store_sql.proofs.Laws.{deletes_by, inserts_at, finds_by, at_most as one_at_most, less_is, selects_entry, selects_entries, deletes_entries, inserts_entry}
 use Rattle.store_rows.specs.Contents.{EntryRow, Contents, entry_row, listed_cells, shown}
-use Rattle.store_rows.specs.Holding.{Holds}
-use Rattle.store_rows.specs.Places.{IsInside, ArePlaced, is_under, is_at, at_most, listed_in, base_of, put_entry, without}
+use Rattle.store_rows.specs.Holding.{HasContents}
+use Rattle.store_rows.specs.Places.{IsInside, ArePlaced, is_under, is_at, at_most, entries_under, base_of, put_entry, without}
 use Rattle.store_rows.proofs.Placing.{IsNext, at_place, in_room, is_under_of, not_under, fars, placed_put, placed_without}
 use Rattle.store_rows.proofs.Naturals.{low_pos, below_tells, from_tells, under_tells, rise_pos}
 use Rattle.store_rows.proofs.Others.{entries_change}
@@ -84,10 +83,10 @@ each_is issuer scope (e ∷ es) few h = (range_is issuer scope e few h.0, each_i
 abbrev pub entry_cells : EntryRow → Row
 entry_cells e = Int (pos e.place) ∷ Int (pos e.issuer) ∷ Int (pos e.scope) ∷ listed_cells e.listed
 
-module _ (origin : Origin) (old new : State) (it : Contents) (held : Holds old.now origin it) where
+module _ (origin : Origin) (old new : State) (it : Contents) (held : HasContents old.now origin it) where
   -- what stands at a place is what its list has there
   pub entry_shown : (issuer scope k : ℕ) (rows : List Row) → ArePlaced it.entries → scope < 3 → k < 4294967296 → Shown select_entry (Int (pos (base_of issuer scope + k)) ∷ []) old new rows
-      → rows ≡ shown listed_cells (slice_get (listed_in it.entries issuer scope) k)
+      → rows ≡ shown listed_cells (slice_get (entries_under it.entries issuer scope) k)
   entry_shown issuer scope k rows placed few low h =
       let text = selects_entry origin in
       shows_one (λ (row : EntryRow). listed_cells row.listed) (filter (is_at (base_of issuer scope + k)) it.entries) (slice_get (filter (is_under issuer scope) it.entries) k) rows
@@ -109,7 +108,7 @@ module _ (origin : Origin) (old new : State) (it : Contents) (held : Holds old.n
 
   -- the next entry of a list is put in its place
   pub entry_added : (e : EntryRow) (count : ℕ) → ArePlaced it.entries → IsNext it.entries e → Executes insert_entry (entry_cells e) old new (Ok count)
-      → Holds new.now origin (record it { entries = put_entry e it.entries })
+      → HasContents new.now origin (record it { entries = put_entry e it.entries })
   entry_added e count placed next h =
       let text = inserts_entry origin in
       let left = inserts_at (store_schema origin) (entries_at origin) _ (entries_tree origin) _ _ _ _ _ (entries_stand origin) (entries_alone origin) entry_row (λ e. pos e.place) (λ e. refl)
@@ -120,7 +119,7 @@ module _ (origin : Origin) (old new : State) (it : Contents) (held : Holds old.n
 
   -- a list is taken out by the range of its places
   pub range_deleted : (issuer scope count : ℕ) → scope < 3 → ArePlaced it.entries → Executes delete_entries (Int (pos (base_of issuer scope)) ∷ Int (pos (base_of issuer scope + 4294967296)) ∷ []) old new (Ok count)
-      → Holds new.now origin (record it { entries = without issuer scope it.entries })
+      → HasContents new.now origin (record it { entries = without issuer scope it.entries })
   range_deleted issuer scope count few placed h =
       let text = deletes_entries origin in
       let left = deletes_by (store_schema origin) (entries_at origin) _ (entries_tree origin) _ _ _ _ _ (entries_stand origin) (entries_alone origin) entry_row (λ e. pos e.place) (λ e. refl)

@@ -13,7 +13,7 @@ use Rattle.store_sql.specs.declared.fault.StoreFault.{StoreFault}
 use Rattle.store_sql.specs.declared.fault.StoreFault.TheVariants.{Schema as NotOurs}
 use Rattle.store_sql.specs.Tables.{store_schema}
 use Rattle.store_rows.specs.Contents.{Contents, shown}
-use Rattle.store_rows.specs.Holding.{Holds, AreInForm}
+use Rattle.store_rows.specs.Holding.{HasContents, AreInForm}
 use Rattle.store_rows.specs.Steps.{Stays, Finds, Moves}
 
 -- a query inside a transaction leaves the last commit
@@ -62,7 +62,7 @@ pub finds_shown : {A B : Type 0} (old new : State) (text : List ℕ) (params : R
     → (result ≡ Err NotOurs → (o : Option B) → IfSome o Fits → rows ≡ shown cells o → ⊥)
     → IsTrue old.in_transaction → Shown text params old new rows
     → ((origin : Origin) → IsPlain (understood (store_schema origin) text))
-    → ((origin : Origin) (it : Contents) → Holds old.now origin it → AreInForm it → (rows ≡ shown cells (want it)) × IfSome (want it) Fits)
+    → ((origin : Origin) (it : Contents) → HasContents old.now origin it → AreInForm it → (rows ≡ shown cells (want it)) × IfSome (want it) Fits)
     → ((it : Contents) (found : A) → Told found (want it) → IsFound it found)
     → Finds old new IsFound result
 finds_shown old new text params rows (Ok found) cells Told Fits want IsFound ok schema inside h plain shows is =
@@ -76,7 +76,7 @@ finds_shown old new text params rows (Err fault) cells Told Fits want IsFound ok
 
 -- a statement that has run inside a transaction
 pub moves : (old new : State) (text : List ℕ) (params : Row) (count : ℕ) (changed : Contents → Contents) → ExecutesInside 0 text params old new (Ok count)
-    → ((origin : Origin) (it : Contents) → Holds old.now origin it → AreInForm it → Holds new.now origin (changed it)) → Moves old new changed
+    → ((origin : Origin) (it : Contents) → HasContents old.now origin it → AreInForm it → HasContents new.now origin (changed it)) → Moves old new changed
 moves old new text params count changed h rows = record { was_open = h.1.was_open; is_open = h.1.is_open; committed_is = h.1.committed_is; mode = rw h.1.mode refl; rows = rows }
 
 pub survives_itself : (s : State) → Survives s s (λ _. ⊥)

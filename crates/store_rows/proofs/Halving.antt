@@ -10,7 +10,7 @@ use Rattle.std.specs.Ordering.{nat_cmp, is_eq}
 use Rattle.std.specs.Cmp.Lexicographic.{slice_cmp}
 use Rattle.std.specs.declared.cmp.Ordering.{Ordering}
 use Rattle.sqlite_trees.specs.Tree.{IsAscending}
-use Rattle.store_rows.specs.declared.beside.Beside.TheVariants.{Nothing, Below, Same, Above}
+use Rattle.store_rows.specs.declared.beside.SerialAtPlace.TheVariants.{Nothing, Below, Same, Above}
 use Rattle.statements_facts.specs.Listed.{ListedSerial, first_reason}
 use Rattle.store_rows.specs.Places.{IsBelow, beside_of, compared}
 

@@ -8,7 +8,7 @@ use Rattle.store_sql.specs.declared.origin.Origin.TheVariants.{Made, Migrated}
 use Rattle.store_sql.specs.Tables.{store_schema, crls_tree, entries_tree}
 use Rattle.store_sql.proofs.Laws.{Leaves}
 use Rattle.store_rows.specs.Contents.{IssuerRow, CrlRow, EntryRow, SingleRow, Contents, issuer_row, crl_row, entry_row, single_row}
-use Rattle.store_rows.specs.Holding.{Holds}
+use Rattle.store_rows.specs.Holding.{HasContents}
 
 record Others (origin : Origin) (tree : ℕ) (was now : Trees) : Type 0 where
   meta : 0 ≢ tree → now 0 ≡ was 0
@@ -30,8 +30,8 @@ far : (origin : Origin) → AreFar origin
 far Made = record { low = omega arith; high = omega arith }
 far Migrated = record { low = omega arith; high = omega arith }
 
-module _ (origin : Origin) (was now : State) (it : Contents) (held : Holds was.now origin it) where
-  pub issuers_change : (rows : List IssuerRow) → IsAscending (λ (one other : IssuerRow). one.id < other.id) rows → Leaves (store_schema origin) 1 was now (map issuer_row rows) → Holds now.now origin (record it { issuers = rows })
+module _ (origin : Origin) (was now : State) (it : Contents) (held : HasContents was.now origin it) where
+  pub issuers_change : (rows : List IssuerRow) → IsAscending (λ (one other : IssuerRow). one.id < other.id) rows → Leaves (store_schema origin) 1 was now (map issuer_row rows) → HasContents now.now origin (record it { issuers = rows })
   issuers_change rows rise left =
       let others = others_of origin 1 was.now.trees now.now.trees left.others in
       let low = (far origin).low in
@@ -50,7 +50,7 @@ module _ (origin : Origin) (was now : State) (it : Contents) (held : Holds was.n
         entries_rise = held.entries_rise;
       }
 
-  pub singles_change : (rows : List SingleRow) → IsAscending (λ (one other : SingleRow). one.id <ℤ other.id) rows → Leaves (store_schema origin) 3 was now (map single_row rows) → Holds now.now origin (record it { singles = rows })
+  pub singles_change : (rows : List SingleRow) → IsAscending (λ (one other : SingleRow). one.id <ℤ other.id) rows → Leaves (store_schema origin) 3 was now (map single_row rows) → HasContents now.now origin (record it { singles = rows })
   singles_change rows rise left =
       let others = others_of origin 3 was.now.trees now.now.trees left.others in
       let low = (far origin).low in
@@ -69,7 +69,7 @@ module _ (origin : Origin) (was now : State) (it : Contents) (held : Holds was.n
         entries_rise = held.entries_rise;
       }
 
-  pub crls_change : (rows : List CrlRow) → IsAscending (λ (one other : CrlRow). one.id <ℤ other.id) rows → Leaves (store_schema origin) (crls_tree origin) was now (map crl_row rows) → Holds now.now origin (record it { crls = rows })
+  pub crls_change : (rows : List CrlRow) → IsAscending (λ (one other : CrlRow). one.id <ℤ other.id) rows → Leaves (store_schema origin) (crls_tree origin) was now (map crl_row rows) → HasContents now.now origin (record it { crls = rows })
   crls_change rows rise left =
       let others = others_of origin (crls_tree origin) was.now.trees now.now.trees left.others in
       let low = (far origin).low in
@@ -88,7 +88,7 @@ module _ (origin : Origin) (was now : State) (it : Contents) (held : Holds was.n
         entries_rise = held.entries_rise;
       }
 
-  pub entries_change : (rows : List EntryRow) → IsAscending (λ (one other : EntryRow). one.place < other.place) rows → Leaves (store_schema origin) (entries_tree origin) was now (map entry_row rows) → Holds now.now origin (record it { entries = rows })
+  pub entries_change : (rows : List EntryRow) → IsAscending (λ (one other : EntryRow). one.place < other.place) rows → Leaves (store_schema origin) (entries_tree origin) was now (map entry_row rows) → HasContents now.now origin (record it { entries = rows })
   entries_change rows rise left =
       let others = others_of origin (entries_tree origin) was.now.trees now.now.trees left.others in
       let low = (far origin).low in

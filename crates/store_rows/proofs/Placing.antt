@@ -6,7 +6,7 @@ use Rattle.std.proofs.lemmas.List.{map-append}
 use Rattle.std.specs.List.{AllByRecursion}
 use Rattle.sqlite_trees.specs.Tree.{IsAscending}
 use Rattle.store_rows.specs.Contents.{EntryRow}
-use Rattle.store_rows.specs.Places.{IsBelow, is_under, listed_in, base_of, StandFrom, IsInside, ArePlaced, is_at, at_most, put_entry, without}
+use Rattle.store_rows.specs.Places.{IsBelow, is_under, entries_under, base_of, StandFrom, IsInside, ArePlaced, is_at, at_most, put_entry, without}
 
 -- ---- lists
 
@@ -101,7 +101,7 @@ under i s e h = let p = and_parts (e.issuer == i) (e.scope == s) h in record { i
 pub is_under_of : (i s : ℕ) (e : EntryRow) → Under i s e → is_under i s e ≡ true
 is_under_of i s e u = rw (is_eq_of e.issuer i u.issuer, is_eq_of e.scope s u.scope) refl
 
--- the room that a row stands in tells its listed_in
+-- the room that a row stands in tells its entries_under
 same_number : (q r p : ℕ) → q * 4294967296 ≤ p → p < q * 4294967296 + 4294967296 → r * 4294967296 ≤ p → p < r * 4294967296 + 4294967296 → q ≡ r
 same_number q r p a b c d = omega arith
 
@@ -122,7 +122,7 @@ found_at n k p [] e h = refl
 found_at n zero p (x ∷ es) e h = rw (is_eq_of x.place p (let is = h.0 in omega arith)) (ap (λ more. x ∷ more) (past p (suc n) es (omega arith) h.1))
 found_at n (suc k) p (x ∷ es) e h = rw (apart_of x.place p (λ same. let is = h.0 in omega arith)) (found_at (suc n) k p es (omega arith) h.1)
 
--- a SELECT by id finds what its listed_in has at that place, and no more
+-- a SELECT by id finds what its entries_under has at that place, and no more
 pub at_place : (es : List EntryRow) (i s k : ℕ) → ArePlaced es → s < 3 → k < 4294967296 → filter (is_at (base_of i s + k)) es ≡ at_most (slice_get (filter (is_under i s) es) k)
 at_place es i s k placed few low =
     sym (kept_twice (is_at (base_of i s + k)) (is_under i s) es (all_of IsInside (λ e. is_at (base_of i s + k) e ≡ true → is_under i s e ≡ true) inside es placed.inside))
@@ -131,7 +131,7 @@ at_place es i s k placed few low =
     inside : (e : EntryRow) → IsInside e → is_at (base_of i s + k) e ≡ true → is_under i s e ≡ true
     inside e it at = let is : e.place ≡ base_of i s + k = eq_of e.place (base_of i s + k) at in is_under_of i s e (in_room i s e few it (omega arith) (omega arith))
 
--- ---- a listed_in is emptied
+-- ---- a entries_under is emptied
 
 pub not_under : (i s : ℕ) (e : EntryRow) → ¬ Under i s e → is_under i s e ≡ false
 not_under i s e far = elim (cases_Bool (is_under i s e)) [ inl here ↦ absurd (far (under i s e here)) | inr out ↦ out ]
@@ -238,11 +238,11 @@ stand_pushed : (n : ℕ) (xs : List EntryRow) (new : EntryRow) → StandFrom n x
 stand_pushed n [] new h e = (omega arith, tt)
 stand_pushed n (x ∷ xs) new h e = (h.0, stand_pushed (suc n) xs new h.1 (omega arith))
 
--- the row comes next in its listed_in
+-- the row comes next in its entries_under
 pub record IsNext (es : List EntryRow) (new : EntryRow) : Type 0 where
   pub inside : IsInside new
   pub next : new.place ≡ base_of new.issuer new.scope + length (filter (is_under new.issuer new.scope) es)
-  pub above : AllByRecursion (λ p. IsBelow p new.listed) (listed_in es new.issuer new.scope)
+  pub above : AllByRecursion (λ p. IsBelow p new.listed) (entries_under es new.issuer new.scope)
 
 pub own_slot : (new : EntryRow) → is_under new.issuer new.scope new ≡ true
 own_slot new = is_under_of new.issuer new.scope new (record { issuer = refl; scope = refl })
@@ -271,10 +271,10 @@ fars es new placed is = both IsInside (λ e. is_under new.issuer new.scope e ≡
 pub own_put : (es : List EntryRow) (new : EntryRow) → ArePlaced es → IsNext es new → filter (is_under new.issuer new.scope) (put_entry new es) ≡ filter (is_under new.issuer new.scope) es ++ new ∷ []
 own_put es new placed is = put_own (is_under new.issuer new.scope) new es (own_slot new) placed.rise (lows es new placed is)
 
-pub slot_put : (es : List EntryRow) (new : EntryRow) → ArePlaced es → IsNext es new → listed_in (put_entry new es) new.issuer new.scope ≡ listed_in es new.issuer new.scope ++ new.listed ∷ []
+pub slot_put : (es : List EntryRow) (new : EntryRow) → ArePlaced es → IsNext es new → entries_under (put_entry new es) new.issuer new.scope ≡ entries_under es new.issuer new.scope ++ new.listed ∷ []
 slot_put es new placed is = ap (map (λ e. e.listed)) (own_put es new placed is) ∙ map-append (λ e. e.listed) (filter (is_under new.issuer new.scope) es) (new ∷ [])
 
-pub slot_spared : (es : List EntryRow) (new : EntryRow) (j t : ℕ) → (j ≢ new.issuer) ⊎ (t ≢ new.scope) → listed_in (put_entry new es) j t ≡ listed_in es j t
+pub slot_spared : (es : List EntryRow) (new : EntryRow) (j t : ℕ) → (j ≢ new.issuer) ⊎ (t ≢ new.scope) → entries_under (put_entry new es) j t ≡ entries_under es j t
 slot_spared es new j t far = ap (map (λ e. e.listed)) (put_other (is_under j t) new es (not_under j t new (λ u. apart u far)))
   where
     apart : Under j t new → (j ≢ new.issuer) ⊎ (t ≢ new.scope) → ⊥
@@ -292,14 +292,14 @@ placed_put es new placed is = record {
     | inr out ↦ rw (put_other (is_under j t) new es out) (placed.stand j t)
   ];
   serials = λ j t. elim (cases_Bool (is_under j t new)) [
-    | inl own ↦ let u = under j t new own in subst (λ a. IsAscending IsBelow (listed_in (put_entry new es) a t)) u.issuer
-        (subst (λ b. IsAscending IsBelow (listed_in (put_entry new es) new.issuer b)) u.scope
-        (subst (IsAscending IsBelow) (sym (slot_put es new placed is)) (ascends_pushed IsBelow (listed_in es new.issuer new.scope) new.listed (placed.serials new.issuer new.scope) is.above)))
+    | inl own ↦ let u = under j t new own in subst (λ a. IsAscending IsBelow (entries_under (put_entry new es) a t)) u.issuer
+        (subst (λ b. IsAscending IsBelow (entries_under (put_entry new es) new.issuer b)) u.scope
+        (subst (IsAscending IsBelow) (sym (slot_put es new placed is)) (ascends_pushed IsBelow (entries_under es new.issuer new.scope) new.listed (placed.serials new.issuer new.scope) is.above)))
     | inr out ↦ rw (put_other (is_under j t) new es out) (placed.serials j t)
   ];
 }
 
--- ---- how many a listed_in has
+-- ---- how many a entries_under has
 
 stand_fits : (n m : ℕ) (xs : List EntryRow) → StandFrom n xs → AllByRecursion (λ e. e.place < m) xs → n ≤ m → n + length xs ≤ m
 stand_fits n m [] h low fits = omega arith

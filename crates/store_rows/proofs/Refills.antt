@@ -15,7 +15,7 @@ use Rattle.statements_facts.specs.Listed.{ListedSerial, seen_listed, IsAscending
 use Rattle.store_sql.specs.Texts.{delete_entries, insert_entry}
 use Rattle.store_rows.specs.Contents.{EntryRow, Contents, listed_cells}
 use Rattle.store_rows.specs.Places.{IsBelow, base_of, fill, is_under, put_entry, replaced, without}
-use Rattle.store_rows.specs.Holding.{Holds, HasByte, AreInOrder, with_entries}
+use Rattle.store_rows.specs.Holding.{HasContents, HasByte, FitInList, with_entries}
 use Rattle.store_rows.specs.Steps.{Moves}
 use Rattle.store_rows.proofs.Placing.{IsNext}
 use Rattle.store_rows.proofs.Refilling.{length_map, befores, replaces}
@@ -78,7 +78,7 @@ moves_on old mid new issuer scope k count ps p so few scopes at room up h = reco
       let same : put_entry e (replaced it.entries issuer scope ps) ≡ replaced it.entries issuer scope (ps ++ p ∷ []) =
       ap (λ n. put_entry (record { place = base_of issuer scope + n; issuer = issuer; scope = scope; listed = p }) (replaced it.entries issuer scope ps)) at
       ∙ sym (fill_more (without issuer scope it.entries) issuer scope (base_of issuer scope) ps p) in
-      subst (λ es. Holds new.now origin (record it { entries = es })) same added;
+      subst (λ es. HasContents new.now origin (record it { entries = es })) same added;
 }
 
 -- the list so far with the next, and what is left
@@ -111,7 +111,7 @@ all_and P (y ∷ xs) x h one = (h.0, all_and P xs x h.1 one)
 pub one_more_byte : (all : List Listed) (k : ℕ) (d : Listed) → k < length all → AllByRecursion HasByte (map seen_listed (take k all)) → HasByte (seen_listed (get_or all k d)) → AllByRecursion HasByte (map seen_listed (take (k + 1) all))
 one_more_byte all k d low so one = subst (AllByRecursion HasByte) (sym (map_more seen_listed all k d low)) (all_and HasByte (map seen_listed (take k all)) (seen_listed (get_or all k d)) so one)
 
-pub all_written : (all : List Listed) (k : ℕ) → k ≡ length all → length all ≤ 4294967296 → Ascend (map seen_listed all) → AllByRecursion HasByte (map seen_listed (take k all)) → AreInOrder (map seen_listed all)
+pub all_written : (all : List Listed) (k : ℕ) → k ≡ length all → length all ≤ 4294967296 → Ascend (map seen_listed all) → AllByRecursion HasByte (map seen_listed (take k all)) → FitInList (map seen_listed all)
 all_written all k at few up bytes = record {
   few = omega (arith, few, length_map seen_listed all);
   ascend = up;

@@ -24,10 +24,9 @@ use Rattle.store_sql.specs.declared.origin.Origin.TheVariants.{Made, Migrated}
 use Rattle.store_sql.specs.Tables.{store_schema, issuers_table, ocsp_table, scoped_crls_table, crls_at, crls_tree, issuers_key, ocsp_key, scoped_crls_key}
 use Rattle.store_sql.specs.Texts.{select_issuer, insert_issuer, select_crl, delete_crl, insert_crl, select_single, delete_single, insert_single}
 use Rattle.store_sql.specs.Queries.{is_param}
-use Rattle.store_sql.proofs.Laws.{deletes_by, inserts_one, finds_by, at_most, one_row, one_passes, equal_blobs, equal_ints, below_next, rises_kept, rises_pushed}
-use Rattle.store_sql.proofs.Laws.{selects_issuer, inserts_issuer, selects_crl, deletes_crl, inserts_crl, selects_single, deletes_single, inserts_single}
+use Rattle.store_sql.proofs.Laws.{deletes_by, inserts_one, finds_by, at_most, one_row, one_passes, equal_blobs, equal_ints, below_next, rises_kept, rises_pushed, selects_issuer, inserts_issuer, selects_crl, deletes_crl, inserts_crl, selects_single, deletes_single, inserts_single}
 use Rattle.store_rows.specs.Contents.{IssuerRow, CrlRow, SingleRow, Contents, issuer_row, crl_row, single_row, crl_cells, said_cells, status_number, reason_number, scope_number, is_issuer, is_crl_of, is_single_of, shown}
-use Rattle.store_rows.specs.Holding.{Holds, next_id, with_issuer, crls_and, singles_and}
+use Rattle.store_rows.specs.Holding.{HasContents, next_id, with_issuer, crls_and, singles_and}
 use Rattle.store_rows.proofs.Naturals.{same_pos, is_eq_of, eq_of, rise_pos, rise_nat}
 use Rattle.store_rows.proofs.Others.{issuers_change, crls_change, singles_change}
 use Rattle.store_rows.proofs.Terms.{passes_issuer, passes_crl, passes_single, cast_null, cast_int}
@@ -119,7 +118,7 @@ tied a b c x y = octets_same a b (octets_of a c x ∙ sym (octets_of b c y))
 tied_numbers : (a b c : ℕ) → (a == c) ≡ true → (b == c) ≡ true → (a == b) ≡ true
 tied_numbers a b c x y = is_eq_of a b (eq_of a c x ∙ sym (eq_of b c y))
 
-module _ (origin : Origin) (db : Database) (it : Contents) (held : Holds db origin it) where
+module _ (origin : Origin) (db : Database) (it : Contents) (held : HasContents db origin it) where
   sound : IsDatabase (record { schema = store_schema origin; trees = db.trees })
   sound = subst (λ s. IsDatabase (record { schema = s; trees = db.trees })) held.schema_is held.sound
 
@@ -156,7 +155,7 @@ shows_most show (Some x) rows h = one_permutation (show x) rows h
 pub shows_one : {X : Type 0} (show : X → Row) (all : List X) (found : Option X) (rows : List Row) → all ≡ at_most found → IsPermutation (map show all) rows → rows ≡ shown show found
 shows_one show all found rows is h = shows_most show found rows (subst (λ xs. IsPermutation (map show xs) rows) is h)
 
-module _ (origin : Origin) (old new : State) (it : Contents) (held : Holds old.now origin it) where
+module _ (origin : Origin) (old new : State) (it : Contents) (held : HasContents old.now origin it) where
   pub issuer_shown : (identity : IssuerIdentity) (rows : List Row) → Shown select_issuer (Blob identity.name ∷ Blob identity.key_info ∷ []) old new rows
       → rows ≡ shown (λ (row : IssuerRow). Int (pos row.id) ∷ []) (find (is_issuer identity) it.issuers)
   issuer_shown identity rows h =
@@ -190,7 +189,7 @@ module _ (origin : Origin) (old new : State) (it : Contents) (held : Holds old.n
   next_is n [] = refl
   next_is n (row ∷ rows) = next_is (row.id + 1) rows
 
-  pub issuer_added : (identity : IssuerIdentity) (count : ℕ) → Executes insert_issuer (Blob identity.name ∷ Blob identity.key_info ∷ []) old new (Ok count) → Holds new.now origin (with_issuer identity it)
+  pub issuer_added : (identity : IssuerIdentity) (count : ℕ) → Executes insert_issuer (Blob identity.name ∷ Blob identity.key_info ∷ []) old new (Ok count) → HasContents new.now origin (with_issuer identity it)
   issuer_added identity count h =
       let added : IssuerRow = record { id = next_id it.issuers; identity = identity } in
       let text = inserts_issuer origin in
@@ -205,7 +204,7 @@ module _ (origin : Origin) (old new : State) (it : Contents) (held : Holds old.n
       (record { schema_is = left.schema_is; sound = left.sound; rows_are = left.rows_are ∙ ap (λ n. map issuer_row it.issuers ++ (Int n ∷ Null ∷ Blob identity.name ∷ Blob identity.key_info ∷ []) ∷ []) next ∙ sym (map-append issuer_row it.issuers (added ∷ [])); others = left.others })
 
   pub crl_deleted : (issuer : ℕ) (scope : Scope) (count : ℕ) → Executes delete_crl (Int (pos issuer) ∷ Int (pos (scope_number scope)) ∷ []) old new (Ok count)
-      → Holds new.now origin (record it { crls = filter (λ row. not (is_crl_of issuer scope row)) it.crls })
+      → HasContents new.now origin (record it { crls = filter (λ row. not (is_crl_of issuer scope row)) it.crls })
   crl_deleted issuer scope count h =
       let text = deletes_crl origin in
       let left = deletes_by (store_schema origin) (crls_at origin) _ (crls_tree origin) _ _ _ _ _ (crls_stand origin) (crls_alone origin) crl_row (λ x. x.id) (λ x. refl)
@@ -214,7 +213,7 @@ module _ (origin : Origin) (old new : State) (it : Contents) (held : Holds old.n
       crls_change origin old new it held (filter (λ row. not (is_crl_of issuer scope row)) it.crls) (rises_kept crl_row (λ x. x.id) (λ x. refl) (λ row. not (is_crl_of issuer scope row)) it.crls held.crls_rise) left
 
   pub crl_added : (issuer : ℕ) (scope : Scope) (number : ℕ) (window : Window) (count : ℕ) → Executes insert_crl (Int (pos issuer) ∷ Int (pos (scope_number scope)) ∷ crl_cells number window) old new (Ok count)
-      → Holds new.now origin (record it { crls = crls_and issuer scope number window it.crls })
+      → HasContents new.now origin (record it { crls = crls_and issuer scope number window it.crls })
   crl_added issuer scope number window count h =
       let added : CrlRow = record { id = next_rowid (map crl_row it.crls); issuer = issuer; scope = scope; number = number; window = window } in
       let text = inserts_crl origin in
@@ -225,7 +224,7 @@ module _ (origin : Origin) (old new : State) (it : Contents) (held : Holds old.n
       (record { schema_is = left.schema_is; sound = left.sound; rows_are = left.rows_are ∙ sym (map-append crl_row it.crls (added ∷ [])); others = left.others })
 
   pub single_deleted : (issuer : ℕ) (name_hash serial : List ℕ) (count : ℕ) → Executes delete_single (Int (pos issuer) ∷ Blob name_hash ∷ Blob serial ∷ []) old new (Ok count)
-      → Holds new.now origin (record it { singles = filter (λ row. not (is_single_of issuer name_hash serial row)) it.singles })
+      → HasContents new.now origin (record it { singles = filter (λ row. not (is_single_of issuer name_hash serial row)) it.singles })
   single_deleted issuer name_hash serial count h =
       let text = deletes_single origin in
       let left = deletes_by (store_schema origin) 2 _ 3 _ _ _ _ _ (singles_stand origin) (singles_alone origin) single_row (λ x. x.id) (λ x. refl)
@@ -234,7 +233,7 @@ module _ (origin : Origin) (old new : State) (it : Contents) (held : Holds old.n
       singles_change origin old new it held (filter (λ row. not (is_single_of issuer name_hash serial row)) it.singles) (rises_kept single_row (λ x. x.id) (λ x. refl) (λ row. not (is_single_of issuer name_hash serial row)) it.singles held.singles_rise) left
 
   pub single_added : (issuer : ℕ) (name_hash serial : List ℕ) (fact : OcspFact) (count : ℕ) → Executes insert_single (Int (pos issuer) ∷ Blob name_hash ∷ Blob serial ∷ said_cells fact) old new (Ok count)
-      → Holds new.now origin (record it { singles = singles_and issuer name_hash serial fact it.singles })
+      → HasContents new.now origin (record it { singles = singles_and issuer name_hash serial fact it.singles })
   single_added issuer name_hash serial fact count h =
       let added : SingleRow = record { id = next_rowid (map single_row it.singles); issuer = issuer; name_hash = name_hash; serial = serial; fact = fact } in
       let text = inserts_single origin in

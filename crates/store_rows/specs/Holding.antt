@@ -15,7 +15,7 @@ use Rattle.store_rows.specs.Contents.{IssuerRow, CrlRow, SingleRow, Contents, Cr
 use Rattle.store_rows.specs.Places.{ArePlaced, replaced}
 
 -- the tables are those of version 2, these are their rows, and ids rise
-pub record Holds (db : Database) (origin : Origin) (it : Contents) : Type 0 where
+pub record HasContents (db : Database) (origin : Origin) (it : Contents) : Type 0 where
   pub schema_is : db.schema ≡ store_schema origin
   pub sound : IsDatabase db
   pub version : db.trees 0 ≡ version_row ∷ []
@@ -50,7 +50,7 @@ abbrev pub IsNumbered : CrlHead → Type 0
 IsNumbered head = head.number < 2 ^ 160
 
 -- entries that can stand in the places of a list
-pub record AreInOrder (listed : List ListedSerial) : Type 0 where
+pub record FitInList (listed : List ListedSerial) : Type 0 where
   pub few : length listed ≤ 4294967296
   pub ascend : Ascend listed
   pub bytes : AllByRecursion HasByte listed

@@ -7,7 +7,7 @@ use Rattle.sqlite.specs.State.{State, KeepsCommit}
 use Rattle.store_sql.specs.declared.origin.Origin.TheVariants.{Made}
 use Rattle.store_sql.specs.declared.fault.StoreFault.{StoreFault}
 use Rattle.store_sql.specs.declared.fault.StoreFault.TheVariants.{Schema as NotOurs}
-use Rattle.store_rows.specs.Holding.{Holds, no_contents}
+use Rattle.store_rows.specs.Holding.{HasContents, no_contents}
 
 -- the tables of this schema, without a row
 pub record IsEmptyWith (db : Database) (schema : Schema) : Type 0 where
@@ -21,16 +21,16 @@ pub record Advances (old new : State) : Type 0 where
   pub committed_is : new.committed ≡ old.committed
   pub mode : IsTrue new.in_transaction
 
-pub record StopsShort (old new : State) (fault : StoreFault) : Type 0 where
+pub record FailsOverStore (old new : State) (fault : StoreFault) : Type 0 where
   pub keeps : KeepsCommit old new
   pub formed : fault ≢ NotOurs
 
 -- from one schema to another
 abbrev pub Builds : {A : Type 0} → State → State → Schema → Schema → Result A StoreFault → Type 0
 Builds old new before after (Ok done) = Advances old new × (IsEmptyWith old.now before → IsEmptyWith new.now after)
-Builds old new before after (Err fault) = StopsShort old new fault
+Builds old new before after (Err fault) = FailsOverStore old new fault
 
 -- from a schema to the tables of a new store, which hold nothing
 abbrev pub Makes : {A : Type 0} → State → State → Schema → Result A StoreFault → Type 0
-Makes old new before (Ok done) = Advances old new × (IsEmptyWith old.now before → Holds new.now Made no_contents)
-Makes old new before (Err fault) = StopsShort old new fault
+Makes old new before (Ok done) = Advances old new × (IsEmptyWith old.now before → HasContents new.now Made no_contents)
+Makes old new before (Err fault) = FailsOverStore old new fault

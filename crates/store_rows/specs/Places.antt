@@ -8,20 +8,20 @@ use Rattle.std.specs.declared.cmp.Ordering.TheVariants.{Less, Equal, Greater}
 use Rattle.std.specs.Cmp.Lexicographic.{slice_cmp}
 use Rattle.sqlite_trees.specs.Tree.{IsAscending}
 use Rattle.statements_facts.specs.Listed.{ListedSerial}
-use Rattle.store_rows.specs.declared.beside.Beside.{Beside}
-use Rattle.store_rows.specs.declared.beside.Beside.TheVariants.{Nothing, Below, Same, Above}
+use Rattle.store_rows.specs.declared.beside.SerialAtPlace.{SerialAtPlace}
+use Rattle.store_rows.specs.declared.beside.SerialAtPlace.TheVariants.{Nothing, Below, Same, Above}
 use Rattle.store_rows.specs.Contents.{EntryRow}
 
 abbrev pub IsBelow : ListedSerial → ListedSerial → Type 0
 IsBelow one other = slice_cmp nat_cmp one.serial other.serial ≡ Less
 
 -- what stands at a place, beside a serial number
-abbrev pub compared : Ordering → ℕ → Beside
+abbrev pub compared : Ordering → ℕ → SerialAtPlace
 compared Less reason = Below
 compared Equal reason = Same reason
 compared Greater reason = Above
 
-abbrev pub beside_of : Option ListedSerial → List ℕ → Beside
+abbrev pub beside_of : Option ListedSerial → List ℕ → SerialAtPlace
 beside_of None serial = Nothing
 beside_of (Some listed) serial = compared (slice_cmp nat_cmp listed.serial serial) listed.reason
 
@@ -29,8 +29,8 @@ abbrev pub is_under : ℕ → ℕ → EntryRow → Bool
 is_under i s e = (e.issuer == i) && (e.scope == s)
 
 -- what stands under an issuer and a scope, in the order of the rows
-abbrev pub listed_in : List EntryRow → ℕ → ℕ → List ListedSerial
-listed_in es i s = map (λ e. e.listed) (filter (is_under i s) es)
+abbrev pub entries_under : List EntryRow → ℕ → ℕ → List ListedSerial
+entries_under es i s = map (λ e. e.listed) (filter (is_under i s) es)
 
 -- where the entries of an issuer and a scope begin
 abbrev pub base_of : ℕ → ℕ → ℕ
@@ -53,7 +53,7 @@ pub record ArePlaced (es : List EntryRow) : Type 0 where
   pub rise : IsAscending (λ a b. a.place < b.place) es
   pub inside : AllByRecursion IsInside es
   pub stand : (i s : ℕ) → StandFrom (base_of i s) (filter (is_under i s) es)
-  pub serials : (i s : ℕ) → IsAscending IsBelow (listed_in es i s)
+  pub serials : (i s : ℕ) → IsAscending IsBelow (entries_under es i s)
 
 abbrev pub is_at : ℕ → EntryRow → Bool
 is_at n e = e.place == n
@@ -82,8 +82,8 @@ replaced es i s ps = fill (without i s es) i s (base_of i s) ps
 -- a list stands in its places, and each other list where it stood
 pub record Replaces (old new : List EntryRow) (i s : ℕ) (ps : List ListedSerial) : Type 0 where
   pub placed : ArePlaced new
-  pub own : listed_in new i s ≡ ps
-  pub others : (j t : ℕ) → (j ≢ i) ⊎ (t ≢ s) → listed_in new j t ≡ listed_in old j t
+  pub own : entries_under new i s ≡ ps
+  pub others : (j t : ℕ) → (j ≢ i) ⊎ (t ≢ s) → entries_under new j t ≡ entries_under old j t
 
 -- the reason of a serial number, as one test of each row tells it
 abbrev pub is_entry : ℕ → ℕ → List ℕ → EntryRow → Bool

@@ -6,7 +6,7 @@ use Rattle.store_sql.specs.declared.fault.StoreFault.{StoreFault}
 use Rattle.store_sql.specs.declared.fault.StoreFault.TheVariants.{Schema}
 use Rattle.statements_facts.specs.Statement.{IssuerIdentity}
 use Rattle.store_rows.specs.Contents.{Contents, id_of}
-use Rattle.store_rows.specs.Holding.{Holds, AreInForm}
+use Rattle.store_rows.specs.Holding.{HasContents, AreInForm}
 
 -- all is as it was
 pub record Stays (old new : State) : Type 0 where
@@ -18,22 +18,22 @@ pub record Stays (old new : State) : Type 0 where
 -- the last commit stays, and no fault is for the form of a row where all rows are in form
 pub record Fails (old new : State) (fault : StoreFault) : Type 0 where
   pub keeps : KeepsCommit old new
-  pub formed : fault ≡ Schema → (origin : Origin) (it : Contents) → Holds old.now origin it → AreInForm it → ⊥
+  pub formed : fault ≡ Schema → (origin : Origin) (it : Contents) → HasContents old.now origin it → AreInForm it → ⊥
 
 -- what is found is said of the rows, and all is as it was
-pub record IsAnswered {A : Type 0} (old new : State) (IsFound : Contents → A → Type 0) (found : A) : Type 0 where
+pub record HasFound {A : Type 0} (old new : State) (IsFound : Contents → A → Type 0) (found : A) : Type 0 where
   pub keeps : KeepsCommit old new
   pub mode : IsTrue new.in_transaction
-  pub rows : (origin : Origin) (it : Contents) → Holds old.now origin it → AreInForm it → Stays old new × IsFound it found
+  pub rows : (origin : Origin) (it : Contents) → HasContents old.now origin it → AreInForm it → Stays old new × IsFound it found
 
 abbrev pub Finds : {A : Type 0} → State → State → (Contents → A → Type 0) → Result A StoreFault → Type 0
-Finds old new IsFound (Ok found) = IsAnswered old new IsFound found
+Finds old new IsFound (Ok found) = HasFound old new IsFound found
 Finds old new IsFound (Err fault) = Fails old new fault
 
 -- the connection was open, and this is the id that an issuer has, also where another's is no longer in form
 pub record IsKnown (old new : State) (identity : IssuerIdentity) (id : Option ℕ) : Type 0 where
   pub was_open : IsTrue old.is_open
-  pub rows : (origin : Origin) (it : Contents) → Holds old.now origin it → Stays old new × (id ≡ id_of it.issuers identity)
+  pub rows : (origin : Origin) (it : Contents) → HasContents old.now origin it → Stays old new × (id ≡ id_of it.issuers identity)
 
 -- inside the transaction the rows are now these; the last commit is as it was
 pub record Moves (old new : State) (changed : Contents → Contents) : Type 0 where
@@ -41,7 +41,7 @@ pub record Moves (old new : State) (changed : Contents → Contents) : Type 0 wh
   pub is_open : IsTrue new.is_open
   pub committed_is : new.committed ≡ old.committed
   pub mode : IsTrue new.in_transaction
-  pub rows : (origin : Origin) (it : Contents) → Holds old.now origin it → AreInForm it → Holds new.now origin (changed it)
+  pub rows : (origin : Origin) (it : Contents) → HasContents old.now origin it → AreInForm it → HasContents new.now origin (changed it)
 
 abbrev pub Changes : {A : Type 0} → State → State → (Contents → Contents) → Result A StoreFault → Type 0
 Changes old new changed (Ok done) = Moves old new changed

@@ -9,7 +9,7 @@ use std::cmp::Ordering;
 
 /// What stands at a place, beside a serial number that is looked for.
 #[derive(Clone, Copy)]
-pub(crate) enum Beside {
+pub(crate) enum SerialAtPlace {
     Nothing,
     /// A serial number that comes before it.
     Below,
@@ -19,12 +19,12 @@ pub(crate) enum Beside {
 }
 
 /// What an entry is beside a serial number. Serial numbers are compared by their octets.
-pub(crate) fn compare(serial: &[u8], reason: u8, looked_for: &[u8]) -> Beside
+pub(crate) fn compare(serial: &[u8], reason: u8, looked_for: &[u8]) -> SerialAtPlace
     ensures { result ≡ compared (slice_cmp nat_cmp serial.now looked_for.now) reason }
 {
     match serial.cmp(looked_for) {
-        Ordering::Less => Beside::Below,
-        Ordering::Equal => Beside::Same(reason),
-        Ordering::Greater => Beside::Above,
+        Ordering::Less => SerialAtPlace::Below,
+        Ordering::Equal => SerialAtPlace::Same(reason),
+        Ordering::Greater => SerialAtPlace::Above,
     }
 }

@@ -6,29 +6,29 @@ ghost use Rattle.sqlite.specs.State.{HasCleanDisk};
 ghost use Rattle.statements_facts.specs.Listed.{IsAscending, seen_listed};
 ghost use Rattle.store_sql.specs.Statements.{CommitsNothing};
 ghost use Rattle.store_rows.specs.Contents.{scope_number};
-ghost use Rattle.store_rows.specs.Places.{listed_in};
+ghost use Rattle.store_rows.specs.Places.{entries_under};
 ghost use Rattle.store_rows.specs.Steps.{Finds};
 
-use crate::beside::Beside;
+use crate::beside::SerialAtPlace;
 use crate::entry::{ListKey, ROOM, stands_at};
 use sqlite::{Alter, Transaction};
 use statements_facts::{Listed, RevokedSerials};
 use store_sql::StoreFault;
 
-fn is_same(beside: Beside, reason: u8) -> bool
-    ensures { IsTrue result ↔ (beside ≡ Beside.Same reason) }
+fn is_same(beside: SerialAtPlace, reason: u8) -> bool
+    ensures { IsTrue result ↔ (beside ≡ SerialAtPlace.Same reason) }
 {
     match beside {
-        Beside::Same(there) => there == reason,
+        SerialAtPlace::Same(there) => there == reason,
         _ => false,
     }
 }
 
-fn is_nothing(beside: Beside) -> bool
-    ensures { IsTrue result ↔ (beside ≡ Beside.Nothing) }
+fn is_nothing(beside: SerialAtPlace) -> bool
+    ensures { IsTrue result ↔ (beside ≡ SerialAtPlace.Nothing) }
 {
     match beside {
-        Beside::Nothing => true,
+        SerialAtPlace::Nothing => true,
         _ => false,
     }
 }
@@ -44,7 +44,7 @@ fn has_at<S: Alter>(
     requires index { index < 4294967296 }
     requires inside { HasCleanDisk (state S.Store tx.old.conn.now) → IsTrue (state S.Store tx.old.conn.now).in_transaction }
     ensures same_reference { tx.new.conn.ghost_name ≡ tx.old.conn.ghost_name }
-    ensures finds { HasCleanDisk (state S.Store tx.new.conn.now) → Finds (state S.Store tx.old.conn.now) (state S.Store tx.new.conn.now) (λ it there. IsTrue there ↔ (slice_get (listed_in it.entries list.now.issuer (scope_number list.now.scope)) index ≡ Some (seen_listed listed.now))) result }
+    ensures finds { HasCleanDisk (state S.Store tx.new.conn.now) → Finds (state S.Store tx.old.conn.now) (state S.Store tx.new.conn.now) (λ it there. IsTrue there ↔ (slice_get (entries_under it.entries list.now.issuer (scope_number list.now.scope)) index ≡ Some (seen_listed listed.now))) result }
     ensures survives { CommitsNothing (state S.Store tx.old.conn.now) (state S.Store tx.new.conn.now) }
 {
     match stands_at(tx, list, index, listed.serial) {
@@ -63,7 +63,7 @@ fn ends_at<S: Alter>(
     requires index { index < 4294967296 }
     requires inside { HasCleanDisk (state S.Store tx.old.conn.now) → IsTrue (state S.Store tx.old.conn.now).in_transaction }
     ensures same_reference { tx.new.conn.ghost_name ≡ tx.old.conn.ghost_name }
-    ensures finds { HasCleanDisk (state S.Store tx.new.conn.now) → Finds (state S.Store tx.old.conn.now) (state S.Store tx.new.conn.now) (λ it ends. IsTrue ends ↔ (slice_get (listed_in it.entries list.now.issuer (scope_number list.now.scope)) index ≡ None)) result }
+    ensures finds { HasCleanDisk (state S.Store tx.new.conn.now) → Finds (state S.Store tx.old.conn.now) (state S.Store tx.new.conn.now) (λ it ends. IsTrue ends ↔ (slice_get (entries_under it.entries list.now.issuer (scope_number list.now.scope)) index ≡ None)) result }
     ensures survives { CommitsNothing (state S.Store tx.old.conn.now) (state S.Store tx.new.conn.now) }
 {
     match stands_at(tx, list, index, &[]) {
@@ -82,7 +82,7 @@ pub fn has_entries<S: Alter>(
     requires issuer { list.now.issuer < 536870911 }
     requires inside { HasCleanDisk (state S.Store tx.old.conn.now) → IsTrue (state S.Store tx.old.conn.now).in_transaction }
     ensures same_reference { tx.new.conn.ghost_name ≡ tx.old.conn.ghost_name }
-    ensures finds { HasCleanDisk (state S.Store tx.new.conn.now) → Finds (state S.Store tx.old.conn.now) (state S.Store tx.new.conn.now) (λ it same. IsTrue same ↔ (listed_in it.entries list.now.issuer (scope_number list.now.scope) ≡ revoked.now)) result }
+    ensures finds { HasCleanDisk (state S.Store tx.new.conn.now) → Finds (state S.Store tx.old.conn.now) (state S.Store tx.new.conn.now) (λ it same. IsTrue same ↔ (entries_under it.entries list.now.issuer (scope_number list.now.scope) ≡ revoked.now)) result }
     ensures ascend { IsAscending revoked.now }
     ensures survives { CommitsNothing (state S.Store tx.old.conn.now) (state S.Store tx.new.conn.now) }
 {

@@ -8,11 +8,11 @@ ghost use Rattle.store_sql.specs.Texts.{select_entry};
 ghost use Rattle.statements_facts.specs.Listed.{ListedSerial, first_reason};
 ghost use Rattle.store_sql.specs.Statements.{CommitsNothing};
 ghost use Rattle.store_rows.specs.Contents.{shown, listed_cells, scope_number};
-ghost use Rattle.store_rows.specs.Places.{base_of, beside_of, listed_in};
+ghost use Rattle.store_rows.specs.Places.{base_of, beside_of, entries_under};
 ghost use Rattle.store_rows.specs.Holding.{HasByte};
 ghost use Rattle.store_rows.specs.Steps.{Finds};
 
-use crate::beside::{Beside, compare};
+use crate::beside::{SerialAtPlace, compare};
 use crate::cell::{natural, octets};
 use crate::crl::scope_number;
 use sqlite::{Alter, Error, Row, Transaction};
@@ -45,7 +45,7 @@ pub(crate) fn signed(place: u64) -> i64
     place as i64
 }
 
-fn read_entry(row: &Row, serial: &[u8]) -> Result<Beside, StoreFault>
+fn read_entry(row: &Row, serial: &[u8]) -> Result<SerialAtPlace, StoreFault>
     ensures ok { IfOk result (λ beside. (listed : ListedSerial) → row.now ≡ listed_cells listed → beside ≡ beside_of (Some listed) serial.now) }
     ensures schema { result ≡ Err StoreFault.Schema → (listed : ListedSerial) → HasByte listed → row.now ≢ listed_cells listed }
 {
@@ -54,12 +54,12 @@ fn read_entry(row: &Row, serial: &[u8]) -> Result<Beside, StoreFault>
     Ok(compare(there.as_slice(), reason as u8, serial))
 }
 
-fn read_entries(rows: &[Row], serial: &[u8]) -> Result<Beside, StoreFault>
+fn read_entries(rows: &[Row], serial: &[u8]) -> Result<SerialAtPlace, StoreFault>
     ensures ok { IfOk result (λ beside. (listed : Option ListedSerial) → IfSome listed HasByte → rows.now ≡ shown listed_cells listed → beside ≡ beside_of listed serial.now) }
     ensures schema { result ≡ Err StoreFault.Schema → (listed : Option ListedSerial) → IfSome listed HasByte → rows.now ≢ shown listed_cells listed }
 {
     match rows {
-        [] => Ok(Beside::Nothing),
+        [] => Ok(SerialAtPlace::Nothing),
         [row] => read_entry(row, serial),
         _ => Err(StoreFault::Schema),
     }
@@ -81,12 +81,12 @@ pub(crate) fn stands_at<S: Alter>(
     list: &ListKey,
     index: u64,
     serial: &[u8],
-) -> Result<Beside, StoreFault>
+) -> Result<SerialAtPlace, StoreFault>
     requires issuer { list.now.issuer < 536870911 }
     requires index { index < 4294967296 }
     requires inside { HasCleanDisk (state S.Store tx.old.conn.now) → IsTrue (state S.Store tx.old.conn.now).in_transaction }
     ensures same_reference { tx.new.conn.ghost_name ≡ tx.old.conn.ghost_name }
-    ensures finds { HasCleanDisk (state S.Store tx.new.conn.now) → Finds (state S.Store tx.old.conn.now) (state S.Store tx.new.conn.now) (λ it beside. beside ≡ beside_of (slice_get (listed_in it.entries list.now.issuer (scope_number list.now.scope)) index) serial.now) result }
+    ensures finds { HasCleanDisk (state S.Store tx.new.conn.now) → Finds (state S.Store tx.old.conn.now) (state S.Store tx.new.conn.now) (λ it beside. beside ≡ beside_of (slice_get (entries_under it.entries list.now.issuer (scope_number list.now.scope)) index) serial.now) result }
     ensures survives { CommitsNothing (state S.Store tx.old.conn.now) (state S.Store tx.new.conn.now) }
 {
     let place = base_of(list) + index;
@@ -106,7 +106,7 @@ pub fn find_entry<S: Alter>(
     requires issuer { list.now.issuer < 536870911 }
     requires inside { HasCleanDisk (state S.Store tx.old.conn.now) → IsTrue (state S.Store tx.old.conn.now).in_transaction }
     ensures same_reference { tx.new.conn.ghost_name ≡ tx.old.conn.ghost_name }
-    ensures finds { HasCleanDisk (state S.Store tx.new.conn.now) → Finds (state S.Store tx.old.conn.now) (state S.Store tx.new.conn.now) (λ it reason. reason ≡ first_reason (listed_in it.entries list.now.issuer (scope_number list.now.scope)) serial.now) result }
+    ensures finds { HasCleanDisk (state S.Store tx.new.conn.now) → Finds (state S.Store tx.old.conn.now) (state S.Store tx.new.conn.now) (λ it reason. reason ≡ first_reason (entries_under it.entries list.now.issuer (scope_number list.now.scope)) serial.now) result }
     ensures survives { CommitsNothing (state S.Store tx.old.conn.now) (state S.Store tx.new.conn.now) }
 {
     let mut low: u64 = 0;
@@ -118,10 +118,10 @@ pub fn find_entry<S: Alter>(
             Err(fault) => return Err(fault),
         };
         match beside {
-            Beside::Nothing => high = middle,
-            Beside::Below => low = middle + 1,
-            Beside::Same(reason) => return Ok(Some(reason)),
-            Beside::Above => high = middle,
+            SerialAtPlace::Nothing => high = middle,
+            SerialAtPlace::Below => low = middle + 1,
+            SerialAtPlace::Same(reason) => return Ok(Some(reason)),
+            SerialAtPlace::Above => high = middle,
         }
     }
     Ok(None)

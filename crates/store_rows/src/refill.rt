@@ -9,7 +9,7 @@ ghost use Rattle.store_sql.specs.Statements.{CommitsNothing, Runs};
 ghost use Rattle.store_sql.specs.Texts.{delete_entries, insert_entry};
 ghost use Rattle.store_rows.specs.Contents.{listed_cells, scope_number};
 ghost use Rattle.store_rows.specs.Places.{base_of};
-ghost use Rattle.store_rows.specs.Holding.{AreInOrder, HasByte, with_entries};
+ghost use Rattle.store_rows.specs.Holding.{FitInList, HasByte, with_entries};
 ghost use Rattle.store_rows.specs.Steps.{Changes};
 
 use crate::crl::scope_number;
@@ -85,7 +85,7 @@ pub fn replace_entries<S: Alter>(
     requires issuer { list.now.issuer < 536870911 }
     requires inside { HasCleanDisk (state S.Store tx.old.conn.now) → IsTrue (state S.Store tx.old.conn.now).in_transaction }
     ensures same_reference { tx.new.conn.ghost_name ≡ tx.old.conn.ghost_name }
-    ensures formed { OnOk result (AreInOrder revoked.now) }
+    ensures formed { OnOk result (FitInList revoked.now) }
     ensures changes { HasCleanDisk (state S.Store tx.new.conn.now) → Changes (state S.Store tx.old.conn.now) (state S.Store tx.new.conn.now) (with_entries list.now.issuer (scope_number list.now.scope) revoked.now) result }
     ensures survives { CommitsNothing (state S.Store tx.old.conn.now) (state S.Store tx.new.conn.now) }
 {

@@ -10,7 +10,7 @@ ghost use Rattle.store_sql.specs.Statements.{CommitsNothing};
 ghost use Rattle.store_rows.specs.Contents.{HasCell, shown, said_cells, said_of, is_single_of, status_number, reason_number};
 ghost use Rattle.store_rows.specs.Holding.{HasReason, IsSaid, with_single};
 ghost use Rattle.store_rows.specs.Steps.{Finds, Changes};
-ghost use Rattle.store_rows.specs.Seen.{seen_said};
+ghost use Rattle.store_rows.specs.Seen.{seen_held_status};
 
 use crate::cell::{integer, natural};
 use sqlite::{Alter, Row, Transaction};
@@ -19,7 +19,7 @@ use store_sql::{SaidCells, SingleKey, StoreFault, delete_single, insert_single, 
 
 /// What a response says of a certificate (RFC 6960, 4.2.1). Times are in seconds from 1970-01-01T00:00:00Z.
 #[derive(Clone, Copy)]
-pub struct Said {
+pub struct HeldStatus {
     pub this_update: i64,
     pub produced_at: i64,
     /// From when it counts.
@@ -74,8 +74,8 @@ fn read_status(row: &Row) -> Result<Status, StoreFault>
     }
 }
 
-fn read_said(row: &Row) -> Result<Said, StoreFault>
-    ensures ok { IfOk result (λ found. (fact : OcspFact) → row.now ≡ said_cells fact → seen_said found ≡ fact) }
+fn read_said(row: &Row) -> Result<HeldStatus, StoreFault>
+    ensures ok { IfOk result (λ found. (fact : OcspFact) → row.now ≡ said_cells fact → seen_held_status found ≡ fact) }
     ensures schema { result ≡ Err StoreFault.Schema → (fact : OcspFact) → IsSaid fact → row.now ≢ said_cells fact }
 {
     let this_update = integer(row, 0)?;
@@ -83,7 +83,7 @@ fn read_said(row: &Row) -> Result<Said, StoreFault>
     let from = integer(row, 2)?;
     let until = integer(row, 3)?;
     let status = read_status(row)?;
-    Ok(Said {
+    Ok(HeldStatus {
         this_update,
         produced_at,
         from,
@@ -92,8 +92,8 @@ fn read_said(row: &Row) -> Result<Said, StoreFault>
     })
 }
 
-fn read_all(rows: &[Row]) -> Result<Option<Said>, StoreFault>
-    ensures ok { IfOk result (λ found. (fact : Option OcspFact) → IfSome fact IsSaid → rows.now ≡ shown said_cells fact → option_map seen_said found ≡ fact) }
+fn read_all(rows: &[Row]) -> Result<Option<HeldStatus>, StoreFault>
+    ensures ok { IfOk result (λ found. (fact : Option OcspFact) → IfSome fact IsSaid → rows.now ≡ shown said_cells fact → option_map seen_held_status found ≡ fact) }
     ensures schema { result ≡ Err StoreFault.Schema → (fact : Option OcspFact) → IfSome fact IsSaid → rows.now ≢ shown said_cells fact }
 {
     match rows {
@@ -121,10 +121,10 @@ pub fn find_single<'x, S: Alter>(
     issuer: u32,
     name_hash: &'x [u8],
     serial: &'x [u8],
-) -> Result<Option<Said>, StoreFault>
+) -> Result<Option<HeldStatus>, StoreFault>
     requires inside { HasCleanDisk (state S.Store tx.old.conn.now) → IsTrue (state S.Store tx.old.conn.now).in_transaction }
     ensures same_reference { tx.new.conn.ghost_name ≡ tx.old.conn.ghost_name }
-    ensures finds { HasCleanDisk (state S.Store tx.new.conn.now) → Finds (state S.Store tx.old.conn.now) (state S.Store tx.new.conn.now) (λ it said. option_map seen_said said ≡ option_map said_of (find (is_single_of issuer name_hash.now serial.now) it.singles)) result }
+    ensures finds { HasCleanDisk (state S.Store tx.new.conn.now) → Finds (state S.Store tx.old.conn.now) (state S.Store tx.new.conn.now) (λ it said. option_map seen_held_status said ≡ option_map said_of (find (is_single_of issuer name_hash.now serial.now) it.singles)) result }
     ensures survives { CommitsNothing (state S.Store tx.old.conn.now) (state S.Store tx.new.conn.now) }
 {
     let key = key_of(issuer, name_hash, serial);

@@ -1,11 +1,11 @@
 -- What a query over one table answers.
-use Rattle.std.proofs.Common.{◌≡◌, ℕ, ℤ, List, [], ◌∷◌, map, filter, flat_map, Bool, true, false, Some, refl, sym, ap, ◌∙◌, drop, inl, inr}
+use Rattle.std.proofs.Common.{◌≡◌, ℕ, ℤ, List, [], ◌∷◌, map, filter, flat_map, Bool, true, false, Some, refl, sym, ap, ◌∙◌, drop, inl, inr, nat_le, ◌^◌, subst₂}
 use Rattle.std.proofs.lemmas.Bool.{cases_Bool}
 use Rattle.std.specs.List.{list_all}
 use Rattle.std.specs.List.Sorted.{IsPermutation}
 use Rattle.std.specs.Str.{bytes_eq}
 use Rattle.std.proofs.lemmas.Map.Text.{is_eq-slice_cmp}
-use Rattle.sqlite_value.proofs.OrderLemmas.{value_cmp-Blob}
+use Rattle.sqlite_value.proofs.OrderLemmas.{value_cmp-Blob, value_cmp-Int}
 use Rattle.sqlite.specs.declared.types.Value.TheVariants.{Null, Int, Blob}
 use Rattle.sqlite.specs.Order.{Row}
 use Rattle.sqlite.specs.Ops.{binary, is_true}
@@ -20,10 +20,8 @@ use Rattle.sqlite.specs.Tree.{Trees}
 use Rattle.sqlite.specs.Effect.{Database, Answers}
 use Rattle.std.specs.Bool.{if◌then◌else◌}
 use Rattle.std.proofs.lemmas.List.Sorted.{IsPermutation-map}
-use Rattle.std.proofs.Common.{nat_le, ◌^◌, subst₂}
 use Rattle.store_sql.specs.Queries.{rows_of}
 use Rattle.std.specs.Ordering.{is_eq, is_lt, int_cmp}
-use Rattle.sqlite_value.proofs.OrderLemmas.{value_cmp-Int}
 
 pub truth_of : (b : Bool) → is_true (from_truth (Some b)) ≡ b
 truth_of true = refl

@@ -16,9 +16,8 @@ use Rattle.sqlite_rules.specs.Calls.{ids_of}
 use Rattle.sqlite_rules.specs.Action.{works}
 use Rattle.sqlite.specs.declared.run.Mode.{Mode}
 use Rattle.sqlite.specs.Effect.{Database, Answers, value_rows}
-use Rattle.sqlite.specs.Rows.{Written}
+use Rattle.sqlite.specs.Rows.{Written, Task}
 use Rattle.sqlite.specs.Does.{Tally, Does, OnRows}
-use Rattle.sqlite.specs.Rows.{Task}
 use Rattle.sqlite.proofs.Callers.{one_step}
 use Rattle.sqlite_value.specs.declared.keys.Order.{Order}
 use Rattle.store_sql.specs.Tables.{shaped}

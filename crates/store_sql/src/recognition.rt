@@ -2,9 +2,7 @@
 
 ghost use Rattle.std.specs.Prelude.{◌≡◌, ◌≢◌, ◌↔◌, ◌<◌, ◌∷◌, [], IsTrue, IfSome, IfNone};
 ghost use Rattle.store_sql.specs.declared.origin.Origin.TheVariants.{Made, Migrated};
-ghost use Rattle.store_sql.specs.Tables.{meta_table, issuers_table, ocsp_table, crls_table, entries_table, scoped_crls_table, scoped_entries_table};
-ghost use Rattle.store_sql.specs.Tables.{list_columns, entry_columns, status_columns, said_columns, ocsp_columns, issuers_key, ocsp_key, entries_key, scoped_crls_key};
-ghost use Rattle.store_sql.specs.Tables.{no_schema, version_1_schema, store_schema};
+ghost use Rattle.store_sql.specs.Tables.{meta_table, issuers_table, ocsp_table, crls_table, entries_table, scoped_crls_table, scoped_entries_table, list_columns, entry_columns, status_columns, said_columns, ocsp_columns, issuers_key, ocsp_key, entries_key, scoped_crls_key, no_schema, version_1_schema, store_schema};
 
 use crate::origin::Origin;
 use crate::shape::{

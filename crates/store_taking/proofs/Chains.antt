@@ -7,20 +7,20 @@ use Rattle.statements_facts.specs.Statement.{Holdings}
 use Rattle.store_sql.specs.declared.origin.Origin.{Origin}
 use Rattle.store_sql.specs.declared.fault.StoreFault.{StoreFault}
 use Rattle.store_rows.specs.Contents.{Contents}
-use Rattle.store_rows.specs.Holding.{Holds, AreInForm}
-use Rattle.store_rows.specs.Steps.{Stays, Fails, Finds, IsAnswered, Moves}
-use Rattle.store_taking.specs.Passing.{Passes, Stops, Goes}
+use Rattle.store_rows.specs.Holding.{HasContents, AreInForm}
+use Rattle.store_rows.specs.StepsTo.{Stays, Fails, Finds, HasFound, Moves}
+use Rattle.store_taking.specs.Passing.{HasStepped, StepFails, StepsTo}
 
 -- ---- rows
 
 then_stays : (first mid now : State) → Stays first mid → Stays mid now → Stays first now
 then_stays first mid now a b = record { open_is = b.open_is ∙ a.open_is; now_is = b.now_is ∙ a.now_is; committed_is = b.committed_is ∙ a.committed_is; mode = b.mode ∙ a.mode }
 
-pub still_holds : (first mid : State) (origin : Origin) (it : Contents) → Stays first mid → Holds first.now origin it → Holds mid.now origin it
-still_holds first mid origin it stays held = subst (λ db. Holds db origin it) (sym stays.now_is) held
+pub still_holds : (first mid : State) (origin : Origin) (it : Contents) → Stays first mid → HasContents first.now origin it → HasContents mid.now origin it
+still_holds first mid origin it stays held = subst (λ db. HasContents db origin it) (sym stays.now_is) held
 
 -- what is said of the rows says something else of them
-pub found_as : {A B : Type 0} (old new : State) (P : Contents → A → Type 0) (a : A) (R : Contents → B → Type 0) (b : B) → IsAnswered old new P a → ((it : Contents) → AreInForm it → P it a → R it b) → IsAnswered old new R b
+pub found_as : {A B : Type 0} (old new : State) (P : Contents → A → Type 0) (a : A) (R : Contents → B → Type 0) (b : B) → HasFound old new P a → ((it : Contents) → AreInForm it → P it a → R it b) → HasFound old new R b
 found_as old new P a R b answer leads = record {
   keeps = answer.keeps;
   mode = answer.mode;
@@ -28,7 +28,7 @@ found_as old new P a R b answer leads = record {
 }
 
 pub found_then : {A B C : Type 0} (old mid new : State) (P : Contents → A → Type 0) (a : A) (Q : Contents → B → Type 0) (b : B) (R : Contents → C → Type 0) (c : C)
-    → IsAnswered old mid P a → IsAnswered mid new Q b → ((it : Contents) → AreInForm it → P it a → Q it b → R it c) → IsAnswered old new R c
+    → HasFound old mid P a → HasFound mid new Q b → ((it : Contents) → AreInForm it → P it a → Q it b → R it c) → HasFound old new R c
 found_then old mid new P a Q b R c one two leads = record {
   keeps = keeps_then old mid new one.keeps two.keeps;
   mode = two.mode;
@@ -38,7 +38,7 @@ found_then old mid new P a Q b R c one two leads = record {
       (then_stays old mid new first.0 second.0, leads it form first.1 second.1);
 }
 
-pub then_fails : {A : Type 0} (old mid new : State) (P : Contents → A → Type 0) (a : A) (fault : StoreFault) → IsAnswered old mid P a → Fails mid new fault → Fails old new fault
+pub then_fails : {A : Type 0} (old mid new : State) (P : Contents → A → Type 0) (a : A) (fault : StoreFault) → HasFound old mid P a → Fails mid new fault → Fails old new fault
 then_fails old mid new P a fault one two = record {
   keeps = keeps_then old mid new one.keeps two.keeps;
   formed = λ e origin it held form. two.formed e origin it (still_holds old mid origin it (one.rows origin it held form).0 held) form;
@@ -46,7 +46,7 @@ then_fails old mid new P a fault one two = record {
 
 -- a look-up, and then another that answers the same
 pub finds_then : {A B : Type 0} (old mid new : State) (P : Contents → A → Type 0) (a : A) (Q R : Contents → B → Type 0) (result : Result B StoreFault)
-    → IsAnswered old mid P a → Finds mid new Q result → ((it : Contents) (b : B) → AreInForm it → P it a → Q it b → R it b) → Finds old new R result
+    → HasFound old mid P a → Finds mid new Q result → ((it : Contents) (b : B) → AreInForm it → P it a → Q it b → R it b) → Finds old new R result
 finds_then old mid new P a Q R (Ok b) one two leads = found_then old mid new P a Q b R b one two (λ it form p q. leads it b form p q)
 finds_then old mid new P a Q R (Err fault) one two leads = then_fails old mid new P a fault one two
 
@@ -72,21 +72,21 @@ moves_then_fails old mid new one fault first second form = record {
 
 -- ---- what is held
 
-pub passes_then : (old mid new : State) (Before Mid After : Database → Holdings → Type 0) → Passes old mid Before Mid → Passes mid new Mid After → Passes old new Before After
+pub passes_then : (old mid new : State) (Before Mid After : Database → Holdings → Type 0) → HasStepped old mid Before Mid → HasStepped mid new Mid After → HasStepped old new Before After
 passes_then old mid new Before Mid After one two = record {
   keeps = keeps_then old mid new one.keeps two.keeps;
   mode = two.mode;
   held = λ held was. two.held held (one.held held was);
 }
 
-pub stops_then : (old mid new : State) (Before Mid : Database → Holdings → Type 0) (fault : StoreFault) → Passes old mid Before Mid → Stops mid new Mid fault → Stops old new Before fault
+pub stops_then : (old mid new : State) (Before Mid : Database → Holdings → Type 0) (fault : StoreFault) → HasStepped old mid Before Mid → StepFails mid new Mid fault → StepFails old new Before fault
 stops_then old mid new Before Mid fault one two = record {
   keeps = keeps_then old mid new one.keeps two.keeps;
   formed = λ e held was. two.formed e held (one.held held was);
 }
 
 pub goes_then : {A : Type 0} (old mid new : State) (Before Mid : Database → Holdings → Type 0) (After : A → Database → Holdings → Type 0) (result : Result A StoreFault)
-    → Passes old mid Before Mid → Goes mid new Mid After result → Goes old new Before After result
+    → HasStepped old mid Before Mid → StepsTo mid new Mid After result → StepsTo old new Before After result
 goes_then old mid new Before Mid After (Ok answer) one two = passes_then old mid new Before Mid (After answer) one two
 goes_then old mid new Before Mid After (Err fault) one two = stops_then old mid new Before Mid fault one two
 

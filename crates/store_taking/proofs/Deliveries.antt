@@ -17,26 +17,27 @@ use Rattle.statements_facts.specs.Single.{SingleFact, seen_single}
 use Rattle.statements_facts.specs.Fact.{Fact}
 use Rattle.store_sql.specs.declared.fault.StoreFault.{StoreFault}
 use Rattle.store_sql.specs.declared.fault.StoreFault.TheVariants.{Schema as NotOurs}
-use Rattle.statements_facts.specs.declared.counts.Outcome.{Outcome}
+use Rattle.statements_facts.specs.declared.counts.TakenAs.{TakenAs}
 use Rattle.statements_facts.specs.declared.counts.Counts.{Counts}
 use Rattle.statements_facts.specs.Coming.{after_all, same_outcome, number_of}
 use Rattle.statements_facts.proofs.Laws.{one_more_taken, nothing_counted, one_more_counted}
 use Rattle.store_maps.specs.Held.{IsStoreOf}
-use Rattle.store_taking.specs.Passing.{Passes, Stops}
-use Rattle.store_taking.specs.Taking.{IsTaken, AreTaken, single_fact, single_facts}
-use Rattle.store_taking.specs.Delivery.{Commits, Undoes, Ends, IsDurable, Puts, CommitsWhole}
+use Rattle.store_taking.specs.Passing.{HasStepped, StepFails}
+use Rattle.store_taking.specs.Taking.{IsTaken, AreTaken, fact_of_single, facts_of_singles}
+use Rattle.store_taking.specs.Delivery.{Commits, Undoes, Ends, Puts, CommitsWhole}
+use Rattle.store_sql.specs.Statements.{IsDurable}
 
 -- ---- facts in turn
 
-pub nothing_taken : (s : State) (counts : Counts) → ((outcome : Outcome) → number_of outcome counts ≡ 0) → IsTrue s.in_transaction → Passes s s IsStoreOf (AreTaken [] counts)
+pub nothing_taken : (s : State) (counts : Counts) → ((outcome : TakenAs) → number_of outcome counts ≡ 0) → IsTrue s.in_transaction → HasStepped s s IsStoreOf (AreTaken [] counts)
 nothing_taken s counts none inside = record {
   keeps = record { was_open = λ h. h; committed = λ _. refl };
   mode = inside;
   held = λ held store. record { hold = store; counted = nothing_counted held counts none };
 }
 
-pub one_more : (old mid new : State) (facts : List Fact) (fact : Fact) (counts after : Counts) (outcome : Outcome) → Passes old mid IsStoreOf (AreTaken facts counts) → Passes mid new IsStoreOf (IsTaken fact outcome)
-    → ((each : Outcome) → number_of each after ≡ number_of each counts + (if same_outcome each outcome then 1 else 0)) → Passes old new IsStoreOf (AreTaken (facts ++ fact ∷ []) after)
+pub one_more : (old mid new : State) (facts : List Fact) (fact : Fact) (counts after : Counts) (outcome : TakenAs) → HasStepped old mid IsStoreOf (AreTaken facts counts) → HasStepped mid new IsStoreOf (IsTaken fact outcome)
+    → ((each : TakenAs) → number_of each after ≡ number_of each counts + (if same_outcome each outcome then 1 else 0)) → HasStepped old new IsStoreOf (AreTaken (facts ++ fact ∷ []) after)
 one_more old mid new facts fact counts after outcome one two added = record {
   keeps = keeps_then old mid new one.keeps two.keeps;
   mode = two.mode;
@@ -49,15 +50,15 @@ one_more old mid new facts fact counts after outcome one two added = record {
       };
 }
 
-pub stops_on_the_way : (old mid new : State) (facts : List Fact) (counts : Counts) (fault : StoreFault) → Passes old mid IsStoreOf (AreTaken facts counts) → Stops mid new IsStoreOf fault → Stops old new IsStoreOf fault
+pub stops_on_the_way : (old mid new : State) (facts : List Fact) (counts : Counts) (fault : StoreFault) → HasStepped old mid IsStoreOf (AreTaken facts counts) → StepFails mid new IsStoreOf fault → StepFails old new IsStoreOf fault
 stops_on_the_way old mid new facts counts fault one two = record {
   keeps = keeps_then old mid new one.keeps two.keeps;
   formed = λ e held store. two.formed e (after_all held facts) (one.held held store).hold;
 }
 
 -- a fact alone
-pub one_taken : (old new : State) (fact : Fact) (none counts : Counts) (outcome : Outcome) → Passes old new IsStoreOf (IsTaken fact outcome) → ((each : Outcome) → number_of each none ≡ 0)
-    → ((each : Outcome) → number_of each counts ≡ number_of each none + (if same_outcome each outcome then 1 else 0)) → Passes old new IsStoreOf (AreTaken (fact ∷ []) counts)
+pub one_taken : (old new : State) (fact : Fact) (none counts : Counts) (outcome : TakenAs) → HasStepped old new IsStoreOf (IsTaken fact outcome) → ((each : TakenAs) → number_of each none ≡ 0)
+    → ((each : TakenAs) → number_of each counts ≡ number_of each none + (if same_outcome each outcome then 1 else 0)) → HasStepped old new IsStoreOf (AreTaken (fact ∷ []) counts)
 one_taken old new fact none counts outcome one zero added = record {
   keeps = one.keeps;
   mode = one.mode;
@@ -69,13 +70,13 @@ one_taken old new fact none counts outcome one zero added = record {
 -- ---- the single responses of one response
 
 pub single_more : (issuer : IssuerIdentity) (all : List Single) (k : ℕ) (d : Single) → k < length all
-    → single_facts issuer (map seen_single (take (k + 1) all)) ≡ single_facts issuer (map seen_single (take k all)) ++ single_fact issuer (seen_single (get_or all k d)) ∷ []
+    → facts_of_singles issuer (map seen_single (take (k + 1) all)) ≡ facts_of_singles issuer (map seen_single (take k all)) ++ fact_of_single issuer (seen_single (get_or all k d)) ∷ []
 single_more issuer all k d low =
-    ap (single_facts issuer) (map_more seen_single all k d low)
-    ∙ map-append (single_fact issuer) (map seen_single (take k all)) (seen_single (get_or all k d) ∷ [])
+    ap (facts_of_singles issuer) (map_more seen_single all k d low)
+    ∙ map-append (fact_of_single issuer) (map seen_single (take k all)) (seen_single (get_or all k d) ∷ [])
 
-pub all_singles : (issuer : IssuerIdentity) (all : List Single) (singles : List SingleFact) (k : ℕ) → k ≡ length all → map seen_single all ≡ singles → single_facts issuer (map seen_single (take k all)) ≡ single_facts issuer singles
-all_singles issuer all singles k at are = ap (λ n. single_facts issuer (map seen_single (take n all))) at ∙ ap (λ xs. single_facts issuer (map seen_single xs)) (take-length all) ∙ ap (single_facts issuer) are
+pub all_singles : (issuer : IssuerIdentity) (all : List Single) (singles : List SingleFact) (k : ℕ) → k ≡ length all → map seen_single all ≡ singles → facts_of_singles issuer (map seen_single (take k all)) ≡ facts_of_singles issuer singles
+all_singles issuer all singles k at are = ap (λ n. facts_of_singles issuer (map seen_single (take n all))) at ∙ ap (λ xs. facts_of_singles issuer (map seen_single xs)) (take-length all) ∙ ap (facts_of_singles issuer) are
 
 -- of one at least was told
 pub some_told : (all : List Single) (k : ℕ) (P : Type 0) → all ≢ [] → k ≡ length all → (k ≡ 0) ⊎ P → P
@@ -85,7 +86,7 @@ some_told (x ∷ all) k P some at (inr is) = is
 
 -- ---- the transaction ends
 
-pub commits : (old last new : State) (facts : List Fact) (counts : Counts) → Passes old last IsStoreOf (AreTaken facts counts) → Shows last new last.now last.now false → Commits old new facts counts
+pub commits : (old last new : State) (facts : List Fact) (counts : Counts) → HasStepped old last IsStoreOf (AreTaken facts counts) → Shows last new last.now last.now false → Commits old new facts counts
 commits old last new facts counts passes shows = record {
   was_open = passes.keeps.was_open shows.was_open;
   is_open = shows.is_open;
@@ -104,14 +105,14 @@ undoes old last new fault keeps back formed = record {
   formed = formed;
 }
 
-pub stop_undoes : (old last new : State) (fault : StoreFault) → Stops old last IsStoreOf fault → IsRolledBack last new → Undoes old new fault
+pub stop_undoes : (old last new : State) (fault : StoreFault) → StepFails old last IsStoreOf fault → IsRolledBack last new → Undoes old new fault
 stop_undoes old last new fault stops back = undoes old last new fault stops.keeps back stops.formed
 
-pub failed_commit_undoes : (old last new : State) (facts : List Fact) (counts : Counts) (e : Error) (fault : StoreFault) → Passes old last IsStoreOf (AreTaken facts counts) → FailsToCommit last new e → fault ≢ NotOurs → Undoes old new fault
+pub failed_commit_undoes : (old last new : State) (facts : List Fact) (counts : Counts) (e : Error) (fault : StoreFault) → HasStepped old last IsStoreOf (AreTaken facts counts) → FailsToCommit last new e → fault ≢ NotOurs → Undoes old new fault
 failed_commit_undoes old last new facts counts e fault passes fails other = undoes old last new fault passes.keeps (rolled_back last new e passes.mode fails) (λ is held store. other is)
 
 -- what the commit leaves is the whole delivery
-pub leaves_whole : (old last : State) (facts : List Fact) (counts : Counts) (trees : Trees) → Passes old last IsStoreOf (AreTaken facts counts) → IsTrue old.is_open → trees ≡ last.now.trees → CommitsWhole old facts trees
+pub leaves_whole : (old last : State) (facts : List Fact) (counts : Counts) (trees : Trees) → HasStepped old last IsStoreOf (AreTaken facts counts) → IsTrue old.is_open → trees ≡ last.now.trees → CommitsWhole old facts trees
 leaves_whole old last facts counts trees passes was_open is = (
   was_open,
   λ held store. (last.now.schema, subst (λ t. IsStoreOf (record { schema = last.now.schema; trees = t }) (after_all held facts)) (sym is) (passes.held held store).hold),
@@ -120,14 +121,14 @@ leaves_whole old last facts counts trees passes was_open is = (
 -- ---- from before the transaction began
 
 module _ {S : Type 0} (g : Ghosts S) (old begun : Held S) (is : begun ≡ record old { in_transaction = true }) where
-  pub leaves_all : (last : State) (facts : List Fact) (counts : Counts) (trees : Trees) → Passes (state g begun) last IsStoreOf (AreTaken facts counts) → IsTrue (state g begun).is_open → trees ≡ last.now.trees
+  pub leaves_all : (last : State) (facts : List Fact) (counts : Counts) (trees : Trees) → HasStepped (state g begun) last IsStoreOf (AreTaken facts counts) → IsTrue (state g begun).is_open → trees ≡ last.now.trees
       → CommitsWhole (state g old) facts trees
   leaves_all last facts counts trees passes was_open left =
-      leaves_whole (state g (record old { in_transaction = true })) last facts counts trees (subst (λ h. Passes (state g h) last IsStoreOf (AreTaken facts counts)) is passes) (subst (λ h. IsTrue (state g h).is_open) is was_open) left
+      leaves_whole (state g (record old { in_transaction = true })) last facts counts trees (subst (λ h. HasStepped (state g h) last IsStoreOf (AreTaken facts counts)) is passes) (subst (λ h. IsTrue (state g h).is_open) is was_open) left
 
-  pub undoes_all : (last new : State) (fault : StoreFault) → Stops (state g begun) last IsStoreOf fault → IsRolledBack last new → Undoes (state g old) new fault
+  pub undoes_all : (last new : State) (fault : StoreFault) → StepFails (state g begun) last IsStoreOf fault → IsRolledBack last new → Undoes (state g old) new fault
   undoes_all last new fault stops back =
-      let it = stop_undoes (state g (record old { in_transaction = true })) last new fault (subst (λ h. Stops (state g h) last IsStoreOf fault) is stops) back in
+      let it = stop_undoes (state g (record old { in_transaction = true })) last new fault (subst (λ h. StepFails (state g h) last IsStoreOf fault) is stops) back in
       record { was_open = it.was_open; undone = it.undone; formed = it.formed }
 
 -- what a transaction came to is what the delivery came to

@@ -5,19 +5,19 @@ use Rattle.sqlite.proofs.InsideLemmas.{keeps_then}
 use Rattle.statements_facts.specs.Statement.{IssuerIdentity}
 use Rattle.store_rows.specs.Contents.{id_of}
 use Rattle.store_rows.specs.Holding.{HasRoom, next_id, with_issuer}
-use Rattle.store_rows.specs.Steps.{IsAnswered, IsKnown, Moves}
+use Rattle.store_rows.specs.Steps.{HasFound, IsKnown, Moves}
 use Rattle.store_maps.specs.Held.{IsStoreOf}
 use Rattle.store_maps.proofs.HeldLaws.{same_held}
-use Rattle.store_taking.specs.Passing.{Passes, HasIssuer, LacksIssuer, IsIdOf}
+use Rattle.store_taking.specs.Passing.{HasStepped, HasIssuer, LacksIssuer, IsIdOf}
 use Rattle.store_taking.proofs.Chains.{still_holds}
 use Rattle.store_taking.proofs.Forms.{new_id, issuer_in_form, issuer_owned}
 
-pub is_id_of : (old new : State) (identity : IssuerIdentity) (found : Option ℕ) (id : ℕ) → found ≡ Some id → IsAnswered old new (λ it id. id ≡ id_of it.issuers identity) found → IsKnown old new identity found
+pub is_id_of : (old new : State) (identity : IssuerIdentity) (found : Option ℕ) (id : ℕ) → found ≡ Some id → HasFound old new (λ it id. id ≡ id_of it.issuers identity) found → IsKnown old new identity found
     → IsIdOf old new identity id
 is_id_of old new identity found id is answer known = record { keeps = answer.keeps; mode = answer.mode; known = subst (IsKnown old new identity) is known }
 
 -- the issuer has an id
-pub passes_found : (old new : State) (identity : IssuerIdentity) (found : Option ℕ) (id : ℕ) → found ≡ Some id → IsAnswered old new (λ it id. id ≡ id_of it.issuers identity) found → Passes old new IsStoreOf (HasIssuer identity id)
+pub passes_found : (old new : State) (identity : IssuerIdentity) (found : Option ℕ) (id : ℕ) → found ≡ Some id → HasFound old new (λ it id. id ≡ id_of it.issuers identity) found → HasStepped old new IsStoreOf (HasIssuer identity id)
 passes_found old new identity found id is answer = record {
   keeps = answer.keeps;
   mode = answer.mode;
@@ -30,7 +30,7 @@ passes_found old new identity found id is answer = record {
 }
 
 -- it has none
-pub passes_unfound : (old new : State) (identity : IssuerIdentity) (found : Option ℕ) → found ≡ None → IsAnswered old new (λ it id. id ≡ id_of it.issuers identity) found → Passes old new IsStoreOf (LacksIssuer identity)
+pub passes_unfound : (old new : State) (identity : IssuerIdentity) (found : Option ℕ) → found ≡ None → HasFound old new (λ it id. id ≡ id_of it.issuers identity) found → HasStepped old new IsStoreOf (LacksIssuer identity)
 passes_unfound old new identity found is answer = record {
   keeps = answer.keeps;
   mode = answer.mode;
@@ -43,7 +43,7 @@ passes_unfound old new identity found is answer = record {
 }
 
 -- and is given one, which changes nothing that is held
-pub passes_added : (old mid new : State) (identity : IssuerIdentity) (id : ℕ) → Moves old mid (with_issuer identity) → IsIdOf mid new identity id → HasRoom id → Passes old new (LacksIssuer identity) (HasIssuer identity id)
+pub passes_added : (old mid new : State) (identity : IssuerIdentity) (id : ℕ) → Moves old mid (with_issuer identity) → IsIdOf mid new identity id → HasRoom id → HasStepped old new (LacksIssuer identity) (HasIssuer identity id)
 passes_added old mid new identity id moves added room = record {
   keeps = keeps_then old mid new (record { was_open = λ _. moves.was_open; committed = λ _. moves.committed_is }) added.keeps;
   mode = added.mode;

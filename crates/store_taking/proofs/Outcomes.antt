@@ -14,16 +14,16 @@ use Rattle.statements_facts.specs.declared.scope.Scope.{Scope}
 use Rattle.statements_facts.specs.Listed.{ListedSerial, first_reason}
 use Rattle.statements_facts.specs.Statement.{CrlFact, OcspFact}
 use Rattle.store_rows.specs.declared.crl.Head.{Head}
-use Rattle.store_rows.specs.declared.single.Said.{Said}
+use Rattle.store_rows.specs.declared.single.HeldStatus.{HeldStatus}
 use Rattle.store_rows.specs.Contents.{CrlHead, CrlRow, Contents, head_of, said_of, is_crl_of, is_single_of, scope_number}
-use Rattle.store_rows.specs.Places.{IsBelow, listed_in}
-use Rattle.store_rows.specs.Seen.{seen_head, seen_said}
-use Rattle.statements_facts.specs.declared.counts.Outcome.{Outcome}
-use Rattle.statements_facts.specs.declared.counts.Outcome.TheVariants.{Stored, Kept, Contradicted}
-use Rattle.statements_facts.specs.Coming.{CrlComes, OcspComes}
+use Rattle.store_rows.specs.Places.{IsBelow, entries_under}
+use Rattle.store_rows.specs.Seen.{seen_head, seen_held_status}
+use Rattle.statements_facts.specs.declared.counts.TakenAs.{TakenAs}
+use Rattle.statements_facts.specs.declared.counts.TakenAs.TheVariants.{Stored, Kept, Contradicted}
+use Rattle.statements_facts.specs.Coming.{CrlIsTakenAs, OcspIsTakenAs}
 use Rattle.statements_facts.proofs.Laws.{never_itself_crl}
 use Rattle.store_maps.specs.Held.{crl_under, ocsp_under}
-use Rattle.store_maps.specs.Laws.{fact_of}
+use Rattle.store_maps.specs.Laws.{fact_of_rows}
 use Rattle.store_taking.specs.Lists.{IsToldByEntries}
 
 -- ---- two lists of entries that ascend and say the same are one
@@ -91,33 +91,33 @@ same_said (x ∷ xs) (y ∷ ys) up up2 all = from (λ one. same_said xs ys up.1 
 -- ---- lists
 
 -- nothing is held
-pub no_list_comes : (it : Contents) (scope : Scope) (id : ℕ) (answer : Option Head) (fact : CrlFact) → answer ≡ None → option_map seen_head answer ≡ option_map head_of (find (is_crl_of id scope) it.crls) → CrlComes (crl_under it scope id) fact Stored
+pub no_list_comes : (it : Contents) (scope : Scope) (id : ℕ) (answer : Option Head) (fact : CrlFact) → answer ≡ None → option_map seen_head answer ≡ option_map head_of (find (is_crl_of id scope) it.crls) → CrlIsTakenAs (crl_under it scope id) fact Stored
 no_list_comes it scope id answer fact none is = cases (find (is_crl_of id scope) it.crls) (sym (ap (option_map seen_head) none) ∙ is)
   where
     cases : (row : Option CrlRow) → None ≡ option_map head_of row
-        → CrlComes (option_map (λ (row : CrlRow). record { number = row.number; window = row.window; reasons = first_reason (listed_in it.entries id (scope_number scope)) }) row) fact Stored
+        → CrlIsTakenAs (option_map (λ (row : CrlRow). record { number = row.number; window = row.window; reasons = first_reason (entries_under it.entries id (scope_number scope)) }) row) fact Stored
     cases None e = refl
     cases (Some row) e = let no : None ≡ Some (head_of row) = e in cc
 
 -- a list is held
 pub list_is : (it : Contents) (scope : Scope) (id : ℕ) (answer : Option Head) (head : Head) → answer ≡ Some head → option_map seen_head answer ≡ option_map head_of (find (is_crl_of id scope) it.crls)
-    → crl_under it scope id ≡ Some (fact_of (seen_head head) (listed_in it.entries id (scope_number scope)))
+    → crl_under it scope id ≡ Some (fact_of_rows (seen_head head) (entries_under it.entries id (scope_number scope)))
 list_is it scope id answer head some is = cases (find (is_crl_of id scope) it.crls) (sym (ap (option_map seen_head) some) ∙ is)
   where
     cases : (row : Option CrlRow) → Some (seen_head head) ≡ option_map head_of row
-        → option_map (λ (row : CrlRow). record { number = row.number; window = row.window; reasons = first_reason (listed_in it.entries id (scope_number scope)) }) row ≡ Some (fact_of (seen_head head) (listed_in it.entries id (scope_number scope)))
+        → option_map (λ (row : CrlRow). record { number = row.number; window = row.window; reasons = first_reason (entries_under it.entries id (scope_number scope)) }) row ≡ Some (fact_of_rows (seen_head head) (entries_under it.entries id (scope_number scope)))
     cases None e = let no : Some (seen_head head) ≡ None = e in cc
     cases (Some row) e =
         let same : seen_head head ≡ head_of row = cc in
-        ap (λ (h : CrlHead). Some (fact_of h (listed_in it.entries id (scope_number scope)))) (sym same)
+        ap (λ (h : CrlHead). Some (fact_of_rows h (entries_under it.entries id (scope_number scope)))) (sym same)
 
 -- and the entries tell
-pub entries_tell : (held listed : List ListedSerial) (head : CrlHead) (outcome : Outcome) → IsAscending IsBelow held → IsAscending IsBelow listed → IsToldByEntries held listed outcome
-    → CrlComes (Some (fact_of head held)) (fact_of head listed) outcome
+pub entries_tell : (held listed : List ListedSerial) (head : CrlHead) (outcome : TakenAs) → IsAscending IsBelow held → IsAscending IsBelow listed → IsToldByEntries held listed outcome
+    → CrlIsTakenAs (Some (fact_of_rows head held)) (fact_of_rows head listed) outcome
 entries_tell held listed head Stored up up2 tells = absurd tells
 entries_tell held listed head Kept up up2 tells = (
-  never_itself_crl (fact_of head listed) (fact_of head held) refl,
-  λ against. against.1 (ap (fact_of head) (sym tells)),
+  never_itself_crl (fact_of_rows head listed) (fact_of_rows head held) refl,
+  λ against. against.1 (ap (fact_of_rows head) (sym tells)),
 )
 entries_tell held listed head Contradicted up up2 tells = (
   refl,
@@ -126,10 +126,10 @@ entries_tell held listed head Contradicted up up2 tells = (
 
 -- ---- single responses
 
-pub no_single_comes : (it : Contents) (name_hash serial : List ℕ) (id : ℕ) (answer : Option Said) (fact : OcspFact) → answer ≡ None → option_map seen_said answer ≡ option_map said_of (find (is_single_of id name_hash serial) it.singles)
-    → OcspComes (ocsp_under it name_hash serial id) fact Stored
-no_single_comes it name_hash serial id answer fact none is = subst (λ held. OcspComes held fact Stored) (sym (ap (option_map seen_said) none) ∙ is) refl
+pub no_single_comes : (it : Contents) (name_hash serial : List ℕ) (id : ℕ) (answer : Option HeldStatus) (fact : OcspFact) → answer ≡ None → option_map seen_held_status answer ≡ option_map said_of (find (is_single_of id name_hash serial) it.singles)
+    → OcspIsTakenAs (ocsp_under it name_hash serial id) fact Stored
+no_single_comes it name_hash serial id answer fact none is = subst (λ held. OcspIsTakenAs held fact Stored) (sym (ap (option_map seen_held_status) none) ∙ is) refl
 
-pub single_comes : (it : Contents) (name_hash serial : List ℕ) (id : ℕ) (answer : Option Said) (said : Said) (fact : OcspFact) (outcome : Outcome) → answer ≡ Some said → OcspComes (Some (seen_said said)) fact outcome
-    → option_map seen_said answer ≡ option_map said_of (find (is_single_of id name_hash serial) it.singles) → OcspComes (ocsp_under it name_hash serial id) fact outcome
-single_comes it name_hash serial id answer said fact outcome some comes is = subst (λ held. OcspComes held fact outcome) (sym (ap (option_map seen_said) some) ∙ is) comes
+pub single_comes : (it : Contents) (name_hash serial : List ℕ) (id : ℕ) (answer : Option HeldStatus) (said : HeldStatus) (fact : OcspFact) (outcome : TakenAs) → answer ≡ Some said → OcspIsTakenAs (Some (seen_held_status said)) fact outcome
+    → option_map seen_held_status answer ≡ option_map said_of (find (is_single_of id name_hash serial) it.singles) → OcspIsTakenAs (ocsp_under it name_hash serial id) fact outcome
+single_comes it name_hash serial id answer said fact outcome some comes is = subst (λ held. OcspIsTakenAs held fact outcome) (sym (ap (option_map seen_held_status) some) ∙ is) comes

@@ -29,14 +29,14 @@ pub record Delivers (old new : State) (facts : List Fact) (counts : Counts) : Ty
 
 -- Where the connection is still open the database is as it was, and so both maps are. No fault is for the form of the rows of a
 -- store.
-pub record GivesUp (old new : State) (fault : StoreFault) : Type 0 where
+pub record PutFails (old new : State) (fault : StoreFault) : Type 0 where
   pub was_open : IsTrue new.is_open → IsTrue old.is_open
   pub same : IsTrue new.is_open → new.now ≡ old.now
   pub formed : fault ≡ NotOurs → (held : Holdings) → IsStoreOf old.now held → ⊥
 
 abbrev pub Puts : State → State → List Fact → Result Counts StoreFault → Type 0
 Puts old new facts (Ok counts) = Delivers old new facts counts
-Puts old new facts (Err fault) = GivesUp old new fault
+Puts old new facts (Err fault) = PutFails old new fault
 
 -- what a call may leave after a crash, beside what a crash could leave before it: the whole delivery
 abbrev pub CommitsWhole : State → List Fact → Trees → Type 0
@@ -60,7 +60,3 @@ pub record Undoes (old new : State) (fault : StoreFault) : Type 0 where
 abbrev pub Ends : State → State → List Fact → Result Counts StoreFault → Type 0
 Ends old new facts (Ok counts) = Commits old new facts counts
 Ends old new facts (Err fault) = Undoes old new fault
-
--- while the connection is open a crash leaves the last commit, and nothing else
-abbrev pub IsDurable : State → Type 0
-IsDurable s = IsTrue s.is_open → (trees : Trees) → MayLeaveAfterCrash s trees → trees ≡ s.committed.trees

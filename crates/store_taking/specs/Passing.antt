@@ -6,24 +6,24 @@ use Rattle.statements_facts.specs.Statement.{IssuerIdentity, Holdings}
 use Rattle.store_sql.specs.declared.fault.StoreFault.{StoreFault}
 use Rattle.store_sql.specs.declared.fault.StoreFault.TheVariants.{Schema}
 use Rattle.store_rows.specs.Contents.{id_of}
-use Rattle.store_rows.specs.Steps.{IsKnown}
-use Rattle.store_rows.specs.Making.{StopsShort}
+use Rattle.store_rows.specs.StepsTo.{IsKnown}
+use Rattle.store_rows.specs.Making.{FailsOverStore}
 use Rattle.store_maps.specs.Held.{IsStoreOf}
 
 -- from a store that holds something to what is said of it then; the last commit is as it was, and the transaction goes on
-pub record Passes (old new : State) (Before After : Database → Holdings → Type 0) : Type 0 where
+pub record HasStepped (old new : State) (Before After : Database → Holdings → Type 0) : Type 0 where
   pub keeps : KeepsCommit old new
   pub mode : IsTrue new.in_transaction
   pub held : (held : Holdings) → Before old.now held → After new.now held
 
 -- the last commit stays, and no fault is for the form of the rows of a store
-pub record Stops (old new : State) (Before : Database → Holdings → Type 0) (fault : StoreFault) : Type 0 where
+pub record StepFails (old new : State) (Before : Database → Holdings → Type 0) (fault : StoreFault) : Type 0 where
   pub keeps : KeepsCommit old new
   pub formed : fault ≡ Schema → (held : Holdings) → Before old.now held → ⊥
 
-abbrev pub Goes : {A : Type 0} → State → State → (Database → Holdings → Type 0) → (A → Database → Holdings → Type 0) → Result A StoreFault → Type 0
-Goes old new Before After (Ok answer) = Passes old new Before (After answer)
-Goes old new Before After (Err fault) = Stops old new Before fault
+abbrev pub StepsTo : {A : Type 0} → State → State → (Database → Holdings → Type 0) → (A → Database → Holdings → Type 0) → Result A StoreFault → Type 0
+StepsTo old new Before After (Ok answer) = HasStepped old new Before (After answer)
+StepsTo old new Before After (Err fault) = StepFails old new Before fault
 
 -- a store that holds this, in which the issuer has this id
 pub record HasIssuer (identity : IssuerIdentity) (id : ℕ) (db : Database) (held : Holdings) : Type 0 where
@@ -43,4 +43,4 @@ pub record IsIdOf (old new : State) (identity : IssuerIdentity) (id : ℕ) : Typ
 
 abbrev pub KnowsId : State → State → IssuerIdentity → Result ℕ StoreFault → Type 0
 KnowsId old new identity (Ok id) = IsIdOf old new identity id
-KnowsId old new identity (Err fault) = StopsShort old new fault
+KnowsId old new identity (Err fault) = FailsOverStore old new fault

@@ -4,15 +4,15 @@ use Rattle.sqlite.specs.Effect.{Database}
 use Rattle.statements_facts.specs.Statement.{IssuerIdentity, Holdings}
 use Rattle.statements_facts.specs.Single.{SingleFact}
 use Rattle.statements_facts.specs.Fact.{Fact, ocsp_slot}
-use Rattle.statements_facts.specs.declared.counts.Outcome.{Outcome}
+use Rattle.statements_facts.specs.declared.counts.TakenAs.{TakenAs}
 use Rattle.statements_facts.specs.declared.counts.Counts.{Counts}
-use Rattle.statements_facts.specs.Coming.{Comes, after_one, after_all, AreCounts}
+use Rattle.statements_facts.specs.Coming.{IsTakenAs, after_one, after_all, AreCounts}
 use Rattle.store_maps.specs.Held.{IsStoreOf}
 
 -- by a store that held this, a fact was taken, and counted so
-pub record IsTaken (fact : Fact) (outcome : Outcome) (db : Database) (held : Holdings) : Type 0 where
+pub record IsTaken (fact : Fact) (outcome : TakenAs) (db : Database) (held : Holdings) : Type 0 where
   pub holds : IsStoreOf db (after_one held fact)
-  pub counted : Comes held fact outcome
+  pub counted : IsTakenAs held fact outcome
 
 -- these were taken one after the other, and counted so
 pub record AreTaken (facts : List Fact) (counts : Counts) (db : Database) (held : Holdings) : Type 0 where
@@ -20,8 +20,8 @@ pub record AreTaken (facts : List Fact) (counts : Counts) (db : Database) (held 
   pub counted : AreCounts held facts counts
 
 -- what a response says of one certificate, and of several
-abbrev pub single_fact : IssuerIdentity → SingleFact → Fact
-single_fact issuer single = Fact.OfResponse (ocsp_slot issuer single) single.fact
+abbrev pub fact_of_single : IssuerIdentity → SingleFact → Fact
+fact_of_single issuer single = Fact.OfResponse (ocsp_slot issuer single) single.fact
 
-abbrev pub single_facts : IssuerIdentity → List SingleFact → List Fact
-single_facts issuer singles = map (single_fact issuer) singles
+abbrev pub facts_of_singles : IssuerIdentity → List SingleFact → List Fact
+facts_of_singles issuer singles = map (fact_of_single issuer) singles

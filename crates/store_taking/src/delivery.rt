@@ -4,11 +4,11 @@ ghost use Rattle.std.specs.Prelude.{◌≡◌, IsTrue, false, OnOk};
 ghost use Rattle.sqlite.specs.Held.{state};
 ghost use Rattle.sqlite.specs.State.{HasCleanDisk, Survives};
 ghost use Rattle.statements_facts.specs.Fact.{issuer_of, facts_in};
-ghost use Rattle.store_sql.specs.Statements.{CommitsNothing};
+ghost use Rattle.store_sql.specs.Statements.{CommitsNothing, IsDurable};
 ghost use Rattle.store_maps.specs.Held.{IsStoreOf};
-ghost use Rattle.store_taking.specs.Passing.{Goes};
-ghost use Rattle.store_taking.specs.Taking.{AreTaken, single_facts};
-ghost use Rattle.store_taking.specs.Delivery.{Puts, CommitsWhole, Ends, IsDurable};
+ghost use Rattle.store_taking.specs.Passing.{StepsTo};
+ghost use Rattle.store_taking.specs.Taking.{AreTaken, facts_of_singles};
+ghost use Rattle.store_taking.specs.Delivery.{Puts, CommitsWhole, Ends};
 
 use crate::lists::take_list;
 use crate::responses::take_single;
@@ -22,7 +22,7 @@ fn take_singles<S: Alter>(
 ) -> Result<Counts, StoreFault>
     requires inside { HasCleanDisk (state S.Store tx.old.conn.now) → IsTrue (state S.Store tx.old.conn.now).in_transaction }
     ensures same_reference { tx.new.conn.ghost_name ≡ tx.old.conn.ghost_name }
-    ensures takes { HasCleanDisk (state S.Store tx.new.conn.now) → Goes (state S.Store tx.old.conn.now) (state S.Store tx.new.conn.now) IsStoreOf (AreTaken (single_facts (issuer_of response.now.issuer) response.now.singles)) result }
+    ensures takes { HasCleanDisk (state S.Store tx.new.conn.now) → StepsTo (state S.Store tx.old.conn.now) (state S.Store tx.new.conn.now) IsStoreOf (AreTaken (facts_of_singles (issuer_of response.now.issuer) response.now.singles)) result }
     ensures open { HasCleanDisk (state S.Store tx.new.conn.now) → OnOk result (IsTrue (state S.Store tx.old.conn.now).is_open) }
     ensures survives { CommitsNothing (state S.Store tx.old.conn.now) (state S.Store tx.new.conn.now) }
 {
@@ -41,7 +41,7 @@ fn take_singles<S: Alter>(
 fn take_all<S: Alter>(tx: &mut Transaction<'_, S>, facts: &Facts<'_>) -> Result<Counts, StoreFault>
     requires inside { HasCleanDisk (state S.Store tx.old.conn.now) → IsTrue (state S.Store tx.old.conn.now).in_transaction }
     ensures same_reference { tx.new.conn.ghost_name ≡ tx.old.conn.ghost_name }
-    ensures takes { HasCleanDisk (state S.Store tx.new.conn.now) → Goes (state S.Store tx.old.conn.now) (state S.Store tx.new.conn.now) IsStoreOf (AreTaken (facts_in facts.now)) result }
+    ensures takes { HasCleanDisk (state S.Store tx.new.conn.now) → StepsTo (state S.Store tx.old.conn.now) (state S.Store tx.new.conn.now) IsStoreOf (AreTaken (facts_in facts.now)) result }
     ensures open { HasCleanDisk (state S.Store tx.new.conn.now) → OnOk result (IsTrue (state S.Store tx.old.conn.now).is_open) }
     ensures survives { CommitsNothing (state S.Store tx.old.conn.now) (state S.Store tx.new.conn.now) }
 {

@@ -7,7 +7,7 @@ ghost use Rattle.statements_facts.specs.Fact.{issuer_of};
 ghost use Rattle.store_sql.specs.Statements.{CommitsNothing};
 ghost use Rattle.store_rows.specs.Holding.{HasRoom};
 ghost use Rattle.store_maps.specs.Held.{IsStoreOf};
-ghost use Rattle.store_taking.specs.Passing.{Goes, KnowsId, HasIssuer, LacksIssuer};
+ghost use Rattle.store_taking.specs.Passing.{StepsTo, KnowsId, HasIssuer, LacksIssuer};
 
 use sqlite::{Alter, Transaction};
 use statements_facts::Issuer;
@@ -35,7 +35,7 @@ fn id_of_added<S: Alter>(
 fn new_issuer<S: Alter>(tx: &mut Transaction<'_, S>, issuer: &Issuer<'_>) -> Result<u32, StoreFault>
     requires inside { HasCleanDisk (state S.Store tx.old.conn.now) → IsTrue (state S.Store tx.old.conn.now).in_transaction }
     ensures same_reference { tx.new.conn.ghost_name ≡ tx.old.conn.ghost_name }
-    ensures goes { HasCleanDisk (state S.Store tx.new.conn.now) → Goes (state S.Store tx.old.conn.now) (state S.Store tx.new.conn.now) (LacksIssuer (issuer_of issuer.now)) (HasIssuer (issuer_of issuer.now)) result }
+    ensures goes { HasCleanDisk (state S.Store tx.new.conn.now) → StepsTo (state S.Store tx.old.conn.now) (state S.Store tx.new.conn.now) (LacksIssuer (issuer_of issuer.now)) (HasIssuer (issuer_of issuer.now)) result }
     ensures room { IfOk result HasRoom }
     ensures survives { CommitsNothing (state S.Store tx.old.conn.now) (state S.Store tx.new.conn.now) }
 {
@@ -55,7 +55,7 @@ pub(crate) fn issuer_id<S: Alter>(
 ) -> Result<u32, StoreFault>
     requires inside { HasCleanDisk (state S.Store tx.old.conn.now) → IsTrue (state S.Store tx.old.conn.now).in_transaction }
     ensures same_reference { tx.new.conn.ghost_name ≡ tx.old.conn.ghost_name }
-    ensures goes { HasCleanDisk (state S.Store tx.new.conn.now) → Goes (state S.Store tx.old.conn.now) (state S.Store tx.new.conn.now) IsStoreOf (HasIssuer (issuer_of issuer.now)) result }
+    ensures goes { HasCleanDisk (state S.Store tx.new.conn.now) → StepsTo (state S.Store tx.old.conn.now) (state S.Store tx.new.conn.now) IsStoreOf (HasIssuer (issuer_of issuer.now)) result }
     ensures open { HasCleanDisk (state S.Store tx.new.conn.now) → OnOk result (IsTrue (state S.Store tx.old.conn.now).is_open) }
     ensures room { IfOk result HasRoom }
     ensures survives { CommitsNothing (state S.Store tx.old.conn.now) (state S.Store tx.new.conn.now) }

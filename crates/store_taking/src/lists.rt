@@ -7,20 +7,20 @@ ghost use Rattle.statements_facts.specs.Fact.{Fact, issuer_of, crl_slot, crl_fac
 ghost use Rattle.statements_facts.specs.Listed.{IsAscending};
 ghost use Rattle.store_sql.specs.Statements.{CommitsNothing};
 ghost use Rattle.store_rows.specs.Contents.{scope_number};
-ghost use Rattle.store_rows.specs.Holding.{IsNumbered, AreInOrder};
-ghost use Rattle.store_rows.specs.Places.{listed_in};
+ghost use Rattle.store_rows.specs.Holding.{IsNumbered, FitInList};
+ghost use Rattle.store_rows.specs.Places.{entries_under};
 ghost use Rattle.store_rows.specs.Seen.{seen_head};
-ghost use Rattle.store_rows.specs.Steps.{Finds, Changes};
-ghost use Rattle.statements_facts.specs.Coming.{CrlComes};
+ghost use Rattle.store_rows.specs.StepsTo.{Finds, Changes};
+ghost use Rattle.statements_facts.specs.Coming.{CrlIsTakenAs};
 ghost use Rattle.store_maps.specs.Held.{IsStoreOf, crl_under};
 ghost use Rattle.store_taking.specs.Lists.{crl_head, with_list, IsToldByEntries};
 ghost use Rattle.store_taking.specs.Taking.{IsTaken};
-ghost use Rattle.store_taking.specs.Passing.{Goes, HasIssuer};
+ghost use Rattle.store_taking.specs.Passing.{StepsTo, HasIssuer};
 
 use crate::known::issuer_id;
 use asn::Number20;
 use sqlite::{Alter, Transaction};
-use statements_facts::{CrlFacts, Outcome};
+use statements_facts::{CrlFacts, TakenAs};
 use std::cmp::Ordering;
 use store_rows::{Head, ListKey, find_crl, has_entries, replace_crl, replace_entries};
 use store_sql::StoreFault;
@@ -46,18 +46,18 @@ fn head_of(list: &CrlFacts<'_>) -> Head
 
 /// What becomes of a list beside the one that is held, as far as its number and window tell: nothing is told where they are
 /// the same.
-fn outcome_by_head(held: &Head, list: &CrlFacts<'_>) -> Option<Outcome>
-    ensures some { IfSome result (λ outcome. (reasons : _) → CrlComes (Some (record { number = held.now.number; window = record { from = held.now.from; until = held.now.until }; reasons = reasons })) (crl_fact list.now) outcome) }
+fn outcome_by_head(held: &Head, list: &CrlFacts<'_>) -> Option<TakenAs>
+    ensures some { IfSome result (λ outcome. (reasons : _) → CrlIsTakenAs (Some (record { number = held.now.number; window = record { from = held.now.from; until = held.now.until }; reasons = reasons })) (crl_fact list.now) outcome) }
     ensures none { IfNone result (seen_head held.now ≡ crl_head list.now) }
 {
     match list.number.cmp(&held.number) {
-        Ordering::Less => Some(Outcome::Kept),
-        Ordering::Greater => Some(Outcome::Stored),
+        Ordering::Less => Some(TakenAs::Kept),
+        Ordering::Greater => Some(TakenAs::Stored),
         Ordering::Equal => {
             if list.from == held.from && list.until == held.until {
                 None
             } else {
-                Some(Outcome::Contradicted)
+                Some(TakenAs::Contradicted)
             }
         }
     }
@@ -68,17 +68,17 @@ fn outcome_by_entries<S: Alter>(
     tx: &mut Transaction<'_, S>,
     key: &ListKey,
     list: &CrlFacts<'_>,
-) -> Result<Outcome, StoreFault>
+) -> Result<TakenAs, StoreFault>
     requires issuer { key.now.issuer < 536870911 }
     requires inside { HasCleanDisk (state S.Store tx.old.conn.now) → IsTrue (state S.Store tx.old.conn.now).in_transaction }
     ensures same_reference { tx.new.conn.ghost_name ≡ tx.old.conn.ghost_name }
-    ensures finds { HasCleanDisk (state S.Store tx.new.conn.now) → Finds (state S.Store tx.old.conn.now) (state S.Store tx.new.conn.now) (λ it outcome. IsToldByEntries (listed_in it.entries key.now.issuer (scope_number key.now.scope)) list.now.revoked outcome) result }
+    ensures finds { HasCleanDisk (state S.Store tx.new.conn.now) → Finds (state S.Store tx.old.conn.now) (state S.Store tx.new.conn.now) (λ it outcome. IsToldByEntries (entries_under it.entries key.now.issuer (scope_number key.now.scope)) list.now.revoked outcome) result }
     ensures ascend { IsAscending list.now.revoked }
     ensures survives { CommitsNothing (state S.Store tx.old.conn.now) (state S.Store tx.new.conn.now) }
 {
     match has_entries(tx, key, &list.revoked) {
-        Ok(true) => Ok(Outcome::Kept),
-        Ok(false) => Ok(Outcome::Contradicted),
+        Ok(true) => Ok(TakenAs::Kept),
+        Ok(false) => Ok(TakenAs::Contradicted),
         Err(fault) => Err(fault),
     }
 }
@@ -88,16 +88,16 @@ fn outcome_of_list<S: Alter>(
     tx: &mut Transaction<'_, S>,
     key: &ListKey,
     list: &CrlFacts<'_>,
-) -> Result<Outcome, StoreFault>
+) -> Result<TakenAs, StoreFault>
     requires issuer { key.now.issuer < 536870911 }
     requires inside { HasCleanDisk (state S.Store tx.old.conn.now) → IsTrue (state S.Store tx.old.conn.now).in_transaction }
     ensures same_reference { tx.new.conn.ghost_name ≡ tx.old.conn.ghost_name }
-    ensures finds { HasCleanDisk (state S.Store tx.new.conn.now) → Finds (state S.Store tx.old.conn.now) (state S.Store tx.new.conn.now) (λ it outcome. CrlComes (crl_under it key.now.scope key.now.issuer) (crl_fact list.now) outcome) result }
+    ensures finds { HasCleanDisk (state S.Store tx.new.conn.now) → Finds (state S.Store tx.old.conn.now) (state S.Store tx.new.conn.now) (λ it outcome. CrlIsTakenAs (crl_under it key.now.scope key.now.issuer) (crl_fact list.now) outcome) result }
     ensures survives { CommitsNothing (state S.Store tx.old.conn.now) (state S.Store tx.new.conn.now) }
 {
     let held = match find_crl(tx, key.issuer, key.scope) {
         Ok(Some(held)) => held,
-        Ok(None) => return Ok(Outcome::Stored),
+        Ok(None) => return Ok(TakenAs::Stored),
         Err(fault) => return Err(fault),
     };
     match outcome_by_head(&held, list) {
@@ -116,7 +116,7 @@ fn store_list<S: Alter>(
     requires inside { HasCleanDisk (state S.Store tx.old.conn.now) → IsTrue (state S.Store tx.old.conn.now).in_transaction }
     ensures same_reference { tx.new.conn.ghost_name ≡ tx.old.conn.ghost_name }
     ensures numbered { IsNumbered (crl_head list.now) }
-    ensures formed { OnOk result (AreInOrder list.now.revoked) }
+    ensures formed { OnOk result (FitInList list.now.revoked) }
     ensures changes { HasCleanDisk (state S.Store tx.new.conn.now) → Changes (state S.Store tx.old.conn.now) (state S.Store tx.new.conn.now) (with_list key.now.issuer key.now.scope (crl_head list.now) list.now.revoked) result }
     ensures survives { CommitsNothing (state S.Store tx.old.conn.now) (state S.Store tx.new.conn.now) }
 {
@@ -134,11 +134,11 @@ fn take_under<S: Alter>(
     tx: &mut Transaction<'_, S>,
     id: u32,
     list: &CrlFacts<'_>,
-) -> Result<Outcome, StoreFault>
+) -> Result<TakenAs, StoreFault>
     requires issuer { id < 536870911 }
     requires inside { HasCleanDisk (state S.Store tx.old.conn.now) → IsTrue (state S.Store tx.old.conn.now).in_transaction }
     ensures same_reference { tx.new.conn.ghost_name ≡ tx.old.conn.ghost_name }
-    ensures goes { HasCleanDisk (state S.Store tx.new.conn.now) → Goes (state S.Store tx.old.conn.now) (state S.Store tx.new.conn.now) (HasIssuer (issuer_of list.now.issuer) id) (IsTaken (Fact.OfCrl (crl_slot list.now) (crl_fact list.now))) result }
+    ensures goes { HasCleanDisk (state S.Store tx.new.conn.now) → StepsTo (state S.Store tx.old.conn.now) (state S.Store tx.new.conn.now) (HasIssuer (issuer_of list.now.issuer) id) (IsTaken (Fact.OfCrl (crl_slot list.now) (crl_fact list.now))) result }
     ensures survives { CommitsNothing (state S.Store tx.old.conn.now) (state S.Store tx.new.conn.now) }
 {
     let key = ListKey {
@@ -150,11 +150,11 @@ fn take_under<S: Alter>(
         Err(fault) => return Err(fault),
     };
     match outcome {
-        Outcome::Stored => {}
+        TakenAs::Stored => {}
         _ => return Ok(outcome),
     }
     match store_list(tx, &key, list) {
-        Ok(()) => Ok(Outcome::Stored),
+        Ok(()) => Ok(TakenAs::Stored),
         Err(fault) => Err(fault),
     }
 }
@@ -164,10 +164,10 @@ fn take_under<S: Alter>(
 pub fn take_list<S: Alter>(
     tx: &mut Transaction<'_, S>,
     list: &CrlFacts<'_>,
-) -> Result<Outcome, StoreFault>
+) -> Result<TakenAs, StoreFault>
     requires inside { HasCleanDisk (state S.Store tx.old.conn.now) → IsTrue (state S.Store tx.old.conn.now).in_transaction }
     ensures same_reference { tx.new.conn.ghost_name ≡ tx.old.conn.ghost_name }
-    ensures takes { HasCleanDisk (state S.Store tx.new.conn.now) → Goes (state S.Store tx.old.conn.now) (state S.Store tx.new.conn.now) IsStoreOf (IsTaken (Fact.OfCrl (crl_slot list.now) (crl_fact list.now))) result }
+    ensures takes { HasCleanDisk (state S.Store tx.new.conn.now) → StepsTo (state S.Store tx.old.conn.now) (state S.Store tx.new.conn.now) IsStoreOf (IsTaken (Fact.OfCrl (crl_slot list.now) (crl_fact list.now))) result }
     ensures open { HasCleanDisk (state S.Store tx.new.conn.now) → OnOk result (IsTrue (state S.Store tx.old.conn.now).is_open) }
     ensures survives { CommitsNothing (state S.Store tx.old.conn.now) (state S.Store tx.new.conn.now) }
 {

@@ -7,7 +7,7 @@ use statements_facts::{Issuer, Listed, NameKey, RevokedSerials, Scope, Single};
 use std::alloc::Global;
 use store_maps::{crl, ocsp};
 use store_rows::{
-    Head, ListKey, Said, add_issuer, find_issuer, make_tables, replace_crl, replace_entries,
+    Head, HeldStatus, ListKey, add_issuer, find_issuer, make_tables, replace_crl, replace_entries,
     replace_single,
 };
 use store_sql::StoreFault;
@@ -142,7 +142,7 @@ pub fn said<S: Alter>(
     conn: &mut Connection<S>,
     issuer: &Issuer<'_>,
     single: &Single<'_>,
-) -> Option<Said> {
+) -> Option<HeldStatus> {
     if !conn.is_autocommit() {
         return None;
     }

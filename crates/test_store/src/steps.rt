@@ -5,7 +5,7 @@ use sqlite::{Alter, Connection, Files, Options};
 use sqlite_disk::{Disk, Memory};
 use statements_facts::{Issuer, Listed, Scope, Single};
 use std::alloc::Global;
-use store_rows::{ListKey, Said};
+use store_rows::{HeldStatus, ListKey};
 use store_sql::{Origin, StoreFault, is_empty, is_version_1, origin_of};
 
 /// What is done, or looked for.
@@ -40,7 +40,7 @@ fn has_tables<S: Alter>(
     origin_of(schema) == origin && is_version_1(schema) == is_old && is_empty(schema) == is_none
 }
 
-fn is_same(said: &Said, single: &Single<'_>) -> bool {
+fn is_same(said: &HeldStatus, single: &Single<'_>) -> bool {
     said.this_update == single.this_update
         && said.produced_at == single.produced_at
         && said.from == single.from

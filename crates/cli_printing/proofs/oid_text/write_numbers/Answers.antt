@@ -1,6 +1,5 @@
-use Rattle.std.proofs.Common.{◌∷◌, ◌++◌, ℕ, ap, sym}
+use Rattle.std.proofs.Common.{◌∷◌, ◌++◌, ℕ, ap, sym, arith}
 use Rattle.std.proofs.lemmas.Grind.{common_steps}
-use Rattle.std.proofs.Common.{arith}
 use Rattle.std.specs.Fmt.{decimal}
 use Rattle.cli_printing.specs.OidText.{dotted_number}
 use Rattle.cli_printing.proofs.Appending.{appends_both}

@@ -1,5 +1,4 @@
-use Rattle.std.proofs.Common.{◌≡◌, ℕ, ◌<◌, [], ◌∷◌, ◌++◌, Bool, false, zero, suc, ◌==◌, arith, refl, subst, append-nil, vec_len}
-use Rattle.std.proofs.Common.{eq-eqb}
+use Rattle.std.proofs.Common.{◌≡◌, ℕ, ◌<◌, [], ◌∷◌, ◌++◌, Bool, false, zero, suc, ◌==◌, arith, refl, subst, append-nil, vec_len, eq-eqb}
 use Rattle.std.proofs.KnownBytes.{Consumes-trans}
 use Rattle.std.specs.Io.KnownBytes.{Consumes}
 use Rattle.der.specs.Header.{IsBrokenAhead}

@@ -1,12 +1,11 @@
 use Rattle.std.proofs.Common.{arith}
-use Rattle.relying_verdicts.proofs.Answering.{as_answer}
 use Rattle.relying_verdicts.proofs.Chains.{found_then, fails_then}
 use Rattle.relying_verdicts.proofs.looking.look_up_lists.Goals as goal
 
 pub returns-in-Ok-crl-clause-looks_up : goal.returns-in-Ok-crl-clause-looks_up
 returns-in-Ok-crl-clause-looks_up g c clean =
     found_then _ _ _ _ c.in-Ok.all _ c.in-Ok-crl.own _ _ (c.in-Ok.ensures.looks_up (omega (arith, clean, c.crl-2.ensures.survives.clean))) (c.in-Ok-crl.ensures.looks_up clean)
-    (λ held all own. (as_answer c.args.serial.now _ c.in-Ok.all all, as_answer c.args.serial.now _ c.in-Ok-crl.own own))
+    (λ held all own. (all, own))
 
 pub returns-in-Err-crl-clause-looks_up : goal.returns-in-Err-crl-clause-looks_up
 returns-in-Err-crl-clause-looks_up g c clean =

@@ -1,12 +1,11 @@
 use Rattle.std.proofs.Common.{◌≡◌, rules, subst, arith}
 use Rattle.sqlite.specs.Held.{state}
 use Rattle.sqlite.specs.State.{HasCleanDisk, KeepsCommit}
-use Rattle.statements_facts.specs.Statement.{Holdings}
+use Rattle.statements_facts.specs.Statement.{Holdings, answer_for}
 use Rattle.store_sql.specs.declared.fault.StoreFault.TheVariants.{Schema as NotOurs}
-use Rattle.store_maps.specs.Held.{IsStoreOf}
+use Rattle.store_maps.specs.Held.{IsStoreOf, seen_crl}
 use Rattle.std.specs.Option.{option_map}
 use Rattle.statements_facts.specs.Fact.{issuer_of}
-use Rattle.store_maps.specs.Held.{part_of, seen_crl}
 use Rattle.store.proofs.Looking.{fails_at, found_at}
 use Rattle.store.proofs.look_up.crl_in_transaction.Goals as goal
 
@@ -21,7 +20,7 @@ returns-clause-looks_at g c =
 pub returns-in-Ok-clause-looks_at : goal.returns-in-Ok-clause-looks_at
 returns-in-Ok-clause-looks_at g c =
     let same : c.drop-tx.new.self.0 ≡ c.conn-1.given.0 = search rules in
-    subst (λ h. HasCleanDisk (state g.S.Store h) → KeepsCommit (state g.S.Store c.args.conn.now) (state g.S.Store h) × ((held : Holdings) → IsStoreOf (state g.S.Store c.args.conn.now).now held → option_map seen_crl c.in-Ok.held ≡ option_map (part_of c.args.serial.now) (held.crl (record { issuer = issuer_of c.args.issuer.now; scope = c.args.scope })))) same
+    subst (λ h. HasCleanDisk (state g.S.Store h) → KeepsCommit (state g.S.Store c.args.conn.now) (state g.S.Store h) × ((held : Holdings) → IsStoreOf (state g.S.Store c.args.conn.now).now held → option_map seen_crl c.in-Ok.held ≡ option_map (answer_for c.args.serial.now) (held.crl (record { issuer = issuer_of c.args.issuer.now; scope = c.args.scope })))) same
     (λ clean.
     let step = c.drop-tx.ensures.survives.clean in
-    found_at g.S.Store c.args.conn.now c.transaction-tx.result.conn.now (state g.S.Store c.crl.new.tx.conn.now) (state g.S.Store c.drop-tx.new.self.0) (λ held it. option_map seen_crl it ≡ option_map (part_of c.args.serial.now) (held.crl (record { issuer = issuer_of c.args.issuer.now; scope = c.args.scope }))) c.in-Ok.held c.transaction-tx.ensures.begun (c.in-Ok.ensures.looks_up (omega (arith, step, clean))) (c.drop-tx.ensures.undone clean))
+    found_at g.S.Store c.args.conn.now c.transaction-tx.result.conn.now (state g.S.Store c.crl.new.tx.conn.now) (state g.S.Store c.drop-tx.new.self.0) (λ held it. option_map seen_crl it ≡ option_map (answer_for c.args.serial.now) (held.crl (record { issuer = issuer_of c.args.issuer.now; scope = c.args.scope }))) c.in-Ok.held c.transaction-tx.ensures.begun (c.in-Ok.ensures.looks_up (omega (arith, step, clean))) (c.drop-tx.ensures.undone clean))

@@ -7,7 +7,7 @@ use Rattle.sqlite.proofs.StateLemmas.{survives_then}
 use Rattle.sqlite.proofs.InsideLemmas.{unchanged_keeps, keeps_then}
 use Rattle.sqlite.proofs.Callers.{begun_plain, given_begin, unchanged_then}
 use Rattle.store_sql.specs.declared.fault.StoreFault.TheVariants.{Store, Schema as NotOurs}
-use Rattle.store_adoption.specs.Tests.{AllPass, Stops}
+use Rattle.store_adoption.specs.Tests.{AllPass, TestFails}
 use Rattle.store_adoption.proofs.Testing.{advance_keeps, all_pass, gave_up, query_keeps, refused, shows_nothing}
 use Rattle.store_adoption.proofs.row_test.test_rows.Goals as goal
 
@@ -34,7 +34,7 @@ returns-in-Err-advance-clause-tests g c =
     let new = state g.S.Store c.advance.new.self.conn.now in
     let same : c.advance.new.self.conn.now ≡ c.conn-in-Err-advance-1.given.0 = search rules in
     let step = c.advance.ensures.survives.clean in
-    subst (λ h. HasCleanDisk (state g.S.Store h) → Stops old (state g.S.Store h) c.args.sql.now (g.T.RowTest.are_formed c.args.test.now) c.fault_of-in-Err-advance.result) same
+    subst (λ h. HasCleanDisk (state g.S.Store h) → TestFails old (state g.S.Store h) c.args.sql.now (g.T.RowTest.are_formed c.args.test.now) c.fault_of-in-Err-advance.result) same
     (λ clean. gave_up c.args.sql.now old new (g.T.RowTest.are_formed c.args.test.now) c.fault_of-in-Err-advance.result c.fault_of-in-Err-advance.ensures
     (keeps_then old mid new (unchanged_keeps old mid (inl (c.each.invariant.3 (omega (arith, step, clean))).2)) (advance_keeps mid new c.in-Err-advance.error (c.in-Err-advance.ensures.kept clean))))
 
@@ -69,7 +69,7 @@ returns-in-Err-take-clause-tests g c =
     let same : c.advance.new.self.conn.now ≡ c.conn-in-Err-take-1.given.0 = search rules in
     let step = c.advance.ensures.survives.clean in
     let given : row_if c.advance.new.self.has_row c.advance.new.self.conn.now ≡ Some c.in-Some.row.now = sym c.get.ensures ∙ ap option_copied c.in-Some.is in
-    subst (λ h. HasCleanDisk (state g.S.Store h) → Stops old (state g.S.Store h) c.args.sql.now (g.T.RowTest.are_formed c.args.test.now) c.in-Err-take.fault) same
+    subst (λ h. HasCleanDisk (state g.S.Store h) → TestFails old (state g.S.Store h) c.args.sql.now (g.T.RowTest.are_formed c.args.test.now) c.in-Err-take.fault) same
     (λ clean.
     let was = c.each.invariant.3 (omega (arith, step, clean)) in
     let moves = subst (λ r. Advances g.S.Store c.each.rows.conn.now c.advance.new.self.conn.now r) given (c.in_default.ensures.ok clean) in
@@ -99,7 +99,7 @@ returns-clause-tests g c =
     let old = state g.S.Store c.args.conn.now in
     let mid = state g.S.Store c.each.rows.conn.now in
     let same : c.each.rows.conn.now ≡ c.conn-2-1.given.0 = search rules in
-    subst (λ h. HasCleanDisk (state g.S.Store h) → Stops old (state g.S.Store h) c.args.sql.now (g.T.RowTest.are_formed c.args.test.now) Store) same
+    subst (λ h. HasCleanDisk (state g.S.Store h) → TestFails old (state g.S.Store h) c.args.sql.now (g.T.RowTest.are_formed c.args.test.now) Store) same
     (λ clean. gave_up c.args.sql.now old mid (g.T.RowTest.are_formed c.args.test.now) Store (λ ours. absurd (let no : Store ≡ NotOurs = ours in cc)) (unchanged_keeps old mid (inl (c.each.invariant.3 clean).2)))
 
 pub each-init : goal.each-init

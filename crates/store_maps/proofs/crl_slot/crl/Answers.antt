@@ -1,6 +1,7 @@
 use Rattle.std.proofs.Common.{arith, option_map, sym, ap}
 use Rattle.statements_facts.specs.Fact.{issuer_of}
-use Rattle.store_maps.specs.Held.{crl_under, part_of, seen_crl}
+use Rattle.store_maps.specs.Held.{crl_under, seen_crl}
+use Rattle.statements_facts.specs.Statement.{answer_for}
 use Rattle.store_maps.proofs.Chains.{answered_as, found_in}
 use Rattle.store_maps.proofs.Looking.{none_held, looks_under, looks_up}
 use Rattle.store_maps.proofs.crl_slot.crl.Goals as goal
@@ -8,10 +9,10 @@ use Rattle.store_maps.proofs.crl_slot.crl.Goals as goal
 pub returns-in-Ok-None-clause-looks_up : goal.returns-in-Ok-None-clause-looks_up
 returns-in-Ok-None-clause-looks_up g c clean =
     found_in _ _ _ _ (answered_as _ _ _ c.in-Ok-None.field-0 _ _ (c.in-Ok-None.ensures.finds clean)
-    (λ it is. sym (ap (option_map (part_of c.args.serial.now)) (none_held _ c.in-Ok-None.field-0 (crl_under it c.args.scope) c.in-Ok-None.field-0-is is))))
+    (λ it is. sym (ap (option_map (answer_for c.args.serial.now)) (none_held _ c.in-Ok-None.field-0 (crl_under it c.args.scope) c.in-Ok-None.field-0-is is))))
 
 pub returns-clause-looks_up : goal.returns-clause-looks_up
 returns-clause-looks_up g c clean =
-    looks_up _ _ c.look_under.result (option_map seen_crl) (λ held. option_map (part_of c.args.serial.now) (held.crl (record { issuer = issuer_of c.args.issuer.now; scope = c.args.scope })))
-    (looks_under _ _ _ (issuer_of c.args.issuer.now) c.in-Ok-Some.field-0 c.in-Ok-Some.id c.look_under.result (option_map seen_crl) (part_of c.args.serial.now) (λ it. crl_under it c.args.scope) c.in-Ok-Some.field-0-is
+    looks_up _ _ c.look_under.result (option_map seen_crl) (λ held. option_map (answer_for c.args.serial.now) (held.crl (record { issuer = issuer_of c.args.issuer.now; scope = c.args.scope })))
+    (looks_under _ _ _ (issuer_of c.args.issuer.now) c.in-Ok-Some.field-0 c.in-Ok-Some.id c.look_under.result (option_map seen_crl) (answer_for c.args.serial.now) (λ it. crl_under it c.args.scope) c.in-Ok-Some.field-0-is
     (c.in-Ok-Some.ensures.finds (omega (arith, clean, c.look_under.ensures.survives.clean))) (c.look_under.ensures.finds clean))

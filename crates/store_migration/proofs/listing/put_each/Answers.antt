@@ -2,7 +2,7 @@ use Rattle.std.proofs.Common.{◌≡◌, ◌∙◌, ◌++◌, ◌∷◌, [], ari
 use Rattle.sqlite.specs.Held.{state}
 use Rattle.sqlite.proofs.StateLemmas.{survives_then}
 use Rattle.store_adoption.specs.Seen.{seen_list}
-use Rattle.store_taking.specs.Passing.{Passes}
+use Rattle.store_taking.specs.Passing.{HasStepped}
 use Rattle.store_taking.proofs.Laws.{passes_then, stops_then}
 use Rattle.store_migration.specs.Moved.{HasMoved, IsNext}
 use Rattle.store_migration.specs.Grouped.{seen_entry}
@@ -22,7 +22,7 @@ each-preserved g c =
       c.put_list.ensures.same_reference ∙ l.0,
       survives_then _ _ _ (λ _. ⊥) (λ _. ⊥) (λ _. ⊥) (λ _ _ none. none) (λ _ _ none. none) l.1 c.put_list.ensures.survives,
       λ clean entries same.
-          subst (λ moved. Passes (state g.S.Store c.args.tx.now.conn.now) (state g.S.Store c.put_list.new.tx.conn.now) (HasMoved crls entries []) (HasMoved crls entries moved)) (sym (more_moved all k c.list-item.result c.each-test.true ∙ ap (λ x. map seen_list (take k all) ++ seen_list x ∷ []) item))
+          subst (λ moved. HasStepped (state g.S.Store c.args.tx.now.conn.now) (state g.S.Store c.put_list.new.tx.conn.now) (HasMoved crls entries []) (HasMoved crls entries moved)) (sym (more_moved all k c.list-item.result c.each-test.true ∙ ap (λ x. map seen_list (take k all) ++ seen_list x ∷ []) item))
           (passes_then _ _ _ (HasMoved crls entries []) (HasMoved crls entries (map seen_list (take k all))) _ (l.2 (omega (arith, clean, c.put_list.ensures.survives.clean)) entries same)
           (c.in-Ok.ensures.puts clean crls (map seen_list (take k all)) entries same (subst (λ x. IsNext crls (map seen_list (take k all)) (seen_list x)) item (next_of all k c.list-item.result c.each-test.true)))),
     )
@@ -42,4 +42,4 @@ returns-clause-puts g c clean entries same =
     let all = c.args.lists.now in
     let crls = map seen_list all in
     let end : c.each.list-index ≡ length all = omega arith in
-    subst (λ moved. Passes (state g.S.Store c.args.tx.now.conn.now) (state g.S.Store c.each.tx.conn.now) (HasMoved crls entries []) (HasMoved crls entries moved)) (all_moved all c.each.list-index end) (c.each.invariant.2 clean entries same)
+    subst (λ moved. HasStepped (state g.S.Store c.args.tx.now.conn.now) (state g.S.Store c.each.tx.conn.now) (HasMoved crls entries []) (HasMoved crls entries moved)) (all_moved all c.each.list-index end) (c.each.invariant.2 clean entries same)

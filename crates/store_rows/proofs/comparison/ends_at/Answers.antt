@@ -1,10 +1,10 @@
 use Rattle.std.proofs.Common.{slice_get, []}
 use Rattle.store_rows.specs.Contents.{scope_number}
-use Rattle.store_rows.specs.Places.{listed_in}
+use Rattle.store_rows.specs.Places.{entries_under}
 use Rattle.store_rows.proofs.Comparing.{end_is, finds_as}
 use Rattle.store_rows.proofs.comparison.ends_at.Goals as goal
 
 pub returns-in-Ok-clause-finds : goal.returns-in-Ok-clause-finds
 returns-in-Ok-clause-finds g c clean =
     finds_as _ _ _ c.in-Ok.beside _ c.is_nothing.result (c.in-Ok.ensures.finds clean)
-    (λ it is. end_is c.is_nothing.result (slice_get (listed_in it.entries c.args.list.now.issuer (scope_number c.args.list.now.scope)) c.args.index) c.in-Ok.beside [] c.is_nothing.ensures is)
+    (λ it is. end_is c.is_nothing.result (slice_get (entries_under it.entries c.args.list.now.issuer (scope_number c.args.list.now.scope)) c.args.index) c.in-Ok.beside [] c.is_nothing.ensures is)

@@ -1,7 +1,6 @@
-use Rattle.std.proofs.Common.{arith}
+use Rattle.std.proofs.Common.{arith, option_map}
 use Rattle.sqlite.specs.Held.{state}
 use Rattle.sqlite.specs.State.{HasCleanDisk}
-use Rattle.std.proofs.Common.{option_map}
 use Rattle.store_rows.specs.Seen.{seen_head}
 use Rattle.store_rows.proofs.Crls.{crl_found}
 use Rattle.store_rows.proofs.crl.find_crl.Goals as goal

@@ -2,9 +2,8 @@ use Rattle.std.proofs.Common.{arith}
 use Rattle.statements_facts.specs.Fact.{issuer_of}
 use Rattle.store_maps.specs.Held.{IsStoreOf}
 use Rattle.store_taking.specs.Passing.{HasIssuer, LacksIssuer}
-use Rattle.store_taking.proofs.Chains.{goes_then}
+use Rattle.store_taking.proofs.Chains.{goes_then, on_ok}
 use Rattle.store_taking.proofs.Issuing.{passes_found, passes_unfound}
-use Rattle.store_taking.proofs.Chains.{on_ok}
 use Rattle.store_taking.proofs.known.issuer_id.Goals as goal
 
 pub returns-in-Ok-Some-clause-goes : goal.returns-in-Ok-Some-clause-goes

@@ -2,10 +2,10 @@ use Rattle.std.proofs.Common.{arith, subst, sym, ap, Some, ◌∙◌}
 use Rattle.statements_facts.specs.Fact.{crl_fact}
 use Rattle.statements_facts.specs.Listed.{first_reason}
 use Rattle.store_rows.specs.Contents.{CrlHead, scope_number}
-use Rattle.store_rows.specs.Places.{listed_in}
+use Rattle.store_rows.specs.Places.{entries_under}
 use Rattle.store_rows.proofs.Laws.{ascends}
-use Rattle.statements_facts.specs.Coming.{CrlComes}
-use Rattle.store_maps.specs.Laws.{fact_of}
+use Rattle.statements_facts.specs.Coming.{CrlIsTakenAs}
+use Rattle.store_maps.specs.Laws.{fact_of_rows}
 use Rattle.store_taking.specs.Lists.{crl_head}
 use Rattle.store_taking.proofs.Chains.{found_as, finds_then}
 use Rattle.store_taking.proofs.Outcomes.{no_list_comes, list_is, entries_tell}
@@ -21,8 +21,8 @@ returns-in-Some-clause-finds g c clean =
     let scope = c.args.key.now.scope in
     let id = c.args.key.now.issuer in
     found_as _ _ _ c.in-Ok-Some.field-0 _ _ (c.in-Ok-Some.ensures.finds clean)
-    (λ it form is. subst (λ held. CrlComes held (crl_fact c.args.list.now) c.in-Some.outcome) (sym (list_is it scope id c.in-Ok-Some.field-0 c.in-Ok-Some.held c.in-Ok-Some.field-0-is is))
-    (c.in-Some.ensures.some (first_reason (listed_in it.entries id (scope_number scope)))))
+    (λ it form is. subst (λ held. CrlIsTakenAs held (crl_fact c.args.list.now) c.in-Some.outcome) (sym (list_is it scope id c.in-Ok-Some.field-0 c.in-Ok-Some.held c.in-Ok-Some.field-0-is is))
+    (c.in-Some.ensures.some (first_reason (entries_under it.entries id (scope_number scope)))))
 
 pub returns-in-None-clause-finds : goal.returns-in-None-clause-finds
 returns-in-None-clause-finds g c clean =
@@ -31,7 +31,7 @@ returns-in-None-clause-finds g c clean =
     finds_then _ _ _ _ c.in-Ok-Some.field-0 _ _ c.outcome_by_entries.result
     (c.in-Ok-Some.ensures.finds (omega (arith, clean, c.outcome_by_entries.ensures.survives.clean))) (c.outcome_by_entries.ensures.finds clean)
     (λ it outcome form is tells.
-    let entries = listed_in it.entries id (scope_number scope) in
-    let held = list_is it scope id c.in-Ok-Some.field-0 c.in-Ok-Some.held c.in-Ok-Some.field-0-is is ∙ ap (λ (h : CrlHead). Some (fact_of h entries)) c.in-None.ensures.none in
-    subst (λ held. CrlComes held (crl_fact c.args.list.now) outcome) (sym held)
+    let entries = entries_under it.entries id (scope_number scope) in
+    let held = list_is it scope id c.in-Ok-Some.field-0 c.in-Ok-Some.held c.in-Ok-Some.field-0-is is ∙ ap (λ (h : CrlHead). Some (fact_of_rows h entries)) c.in-None.ensures.none in
+    subst (λ held. CrlIsTakenAs held (crl_fact c.args.list.now) outcome) (sym held)
     (entries_tell entries c.args.list.now.revoked (crl_head c.args.list.now) outcome (form.placed.serials id (scope_number scope)) (ascends c.args.list.now.revoked c.outcome_by_entries.ensures.ascend) tells))
