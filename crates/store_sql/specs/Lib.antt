@@ -3,3 +3,4 @@ pub mod Tables
 pub mod Texts
 pub mod Queries
 pub mod Statements
+pub mod Inside
