@@ -51,7 +51,7 @@ pub struct Fields {
 }
 
 impl Part {
-    ghost use Rattle.std.specs.Prelude.{◌≡◌, ◌<◌, ◌≤◌, ◌+◌, ◌^◌, ℕ, List, length, Some};
+    ghost use Rattle.std.specs.Prelude.{◌≡◌, ◌<◌, ◌≤◌, ◌+◌, ◌^◌, ℕ, List, length};
     ghost use Rattle.asn.specs.Part.{IsPartOf};
     ghost use Rattle.asn.specs.Place.{seen_tlv, body, body_place};
     ghost use Rattle.cert.specs.BitString.{bits_in};
@@ -107,9 +107,10 @@ impl Part {
 }
 
 impl ExtensionFields {
+    ghost use Rattle.std.specs.Prelude.{◌≡◌, ◌<◌, ◌^◌, ℕ, Some};
     ghost use Rattle.cert.specs.Extensions.{seen_extensions};
     ghost use Rattle.cert.specs.KeyUsage.{seen_key_usage, has_bit};
-    ghost use Rattle.capi.specs.Fields.{TellsExtensions, bits_below, TellsFields, AreAtComponents, ComponentsStandIn};
+    ghost use Rattle.capi.specs.Fields.{TellsExtensions, bits_below};
 
     /// Bit n of the number is bit n of the key usage, of the nine that have names.
     fn usage_number(usage: KeyUsage<'_>) -> u32
@@ -159,7 +160,9 @@ impl ExtensionFields {
 }
 
 impl Fields {
+    ghost use Rattle.std.specs.Prelude.{ℕ, List};
     ghost use Rattle.cert.specs.Certificate.{seen_certificate};
+    ghost use Rattle.capi.specs.Fields.{TellsFields, AreAtComponents, ComponentsStandIn};
 
     /// The fields of the certificate, with the offsets of its components.
     pub(crate) fn of(certificate: &Certificate<'_>) -> Fields

@@ -16,7 +16,7 @@ use store_sql::StoreFault;
 /// What stands at a path is the system's own matter: no contract can look at a disk. All that is known is that what is opened is what
 /// stands there, that what is closed is left there, and that no store is opened only for what is met there in its place.
 pub trait Stores {
-    ghost use Rattle.std.specs.Prelude.{ℕ, List, ⊤};
+    ghost use Rattle.std.specs.Prelude.{ℕ, List};
     ghost use Rattle.cli.specs.Standing.{Met, Seen, database};
 
     /// Whether this was met where the store of the path was looked for: its database, as it was seen when it was opened; no file that can
@@ -87,6 +87,8 @@ fn is_missing(rt: &HostRuntime, path: &str) -> bool {
 
 /// The system's files, of which no contract says what they hold.
 impl Stores for HostRuntime {
+    ghost use Rattle.std.specs.Prelude.{⊤};
+
     ghost stands = { λ _ _ _. ⊤ };
 
     ghost leaves = { λ _ _ _. ⊤ };

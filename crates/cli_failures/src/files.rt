@@ -19,7 +19,7 @@ use std::{fs, io};
 /// What a file holds, and whether it can be read, is the source's own matter: no contract can look at a disk. All that is known of a
 /// source is that it answers what the file of that name holds, and says that a file cannot be read only where it cannot.
 pub trait Source {
-    ghost use Rattle.std.specs.Prelude.{ℕ, List, Option, Some, ⊤};
+    ghost use Rattle.std.specs.Prelude.{ℕ, List, Option, Some};
 
     /// Whether the file of this name holds these octets; of none, whether it cannot be read.
     ghost holds: { Self → List ℕ → Option (List ℕ) → Type 0 };
@@ -32,6 +32,8 @@ pub trait Source {
 
 /// The files of the system, of which no contract says what they hold, and whether they can be read.
 impl<R: Files + AllocGlobal> Source for R {
+    ghost use Rattle.std.specs.Prelude.{⊤};
+
     ghost holds = { λ _ _ _. ⊤ };
 
     fn octets_of<'a>(&self, file: &'a str) -> Result<Vec<u8>, Failure<'a>> {

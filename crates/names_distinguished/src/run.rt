@@ -17,7 +17,7 @@ pub(crate) enum Source<'a> {
 }
 
 impl<'a> Source<'a> {
-    ghost use Rattle.names_distinguished.specs.Agreement.{entries_in, rising, run_of, run_left, SearchesOn, StopsAt, IsFoundPast, Fits, AllFit, IsCount};
+    ghost use Rattle.names_distinguished.specs.Agreement.{entries_in};
 
     /// The first attribute, and those after it.
     #[tactic(auto, unfolding(crate::specs::Agreement::entries_in))]
@@ -46,6 +46,8 @@ pub(crate) struct Run<'a> {
 }
 
 impl<'a> Run<'a> {
+    ghost use Rattle.names_distinguished.specs.Agreement.{entries_in, rising, run_of, run_left, SearchesOn, StopsAt, IsFoundPast, Fits, AllFit, IsCount};
+
     /// The run that the attributes begin with.
     pub(crate) fn first(attributes: Source<'a>) -> Run<'a>
         ensures { run_left result ≡ run_of (entries_in attributes.entry) }

@@ -37,6 +37,8 @@ impl ListVerifier {
 }
 
 impl Verifier for ListVerifier {
+    ghost use Rattle.path_verifiers.specs.ListVerifier.{is_listed};
+
     ghost accepts = { λ verifier algorithm key_info message signature.
         is_listed verifier (fingerprint_of algorithm key_info message signature) };
 

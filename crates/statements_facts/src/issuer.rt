@@ -9,7 +9,7 @@ pub struct NameKey {
 }
 
 impl Model for NameKey {
-    ghost use Rattle.std.specs.Prelude.{ℕ, List, ◌≡◌};
+    ghost use Rattle.std.specs.Prelude.{ℕ, List};
 
     ghost Value = { List ℕ };
 
@@ -17,6 +17,8 @@ impl Model for NameKey {
 }
 
 impl NameKey {
+    ghost use Rattle.std.specs.Prelude.{◌≡◌};
+
     /// The key that these octets are.
     pub fn from_octets(octets: Vec<u8>) -> NameKey
         ensures { result ≡ octets.items }

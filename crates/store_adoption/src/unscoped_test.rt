@@ -46,8 +46,8 @@ fn read_list(row: &Row, next: u32) -> Result<UnscopedList, StoreFault>
 impl RowTest for ListTest {
     ghost use Rattle.std.specs.Prelude.{◌≡◌, map};
     ghost use Rattle.std.specs.List.{AllByRecursion};
-    ghost use Rattle.store_adoption.specs.Cells.{IsUnscopedCrlCells, unscoped_crl_in, IsUnscopedEntryCells, unscoped_entry_in};
-    ghost use Rattle.store_adoption.specs.Seen.{seen_list, seen_own};
+    ghost use Rattle.store_adoption.specs.Cells.{IsUnscopedCrlCells, unscoped_crl_in};
+    ghost use Rattle.store_adoption.specs.Seen.{seen_list};
 
     ghost passed = { λ test rows. AllByRecursion (IsUnscopedCrlCells test.next) rows × (map seen_list test.lists.items ≡ map unscoped_crl_in rows) };
 
@@ -88,6 +88,11 @@ fn read_own(row: &Row, next: u32) -> Result<OwnEntry, StoreFault>
 }
 
 impl RowTest for OwnTest {
+    ghost use Rattle.std.specs.Prelude.{◌≡◌, map};
+    ghost use Rattle.std.specs.List.{AllByRecursion};
+    ghost use Rattle.store_adoption.specs.Cells.{IsUnscopedEntryCells, unscoped_entry_in};
+    ghost use Rattle.store_adoption.specs.Seen.{seen_own};
+
     ghost passed = { λ test rows. AllByRecursion (IsUnscopedEntryCells test.next) rows × (map seen_own test.entries.items ≡ map unscoped_entry_in rows) };
 
     ghost are_formed = { λ test rows. AllByRecursion (IsUnscopedEntryCells test.next) rows };
