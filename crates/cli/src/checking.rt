@@ -45,7 +45,8 @@ fn judge_at<'a, S: Stores, V: Verifier + Drop>(
 ) -> Result<Verdict, Failure<'a>>
     ensures judged { IfOk result (HasJudged (S.leaves source.now path.now) (V.accepts node.verifier)
         (seen_query query.now) (seen_of (file_state node.store.conn))) }
-    ensures fails { IfErr result (IsNoAnswer (S.leaves source.now path.now) (seen_of (file_state node.store.conn))) }
+    ensures fails { IfErr result
+        (IsNoAnswer (S.leaves source.now path.now) (seen_of (file_state node.store.conn))) }
 {
     let mut node = node;
     let verdict = node.verdict(alloc, query);
@@ -66,7 +67,8 @@ fn judge_by<'a, S: Stores>(
 ) -> Result<Verdict, Failure<'a>>
     ensures judged { IfOk result (IsJudgedBy (S.stands source.now) (S.leaves source.now)
         path.entry.now (accepted_by verifier.now) (seen_query query.now)) }
-    ensures fails { IfErr result (IsNotJudged (S.stands source.now) (S.leaves source.now) path.entry.now) }
+    ensures fails { IfErr result
+        (IsNotJudged (S.stands source.now) (S.leaves source.now) path.entry.now) }
 {
     let store = source.open_store(path)?;
     let node = Node::new(Shared { list: verifier }, store);
@@ -82,8 +84,10 @@ fn judge_asked<'a, S: Stores>(
 ) -> Result<Verdict, Failure<'a>>
     requires anchor { IsCertificateText asked.now.anchor.items }
     requires path { AreCertificateTexts (path_texts asked.now) }
-    ensures judged { IfOk result (IsJudgedOf (S.stands source.now) (S.leaves source.now) path.entry.now asked.now) }
-    ensures fails { IfErr result (IsNotJudged (S.stands source.now) (S.leaves source.now) path.entry.now) }
+    ensures judged { IfOk result
+        (IsJudgedOf (S.stands source.now) (S.leaves source.now) path.entry.now asked.now) }
+    ensures fails { IfErr result
+        (IsNotJudged (S.stands source.now) (S.leaves source.now) path.entry.now) }
 {
     let Ok(texts) = texts_of(alloc, asked.path.as_slice()) else {
         return Err(Failure::NoMemory);
@@ -101,8 +105,10 @@ fn judge<'a, S: Source + Stores>(
     alloc: Global,
     question: &Question<'a>,
 ) -> Result<Verdict, Failure<'a>>
-    ensures judged { IfOk result (IsJudged (S.holds source.now) (S.stands source.now) (S.leaves source.now) question.now) }
-    ensures fails { IfErr result (IsFailureOfCheck (S.holds source.now) (S.stands source.now) (S.leaves source.now) question.now) }
+    ensures judged { IfOk result
+        (IsJudged (S.holds source.now) (S.stands source.now) (S.leaves source.now) question.now) }
+    ensures fails { IfErr result (IsFailureOfCheck
+        (S.holds source.now) (S.stands source.now) (S.leaves source.now) question.now) }
 {
     let asked = read_asked(source, alloc, question)?;
     judge_asked(source, alloc, question.store, &asked)
@@ -115,9 +121,12 @@ pub fn check<'a, S: Source + Stores, O: Write>(
     question: &Question<'a>,
     out: &mut O,
 ) -> Result<Verdict, Failure<'a>>
-    ensures judged { IfOk result (IsJudged (S.holds source.now) (S.stands source.now) (S.leaves source.now) question.now) }
-    ensures written { IfOk result (λ verdict. Appends (O.contents out.old) (O.contents out.new) (verdict_line verdict)) }
-    ensures fails { IfErr result (OrUnwritable (IsFailureOfCheck (S.holds source.now) (S.stands source.now) (S.leaves source.now) question.now)
+    ensures judged { IfOk result
+        (IsJudged (S.holds source.now) (S.stands source.now) (S.leaves source.now) question.now) }
+    ensures written { IfOk result (λ verdict.
+        Appends (O.contents out.old) (O.contents out.new) (verdict_line verdict)) }
+    ensures fails { IfErr result (OrUnwritable (IsFailureOfCheck
+        (S.holds source.now) (S.stands source.now) (S.leaves source.now) question.now)
         (WasJudged (S.holds source.now) (S.stands source.now) (S.leaves source.now) question.now)) }
     ensures quiet { IfErr result (λ failure. UnlessLate failure (out.new ≡ out.old)) }
 {

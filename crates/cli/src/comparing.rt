@@ -135,8 +135,10 @@ pub fn compare<'a, S: Source + Stores, O: Write>(
 ) -> Result<Comparison, Failure<'a>>
     ensures compared { IfOk result (IsCompared (S.holds source.now) (S.stands source.now)
         (S.leaves source.now) question.now other.entry.now) }
-    ensures written { IfOk result (λ comparison. Appends (O.contents out.old) (O.contents out.new) (comparison_line comparison)) }
-    ensures fails { IfErr result (OrUnwritable (IsFailureOfComparison (S.holds source.now) (S.stands source.now)
+    ensures written { IfOk result (λ comparison.
+        Appends (O.contents out.old) (O.contents out.new) (comparison_line comparison)) }
+    ensures fails { IfErr result
+        (OrUnwritable (IsFailureOfComparison (S.holds source.now) (S.stands source.now)
         (S.leaves source.now) question.now other.entry.now) (WereCompared (S.holds source.now)
         (S.stands source.now) (S.leaves source.now) question.now other.entry.now)) }
     ensures quiet { IfErr result (λ failure. UnlessLate failure (out.new ≡ out.old)) }

@@ -78,7 +78,8 @@ fn deliver_at<'a, S: Stores, V: Verifier + Drop>(
 ) -> Result<Counts, Failure<'a>>
     ensures taken { IfOk result (HasTaken (S.leaves source.now path.now) (V.accepts node.verifier)
         issuer.now statement.now (seen_of (file_state node.store.conn))) }
-    ensures fails { IfErr result (IsNoAnswer (S.leaves source.now path.now) (seen_of (file_state node.store.conn))) }
+    ensures fails { IfErr result
+        (IsNoAnswer (S.leaves source.now path.now) (seen_of (file_state node.store.conn))) }
 {
     let events = [Event::Deliver(issuer, statement)];
     match node.run(alloc, &events) {
@@ -141,9 +142,12 @@ fn read_statement_of<'a, S: Source, V: Verifier>(
     issuer: &[u8],
     words: Delivery<'a>,
 ) -> Result<Vec<u8>, Failure<'a>>
-    ensures genuine { IfOk result (λ octets. IsGenuineUnder (V.accepts verifier.now) issuer.now octets.items) }
-    ensures reads { IfOk result (λ octets. S.holds source.now words.entry.file.now (Some octets.items)) }
-    ensures fails { IfErr result (FailsFirst (IsNoCertificate (IsJust issuer.now) words.entry.issuer.now)
+    ensures genuine { IfOk result (λ octets.
+        IsGenuineUnder (V.accepts verifier.now) issuer.now octets.items) }
+    ensures reads { IfOk result (λ octets.
+        S.holds source.now words.entry.file.now (Some octets.items)) }
+    ensures fails { IfErr result
+        (FailsFirst (IsNoCertificate (IsJust issuer.now) words.entry.issuer.now)
         (IsCertificateText issuer.now)
         (IsNoStatementUnder (S.holds source.now) (V.accepts verifier.now) issuer.now words.entry.file.now)) }
 {
@@ -158,10 +162,14 @@ fn read_delivery<'a, S: Source, V: Verifier>(
     verifier: &V,
     words: Delivery<'a>,
 ) -> Result<(Vec<u8>, Vec<u8>), Failure<'a>>
-    ensures issuer { IfOk result (λ read. S.holds source.now words.entry.issuer.now (Some read.0.items)) }
-    ensures genuine { IfOk result (λ read. IsGenuineUnder (V.accepts verifier.now) read.0.items read.1.items) }
-    ensures statement { IfOk result (λ read. S.holds source.now words.entry.file.now (Some read.1.items)) }
-    ensures fails { IfErr result (FailsFirst (IsNoCertificate (S.holds source.now) words.entry.issuer.now)
+    ensures issuer { IfOk result (λ read.
+        S.holds source.now words.entry.issuer.now (Some read.0.items)) }
+    ensures genuine { IfOk result (λ read.
+        IsGenuineUnder (V.accepts verifier.now) read.0.items read.1.items) }
+    ensures statement { IfOk result (λ read.
+        S.holds source.now words.entry.file.now (Some read.1.items)) }
+    ensures fails { IfErr result
+        (FailsFirst (IsNoCertificate (S.holds source.now) words.entry.issuer.now)
         (HoldsIssuer (S.holds source.now) words.entry.issuer.now)
         (IsNoStatementOf (S.holds source.now) (V.accepts verifier.now) words.entry.issuer.now words.entry.file.now)) }
 {
@@ -181,7 +189,8 @@ fn take_at<'a, S: Stores>(
 ) -> Result<Counts, Failure<'a>>
     ensures taken { IfOk result (IsTakenAt (S.stands source.now) (S.leaves source.now)
         path.entry.now (accepted_by verifier.now) issuer.now statement.now) }
-    ensures fails { IfErr result (IsNotTaken (S.stands source.now) (S.leaves source.now) path.entry.now) }
+    ensures fails { IfErr result
+        (IsNotTaken (S.stands source.now) (S.leaves source.now) path.entry.now) }
 {
     let store = source.open_or_make_store(path)?;
     let node = Node::new(Shared { list: verifier }, store);
@@ -197,7 +206,8 @@ fn take_for<'a, S: Source + Stores>(
 ) -> Result<Counts, Failure<'a>>
     ensures delivered { IfOk result (IsDeliveredFor (S.holds source.now) (S.stands source.now)
         (S.leaves source.now) (accepted_by verifier.now) words.entry) }
-    ensures fails { IfErr result (IsFailureFor (S.holds source.now) (S.stands source.now) (S.leaves source.now) (accepted_by verifier.now) words.entry) }
+    ensures fails { IfErr result (IsFailureFor (S.holds source.now) (S.stands source.now)
+        (S.leaves source.now) (accepted_by verifier.now) words.entry) }
 {
     let (issuer, statement) = match read_delivery(source, alloc, verifier, words) {
         Ok(read) => read,
@@ -219,8 +229,10 @@ fn take<'a, S: Source + Stores>(
     alloc: Global,
     words: Delivery<'a>,
 ) -> Result<Counts, Failure<'a>>
-    ensures delivered { IfOk result (IsDelivered (S.holds source.now) (S.stands source.now) (S.leaves source.now) words.entry) }
-    ensures fails { IfErr result (IsFailureOfDelivery (S.holds source.now) (S.stands source.now) (S.leaves source.now) words.entry) }
+    ensures delivered { IfOk result
+        (IsDelivered (S.holds source.now) (S.stands source.now) (S.leaves source.now) words.entry) }
+    ensures fails { IfErr result (IsFailureOfDelivery
+        (S.holds source.now) (S.stands source.now) (S.leaves source.now) words.entry) }
 {
     let prints = match read_verdicts(source, alloc, words.verdicts) {
         Ok(prints) => prints,
@@ -238,9 +250,11 @@ pub fn deliver<'a, S: Source + Stores, O: Write>(
     words: Delivery<'a>,
     out: &mut O,
 ) -> Result<(), Failure<'a>>
-    ensures done { OnOk result (Writes (IsDeliveredText (S.holds source.now) (S.stands source.now) (S.leaves source.now) words.entry)
+    ensures done { OnOk result (Writes
+        (IsDeliveredText (S.holds source.now) (S.stands source.now) (S.leaves source.now) words.entry)
         (O.contents out.old) (O.contents out.new)) }
-    ensures fails { IfErr result (OrUnwritable (IsFailureOfDelivery (S.holds source.now) (S.stands source.now) (S.leaves source.now) words.entry)
+    ensures fails { IfErr result (OrUnwritable (IsFailureOfDelivery
+        (S.holds source.now) (S.stands source.now) (S.leaves source.now) words.entry)
         (WasDelivered (S.holds source.now) (S.stands source.now) (S.leaves source.now) words.entry)) }
     ensures quiet { IfErr result (λ failure. UnlessLate failure (out.new ≡ out.old)) }
 {

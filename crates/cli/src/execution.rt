@@ -101,7 +101,8 @@ fn run<'a, S: Source + Stores, O: Write>(
     ensures done { IfOk result (IsDone (S.holds source.now) (S.stands source.now)
         (S.leaves source.now) line.now (O.contents out.old) (O.contents out.new)) }
     ensures status { IfOk result IsAnswering }
-    ensures fails { IfErr result (IsFailureOf (S.holds source.now) (S.stands source.now) (S.leaves source.now) line.now) }
+    ensures fails { IfErr result
+        (IsFailureOf (S.holds source.now) (S.stands source.now) (S.leaves source.now) line.now) }
     ensures quiet { IfErr result (λ failure. UnlessLate failure (out.new ≡ out.old)) }
 {
     let status = answer(source, alloc, line, out)?;
@@ -120,7 +121,8 @@ fn answer<'a, S: Source + Stores, O: Write>(
     ensures done { IfOk result (IsDone (S.holds source.now) (S.stands source.now)
         (S.leaves source.now) line.now (O.contents out.old) (O.contents out.new)) }
     ensures status { IfOk result IsAnswering }
-    ensures fails { IfErr result (IsFailureOf (S.holds source.now) (S.stands source.now) (S.leaves source.now) line.now) }
+    ensures fails { IfErr result
+        (IsFailureOf (S.holds source.now) (S.stands source.now) (S.leaves source.now) line.now) }
     ensures quiet { IfErr result (λ failure. UnlessLate failure (out.new ≡ out.old)) }
 {
     match line {

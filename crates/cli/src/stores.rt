@@ -28,14 +28,18 @@ pub trait Stores {
 
     /// The store that stands at the path; `Unreadable` where there is no file that can be read.
     fn open_store<'a>(&self, path: &'a str) -> Result<Store<File>, Failure<'a>>
-        ensures stands { IfOk result (λ store. stands self.now path.entry.now (database (seen_of (file_state store.conn)))) }
-        ensures store { IfOk result (λ store. HasCleanDisk (file_state store.conn) → IsStore (file_state store.conn).now) }
+        ensures stands { IfOk result (λ store.
+            stands self.now path.entry.now (database (seen_of (file_state store.conn)))) }
+        ensures store { IfOk result (λ store.
+            HasCleanDisk (file_state store.conn) → IsStore (file_state store.conn).now) }
         ensures fails { IfErr result (IsNotFound (stands self.now) path.entry.now) };
 
     /// The same; where no file is there, a store is made that holds nothing.
     fn open_or_make_store<'a>(&self, path: &'a str) -> Result<Store<File>, Failure<'a>>
-        ensures stands { IfOk result (λ store. stands self.now path.entry.now (database (seen_of (file_state store.conn)))) }
-        ensures store { IfOk result (λ store. HasCleanDisk (file_state store.conn) → IsStore (file_state store.conn).now) }
+        ensures stands { IfOk result (λ store.
+            stands self.now path.entry.now (database (seen_of (file_state store.conn)))) }
+        ensures store { IfOk result (λ store.
+            HasCleanDisk (file_state store.conn) → IsStore (file_state store.conn).now) }
         ensures fails { IfErr result (IsNotMade (stands self.now) path.entry.now) };
 
     /// Closes a store of the path. What was committed to it is safe however that ends.
@@ -57,7 +61,8 @@ pub(crate) fn failed<'a>(fault: StoreFault) -> Failure<'a>
 
 // The store at the path.
 fn open<'a>(rt: &HostRuntime, path: &str) -> Result<Store<File>, Failure<'a>>
-    ensures store { IfOk result (λ store. HasCleanDisk (file_state store.conn) → IsStore (file_state store.conn).now) }
+    ensures store { IfOk result (λ store.
+        HasCleanDisk (file_state store.conn) → IsStore (file_state store.conn).now) }
     ensures fails { IfErr result (λ failure. (fault : StoreFault) × (failure ≡ told_of fault)) }
 {
     match Store::open(rt, path) {
@@ -68,7 +73,8 @@ fn open<'a>(rt: &HostRuntime, path: &str) -> Result<Store<File>, Failure<'a>>
 
 // A store that is made at the path.
 fn make<'a>(rt: &HostRuntime, path: &str) -> Result<Store<File>, Failure<'a>>
-    ensures store { IfOk result (λ store. HasCleanDisk (file_state store.conn) → IsStore (file_state store.conn).now) }
+    ensures store { IfOk result (λ store.
+        HasCleanDisk (file_state store.conn) → IsStore (file_state store.conn).now) }
     ensures fails { IfErr result (λ failure. (fault : StoreFault) × (failure ≡ told_of fault)) }
 {
     match Store::make(rt, path) {

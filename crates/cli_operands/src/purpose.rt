@@ -50,7 +50,8 @@ fn arcs_of(alloc: Global, text: &str) -> Result<Option<Vec<u64>>, AllocError>
 // The first subidentifier (X.690, 8.19.4).
 fn first_subidentifier(first: u64, second: u64) -> Option<u64>
     requires { IsServed second }
-    ensures number { IfSome result (λ number. MayBegin first second × (number ≡ first * 40 + second)) }
+    ensures number { IfSome result (λ number.
+        MayBegin first second × (number ≡ first * 40 + second)) }
     ensures none { IfNone result (MayBegin first second → ⊥) }
 {
     if first > 2 || (first < 2 && second >= 40) {

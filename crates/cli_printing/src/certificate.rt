@@ -41,7 +41,8 @@ fn write_version<W: Write>(version: Version, writer: &mut W) -> io::Result<()>
 }
 
 pub(crate) fn write_named<W: Write>(word: &str, name: &Name<'_>, writer: &mut W) -> io::Result<()>
-    ensures { Writes W.contents writer.old writer.new result (name_line word.now (raw_of name.now)) }
+    ensures { Writes W.contents writer.old writer.new result
+        (name_line word.now (raw_of name.now)) }
 {
     write!(writer, "{word} ")?;
     write_name(name, writer)?;
@@ -49,27 +50,31 @@ pub(crate) fn write_named<W: Write>(word: &str, name: &Name<'_>, writer: &mut W)
 }
 
 fn write_validity<W: Write>(validity: &Validity, writer: &mut W) -> io::Result<()>
-    ensures { Writes W.contents writer.old writer.new result (validity_lines (seen_validity validity.now)) }
+    ensures { Writes W.contents writer.old writer.new result
+        (validity_lines (seen_validity validity.now)) }
 {
     writeln!(writer, "from {}", validity.not_before)?;
     writeln!(writer, "until {}", validity.not_after)
 }
 
 fn write_serial<W: Write>(serial: Tlv<'_>, writer: &mut W) -> io::Result<()>
-    ensures { Writes W.contents writer.old writer.new result (octets_line (codes "serial") (body (seen_tlv serial.entry))) }
+    ensures { Writes W.contents writer.old writer.new result
+        (octets_line (codes "serial") (body (seen_tlv serial.entry))) }
 {
     write_octets("serial", serial.body, writer)
 }
 
 fn write_key<W: Write>(key: BitString<'_>, writer: &mut W) -> io::Result<()>
-    ensures { Writes W.contents writer.old writer.new result (octets_line (codes "key") (seen_bit_string key.entry).octets) }
+    ensures { Writes W.contents writer.old writer.new result
+        (octets_line (codes "key") (seen_bit_string key.entry).octets) }
 {
     write_octets("key", key.octets(), writer)
 }
 
 // The lines up to the key.
 fn write_fields<W: Write>(certificate: &Certificate<'_>, writer: &mut W) -> io::Result<()>
-    ensures { Writes W.contents writer.old writer.new result (field_lines (seen_certificate certificate.now)) }
+    ensures { Writes W.contents writer.old writer.new result
+        (field_lines (seen_certificate certificate.now)) }
 {
     write_version(certificate.version, writer)?;
     write_serial(certificate.serial, writer)?;
@@ -80,7 +85,8 @@ fn write_fields<W: Write>(certificate: &Certificate<'_>, writer: &mut W) -> io::
 }
 
 fn write_basic<W: Write>(constraints: Option<BasicConstraints>, writer: &mut W) -> io::Result<()>
-    ensures { Writes W.contents writer.old writer.new result (basic_lines (seen seen_basic_constraints constraints)) }
+    ensures { Writes W.contents writer.old writer.new result
+        (basic_lines (seen seen_basic_constraints constraints)) }
 {
     let Some(constraints) = constraints else {
         return Ok(());
@@ -93,7 +99,8 @@ fn write_basic<W: Write>(constraints: Option<BasicConstraints>, writer: &mut W) 
 }
 
 fn write_usage<W: Write>(usage: Option<KeyUsage<'_>>, writer: &mut W) -> io::Result<()>
-    ensures { Writes W.contents writer.old writer.new result (usage_lines (seen seen_key_usage usage.entry)) }
+    ensures { Writes W.contents writer.old writer.new result
+        (usage_lines (seen seen_key_usage usage.entry)) }
 {
     match usage {
         None => Ok(()),
@@ -102,7 +109,8 @@ fn write_usage<W: Write>(usage: Option<KeyUsage<'_>>, writer: &mut W) -> io::Res
 }
 
 fn write_alternative<W: Write>(name: &General<'_>, writer: &mut W) -> io::Result<()>
-    ensures { Writes W.contents writer.old writer.new result (alternative_line (general_name name.now)) }
+    ensures { Writes W.contents writer.old writer.new result
+        (alternative_line (general_name name.now)) }
 {
     writer.write_all(b"alt ")?;
     write_general(name, writer)?;
@@ -120,7 +128,8 @@ fn write_alternatives<W: Write>(names: &[General<'_>], writer: &mut W) -> io::Re
 }
 
 fn write_subtree<W: Write>(word: &str, base: &Subtree<'_>, writer: &mut W) -> io::Result<()>
-    ensures { Writes W.contents writer.old writer.new result (base_line word.now (subtree_base base.now)) }
+    ensures { Writes W.contents writer.old writer.new result
+        (base_line word.now (subtree_base base.now)) }
 {
     write!(writer, "{word} ")?;
     write_base(base, writer)?;
@@ -138,7 +147,8 @@ fn write_subtrees<W: Write>(word: &str, bases: &[Subtree<'_>], writer: &mut W) -
 }
 
 fn write_identifier<W: Write>(word: &str, oid: Oid<'_>, writer: &mut W) -> io::Result<()>
-    ensures { Writes W.contents writer.old writer.new result (oid_line word.now (oid_contents oid.entry)) }
+    ensures { Writes W.contents writer.old writer.new result
+        (oid_line word.now (oid_contents oid.entry)) }
 {
     write!(writer, "{word} ")?;
     write_oid(oid.contents(), writer)?;
@@ -167,7 +177,8 @@ fn write_where<W: Write>(is_so: bool, line: &str, writer: &mut W) -> io::Result<
 
 // What the extensions say of names.
 fn write_constraints<W: Write>(said: &Extensions<'_>, writer: &mut W) -> io::Result<()>
-    ensures { Writes W.contents writer.old writer.new result (constraint_lines (seen_extensions said.now)) }
+    ensures { Writes W.contents writer.old writer.new result
+        (constraint_lines (seen_extensions said.now)) }
 {
     write_alternatives(said.alternative_names.as_slice(), writer)?;
     write_subtrees("permit", said.name_constraints.permitted.as_slice(), writer)?;
@@ -176,7 +187,8 @@ fn write_constraints<W: Write>(said: &Extensions<'_>, writer: &mut W) -> io::Res
 
 // What they say of other matters.
 fn write_purposes<W: Write>(said: &Extensions<'_>, writer: &mut W) -> io::Result<()>
-    ensures { Writes W.contents writer.old writer.new result (purpose_lines (seen_extensions said.now)) }
+    ensures { Writes W.contents writer.old writer.new result
+        (purpose_lines (seen_extensions said.now)) }
 {
     write_identifiers("purpose", said.purposes.as_slice(), writer)?;
     write_where(said.needs_policy_processing, "policy\n", writer)?;
@@ -185,7 +197,8 @@ fn write_purposes<W: Write>(said: &Extensions<'_>, writer: &mut W) -> io::Result
 }
 
 fn write_extensions<W: Write>(said: &Extensions<'_>, writer: &mut W) -> io::Result<()>
-    ensures { Writes W.contents writer.old writer.new result (extension_lines (seen_extensions said.now)) }
+    ensures { Writes W.contents writer.old writer.new result
+        (extension_lines (seen_extensions said.now)) }
 {
     write_basic(said.basic_constraints, writer)?;
     write_usage(said.key_usage, writer)?;
@@ -196,7 +209,8 @@ fn write_extensions<W: Write>(said: &Extensions<'_>, writer: &mut W) -> io::Resu
 /// Writes what the certificate says, a line each: its fields in the order of the standard, and then what its extensions say.
 /// It takes no memory.
 pub fn certificate_to<W: Write>(certificate: &Certificate<'_>, writer: &mut W) -> io::Result<()>
-    ensures { Writes W.contents writer.old writer.new result (certificate_text (seen_certificate certificate.now)) }
+    ensures { Writes W.contents writer.old writer.new result
+        (certificate_text (seen_certificate certificate.now)) }
 {
     write_fields(certificate, writer)?;
     write_extensions(&certificate.extensions, writer)

@@ -43,7 +43,8 @@ impl From<AllocError> for PrintsFault {
 
 // A fingerprint and what it is of.
 fn write_fingerprint<W: Write>(print: &[u8; 32], words: &str, writer: &mut W) -> io::Result<()>
-    ensures { Writes W.contents writer.old writer.new result (fingerprint_line print.now words.now) }
+    ensures { Writes W.contents writer.old writer.new result
+        (fingerprint_line print.now words.now) }
 {
     write_hex(print, writer)?;
     writeln!(writer, " {words}")

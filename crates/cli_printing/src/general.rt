@@ -20,7 +20,8 @@ use std::io::Write;
 const BEGUN: [u8; 9] = [0x00, 0x80, 0xC0, 0xE0, 0xF0, 0xF8, 0xFC, 0xFE, 0xFF];
 
 fn write_directory<W: Write>(name: &Name<'_>, writer: &mut W) -> io::Result<()>
-    ensures { Writes W.contents writer.old writer.new result (codes "dir " ++ name_text (raw_of name.now)) }
+    ensures { Writes W.contents writer.old writer.new result
+        (codes "dir " ++ name_text (raw_of name.now)) }
 {
     writer.write_all(b"dir ")?;
     write_name(name, writer)
@@ -34,7 +35,8 @@ fn write_dns<W: Write>(name: &[u8], writer: &mut W) -> io::Result<()>
 }
 
 fn write_address<W: Write>(address: &[u8], writer: &mut W) -> io::Result<()>
-    ensures { Writes W.contents writer.old writer.new result (codes "ip" ++ shown_contents address.now) }
+    ensures { Writes W.contents writer.old writer.new result
+        (codes "ip" ++ shown_contents address.now) }
 {
     writer.write_all(b"ip")?;
     write_contents(address, writer)
@@ -50,7 +52,8 @@ fn write_other<W: Write>(number: u8, contents: &[u8], writer: &mut W) -> io::Res
 
 /// Writes the general name.
 pub(crate) fn write_general<W: Write>(name: &General<'_>, writer: &mut W) -> io::Result<()>
-    ensures { Writes W.contents writer.old writer.new result (general_text (general_name name.now)) }
+    ensures { Writes W.contents writer.old writer.new result
+        (general_text (general_name name.now)) }
 {
     match name {
         General::Directory(name) => write_directory(name, writer),
@@ -62,7 +65,8 @@ pub(crate) fn write_general<W: Write>(name: &General<'_>, writer: &mut W) -> io:
 
 // The base of a DNS constraint, as it stands in the certificate.
 fn write_domain<W: Write>(domain: &Domain<'_>, writer: &mut W) -> io::Result<()>
-    ensures { Writes W.contents writer.old writer.new result (domain_text (domain_names domain.now)) }
+    ensures { Writes W.contents writer.old writer.new result
+        (domain_text (domain_names domain.now)) }
 {
     match domain {
         Domain::Every => writer.write_all(b"dns"),
@@ -76,7 +80,8 @@ fn write_domain<W: Write>(domain: &Domain<'_>, writer: &mut W) -> io::Result<()>
 
 // So many octets of a mask that begins with so many ones.
 fn write_mask<W: Write>(count: usize, ones: u16, writer: &mut W) -> io::Result<()>
-    ensures { Writes W.contents writer.old writer.new result (encode_lower (mask_octets count ones)) }
+    ensures { Writes W.contents writer.old writer.new result
+        (encode_lower (mask_octets count ones)) }
 {
     let mut left = ones;
     for _ in 0..count {
@@ -87,7 +92,8 @@ fn write_mask<W: Write>(count: usize, ones: u16, writer: &mut W) -> io::Result<(
 }
 
 fn write_range<W: Write>(range: &IpRange<'_>, writer: &mut W) -> io::Result<()>
-    ensures { Writes W.contents writer.old writer.new result (range_text (address_range range.now)) }
+    ensures { Writes W.contents writer.old writer.new result
+        (range_text (address_range range.now)) }
 {
     writer.write_all(b"ip ")?;
     write_hex(range.address, writer)?;

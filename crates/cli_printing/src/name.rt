@@ -27,7 +27,8 @@ fn write_value<W: Write>(value: Tlv<'_>, writer: &mut W) -> io::Result<()>
 
 // AttributeTypeAndValue ::= SEQUENCE { type OBJECT IDENTIFIER, value ANY }
 fn write_attribute<W: Write>(attribute: Tlv<'_>, writer: &mut W) -> io::Result<()>
-    ensures { Writes W.contents writer.old writer.new result (attribute_text (seen_tlv attribute.entry)) }
+    ensures { Writes W.contents writer.old writer.new result
+        (attribute_text (seen_tlv attribute.entry)) }
 {
     let Some(mut members) = attribute.inside() else {
         return Ok(());
@@ -42,7 +43,8 @@ fn write_attribute<W: Write>(attribute: Tlv<'_>, writer: &mut W) -> io::Result<(
 
 // The attributes of an RDN, with a plus between them.
 fn write_attributes<W: Write>(attributes: Cursor<'_>, writer: &mut W) -> io::Result<()>
-    ensures { Writes W.contents writer.old writer.new result (attributes_text (left attributes.entry).values) }
+    ensures { Writes W.contents writer.old writer.new result
+        (attributes_text (left attributes.entry).values) }
 {
     let mut others = attributes;
     let Some(first) = others.next() else {
@@ -68,7 +70,8 @@ fn write_rdn<W: Write>(rdn: Tlv<'_>, writer: &mut W) -> io::Result<()>
 }
 
 fn write_rdns<W: Write>(rdns: Cursor<'_>, writer: &mut W) -> io::Result<()>
-    ensures { Writes W.contents writer.old writer.new result (flat_map rdn_text (left rdns.entry).values) }
+    ensures { Writes W.contents writer.old writer.new result
+        (flat_map rdn_text (left rdns.entry).values) }
 {
     let mut rdns = rdns;
     while let Some(rdn) = rdns.next() {

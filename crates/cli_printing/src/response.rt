@@ -28,7 +28,8 @@ fn write_key_mark<W: Write>(writer: &mut W) -> io::Result<()>
 }
 
 fn write_responder<W: Write>(responder: &ResponderId<'_>, writer: &mut W) -> io::Result<()>
-    ensures { Writes W.contents writer.old writer.new result (responder_line (seen_responder responder.now)) }
+    ensures { Writes W.contents writer.old writer.new result
+        (responder_line (seen_responder responder.now)) }
 {
     match responder {
         ResponderId::ByName(name) => write_named("responder", name, writer),
@@ -60,7 +61,8 @@ fn write_next<W: Write>(next_update: Option<i64>, writer: &mut W) -> io::Result<
 }
 
 fn write_single<W: Write>(single: &SingleResponse<'_>, writer: &mut W) -> io::Result<()>
-    ensures { Writes W.contents writer.old writer.new result (single_line (seen_single single.now)) }
+    ensures { Writes W.contents writer.old writer.new result
+        (single_line (seen_single single.now)) }
 {
     writer.write_all(b"single ")?;
     write_hex(single.id.serial, writer)?;
@@ -70,7 +72,8 @@ fn write_single<W: Write>(single: &SingleResponse<'_>, writer: &mut W) -> io::Re
 }
 
 fn write_singles<W: Write>(singles: Singles<'_>, writer: &mut W) -> io::Result<()>
-    ensures { Writes W.contents writer.old writer.new result (flat_map single_line (singles_left singles.entry)) }
+    ensures { Writes W.contents writer.old writer.new result
+        (flat_map single_line (singles_left singles.entry)) }
 {
     let mut others = singles;
     while let Some(single) = others.next() {
@@ -80,7 +83,8 @@ fn write_singles<W: Write>(singles: Singles<'_>, writer: &mut W) -> io::Result<(
 }
 
 fn write_head<W: Write>(response: &Response<'_>, writer: &mut W) -> io::Result<()>
-    ensures { Writes W.contents writer.old writer.new result (head_lines (seen_response response.now)) }
+    ensures { Writes W.contents writer.old writer.new result
+        (head_lines (seen_response response.now)) }
 {
     write_title(writer)?;
     write_responder(&response.responder, writer)?;
@@ -90,7 +94,8 @@ fn write_head<W: Write>(response: &Response<'_>, writer: &mut W) -> io::Result<(
 /// Writes what the response says, a line each: who answers and when, and then its single responses, which are read anew one by one. It
 /// takes no memory.
 pub fn response_to<W: Write>(response: &Response<'_>, writer: &mut W) -> io::Result<()>
-    ensures { Writes W.contents writer.old writer.new result (response_text (seen_response response.now)) }
+    ensures { Writes W.contents writer.old writer.new result
+        (response_text (seen_response response.now)) }
 {
     write_head(response, writer)?;
     write_singles(response.responses, writer)

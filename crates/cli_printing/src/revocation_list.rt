@@ -60,7 +60,8 @@ fn write_entry<W: Write>(entry: Entry<'_>, writer: &mut W) -> io::Result<()>
 }
 
 fn write_entries<W: Write>(entries: Entries<'_>, writer: &mut W) -> io::Result<()>
-    ensures { Writes W.contents writer.old writer.new result (flat_map entry_line (entries_left entries.entry)) }
+    ensures { Writes W.contents writer.old writer.new result
+        (flat_map entry_line (entries_left entries.entry)) }
 {
     let mut others = entries;
     while let Some(entry) = others.next() {

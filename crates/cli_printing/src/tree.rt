@@ -47,7 +47,8 @@ fn write_line<W: Write>(
     shown: &[u8],
     writer: &mut W,
 ) -> io::Result<()>
-    ensures { Writes W.contents writer.old writer.new result (line level identifier size (shown_contents shown.now)) }
+    ensures { Writes W.contents writer.old writer.new result
+        (line level identifier size (shown_contents shown.now)) }
 {
     write_indent(level, writer)?;
     write_digits(&[identifier], writer)?;

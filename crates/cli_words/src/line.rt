@@ -218,9 +218,11 @@ fn line_of_words<'a>(alloc: Global, words: &'a [&'a str]) -> Result<Line<'a>, Er
 /// command line: an error has clap's text, and for help `use_stderr()` of it is false.
 pub fn command_of<'a>(alloc: Global, words: &'a [&'a str]) -> Result<Line<'a>, Error>
     ensures reads { IfOk result (Reads (map (λ w. w.now) words.entry.now)) }
-    ensures tree { (name file : Text) → map (λ w. w.now) words.entry.now ≡ name ∷ codes "tree" ∷ file ∷ []
+    ensures tree { (name file : Text)
+        → map (λ w. w.now) words.entry.now ≡ name ∷ codes "tree" ∷ file ∷ []
         → IsPlainWord file → MatchResult result (IsTree file) (λ e. kind_of e ≡ OutOfMemory) }
-    ensures show { (name file : Text) → map (λ w. w.now) words.entry.now ≡ name ∷ codes "show" ∷ file ∷ []
+    ensures show { (name file : Text)
+        → map (λ w. w.now) words.entry.now ≡ name ∷ codes "show" ∷ file ∷ []
         → IsPlainWord file → MatchResult result (IsShow file) (λ e. kind_of e ≡ OutOfMemory) }
     ensures prints { (name issuer file : Text)
         → map (λ w. w.now) words.entry.now

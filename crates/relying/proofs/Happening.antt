@@ -13,8 +13,8 @@ use Rattle.relying_agreement.specs.Run.{Event, facts_under, genuine_facts, facts
 use Rattle.store.specs.Adopts.{Restarts}
 use Rattle.relying.specs.declared.fault.DeliverFault.{DeliverFault}
 use Rattle.relying.specs.declared.fault.DeliverFault.TheVariants.{Issuer, Statement, Store}
-use Rattle.relying.specs.Delivery.{IsAnswered, Says}
-use Rattle.relying.specs.Run.{Runs, RanSoFar, Ran, HasHappened, RunsAreRuns, as_answered}
+use Rattle.relying.specs.Delivery.{IsAnswerTo, IsAnswered, Says}
+use Rattle.relying.specs.Run.{Runs, RanSoFar, Ran, HasHappened, RunsAreRuns, AddsAnswer, AreAnswersTo, as_answered}
 
 -- ---- one event
 
@@ -64,6 +64,18 @@ runs_then accepts (Event.Restart ∷ xs) ys told bs start middle held first rest
 runs_then accepts (Event.Deliver issuer statement ∷ xs) ys [] bs start middle held none rest = absurd none
 runs_then accepts (Event.Deliver issuer statement ∷ xs) ys (a ∷ told) bs start middle held (next, takes, more) rest =
     (next, takes, runs_then accepts xs ys told bs next middle held more rest)
+
+pub answers_then : (accepts : Accepts) (xs ys : List Event) (told bs : List (Result Counts DeliverFault)) → AreAnswersTo accepts xs told → AreAnswersTo accepts ys bs → AreAnswersTo accepts (xs ++ ys) (told ++ bs)
+answers_then accepts [] ys [] bs none rest = rest
+answers_then accepts [] ys (a ∷ told) bs none rest = absurd none
+answers_then accepts (Event.Restart ∷ xs) ys told bs first rest = answers_then accepts xs ys told bs first rest
+answers_then accepts (Event.Deliver issuer statement ∷ xs) ys [] bs none rest = absurd none
+answers_then accepts (Event.Deliver issuer statement ∷ xs) ys (a ∷ told) bs (one, more) rest = (one, answers_then accepts xs ys told bs more rest)
+
+pub one_more_answered : (accepts : Accepts) (events : List Event) (event : Event) (before after : List (Result Counts DeliverFault))
+    → AreAnswersTo accepts events before → AddsAnswer accepts event before after → AreAnswersTo accepts (events ++ event ∷ []) after
+one_more_answered accepts events event before after told it =
+    subst (AreAnswersTo accepts (events ++ event ∷ [])) (sym it.after_is) (answers_then accepts events (event ∷ []) before it.added told it.answers)
 
 pub none_so_far : (accepts : Accepts) (s : State) → RanSoFar accepts [] [] s s
 none_so_far accepts s = record { was_open = λ live. live; so_far = λ live start store. (start, store, refl) }
@@ -124,3 +136,11 @@ delivered_so accepts issuer statement before after answer old new grown it =
 
 pub restarted_so : (accepts : Accepts) (event : Event) (before : List (Result Counts DeliverFault)) (old new : State) → event ≡ Event.Restart → Restarts old new → HasHappened accepts event before before old new
 restarted_so accepts event before old new is it = subst (λ e. HasHappened accepts e before before old new) (sym is) (restarted accepts before old new it)
+
+pub answer_added : (accepts : Accepts) (issuer statement : List ℕ) (before after : List (Result Counts DeliverFault)) (answer : Result Counts DeliverFault)
+    → after ≡ before ++ answer ∷ [] → IsAnswerTo accepts issuer statement answer → AddsAnswer accepts (Event.Deliver issuer statement) before after
+answer_added accepts issuer statement before after answer grown is = record { added = answer ∷ []; after_is = grown; answers = (is, tt) }
+
+pub nothing_added : (accepts : Accepts) (event : Event) (before : List (Result Counts DeliverFault)) → event ≡ Event.Restart → AddsAnswer accepts event before before
+nothing_added accepts event before is =
+    subst (λ e. AddsAnswer accepts e before before) (sym is) (record { added = []; after_is = sym (append-nil before); answers = tt })

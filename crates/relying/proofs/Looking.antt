@@ -7,22 +7,22 @@ use Rattle.sqlite.proofs.InsideLemmas.{unchanged_keeps, keeps_then}
 use Rattle.statements_facts.specs.Statement.{Holdings}
 use Rattle.relying_verdicts.specs.declared.fault.Fault.{Fault}
 use Rattle.relying_verdicts.specs.declared.fault.Fault.TheVariants.{Store, Memory}
-use Rattle.relying_verdicts.specs.Asking.{Asks, AsksBoth}
-use Rattle.relying.specs.Asking.{LooksInside, LooksInsideBoth}
+use Rattle.relying_verdicts.specs.Asking.{HasAsked, HasAskedBoth}
+use Rattle.relying.specs.Asking.{HasLooked, HasLookedAtBoth}
 
 dropped : (old last new : State) → KeepsCommit old last → IsRolledBack last new → KeepsCommit old new
 dropped old last new keeps undone = keeps_then old last new keeps (unchanged_keeps last new (inr undone))
 
 module _ {S : Type 0} (g : Ghosts S) (old begun : Held S) (last new : State) (is : begun ≡ record old { in_transaction = true }) (undone : IsRolledBack last new) where
-  pub looked : {A : Type 0} (Is : Holdings → A → Type 0) (result : Result A Fault) → Asks (state g begun) last Is result → LooksInside (state g old) new Is result
+  pub looked : {A : Type 0} (Is : Holdings → A → Type 0) (result : Result A Fault) → HasAsked (state g begun) last Is result → HasLooked KeepsCommit (state g old) new Is result
   looked Is (Ok found) asks =
-      let h = subst (λ b. Asks (state g b) last Is (Ok found)) is asks in
+      let h = subst (λ b. HasAsked (state g b) last Is (Ok found)) is asks in
       (dropped (state g old) last new (record { was_open = h.keeps.was_open; committed = h.keeps.committed }) undone, λ held it. (h.held held it).1)
   looked Is (Err (Store fault)) asks =
-      let h = subst (λ b. Asks (state g b) last Is (Err (Store fault))) is asks in
+      let h = subst (λ b. HasAsked (state g b) last Is (Err (Store fault))) is asks in
       (dropped (state g old) last new (record { was_open = h.keeps.was_open; committed = h.keeps.committed }) undone, λ ours held it. h.formed ours held it)
   looked Is (Err Memory) asks =
-      let h = subst (λ b. Asks (state g b) last Is (Err Memory)) is asks in
+      let h = subst (λ b. HasAsked (state g b) last Is (Err Memory)) is asks in
       (dropped (state g old) last new (record { was_open = h.was_open; committed = h.committed }) undone, tt)
 
 both : {S T : Type 0} (g : Ghosts S) (h : Ghosts T) (old begun : Held S) (other other_begun : Held T) (P : State → State → Type 0)
@@ -32,22 +32,22 @@ both g h old begun other other_begun P is other_is p = subst (λ b. P (state g (
 
 module _ {S T : Type 0} (g : Ghosts S) (h : Ghosts T) (old begun : Held S) (other other_begun : Held T) (last new other_last other_new : State)
     (is : begun ≡ record old { in_transaction = true }) (other_is : other_begun ≡ record other { in_transaction = true }) (undone : IsRolledBack last new) (other_undone : IsRolledBack other_last other_new) where
-  pub looked_both : {A : Type 0} (Is : Holdings → Holdings → A → Type 0) (result : Result A Fault) → AsksBoth (state g begun) last (state h other_begun) other_last Is result
-      → LooksInsideBoth (state g old) new (state h other) other_new Is result
+  pub looked_both : {A : Type 0} (Is : Holdings → Holdings → A → Type 0) (result : Result A Fault) → HasAskedBoth (state g begun) last (state h other_begun) other_last Is result
+      → HasLookedAtBoth KeepsCommit (state g old) new (state h other) other_new Is result
   looked_both Is (Ok found) asks =
-      let it = both g h old begun other other_begun (λ s t. AsksBoth s last t other_last Is (Ok found)) is other_is asks in (
+      let it = both g h old begun other other_begun (λ s t. HasAskedBoth s last t other_last Is (Ok found)) is other_is asks in (
         dropped (state g old) last new (record { was_open = it.keeps.was_open; committed = it.keeps.committed }) undone,
         dropped (state h other) other_last other_new (record { was_open = it.other_keeps.was_open; committed = it.other_keeps.committed }) other_undone,
         λ one two store stores. (it.held one two store stores).2,
       )
   looked_both Is (Err (Store fault)) asks =
-      let it = both g h old begun other other_begun (λ s t. AsksBoth s last t other_last Is (Err (Store fault))) is other_is asks in (
+      let it = both g h old begun other other_begun (λ s t. HasAskedBoth s last t other_last Is (Err (Store fault))) is other_is asks in (
         dropped (state g old) last new (record { was_open = it.keeps.was_open; committed = it.keeps.committed }) undone,
         dropped (state h other) other_last other_new (record { was_open = it.other_keeps.was_open; committed = it.other_keeps.committed }) other_undone,
         λ ours one two store stores. it.formed ours one two store stores,
       )
   looked_both Is (Err Memory) asks =
-      let it = both g h old begun other other_begun (λ s t. AsksBoth s last t other_last Is (Err Memory)) is other_is asks in (
+      let it = both g h old begun other other_begun (λ s t. HasAskedBoth s last t other_last Is (Err Memory)) is other_is asks in (
         dropped (state g old) last new (record { was_open = it.0.was_open; committed = it.0.committed }) undone,
         dropped (state h other) other_last other_new (record { was_open = it.1.was_open; committed = it.1.committed }) other_undone,
         tt,

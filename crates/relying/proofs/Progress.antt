@@ -14,8 +14,8 @@ use Rattle.relying_verdicts.specs.declared.fault.Fault.{Fault}
 use Rattle.relying.specs.declared.events.Event as said
 use Rattle.relying.specs.declared.fault.DeliverFault.{DeliverFault}
 use Rattle.relying.specs.Restart.{FailsToRestart}
-use Rattle.relying.specs.Run.{RanSoFar, Ran, HasHappened, StopsAt, seen_event}
-use Rattle.relying.proofs.Happening.{one_more, ends}
+use Rattle.relying.specs.Run.{RanSoFar, Ran, HasHappened, StopsAt, AddsAnswer, AreAnswersTo, seen_event}
+use Rattle.relying.proofs.Happening.{one_more, one_more_answered, ends}
 
 module _ (accepts : Accepts) (events : List said.Event) (i : ℕ) where
   pub one_further : (d : said.Event) (before after : List (Result Counts DeliverFault)) (first mid new : State) (by : Accepts) → i < length events
@@ -25,6 +25,17 @@ module _ (accepts : Accepts) (events : List said.Event) (i : ℕ) where
       subst (λ told. RanSoFar accepts told after first new) (sym (map_more seen_event events i d below))
       (one_more accepts (map seen_event (take i events)) (seen_event (get_or events i d)) before after first mid new ran
       (subst (λ a. HasHappened a (seen_event (get_or events i d)) before after mid new) same it))
+
+  pub answered_further : (d : said.Event) (before after : List (Result Counts DeliverFault)) (by : Accepts) → i < length events
+      → AreAnswersTo accepts (map seen_event (take i events)) before → by ≡ accepts → AddsAnswer by (seen_event (get_or events i d)) before after
+      → AreAnswersTo accepts (map seen_event (take (i + 1) events)) after
+  answered_further d before after by below told same it =
+      subst (λ done. AreAnswersTo accepts done after) (sym (map_more seen_event events i d below))
+      (one_more_answered accepts (map seen_event (take i events)) (seen_event (get_or events i d)) before after told
+      (subst (λ a. AddsAnswer a (seen_event (get_or events i d)) before after) same it))
+
+  pub all_answered : (answers : List (Result Counts DeliverFault)) → length events ≤ i → AreAnswersTo accepts (map seen_event (take i events)) answers → AreAnswersTo accepts (map seen_event events) answers
+  all_answered answers all told = subst (λ done. AreAnswersTo accepts (map seen_event done) answers) (take_all i events all) told
 
   pub stops_at : {D : Type 0} {g : Ghosts D} (d : said.Event) (answers : List (Result Counts DeliverFault)) (old last : Held (FileStore D g)) (fault : Fault) → i < length events
       → (HasCleanDisk (file_state last) → RanSoFar accepts (map seen_event (take i events)) answers (file_state old) (file_state last)) → seen_event (get_or events i d) ≡ Event.Restart → FailsToRestart last fault

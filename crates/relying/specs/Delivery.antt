@@ -1,6 +1,6 @@
 -- How a delivery is answered, and what it does to the database.
 use Rattle.std.specs.Prelude.{◌≡◌, ℕ, List, Result, Ok, Err}
-use Rattle.sqlite.specs.State.{State}
+use Rattle.sqlite.specs.State.{State, HasCleanDisk, Survives}
 use Rattle.cert.specs.declared.fault.CertRule.{CertRule}
 use Rattle.cert.specs.Certificate.{Certificate, certificate}
 use Rattle.cert.specs.Fault.{FailsUnlessFull as CertificateFails}
@@ -10,7 +10,9 @@ use Rattle.statements.specs.Genuine.{Accepts, FailsUnlessFull}
 use Rattle.statements.specs.OcspFact.{genuine_statement}
 use Rattle.statements_facts.specs.declared.counts.Counts.{Counts}
 use Rattle.store.specs.Adopts.{StaysIfOpen}
-use Rattle.store_taking.specs.Delivery.{Delivers, PutFails}
+use Rattle.store_sql.specs.Statements.{CommitsNothing}
+use Rattle.store_taking.specs.Delivery.{CommitsWhole, Delivers, PutFails}
+use Rattle.relying_agreement.specs.Run.{facts_or_none, genuine_facts}
 use Rattle.relying.specs.declared.fault.DeliverFault.{DeliverFault}
 use Rattle.relying.specs.declared.fault.DeliverFault.TheVariants.{Issuer, Statement, Store}
 
@@ -42,12 +44,40 @@ abbrev pub Leaves : State → State → DeliverFault → Type 0
 Leaves old new (Store fault) = PutFails old new fault
 Leaves old new fault = StaysIfOpen old new
 
+-- How a delivery is answered, whatever the disk did: the statement is genuine and says some facts, or the fault has its reason.
+abbrev pub IsAnswerTo : Accepts → List ℕ → List ℕ → Result Counts DeliverFault → Type 0
+IsAnswerTo accepts issuer statement (Ok counts) = (facts : List Fact) × Says accepts issuer statement facts
+IsAnswerTo accepts issuer statement (Err fault) = IsReason accepts issuer statement fault
+
 abbrev pub IsAnswered : Accepts → List ℕ → List ℕ → State → State → Result Counts DeliverFault → Type 0
 IsAnswered accepts issuer statement old new (Ok counts) = (facts : List Fact) × Says accepts issuer statement facts × Delivers old new facts counts
 IsAnswered accepts issuer statement old new (Err fault) = IsReason accepts issuer statement fault × Leaves old new fault
 
--- ---- on the way
+-- the same, if the disk returned what was written
+abbrev pub AnswersDelivery : Accepts → List ℕ → List ℕ → State → State → Result Counts DeliverFault → Type 0
+AnswersDelivery accepts issuer statement old new result = HasCleanDisk new → IsAnswered accepts issuer statement old new result
+
+-- What a crash may leave: what it could leave before the call, or the whole delivery if the store was asked to take it.
+abbrev pub MayCommit : List Fact → State → State → Result Counts DeliverFault → Type 0
+MayCommit facts old new (Ok counts) = Survives old new (CommitsWhole old facts)
+MayCommit facts old new (Err (Store fault)) = Survives old new (CommitsWhole old facts)
+MayCommit facts old new (Err fault) = CommitsNothing old new
+
+abbrev pub MayCommitDelivery : Accepts → List ℕ → List ℕ → State → State → Result Counts DeliverFault → Type 0
+MayCommitDelivery accepts issuer statement = MayCommit (genuine_facts accepts issuer statement)
+
+-- ---- on the way: the issuer's certificate was read, and `said` is what the statement says under it
+
+abbrev pub IsAnswerUnder : Result (List Fact) StatementFault → Result Counts DeliverFault → Type 0
+IsAnswerUnder said (Ok counts) = (facts : List Fact) × (said ≡ Ok facts)
+IsAnswerUnder said (Err fault) = IsReasonUnder said fault
 
 abbrev pub IsAnsweredUnder : Result (List Fact) StatementFault → State → State → Result Counts DeliverFault → Type 0
 IsAnsweredUnder said old new (Ok counts) = (facts : List Fact) × (said ≡ Ok facts) × Delivers old new facts counts
 IsAnsweredUnder said old new (Err fault) = IsReasonUnder said fault × Leaves old new fault
+
+abbrev pub AnswersUnder : Result (List Fact) StatementFault → State → State → Result Counts DeliverFault → Type 0
+AnswersUnder said old new result = HasCleanDisk new → IsAnsweredUnder said old new result
+
+abbrev pub MayCommitUnder : Result (List Fact) StatementFault → State → State → Result Counts DeliverFault → Type 0
+MayCommitUnder said = MayCommit (facts_or_none said)

@@ -1,3 +1,4 @@
+pub mod View
 pub mod Delivery
 pub mod Asking
 pub mod Restart

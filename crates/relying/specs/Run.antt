@@ -16,7 +16,7 @@ use Rattle.relying_agreement.specs.Run.{Event, DeliveryAnswer, facts_taken, genu
 use Rattle.relying.specs.declared.events.Event as said
 use Rattle.relying.specs.declared.fault.DeliverFault.{DeliverFault}
 use Rattle.relying.specs.declared.fault.DeliverFault.TheVariants.{Store}
-use Rattle.relying.specs.Delivery.{IsReason, Says}
+use Rattle.relying.specs.Delivery.{IsAnswerTo, IsReason, Says}
 use Rattle.relying.specs.Restart.{FailsToRestart}
 use Rattle.relying_verdicts.specs.declared.fault.Fault.{Fault}
 
@@ -44,6 +44,15 @@ Runs accepts (Event.Restart ∷ events) answers start held = Runs accepts events
 Runs accepts (Event.Deliver issuer statement ∷ events) [] start held = ⊥
 Runs accepts (Event.Deliver issuer statement ∷ events) (answer ∷ answers) start held =
     (next : Holdings) × TakesDelivery accepts issuer statement start next answer × Runs accepts events answers next held
+
+-- one answer to each delivery in order, whatever the disk did
+abbrev pub AreAnswersTo : Accepts → List Event → List (Result Counts DeliverFault) → Type 0
+AreAnswersTo accepts [] [] = Unit {0}
+AreAnswersTo accepts [] (answer ∷ answers) = ⊥
+AreAnswersTo accepts (Event.Restart ∷ events) answers = AreAnswersTo accepts events answers
+AreAnswersTo accepts (Event.Deliver issuer statement ∷ events) [] = ⊥
+AreAnswersTo accepts (Event.Deliver issuer statement ∷ events) (answer ∷ answers) =
+    IsAnswerTo accepts issuer statement answer × AreAnswersTo accepts events answers
 
 -- What the store holds after a run is what the events make of what it held before: of each slot the newest of what was held and of
 -- what was taken.
@@ -74,6 +83,12 @@ pub record HasHappened (accepts : Accepts) (event : Event) (before after : List 
   pub added : List (Result Counts DeliverFault)
   pub after_is : after ≡ before ++ added
   pub ran : RanSoFar accepts (event ∷ []) added old new
+
+-- what was answered before, and the answer to one event, or none
+pub record AddsAnswer (accepts : Accepts) (event : Event) (before after : List (Result Counts DeliverFault)) : Type 0 where
+  pub added : List (Result Counts DeliverFault)
+  pub after_is : after ≡ before ++ added
+  pub answers : AreAnswersTo accepts (event ∷ []) added
 
 -- A restart that fails, behind so many events, which ran so.
 pub record StopsAt {D : Type 0} {g : Ghosts D} (accepts : Accepts) (events : List Event) (done : ℕ) (old : Held (FileStore D g)) (fault : Fault) : Type 0 where

@@ -9,6 +9,7 @@ ghost use Rattle.store_sql.specs.Statements.{IsDurable, CommitsNothing};
 ghost use Rattle.relying_agreement.specs.Comparison.{IsComparison};
 ghost use Rattle.relying.specs.Asking.{LooksAtBoth, LooksInsideBoth};
 ghost use Rattle.relying.specs.Never.{NeverDiffer};
+ghost use Rattle.relying.specs.View.{stored};
 ghost use Rattle.relying_verdicts.specs.View.{seen_query};
 
 use crate::node::Node;
@@ -30,7 +31,9 @@ fn compare_in_transactions<V: Verifier, S: Alter, D: Alter>(
     requires other_idle { other.old.in_transaction ≡ false }
     ensures idle { one.new.in_transaction ≡ false }
     ensures other_idle { other.new.in_transaction ≡ false }
-    ensures looks { HasCleanDisk (state S.Store one.new) → HasCleanDisk (state D.Store other.new) → LooksInsideBoth (state S.Store one.old) (state S.Store one.new) (state D.Store other.old) (state D.Store other.new) (λ held others. IsComparison (V.accepts verifier.now) (seen_query query.now) held others) result }
+    ensures looks { LooksInsideBoth (state S.Store one.old) (state S.Store one.new)
+        (state D.Store other.old) (state D.Store other.new)
+        (IsComparison (V.accepts verifier.now) (seen_query query.now)) result }
     ensures survives { CommitsNothing (state S.Store one.old) (state S.Store one.new) }
     ensures other_survives { CommitsNothing (state D.Store other.old) (state D.Store other.new) }
 {
@@ -54,7 +57,9 @@ fn compare_stores<V: Verifier, S: Alter, D: Alter>(
     requires other_idle { other.old.in_transaction ≡ false }
     ensures idle { one.new.in_transaction ≡ false }
     ensures other_idle { other.new.in_transaction ≡ false }
-    ensures looks { HasCleanDisk (state S.Store one.new) → HasCleanDisk (state D.Store other.new) → LooksAtBoth (state S.Store one.old) (state S.Store one.new) (state D.Store other.old) (state D.Store other.new) (λ held others. IsComparison (V.accepts verifier.now) (seen_query query.now) held others) result }
+    ensures looks { LooksAtBoth (state S.Store one.old) (state S.Store one.new)
+        (state D.Store other.old) (state D.Store other.new)
+        (IsComparison (V.accepts verifier.now) (seen_query query.now)) result }
     ensures settled { IsSettled (state S.Store one.old) × IsSettled (state S.Store one.new) }
     ensures other_settled { IsSettled (state D.Store other.old) × IsSettled (state D.Store other.new) }
     ensures durable { IsDurable (state S.Store one.new) }
@@ -82,7 +87,9 @@ fn compare_with_files<V: Verifier, S: Alter, D: Disk + Drop>(
     requires other_idle { other.old.in_transaction ≡ false }
     ensures idle { one.new.in_transaction ≡ false }
     ensures other_idle { other.new.in_transaction ≡ false }
-    ensures looks { HasCleanDisk (state S.Store one.new) → HasCleanDisk (file_state other.new) → LooksAtBoth (state S.Store one.old) (state S.Store one.new) (file_state other.old) (file_state other.new) (λ held others. IsComparison (V.accepts verifier.now) (seen_query query.now) held others) result }
+    ensures looks { LooksAtBoth (state S.Store one.old) (state S.Store one.new)
+        (file_state other.old) (file_state other.new)
+        (IsComparison (V.accepts verifier.now) (seen_query query.now)) result }
     ensures settled { IsSettled (state S.Store one.old) × IsSettled (state S.Store one.new) }
     ensures other_settled { IsSettled (file_state other.old) × IsSettled (file_state other.new) }
     ensures durable { IsDurable (state S.Store one.new) }
@@ -103,13 +110,18 @@ pub fn compare<V: Verifier + Drop, D: Disk + Drop>(
     query: &Query<'_>,
 ) -> Result<Comparison, Fault>
     requires one_relation { V.accepts one.old.verifier ≡ V.accepts other.old.verifier }
-    ensures verifiers { (one.new.verifier ≡ one.old.verifier) × (other.new.verifier ≡ other.old.verifier) }
-    ensures looks { HasCleanDisk (file_state one.new.store.conn) → HasCleanDisk (file_state other.new.store.conn) → LooksAtBoth (file_state one.old.store.conn) (file_state one.new.store.conn) (file_state other.old.store.conn) (file_state other.new.store.conn) (λ held others. IsComparison (V.accepts one.old.verifier) (seen_query query.now) held others) result }
-    ensures never { HasCleanDisk (file_state one.new.store.conn) → HasCleanDisk (file_state other.new.store.conn) → NeverDiffer (V.accepts one.old.verifier) (seen_query query.now) (file_state one.old.store.conn) (file_state other.old.store.conn) result }
-    ensures durable { IsDurable (file_state one.new.store.conn) }
-    ensures other_durable { IsDurable (file_state other.new.store.conn) }
-    ensures survives { CommitsNothing (file_state one.old.store.conn) (file_state one.new.store.conn) }
-    ensures other_survives { CommitsNothing (file_state other.old.store.conn) (file_state other.new.store.conn) }
+    ensures verifier { one.new.verifier ≡ one.old.verifier }
+    ensures other_verifier { other.new.verifier ≡ other.old.verifier }
+    ensures looks { LooksAtBoth (stored one.old) (stored one.new)
+        (stored other.old) (stored other.new)
+        (IsComparison (V.accepts one.old.verifier) (seen_query query.now)) result }
+    ensures never { HasCleanDisk (stored one.new) → HasCleanDisk (stored other.new)
+        → NeverDiffer (V.accepts one.old.verifier) (seen_query query.now)
+        (stored one.old) (stored other.old) result }
+    ensures durable { IsDurable (stored one.new) }
+    ensures other_durable { IsDurable (stored other.new) }
+    ensures survives { CommitsNothing (stored one.old) (stored one.new) }
+    ensures other_survives { CommitsNothing (stored other.old) (stored other.new) }
 {
     comparison_laws();
     compare_with_files(

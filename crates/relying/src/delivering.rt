@@ -1,12 +1,9 @@
 //! Statements that are delivered.
 
-ghost use Rattle.std.specs.Prelude.{◌≡◌, false, IsTrue};
+ghost use Rattle.std.specs.Prelude.{◌≡◌, false};
 ghost use Rattle.sqlite.specs.Held.{state};
-ghost use Rattle.sqlite.specs.State.{HasCleanDisk, Survives};
 ghost use Rattle.cert.specs.Certificate.{seen_certificate};
-ghost use Rattle.relying_agreement.specs.Run.{facts_or_none, genuine_facts};
-ghost use Rattle.store_taking.specs.Delivery.{CommitsWhole};
-ghost use Rattle.relying.specs.Delivery.{IsAnswered, IsAnsweredUnder};
+ghost use Rattle.relying.specs.Delivery.{AnswersDelivery, AnswersUnder, IsAnswerTo, IsAnswerUnder, MayCommitDelivery, MayCommitUnder};
 ghost use Rattle.statements.specs.OcspFact.{genuine_statement};
 
 use crate::fault::DeliverFault;
@@ -27,8 +24,15 @@ fn deliver_under<V: Verifier, S: Alter>(
     statement: &[u8],
 ) -> Result<Counts, DeliverFault>
     ensures idle { conn.old.in_transaction ≡ false → conn.new.in_transaction ≡ false }
-    ensures answered { HasCleanDisk (state S.Store conn.new) → IsAnsweredUnder (genuine_statement (V.accepts verifier.now) (seen_certificate issuer.now) statement.now) (state S.Store conn.old) (state S.Store conn.new) result }
-    ensures survives { Survives (state S.Store conn.old) (state S.Store conn.new) (CommitsWhole (state S.Store conn.old) (facts_or_none (genuine_statement (V.accepts verifier.now) (seen_certificate issuer.now) statement.now))) }
+    ensures reason { IsAnswerUnder
+        (genuine_statement (V.accepts verifier.now) (seen_certificate issuer.now) statement.now)
+        result }
+    ensures answered { AnswersUnder
+        (genuine_statement (V.accepts verifier.now) (seen_certificate issuer.now) statement.now)
+        (state S.Store conn.old) (state S.Store conn.new) result }
+    ensures survives { MayCommitUnder
+        (genuine_statement (V.accepts verifier.now) (seen_certificate issuer.now) statement.now)
+        (state S.Store conn.old) (state S.Store conn.new) result }
 {
     let facts = match genuine(alloc, verifier, issuer, statement) {
         Ok(facts) => facts,
@@ -49,8 +53,11 @@ pub(crate) fn deliver<V: Verifier, S: Alter>(
     statement: &[u8],
 ) -> Result<Counts, DeliverFault>
     ensures idle { conn.old.in_transaction ≡ false → conn.new.in_transaction ≡ false }
-    ensures answered { HasCleanDisk (state S.Store conn.new) → IsAnswered (V.accepts verifier.now) issuer.now statement.now (state S.Store conn.old) (state S.Store conn.new) result }
-    ensures survives { Survives (state S.Store conn.old) (state S.Store conn.new) (CommitsWhole (state S.Store conn.old) (genuine_facts (V.accepts verifier.now) issuer.now statement.now)) }
+    ensures reason { IsAnswerTo (V.accepts verifier.now) issuer.now statement.now result }
+    ensures answered { AnswersDelivery (V.accepts verifier.now) issuer.now statement.now
+        (state S.Store conn.old) (state S.Store conn.new) result }
+    ensures survives { MayCommitDelivery (V.accepts verifier.now) issuer.now statement.now
+        (state S.Store conn.old) (state S.Store conn.new) result }
 {
     match Certificate::read(alloc, issuer) {
         Ok(issuer) => deliver_under(alloc, verifier, conn, &issuer, statement),

@@ -1,11 +1,11 @@
 //! What reaches a relying party, one event after the other.
 
 ghost use Rattle.std.specs.Prelude.{◌≡◌, ◌≤◌, ◌<◌, ◌+◌, IfErr, IfOk, vec_capacity, vec_len};
-ghost use Rattle.sqlite.specs.Files.{file_state};
 ghost use Rattle.sqlite.specs.State.{HasCleanDisk};
 ghost use Rattle.relying_agreement.specs.Run.{Event as Happened};
-ghost use Rattle.relying.specs.Run.{HasHappened, seen_event};
+ghost use Rattle.relying.specs.Run.{AddsAnswer, HasHappened, seen_event};
 ghost use Rattle.relying.specs.Restart.{FailsToRestart};
+ghost use Rattle.relying.specs.View.{stored};
 
 use crate::fault::DeliverFault;
 use crate::node::Node;
@@ -37,8 +37,12 @@ fn take_delivery<V: Verifier + Drop, D: Disk + Drop>(
 )
     requires room { vec_len answers.old < vec_capacity answers.old }
     ensures verifier { node.new.verifier ≡ node.old.verifier }
-    ensures clean { HasCleanDisk (file_state node.new.store.conn) → HasCleanDisk (file_state node.old.store.conn) }
-    ensures happens { HasCleanDisk (file_state node.new.store.conn) → HasHappened (V.accepts node.old.verifier) (Happened.Deliver issuer.now statement.now) answers.old.items answers.new.items (file_state node.old.store.conn) (file_state node.new.store.conn) }
+    ensures clean { HasCleanDisk (stored node.new) → HasCleanDisk (stored node.old) }
+    ensures added { AddsAnswer (V.accepts node.old.verifier)
+        (Happened.Deliver issuer.now statement.now) answers.old.items answers.new.items }
+    ensures happens { HasCleanDisk (stored node.new) → HasHappened (V.accepts node.old.verifier)
+        (Happened.Deliver issuer.now statement.now) answers.old.items answers.new.items
+        (stored node.old) (stored node.new) }
     ensures capacity { vec_capacity answers.old ≤ vec_capacity answers.new }
     ensures len { vec_len answers.new ≡ vec_len answers.old + 1 }
 {
@@ -57,9 +61,14 @@ pub(crate) fn take_event<V: Verifier + Drop, D: Disk + Drop>(
 ) -> Result<Node<V, D>, Fault>
     requires room { vec_len answers.old < vec_capacity answers.old }
     ensures verifier { IfOk result (λ next. next.verifier ≡ node.verifier) }
-    ensures clean { IfOk result (λ next. HasCleanDisk (file_state next.store.conn) → HasCleanDisk (file_state node.store.conn)) }
-    ensures happens { IfOk result (λ next. HasCleanDisk (file_state next.store.conn) → HasHappened (V.accepts node.verifier) (seen_event event.now) answers.old.items answers.new.items (file_state node.store.conn) (file_state next.store.conn)) }
-    ensures fails { IfErr result (λ fault. (seen_event event.now ≡ Happened.Restart) × FailsToRestart node.store.conn fault) }
+    ensures clean { IfOk result (λ next. HasCleanDisk (stored next) → HasCleanDisk (stored node)) }
+    ensures added { IfOk result (λ next. AddsAnswer (V.accepts node.verifier)
+        (seen_event event.now) answers.old.items answers.new.items) }
+    ensures happens { IfOk result (λ next. HasCleanDisk (stored next)
+        → HasHappened (V.accepts node.verifier) (seen_event event.now)
+        answers.old.items answers.new.items (stored node) (stored next)) }
+    ensures fails { IfErr result (λ fault.
+        (seen_event event.now ≡ Happened.Restart) × FailsToRestart node.store.conn fault) }
     ensures capacity { vec_capacity answers.old ≤ vec_capacity answers.new }
     ensures len { vec_len answers.new ≤ vec_len answers.old + 1 }
 {

@@ -2,7 +2,6 @@
 
 ghost use Rattle.std.specs.Prelude.{◌≡◌, false};
 ghost use Rattle.sqlite.specs.Held.{state};
-ghost use Rattle.sqlite.specs.State.{HasCleanDisk};
 ghost use Rattle.store_adoption.specs.Creates.{IsSettled};
 ghost use Rattle.store_sql.specs.Statements.{IsDurable, CommitsNothing};
 ghost use Rattle.relying_agreement.specs.Verdict.{IsVerdict};
@@ -22,7 +21,8 @@ fn judge_in_transaction<V: Verifier, S: Alter>(
 ) -> Result<Verdict, Fault>
     requires idle { conn.old.in_transaction ≡ false }
     ensures idle { conn.new.in_transaction ≡ false }
-    ensures looks { HasCleanDisk (state S.Store conn.new) → LooksInside (state S.Store conn.old) (state S.Store conn.new) (λ held verdict. IsVerdict (V.accepts verifier.now) (seen_query query.now) held verdict) result }
+    ensures looks { LooksInside (state S.Store conn.old) (state S.Store conn.new)
+        (IsVerdict (V.accepts verifier.now) (seen_query query.now)) result }
     ensures survives { CommitsNothing (state S.Store conn.old) (state S.Store conn.new) }
 {
     let mut tx = conn.transaction();
@@ -41,7 +41,8 @@ pub(crate) fn judge<V: Verifier, S: Alter>(
 ) -> Result<Verdict, Fault>
     requires idle { conn.old.in_transaction ≡ false }
     ensures idle { conn.new.in_transaction ≡ false }
-    ensures looks { HasCleanDisk (state S.Store conn.new) → Looks (state S.Store conn.old) (state S.Store conn.new) (λ held verdict. IsVerdict (V.accepts verifier.now) (seen_query query.now) held verdict) result }
+    ensures looks { Looks (state S.Store conn.old) (state S.Store conn.new)
+        (IsVerdict (V.accepts verifier.now) (seen_query query.now)) result }
     ensures settled { IsSettled (state S.Store conn.old) × IsSettled (state S.Store conn.new) }
     ensures durable { IsDurable (state S.Store conn.new) }
     ensures survives { CommitsNothing (state S.Store conn.old) (state S.Store conn.new) }

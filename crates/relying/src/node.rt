@@ -1,16 +1,12 @@
 //! A relying party.
 
 ghost use Rattle.std.specs.Prelude.{◌≡◌, IfErr, IfOk};
-ghost use Rattle.sqlite.specs.Files.{file_state};
-ghost use Rattle.sqlite.specs.State.{HasCleanDisk, Survives};
 ghost use Rattle.store_sql.specs.Statements.{IsDurable, CommitsNothing};
-ghost use Rattle.relying_agreement.specs.Run.{genuine_facts};
 ghost use Rattle.relying_agreement.specs.Verdict.{IsVerdict};
-ghost use Rattle.store.specs.Adopts.{Restarts};
-ghost use Rattle.store_taking.specs.Delivery.{CommitsWhole};
 ghost use Rattle.relying.specs.Asking.{Looks};
-ghost use Rattle.relying.specs.Delivery.{IsAnswered};
-ghost use Rattle.relying.specs.Restart.{FailsToRestart};
+ghost use Rattle.relying.specs.Delivery.{AnswersDelivery, IsAnswerTo, MayCommitDelivery};
+ghost use Rattle.relying.specs.Restart.{FailsToRestart, HasRestarted};
+ghost use Rattle.relying.specs.View.{stored};
 ghost use Rattle.relying_verdicts.specs.View.{seen_query};
 
 use crate::delivering::deliver;
@@ -65,8 +61,11 @@ impl<V: Verifier + Drop, D: Disk + Drop> Node<V, D> {
         statement: &[u8],
     ) -> Result<Counts, DeliverFault>
         ensures verifier { self.new.verifier ≡ self.old.verifier }
-        ensures answered { HasCleanDisk (file_state self.new.store.conn) → IsAnswered (V.accepts self.old.verifier) issuer.now statement.now (file_state self.old.store.conn) (file_state self.new.store.conn) result }
-        ensures survives { Survives (file_state self.old.store.conn) (file_state self.new.store.conn) (CommitsWhole (file_state self.old.store.conn) (genuine_facts (V.accepts self.old.verifier) issuer.now statement.now)) }
+        ensures reason { IsAnswerTo (V.accepts self.old.verifier) issuer.now statement.now result }
+        ensures answered { AnswersDelivery (V.accepts self.old.verifier) issuer.now statement.now
+            (stored self.old) (stored self.new) result }
+        ensures survives { MayCommitDelivery (V.accepts self.old.verifier) issuer.now statement.now
+            (stored self.old) (stored self.new) result }
     {
         deliver(
             alloc,
@@ -80,9 +79,10 @@ impl<V: Verifier + Drop, D: Disk + Drop> Node<V, D> {
     /// The verdict on a path by what is held. Where the path does not meet the conditions on it, the store is not asked.
     pub fn verdict(&mut self, alloc: Global, query: &Query<'_>) -> Result<Verdict, Fault>
         ensures verifier { self.new.verifier ≡ self.old.verifier }
-        ensures looks { HasCleanDisk (file_state self.new.store.conn) → Looks (file_state self.old.store.conn) (file_state self.new.store.conn) (λ held verdict. IsVerdict (V.accepts self.old.verifier) (seen_query query.now) held verdict) result }
-        ensures durable { IsDurable (file_state self.new.store.conn) }
-        ensures survives { CommitsNothing (file_state self.old.store.conn) (file_state self.new.store.conn) }
+        ensures looks { Looks (stored self.old) (stored self.new)
+            (IsVerdict (V.accepts self.old.verifier) (seen_query query.now)) result }
+        ensures durable { IsDurable (stored self.new) }
+        ensures survives { CommitsNothing (stored self.old) (stored self.new) }
     {
         judge(alloc, &self.verifier, &mut self.store.conn, query)
     }
@@ -91,8 +91,8 @@ impl<V: Verifier + Drop, D: Disk + Drop> Node<V, D> {
     /// the store anew.
     pub fn restart(self, alloc: Global) -> Result<Node<V, D>, Fault>
         ensures verifier { IfOk result (λ node. node.verifier ≡ self.verifier) }
-        ensures restarts { IfOk result (λ node. HasCleanDisk (file_state node.store.conn) → Restarts (file_state self.store.conn) (file_state node.store.conn)) }
-        ensures durable { IfOk result (λ node. IsDurable (file_state node.store.conn)) }
+        ensures restarts { IfOk result (HasRestarted self) }
+        ensures durable { IfOk result (λ node. IsDurable (stored node)) }
         ensures fails { IfErr result (FailsToRestart self.store.conn) }
     {
         let Node { verifier, store } = self;

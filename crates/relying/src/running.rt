@@ -1,10 +1,10 @@
 //! Runs of events.
 
 ghost use Rattle.std.specs.Prelude.{◌≡◌, ◌≤◌, [], IfErr, IfOk, length, map, vec_capacity};
-ghost use Rattle.sqlite.specs.Files.{file_state};
 ghost use Rattle.sqlite.specs.State.{HasCleanDisk};
-ghost use Rattle.relying.specs.Run.{Ran, RunsAreRuns, StopsAt, seen_event};
+ghost use Rattle.relying.specs.Run.{AreAnswersTo, Ran, RunsAreRuns, StopsAt, seen_event};
 ghost use Rattle.relying.specs.Stopping.{RunFails};
+ghost use Rattle.relying.specs.View.{stored};
 
 use crate::events::{Answer, Event, take_event};
 use crate::fault::RunFault;
@@ -24,9 +24,14 @@ fn run_all<V: Verifier + Drop, D: Disk + Drop>(
     requires none { answers.old.items ≡ [] }
     requires room { length events.now ≤ vec_capacity answers.old }
     ensures verifier { IfOk result (λ last. last.verifier ≡ node.verifier) }
-    ensures clean { IfOk result (λ last. HasCleanDisk (file_state last.store.conn) → HasCleanDisk (file_state node.store.conn)) }
-    ensures ran { IfOk result (λ last. HasCleanDisk (file_state last.store.conn) → Ran (V.accepts node.verifier) (map seen_event events.now) answers.new.items (file_state node.store.conn) (file_state last.store.conn)) }
-    ensures stops { IfErr result (λ stop. StopsAt (V.accepts node.verifier) (map seen_event events.now) stop.0 node.store.conn stop.1) }
+    ensures clean { IfOk result (λ last. HasCleanDisk (stored last) → HasCleanDisk (stored node)) }
+    ensures answers { IfOk result (λ last.
+        AreAnswersTo (V.accepts node.verifier) (map seen_event events.now) answers.new.items) }
+    ensures ran { IfOk result (λ last. HasCleanDisk (stored last)
+        → Ran (V.accepts node.verifier) (map seen_event events.now) answers.new.items
+        (stored node) (stored last)) }
+    ensures stops { IfErr result (λ stop. StopsAt (V.accepts node.verifier)
+        (map seen_event events.now) stop.0 node.store.conn stop.1) }
 {
     let mut node = node;
     for (index, event) in events.iter().enumerate() {
@@ -47,9 +52,15 @@ impl<V: Verifier + Drop, D: Disk + Drop> Node<V, D> {
         events: &[Event<'_>],
     ) -> Result<(Node<V, D>, Vec<Answer>), RunFault<V, D>>
         ensures verifier { IfOk result (λ run. run.0.verifier ≡ self.verifier) }
-        ensures clean { IfOk result (λ run. HasCleanDisk (file_state run.0.store.conn) → HasCleanDisk (file_state self.store.conn)) }
-        ensures ran { IfOk result (λ run. HasCleanDisk (file_state run.0.store.conn) → Ran (V.accepts self.verifier) (map seen_event events.now) run.1.items (file_state self.store.conn) (file_state run.0.store.conn)) }
-        ensures stops { IfErr result (RunFails (V.accepts self.verifier) self (map seen_event events.now)) }
+        ensures clean { IfOk result (λ run.
+            HasCleanDisk (stored run.0) → HasCleanDisk (stored self)) }
+        ensures answers { IfOk result (λ run.
+            AreAnswersTo (V.accepts self.verifier) (map seen_event events.now) run.1.items) }
+        ensures ran { IfOk result (λ run. HasCleanDisk (stored run.0)
+            → Ran (V.accepts self.verifier) (map seen_event events.now) run.1.items
+            (stored self) (stored run.0)) }
+        ensures stops { IfErr result
+            (RunFails (V.accepts self.verifier) self (map seen_event events.now)) }
     {
         let mut answers = match Vec::with_capacity(alloc, events.len()) {
             Ok(answers) => answers,

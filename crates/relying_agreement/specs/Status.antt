@@ -102,12 +102,14 @@ deciding_reason moment it =
     option_or (crl_reason moment it.may_sign_crls it.answers.all)
     (option_or (crl_reason moment it.may_sign_crls it.answers.own) (ocsp_reason moment it.answers.ocsp))
 
+abbrev pub has_good_response : ℤ → Option OcspFact → Bool
+has_good_response moment response = is_some (kept_if (λ counted. is_good counted.status) (ocsp_that_counts moment response))
+
 -- a list counts, or a response that says good does
 abbrev pub is_covered_by : ℤ → Evidence → Bool
 is_covered_by moment it =
     is_some (crl_that_counts moment it.may_sign_crls it.answers.all)
-    || (is_some (crl_that_counts moment it.may_sign_crls it.answers.own)
-    || is_some (kept_if (λ response. is_good response.status) (ocsp_that_counts moment it.answers.ocsp)))
+    || (is_some (crl_that_counts moment it.may_sign_crls it.answers.own) || has_good_response moment it.answers.ocsp)
 
 -- ---- the same in words
 

@@ -11,7 +11,7 @@ use Rattle.store_maps.specs.Held.{IsStoreOf}
 use Rattle.store_maps.specs.LooksUp.{IsFoundIn, FailsIn}
 use Rattle.relying_verdicts.specs.declared.fault.Fault.{Fault}
 use Rattle.relying_verdicts.specs.declared.fault.Fault.TheVariants.{Store, Memory}
-use Rattle.relying_verdicts.specs.Asking.{AskFails, IsFoundInBoth, GivesUpBoth, AsksBoth}
+use Rattle.relying_verdicts.specs.Asking.{AskFails, IsFoundInBoth, AskOfBothFails, HasAskedBoth}
 
 pub keeps_itself : (s : State) → KeepsCommit s s
 keeps_itself s = record { was_open = λ is. is; committed = λ is. refl }
@@ -60,12 +60,12 @@ gives_up_then old mid new P a Memory one two = keeps_then old mid new one.keeps 
 -- ---- two stores
 
 -- the first fails, and the other was not asked
-pub first_fails : (old new other : State) (fault : Fault) → AskFails old new fault → GivesUpBoth old new other other fault
+pub first_fails : (old new other : State) (fault : Fault) → AskFails old new fault → AskOfBothFails old new other other fault
 first_fails old new other (Store fault) is = record { keeps = is.keeps; other_keeps = keeps_itself other; formed = λ e one others store stores. is.formed e one store }
 first_fails old new other Memory is = (is, keeps_itself other)
 
 -- the first is asked, and the other fails
-pub other_fails : {A : Type 0} (old new other_old other_new : State) (P : Holdings → A → Type 0) (a : A) (fault : Fault) → IsFoundIn old new P a → AskFails other_old other_new fault → GivesUpBoth old new other_old other_new fault
+pub other_fails : {A : Type 0} (old new other_old other_new : State) (P : Holdings → A → Type 0) (a : A) (fault : Fault) → IsFoundIn old new P a → AskFails other_old other_new fault → AskOfBothFails old new other_old other_new fault
 other_fails old new other_old other_new P a (Store fault) one is = record { keeps = one.keeps; other_keeps = is.keeps; formed = λ e held others store stores. is.formed e others stores }
 other_fails old new other_old other_new P a Memory one is = (one.keeps, is)
 
@@ -84,7 +84,7 @@ both_found old new other_old other_new P a Q b R c first second leads = record {
 
 -- an answer of both that says something else of what they hold
 pub both_as : {A : Type 0} (old new other_old other_new : State) (P : Holdings → Holdings → A → Type 0) (R : Holdings → Holdings → A → Type 0) (result : Result A Fault)
-    → AsksBoth old new other_old other_new P result → ((one other : Holdings) (a : A) → P one other a → R one other a) → AsksBoth old new other_old other_new R result
+    → HasAskedBoth old new other_old other_new P result → ((one other : Holdings) (a : A) → P one other a → R one other a) → HasAskedBoth old new other_old other_new R result
 both_as old new other_old other_new P R (Ok a) is leads = record {
   keeps = is.keeps;
   other_keeps = is.other_keeps;

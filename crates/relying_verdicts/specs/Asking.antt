@@ -1,9 +1,12 @@
 -- What a call does that looks up in stores, inside their transactions, and may also want memory.
 use Rattle.std.specs.Prelude.{◌≡◌, Result, Ok, Err, IsTrue}
-use Rattle.sqlite.specs.State.{State, KeepsCommit}
+use Rattle.sqlite.specs.State.{State, HasCleanDisk, KeepsCommit}
+use Rattle.sqlite.specs.declared.transaction.Transaction.{Transaction}
+use Rattle.sqlite_trees.specs.declared.store.Store.{Ghosts}
 use Rattle.statements_facts.specs.Statement.{Holdings}
 use Rattle.store_sql.specs.declared.fault.StoreFault.{StoreFault}
 use Rattle.store_sql.specs.declared.fault.StoreFault.TheVariants as table
+use Rattle.store_sql.specs.Inside.{inside}
 use Rattle.store_rows.specs.Steps.{Stays}
 use Rattle.store_maps.specs.Held.{IsStoreOf}
 use Rattle.store_maps.specs.LooksUp.{IsFoundIn, FailsIn}
@@ -16,9 +19,13 @@ AskFails old new (Store fault) = FailsIn old new fault
 AskFails old new Memory = KeepsCommit old new
 
 -- what is found is said of what is held, and all is as it was
-abbrev pub Asks : {A : Type 0} → State → State → (Holdings → A → Type 0) → Result A Fault → Type 0
-Asks old new Is (Ok found) = IsFoundIn old new Is found
-Asks old new Is (Err fault) = AskFails old new fault
+abbrev pub HasAsked : {A : Type 0} → State → State → (Holdings → A → Type 0) → Result A Fault → Type 0
+HasAsked old new Is (Ok found) = IsFoundIn old new Is found
+HasAsked old new Is (Err fault) = AskFails old new fault
+
+-- the same of a call on a transaction, if the disk returned what was written
+abbrev pub AsksStore : {S A : Type 0} → Ghosts S → Transaction S → Transaction S → (Holdings → A → Type 0) → Result A Fault → Type 0
+AsksStore g old new Is result = HasCleanDisk (inside g new) → HasAsked (inside g old) (inside g new) Is result
 
 -- ---- of two stores
 
@@ -38,10 +45,15 @@ pub record FailsInEither (old new other_old other_new : State) (fault : StoreFau
   pub other_keeps : KeepsCommit other_old other_new
   pub formed : fault ≡ table.Schema → (one other : Holdings) → IsStoreOf old.now one → IsStoreOf other_old.now other → ⊥
 
-abbrev pub GivesUpBoth : State → State → State → State → Fault → Type 0
-GivesUpBoth old new other_old other_new (Store fault) = FailsInEither old new other_old other_new fault
-GivesUpBoth old new other_old other_new Memory = KeepsCommit old new × KeepsCommit other_old other_new
+abbrev pub AskOfBothFails : State → State → State → State → Fault → Type 0
+AskOfBothFails old new other_old other_new (Store fault) = FailsInEither old new other_old other_new fault
+AskOfBothFails old new other_old other_new Memory = KeepsCommit old new × KeepsCommit other_old other_new
 
-abbrev pub AsksBoth : {A : Type 0} → State → State → State → State → (Holdings → Holdings → A → Type 0) → Result A Fault → Type 0
-AsksBoth old new other_old other_new Is (Ok found) = IsFoundInBoth old new other_old other_new Is found
-AsksBoth old new other_old other_new Is (Err fault) = GivesUpBoth old new other_old other_new fault
+abbrev pub HasAskedBoth : {A : Type 0} → State → State → State → State → (Holdings → Holdings → A → Type 0) → Result A Fault → Type 0
+HasAskedBoth old new other_old other_new Is (Ok found) = IsFoundInBoth old new other_old other_new Is found
+HasAskedBoth old new other_old other_new Is (Err fault) = AskOfBothFails old new other_old other_new fault
+
+abbrev pub AsksStores : {S D A : Type 0} → Ghosts S → Transaction S → Transaction S → Ghosts D → Transaction D → Transaction D → (Holdings → Holdings → A → Type 0) → Result A Fault → Type 0
+AsksStores g old new h other_old other_new Is result =
+    HasCleanDisk (inside g new) → HasCleanDisk (inside h other_new) →
+    HasAskedBoth (inside g old) (inside g new) (inside h other_old) (inside h other_new) Is result

@@ -1,6 +1,7 @@
 pub mod View
 pub mod Reading
 pub mod Asking
+pub mod Found
 pub mod Difference
 pub use Rattle.relying_agreement.specs.Verdict
 pub use Rattle.relying_agreement.specs.Comparison

@@ -1,14 +1,13 @@
 //! The comparison of two relying parties.
 
 ghost use Rattle.std.specs.Prelude.{◌≡◌, ◌↔◌, IsTrue, length, map, option_map};
-ghost use Rattle.sqlite.specs.Held.{state};
-ghost use Rattle.sqlite.specs.State.{HasCleanDisk};
 ghost use Rattle.store_rows.specs.Seen.{seen_held_status};
+ghost use Rattle.store_sql.specs.Inside.{IsInside, inside};
 ghost use Rattle.store_sql.specs.Statements.{CommitsNothing};
 ghost use Rattle.relying_agreement.specs.Comparison.{IsComparison};
-ghost use Rattle.relying_agreement.specs.Verdict.{evidence_on};
-ghost use Rattle.relying_verdicts.specs.Asking.{AsksBoth};
+ghost use Rattle.relying_verdicts.specs.Asking.{AsksStores};
 ghost use Rattle.relying_verdicts.specs.Difference.{ComparesEvidence, IsFirstApart};
+ghost use Rattle.relying_verdicts.specs.Found.{ComparesHeld};
 ghost use Rattle.relying_verdicts.specs.View.{seen_answers, seen_evidence, seen_query};
 ghost use Rattle.store_maps.specs.Held.{seen_crl};
 
@@ -53,7 +52,8 @@ fn same_said(one: &HeldStatus, other: &HeldStatus) -> bool
 
 /// Whether nothing is held twice, or two responses that say the same.
 fn same_responses(one: Option<HeldStatus>, other: Option<HeldStatus>) -> bool
-    ensures { IsTrue result ↔ (option_map seen_held_status one ≡ option_map seen_held_status other) }
+    ensures { IsTrue result
+        ↔ (option_map seen_held_status one ≡ option_map seen_held_status other) }
 {
     match (one, other) {
         (None, None) => true,
@@ -94,7 +94,8 @@ fn first_apart(one: &[Evidence], other: &[Evidence]) -> Option<usize>
 /// The comparison of the verdicts on a path that meets all conditions.
 fn compare_evidence(one: &[Evidence], other: &[Evidence], moment: i64) -> Comparison
     requires { length one.now ≡ length other.now }
-    ensures { ComparesEvidence moment (map seen_evidence one.now) (map seen_evidence other.now) result }
+    ensures { ComparesEvidence moment
+        (map seen_evidence one.now) (map seen_evidence other.now) result }
 {
     let verdict = verdict_by(one, moment);
     let Some(number) = first_apart(one, other) else {
@@ -111,7 +112,8 @@ fn compare_evidence(one: &[Evidence], other: &[Evidence], moment: i64) -> Compar
 /// The same at the moment that is asked for.
 fn compare_at(query: &Query<'_>, one: &[Evidence], other: &[Evidence]) -> Comparison
     requires { length one.now ≡ length other.now }
-    ensures { ComparesEvidence (seen_query query.now).moment (map seen_evidence one.now) (map seen_evidence other.now) result }
+    ensures { ComparesEvidence (seen_query query.now).moment
+        (map seen_evidence one.now) (map seen_evidence other.now) result }
 {
     let moment = query.moment;
     compare_evidence(one, other, moment)
@@ -124,13 +126,14 @@ fn compare_held<S: Alter, D: Alter>(
     other: &mut Transaction<'_, D>,
     query: &Query<'_>,
 ) -> Result<Comparison, Fault>
-    requires inside { HasCleanDisk (state S.Store one.old.conn.now) → IsTrue (state S.Store one.old.conn.now).in_transaction }
-    requires other_inside { HasCleanDisk (state D.Store other.old.conn.now) → IsTrue (state D.Store other.old.conn.now).in_transaction }
+    requires inside { IsInside S.Store one.old }
+    requires other_inside { IsInside D.Store other.old }
     ensures same_reference { one.new.conn.ghost_name ≡ one.old.conn.ghost_name }
     ensures other_reference { other.new.conn.ghost_name ≡ other.old.conn.ghost_name }
-    ensures asks { HasCleanDisk (state S.Store one.new.conn.now) → HasCleanDisk (state D.Store other.new.conn.now) → AsksBoth (state S.Store one.old.conn.now) (state S.Store one.new.conn.now) (state D.Store other.old.conn.now) (state D.Store other.new.conn.now) (λ held others answer. ComparesEvidence (seen_query query.now).moment (evidence_on held (seen_query query.now)) (evidence_on others (seen_query query.now)) answer) result }
-    ensures survives { CommitsNothing (state S.Store one.old.conn.now) (state S.Store one.new.conn.now) }
-    ensures other_survives { CommitsNothing (state D.Store other.old.conn.now) (state D.Store other.new.conn.now) }
+    ensures asks { AsksStores S.Store one.old one.new D.Store other.old other.new
+        (ComparesHeld (seen_query query.now)) result }
+    ensures survives { CommitsNothing (inside S.Store one.old) (inside S.Store one.new) }
+    ensures other_survives { CommitsNothing (inside D.Store other.old) (inside D.Store other.new) }
 {
     let held = match evidence_on(alloc, one, query) {
         Ok(held) => held,
@@ -151,13 +154,14 @@ pub fn compare<V: Verifier, S: Alter, D: Alter>(
     other: &mut Transaction<'_, D>,
     query: &Query<'_>,
 ) -> Result<Comparison, Fault>
-    requires inside { HasCleanDisk (state S.Store one.old.conn.now) → IsTrue (state S.Store one.old.conn.now).in_transaction }
-    requires other_inside { HasCleanDisk (state D.Store other.old.conn.now) → IsTrue (state D.Store other.old.conn.now).in_transaction }
+    requires inside { IsInside S.Store one.old }
+    requires other_inside { IsInside D.Store other.old }
     ensures same_reference { one.new.conn.ghost_name ≡ one.old.conn.ghost_name }
     ensures other_reference { other.new.conn.ghost_name ≡ other.old.conn.ghost_name }
-    ensures asks { HasCleanDisk (state S.Store one.new.conn.now) → HasCleanDisk (state D.Store other.new.conn.now) → AsksBoth (state S.Store one.old.conn.now) (state S.Store one.new.conn.now) (state D.Store other.old.conn.now) (state D.Store other.new.conn.now) (λ held others. IsComparison (V.accepts verifier.now) (seen_query query.now) held others) result }
-    ensures survives { CommitsNothing (state S.Store one.old.conn.now) (state S.Store one.new.conn.now) }
-    ensures other_survives { CommitsNothing (state D.Store other.old.conn.now) (state D.Store other.new.conn.now) }
+    ensures asks { AsksStores S.Store one.old one.new D.Store other.old other.new
+        (IsComparison (V.accepts verifier.now) (seen_query query.now)) result }
+    ensures survives { CommitsNothing (inside S.Store one.old) (inside S.Store one.new) }
+    ensures other_survives { CommitsNothing (inside D.Store other.old) (inside D.Store other.new) }
 {
     let outcome = match outcome_of(alloc, verifier, query) {
         Ok(outcome) => outcome,

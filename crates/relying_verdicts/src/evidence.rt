@@ -1,7 +1,7 @@
 //! What bears on a certificate of a path, and what it says (RFC 5280, 6.3.3; RFC 6960, 2.2).
 
 ghost use Rattle.std.specs.Prelude.{◌≡◌, ◌&&◌, is_some, map, option_map};
-ghost use Rattle.relying_agreement.specs.Status.{crl_that_counts, is_covered_by, is_current, is_good, kept_if, crl_reason, ocsp_that_counts, deciding_reason, reason_of_status, ocsp_reason};
+ghost use Rattle.relying_agreement.specs.Status.{crl_reason, crl_that_counts, deciding_reason, has_good_response, is_covered_by, is_current, is_good, kept_if, ocsp_reason, ocsp_that_counts, reason_of_status};
 ghost use Rattle.relying_agreement.specs.Verdict.{first_revoked, first_uncovered, verdict_by};
 ghost use Rattle.store_rows.specs.Seen.{seen_held_status};
 ghost use Rattle.relying_verdicts.specs.View.{seen_evidence};
@@ -111,7 +111,7 @@ fn is_good(status: Status) -> bool
 
 /// Whether there is a response that counts and says good.
 fn has_good_response(said: Option<HeldStatus>, moment: i64) -> bool
-    ensures { result ≡ is_some (kept_if (λ response. is_good response.status) (ocsp_that_counts moment (option_map seen_held_status said))) }
+    ensures { result ≡ has_good_response moment (option_map seen_held_status said) }
 {
     match said {
         None => false,

@@ -1,12 +1,11 @@
 //! The verdict on a path.
 
 ghost use Rattle.std.specs.Prelude.{◌≡◌, IfOk, IsTrue, map};
-ghost use Rattle.sqlite.specs.Held.{state};
-ghost use Rattle.sqlite.specs.State.{HasCleanDisk};
+ghost use Rattle.store_sql.specs.Inside.{IsInside, inside};
 ghost use Rattle.store_sql.specs.Statements.{CommitsNothing};
 ghost use Rattle.path.specs.Validity.{IsOutcome};
 ghost use Rattle.relying_agreement.specs.Verdict.{IsVerdict, verdict_by};
-ghost use Rattle.relying_verdicts.specs.Asking.{Asks};
+ghost use Rattle.relying_verdicts.specs.Asking.{AsksStore};
 ghost use Rattle.relying_verdicts.specs.View.{seen_evidence, seen_query};
 
 use crate::evidence::{Evidence, verdict_by};
@@ -24,7 +23,7 @@ pub(crate) fn outcome_of<V: Verifier>(
     verifier: &V,
     query: &Query<'_>,
 ) -> Result<Outcome, AllocError>
-    ensures { IfOk result (λ outcome. IsOutcome (V.accepts verifier.now) (seen_query query.now) outcome) }
+    ensures { IfOk result (IsOutcome (V.accepts verifier.now) (seen_query query.now)) }
 {
     let moment = query.moment;
     let path = query.path.as_slice();
@@ -47,10 +46,11 @@ pub fn verdict<V: Verifier, S: Alter>(
     tx: &mut Transaction<'_, S>,
     query: &Query<'_>,
 ) -> Result<Verdict, Fault>
-    requires inside { HasCleanDisk (state S.Store tx.old.conn.now) → IsTrue (state S.Store tx.old.conn.now).in_transaction }
+    requires inside { IsInside S.Store tx.old }
     ensures same_reference { tx.new.conn.ghost_name ≡ tx.old.conn.ghost_name }
-    ensures asks { HasCleanDisk (state S.Store tx.new.conn.now) → Asks (state S.Store tx.old.conn.now) (state S.Store tx.new.conn.now) (λ held verdict. IsVerdict (V.accepts verifier.now) (seen_query query.now) held verdict) result }
-    ensures survives { CommitsNothing (state S.Store tx.old.conn.now) (state S.Store tx.new.conn.now) }
+    ensures asks { AsksStore S.Store tx.old tx.new
+        (IsVerdict (V.accepts verifier.now) (seen_query query.now)) result }
+    ensures survives { CommitsNothing (inside S.Store tx.old) (inside S.Store tx.new) }
 {
     let outcome = match outcome_of(alloc, verifier, query) {
         Ok(outcome) => outcome,

@@ -1,18 +1,17 @@
 //! What a store holds of the certificates of a path.
 
-ghost use Rattle.std.specs.Prelude.{◌≡◌, IsTrue, IfOk, length, map, option_map, vec_len};
-ghost use Rattle.sqlite.specs.Held.{state};
-ghost use Rattle.sqlite.specs.State.{HasCleanDisk};
+ghost use Rattle.std.specs.Prelude.{◌≡◌, IsTrue, IfOk, length, map, vec_len};
 ghost use Rattle.cert.specs.Certificate.{seen_certificate};
 ghost use Rattle.statements_facts.specs.Fact.{issuer_of as seen_issuer};
+ghost use Rattle.store_sql.specs.Inside.{IsInside, inside};
 ghost use Rattle.store_sql.specs.Statements.{CommitsNothing};
-ghost use Rattle.store_maps.specs.LooksUp.{LooksUp};
+ghost use Rattle.store_maps.specs.LooksUp.{LooksUpInside};
 ghost use Rattle.relying_agreement.specs.Link.{own_scope};
-ghost use Rattle.relying_agreement.specs.Status.{may_sign_crls, evidence_of, list_held, answers_held};
+ghost use Rattle.relying_agreement.specs.Status.{may_sign_crls, evidence_of};
 ghost use Rattle.relying_agreement.specs.Verdict.{evidence_on};
-ghost use Rattle.relying_verdicts.specs.Asking.{Asks};
-ghost use Rattle.relying_verdicts.specs.View.{seen_answers, seen_evidence, seen_link, seen_query};
-ghost use Rattle.store_maps.specs.Held.{seen_crl};
+ghost use Rattle.relying_verdicts.specs.Asking.{AsksStore};
+ghost use Rattle.relying_verdicts.specs.Found.{AreAnswersHeld, AreListsHeld};
+ghost use Rattle.relying_verdicts.specs.View.{seen_evidence, seen_link, seen_query};
 
 use crate::evidence::{Answers, Evidence};
 use crate::fault::Fault;
@@ -73,10 +72,11 @@ fn look_up_lists<S: Alter>(
     kind: Scope,
     serial: &[u8],
 ) -> Result<(Option<HeldCrl>, Option<HeldCrl>), StoreFault>
-    requires inside { HasCleanDisk (state S.Store tx.old.conn.now) → IsTrue (state S.Store tx.old.conn.now).in_transaction }
+    requires inside { IsInside S.Store tx.old }
     ensures same_reference { tx.new.conn.ghost_name ≡ tx.old.conn.ghost_name }
-    ensures looks_up { HasCleanDisk (state S.Store tx.new.conn.now) → LooksUp (state S.Store tx.old.conn.now) (state S.Store tx.new.conn.now) (λ held both. (option_map seen_crl both.0 ≡ list_held held (seen_issuer issuer.now) Scope.All serial.now) × (option_map seen_crl both.1 ≡ list_held held (seen_issuer issuer.now) kind serial.now)) result }
-    ensures survives { CommitsNothing (state S.Store tx.old.conn.now) (state S.Store tx.new.conn.now) }
+    ensures looks_up { LooksUpInside S.Store tx.old tx.new
+        (AreListsHeld (seen_issuer issuer.now) kind serial.now) result }
+    ensures survives { CommitsNothing (inside S.Store tx.old) (inside S.Store tx.new) }
 {
     let all = match crl(tx, issuer, Scope::All, serial) {
         Ok(all) => all,
@@ -94,10 +94,11 @@ fn look_up<S: Alter>(
     issuer: &Issuer<'_>,
     certificate: &Certificate<'_>,
 ) -> Result<Answers, StoreFault>
-    requires inside { HasCleanDisk (state S.Store tx.old.conn.now) → IsTrue (state S.Store tx.old.conn.now).in_transaction }
+    requires inside { IsInside S.Store tx.old }
     ensures same_reference { tx.new.conn.ghost_name ≡ tx.old.conn.ghost_name }
-    ensures looks_up { HasCleanDisk (state S.Store tx.new.conn.now) → LooksUp (state S.Store tx.old.conn.now) (state S.Store tx.new.conn.now) (λ held answers. seen_answers answers ≡ answers_held held (seen_issuer issuer.now) (seen_certificate certificate.now)) result }
-    ensures survives { CommitsNothing (state S.Store tx.old.conn.now) (state S.Store tx.new.conn.now) }
+    ensures looks_up { LooksUpInside S.Store tx.old tx.new
+        (AreAnswersHeld (seen_issuer issuer.now) (seen_certificate certificate.now)) result }
+    ensures survives { CommitsNothing (inside S.Store tx.old) (inside S.Store tx.new) }
 {
     let kind = own_scope(certificate);
     let (all, own) = match look_up_lists(tx, issuer, kind, certificate.serial.body) {
@@ -117,10 +118,11 @@ fn evidence_of<S: Alter>(
     tx: &mut Transaction<'_, S>,
     link: &Link<'_, '_>,
 ) -> Result<Evidence, Fault>
-    requires inside { HasCleanDisk (state S.Store tx.old.conn.now) → IsTrue (state S.Store tx.old.conn.now).in_transaction }
+    requires inside { IsInside S.Store tx.old }
     ensures same_reference { tx.new.conn.ghost_name ≡ tx.old.conn.ghost_name }
-    ensures asks { HasCleanDisk (state S.Store tx.new.conn.now) → Asks (state S.Store tx.old.conn.now) (state S.Store tx.new.conn.now) (λ held it. seen_evidence it ≡ evidence_of held (seen_link link.now)) result }
-    ensures survives { CommitsNothing (state S.Store tx.old.conn.now) (state S.Store tx.new.conn.now) }
+    ensures asks { AsksStore S.Store tx.old tx.new
+        (λ held it. seen_evidence it ≡ evidence_of held (seen_link link.now)) result }
+    ensures survives { CommitsNothing (inside S.Store tx.old) (inside S.Store tx.new) }
 {
     let issuer = match issuer_of(alloc, link.issuer) {
         Ok(issuer) => issuer,
@@ -142,11 +144,12 @@ pub(crate) fn evidence_on<S: Alter>(
     tx: &mut Transaction<'_, S>,
     query: &Query<'_>,
 ) -> Result<Vec<Evidence>, Fault>
-    requires inside { HasCleanDisk (state S.Store tx.old.conn.now) → IsTrue (state S.Store tx.old.conn.now).in_transaction }
+    requires inside { IsInside S.Store tx.old }
     ensures same_reference { tx.new.conn.ghost_name ≡ tx.old.conn.ghost_name }
     ensures count { IfOk result (λ all. vec_len all ≡ vec_len query.now.path) }
-    ensures asks { HasCleanDisk (state S.Store tx.new.conn.now) → Asks (state S.Store tx.old.conn.now) (state S.Store tx.new.conn.now) (λ held all. map seen_evidence all.items ≡ evidence_on held (seen_query query.now)) result }
-    ensures survives { CommitsNothing (state S.Store tx.old.conn.now) (state S.Store tx.new.conn.now) }
+    ensures asks { AsksStore S.Store tx.old tx.new
+        (λ held all. map seen_evidence all.items ≡ evidence_on held (seen_query query.now)) result }
+    ensures survives { CommitsNothing (inside S.Store tx.old) (inside S.Store tx.new) }
 {
     let mut all = Vec::new(alloc);
     let mut issuer = &query.anchor;

@@ -31,8 +31,10 @@ fn read_path<'a>(
     alloc: Global,
     path: &[&'a [u8]],
 ) -> Result<Vec<Certificate<'a>>, (usize, CertFault)>
-    ensures read { IfOk result (λ read. map certificate (texts_of path.now) ≡ map (λ c. Ok (seen_certificate c)) read.items) }
-    ensures refused { IfErr result (λ refusal. IsFirstRefused (texts_of path.now) refusal.0 refusal.1) }
+    ensures read { IfOk result (λ read.
+        map certificate (texts_of path.now) ≡ map (λ c. Ok (seen_certificate c)) read.items) }
+    ensures refused { IfErr result (λ refusal.
+        IsFirstRefused (texts_of path.now) refusal.0 refusal.1) }
 {
     let mut certificates = Vec::new(alloc);
     for (index, text) in path.iter().enumerate() {
@@ -58,11 +60,15 @@ impl<'a> Query<'a> {
         moment: i64,
         purpose: Option<&'a [u8]>,
     ) -> Result<Query<'a>, QueryFault>
-        ensures anchor { IfOk result (λ query. certificate anchor.now ≡ Ok (seen_query query).anchor) }
-        ensures path { IfOk result (λ query. map certificate (texts_of path.now) ≡ map Ok (seen_query query).certificates) }
+        ensures anchor { IfOk result (λ query.
+            certificate anchor.now ≡ Ok (seen_query query).anchor) }
+        ensures path { IfOk result (λ query.
+            map certificate (texts_of path.now) ≡ map Ok (seen_query query).certificates) }
         ensures moment { IfOk result (λ query. (seen_query query).moment ≡ moment) }
-        ensures purpose { IfOk result (λ query. (seen_query query).purpose ≡ option_copied purpose.entry) }
-        ensures refused { IfErr result (λ refusal. IsFirstRefused (anchor.now ∷ texts_of path.now) refusal.certificate refusal.fault) }
+        ensures purpose { IfOk result (λ query.
+            (seen_query query).purpose ≡ option_copied purpose.entry) }
+        ensures refused { IfErr result (λ refusal.
+            IsFirstRefused (anchor.now ∷ texts_of path.now) refusal.certificate refusal.fault) }
     {
         let anchor = match Certificate::read(alloc, anchor) {
             Ok(anchor) => anchor,

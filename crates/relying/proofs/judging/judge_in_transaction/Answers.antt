@@ -1,6 +1,5 @@
 use Rattle.std.proofs.Common.{◌≡◌, Ok, Err, rules, subst, arith}
 use Rattle.sqlite.specs.Held.{state}
-use Rattle.sqlite.specs.State.{HasCleanDisk}
 use Rattle.relying_agreement.specs.Verdict.{IsVerdict}
 use Rattle.relying_verdicts.specs.View.{seen_query}
 use Rattle.relying.specs.Asking.{LooksInside}
@@ -11,7 +10,7 @@ pub returns-in-Ok-clause-looks : goal.returns-in-Ok-clause-looks
 returns-in-Ok-clause-looks g c =
     let same : c.drop-tx.new.self.0 ≡ c.conn-1.given.0 = search rules in
     let Is = IsVerdict (g.V.Verifier.accepts c.args.verifier.now) (seen_query c.args.query.now) in
-    subst (λ h. HasCleanDisk (state g.S.Store h) → LooksInside (state g.S.Store c.args.conn.now) (state g.S.Store h) Is (Ok c.in-Ok.verdict)) same
+    subst (λ h. LooksInside (state g.S.Store c.args.conn.now) (state g.S.Store h) Is (Ok c.in-Ok.verdict)) same
     (λ clean. let step = c.drop-tx.ensures.survives.clean in
     looked g.S.Store c.args.conn.now c.transaction-tx.result.conn.now (state g.S.Store c.verdict.new.tx.conn.now) (state g.S.Store c.drop-tx.new.self.0) c.transaction-tx.ensures.begun (c.drop-tx.ensures.undone clean)
     Is (Ok c.in-Ok.verdict) (c.in-Ok.ensures.asks (omega (arith, step, clean))))
@@ -20,7 +19,7 @@ pub returns-clause-looks : goal.returns-clause-looks
 returns-clause-looks g c =
     let same : c.drop-tx-2.new.self.0 ≡ c.conn-2-1.given.0 = search rules in
     let Is = IsVerdict (g.V.Verifier.accepts c.args.verifier.now) (seen_query c.args.query.now) in
-    subst (λ h. HasCleanDisk (state g.S.Store h) → LooksInside (state g.S.Store c.args.conn.now) (state g.S.Store h) Is (Err c.in-Err.fault)) same
+    subst (λ h. LooksInside (state g.S.Store c.args.conn.now) (state g.S.Store h) Is (Err c.in-Err.fault)) same
     (λ clean. let step = c.drop-tx-2.ensures.survives.clean in
     looked g.S.Store c.args.conn.now c.transaction-tx.result.conn.now (state g.S.Store c.verdict.new.tx.conn.now) (state g.S.Store c.drop-tx-2.new.self.0) c.transaction-tx.ensures.begun (c.drop-tx-2.ensures.undone clean)
     Is (Err c.in-Err.fault) (c.in-Err.ensures.asks (omega (arith, step, clean))))

@@ -1,5 +1,5 @@
 use Rattle.std.proofs.Common.{◌∙◌, ap, arith}
-use Rattle.relying.proofs.Progress.{one_further, stops_at, all_done}
+use Rattle.relying.proofs.Progress.{one_further, answered_further, stops_at, all_done, all_answered}
 use Rattle.relying.proofs.running.run_all.Goals as goal
 
 pub returns-in-Err-clause-stops : goal.returns-in-Err-clause-stops
@@ -16,7 +16,12 @@ loop-index-preserved g c =
       λ clean. l.3 (c.in-Ok.ensures.clean clean),
       λ clean. one_further (g.V.Verifier.accepts c.args.node.verifier) c.args.events.now c.loop-index.index _ c.loop-index.answers.items c.take_event.new.answers.items _ _ _ (g.V.Verifier.accepts c.loop-index.node.verifier)
           c.loop-index-test.true (l.4 (c.in-Ok.ensures.clean clean)) (ap g.V.Verifier.accepts l.0) (c.in-Ok.ensures.happens clean),
+      answered_further (g.V.Verifier.accepts c.args.node.verifier) c.args.events.now c.loop-index.index _ c.loop-index.answers.items c.take_event.new.answers.items (g.V.Verifier.accepts c.loop-index.node.verifier)
+          c.loop-index-test.true l.5 (ap g.V.Verifier.accepts l.0) c.in-Ok.ensures.added,
     )
 
 pub returns-clause-ran : goal.returns-clause-ran
 returns-clause-ran g c clean = all_done _ c.args.events.now c.loop-index.index c.loop-index.answers.items _ _ (omega arith) (c.loop-index.invariant.4 clean)
+
+pub returns-clause-answers : goal.returns-clause-answers
+returns-clause-answers g c = all_answered _ c.args.events.now c.loop-index.index c.loop-index.answers.items (omega arith) c.loop-index.invariant.5
