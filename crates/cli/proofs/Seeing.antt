@@ -20,7 +20,7 @@ use Rattle.cli.specs.Judged.{HasCompared, HasJudged, IsComparedBy, IsJudgedBy}
 
 -- a verdict
 pub judged : (leaves : Seen → Type 0) (accepts : Accepts) (query : Query) (old new : State) (verdict : Verdict) → leaves (seen_of new)
-    → (HasCleanDisk new → Looks {A = Verdict} old new (λ held found. IsVerdict accepts query held found) (Ok verdict)) → HasJudged leaves accepts query (seen_of old) verdict
+    → Looks {A = Verdict} old new (IsVerdict accepts query) (Ok verdict) → HasJudged leaves accepts query (seen_of old) verdict
 judged leaves accepts query old new verdict left looks = (seen_of new, left, λ intact held stands. (looks intact).1 held stands)
 
 pub judged_by : (stands : Standing) (leaves : Leaving) (path : List ℕ) (accepts : Accepts) (query : Query) (old : State) {E : Type 0} (result : Result Verdict E)
@@ -31,7 +31,7 @@ judged_by stands leaves path accepts query old (Err e) stood is judged = tt
 
 -- a comparison
 pub compared : (leaves others_leave : Seen → Type 0) (accepts : Accepts) (query : Query) (old new other_old other_new : State) (comparison : Comparison) → leaves (seen_of new) → others_leave (seen_of other_new)
-    → (HasCleanDisk new → HasCleanDisk other_new → LooksAtBoth {A = Comparison} old new other_old other_new (λ held others. IsComparison accepts query held others) (Ok comparison))
+    → LooksAtBoth {A = Comparison} old new other_old other_new (IsComparison accepts query) (Ok comparison)
     → HasCompared leaves others_leave accepts query (seen_of old) (seen_of other_old) comparison
 compared leaves others_leave accepts query old new other_old other_new comparison left other_left looks =
     (seen_of new, seen_of other_new, left, other_left, λ intact other_intact held others one other. (looks intact other_intact).2 held others one other)

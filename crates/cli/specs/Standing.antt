@@ -1,11 +1,14 @@
 -- Stores at paths.
 use Rattle.std.specs.Prelude.{◌≡◌, ◌≢◌, ◌⊎◌, ℕ, List, Bool, IsTrue}
+use Rattle.sqlite_disk.specs.declared.Disk.{Ghosts}
 use Rattle.sqlite.specs.Effect.{Database}
+use Rattle.sqlite.specs.Files.{file_state}
 use Rattle.sqlite.specs.State.{State}
 use Rattle.sqlite_trees.specs.View.{doubt}
 use Rattle.store_adoption.specs.Inspects.{IsStore}
 use Rattle.statements_facts.specs.Statement.{Holdings}
 use Rattle.store_maps.specs.Held.{IsStoreOf}
+use Rattle.store.specs.declared.handle.Store as handle
 use Rattle.store_sql.specs.declared.fault.StoreFault.{StoreFault}
 use Rattle.store_sql.specs.declared.fault.StoreFault.TheVariants.{Store, Schema, Memory}
 use Rattle.relying_verdicts.specs.declared.fault.Fault.{Fault}
@@ -22,6 +25,10 @@ pub record Seen : Type 0 where
 
 abbrev pub seen_of : State → Seen
 seen_of s = record { now = s.now; is_open = s.is_open; is_clean = s.is_clean }
+
+-- what is seen of the connection of a store
+abbrev pub seen_in : {D : Type 0} {g : Ghosts D} → handle.Store D g → Seen
+seen_in store = seen_of (file_state store.conn)
 
 -- the disk has returned what was written
 abbrev pub IsIntact : Seen → Type 0

@@ -1,7 +1,7 @@
 //! Verdicts on paths.
 ghost use Rattle.std.specs.Prelude.{◌≡◌, IfErr, IfOk};
 ghost use Rattle.std.specs.Io.KnownBytes.{Appends};
-ghost use Rattle.sqlite.specs.Files.{file_state};
+ghost use Rattle.relying.specs.View.{stored};
 ghost use Rattle.cli_answers.specs.AnswerText.{verdict_line};
 ghost use Rattle.cli_failures.specs.Failures.{OrUnwritable};
 ghost use Rattle.cli_failures.specs.Report.{UnlessLate};
@@ -44,9 +44,9 @@ fn judge_at<'a, S: Stores, V: Verifier + Drop>(
     query: &Query<'_>,
 ) -> Result<Verdict, Failure<'a>>
     ensures judged { IfOk result (HasJudged (S.leaves source.now path.now) (V.accepts node.verifier)
-        (seen_query query.now) (seen_of (file_state node.store.conn))) }
+        (seen_query query.now) (seen_of (stored node))) }
     ensures fails { IfErr result
-        (IsNoAnswer (S.leaves source.now path.now) (seen_of (file_state node.store.conn))) }
+        (IsNoAnswer (S.leaves source.now path.now) (seen_of (stored node))) }
 {
     let mut node = node;
     let verdict = node.verdict(alloc, query);

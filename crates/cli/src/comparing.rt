@@ -1,7 +1,6 @@
 //! Comparisons of the verdicts by what two stores hold.
 ghost use Rattle.std.specs.Prelude.{◌≡◌, IfErr, IfOk};
 ghost use Rattle.std.specs.Io.KnownBytes.{Appends};
-ghost use Rattle.sqlite.specs.Files.{file_state};
 ghost use Rattle.cli_answers.specs.AnswerText.{comparison_line};
 ghost use Rattle.cli_failures.specs.Failures.{OrUnwritable};
 ghost use Rattle.cli_failures.specs.Report.{UnlessLate};
@@ -10,7 +9,7 @@ ghost use Rattle.cli.specs.Asked.{AreCertificateTexts, path_texts};
 ghost use Rattle.cli.specs.Believed.{accepted_by};
 ghost use Rattle.cli.specs.Delivered.{IsCertificateText};
 ghost use Rattle.cli.specs.Judged.{HasCompared, IsCompared, IsComparedBy, IsComparedOf, IsFailureOfComparison, IsNoComparison, IsNotCompared, WereCompared};
-ghost use Rattle.cli.specs.Standing.{seen_of};
+ghost use Rattle.cli.specs.Standing.{seen_in};
 
 use crate::asking::{Asked, query_of, read_asked, texts_of};
 use crate::checking::not_judged;
@@ -46,9 +45,9 @@ fn compare_at<'a, S: Stores>(
 ) -> Result<Comparison, Failure<'a>>
     ensures compared { IfOk result (HasCompared (S.leaves source.now paths.now.path.now)
         (S.leaves source.now paths.now.other.now) (accepted_by verifier.now)
-        (seen_query query.now) (seen_of (file_state store.conn)) (seen_of (file_state beside.conn))) }
+        (seen_query query.now) (seen_in store) (seen_in beside)) }
     ensures fails { IfErr result (IsNoComparison (S.leaves source.now paths.now.path.now)
-        (S.leaves source.now paths.now.other.now) (seen_of (file_state store.conn)) (seen_of (file_state beside.conn))) }
+        (S.leaves source.now paths.now.other.now) (seen_in store) (seen_in beside)) }
 {
     let shared = Shared { list: verifier };
     let mut one = Node::new(shared, store);

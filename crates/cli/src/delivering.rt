@@ -1,6 +1,6 @@
 //! Deliveries.
 ghost use Rattle.std.specs.Prelude.{◌≡◌, ◌∷◌, [], IfErr, IfOk, Ok, OnOk, Some};
-ghost use Rattle.sqlite.specs.Files.{file_state};
+ghost use Rattle.relying.specs.View.{stored};
 ghost use Rattle.cert.specs.Certificate.{seen_certificate};
 ghost use Rattle.statements.specs.OcspFact.{genuine_statement};
 ghost use Rattle.cli_failures.specs.Failures.{IsJust, IsNoCertificate, OrUnwritable};
@@ -77,9 +77,9 @@ fn deliver_at<'a, S: Stores, V: Verifier + Drop>(
     statement: &[u8],
 ) -> Result<Counts, Failure<'a>>
     ensures taken { IfOk result (HasTaken (S.leaves source.now path.now) (V.accepts node.verifier)
-        issuer.now statement.now (seen_of (file_state node.store.conn))) }
+        issuer.now statement.now (seen_of (stored node))) }
     ensures fails { IfErr result
-        (IsNoAnswer (S.leaves source.now path.now) (seen_of (file_state node.store.conn))) }
+        (IsNoAnswer (S.leaves source.now path.now) (seen_of (stored node))) }
 {
     let events = [Event::Deliver(issuer, statement)];
     match node.run(alloc, &events) {

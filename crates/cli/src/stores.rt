@@ -3,7 +3,7 @@ ghost use Rattle.std.specs.Prelude.{◌≡◌, IfErr, IfOk};
 ghost use Rattle.sqlite.specs.Files.{file_state};
 ghost use Rattle.sqlite.specs.State.{HasCleanDisk};
 ghost use Rattle.store_adoption.specs.Inspects.{IsStore};
-ghost use Rattle.cli.specs.Standing.{IsNotFound, IsNotMade, database, seen_of, told_of};
+ghost use Rattle.cli.specs.Standing.{IsNotFound, IsNotMade, database, seen_in, told_of};
 
 use cli_failures::Failure;
 use sqlite_std_file::File;
@@ -29,7 +29,7 @@ pub trait Stores {
     /// The store that stands at the path; `Unreadable` where there is no file that can be read.
     fn open_store<'a>(&self, path: &'a str) -> Result<Store<File>, Failure<'a>>
         ensures stands { IfOk result (λ store.
-            stands self.now path.entry.now (database (seen_of (file_state store.conn)))) }
+            stands self.now path.entry.now (database (seen_in store))) }
         ensures store { IfOk result (λ store.
             HasCleanDisk (file_state store.conn) → IsStore (file_state store.conn).now) }
         ensures fails { IfErr result (IsNotFound (stands self.now) path.entry.now) };
@@ -37,14 +37,14 @@ pub trait Stores {
     /// The same; where no file is there, a store is made that holds nothing.
     fn open_or_make_store<'a>(&self, path: &'a str) -> Result<Store<File>, Failure<'a>>
         ensures stands { IfOk result (λ store.
-            stands self.now path.entry.now (database (seen_of (file_state store.conn)))) }
+            stands self.now path.entry.now (database (seen_in store))) }
         ensures store { IfOk result (λ store.
             HasCleanDisk (file_state store.conn) → IsStore (file_state store.conn).now) }
         ensures fails { IfErr result (IsNotMade (stands self.now) path.entry.now) };
 
     /// Closes a store of the path. What was committed to it is safe however that ends.
     fn close_store(&self, path: &str, store: Store<File>)
-        ensures leaves { leaves self.now path.now (seen_of (file_state store.conn)) };
+        ensures leaves { leaves self.now path.now (seen_in store) };
 }
 
 // What a store's fault is for a run.

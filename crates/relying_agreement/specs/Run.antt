@@ -9,7 +9,7 @@ use Rattle.statements_facts.specs.Statement.{Holdings, CrlSlot, CrlFact, OcspSlo
 use Rattle.path.specs.Query.{Accepts}
 use Rattle.statements_parts.specs.declared.fault.StatementFault.{StatementFault}
 use Rattle.statements.specs.OcspFact.{genuine_statement}
-use Rattle.statements_facts.specs.Coming.{crl_for, ocsp_for, PartyHoldsNewest as SlotsHoldNewest}
+use Rattle.statements_facts.specs.Coming.{crl_for, ocsp_for, HoldsNewest}
 use Rattle.statements_facts.specs.Newest.{newest_in, newer_crl, newer_ocsp}
 
 -- a statement is delivered, with the issuer's certificate; or the store's files are closed and opened again
@@ -79,7 +79,7 @@ after_taking accepts start taken = record {
 
 -- Each slot holds the newest of its facts, the first among equals; and nothing where there is none.
 abbrev pub PartyHoldsNewest : Party → Type 0
-PartyHoldsNewest party = SlotsHoldNewest party.start party.taken party.held
+PartyHoldsNewest party = HoldsNewest party.start party.taken party.held
 
 -- What a run promises: the facts taken are those of the deliveries that were answered so, and the newest is held.
 pub record HasRun (facts_of : FactsOf) (events : List Event) (answers : List DeliveryAnswer) (party : Party) : Type 0 where

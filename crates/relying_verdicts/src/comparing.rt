@@ -2,7 +2,7 @@
 
 ghost use Rattle.std.specs.Prelude.{◌≡◌, ◌↔◌, IsTrue, length, map, option_map};
 ghost use Rattle.store_rows.specs.Seen.{seen_held_status};
-ghost use Rattle.store_sql.specs.Inside.{IsInside, inside};
+ghost use Rattle.store_sql.specs.Inside.{IsInTransaction, KeepsReference, inside};
 ghost use Rattle.store_sql.specs.Statements.{CommitsNothing};
 ghost use Rattle.relying_agreement.specs.Comparison.{IsComparison};
 ghost use Rattle.relying_verdicts.specs.Asking.{AsksStores};
@@ -126,10 +126,10 @@ fn compare_held<S: Alter, D: Alter>(
     other: &mut Transaction<'_, D>,
     query: &Query<'_>,
 ) -> Result<Comparison, Fault>
-    requires inside { IsInside S.Store one.old }
-    requires other_inside { IsInside D.Store other.old }
-    ensures same_reference { one.new.conn.ghost_name ≡ one.old.conn.ghost_name }
-    ensures other_reference { other.new.conn.ghost_name ≡ other.old.conn.ghost_name }
+    requires inside { IsInTransaction S.Store one.old }
+    requires other_inside { IsInTransaction D.Store other.old }
+    ensures same_reference { KeepsReference one.old one.new }
+    ensures other_reference { KeepsReference other.old other.new }
     ensures asks { AsksStores S.Store one.old one.new D.Store other.old other.new
         (ComparesHeld (seen_query query.now)) result }
     ensures survives { CommitsNothing (inside S.Store one.old) (inside S.Store one.new) }
@@ -154,10 +154,10 @@ pub fn compare<V: Verifier, S: Alter, D: Alter>(
     other: &mut Transaction<'_, D>,
     query: &Query<'_>,
 ) -> Result<Comparison, Fault>
-    requires inside { IsInside S.Store one.old }
-    requires other_inside { IsInside D.Store other.old }
-    ensures same_reference { one.new.conn.ghost_name ≡ one.old.conn.ghost_name }
-    ensures other_reference { other.new.conn.ghost_name ≡ other.old.conn.ghost_name }
+    requires inside { IsInTransaction S.Store one.old }
+    requires other_inside { IsInTransaction D.Store other.old }
+    ensures same_reference { KeepsReference one.old one.new }
+    ensures other_reference { KeepsReference other.old other.new }
     ensures asks { AsksStores S.Store one.old one.new D.Store other.old other.new
         (IsComparison (V.accepts verifier.now) (seen_query query.now)) result }
     ensures survives { CommitsNothing (inside S.Store one.old) (inside S.Store one.new) }

@@ -1,7 +1,7 @@
 //! The verdict on a path.
 
 ghost use Rattle.std.specs.Prelude.{◌≡◌, IfOk, IsTrue, map};
-ghost use Rattle.store_sql.specs.Inside.{IsInside, inside};
+ghost use Rattle.store_sql.specs.Inside.{IsInTransaction, KeepsReference, inside};
 ghost use Rattle.store_sql.specs.Statements.{CommitsNothing};
 ghost use Rattle.path.specs.Validity.{IsOutcome};
 ghost use Rattle.relying_agreement.specs.Verdict.{IsVerdict, verdict_by};
@@ -46,8 +46,8 @@ pub fn verdict<V: Verifier, S: Alter>(
     tx: &mut Transaction<'_, S>,
     query: &Query<'_>,
 ) -> Result<Verdict, Fault>
-    requires inside { IsInside S.Store tx.old }
-    ensures same_reference { tx.new.conn.ghost_name ≡ tx.old.conn.ghost_name }
+    requires inside { IsInTransaction S.Store tx.old }
+    ensures same_reference { KeepsReference tx.old tx.new }
     ensures asks { AsksStore S.Store tx.old tx.new
         (IsVerdict (V.accepts verifier.now) (seen_query query.now)) result }
     ensures survives { CommitsNothing (inside S.Store tx.old) (inside S.Store tx.new) }

@@ -3,7 +3,7 @@
 ghost use Rattle.std.specs.Prelude.{◌≡◌, IsTrue, IfOk, length, map, vec_len};
 ghost use Rattle.cert.specs.Certificate.{seen_certificate};
 ghost use Rattle.statements_facts.specs.Fact.{issuer_of as seen_issuer};
-ghost use Rattle.store_sql.specs.Inside.{IsInside, inside};
+ghost use Rattle.store_sql.specs.Inside.{IsInTransaction, KeepsReference, inside};
 ghost use Rattle.store_sql.specs.Statements.{CommitsNothing};
 ghost use Rattle.store_maps.specs.LooksUp.{LooksUpInside};
 ghost use Rattle.relying_agreement.specs.Link.{own_scope};
@@ -72,8 +72,8 @@ fn look_up_lists<S: Alter>(
     kind: Scope,
     serial: &[u8],
 ) -> Result<(Option<HeldCrl>, Option<HeldCrl>), StoreFault>
-    requires inside { IsInside S.Store tx.old }
-    ensures same_reference { tx.new.conn.ghost_name ≡ tx.old.conn.ghost_name }
+    requires inside { IsInTransaction S.Store tx.old }
+    ensures same_reference { KeepsReference tx.old tx.new }
     ensures looks_up { LooksUpInside S.Store tx.old tx.new
         (AreListsHeld (seen_issuer issuer.now) kind serial.now) result }
     ensures survives { CommitsNothing (inside S.Store tx.old) (inside S.Store tx.new) }
@@ -94,8 +94,8 @@ fn look_up<S: Alter>(
     issuer: &Issuer<'_>,
     certificate: &Certificate<'_>,
 ) -> Result<Answers, StoreFault>
-    requires inside { IsInside S.Store tx.old }
-    ensures same_reference { tx.new.conn.ghost_name ≡ tx.old.conn.ghost_name }
+    requires inside { IsInTransaction S.Store tx.old }
+    ensures same_reference { KeepsReference tx.old tx.new }
     ensures looks_up { LooksUpInside S.Store tx.old tx.new
         (AreAnswersHeld (seen_issuer issuer.now) (seen_certificate certificate.now)) result }
     ensures survives { CommitsNothing (inside S.Store tx.old) (inside S.Store tx.new) }
@@ -118,8 +118,8 @@ fn evidence_of<S: Alter>(
     tx: &mut Transaction<'_, S>,
     link: &Link<'_, '_>,
 ) -> Result<Evidence, Fault>
-    requires inside { IsInside S.Store tx.old }
-    ensures same_reference { tx.new.conn.ghost_name ≡ tx.old.conn.ghost_name }
+    requires inside { IsInTransaction S.Store tx.old }
+    ensures same_reference { KeepsReference tx.old tx.new }
     ensures asks { AsksStore S.Store tx.old tx.new
         (λ held it. seen_evidence it ≡ evidence_of held (seen_link link.now)) result }
     ensures survives { CommitsNothing (inside S.Store tx.old) (inside S.Store tx.new) }
@@ -144,8 +144,8 @@ pub(crate) fn evidence_on<S: Alter>(
     tx: &mut Transaction<'_, S>,
     query: &Query<'_>,
 ) -> Result<Vec<Evidence>, Fault>
-    requires inside { IsInside S.Store tx.old }
-    ensures same_reference { tx.new.conn.ghost_name ≡ tx.old.conn.ghost_name }
+    requires inside { IsInTransaction S.Store tx.old }
+    ensures same_reference { KeepsReference tx.old tx.new }
     ensures count { IfOk result (λ all. vec_len all ≡ vec_len query.now.path) }
     ensures asks { AsksStore S.Store tx.old tx.new
         (λ held all. map seen_evidence all.items ≡ evidence_on held (seen_query query.now)) result }

@@ -12,8 +12,8 @@ use Rattle.statements_crl.specs.declared.entry_extension.EntryExtensionKind.{Ent
 use Rattle.statements_crl.specs.declared.entry_extension.EntryExtensionKind.TheVariants as OfEntry
 use Rattle.statements_crl.specs.declared.list_extension.ListExtensionKind.{ListExtensionKind}
 use Rattle.statements_crl.specs.declared.list_extension.ListExtensionKind.TheVariants as OfList
-use Rattle.statements_crl.specs.EntryExtension.{list_extension_kind, kind_in}
-use Rattle.statements_crl.specs.ListExtension.{list_extension_kind as list_kind_of, kind_in as list_kind_in}
+use Rattle.statements_crl.specs.EntryExtension.{entry_extension_kind, kind_in}
+use Rattle.statements_crl.specs.ListExtension.{list_extension_kind, kind_in as list_kind_in}
 use Rattle.statements_crl.specs.EntryForms.{id_ce}
 
 pub some_where : {A : Type 0} (b : Bool) (one found : A) → (if b then Some one else None) ≡ Some found → (b ≡ true) × (one ≡ found)
@@ -73,8 +73,8 @@ in_option : (oid : List ℕ) (found : Option ℕ) → certificate_extension oid 
 in_option oid None e = (is_other oid 21 None e (none_is 21), is_other oid 24 None e (none_is 24), is_other oid 29 None e (none_is 29))
 in_option oid (Some n) e = by_number oid n (n == 21) (n == 24) (n == 29) e refl refl refl
 
-pub has_type : (oid : List ℕ) → HasType (list_extension_kind oid) oid
-unfolding list_extension_kind
+pub has_type : (oid : List ℕ) → HasType (entry_extension_kind oid) oid
+unfolding entry_extension_kind
 has_type oid = in_option oid (certificate_extension oid) refl
 
 -- of lists
@@ -99,8 +99,8 @@ in_list_option : (oid : List ℕ) (found : Option ℕ) → certificate_extension
 in_list_option oid None e = (is_other oid 20 None e (none_is 20), is_other oid 27 None e (none_is 27), is_other oid 28 None e (none_is 28))
 in_list_option oid (Some n) e = by_list_number oid n (n == 20) (n == 27) (n == 28) e refl refl refl
 
-pub has_list_type : (oid : List ℕ) → HasListType (list_kind_of oid) oid
-unfolding list_kind_of
+pub has_list_type : (oid : List ℕ) → HasListType (list_extension_kind oid) oid
+unfolding list_extension_kind
 has_list_type oid = in_list_option oid (certificate_extension oid) refl
 
 -- whether the type of an extension has this number

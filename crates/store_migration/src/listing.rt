@@ -9,7 +9,7 @@ ghost use Rattle.std.specs.List.Sorted.{IsNonDecreasingBy};
 ghost use Rattle.store_sql.specs.Statements.{CommitsNothing};
 ghost use Rattle.store_rows.specs.Holding.{FitInList};
 ghost use Rattle.store_rows.specs.Seen.{seen_head};
-ghost use Rattle.store_rows.specs.StepsTo.{Changes};
+ghost use Rattle.store_rows.specs.Steps.{Changes};
 ghost use Rattle.store_adoption.specs.Seen.{seen_list, seen_own};
 ghost use Rattle.store_adoption.specs.Version1.{UnscopedCrl, UnscopedEntry, listed_under};
 ghost use Rattle.store_taking.specs.Lists.{with_list};

@@ -8,7 +8,7 @@ use Rattle.store_sql.specs.declared.origin.Origin.{Origin}
 use Rattle.store_sql.specs.declared.fault.StoreFault.{StoreFault}
 use Rattle.store_rows.specs.Contents.{Contents}
 use Rattle.store_rows.specs.Holding.{HasContents, AreInForm}
-use Rattle.store_rows.specs.StepsTo.{Stays, Fails, Finds, HasFound, Moves}
+use Rattle.store_rows.specs.Steps.{Stays, Fails, Finds, HasFound, Moves}
 use Rattle.store_taking.specs.Passing.{HasStepped, StepFails, StepsTo}
 
 -- ---- rows

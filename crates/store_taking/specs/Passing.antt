@@ -6,7 +6,7 @@ use Rattle.statements_facts.specs.Statement.{IssuerIdentity, Holdings}
 use Rattle.store_sql.specs.declared.fault.StoreFault.{StoreFault}
 use Rattle.store_sql.specs.declared.fault.StoreFault.TheVariants.{Schema}
 use Rattle.store_rows.specs.Contents.{id_of}
-use Rattle.store_rows.specs.StepsTo.{IsKnown}
+use Rattle.store_rows.specs.Steps.{IsKnown}
 use Rattle.store_rows.specs.Making.{FailsOverStore}
 use Rattle.store_maps.specs.Held.{IsStoreOf}
 

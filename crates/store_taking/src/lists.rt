@@ -10,7 +10,7 @@ ghost use Rattle.store_rows.specs.Contents.{scope_number};
 ghost use Rattle.store_rows.specs.Holding.{IsNumbered, FitInList};
 ghost use Rattle.store_rows.specs.Places.{entries_under};
 ghost use Rattle.store_rows.specs.Seen.{seen_head};
-ghost use Rattle.store_rows.specs.StepsTo.{Finds, Changes};
+ghost use Rattle.store_rows.specs.Steps.{Finds, Changes};
 ghost use Rattle.statements_facts.specs.Coming.{CrlIsTakenAs};
 ghost use Rattle.store_maps.specs.Held.{IsStoreOf, crl_under};
 ghost use Rattle.store_taking.specs.Lists.{crl_head, with_list, IsToldByEntries};

@@ -8,7 +8,7 @@ ghost use Rattle.statements_facts.specs.Single.{seen_single};
 ghost use Rattle.store_sql.specs.Statements.{CommitsNothing};
 ghost use Rattle.store_rows.specs.Holding.{HasReason};
 ghost use Rattle.store_rows.specs.Seen.{seen_held_status};
-ghost use Rattle.store_rows.specs.StepsTo.{Finds};
+ghost use Rattle.store_rows.specs.Steps.{Finds};
 ghost use Rattle.statements_facts.specs.Coming.{OcspIsTakenAs};
 ghost use Rattle.store_maps.specs.Held.{IsStoreOf, ocsp_under};
 ghost use Rattle.store_taking.specs.Taking.{IsTaken};
