@@ -5,7 +5,7 @@
 #include <stddef.h>
 #include <stdint.h>
 
-/* The rules, by the numbers of docs/FAULTS.md. */
+/* The rules, by the numbers of docs/REFERENCE.md. */
 enum checker_rule {
     CHECKER_ACCEPTED = 0,
     CHECKER_TAG_FORM = 1,

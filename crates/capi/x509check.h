@@ -4,7 +4,7 @@
  * them. The pointer may be null where the length is 0. Results are numbers and parts of the caller's text: offsets and lengths in
  * octets, counted from its first octet. There is nothing to free. All calls may run on several threads at a time.
  *
- * Faults are numbers, 0 for none: 1 to 7 of DER, 11 to 17 of names, 21 to 33 of certificates (docs/FAULTS.md). The fault is the
+ * Faults are numbers, 0 for none: 1 to 7 of DER, 11 to 17 of names, 21 to 33 of certificates (docs/REFERENCE.md). The fault is the
  * first in the text, and its offset that of the value at fault.
  *
  * Link with libcapi.a (crates/capi/out, made by `rt lib`) and with c/liblibc_c.a of the Rattle kit, through which memory is taken

@@ -75,7 +75,7 @@ pub fn tree(alloc: Global, text: &str) -> Result<Tree, NotationFault> {
     sign(alloc, signed, notation.signer)
 }
 
-/// The DER of the certificate that the text asks for. `docs/FORMATS.md` has the notation.
+/// The DER of the certificate that the text asks for. `docs/REFERENCE.md` has the notation.
 pub fn certificate(alloc: Global, text: &str) -> Result<Vec<u8>, NotationFault> {
     let tree = tree(alloc, text)?;
     Ok(encode(alloc, &tree)?)

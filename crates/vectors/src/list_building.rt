@@ -94,7 +94,7 @@ pub fn revocation_list_tree(alloc: Global, text: &str) -> Result<Tree, NotationF
     sign(alloc, signed, notation.signer)
 }
 
-/// The DER of the revocation list that the text asks for. `docs/FORMATS.md` has the notation.
+/// The DER of the revocation list that the text asks for. `docs/REFERENCE.md` has the notation.
 pub fn revocation_list(alloc: Global, text: &str) -> Result<Vec<u8>, NotationFault> {
     let tree = revocation_list_tree(alloc, text)?;
     Ok(encode(alloc, &tree)?)

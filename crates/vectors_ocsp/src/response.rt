@@ -135,7 +135,7 @@ fn basic_response(
 }
 
 /// The DER of the response that the text asks for, with the certificates that these texts ask for in `certs`.
-/// `docs/FORMATS.md` has the notation.
+/// `docs/REFERENCE.md` has the notation.
 pub fn ocsp_response(
     alloc: Global,
     text: &str,

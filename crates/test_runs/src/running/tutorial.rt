@@ -1,4 +1,4 @@
-//! The pages of docs/TUTORIAL.md: the words of their commands and what they answer.
+//! The pages of docs/GUIDE.md: the words of their commands and what they answer.
 
 use super::*;
 
