@@ -149,7 +149,8 @@ fn read_statement_of<'a, S: Source, V: Verifier>(
     ensures fails { IfErr result
         (FailsFirst (IsNoCertificate (IsJust issuer.now) words.entry.issuer.now)
         (IsCertificateText issuer.now)
-        (IsNoStatementUnder (S.holds source.now) (V.accepts verifier.now) issuer.now words.entry.file.now)) }
+        (IsNoStatementUnder (S.holds source.now) (V.accepts verifier.now) issuer.now
+        words.entry.file.now)) }
 {
     let by = read_certificate(alloc, words.issuer, issuer)?;
     read_statement(source, alloc, verifier, &by, words.file)
@@ -171,7 +172,8 @@ fn read_delivery<'a, S: Source, V: Verifier>(
     ensures fails { IfErr result
         (FailsFirst (IsNoCertificate (S.holds source.now) words.entry.issuer.now)
         (HoldsIssuer (S.holds source.now) words.entry.issuer.now)
-        (IsNoStatementOf (S.holds source.now) (V.accepts verifier.now) words.entry.issuer.now words.entry.file.now)) }
+        (IsNoStatementOf (S.holds source.now) (V.accepts verifier.now) words.entry.issuer.now
+        words.entry.file.now)) }
 {
     let issuer = source.octets_of(words.issuer)?;
     let statement = read_statement_of(source, alloc, verifier, issuer.as_slice(), words)?;
@@ -251,11 +253,13 @@ pub fn deliver<'a, S: Source + Stores, O: Write>(
     out: &mut O,
 ) -> Result<(), Failure<'a>>
     ensures done { OnOk result (Writes
-        (IsDeliveredText (S.holds source.now) (S.stands source.now) (S.leaves source.now) words.entry)
+        (IsDeliveredText (S.holds source.now) (S.stands source.now) (S.leaves source.now)
+        words.entry)
         (O.contents out.old) (O.contents out.new)) }
     ensures fails { IfErr result (OrUnwritable (IsFailureOfDelivery
         (S.holds source.now) (S.stands source.now) (S.leaves source.now) words.entry)
-        (WasDelivered (S.holds source.now) (S.stands source.now) (S.leaves source.now) words.entry)) }
+        (WasDelivered (S.holds source.now) (S.stands source.now) (S.leaves source.now)
+        words.entry)) }
     ensures quiet { IfErr result (λ failure. UnlessLate failure (out.new ≡ out.old)) }
 {
     let counts = take(source, alloc, words)?;

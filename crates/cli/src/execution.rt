@@ -45,7 +45,8 @@ pub fn execute<S: Source + Stores, O: Write, E: Write>(
         (map (λ w. w.now) words.now) (O.contents out.old) (O.contents out.new) result
         × (err.new ≡ err.old) }
     ensures failed { IsFailing result → HasEndedSo (S.holds source.now)
-        (S.stands source.now) (S.leaves source.now) (map (λ w. w.now) words.now) (out.new ≡ out.old) result }
+        (S.stands source.now) (S.leaves source.now) (map (λ w. w.now) words.now)
+        (out.new ≡ out.old) result }
 {
     executed(source, alloc, words, out, err).status
 }
@@ -78,7 +79,8 @@ fn finish<E: Write>(outcome: Result<u8, Failure<'_>>, err: &mut E) -> Ended
     ensures done { IfOk outcome.entry (λ status.
         (result.status ≡ status) × (err.new ≡ err.old)) }
     ensures failed { IfErr outcome.entry (λ failure. (result.status ≡ status_of failure)
-        × OnOk result.told (Appends (E.contents err.old) (E.contents err.new) (report_line failure))) }
+        × OnOk result.told
+        (Appends (E.contents err.old) (E.contents err.new) (report_line failure))) }
 {
     match outcome {
         Ok(status) => Ended {

@@ -148,7 +148,8 @@ fn write_delegate<W: Write>(
     writer: &mut W,
 ) -> io::Result<()>
     ensures { Writes W.contents writer.old writer.new result
-        (both_lines (seen_key_info key_info.now) (seen_response response.now) number (seen_certificate certificate.now)) }
+        (both_lines (seen_key_info key_info.now) (seen_response response.now) number
+        (seen_certificate certificate.now)) }
 {
     write_delegate_line(&print_of(certificate, key_info), number, writer)?;
     let key_info = &certificate.subject_public_key_info;
@@ -162,7 +163,8 @@ fn write_delegates<W: Write>(
     writer: &mut W,
 ) -> Result<(), PrintsFault>
     ensures { Writes W.contents writer.old writer.new result
-        (delegate_lines (seen_key_info key_info.now) (seen_response response.now) 1 (certificates_left response.now.certs)) }
+        (delegate_lines (seen_key_info key_info.now) (seen_response response.now) 1
+        (certificates_left response.now.certs)) }
 {
     let mut certs = response.certs;
     let mut number = 0;

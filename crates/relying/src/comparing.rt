@@ -4,7 +4,7 @@ ghost use Rattle.std.specs.Prelude.{◌≡◌, false};
 ghost use Rattle.sqlite.specs.Held.{state};
 ghost use Rattle.sqlite.specs.Files.{file_state};
 ghost use Rattle.sqlite.specs.State.{HasCleanDisk};
-ghost use Rattle.store_adoption.specs.Creates.{IsSettled};
+ghost use Rattle.store_adoption.specs.Creates.{AreSettled};
 ghost use Rattle.store_sql.specs.Statements.{IsDurable, CommitsNothing};
 ghost use Rattle.relying_agreement.specs.Comparison.{IsComparison};
 ghost use Rattle.relying.specs.Asking.{LooksAtBoth, LooksInsideBoth};
@@ -60,8 +60,8 @@ fn compare_stores<V: Verifier, S: Alter, D: Alter>(
     ensures looks { LooksAtBoth (state S.Store one.old) (state S.Store one.new)
         (state D.Store other.old) (state D.Store other.new)
         (IsComparison (V.accepts verifier.now) (seen_query query.now)) result }
-    ensures settled { IsSettled (state S.Store one.old) × IsSettled (state S.Store one.new) }
-    ensures other_settled { IsSettled (state D.Store other.old) × IsSettled (state D.Store other.new) }
+    ensures settled { AreSettled (state S.Store one.old) (state S.Store one.new) }
+    ensures other_settled { AreSettled (state D.Store other.old) (state D.Store other.new) }
     ensures durable { IsDurable (state S.Store one.new) }
     ensures other_durable { IsDurable (state D.Store other.new) }
     ensures survives { CommitsNothing (state S.Store one.old) (state S.Store one.new) }
@@ -90,8 +90,8 @@ fn compare_with_files<V: Verifier, S: Alter, D: Disk + Drop>(
     ensures looks { LooksAtBoth (state S.Store one.old) (state S.Store one.new)
         (file_state other.old) (file_state other.new)
         (IsComparison (V.accepts verifier.now) (seen_query query.now)) result }
-    ensures settled { IsSettled (state S.Store one.old) × IsSettled (state S.Store one.new) }
-    ensures other_settled { IsSettled (file_state other.old) × IsSettled (file_state other.new) }
+    ensures settled { AreSettled (state S.Store one.old) (state S.Store one.new) }
+    ensures other_settled { AreSettled (file_state other.old) (file_state other.new) }
     ensures durable { IsDurable (state S.Store one.new) }
     ensures other_durable { IsDurable (file_state other.new) }
     ensures survives { CommitsNothing (state S.Store one.old) (state S.Store one.new) }

@@ -2,7 +2,7 @@
 
 ghost use Rattle.std.specs.Prelude.{◌≡◌, false};
 ghost use Rattle.sqlite.specs.Held.{state};
-ghost use Rattle.store_adoption.specs.Creates.{IsSettled};
+ghost use Rattle.store_adoption.specs.Creates.{AreSettled};
 ghost use Rattle.store_sql.specs.Statements.{IsDurable, CommitsNothing};
 ghost use Rattle.relying_agreement.specs.Verdict.{IsVerdict};
 ghost use Rattle.relying.specs.Asking.{Looks, LooksInside};
@@ -43,7 +43,7 @@ pub(crate) fn judge<V: Verifier, S: Alter>(
     ensures idle { conn.new.in_transaction ≡ false }
     ensures looks { Looks (state S.Store conn.old) (state S.Store conn.new)
         (IsVerdict (V.accepts verifier.now) (seen_query query.now)) result }
-    ensures settled { IsSettled (state S.Store conn.old) × IsSettled (state S.Store conn.new) }
+    ensures settled { AreSettled (state S.Store conn.old) (state S.Store conn.new) }
     ensures durable { IsDurable (state S.Store conn.new) }
     ensures survives { CommitsNothing (state S.Store conn.old) (state S.Store conn.new) }
 {

@@ -13,6 +13,10 @@ use Rattle.store_maps.specs.Held.{IsStoreOf}
 abbrev pub IsSettled : State → Type 0
 IsSettled s = IsTrue s.is_open → s.now ≡ s.committed
 
+-- before a call and after it
+abbrev pub AreSettled : State → State → Type 0
+AreSettled old new = IsSettled old × IsSettled new
+
 -- these are the trees of a store that holds this
 abbrev pub AreTreesOf : Holdings → Trees → Type 0
 AreTreesOf held trees = (origin : Origin) × IsStoreOf (record { schema = store_schema origin; trees = trees }) held
