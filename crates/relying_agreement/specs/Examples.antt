@@ -10,7 +10,7 @@ use Rattle.cert.specs.Certificate.{Certificate}
 use Rattle.statements_facts.specs.declared.scope.Scope.TheVariants as Scope
 use Rattle.statements_facts.specs.declared.single.Status.TheVariants as said
 use Rattle.statements_facts.specs.Fact.{Fact}
-use Rattle.statements_facts.specs.Statement.{Window, Times, CrlSlot, CrlFact, OcspSlot, OcspFact, Holdings}
+use Rattle.statements_facts.specs.Statement.{Window, Times, CrlSlot, CrlFact, OcspSlot, OcspFact, empty_holdings}
 use Rattle.path.specs.Query.{Query, Accepts}
 use Rattle.statements.specs.Issuer.{identity_of}
 use Rattle.relying_agreement.specs.declared.verdict.Verdict.{Verdict}

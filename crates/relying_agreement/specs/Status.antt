@@ -9,9 +9,9 @@ use Rattle.statements_facts.specs.declared.scope.Scope.TheVariants.{All}
 use Rattle.statements_facts.specs.declared.single.Status.{Status}
 use Rattle.statements_facts.specs.declared.single.Status.TheVariants as said
 use Rattle.sha1.specs.Sha1.{sha1}
-use Rattle.statements_facts.specs.Statement.{IssuerIdentity, Window, CrlAnswer, OcspFact, Holdings, answer_for}
+use Rattle.statements_facts.specs.Statement.{IssuerIdentity, Window, CrlFact, CrlAnswer, OcspFact, Holdings, answer_for}
 use Rattle.statements.specs.Issuer.{identity_of}
-use Rattle.relying_agreement.specs.Link.{Link, own_scope}
+use Rattle.relying_agreement.specs.Link.{Link, own_scope, ocsp_slot, crl_slot}
 
 -- thisUpdate is not after the moment, nextUpdate not before it (RFC 5280, 6.3.3 (a); RFC 6960, 3.2)
 abbrev pub IsCurrent : Window → ℤ → Type 0

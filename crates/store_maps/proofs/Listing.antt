@@ -134,7 +134,7 @@ slots_are one other e =
 module _ (it : Contents) (slot : CrlSlot) (id : ℕ) (head : CrlHead) (listed : List ListedSerial) (form : AreInForm it) (rise : IsAscending (λ (a b : IssuerRow). a.id < b.id) it.issuers) (room : id < 536870911)
     (few : length listed ≤ 4294967296) (up : Ascend listed) (known : id_of it.issuers slot.issuer ≡ Some id) where
   abbrev after : Contents
-  after = with_entries id (scope_number slot.scope) listed (with_crl id slot.scope head.number head.window it)
+  after = with_entries id (scope_number slot.scope) listed (with_crl id slot.scope head it)
 
   abbrev new : CrlRow
   new = record { id = next_rowid (map crl_row (filter (λ row. not (is_crl_of id slot.scope row)) it.crls)); issuer = id; scope = slot.scope; number = head.number; window = head.window }

@@ -32,7 +32,7 @@ slots_are one other e =
 
 module _ (it : Contents) (slot : OcspSlot) (id : ℕ) (fact : OcspFact) (rise : IsAscending (λ (a b : IssuerRow). a.id < b.id) it.issuers) (known : id_of it.issuers slot.issuer ≡ Some id) where
   abbrev after : Contents
-  after = with_single id slot.name_hash slot.serial fact it
+  after = with_single id (record { name_hash = slot.name_hash; serial = slot.serial; fact = fact }) it
 
   abbrev new : SingleRow
   new = record { id = next_rowid (map single_row (filter (λ row. not (is_single_of id slot.name_hash slot.serial row)) it.singles)); issuer = id; name_hash = slot.name_hash; serial = slot.serial; fact = fact }

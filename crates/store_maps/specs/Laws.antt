@@ -19,8 +19,8 @@ fact_of_rows head listed = record { number = head.number; window = head.window; 
 abbrev pub ReplacedListIsHeld : Type 0
 ReplacedListIsHeld = (it : Contents) (slot : CrlSlot) (id : ℕ) (head : CrlHead) (listed : List ListedSerial) → AreInForm it → Ascends (λ (one other : IssuerRow). one.id < other.id) it.issuers → HasRoom id
     → length listed ≤ 4294967296 → IsAscending listed → id_of it.issuers slot.issuer ≡ Some id
-    → held_in (with_entries id (scope_number slot.scope) listed (with_crl id slot.scope head.number head.window it)) ≡ with_crl_fact (held_in it) slot (fact_of_rows head listed)
+    → held_in (with_entries id (scope_number slot.scope) listed (with_crl id slot.scope head it)) ≡ with_crl_fact (held_in it) slot (fact_of_rows head listed)
 
 abbrev pub ReplacedSingleIsHeld : Type 0
 ReplacedSingleIsHeld = (it : Contents) (slot : OcspSlot) (id : ℕ) (fact : OcspFact) → Ascends (λ (one other : IssuerRow). one.id < other.id) it.issuers → id_of it.issuers slot.issuer ≡ Some id
-    → held_in (with_single id slot.name_hash slot.serial fact it) ≡ with_ocsp_fact (held_in it) slot fact
+    → held_in (with_single id (record { name_hash = slot.name_hash; serial = slot.serial; fact = fact }) it) ≡ with_ocsp_fact (held_in it) slot fact

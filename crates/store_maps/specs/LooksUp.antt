@@ -1,7 +1,10 @@
 -- What a look-up does.
 use Rattle.std.specs.Prelude.{◌≡◌, Result, Ok, Err, IsTrue}
-use Rattle.sqlite.specs.State.{State, KeepsCommit}
+use Rattle.sqlite_trees.specs.declared.store.Store.{Ghosts}
+use Rattle.sqlite.specs.declared.transaction.Transaction.{Transaction}
+use Rattle.sqlite.specs.State.{State, HasCleanDisk, KeepsCommit}
 use Rattle.statements_facts.specs.Statement.{Holdings}
+use Rattle.store_sql.specs.Inside.{inside}
 use Rattle.store_sql.specs.declared.fault.StoreFault.{StoreFault}
 use Rattle.store_sql.specs.declared.fault.StoreFault.TheVariants.{Schema}
 use Rattle.store_rows.specs.Steps.{Stays}
@@ -21,3 +24,7 @@ pub record FailsIn (old new : State) (fault : StoreFault) : Type 0 where
 abbrev pub LooksUp : {A : Type 0} → State → State → (Holdings → A → Type 0) → Result A StoreFault → Type 0
 LooksUp old new Is (Ok found) = IsFoundIn old new Is found
 LooksUp old new Is (Err fault) = FailsIn old new fault
+
+-- the same of a call on a transaction, if the disk has returned what was written
+abbrev pub LooksUpInside : {S A : Type 0} → Ghosts S → Transaction S → Transaction S → (Holdings → A → Type 0) → Result A StoreFault → Type 0
+LooksUpInside g old new Is result = HasCleanDisk (inside g new) → LooksUp (inside g old) (inside g new) Is result

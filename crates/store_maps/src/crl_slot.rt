@@ -1,14 +1,12 @@
 //! Look-ups of revocation lists.
 
-ghost use Rattle.std.specs.Prelude.{◌≡◌, ◌<◌, IsTrue, option_map};
-ghost use Rattle.sqlite.specs.Held.{state};
-ghost use Rattle.sqlite.specs.State.{HasCleanDisk};
+ghost use Rattle.std.specs.Prelude.{◌≡◌, ◌<◌};
 ghost use Rattle.statements_facts.specs.Fact.{issuer_of};
 ghost use Rattle.store_sql.specs.Statements.{CommitsNothing};
-ghost use Rattle.store_rows.specs.Steps.{Finds};
-ghost use Rattle.store_maps.specs.Held.{crl_under, seen_crl};
-ghost use Rattle.statements_facts.specs.Statement.{answer_for};
-ghost use Rattle.store_maps.specs.LooksUp.{LooksUp};
+ghost use Rattle.store_maps.specs.Held.{seen_crl, seen_with_reason, IsCrlUnder, IsCrlHeld};
+ghost use Rattle.store_sql.specs.Inside.{inside, IsInTransaction, KeepsReference};
+ghost use Rattle.store_maps.specs.LooksUp.{LooksUpInside};
+ghost use Rattle.store_rows.specs.Steps.{FindsIn};
 
 use asn::Number20;
 use sqlite::{Alter, Transaction};
@@ -30,7 +28,7 @@ pub struct HeldCrl {
 }
 
 fn with_reason(head: Head, reason: Option<u8>) -> HeldCrl
-    ensures { seen_crl result ≡ record { number = head.number; window = record { from = head.from; until = head.until }; reason = reason } }
+    ensures { seen_crl result ≡ seen_with_reason head reason }
 {
     HeldCrl {
         number: head.number,
@@ -46,10 +44,10 @@ fn look_under<S: Alter>(
     serial: &[u8],
 ) -> Result<Option<HeldCrl>, StoreFault>
     requires issuer { list.now.issuer < 536870911 }
-    requires inside { HasCleanDisk (state S.Store tx.old.conn.now) → IsTrue (state S.Store tx.old.conn.now).in_transaction }
-    ensures same_reference { tx.new.conn.ghost_name ≡ tx.old.conn.ghost_name }
-    ensures finds { HasCleanDisk (state S.Store tx.new.conn.now) → Finds (state S.Store tx.old.conn.now) (state S.Store tx.new.conn.now) (λ it crl. option_map seen_crl crl ≡ option_map (answer_for serial.now) (crl_under it list.now.scope list.now.issuer)) result }
-    ensures survives { CommitsNothing (state S.Store tx.old.conn.now) (state S.Store tx.new.conn.now) }
+    requires inside { IsInTransaction S.Store tx.old }
+    ensures same_reference { KeepsReference tx.old tx.new }
+    ensures finds { FindsIn S.Store tx.old tx.new (IsCrlUnder list.now serial.now) result }
+    ensures survives { CommitsNothing (inside S.Store tx.old) (inside S.Store tx.new) }
 {
     let head = match find_crl(tx, list.issuer, list.scope) {
         Ok(Some(head)) => head,
@@ -69,10 +67,11 @@ pub fn crl<S: Alter>(
     scope: Scope,
     serial: &[u8],
 ) -> Result<Option<HeldCrl>, StoreFault>
-    requires inside { HasCleanDisk (state S.Store tx.old.conn.now) → IsTrue (state S.Store tx.old.conn.now).in_transaction }
-    ensures same_reference { tx.new.conn.ghost_name ≡ tx.old.conn.ghost_name }
-    ensures looks_up { HasCleanDisk (state S.Store tx.new.conn.now) → LooksUp (state S.Store tx.old.conn.now) (state S.Store tx.new.conn.now) (λ held crl. option_map seen_crl crl ≡ option_map (answer_for serial.now) (held.crl (record { issuer = issuer_of issuer.now; scope = scope }))) result }
-    ensures survives { CommitsNothing (state S.Store tx.old.conn.now) (state S.Store tx.new.conn.now) }
+    requires inside { IsInTransaction S.Store tx.old }
+    ensures same_reference { KeepsReference tx.old tx.new }
+    ensures looks_up { LooksUpInside S.Store tx.old tx.new
+        (IsCrlHeld (issuer_of issuer.now) scope serial.now) result }
+    ensures survives { CommitsNothing (inside S.Store tx.old) (inside S.Store tx.new) }
 {
     let id = match find_issuer(tx, issuer) {
         Ok(Some(id)) => id,

@@ -1,12 +1,10 @@
 //! Look-ups of what responses say.
 
-ghost use Rattle.std.specs.Prelude.{◌≡◌, IsTrue, option_map};
-ghost use Rattle.sqlite.specs.Held.{state};
-ghost use Rattle.sqlite.specs.State.{HasCleanDisk};
 ghost use Rattle.statements_facts.specs.Fact.{issuer_of};
 ghost use Rattle.store_sql.specs.Statements.{CommitsNothing};
-ghost use Rattle.store_rows.specs.Seen.{seen_held_status};
-ghost use Rattle.store_maps.specs.LooksUp.{LooksUp};
+ghost use Rattle.store_sql.specs.Inside.{inside, IsInTransaction, KeepsReference};
+ghost use Rattle.store_maps.specs.LooksUp.{LooksUpInside};
+ghost use Rattle.store_maps.specs.Held.{IsOcspHeld};
 
 use sqlite::{Alter, Transaction};
 use statements_facts::Issuer;
@@ -21,10 +19,11 @@ pub fn ocsp<'x, S: Alter>(
     name_hash: &'x [u8],
     serial: &'x [u8],
 ) -> Result<Option<HeldStatus>, StoreFault>
-    requires inside { HasCleanDisk (state S.Store tx.old.conn.now) → IsTrue (state S.Store tx.old.conn.now).in_transaction }
-    ensures same_reference { tx.new.conn.ghost_name ≡ tx.old.conn.ghost_name }
-    ensures looks_up { HasCleanDisk (state S.Store tx.new.conn.now) → LooksUp (state S.Store tx.old.conn.now) (state S.Store tx.new.conn.now) (λ held said. option_map seen_held_status said ≡ held.ocsp (record { issuer = issuer_of issuer.now; name_hash = name_hash.now; serial = serial.now })) result }
-    ensures survives { CommitsNothing (state S.Store tx.old.conn.now) (state S.Store tx.new.conn.now) }
+    requires inside { IsInTransaction S.Store tx.old }
+    ensures same_reference { KeepsReference tx.old tx.new }
+    ensures looks_up { LooksUpInside S.Store tx.old tx.new
+        (IsOcspHeld (issuer_of issuer.now) name_hash.now serial.now) result }
+    ensures survives { CommitsNothing (inside S.Store tx.old) (inside S.Store tx.new) }
 {
     let id = match find_issuer(tx, issuer) {
         Ok(Some(id)) => id,

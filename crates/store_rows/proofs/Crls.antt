@@ -7,7 +7,6 @@ use Rattle.sqlite.specs.Order.{Row, column}
 use Rattle.sqlite.specs.State.{State, Shown, ExecutesInside}
 use Rattle.statements_facts.specs.declared.scope.Scope.{Scope}
 use Rattle.store_sql.specs.declared.fault.StoreFault.{StoreFault}
-use Rattle.store_sql.specs.declared.fault.StoreFault.TheVariants.{Schema as NotOurs}
 use Rattle.store_sql.specs.Texts.{select_crl, delete_crl, insert_crl}
 use Rattle.store_sql.proofs.Laws.{selects_crl}
 use Rattle.store_rows.specs.Contents.{CrlRow, CrlHead, HasCell, head_of, head_cells, is_crl_of, scope_number, shown}
@@ -36,7 +35,7 @@ head_read row octets number from until cell_0 cell_1 cell_2 spelled low head low
 
 pub crl_found : {A : Type 0} (old new : State) (issuer : ℕ) (scope : Scope) (rows : List Row) (result : Result A StoreFault) (view : A → Option CrlHead)
     → IfOk result (λ found. (head : Option CrlHead) → IfSome head IsNumbered → rows ≡ shown head_cells head → view found ≡ head)
-    → (result ≡ Err NotOurs → (head : Option CrlHead) → IfSome head IsNumbered → rows ≡ shown head_cells head → ⊥)
+    → (result ≡ Err StoreFault.Schema → (head : Option CrlHead) → IfSome head IsNumbered → rows ≡ shown head_cells head → ⊥)
     → IsTrue old.in_transaction → Shown select_crl (Int (pos issuer) ∷ Int (pos (scope_number scope)) ∷ []) old new rows
     → Finds old new (λ it found. view found ≡ option_map head_of (find (is_crl_of issuer scope) it.crls)) result
 crl_found old new issuer scope rows result view ok schema inside h =
@@ -50,7 +49,7 @@ crl_found old new issuer scope rows result view ok schema inside h =
 
 pub crl_moves : (old mid new : State) (issuer : ℕ) (scope : Scope) (head : CrlHead) (gone count : ℕ)
     → ExecutesInside 0 delete_crl (Int (pos issuer) ∷ Int (pos (scope_number scope)) ∷ []) old mid (Ok gone)
-    → ExecutesInside 0 insert_crl (Int (pos issuer) ∷ Int (pos (scope_number scope)) ∷ head_cells head) mid new (Ok count) → Moves old new (with_crl issuer scope head.number head.window)
+    → ExecutesInside 0 insert_crl (Int (pos issuer) ∷ Int (pos (scope_number scope)) ∷ head_cells head) mid new (Ok count) → Moves old new (with_crl issuer scope head)
 crl_moves old mid new issuer scope head gone count one two = record {
   was_open = one.1.was_open;
   is_open = two.1.is_open;

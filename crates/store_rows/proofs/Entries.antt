@@ -9,7 +9,6 @@ use Rattle.statements_facts.specs.declared.scope.Scope.{Scope}
 use Rattle.statements_facts.specs.declared.scope.Scope.TheVariants.{All, User, Ca}
 use Rattle.store_sql.specs.declared.origin.Origin.{Origin}
 use Rattle.store_sql.specs.declared.fault.StoreFault.{StoreFault}
-use Rattle.store_sql.specs.declared.fault.StoreFault.TheVariants.{Schema as NotOurs}
 use Rattle.store_sql.specs.Texts.{select_entry}
 use Rattle.store_sql.proofs.Laws.{selects_entry}
 use Rattle.store_rows.specs.declared.beside.SerialAtPlace.{SerialAtPlace}
@@ -38,7 +37,7 @@ has_at P (x ∷ xs) (suc k) h = has_at P xs k h.1
 
 pub stands : (old new : State) (issuer scope k place : ℕ) (serial : List ℕ) (rows : List Row) (result : Result SerialAtPlace StoreFault)
     → IfOk result (λ beside. (listed : Option ListedSerial) → IfSome listed HasByte → rows ≡ shown listed_cells listed → beside ≡ beside_of listed serial)
-    → (result ≡ Err NotOurs → (listed : Option ListedSerial) → IfSome listed HasByte → rows ≡ shown listed_cells listed → ⊥)
+    → (result ≡ Err StoreFault.Schema → (listed : Option ListedSerial) → IfSome listed HasByte → rows ≡ shown listed_cells listed → ⊥)
     → scope < 3 → k < 4294967296 → place ≡ base_of issuer scope + k
     → IsTrue old.in_transaction → Shown select_entry (Int (pos place) ∷ []) old new rows
     → Finds old new (λ it beside. beside ≡ beside_of (slice_get (entries_under it.entries issuer scope) k) serial) result

@@ -10,7 +10,6 @@ use Rattle.sqlite.proofs.Callers.{IsPlain}
 use Rattle.sqlite.proofs.InsideLemmas.{unchanged_keeps}
 use Rattle.store_sql.specs.declared.origin.Origin.{Origin}
 use Rattle.store_sql.specs.declared.fault.StoreFault.{StoreFault}
-use Rattle.store_sql.specs.declared.fault.StoreFault.TheVariants.{Schema as NotOurs}
 use Rattle.store_sql.specs.Tables.{store_schema}
 use Rattle.store_rows.specs.Contents.{Contents, shown}
 use Rattle.store_rows.specs.Holding.{HasContents, AreInForm}
@@ -59,7 +58,7 @@ shown_map cells f (Some x) = refl
 pub finds_shown : {A B : Type 0} (old new : State) (text : List ℕ) (params : Row) (rows : List Row) (result : Result A StoreFault) (cells : B → Row) (Told : A → Option B → Type 0) (Fits : B → Type 0)
     (want : Contents → Option B) (IsFound : Contents → A → Type 0)
     → IfOk result (λ found. (o : Option B) → IfSome o Fits → rows ≡ shown cells o → Told found o)
-    → (result ≡ Err NotOurs → (o : Option B) → IfSome o Fits → rows ≡ shown cells o → ⊥)
+    → (result ≡ Err StoreFault.Schema → (o : Option B) → IfSome o Fits → rows ≡ shown cells o → ⊥)
     → IsTrue old.in_transaction → Shown text params old new rows
     → ((origin : Origin) → IsPlain (understood (store_schema origin) text))
     → ((origin : Origin) (it : Contents) → HasContents old.now origin it → AreInForm it → (rows ≡ shown cells (want it)) × IfSome (want it) Fits)

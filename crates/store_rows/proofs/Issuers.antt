@@ -7,7 +7,6 @@ use Rattle.sqlite.specs.Order.{Row}
 use Rattle.sqlite.specs.State.{State, Shown, ExecutesInside}
 use Rattle.statements_facts.specs.Statement.{IssuerIdentity}
 use Rattle.store_sql.specs.declared.fault.StoreFault.{StoreFault}
-use Rattle.store_sql.specs.declared.fault.StoreFault.TheVariants.{Schema as NotOurs}
 use Rattle.store_sql.specs.Texts.{select_issuer, insert_issuer}
 use Rattle.store_sql.proofs.Laws.{selects_issuer}
 use Rattle.store_rows.specs.Contents.{IssuerRow, id_cells, id_of, is_issuer, shown}
@@ -46,7 +45,7 @@ issuer_known old new identity rows (Ok found) ok h = record {
 
 pub issuer_found : (old new : State) (identity : IssuerIdentity) (rows : List Row) (result : Result (Option ℕ) StoreFault)
     → IfOk result (λ found. (id : Option ℕ) → rows ≡ shown id_cells id → found ≡ id)
-    → (result ≡ Err NotOurs → (id : Option ℕ) → IfSome id HasRoom → rows ≡ shown id_cells id → ⊥)
+    → (result ≡ Err StoreFault.Schema → (id : Option ℕ) → IfSome id HasRoom → rows ≡ shown id_cells id → ⊥)
     → IsTrue old.in_transaction → Shown select_issuer (Blob identity.name ∷ Blob identity.key_info ∷ []) old new rows
     → Finds old new (λ it id. id ≡ id_of it.issuers identity) result
 issuer_found old new identity rows result ok schema inside h =

@@ -5,7 +5,6 @@ use Rattle.sqlite.specs.Order.{Row}
 use Rattle.sqlite.specs.State.{State, Shown, ExecutesInside}
 use Rattle.statements_facts.specs.Statement.{OcspFact}
 use Rattle.store_sql.specs.declared.fault.StoreFault.{StoreFault}
-use Rattle.store_sql.specs.declared.fault.StoreFault.TheVariants.{Schema as NotOurs}
 use Rattle.store_sql.specs.Texts.{select_single, delete_single, insert_single}
 use Rattle.store_sql.proofs.Laws.{selects_single}
 use Rattle.store_rows.specs.Contents.{SingleRow, said_of, said_cells, is_single_of, shown}
@@ -17,7 +16,7 @@ use Rattle.store_rows.proofs.Steps.{single_shown, single_deleted, single_added}
 
 pub single_found : {A : Type 0} (old new : State) (issuer : ℕ) (name_hash serial : List ℕ) (rows : List Row) (result : Result A StoreFault) (view : A → Option OcspFact)
     → IfOk result (λ found. (fact : Option OcspFact) → IfSome fact IsSaid → rows ≡ shown said_cells fact → view found ≡ fact)
-    → (result ≡ Err NotOurs → (fact : Option OcspFact) → IfSome fact IsSaid → rows ≡ shown said_cells fact → ⊥)
+    → (result ≡ Err StoreFault.Schema → (fact : Option OcspFact) → IfSome fact IsSaid → rows ≡ shown said_cells fact → ⊥)
     → IsTrue old.in_transaction → Shown select_single (Int (pos issuer) ∷ Blob name_hash ∷ Blob serial ∷ []) old new rows
     → Finds old new (λ it found. view found ≡ option_map said_of (find (is_single_of issuer name_hash serial) it.singles)) result
 single_found old new issuer name_hash serial rows result view ok schema inside h =
@@ -31,7 +30,7 @@ single_found old new issuer name_hash serial rows result view ok schema inside h
 
 pub single_moves : (old mid new : State) (issuer : ℕ) (name_hash serial : List ℕ) (fact : OcspFact) (cells : Row) (gone count : ℕ) → cells ≡ said_cells fact
     → ExecutesInside 0 delete_single (Int (pos issuer) ∷ Blob name_hash ∷ Blob serial ∷ []) old mid (Ok gone)
-    → ExecutesInside 0 insert_single (Int (pos issuer) ∷ Blob name_hash ∷ Blob serial ∷ cells) mid new (Ok count) → Moves old new (with_single issuer name_hash serial fact)
+    → ExecutesInside 0 insert_single (Int (pos issuer) ∷ Blob name_hash ∷ Blob serial ∷ cells) mid new (Ok count) → Moves old new (with_single issuer (record { name_hash = name_hash; serial = serial; fact = fact }))
 single_moves old mid new issuer name_hash serial fact cells gone count are one made =
     let two = subst (λ more. ExecutesInside 0 insert_single (Int (pos issuer) ∷ Blob name_hash ∷ Blob serial ∷ more) mid new (Ok count)) are made in
     record {

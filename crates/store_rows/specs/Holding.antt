@@ -8,11 +8,16 @@ use Rattle.statements_facts.specs.declared.scope.Scope.{Scope}
 use Rattle.statements_facts.specs.declared.single.Status.{Status}
 use Rattle.statements_facts.specs.declared.single.Status.TheVariants.{Good, Revoked, Unknown}
 use Rattle.statements_facts.specs.Listed.{ListedSerial, IsAscending as Ascend}
+use Rattle.statements_facts.specs.declared.single.Single.{Single}
+use Rattle.statements_facts.specs.Single.{SingleFact, seen_single}
 use Rattle.statements_facts.specs.Statement.{IssuerIdentity, Window, OcspFact}
 use Rattle.store_sql.specs.declared.origin.Origin.{Origin}
 use Rattle.store_sql.specs.Tables.{store_schema, crls_tree, entries_tree}
-use Rattle.store_rows.specs.Contents.{IssuerRow, CrlRow, SingleRow, Contents, CrlHead, head_of, issuer_row, crl_row, entry_row, single_row, version_row, is_crl_of, is_single_of}
+use Rattle.store_rows.specs.Contents.{IssuerRow, CrlRow, SingleRow, Contents, CrlHead, head_of, issuer_row, crl_row, entry_row, single_row, version_row, scope_number, is_crl_of, is_single_of}
+use Rattle.store_rows.specs.declared.crl.Head.{Head}
+use Rattle.store_rows.specs.declared.entry.ListKey.{ListKey}
 use Rattle.store_rows.specs.Places.{ArePlaced, replaced}
+use Rattle.store_rows.specs.Seen.{seen_head}
 
 -- the tables are those of version 2, these are their rows, and ids rise
 pub record HasContents (db : Database) (origin : Origin) (it : Contents) : Type 0 where
@@ -77,15 +82,17 @@ abbrev pub crls_and : ℕ → Scope → ℕ → Window → List CrlRow → List 
 crls_and issuer scope number window rows = rows ++ record { id = next_rowid (map crl_row rows); issuer = issuer; scope = scope; number = number; window = window } ∷ []
 
 -- a list in the place of that of its issuer and scope, without the entries
-abbrev pub with_crl : ℕ → Scope → ℕ → Window → Contents → Contents
-with_crl issuer scope number window it = record it { crls = crls_and issuer scope number window (filter (λ row. not (is_crl_of issuer scope row)) it.crls) }
+abbrev pub with_crl : ℕ → Scope → CrlHead → Contents → Contents
+with_crl issuer scope head it = record it { crls = crls_and issuer scope head.number head.window (filter (λ row. not (is_crl_of issuer scope row)) it.crls) }
 
 abbrev pub singles_and : ℕ → List ℕ → List ℕ → OcspFact → List SingleRow → List SingleRow
 singles_and issuer name_hash serial fact rows = rows ++ record { id = next_rowid (map single_row rows); issuer = issuer; name_hash = name_hash; serial = serial; fact = fact } ∷ []
 
 -- what is said of a certificate, in the place of what was said of it
-abbrev pub with_single : ℕ → List ℕ → List ℕ → OcspFact → Contents → Contents
-with_single issuer name_hash serial fact it = record it { singles = singles_and issuer name_hash serial fact (filter (λ row. not (is_single_of issuer name_hash serial row)) it.singles) }
+abbrev pub with_single : ℕ → SingleFact → Contents → Contents
+with_single issuer single it = record it {
+  singles = singles_and issuer single.name_hash single.serial single.fact (filter (λ row. not (is_single_of issuer single.name_hash single.serial row)) it.singles);
+}
 
 -- the entries of a list, in the place of those that stood there
 abbrev pub with_entries : ℕ → ℕ → List ListedSerial → Contents → Contents
@@ -93,3 +100,14 @@ with_entries issuer scope listed it = record it { entries = replaced it.entries 
 
 abbrev pub no_contents : Contents
 no_contents = record { issuers = []; crls = []; entries = []; singles = [] }
+
+-- ---- changes by what the code holds
+
+abbrev pub with_head : ℕ → Scope → Head → Contents → Contents
+with_head issuer scope head = with_crl issuer scope (seen_head head)
+
+abbrev pub with_said : ℕ → Single → Contents → Contents
+with_said issuer single = with_single issuer (seen_single single)
+
+abbrev pub with_listed : ListKey → List ListedSerial → Contents → Contents
+with_listed list listed = with_entries list.issuer (scope_number list.scope) listed

@@ -4,3 +4,6 @@ pub mod Holding
 pub mod Steps
 pub mod Seen
 pub mod Making
+pub mod Found
+pub mod Reading
+pub mod Bound

@@ -3,10 +3,12 @@ use Rattle.std.specs.Prelude.{◌≡◌, ◌≢◌, [], Result, Ok, Err, IsTrue}
 use Rattle.std.specs.List.{AllByRecursion}
 use Rattle.sqlite.specs.Effect.{Database}
 use Rattle.sqlite.specs.Schema.{Schema}
-use Rattle.sqlite.specs.State.{State, KeepsCommit}
+use Rattle.sqlite_trees.specs.declared.store.Store.{Ghosts}
+use Rattle.sqlite.specs.declared.transaction.Transaction.{Transaction}
+use Rattle.sqlite.specs.State.{State, HasCleanDisk, KeepsCommit}
+use Rattle.store_sql.specs.Inside.{inside}
 use Rattle.store_sql.specs.declared.origin.Origin.TheVariants.{Made}
 use Rattle.store_sql.specs.declared.fault.StoreFault.{StoreFault}
-use Rattle.store_sql.specs.declared.fault.StoreFault.TheVariants.{Schema as NotOurs}
 use Rattle.store_rows.specs.Holding.{HasContents, no_contents}
 
 -- the tables of this schema, without a row
@@ -23,7 +25,7 @@ pub record Advances (old new : State) : Type 0 where
 
 pub record FailsOverStore (old new : State) (fault : StoreFault) : Type 0 where
   pub keeps : KeepsCommit old new
-  pub formed : fault ≢ NotOurs
+  pub formed : fault ≢ StoreFault.Schema
 
 -- from one schema to another
 abbrev pub Builds : {A : Type 0} → State → State → Schema → Schema → Result A StoreFault → Type 0
@@ -34,3 +36,11 @@ Builds old new before after (Err fault) = FailsOverStore old new fault
 abbrev pub Makes : {A : Type 0} → State → State → Schema → Result A StoreFault → Type 0
 Makes old new before (Ok done) = Advances old new × (IsEmptyWith old.now before → HasContents new.now Made no_contents)
 Makes old new before (Err fault) = FailsOverStore old new fault
+
+-- ---- the same of a call on a transaction, if the disk has returned what was written
+
+abbrev pub BuildsIn : {S A : Type 0} → Ghosts S → Transaction S → Transaction S → Schema → Schema → Result A StoreFault → Type 0
+BuildsIn g old new before after result = HasCleanDisk (inside g new) → Builds (inside g old) (inside g new) before after result
+
+abbrev pub MakesIn : {S A : Type 0} → Ghosts S → Transaction S → Transaction S → Schema → Result A StoreFault → Type 0
+MakesIn g old new before result = HasCleanDisk (inside g new) → Makes (inside g old) (inside g new) before result

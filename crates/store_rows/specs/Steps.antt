@@ -1,6 +1,9 @@
 -- What a call inside a transaction does to the rows.
-use Rattle.std.specs.Prelude.{◌≡◌, ℕ, Option, Result, Ok, Err, IsTrue}
-use Rattle.sqlite.specs.State.{State, KeepsCommit}
+use Rattle.std.specs.Prelude.{◌≡◌, ℕ, Option, Result, Ok, Err, IfOk, IsTrue}
+use Rattle.sqlite_trees.specs.declared.store.Store.{Ghosts}
+use Rattle.sqlite.specs.declared.transaction.Transaction.{Transaction}
+use Rattle.sqlite.specs.State.{State, HasCleanDisk, KeepsCommit}
+use Rattle.store_sql.specs.Inside.{inside}
 use Rattle.store_sql.specs.declared.origin.Origin.{Origin}
 use Rattle.store_sql.specs.declared.fault.StoreFault.{StoreFault}
 use Rattle.store_sql.specs.declared.fault.StoreFault.TheVariants.{Schema}
@@ -46,3 +49,14 @@ pub record Moves (old new : State) (changed : Contents → Contents) : Type 0 wh
 abbrev pub Changes : {A : Type 0} → State → State → (Contents → Contents) → Result A StoreFault → Type 0
 Changes old new changed (Ok done) = Moves old new changed
 Changes old new changed (Err fault) = Fails old new fault
+
+-- ---- the same of a call on a transaction, if the disk has returned what was written
+
+abbrev pub FindsIn : {S A : Type 0} → Ghosts S → Transaction S → Transaction S → (Contents → A → Type 0) → Result A StoreFault → Type 0
+FindsIn g old new IsFound result = HasCleanDisk (inside g new) → Finds (inside g old) (inside g new) IsFound result
+
+abbrev pub KnowsIn : {S : Type 0} → Ghosts S → Transaction S → Transaction S → IssuerIdentity → Result (Option ℕ) StoreFault → Type 0
+KnowsIn g old new identity result = HasCleanDisk (inside g new) → IfOk result (IsKnown (inside g old) (inside g new) identity)
+
+abbrev pub ChangesIn : {S A : Type 0} → Ghosts S → Transaction S → Transaction S → (Contents → Contents) → Result A StoreFault → Type 0
+ChangesIn g old new changed result = HasCleanDisk (inside g new) → Changes (inside g old) (inside g new) changed result

@@ -1,8 +1,9 @@
 //! Cells of the rows that a query shows.
 
-ghost use Rattle.std.specs.Prelude.{◌≡◌, ◌≢◌, ◌<◌, ℕ, ℤ, pos, Err, IfOk};
+ghost use Rattle.std.specs.Prelude.{◌≡◌, ◌≢◌, ◌<◌, pos, IfOk};
 ghost use Rattle.sqlite.specs.declared.types.Value.TheVariants.{Int, Blob};
 ghost use Rattle.store_rows.specs.Contents.{HasCell};
+ghost use Rattle.store_rows.specs.Reading.{RefusesCell, RefusesNatural};
 
 use sqlite::{Error, ErrorCode, Row};
 use store_sql::StoreFault;
@@ -20,7 +21,7 @@ fn cell_fault(error: Error) -> StoreFault
 /// The integer in a cell.
 pub fn integer(row: &Row, at: usize) -> Result<i64, StoreFault>
     ensures ok { IfOk result (λ number. HasCell row.now at (Int number)) }
-    ensures schema { result ≡ Err StoreFault.Schema → (number : ℤ) → ¬ HasCell row.now at (Int number) }
+    ensures schema { RefusesCell Int row.now at result }
 {
     row.get(at).map_err(cell_fault)
 }
@@ -28,7 +29,7 @@ pub fn integer(row: &Row, at: usize) -> Result<i64, StoreFault>
 /// The octets in a cell.
 pub fn octets(row: &Row, at: usize) -> Result<Vec<u8>, StoreFault>
     ensures ok { IfOk result (λ octets. HasCell row.now at (Blob octets.items)) }
-    ensures schema { result ≡ Err StoreFault.Schema → (octets : _) → ¬ HasCell row.now at (Blob octets) }
+    ensures schema { RefusesCell Blob row.now at result }
 {
     row.get(at).map_err(cell_fault)
 }
@@ -36,7 +37,7 @@ pub fn octets(row: &Row, at: usize) -> Result<Vec<u8>, StoreFault>
 /// The number in a cell that is not negative and below the bound.
 pub fn natural(row: &Row, at: usize, bound: u32) -> Result<u32, StoreFault>
     ensures ok { IfOk result (λ number. HasCell row.now at (Int (pos number)) × (number < bound)) }
-    ensures schema { result ≡ Err StoreFault.Schema → (number : ℕ) → number < bound → ¬ HasCell row.now at (Int (pos number)) }
+    ensures schema { RefusesNatural bound row.now at result }
 {
     let number = integer(row, at)?;
     if 0 <= number && number < i64::from(bound) {

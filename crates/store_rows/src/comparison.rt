@@ -1,13 +1,11 @@
 //! The entries of a list, beside others.
 
-ghost use Rattle.std.specs.Prelude.{◌≡◌, ◌<◌, ◌↔◌, Some, None, slice_get, IsTrue};
-ghost use Rattle.sqlite.specs.Held.{state};
-ghost use Rattle.sqlite.specs.State.{HasCleanDisk};
-ghost use Rattle.statements_facts.specs.Listed.{IsAscending, seen_listed};
+ghost use Rattle.std.specs.Prelude.{◌≡◌, ◌<◌, ◌↔◌, IsTrue};
+ghost use Rattle.statements_facts.specs.Listed.{IsAscending};
 ghost use Rattle.store_sql.specs.Statements.{CommitsNothing};
-ghost use Rattle.store_rows.specs.Contents.{scope_number};
-ghost use Rattle.store_rows.specs.Places.{entries_under};
-ghost use Rattle.store_rows.specs.Steps.{Finds};
+ghost use Rattle.store_sql.specs.Inside.{inside, IsInTransaction, KeepsReference};
+ghost use Rattle.store_rows.specs.Found.{TellsEntryAt, TellsEndAt, TellsEntries};
+ghost use Rattle.store_rows.specs.Steps.{FindsIn};
 
 use crate::beside::SerialAtPlace;
 use crate::entry::{ListKey, ROOM, stands_at};
@@ -42,10 +40,10 @@ fn has_at<S: Alter>(
 ) -> Result<bool, StoreFault>
     requires issuer { list.now.issuer < 536870911 }
     requires index { index < 4294967296 }
-    requires inside { HasCleanDisk (state S.Store tx.old.conn.now) → IsTrue (state S.Store tx.old.conn.now).in_transaction }
-    ensures same_reference { tx.new.conn.ghost_name ≡ tx.old.conn.ghost_name }
-    ensures finds { HasCleanDisk (state S.Store tx.new.conn.now) → Finds (state S.Store tx.old.conn.now) (state S.Store tx.new.conn.now) (λ it there. IsTrue there ↔ (slice_get (entries_under it.entries list.now.issuer (scope_number list.now.scope)) index ≡ Some (seen_listed listed.now))) result }
-    ensures survives { CommitsNothing (state S.Store tx.old.conn.now) (state S.Store tx.new.conn.now) }
+    requires inside { IsInTransaction S.Store tx.old }
+    ensures same_reference { KeepsReference tx.old tx.new }
+    ensures finds { FindsIn S.Store tx.old tx.new (TellsEntryAt list.now index listed.now) result }
+    ensures survives { CommitsNothing (inside S.Store tx.old) (inside S.Store tx.new) }
 {
     match stands_at(tx, list, index, listed.serial) {
         Ok(beside) => Ok(is_same(beside, listed.reason)),
@@ -61,10 +59,10 @@ fn ends_at<S: Alter>(
 ) -> Result<bool, StoreFault>
     requires issuer { list.now.issuer < 536870911 }
     requires index { index < 4294967296 }
-    requires inside { HasCleanDisk (state S.Store tx.old.conn.now) → IsTrue (state S.Store tx.old.conn.now).in_transaction }
-    ensures same_reference { tx.new.conn.ghost_name ≡ tx.old.conn.ghost_name }
-    ensures finds { HasCleanDisk (state S.Store tx.new.conn.now) → Finds (state S.Store tx.old.conn.now) (state S.Store tx.new.conn.now) (λ it ends. IsTrue ends ↔ (slice_get (entries_under it.entries list.now.issuer (scope_number list.now.scope)) index ≡ None)) result }
-    ensures survives { CommitsNothing (state S.Store tx.old.conn.now) (state S.Store tx.new.conn.now) }
+    requires inside { IsInTransaction S.Store tx.old }
+    ensures same_reference { KeepsReference tx.old tx.new }
+    ensures finds { FindsIn S.Store tx.old tx.new (TellsEndAt list.now index) result }
+    ensures survives { CommitsNothing (inside S.Store tx.old) (inside S.Store tx.new) }
 {
     match stands_at(tx, list, index, &[]) {
         Ok(beside) => Ok(is_nothing(beside)),
@@ -80,11 +78,11 @@ pub fn has_entries<S: Alter>(
     revoked: &RevokedSerials<'_>,
 ) -> Result<bool, StoreFault>
     requires issuer { list.now.issuer < 536870911 }
-    requires inside { HasCleanDisk (state S.Store tx.old.conn.now) → IsTrue (state S.Store tx.old.conn.now).in_transaction }
-    ensures same_reference { tx.new.conn.ghost_name ≡ tx.old.conn.ghost_name }
-    ensures finds { HasCleanDisk (state S.Store tx.new.conn.now) → Finds (state S.Store tx.old.conn.now) (state S.Store tx.new.conn.now) (λ it same. IsTrue same ↔ (entries_under it.entries list.now.issuer (scope_number list.now.scope) ≡ revoked.now)) result }
+    requires inside { IsInTransaction S.Store tx.old }
+    ensures same_reference { KeepsReference tx.old tx.new }
+    ensures finds { FindsIn S.Store tx.old tx.new (TellsEntries list.now revoked.now) result }
     ensures ascend { IsAscending revoked.now }
-    ensures survives { CommitsNothing (state S.Store tx.old.conn.now) (state S.Store tx.new.conn.now) }
+    ensures survives { CommitsNothing (inside S.Store tx.old) (inside S.Store tx.new) }
 {
     let all = revoked.as_slice();
     let count = all.len() as u64;

@@ -1,12 +1,10 @@
 //! The tables of a new store.
 
-ghost use Rattle.std.specs.Prelude.{◌≡◌, IsTrue};
-ghost use Rattle.sqlite.specs.Held.{state};
-ghost use Rattle.sqlite.specs.State.{HasCleanDisk};
 ghost use Rattle.store_sql.specs.declared.origin.Origin.TheVariants.{Made};
 ghost use Rattle.store_sql.specs.Statements.{CommitsNothing};
 ghost use Rattle.store_sql.specs.Tables.{no_schema, meta_and_issuers, half_schema};
-ghost use Rattle.store_rows.specs.Making.{Builds, Makes};
+ghost use Rattle.store_sql.specs.Inside.{inside, IsInTransaction, KeepsReference};
+ghost use Rattle.store_rows.specs.Making.{BuildsIn, MakesIn};
 
 use sqlite::{Alter, Transaction};
 use store_sql::{
@@ -15,10 +13,10 @@ use store_sql::{
 };
 
 fn make_first<S: Alter>(tx: &mut Transaction<'_, S>) -> Result<(), StoreFault>
-    requires inside { HasCleanDisk (state S.Store tx.old.conn.now) → IsTrue (state S.Store tx.old.conn.now).in_transaction }
-    ensures same_reference { tx.new.conn.ghost_name ≡ tx.old.conn.ghost_name }
-    ensures builds { HasCleanDisk (state S.Store tx.new.conn.now) → Builds (state S.Store tx.old.conn.now) (state S.Store tx.new.conn.now) no_schema meta_and_issuers result }
-    ensures survives { CommitsNothing (state S.Store tx.old.conn.now) (state S.Store tx.new.conn.now) }
+    requires inside { IsInTransaction S.Store tx.old }
+    ensures same_reference { KeepsReference tx.old tx.new }
+    ensures builds { BuildsIn S.Store tx.old tx.new no_schema meta_and_issuers result }
+    ensures survives { CommitsNothing (inside S.Store tx.old) (inside S.Store tx.new) }
 {
     if let Err(error) = create_meta(tx) {
         return Err(StoreFault::from(error));
@@ -30,10 +28,10 @@ fn make_first<S: Alter>(tx: &mut Transaction<'_, S>) -> Result<(), StoreFault>
 }
 
 fn make_next<S: Alter>(tx: &mut Transaction<'_, S>) -> Result<(), StoreFault>
-    requires inside { HasCleanDisk (state S.Store tx.old.conn.now) → IsTrue (state S.Store tx.old.conn.now).in_transaction }
-    ensures same_reference { tx.new.conn.ghost_name ≡ tx.old.conn.ghost_name }
-    ensures builds { HasCleanDisk (state S.Store tx.new.conn.now) → Builds (state S.Store tx.old.conn.now) (state S.Store tx.new.conn.now) meta_and_issuers (half_schema Made) result }
-    ensures survives { CommitsNothing (state S.Store tx.old.conn.now) (state S.Store tx.new.conn.now) }
+    requires inside { IsInTransaction S.Store tx.old }
+    ensures same_reference { KeepsReference tx.old tx.new }
+    ensures builds { BuildsIn S.Store tx.old tx.new meta_and_issuers (half_schema Made) result }
+    ensures survives { CommitsNothing (inside S.Store tx.old) (inside S.Store tx.new) }
 {
     if let Err(error) = create_ocsp(tx) {
         return Err(StoreFault::from(error));
@@ -45,10 +43,10 @@ fn make_next<S: Alter>(tx: &mut Transaction<'_, S>) -> Result<(), StoreFault>
 }
 
 fn make_last<S: Alter>(tx: &mut Transaction<'_, S>) -> Result<(), StoreFault>
-    requires inside { HasCleanDisk (state S.Store tx.old.conn.now) → IsTrue (state S.Store tx.old.conn.now).in_transaction }
-    ensures same_reference { tx.new.conn.ghost_name ≡ tx.old.conn.ghost_name }
-    ensures makes { HasCleanDisk (state S.Store tx.new.conn.now) → Makes (state S.Store tx.old.conn.now) (state S.Store tx.new.conn.now) (half_schema Made) result }
-    ensures survives { CommitsNothing (state S.Store tx.old.conn.now) (state S.Store tx.new.conn.now) }
+    requires inside { IsInTransaction S.Store tx.old }
+    ensures same_reference { KeepsReference tx.old tx.new }
+    ensures makes { MakesIn S.Store tx.old tx.new (half_schema Made) result }
+    ensures survives { CommitsNothing (inside S.Store tx.old) (inside S.Store tx.new) }
 {
     if let Err(error) = create_scoped_entries(tx) {
         return Err(StoreFault::from(error));
@@ -61,10 +59,10 @@ fn make_last<S: Alter>(tx: &mut Transaction<'_, S>) -> Result<(), StoreFault>
 
 /// Makes the tables of a new store in an empty database.
 pub fn make_tables<S: Alter>(tx: &mut Transaction<'_, S>) -> Result<(), StoreFault>
-    requires inside { HasCleanDisk (state S.Store tx.old.conn.now) → IsTrue (state S.Store tx.old.conn.now).in_transaction }
-    ensures same_reference { tx.new.conn.ghost_name ≡ tx.old.conn.ghost_name }
-    ensures makes { HasCleanDisk (state S.Store tx.new.conn.now) → Makes (state S.Store tx.old.conn.now) (state S.Store tx.new.conn.now) no_schema result }
-    ensures survives { CommitsNothing (state S.Store tx.old.conn.now) (state S.Store tx.new.conn.now) }
+    requires inside { IsInTransaction S.Store tx.old }
+    ensures same_reference { KeepsReference tx.old tx.new }
+    ensures makes { MakesIn S.Store tx.old tx.new no_schema result }
+    ensures survives { CommitsNothing (inside S.Store tx.old) (inside S.Store tx.new) }
 {
     if let Err(fault) = make_first(tx) {
         return Err(fault);

@@ -1,17 +1,17 @@
 //! Revocation lists, without their entries.
 
-ghost use Rattle.std.specs.Prelude.{◌≡◌, ◌≢◌, ◌<◌, ◌^◌, ◌∷◌, [], ℕ, pos, length, Option, Err, IfOk, IfSome, IfNone, IsTrue, option_map, find};
+ghost use Rattle.std.specs.Prelude.{◌≡◌, ◌≢◌, ℕ, pos, length, Err, IfOk, IfSome, IfNone};
 ghost use Rattle.asn.specs.Integer.{binary_value};
 ghost use Rattle.asn.specs.NumberLaws.{number_octets};
-ghost use Rattle.sqlite.specs.Held.{state};
-ghost use Rattle.sqlite.specs.State.{HasCleanDisk};
-ghost use Rattle.sqlite.specs.declared.types.Value.TheVariants.{Int};
-ghost use Rattle.store_sql.specs.Statements.{CommitsNothing, Runs};
-ghost use Rattle.store_sql.specs.Texts.{insert_crl};
-ghost use Rattle.store_rows.specs.Contents.{CrlHead, shown, head_cells, head_of, is_crl_of, scope_number};
-ghost use Rattle.store_rows.specs.Holding.{IsNumbered, with_crl};
-ghost use Rattle.store_rows.specs.Steps.{Finds, Changes};
+ghost use Rattle.store_sql.specs.Statements.{CommitsNothing};
+ghost use Rattle.store_rows.specs.Contents.{CrlHead, head_cells, scope_number};
+ghost use Rattle.store_rows.specs.Holding.{IsNumbered, with_head};
 ghost use Rattle.store_rows.specs.Seen.{seen_head};
+ghost use Rattle.store_sql.specs.Inside.{inside, IsInTransaction, KeepsReference, RunsIn};
+ghost use Rattle.store_rows.specs.Found.{IsHeadOf};
+ghost use Rattle.store_rows.specs.Reading.{SpellsNumber, IsShown, AreShown, RefusesRows};
+ghost use Rattle.store_rows.specs.Bound.{head_insertion};
+ghost use Rattle.store_rows.specs.Steps.{FindsIn, ChangesIn};
 
 use crate::cell::{integer, octets};
 use asn::Number20;
@@ -40,7 +40,7 @@ pub fn scope_number(scope: Scope) -> u8
 
 /// The number that twenty octets spell; `None` where there are not twenty.
 pub fn number_of(octets: &[u8]) -> Option<Number20>
-    ensures some { IfSome result (λ number. (octets.now ≡ number_octets 20 number) × (number < 2 ^ 160)) }
+    ensures some { IfSome result (SpellsNumber octets.now) }
     ensures none { IfNone result ((number : ℕ) → octets.now ≢ number_octets 20 number) }
 {
     match octets.try_into() {
@@ -50,7 +50,7 @@ pub fn number_of(octets: &[u8]) -> Option<Number20>
 }
 
 fn read_head(row: &Row) -> Result<Head, StoreFault>
-    ensures ok { IfOk result (λ found. (head : CrlHead) → IsNumbered head → row.now ≡ head_cells head → seen_head found ≡ head) }
+    ensures ok { IfOk result (IsShown seen_head head_cells IsNumbered row.now) }
     ensures schema { result ≡ Err StoreFault.Schema → (head : CrlHead) → row.now ≢ head_cells head }
 {
     let octets = octets(row, 0)?;
@@ -67,8 +67,8 @@ fn read_head(row: &Row) -> Result<Head, StoreFault>
 }
 
 fn read_heads(rows: &[Row]) -> Result<Option<Head>, StoreFault>
-    ensures ok { IfOk result (λ found. (head : Option CrlHead) → IfSome head IsNumbered → rows.now ≡ shown head_cells head → option_map seen_head found ≡ head) }
-    ensures schema { result ≡ Err StoreFault.Schema → (head : Option CrlHead) → IfSome head IsNumbered → rows.now ≢ shown head_cells head }
+    ensures ok { IfOk result (AreShown seen_head head_cells IsNumbered rows.now) }
+    ensures schema { RefusesRows head_cells IsNumbered rows.now result }
 {
     match rows {
         [] => Ok(None),
@@ -83,10 +83,10 @@ pub fn find_crl<S: Alter>(
     issuer: u32,
     scope: Scope,
 ) -> Result<Option<Head>, StoreFault>
-    requires inside { HasCleanDisk (state S.Store tx.old.conn.now) → IsTrue (state S.Store tx.old.conn.now).in_transaction }
-    ensures same_reference { tx.new.conn.ghost_name ≡ tx.old.conn.ghost_name }
-    ensures finds { HasCleanDisk (state S.Store tx.new.conn.now) → Finds (state S.Store tx.old.conn.now) (state S.Store tx.new.conn.now) (λ it head. option_map seen_head head ≡ option_map head_of (find (is_crl_of issuer scope) it.crls)) result }
-    ensures survives { CommitsNothing (state S.Store tx.old.conn.now) (state S.Store tx.new.conn.now) }
+    requires inside { IsInTransaction S.Store tx.old }
+    ensures same_reference { KeepsReference tx.old tx.new }
+    ensures finds { FindsIn S.Store tx.old tx.new (IsHeadOf issuer scope) result }
+    ensures survives { CommitsNothing (inside S.Store tx.old) (inside S.Store tx.new) }
 {
     let key = key_of(issuer, scope);
     let rows = match crl_rows(tx, &key) {
@@ -115,9 +115,9 @@ fn is_spelled(octets: &[u8])
 }
 
 fn add_crl<S: Alter>(tx: &mut Transaction<'_, S>, key: &CrlKey, head: &Head) -> Result<usize, Error>
-    ensures same_reference { tx.new.conn.ghost_name ≡ tx.old.conn.ghost_name }
-    ensures runs { Runs insert_crl (Int key.now.issuer ∷ Int key.now.scope ∷ head_cells (seen_head head.now)) (state S.Store tx.old.conn.now) (state S.Store tx.new.conn.now) result }
-    ensures survives { CommitsNothing (state S.Store tx.old.conn.now) (state S.Store tx.new.conn.now) }
+    ensures same_reference { KeepsReference tx.old tx.new }
+    ensures runs { RunsIn S.Store tx.old tx.new (head_insertion key.now head.now) result }
+    ensures survives { CommitsNothing (inside S.Store tx.old) (inside S.Store tx.new) }
 {
     let number = head.number.to_octets();
     is_spelled(&number);
@@ -136,10 +136,10 @@ pub fn replace_crl<S: Alter>(
     scope: Scope,
     head: &Head,
 ) -> Result<(), StoreFault>
-    requires inside { HasCleanDisk (state S.Store tx.old.conn.now) → IsTrue (state S.Store tx.old.conn.now).in_transaction }
-    ensures same_reference { tx.new.conn.ghost_name ≡ tx.old.conn.ghost_name }
-    ensures changes { HasCleanDisk (state S.Store tx.new.conn.now) → Changes (state S.Store tx.old.conn.now) (state S.Store tx.new.conn.now) (with_crl issuer scope (seen_head head.now).number (seen_head head.now).window) result }
-    ensures survives { CommitsNothing (state S.Store tx.old.conn.now) (state S.Store tx.new.conn.now) }
+    requires inside { IsInTransaction S.Store tx.old }
+    ensures same_reference { KeepsReference tx.old tx.new }
+    ensures changes { ChangesIn S.Store tx.old tx.new (with_head issuer scope head.now) result }
+    ensures survives { CommitsNothing (inside S.Store tx.old) (inside S.Store tx.new) }
 {
     let key = key_of(issuer, scope);
     if let Err(error) = delete_crl(tx, &key) {

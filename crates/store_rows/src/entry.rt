@@ -1,16 +1,15 @@
 //! Entries of revocation lists, at their places.
 
-ghost use Rattle.std.specs.Prelude.{◌≡◌, ◌≢◌, ◌<◌, ◌+◌, ◌∷◌, [], OnErr, pos, slice_get, Option, Some, Err, IfOk, IfSome, IsTrue};
-ghost use Rattle.sqlite.specs.Held.{state};
-ghost use Rattle.sqlite.specs.State.{HasCleanDisk, KeepsCommit, Shown};
-ghost use Rattle.sqlite.specs.declared.types.Value.TheVariants.{Int};
-ghost use Rattle.store_sql.specs.Texts.{select_entry};
-ghost use Rattle.statements_facts.specs.Listed.{ListedSerial, first_reason};
+ghost use Rattle.std.specs.Prelude.{◌≡◌, ◌<◌, ◌+◌, pos, IfOk};
 ghost use Rattle.store_sql.specs.Statements.{CommitsNothing};
-ghost use Rattle.store_rows.specs.Contents.{shown, listed_cells, scope_number};
-ghost use Rattle.store_rows.specs.Places.{base_of, beside_of, entries_under};
+ghost use Rattle.store_rows.specs.Contents.{listed_cells};
 ghost use Rattle.store_rows.specs.Holding.{HasByte};
-ghost use Rattle.store_rows.specs.Steps.{Finds};
+ghost use Rattle.store_sql.specs.Inside.{inside, IsInTransaction, KeepsReference, KeepsCommitOnError, SelectsIn};
+ghost use Rattle.store_rows.specs.Found.{IsBesideAt, IsReasonIn};
+ghost use Rattle.store_rows.specs.Reading.{RefusesRow, RefusesRows, IsBesideRow, IsBesideRows};
+ghost use Rattle.store_rows.specs.Bound.{first_place};
+ghost use Rattle.store_rows.specs.Steps.{FindsIn};
+ghost use Rattle.store_sql.specs.Bindings.{entry_query};
 
 use crate::beside::{SerialAtPlace, compare};
 use crate::cell::{natural, octets};
@@ -32,7 +31,7 @@ pub struct ListKey {
 /// Where the entries of a list begin.
 pub(crate) fn base_of(list: &ListKey) -> u64
     requires { list.now.issuer < 536870911 }
-    ensures place { result ≡ base_of list.now.issuer (scope_number list.now.scope) }
+    ensures place { result ≡ first_place list.now }
     ensures room { result + 4294967296 < 9223372036854775808 }
 {
     (u64::from(list.issuer) * 4 + u64::from(scope_number(list.scope))) * ROOM
@@ -46,8 +45,8 @@ pub(crate) fn signed(place: u64) -> i64
 }
 
 fn read_entry(row: &Row, serial: &[u8]) -> Result<SerialAtPlace, StoreFault>
-    ensures ok { IfOk result (λ beside. (listed : ListedSerial) → row.now ≡ listed_cells listed → beside ≡ beside_of (Some listed) serial.now) }
-    ensures schema { result ≡ Err StoreFault.Schema → (listed : ListedSerial) → HasByte listed → row.now ≢ listed_cells listed }
+    ensures ok { IfOk result (IsBesideRow row.now serial.now) }
+    ensures schema { RefusesRow listed_cells HasByte row.now result }
 {
     let reason = natural(row, 1, 256)?;
     let there = octets(row, 0)?;
@@ -55,8 +54,8 @@ fn read_entry(row: &Row, serial: &[u8]) -> Result<SerialAtPlace, StoreFault>
 }
 
 fn read_entries(rows: &[Row], serial: &[u8]) -> Result<SerialAtPlace, StoreFault>
-    ensures ok { IfOk result (λ beside. (listed : Option ListedSerial) → IfSome listed HasByte → rows.now ≡ shown listed_cells listed → beside ≡ beside_of listed serial.now) }
-    ensures schema { result ≡ Err StoreFault.Schema → (listed : Option ListedSerial) → IfSome listed HasByte → rows.now ≢ shown listed_cells listed }
+    ensures ok { IfOk result (IsBesideRows rows.now serial.now) }
+    ensures schema { RefusesRows listed_cells HasByte rows.now result }
 {
     match rows {
         [] => Ok(SerialAtPlace::Nothing),
@@ -67,10 +66,10 @@ fn read_entries(rows: &[Row], serial: &[u8]) -> Result<SerialAtPlace, StoreFault
 
 fn rows_at<S: Alter>(tx: &mut Transaction<'_, S>, place: u64) -> Result<Vec<Row>, Error>
     requires place { place < 9223372036854775808 }
-    ensures same_reference { tx.new.conn.ghost_name ≡ tx.old.conn.ghost_name }
-    ensures shows { HasCleanDisk (state S.Store tx.new.conn.now) → IfOk result (λ rows. Shown select_entry (Int (pos place) ∷ []) (state S.Store tx.old.conn.now) (state S.Store tx.new.conn.now) rows.items) }
-    ensures kept { HasCleanDisk (state S.Store tx.new.conn.now) → OnErr result (KeepsCommit (state S.Store tx.old.conn.now) (state S.Store tx.new.conn.now)) }
-    ensures survives { CommitsNothing (state S.Store tx.old.conn.now) (state S.Store tx.new.conn.now) }
+    ensures same_reference { KeepsReference tx.old tx.new }
+    ensures shows { SelectsIn S.Store tx.old tx.new (entry_query (pos place)) result }
+    ensures kept { KeepsCommitOnError S.Store tx.old tx.new result }
+    ensures survives { CommitsNothing (inside S.Store tx.old) (inside S.Store tx.new) }
 {
     entry_rows(tx, signed(place))
 }
@@ -84,10 +83,10 @@ pub(crate) fn stands_at<S: Alter>(
 ) -> Result<SerialAtPlace, StoreFault>
     requires issuer { list.now.issuer < 536870911 }
     requires index { index < 4294967296 }
-    requires inside { HasCleanDisk (state S.Store tx.old.conn.now) → IsTrue (state S.Store tx.old.conn.now).in_transaction }
-    ensures same_reference { tx.new.conn.ghost_name ≡ tx.old.conn.ghost_name }
-    ensures finds { HasCleanDisk (state S.Store tx.new.conn.now) → Finds (state S.Store tx.old.conn.now) (state S.Store tx.new.conn.now) (λ it beside. beside ≡ beside_of (slice_get (entries_under it.entries list.now.issuer (scope_number list.now.scope)) index) serial.now) result }
-    ensures survives { CommitsNothing (state S.Store tx.old.conn.now) (state S.Store tx.new.conn.now) }
+    requires inside { IsInTransaction S.Store tx.old }
+    ensures same_reference { KeepsReference tx.old tx.new }
+    ensures finds { FindsIn S.Store tx.old tx.new (IsBesideAt list.now index serial.now) result }
+    ensures survives { CommitsNothing (inside S.Store tx.old) (inside S.Store tx.new) }
 {
     let place = base_of(list) + index;
     let rows = match rows_at(tx, place) {
@@ -104,10 +103,10 @@ pub fn find_entry<S: Alter>(
     serial: &[u8],
 ) -> Result<Option<u8>, StoreFault>
     requires issuer { list.now.issuer < 536870911 }
-    requires inside { HasCleanDisk (state S.Store tx.old.conn.now) → IsTrue (state S.Store tx.old.conn.now).in_transaction }
-    ensures same_reference { tx.new.conn.ghost_name ≡ tx.old.conn.ghost_name }
-    ensures finds { HasCleanDisk (state S.Store tx.new.conn.now) → Finds (state S.Store tx.old.conn.now) (state S.Store tx.new.conn.now) (λ it reason. reason ≡ first_reason (entries_under it.entries list.now.issuer (scope_number list.now.scope)) serial.now) result }
-    ensures survives { CommitsNothing (state S.Store tx.old.conn.now) (state S.Store tx.new.conn.now) }
+    requires inside { IsInTransaction S.Store tx.old }
+    ensures same_reference { KeepsReference tx.old tx.new }
+    ensures finds { FindsIn S.Store tx.old tx.new (IsReasonIn list.now serial.now) result }
+    ensures survives { CommitsNothing (inside S.Store tx.old) (inside S.Store tx.new) }
 {
     let mut low: u64 = 0;
     let mut high: u64 = ROOM;

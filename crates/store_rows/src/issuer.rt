@@ -1,13 +1,14 @@
 //! Issuers and their ids.
 
-ghost use Rattle.std.specs.Prelude.{◌≡◌, ◌≢◌, ℕ, Option, Err, IfOk, IfSome, IsTrue};
-ghost use Rattle.sqlite.specs.Held.{state};
-ghost use Rattle.sqlite.specs.State.{HasCleanDisk};
+ghost use Rattle.std.specs.Prelude.{IfOk, IfSome};
 ghost use Rattle.store_sql.specs.Statements.{CommitsNothing};
 ghost use Rattle.statements_facts.specs.Fact.{issuer_of};
-ghost use Rattle.store_rows.specs.Contents.{shown, id_cells, id_of};
+ghost use Rattle.store_rows.specs.Contents.{id_cells};
 ghost use Rattle.store_rows.specs.Holding.{HasRoom, with_issuer};
-ghost use Rattle.store_rows.specs.Steps.{Finds, IsKnown, Changes};
+ghost use Rattle.store_sql.specs.Inside.{inside, IsInTransaction, KeepsReference};
+ghost use Rattle.store_rows.specs.Found.{IsIssuerId};
+ghost use Rattle.store_rows.specs.Reading.{RefusesRows, IsIdShown};
+ghost use Rattle.store_rows.specs.Steps.{FindsIn, KnowsIn, ChangesIn};
 
 use crate::cell::natural;
 use sqlite::{Alter, Row, Transaction};
@@ -18,9 +19,9 @@ use store_sql::{StoreFault, insert_issuer, issuer_rows};
 pub const ID_LIMIT: u32 = 536_870_911;
 
 fn read_ids(rows: &[Row]) -> Result<Option<u32>, StoreFault>
-    ensures ok { IfOk result (λ found. (id : Option ℕ) → rows.now ≡ shown id_cells id → found ≡ id) }
+    ensures ok { IfOk result (IsIdShown rows.now) }
     ensures room { IfOk result (λ found. IfSome found HasRoom) }
-    ensures schema { result ≡ Err StoreFault.Schema → (id : Option ℕ) → IfSome id HasRoom → rows.now ≢ shown id_cells id }
+    ensures schema { RefusesRows id_cells HasRoom rows.now result }
 {
     match rows {
         [] => Ok(None),
@@ -34,12 +35,12 @@ pub fn find_issuer<S: Alter>(
     tx: &mut Transaction<'_, S>,
     issuer: &Issuer<'_>,
 ) -> Result<Option<u32>, StoreFault>
-    requires inside { HasCleanDisk (state S.Store tx.old.conn.now) → IsTrue (state S.Store tx.old.conn.now).in_transaction }
-    ensures same_reference { tx.new.conn.ghost_name ≡ tx.old.conn.ghost_name }
-    ensures finds { HasCleanDisk (state S.Store tx.new.conn.now) → Finds (state S.Store tx.old.conn.now) (state S.Store tx.new.conn.now) (λ it id. id ≡ id_of it.issuers (issuer_of issuer.now)) result }
-    ensures known { HasCleanDisk (state S.Store tx.new.conn.now) → IfOk result (IsKnown (state S.Store tx.old.conn.now) (state S.Store tx.new.conn.now) (issuer_of issuer.now)) }
+    requires inside { IsInTransaction S.Store tx.old }
+    ensures same_reference { KeepsReference tx.old tx.new }
+    ensures finds { FindsIn S.Store tx.old tx.new (IsIssuerId (issuer_of issuer.now)) result }
+    ensures known { KnowsIn S.Store tx.old tx.new (issuer_of issuer.now) result }
     ensures room { IfOk result (λ id. IfSome id HasRoom) }
-    ensures survives { CommitsNothing (state S.Store tx.old.conn.now) (state S.Store tx.new.conn.now) }
+    ensures survives { CommitsNothing (inside S.Store tx.old) (inside S.Store tx.new) }
 {
     let rows = match issuer_rows(tx, issuer.name.as_slice(), issuer.key_info) {
         Ok(rows) => rows,
@@ -53,10 +54,10 @@ pub fn add_issuer<S: Alter>(
     tx: &mut Transaction<'_, S>,
     issuer: &Issuer<'_>,
 ) -> Result<(), StoreFault>
-    requires inside { HasCleanDisk (state S.Store tx.old.conn.now) → IsTrue (state S.Store tx.old.conn.now).in_transaction }
-    ensures same_reference { tx.new.conn.ghost_name ≡ tx.old.conn.ghost_name }
-    ensures changes { HasCleanDisk (state S.Store tx.new.conn.now) → Changes (state S.Store tx.old.conn.now) (state S.Store tx.new.conn.now) (with_issuer (issuer_of issuer.now)) result }
-    ensures survives { CommitsNothing (state S.Store tx.old.conn.now) (state S.Store tx.new.conn.now) }
+    requires inside { IsInTransaction S.Store tx.old }
+    ensures same_reference { KeepsReference tx.old tx.new }
+    ensures changes { ChangesIn S.Store tx.old tx.new (with_issuer (issuer_of issuer.now)) result }
+    ensures survives { CommitsNothing (inside S.Store tx.old) (inside S.Store tx.new) }
 {
     match insert_issuer(tx, issuer.name.as_slice(), issuer.key_info) {
         Ok(_) => Ok(()),

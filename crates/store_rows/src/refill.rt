@@ -1,16 +1,13 @@
 //! The entries of a list, in the place of those that stood there.
 
-ghost use Rattle.std.specs.Prelude.{◌≡◌, ◌<◌, ◌+◌, ◌∷◌, [], pos, OnOk, IsTrue};
-ghost use Rattle.sqlite.specs.Held.{state};
-ghost use Rattle.sqlite.specs.State.{HasCleanDisk};
-ghost use Rattle.sqlite.specs.declared.types.Value.TheVariants.{Int};
+ghost use Rattle.std.specs.Prelude.{◌≡◌, ◌<◌, ◌+◌, pos, OnOk};
 ghost use Rattle.statements_facts.specs.Listed.{seen_listed};
-ghost use Rattle.store_sql.specs.Statements.{CommitsNothing, Runs};
-ghost use Rattle.store_sql.specs.Texts.{delete_entries, insert_entry};
-ghost use Rattle.store_rows.specs.Contents.{listed_cells, scope_number};
-ghost use Rattle.store_rows.specs.Places.{base_of};
-ghost use Rattle.store_rows.specs.Holding.{FitInList, HasByte, with_entries};
-ghost use Rattle.store_rows.specs.Steps.{Changes};
+ghost use Rattle.store_sql.specs.Statements.{CommitsNothing};
+ghost use Rattle.store_rows.specs.Contents.{scope_number};
+ghost use Rattle.store_rows.specs.Holding.{FitInList, HasByte, with_listed};
+ghost use Rattle.store_sql.specs.Inside.{inside, IsInTransaction, KeepsReference, RunsIn};
+ghost use Rattle.store_rows.specs.Bound.{first_place, room_deletion, insertion_at};
+ghost use Rattle.store_rows.specs.Steps.{ChangesIn};
 
 use crate::crl::scope_number;
 use crate::entry::{ListKey, ROOM, base_of, signed};
@@ -20,8 +17,8 @@ use store_sql::{EntryCells, Places, StoreFault, delete_entries, insert_entry};
 
 fn places_of(list: &ListKey) -> Places
     requires { list.now.issuer < 536870911 }
-    ensures first { result.first ≡ pos (base_of list.now.issuer (scope_number list.now.scope)) }
-    ensures end { result.end ≡ pos (base_of list.now.issuer (scope_number list.now.scope) + 4294967296) }
+    ensures first { result.first ≡ pos (first_place list.now) }
+    ensures end { result.end ≡ pos (first_place list.now + 4294967296) }
 {
     let first = base_of(list);
     Places {
@@ -33,7 +30,7 @@ fn places_of(list: &ListKey) -> Places
 fn cells_of<'a>(list: &ListKey, index: u64, listed: &Listed<'a>) -> EntryCells<'a>
     requires issuer { list.now.issuer < 536870911 }
     requires index { index < 4294967296 }
-    ensures place { result.place ≡ pos (base_of list.now.issuer (scope_number list.now.scope) + index) }
+    ensures place { result.place ≡ pos (first_place list.now + index) }
     ensures issuer { result.issuer ≡ pos list.now.issuer }
     ensures scope { result.scope ≡ pos (scope_number list.now.scope) }
     ensures serial { result.serial.now ≡ (seen_listed listed.now).serial }
@@ -51,9 +48,9 @@ fn cells_of<'a>(list: &ListKey, index: u64, listed: &Listed<'a>) -> EntryCells<'
 
 fn empty<S: Alter>(tx: &mut Transaction<'_, S>, list: &ListKey) -> Result<usize, Error>
     requires { list.now.issuer < 536870911 }
-    ensures same_reference { tx.new.conn.ghost_name ≡ tx.old.conn.ghost_name }
-    ensures runs { Runs delete_entries (Int (pos (base_of list.now.issuer (scope_number list.now.scope))) ∷ Int (pos (base_of list.now.issuer (scope_number list.now.scope) + 4294967296)) ∷ []) (state S.Store tx.old.conn.now) (state S.Store tx.new.conn.now) result }
-    ensures survives { CommitsNothing (state S.Store tx.old.conn.now) (state S.Store tx.new.conn.now) }
+    ensures same_reference { KeepsReference tx.old tx.new }
+    ensures runs { RunsIn S.Store tx.old tx.new (room_deletion list.now) result }
+    ensures survives { CommitsNothing (inside S.Store tx.old) (inside S.Store tx.new) }
 {
     let places = places_of(list);
     delete_entries(tx, &places)
@@ -67,10 +64,10 @@ fn add<S: Alter>(
 ) -> Result<usize, Error>
     requires issuer { list.now.issuer < 536870911 }
     requires index { index < 4294967296 }
-    ensures same_reference { tx.new.conn.ghost_name ≡ tx.old.conn.ghost_name }
-    ensures runs { Runs insert_entry (Int (pos (base_of list.now.issuer (scope_number list.now.scope) + index)) ∷ Int (pos list.now.issuer) ∷ Int (pos (scope_number list.now.scope)) ∷ listed_cells (seen_listed listed.now)) (state S.Store tx.old.conn.now) (state S.Store tx.new.conn.now) result }
+    ensures same_reference { KeepsReference tx.old tx.new }
+    ensures runs { RunsIn S.Store tx.old tx.new (insertion_at list.now index listed.now) result }
     ensures byte { HasByte (seen_listed listed.now) }
-    ensures survives { CommitsNothing (state S.Store tx.old.conn.now) (state S.Store tx.new.conn.now) }
+    ensures survives { CommitsNothing (inside S.Store tx.old) (inside S.Store tx.new) }
 {
     let cells = cells_of(list, index, listed);
     insert_entry(tx, &cells)
@@ -83,11 +80,11 @@ pub fn replace_entries<S: Alter>(
     revoked: &RevokedSerials<'_>,
 ) -> Result<(), StoreFault>
     requires issuer { list.now.issuer < 536870911 }
-    requires inside { HasCleanDisk (state S.Store tx.old.conn.now) → IsTrue (state S.Store tx.old.conn.now).in_transaction }
-    ensures same_reference { tx.new.conn.ghost_name ≡ tx.old.conn.ghost_name }
+    requires inside { IsInTransaction S.Store tx.old }
+    ensures same_reference { KeepsReference tx.old tx.new }
     ensures formed { OnOk result (FitInList revoked.now) }
-    ensures changes { HasCleanDisk (state S.Store tx.new.conn.now) → Changes (state S.Store tx.old.conn.now) (state S.Store tx.new.conn.now) (with_entries list.now.issuer (scope_number list.now.scope) revoked.now) result }
-    ensures survives { CommitsNothing (state S.Store tx.old.conn.now) (state S.Store tx.new.conn.now) }
+    ensures changes { ChangesIn S.Store tx.old tx.new (with_listed list.now revoked.now) result }
+    ensures survives { CommitsNothing (inside S.Store tx.old) (inside S.Store tx.new) }
 {
     let all = revoked.as_slice();
     if all.len() as u64 > ROOM {

@@ -1,16 +1,16 @@
 //! What responses say of single certificates.
 
-ghost use Rattle.std.specs.Prelude.{◌≡◌, ◌≢◌, ◌∷◌, [], ℕ, pos, Option, Err, IfOk, IfSome, IfNone, IsTrue, option_map, find};
-ghost use Rattle.sqlite.specs.Held.{state};
-ghost use Rattle.sqlite.specs.State.{HasCleanDisk};
-ghost use Rattle.sqlite.specs.declared.types.Value.TheVariants.{Int};
+ghost use Rattle.std.specs.Prelude.{◌≡◌, pos, IfOk, IfSome, IfNone};
 ghost use Rattle.statements_facts.specs.Single.{seen_single};
-ghost use Rattle.statements_facts.specs.Statement.{OcspFact};
 ghost use Rattle.store_sql.specs.Statements.{CommitsNothing};
-ghost use Rattle.store_rows.specs.Contents.{HasCell, shown, said_cells, said_of, is_single_of, status_number, reason_number};
-ghost use Rattle.store_rows.specs.Holding.{HasReason, IsSaid, with_single};
-ghost use Rattle.store_rows.specs.Steps.{Finds, Changes};
+ghost use Rattle.store_rows.specs.Contents.{said_cells, status_number, reason_number};
+ghost use Rattle.store_rows.specs.Holding.{IsSaid, with_said};
 ghost use Rattle.store_rows.specs.Seen.{seen_held_status};
+ghost use Rattle.store_sql.specs.Inside.{inside, IsInTransaction, KeepsReference};
+ghost use Rattle.store_rows.specs.Found.{SaysOf};
+ghost use Rattle.store_rows.specs.Reading.{AreShown, RefusesRow, RefusesRows, HasNumbers, AreOfNoStatus, HasStatusCells, RefusesStatus, IsSaidIn};
+ghost use Rattle.store_rows.specs.Steps.{FindsIn, ChangesIn};
+ghost use Rattle.store_sql.specs.Bindings.{said_params};
 
 use crate::cell::{integer, natural};
 use sqlite::{Alter, Row, Transaction};
@@ -51,8 +51,8 @@ fn reason_number(status: Status) -> u8
 }
 
 fn status_of(status: u32, reason: u8) -> Option<Status>
-    ensures some { IfSome result (λ known. (status ≡ status_number known) × (reason ≡ reason_number known)) }
-    ensures none { IfNone result ((known : _) → status ≡ status_number known → reason ≢ reason_number known) }
+    ensures some { IfSome result (HasNumbers status reason) }
+    ensures none { IfNone result (AreOfNoStatus status reason) }
 {
     match (status, reason) {
         (0, 0) => Some(Status::Good),
@@ -63,8 +63,8 @@ fn status_of(status: u32, reason: u8) -> Option<Status>
 }
 
 fn read_status(row: &Row) -> Result<Status, StoreFault>
-    ensures ok { IfOk result (λ found. HasCell row.now 4 (Int (pos (status_number found))) × HasCell row.now 5 (Int (pos (reason_number found)))) }
-    ensures schema { result ≡ Err StoreFault.Schema → (known : _) → HasReason known → HasCell row.now 4 (Int (pos (status_number known))) → HasCell row.now 5 (Int (pos (reason_number known))) → ⊥ }
+    ensures ok { IfOk result (HasStatusCells row.now) }
+    ensures schema { RefusesStatus row.now result }
 {
     let status = natural(row, 4, 3)?;
     let reason = natural(row, 5, 256)?;
@@ -75,8 +75,8 @@ fn read_status(row: &Row) -> Result<Status, StoreFault>
 }
 
 fn read_said(row: &Row) -> Result<HeldStatus, StoreFault>
-    ensures ok { IfOk result (λ found. (fact : OcspFact) → row.now ≡ said_cells fact → seen_held_status found ≡ fact) }
-    ensures schema { result ≡ Err StoreFault.Schema → (fact : OcspFact) → IsSaid fact → row.now ≢ said_cells fact }
+    ensures ok { IfOk result (IsSaidIn row.now) }
+    ensures schema { RefusesRow said_cells IsSaid row.now result }
 {
     let this_update = integer(row, 0)?;
     let produced_at = integer(row, 1)?;
@@ -93,8 +93,8 @@ fn read_said(row: &Row) -> Result<HeldStatus, StoreFault>
 }
 
 fn read_all(rows: &[Row]) -> Result<Option<HeldStatus>, StoreFault>
-    ensures ok { IfOk result (λ found. (fact : Option OcspFact) → IfSome fact IsSaid → rows.now ≡ shown said_cells fact → option_map seen_held_status found ≡ fact) }
-    ensures schema { result ≡ Err StoreFault.Schema → (fact : Option OcspFact) → IfSome fact IsSaid → rows.now ≢ shown said_cells fact }
+    ensures ok { IfOk result (AreShown seen_held_status said_cells IsSaid rows.now) }
+    ensures schema { RefusesRows said_cells IsSaid rows.now result }
 {
     match rows {
         [] => Ok(None),
@@ -122,10 +122,10 @@ pub fn find_single<'x, S: Alter>(
     name_hash: &'x [u8],
     serial: &'x [u8],
 ) -> Result<Option<HeldStatus>, StoreFault>
-    requires inside { HasCleanDisk (state S.Store tx.old.conn.now) → IsTrue (state S.Store tx.old.conn.now).in_transaction }
-    ensures same_reference { tx.new.conn.ghost_name ≡ tx.old.conn.ghost_name }
-    ensures finds { HasCleanDisk (state S.Store tx.new.conn.now) → Finds (state S.Store tx.old.conn.now) (state S.Store tx.new.conn.now) (λ it said. option_map seen_held_status said ≡ option_map said_of (find (is_single_of issuer name_hash.now serial.now) it.singles)) result }
-    ensures survives { CommitsNothing (state S.Store tx.old.conn.now) (state S.Store tx.new.conn.now) }
+    requires inside { IsInTransaction S.Store tx.old }
+    ensures same_reference { KeepsReference tx.old tx.new }
+    ensures finds { FindsIn S.Store tx.old tx.new (SaysOf issuer name_hash.now serial.now) result }
+    ensures survives { CommitsNothing (inside S.Store tx.old) (inside S.Store tx.new) }
 {
     let key = key_of(issuer, name_hash, serial);
     let rows = match single_rows(tx, &key) {
@@ -136,7 +136,7 @@ pub fn find_single<'x, S: Alter>(
 }
 
 fn columns_of(single: &Single<'_>) -> SaidCells
-    ensures { (Int result.this_update ∷ Int result.produced_at ∷ Int result.since ∷ Int result.until ∷ Int result.status ∷ Int result.reason ∷ []) ≡ said_cells (seen_single single.now).fact }
+    ensures { said_params result ≡ said_cells (seen_single single.now).fact }
 {
     SaidCells {
         this_update: single.this_update,
@@ -154,10 +154,10 @@ pub fn replace_single<S: Alter>(
     issuer: u32,
     single: &Single<'_>,
 ) -> Result<(), StoreFault>
-    requires inside { HasCleanDisk (state S.Store tx.old.conn.now) → IsTrue (state S.Store tx.old.conn.now).in_transaction }
-    ensures same_reference { tx.new.conn.ghost_name ≡ tx.old.conn.ghost_name }
-    ensures changes { HasCleanDisk (state S.Store tx.new.conn.now) → Changes (state S.Store tx.old.conn.now) (state S.Store tx.new.conn.now) (with_single issuer (seen_single single.now).name_hash (seen_single single.now).serial (seen_single single.now).fact) result }
-    ensures survives { CommitsNothing (state S.Store tx.old.conn.now) (state S.Store tx.new.conn.now) }
+    requires inside { IsInTransaction S.Store tx.old }
+    ensures same_reference { KeepsReference tx.old tx.new }
+    ensures changes { ChangesIn S.Store tx.old tx.new (with_said issuer single.now) result }
+    ensures survives { CommitsNothing (inside S.Store tx.old) (inside S.Store tx.new) }
 {
     let key = key_of(issuer, single.name_hash, single.serial);
     if let Err(error) = delete_single(tx, &key) {

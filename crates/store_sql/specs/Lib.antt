@@ -4,3 +4,4 @@ pub mod Texts
 pub mod Queries
 pub mod Statements
 pub mod Inside
+pub mod Bindings

@@ -10,6 +10,7 @@ use Rattle.sqlite.specs.Kind.{Kind}
 use Rattle.sqlite.specs.Kind.TheVariants.{Integer, Blob}
 use Rattle.sqlite_schema.specs.declared.schema.Column.{Column}
 use Rattle.sqlite_schema.specs.declared.schema.Index.{Index}
+use Rattle.sqlite_schema.specs.declared.schema.Stamps.{Stamps}
 use Rattle.store_sql.specs.declared.origin.Origin.{Origin}
 use Rattle.store_sql.specs.declared.origin.Origin.TheVariants.{Made, Migrated}
 
@@ -26,6 +27,10 @@ id_column name = column_with name Integer false
 abbrev pub required : List ℕ → Kind → Column
 required name kind = column_with name kind true
 
+-- no column is computed
+abbrev pub no_stamps : Stamps
+no_stamps = record { places = []; terms = []; formats = [] }
+
 -- a STRICT table without checks, references or defaults
 abbrev pub shaped : List ℕ → ℕ → List Column → Option ℕ → List ℕ → List (List ℕ) → List Order → Table
 shaped name tree columns key primary uniques orders = record {
@@ -39,13 +44,28 @@ shaped name tree columns key primary uniques orders = record {
   checks = [];
   references = [];
   computed = [];
-  stamps = record { places = []; terms = []; formats = [] };
+  stamps = no_stamps;
   is_counted = false;
 }
+
+-- without CHECK, REFERENCES and columns that are computed
+abbrev pub without_rules : Table → Table
+without_rules table = record table { checks = []; references = []; computed = []; stamps = no_stamps; is_counted = false }
+
+-- under this name, in this tree, with this PRIMARY KEY
+abbrev pub named : List ℕ → ℕ → Option ℕ → List ℕ → Table → Table
+named name tree key primary table = record table { name = name; tree = tree; key = key; primary = primary }
+
+abbrev pub plainly_named : List ℕ → ℕ → Option ℕ → List ℕ → Table → Table
+plainly_named name tree key primary table = without_rules (named name tree key primary table)
 
 -- one whose first column is the rowid, without another key
 abbrev pub keyed_by_id : List ℕ → ℕ → List Column → Table
 keyed_by_id name tree columns = shaped name tree columns (Some 0) (0 ∷ []) [] []
+
+-- one whose first column is the rowid, and these columns are UNIQUE
+abbrev pub keyed_twice : List ℕ → ℕ → List Column → List ℕ → Table
+keyed_twice name tree columns unique = shaped name tree columns (Some 0) (0 ∷ []) (unique ∷ []) (plain ∷ [])
 
 -- one whose PRIMARY KEY is these columns, counted from 1
 abbrev pub keyed_by : List ℕ → ℕ → List Column → List ℕ → Table
@@ -63,8 +83,8 @@ meta_table tree = keyed_by_id (codes "meta") tree (id_column (codes "id") ∷ re
 
 -- each issuer once: the key of its name, and its subjectPublicKeyInfo
 abbrev pub issuers_table : ℕ → Table
-issuers_table tree = shaped (codes "issuers") tree (id_column (codes "id") ∷ required (codes "name") Blob ∷ required (codes "spki") Blob ∷ [])
-    (Some 0) (0 ∷ []) ((2 ∷ 3 ∷ []) ∷ []) (plain ∷ [])
+issuers_table tree = keyed_twice (codes "issuers") tree
+    (id_column (codes "id") ∷ required (codes "name") Blob ∷ required (codes "spki") Blob ∷ []) (2 ∷ 3 ∷ [])
 
 -- what responses say of one certificate (RFC 6960, 4.2.1)
 abbrev pub status_columns : List Column

@@ -1,11 +1,8 @@
 //! Revocation lists, by issuer and scope.
 
-ghost use Rattle.std.specs.Prelude.{◌≡◌, ◌∷◌, [], IfOk, OnErr};
-ghost use Rattle.sqlite.specs.declared.types.Value.TheVariants.{Int, Blob};
-ghost use Rattle.sqlite.specs.Held.{state};
-ghost use Rattle.sqlite.specs.State.{HasCleanDisk, KeepsCommit, Shown};
-ghost use Rattle.store_sql.specs.Statements.{CommitsNothing, Runs};
-ghost use Rattle.store_sql.specs.Texts.{select_crl, delete_crl, insert_crl};
+ghost use Rattle.store_sql.specs.Statements.{CommitsNothing};
+ghost use Rattle.store_sql.specs.Inside.{inside, KeepsReference, KeepsCommitOnError, SelectsIn, RunsIn};
+ghost use Rattle.store_sql.specs.Bindings.{crl_query, crl_deletion, crl_insertion};
 
 use sqlite::types::ValueRef;
 use sqlite::{Alter, Error, Row, Transaction};
@@ -30,10 +27,10 @@ pub struct CrlCells<'a> {
 
 /// The lists of this issuer and scope: number, from when and until when they count.
 pub fn crl_rows<S: Alter>(tx: &mut Transaction<'_, S>, key: &CrlKey) -> Result<Vec<Row>, Error>
-    ensures same_reference { tx.new.conn.ghost_name ≡ tx.old.conn.ghost_name }
-    ensures shows { HasCleanDisk (state S.Store tx.new.conn.now) → IfOk result (λ rows. Shown select_crl (Int key.now.issuer ∷ Int key.now.scope ∷ []) (state S.Store tx.old.conn.now) (state S.Store tx.new.conn.now) rows.items) }
-    ensures kept { HasCleanDisk (state S.Store tx.new.conn.now) → OnErr result (KeepsCommit (state S.Store tx.old.conn.now) (state S.Store tx.new.conn.now)) }
-    ensures survives { CommitsNothing (state S.Store tx.old.conn.now) (state S.Store tx.new.conn.now) }
+    ensures same_reference { KeepsReference tx.old tx.new }
+    ensures shows { SelectsIn S.Store tx.old tx.new (crl_query key.now) result }
+    ensures kept { KeepsCommitOnError S.Store tx.old tx.new result }
+    ensures survives { CommitsNothing (inside S.Store tx.old) (inside S.Store tx.new) }
 {
     tx.query_all(
         "SELECT number, since, until FROM scoped_crls WHERE issuer = ?1 AND scope = ?2",
@@ -43,9 +40,9 @@ pub fn crl_rows<S: Alter>(tx: &mut Transaction<'_, S>, key: &CrlKey) -> Result<V
 
 /// Deletes the lists of this issuer and scope.
 pub fn delete_crl<S: Alter>(tx: &mut Transaction<'_, S>, key: &CrlKey) -> Result<usize, Error>
-    ensures same_reference { tx.new.conn.ghost_name ≡ tx.old.conn.ghost_name }
-    ensures runs { Runs delete_crl (Int key.now.issuer ∷ Int key.now.scope ∷ []) (state S.Store tx.old.conn.now) (state S.Store tx.new.conn.now) result }
-    ensures survives { CommitsNothing (state S.Store tx.old.conn.now) (state S.Store tx.new.conn.now) }
+    ensures same_reference { KeepsReference tx.old tx.new }
+    ensures runs { RunsIn S.Store tx.old tx.new (crl_deletion key.now) result }
+    ensures survives { CommitsNothing (inside S.Store tx.old) (inside S.Store tx.new) }
 {
     tx.execute(
         "DELETE FROM scoped_crls WHERE issuer = ?1 AND scope = ?2",
@@ -59,9 +56,9 @@ pub fn insert_crl<S: Alter>(
     key: &CrlKey,
     cells: &CrlCells<'_>,
 ) -> Result<usize, Error>
-    ensures same_reference { tx.new.conn.ghost_name ≡ tx.old.conn.ghost_name }
-    ensures runs { Runs insert_crl (Int key.now.issuer ∷ Int key.now.scope ∷ Blob cells.now.number.now ∷ Int cells.now.since ∷ Int cells.now.until ∷ []) (state S.Store tx.old.conn.now) (state S.Store tx.new.conn.now) result }
-    ensures survives { CommitsNothing (state S.Store tx.old.conn.now) (state S.Store tx.new.conn.now) }
+    ensures same_reference { KeepsReference tx.old tx.new }
+    ensures runs { RunsIn S.Store tx.old tx.new (crl_insertion key.now cells.now) result }
+    ensures survives { CommitsNothing (inside S.Store tx.old) (inside S.Store tx.new) }
 {
     tx.execute(
         "INSERT INTO scoped_crls (issuer, scope, number, since, until) VALUES (?1, ?2, ?3, ?4, ?5)",

@@ -1,11 +1,8 @@
 //! Entries of revocation lists, by their places.
 
-ghost use Rattle.std.specs.Prelude.{◌≡◌, ◌∷◌, [], IfOk, OnErr};
-ghost use Rattle.sqlite.specs.declared.types.Value.TheVariants.{Int, Blob};
-ghost use Rattle.sqlite.specs.Held.{state};
-ghost use Rattle.sqlite.specs.State.{HasCleanDisk, KeepsCommit, Shown};
-ghost use Rattle.store_sql.specs.Statements.{CommitsNothing, Runs};
-ghost use Rattle.store_sql.specs.Texts.{select_entry, select_entries, delete_entries, insert_entry};
+ghost use Rattle.store_sql.specs.Statements.{CommitsNothing};
+ghost use Rattle.store_sql.specs.Inside.{inside, KeepsReference, KeepsCommitOnError, SelectsIn, RunsIn};
+ghost use Rattle.store_sql.specs.Bindings.{entry_query, entries_query, entries_deletion, entry_insertion};
 
 use sqlite::types::ValueRef;
 use sqlite::{Alter, Error, Row, Transaction};
@@ -32,10 +29,10 @@ pub struct EntryCells<'a> {
 
 /// What stands at a place: serial number and reason.
 pub fn entry_rows<S: Alter>(tx: &mut Transaction<'_, S>, place: i64) -> Result<Vec<Row>, Error>
-    ensures same_reference { tx.new.conn.ghost_name ≡ tx.old.conn.ghost_name }
-    ensures shows { HasCleanDisk (state S.Store tx.new.conn.now) → IfOk result (λ rows. Shown select_entry (Int place ∷ []) (state S.Store tx.old.conn.now) (state S.Store tx.new.conn.now) rows.items) }
-    ensures kept { HasCleanDisk (state S.Store tx.new.conn.now) → OnErr result (KeepsCommit (state S.Store tx.old.conn.now) (state S.Store tx.new.conn.now)) }
-    ensures survives { CommitsNothing (state S.Store tx.old.conn.now) (state S.Store tx.new.conn.now) }
+    ensures same_reference { KeepsReference tx.old tx.new }
+    ensures shows { SelectsIn S.Store tx.old tx.new (entry_query place) result }
+    ensures kept { KeepsCommitOnError S.Store tx.old tx.new result }
+    ensures survives { CommitsNothing (inside S.Store tx.old) (inside S.Store tx.new) }
 {
     tx.query_all(
         "SELECT serial, reason FROM scoped_entries WHERE id = ?1",
@@ -48,10 +45,10 @@ pub fn entries_between<S: Alter>(
     tx: &mut Transaction<'_, S>,
     places: &Places,
 ) -> Result<Vec<Row>, Error>
-    ensures same_reference { tx.new.conn.ghost_name ≡ tx.old.conn.ghost_name }
-    ensures shows { HasCleanDisk (state S.Store tx.new.conn.now) → IfOk result (λ rows. Shown select_entries (Int places.now.first ∷ Int places.now.end ∷ []) (state S.Store tx.old.conn.now) (state S.Store tx.new.conn.now) rows.items) }
-    ensures kept { HasCleanDisk (state S.Store tx.new.conn.now) → OnErr result (KeepsCommit (state S.Store tx.old.conn.now) (state S.Store tx.new.conn.now)) }
-    ensures survives { CommitsNothing (state S.Store tx.old.conn.now) (state S.Store tx.new.conn.now) }
+    ensures same_reference { KeepsReference tx.old tx.new }
+    ensures shows { SelectsIn S.Store tx.old tx.new (entries_query places.now) result }
+    ensures kept { KeepsCommitOnError S.Store tx.old tx.new result }
+    ensures survives { CommitsNothing (inside S.Store tx.old) (inside S.Store tx.new) }
 {
     tx.query_all(
         "SELECT id, serial, reason FROM scoped_entries WHERE id >= ?1 AND id < ?2",
@@ -64,9 +61,9 @@ pub fn delete_entries<S: Alter>(
     tx: &mut Transaction<'_, S>,
     places: &Places,
 ) -> Result<usize, Error>
-    ensures same_reference { tx.new.conn.ghost_name ≡ tx.old.conn.ghost_name }
-    ensures runs { Runs delete_entries (Int places.now.first ∷ Int places.now.end ∷ []) (state S.Store tx.old.conn.now) (state S.Store tx.new.conn.now) result }
-    ensures survives { CommitsNothing (state S.Store tx.old.conn.now) (state S.Store tx.new.conn.now) }
+    ensures same_reference { KeepsReference tx.old tx.new }
+    ensures runs { RunsIn S.Store tx.old tx.new (entries_deletion places.now) result }
+    ensures survives { CommitsNothing (inside S.Store tx.old) (inside S.Store tx.new) }
 {
     tx.execute(
         "DELETE FROM scoped_entries WHERE id >= ?1 AND id < ?2",
@@ -79,9 +76,9 @@ pub fn insert_entry<S: Alter>(
     tx: &mut Transaction<'_, S>,
     entry: &EntryCells<'_>,
 ) -> Result<usize, Error>
-    ensures same_reference { tx.new.conn.ghost_name ≡ tx.old.conn.ghost_name }
-    ensures runs { Runs insert_entry (Int entry.now.place ∷ Int entry.now.issuer ∷ Int entry.now.scope ∷ Blob entry.now.serial.now ∷ Int entry.now.reason ∷ []) (state S.Store tx.old.conn.now) (state S.Store tx.new.conn.now) result }
-    ensures survives { CommitsNothing (state S.Store tx.old.conn.now) (state S.Store tx.new.conn.now) }
+    ensures same_reference { KeepsReference tx.old tx.new }
+    ensures runs { RunsIn S.Store tx.old tx.new (entry_insertion entry.now) result }
+    ensures survives { CommitsNothing (inside S.Store tx.old) (inside S.Store tx.new) }
 {
     tx.execute(
         "INSERT INTO scoped_entries (id, issuer, scope, serial, reason) VALUES (?1, ?2, ?3, ?4, ?5)",

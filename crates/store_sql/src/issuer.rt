@@ -1,11 +1,8 @@
 //! Issuers, by the keys of their names and their public keys.
 
-ghost use Rattle.std.specs.Prelude.{◌≡◌, ◌∷◌, [], IfOk, OnErr};
-ghost use Rattle.sqlite.specs.declared.types.Value.TheVariants.{Blob};
-ghost use Rattle.sqlite.specs.Held.{state};
-ghost use Rattle.sqlite.specs.State.{HasCleanDisk, KeepsCommit, Shown};
-ghost use Rattle.store_sql.specs.Statements.{CommitsNothing, Runs};
-ghost use Rattle.store_sql.specs.Texts.{select_issuer, insert_issuer};
+ghost use Rattle.store_sql.specs.Statements.{CommitsNothing};
+ghost use Rattle.store_sql.specs.Inside.{inside, KeepsReference, KeepsCommitOnError, SelectsIn, RunsIn};
+ghost use Rattle.store_sql.specs.Bindings.{issuer_query, issuer_insertion};
 
 use sqlite::types::ValueRef;
 use sqlite::{Alter, Error, Row, Transaction};
@@ -16,10 +13,10 @@ pub fn issuer_rows<'x, S: Alter>(
     name: &'x [u8],
     key_info: &'x [u8],
 ) -> Result<Vec<Row>, Error>
-    ensures same_reference { tx.new.conn.ghost_name ≡ tx.old.conn.ghost_name }
-    ensures shows { HasCleanDisk (state S.Store tx.new.conn.now) → IfOk result (λ rows. Shown select_issuer (Blob name.now ∷ Blob key_info.now ∷ []) (state S.Store tx.old.conn.now) (state S.Store tx.new.conn.now) rows.items) }
-    ensures kept { HasCleanDisk (state S.Store tx.new.conn.now) → OnErr result (KeepsCommit (state S.Store tx.old.conn.now) (state S.Store tx.new.conn.now)) }
-    ensures survives { CommitsNothing (state S.Store tx.old.conn.now) (state S.Store tx.new.conn.now) }
+    ensures same_reference { KeepsReference tx.old tx.new }
+    ensures shows { SelectsIn S.Store tx.old tx.new (issuer_query name.now key_info.now) result }
+    ensures kept { KeepsCommitOnError S.Store tx.old tx.new result }
+    ensures survives { CommitsNothing (inside S.Store tx.old) (inside S.Store tx.new) }
 {
     tx.query_all(
         "SELECT id FROM issuers WHERE name = ?1 AND spki = ?2",
@@ -33,9 +30,9 @@ pub fn insert_issuer<'x, S: Alter>(
     name: &'x [u8],
     key_info: &'x [u8],
 ) -> Result<usize, Error>
-    ensures same_reference { tx.new.conn.ghost_name ≡ tx.old.conn.ghost_name }
-    ensures runs { Runs insert_issuer (Blob name.now ∷ Blob key_info.now ∷ []) (state S.Store tx.old.conn.now) (state S.Store tx.new.conn.now) result }
-    ensures survives { CommitsNothing (state S.Store tx.old.conn.now) (state S.Store tx.new.conn.now) }
+    ensures same_reference { KeepsReference tx.old tx.new }
+    ensures runs { RunsIn S.Store tx.old tx.new (issuer_insertion name.now key_info.now) result }
+    ensures survives { CommitsNothing (inside S.Store tx.old) (inside S.Store tx.new) }
 {
     tx.execute(
         "INSERT INTO issuers (name, spki) VALUES (?1, ?2)",

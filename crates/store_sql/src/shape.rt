@@ -1,8 +1,8 @@
 //! The form of a table: its keys, and no other rule.
 
-ghost use Rattle.std.specs.Prelude.{◌≡◌, ◌↔◌, ◌<◌, ◌∷◌, [], IsTrue, Some, true, false};
+ghost use Rattle.std.specs.Prelude.{◌≡◌, ◌↔◌, ◌<◌, ◌∷◌, [], IsTrue, true, false};
 ghost use Rattle.sqlite_value.specs.Keys.{plain};
-ghost use Rattle.store_sql.specs.Tables.{column_with, shaped, keyed_by_id, keyed_by, key_of};
+ghost use Rattle.store_sql.specs.Tables.{column_with, keyed_by_id, keyed_by, key_of, without_rules, no_stamps, named, plainly_named, keyed_twice};
 
 use sqlite_items::Items;
 use sqlite_schema::code::Terms;
@@ -50,13 +50,13 @@ fn has_no_terms(terms: &Terms) -> bool
 }
 
 fn has_no_stamps(stamps: &Stamps) -> bool
-    ensures { IsTrue result ↔ (stamps.now ≡ record { places = []; terms = []; formats = [] }) }
+    ensures { IsTrue result ↔ (stamps.now ≡ no_stamps) }
 {
     stamps.places.is_empty() && has_no_terms(&stamps.terms) && stamps.formats.is_empty()
 }
 
 fn has_no_rules(table: &Table) -> bool
-    ensures { IsTrue result ↔ (table.now ≡ record table.now { checks = []; references = []; computed = []; stamps = record { places = []; terms = []; formats = [] }; is_counted = false }) }
+    ensures { IsTrue result ↔ (table.now ≡ without_rules table.now) }
 {
     has_no_terms(&table.checks)
         && table.references.is_empty()
@@ -66,7 +66,7 @@ fn has_no_rules(table: &Table) -> bool
 }
 
 fn is_named(table: &Table, name: &[u8], tree: u32, key: Option<usize>, primary: &[usize]) -> bool
-    ensures { IsTrue result ↔ (table.now ≡ record table.now { name = name.now; tree = tree; key = key; primary = primary.now }) }
+    ensures { IsTrue result ↔ (table.now ≡ named name.now tree key primary.now table.now) }
 {
     table.name.as_slice() == name
         && table.tree == tree
@@ -76,7 +76,7 @@ fn is_named(table: &Table, name: &[u8], tree: u32, key: Option<usize>, primary: 
 
 /// The table has no rule but its keys, and these.
 fn has_shape(table: &Table, name: &[u8], tree: u32, key: Option<usize>, primary: &[usize]) -> bool
-    ensures { IsTrue result ↔ (table.now ≡ shaped name.now tree table.now.columns key primary.now table.now.uniques table.now.orders) }
+    ensures { IsTrue result ↔ (table.now ≡ plainly_named name.now tree key primary.now table.now) }
 {
     is_named(table, name, tree, key, primary) && has_no_rules(table)
 }
@@ -116,7 +116,7 @@ pub(crate) fn is_keyed_by_id(table: &Table, name: &[u8], tree: u32) -> bool
 
 /// The table's first column is the rowid, and these are a key too.
 pub(crate) fn is_keyed_by_id_and(table: &Table, name: &[u8], tree: u32, places: &[usize]) -> bool
-    ensures { IsTrue result ↔ (table.now ≡ shaped name.now tree table.now.columns (Some 0) (0 ∷ []) (places.now ∷ []) (plain ∷ [])) }
+    ensures { IsTrue result ↔ (table.now ≡ keyed_twice name.now tree table.now.columns places.now) }
 {
     has_shape(table, name, tree, Some(0), &[0])
         && has_key(table.uniques.as_slice(), places)

@@ -1,11 +1,8 @@
 //! What responses say, by issuer and certificate.
 
-ghost use Rattle.std.specs.Prelude.{◌≡◌, ◌∷◌, [], IfOk, OnErr};
-ghost use Rattle.sqlite.specs.declared.types.Value.TheVariants.{Int, Blob};
-ghost use Rattle.sqlite.specs.Held.{state};
-ghost use Rattle.sqlite.specs.State.{HasCleanDisk, KeepsCommit, Shown};
-ghost use Rattle.store_sql.specs.Statements.{CommitsNothing, Runs};
-ghost use Rattle.store_sql.specs.Texts.{select_single, delete_single, insert_single};
+ghost use Rattle.store_sql.specs.Statements.{CommitsNothing};
+ghost use Rattle.store_sql.specs.Inside.{inside, KeepsReference, KeepsCommitOnError, SelectsIn, RunsIn};
+ghost use Rattle.store_sql.specs.Bindings.{single_query, single_deletion, single_insertion};
 
 use sqlite::types::ValueRef;
 use sqlite::{Alter, Error, Row, Transaction};
@@ -36,10 +33,10 @@ pub fn single_rows<S: Alter>(
     tx: &mut Transaction<'_, S>,
     key: &SingleKey<'_>,
 ) -> Result<Vec<Row>, Error>
-    ensures same_reference { tx.new.conn.ghost_name ≡ tx.old.conn.ghost_name }
-    ensures shows { HasCleanDisk (state S.Store tx.new.conn.now) → IfOk result (λ rows. Shown select_single (Int key.now.issuer ∷ Blob key.now.name_hash.now ∷ Blob key.now.serial.now ∷ []) (state S.Store tx.old.conn.now) (state S.Store tx.new.conn.now) rows.items) }
-    ensures kept { HasCleanDisk (state S.Store tx.new.conn.now) → OnErr result (KeepsCommit (state S.Store tx.old.conn.now) (state S.Store tx.new.conn.now)) }
-    ensures survives { CommitsNothing (state S.Store tx.old.conn.now) (state S.Store tx.new.conn.now) }
+    ensures same_reference { KeepsReference tx.old tx.new }
+    ensures shows { SelectsIn S.Store tx.old tx.new (single_query key.now) result }
+    ensures kept { KeepsCommitOnError S.Store tx.old tx.new result }
+    ensures survives { CommitsNothing (inside S.Store tx.old) (inside S.Store tx.new) }
 {
     tx.query_all(
         "SELECT this_update, produced_at, since, until, status, reason FROM ocsp WHERE issuer = ?1 AND name_hash = ?2 AND serial = ?3",
@@ -56,9 +53,9 @@ pub fn delete_single<S: Alter>(
     tx: &mut Transaction<'_, S>,
     key: &SingleKey<'_>,
 ) -> Result<usize, Error>
-    ensures same_reference { tx.new.conn.ghost_name ≡ tx.old.conn.ghost_name }
-    ensures runs { Runs delete_single (Int key.now.issuer ∷ Blob key.now.name_hash.now ∷ Blob key.now.serial.now ∷ []) (state S.Store tx.old.conn.now) (state S.Store tx.new.conn.now) result }
-    ensures survives { CommitsNothing (state S.Store tx.old.conn.now) (state S.Store tx.new.conn.now) }
+    ensures same_reference { KeepsReference tx.old tx.new }
+    ensures runs { RunsIn S.Store tx.old tx.new (single_deletion key.now) result }
+    ensures survives { CommitsNothing (inside S.Store tx.old) (inside S.Store tx.new) }
 {
     tx.execute(
         "DELETE FROM ocsp WHERE issuer = ?1 AND name_hash = ?2 AND serial = ?3",
@@ -76,9 +73,9 @@ pub fn insert_single<S: Alter>(
     key: &SingleKey<'_>,
     said: &SaidCells,
 ) -> Result<usize, Error>
-    ensures same_reference { tx.new.conn.ghost_name ≡ tx.old.conn.ghost_name }
-    ensures runs { Runs insert_single (Int key.now.issuer ∷ Blob key.now.name_hash.now ∷ Blob key.now.serial.now ∷ Int said.now.this_update ∷ Int said.now.produced_at ∷ Int said.now.since ∷ Int said.now.until ∷ Int said.now.status ∷ Int said.now.reason ∷ []) (state S.Store tx.old.conn.now) (state S.Store tx.new.conn.now) result }
-    ensures survives { CommitsNothing (state S.Store tx.old.conn.now) (state S.Store tx.new.conn.now) }
+    ensures same_reference { KeepsReference tx.old tx.new }
+    ensures runs { RunsIn S.Store tx.old tx.new (single_insertion key.now said.now) result }
+    ensures survives { CommitsNothing (inside S.Store tx.old) (inside S.Store tx.new) }
 {
     tx.execute(
         "INSERT INTO ocsp (issuer, name_hash, serial, this_update, produced_at, since, until, status, reason) VALUES (?1, ?2, ?3, ?4, ?5, ?6, ?7, ?8, ?9)",
