@@ -5,9 +5,12 @@ use Rattle.sqlite.specs.Held.{Held, state}
 use Rattle.sqlite.specs.State.{State, KeepsCommit, IsRolledBack}
 use Rattle.sqlite.proofs.InsideLemmas.{unchanged_keeps, keeps_then}
 use Rattle.statements_facts.specs.Statement.{Holdings}
+use Rattle.path.specs.Query.{Query, Accepts}
+use Rattle.relying_agreement.specs.declared.verdict.Verdict.{Verdict}
+use Rattle.relying_agreement.specs.declared.verdict.Comparison.{Comparison}
 use Rattle.relying_verdicts.specs.declared.fault.Fault.{Fault}
 use Rattle.relying_verdicts.specs.declared.fault.Fault.TheVariants.{Store, Memory}
-use Rattle.relying_verdicts.specs.Asking.{HasAsked, HasAskedBoth}
+use Rattle.relying_verdicts.specs.Asking.{HasAsked, HasAskedBoth, AreInvalidOrOpen, IsInvalidOrOpen}
 use Rattle.relying.specs.Asking.{HasLooked, HasLookedAtBoth}
 
 dropped : (old last new : State) → KeepsCommit old last → IsRolledBack last new → KeepsCommit old new
@@ -52,3 +55,15 @@ module _ {S T : Type 0} (g : Ghosts S) (h : Ghosts T) (old begun : Held S) (othe
         dropped (state h other) other_last other_new (record { was_open = it.1.was_open; committed = it.1.committed }) other_undone,
         tt,
       )
+
+-- a transaction has begun on a connection that was open before
+pub opened : {S : Type 0} (accepts : Accepts) (query : Query) (g : Ghosts S) (old begun : Held S) (verdict : Verdict) → begun ≡ record old { in_transaction = true }
+    → IsInvalidOrOpen accepts query (state g begun).is_open verdict → IsInvalidOrOpen accepts query (state g old).is_open verdict
+opened accepts query g old begun verdict is it = subst (λ b. IsInvalidOrOpen accepts query (state g b).is_open verdict) is it
+
+pub opened_both : {S T : Type 0} (accepts : Accepts) (query : Query) (g : Ghosts S) (h : Ghosts T) (old begun : Held S) (other other_begun : Held T) (comparison : Comparison)
+    → begun ≡ record old { in_transaction = true } → other_begun ≡ record other { in_transaction = true }
+    → AreInvalidOrOpen accepts query (state g begun).is_open (state h other_begun).is_open comparison → AreInvalidOrOpen accepts query (state g old).is_open (state h other).is_open comparison
+opened_both accepts query g h old begun other other_begun comparison is other_is it =
+    subst (λ b. AreInvalidOrOpen accepts query (state g old).is_open (state h b).is_open comparison) other_is
+    (subst (λ b. AreInvalidOrOpen accepts query (state g b).is_open (state h other_begun).is_open comparison) is it)

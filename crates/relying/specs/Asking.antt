@@ -1,10 +1,14 @@
 -- What a call does that asks the store and may also want memory.
-use Rattle.std.specs.Prelude.{◌≡◌, Result, Ok, Err}
+use Rattle.std.specs.Prelude.{◌≡◌, Result, Ok, Err, IfOk}
 use Rattle.sqlite.specs.State.{State, HasCleanDisk, KeepsCommit}
 use Rattle.statements_facts.specs.Statement.{Holdings}
 use Rattle.store_sql.specs.declared.fault.StoreFault.TheVariants.{Schema as NotOurs}
 use Rattle.store_maps.specs.Held.{IsStoreOf}
 use Rattle.store.specs.Adopts.{StaysIfOpen}
+use Rattle.path.specs.Query.{Query, Accepts}
+use Rattle.relying_agreement.specs.declared.verdict.Verdict.{Verdict}
+use Rattle.relying_agreement.specs.declared.verdict.Comparison.{Comparison}
+use Rattle.relying_verdicts.specs.Asking.{AreInvalidOrOpen, IsInvalidOrOpen}
 use Rattle.relying_verdicts.specs.declared.fault.Fault.{Fault}
 use Rattle.relying_verdicts.specs.declared.fault.Fault.TheVariants.{Store, Memory}
 
@@ -26,6 +30,11 @@ Looks old new Is result = HasCleanDisk new → HasLooked StaysIfOpen old new Is 
 abbrev pub LooksInside : {A : Type 0} → State → State → (Holdings → A → Type 0) → Result A Fault → Type 0
 LooksInside old new Is result = HasCleanDisk new → HasLooked KeepsCommit old new Is result
 
+-- An Invalid verdict is that of the path, whatever is held; another comes from an open connection alone, if the disk returned what was
+-- written.
+abbrev pub AnswersOnlyIfOpen : Accepts → Query → State → State → Result Verdict Fault → Type 0
+AnswersOnlyIfOpen accepts query old new result = HasCleanDisk new → IfOk result (IsInvalidOrOpen accepts query old.is_open)
+
 -- ---- of two stores
 
 abbrev pub IsFormedOfEither : State → State → Fault → Type 0
@@ -44,3 +53,7 @@ LooksAtBoth old new other_old other_new Is result =
 abbrev pub LooksInsideBoth : {A : Type 0} → State → State → State → State → (Holdings → Holdings → A → Type 0) → Result A Fault → Type 0
 LooksInsideBoth old new other_old other_new Is result =
     HasCleanDisk new → HasCleanDisk other_new → HasLookedAtBoth KeepsCommit old new other_old other_new Is result
+
+abbrev pub BothAnswerOnlyIfOpen : Accepts → Query → State → State → State → State → Result Comparison Fault → Type 0
+BothAnswerOnlyIfOpen accepts query old new other_old other_new result =
+    HasCleanDisk new → HasCleanDisk other_new → IfOk result (AreInvalidOrOpen accepts query old.is_open other_old.is_open)

@@ -7,7 +7,7 @@ ghost use Rattle.sqlite.specs.State.{HasCleanDisk};
 ghost use Rattle.store_adoption.specs.Creates.{AreSettled};
 ghost use Rattle.store_sql.specs.Statements.{IsDurable, CommitsNothing};
 ghost use Rattle.relying_agreement.specs.Comparison.{IsComparison};
-ghost use Rattle.relying.specs.Asking.{LooksAtBoth, LooksInsideBoth};
+ghost use Rattle.relying.specs.Asking.{BothAnswerOnlyIfOpen, LooksAtBoth, LooksInsideBoth};
 ghost use Rattle.relying.specs.Never.{NeverDiffer};
 ghost use Rattle.relying.specs.View.{stored};
 ghost use Rattle.relying_verdicts.specs.View.{seen_query};
@@ -34,6 +34,9 @@ fn compare_in_transactions<V: Verifier, S: Alter, D: Alter>(
     ensures looks { LooksInsideBoth (state S.Store one.old) (state S.Store one.new)
         (state D.Store other.old) (state D.Store other.new)
         (IsComparison (V.accepts verifier.now) (seen_query query.now)) result }
+    ensures open { BothAnswerOnlyIfOpen (V.accepts verifier.now) (seen_query query.now)
+        (state S.Store one.old) (state S.Store one.new)
+        (state D.Store other.old) (state D.Store other.new) result }
     ensures survives { CommitsNothing (state S.Store one.old) (state S.Store one.new) }
     ensures other_survives { CommitsNothing (state D.Store other.old) (state D.Store other.new) }
 {
@@ -60,6 +63,9 @@ fn compare_stores<V: Verifier, S: Alter, D: Alter>(
     ensures looks { LooksAtBoth (state S.Store one.old) (state S.Store one.new)
         (state D.Store other.old) (state D.Store other.new)
         (IsComparison (V.accepts verifier.now) (seen_query query.now)) result }
+    ensures open { BothAnswerOnlyIfOpen (V.accepts verifier.now) (seen_query query.now)
+        (state S.Store one.old) (state S.Store one.new)
+        (state D.Store other.old) (state D.Store other.new) result }
     ensures settled { AreSettled (state S.Store one.old) (state S.Store one.new) }
     ensures other_settled { AreSettled (state D.Store other.old) (state D.Store other.new) }
     ensures durable { IsDurable (state S.Store one.new) }
@@ -90,6 +96,9 @@ fn compare_with_files<V: Verifier, S: Alter, D: Disk + Drop>(
     ensures looks { LooksAtBoth (state S.Store one.old) (state S.Store one.new)
         (file_state other.old) (file_state other.new)
         (IsComparison (V.accepts verifier.now) (seen_query query.now)) result }
+    ensures open { BothAnswerOnlyIfOpen (V.accepts verifier.now) (seen_query query.now)
+        (state S.Store one.old) (state S.Store one.new)
+        (file_state other.old) (file_state other.new) result }
     ensures settled { AreSettled (state S.Store one.old) (state S.Store one.new) }
     ensures other_settled { AreSettled (file_state other.old) (file_state other.new) }
     ensures durable { IsDurable (state S.Store one.new) }
@@ -115,6 +124,9 @@ pub fn compare<V: Verifier + Drop, D: Disk + Drop>(
     ensures looks { LooksAtBoth (stored one.old) (stored one.new)
         (stored other.old) (stored other.new)
         (IsComparison (V.accepts one.old.verifier) (seen_query query.now)) result }
+    ensures open { BothAnswerOnlyIfOpen (V.accepts one.old.verifier) (seen_query query.now)
+        (stored one.old) (stored one.new)
+        (stored other.old) (stored other.new) result }
     ensures never { HasCleanDisk (stored one.new) → HasCleanDisk (stored other.new)
         → NeverDiffer (V.accepts one.old.verifier) (seen_query query.now)
         (stored one.old) (stored other.old) result }

@@ -5,7 +5,7 @@ ghost use Rattle.sqlite.specs.Held.{state};
 ghost use Rattle.store_adoption.specs.Creates.{AreSettled};
 ghost use Rattle.store_sql.specs.Statements.{IsDurable, CommitsNothing};
 ghost use Rattle.relying_agreement.specs.Verdict.{IsVerdict};
-ghost use Rattle.relying.specs.Asking.{Looks, LooksInside};
+ghost use Rattle.relying.specs.Asking.{AnswersOnlyIfOpen, Looks, LooksInside};
 ghost use Rattle.relying_verdicts.specs.View.{seen_query};
 
 use path_verifiers::Verifier;
@@ -23,6 +23,8 @@ fn judge_in_transaction<V: Verifier, S: Alter>(
     ensures idle { conn.new.in_transaction ≡ false }
     ensures looks { LooksInside (state S.Store conn.old) (state S.Store conn.new)
         (IsVerdict (V.accepts verifier.now) (seen_query query.now)) result }
+    ensures open { AnswersOnlyIfOpen (V.accepts verifier.now) (seen_query query.now)
+        (state S.Store conn.old) (state S.Store conn.new) result }
     ensures survives { CommitsNothing (state S.Store conn.old) (state S.Store conn.new) }
 {
     let mut tx = conn.transaction();
@@ -45,6 +47,8 @@ pub(crate) fn judge<V: Verifier, S: Alter>(
         (IsVerdict (V.accepts verifier.now) (seen_query query.now)) result }
     ensures settled { AreSettled (state S.Store conn.old) (state S.Store conn.new) }
     ensures durable { IsDurable (state S.Store conn.new) }
+    ensures open { AnswersOnlyIfOpen (V.accepts verifier.now) (seen_query query.now)
+        (state S.Store conn.old) (state S.Store conn.new) result }
     ensures survives { CommitsNothing (state S.Store conn.old) (state S.Store conn.new) }
 {
     let _before = conn.is_autocommit();

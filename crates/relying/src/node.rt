@@ -3,7 +3,7 @@
 ghost use Rattle.std.specs.Prelude.{◌≡◌, IfErr, IfOk};
 ghost use Rattle.store_sql.specs.Statements.{IsDurable, CommitsNothing};
 ghost use Rattle.relying_agreement.specs.Verdict.{IsVerdict};
-ghost use Rattle.relying.specs.Asking.{Looks};
+ghost use Rattle.relying.specs.Asking.{AnswersOnlyIfOpen, Looks};
 ghost use Rattle.relying.specs.Delivery.{AnswersDelivery, IsAnswerTo, MayCommitDelivery};
 ghost use Rattle.relying.specs.Restart.{FailsToRestart, HasRestarted};
 ghost use Rattle.relying.specs.View.{stored};
@@ -81,6 +81,8 @@ impl<V: Verifier + Drop, D: Disk + Drop> Node<V, D> {
         ensures verifier { self.new.verifier ≡ self.old.verifier }
         ensures looks { Looks (stored self.old) (stored self.new)
             (IsVerdict (V.accepts self.old.verifier) (seen_query query.now)) result }
+        ensures open { AnswersOnlyIfOpen (V.accepts self.old.verifier) (seen_query query.now)
+            (stored self.old) (stored self.new) result }
         ensures durable { IsDurable (stored self.new) }
         ensures survives { CommitsNothing (stored self.old) (stored self.new) }
     {

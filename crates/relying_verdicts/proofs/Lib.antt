@@ -1,5 +1,6 @@
 mod Answering
 mod Chains
 mod Differing
+mod Opening
 mod Reading
 mod Links

@@ -1,5 +1,5 @@
 -- What a call does that looks up in stores, inside their transactions, and may also want memory.
-use Rattle.std.specs.Prelude.{◌≡◌, Result, Ok, Err, IsTrue}
+use Rattle.std.specs.Prelude.{◌≡◌, Bool, Result, Ok, Err, IsTrue}
 use Rattle.sqlite.specs.State.{State, HasCleanDisk, KeepsCommit}
 use Rattle.sqlite.specs.declared.transaction.Transaction.{Transaction}
 use Rattle.sqlite_trees.specs.declared.store.Store.{Ghosts}
@@ -10,6 +10,12 @@ use Rattle.store_sql.specs.Inside.{inside}
 use Rattle.store_rows.specs.Steps.{Stays}
 use Rattle.store_maps.specs.Held.{IsStoreOf}
 use Rattle.store_maps.specs.LooksUp.{IsFoundIn, FailsIn}
+use Rattle.path.specs.Query.{Query, Accepts}
+use Rattle.path.specs.Validity.{IsFirstFailure}
+use Rattle.relying_agreement.specs.declared.verdict.Verdict.{Verdict}
+use Rattle.relying_agreement.specs.declared.verdict.Verdict.TheVariants.{Invalid}
+use Rattle.relying_agreement.specs.declared.verdict.Comparison.{Comparison}
+use Rattle.relying_agreement.specs.declared.verdict.Comparison.TheVariants.{Same, Differ}
 use Rattle.relying_verdicts.specs.declared.fault.Fault.{Fault}
 use Rattle.relying_verdicts.specs.declared.fault.Fault.TheVariants.{Store, Memory}
 
@@ -57,3 +63,24 @@ abbrev pub AsksStores : {S D A : Type 0} → Ghosts S → Transaction S → Tran
 AsksStores g old new h other_old other_new Is result =
     HasCleanDisk (inside g new) → HasCleanDisk (inside h other_new) →
     HasAskedBoth (inside g old) (inside g new) (inside h other_old) (inside h other_new) Is result
+
+-- ---- whether a connection was open
+
+-- An Invalid verdict asks no store: the path fails so, whatever is held. Another one comes from an open connection.
+abbrev pub IsInvalidOrOpen : Accepts → Query → Bool → Verdict → Type 0
+IsInvalidOrOpen accepts query is_open (Invalid j reason) = IsFirstFailure accepts query j reason
+IsInvalidOrOpen accepts query is_open verdict = IsTrue is_open
+
+abbrev pub AreInvalidOrOpen : Accepts → Query → Bool → Bool → Comparison → Type 0
+AreInvalidOrOpen accepts query is_open other_is_open (Same verdict) =
+    IsInvalidOrOpen accepts query is_open verdict × IsInvalidOrOpen accepts query other_is_open verdict
+AreInvalidOrOpen accepts query is_open other_is_open (Differ verdict others j) = IsTrue is_open × IsTrue other_is_open
+
+-- the stores were asked, and the verdict is theirs
+abbrev pub IsNotInvalid : Verdict → Type 0
+IsNotInvalid (Invalid j reason) = ⊥
+IsNotInvalid verdict = Unit {0}
+
+abbrev pub AreAskedOpen : Bool → Bool → Comparison → Type 0
+AreAskedOpen is_open other_is_open (Same verdict) = IsTrue is_open × IsTrue other_is_open × IsNotInvalid verdict
+AreAskedOpen is_open other_is_open (Differ verdict others j) = IsTrue is_open × IsTrue other_is_open

@@ -1,11 +1,12 @@
 //! The comparison of two relying parties.
 
-ghost use Rattle.std.specs.Prelude.{◌≡◌, ◌↔◌, IsTrue, length, map, option_map};
+ghost use Rattle.std.specs.Prelude.{◌≡◌, ◌≢◌, ◌↔◌, [], IsTrue, IfOk, length, map, option_map};
+ghost use Rattle.sqlite.specs.State.{HasCleanDisk};
 ghost use Rattle.store_rows.specs.Seen.{seen_held_status};
 ghost use Rattle.store_sql.specs.Inside.{IsInTransaction, KeepsReference, inside};
 ghost use Rattle.store_sql.specs.Statements.{CommitsNothing};
 ghost use Rattle.relying_agreement.specs.Comparison.{IsComparison};
-ghost use Rattle.relying_verdicts.specs.Asking.{AsksStores};
+ghost use Rattle.relying_verdicts.specs.Asking.{AreAskedOpen, AreInvalidOrOpen, AsksStores};
 ghost use Rattle.relying_verdicts.specs.Difference.{ComparesEvidence, IsFirstApart};
 ghost use Rattle.relying_verdicts.specs.Found.{ComparesHeld};
 ghost use Rattle.relying_verdicts.specs.View.{seen_answers, seen_evidence, seen_query};
@@ -132,6 +133,10 @@ fn compare_held<S: Alter, D: Alter>(
     ensures other_reference { KeepsReference other.old other.new }
     ensures asks { AsksStores S.Store one.old one.new D.Store other.old other.new
         (ComparesHeld (seen_query query.now)) result }
+    ensures open { HasCleanDisk (inside S.Store one.new) → HasCleanDisk (inside D.Store other.new)
+        → query.now.path.items ≢ []
+        → IfOk result (AreAskedOpen (inside S.Store one.old).is_open
+        (inside D.Store other.old).is_open) }
     ensures survives { CommitsNothing (inside S.Store one.old) (inside S.Store one.new) }
     ensures other_survives { CommitsNothing (inside D.Store other.old) (inside D.Store other.new) }
 {
@@ -160,6 +165,9 @@ pub fn compare<V: Verifier, S: Alter, D: Alter>(
     ensures other_reference { KeepsReference other.old other.new }
     ensures asks { AsksStores S.Store one.old one.new D.Store other.old other.new
         (IsComparison (V.accepts verifier.now) (seen_query query.now)) result }
+    ensures open { HasCleanDisk (inside S.Store one.new) → HasCleanDisk (inside D.Store other.new)
+        → IfOk result (AreInvalidOrOpen (V.accepts verifier.now) (seen_query query.now)
+        (inside S.Store one.old).is_open (inside D.Store other.old).is_open) }
     ensures survives { CommitsNothing (inside S.Store one.old) (inside S.Store one.new) }
     ensures other_survives { CommitsNothing (inside D.Store other.old) (inside D.Store other.new) }
 {

@@ -1,9 +1,10 @@
 //! What a store holds of the certificates of a path.
 
-ghost use Rattle.std.specs.Prelude.{◌≡◌, IsTrue, IfOk, length, map, vec_len};
+ghost use Rattle.std.specs.Prelude.{◌≡◌, ◌≢◌, [], IsTrue, IfOk, length, map, vec_len};
+ghost use Rattle.sqlite.specs.State.{HasCleanDisk};
 ghost use Rattle.cert.specs.Certificate.{seen_certificate};
 ghost use Rattle.statements_facts.specs.Fact.{issuer_of as seen_issuer};
-ghost use Rattle.store_sql.specs.Inside.{IsInTransaction, KeepsReference, inside};
+ghost use Rattle.store_sql.specs.Inside.{IsInTransaction, KeepsReference, SucceedsOnlyIfOpen, inside};
 ghost use Rattle.store_sql.specs.Statements.{CommitsNothing};
 ghost use Rattle.store_maps.specs.LooksUp.{LooksUpInside};
 ghost use Rattle.relying_agreement.specs.Link.{own_scope};
@@ -76,6 +77,7 @@ fn look_up_lists<S: Alter>(
     ensures same_reference { KeepsReference tx.old tx.new }
     ensures looks_up { LooksUpInside S.Store tx.old tx.new
         (AreListsHeld (seen_issuer issuer.now) kind serial.now) result }
+    ensures open { SucceedsOnlyIfOpen S.Store tx.old tx.new result }
     ensures survives { CommitsNothing (inside S.Store tx.old) (inside S.Store tx.new) }
 {
     let all = match crl(tx, issuer, Scope::All, serial) {
@@ -98,6 +100,7 @@ fn look_up<S: Alter>(
     ensures same_reference { KeepsReference tx.old tx.new }
     ensures looks_up { LooksUpInside S.Store tx.old tx.new
         (AreAnswersHeld (seen_issuer issuer.now) (seen_certificate certificate.now)) result }
+    ensures open { SucceedsOnlyIfOpen S.Store tx.old tx.new result }
     ensures survives { CommitsNothing (inside S.Store tx.old) (inside S.Store tx.new) }
 {
     let kind = own_scope(certificate);
@@ -122,6 +125,7 @@ fn evidence_of<S: Alter>(
     ensures same_reference { KeepsReference tx.old tx.new }
     ensures asks { AsksStore S.Store tx.old tx.new
         (λ held it. seen_evidence it ≡ evidence_of held (seen_link link.now)) result }
+    ensures open { SucceedsOnlyIfOpen S.Store tx.old tx.new result }
     ensures survives { CommitsNothing (inside S.Store tx.old) (inside S.Store tx.new) }
 {
     let issuer = match issuer_of(alloc, link.issuer) {
@@ -149,6 +153,8 @@ pub(crate) fn evidence_on<S: Alter>(
     ensures count { IfOk result (λ all. vec_len all ≡ vec_len query.now.path) }
     ensures asks { AsksStore S.Store tx.old tx.new
         (λ held all. map seen_evidence all.items ≡ evidence_on held (seen_query query.now)) result }
+    ensures open { HasCleanDisk (inside S.Store tx.new)
+        → IfOk result (λ all. all.items ≢ [] → IsTrue (inside S.Store tx.old).is_open) }
     ensures survives { CommitsNothing (inside S.Store tx.old) (inside S.Store tx.new) }
 {
     let mut all = Vec::new(alloc);

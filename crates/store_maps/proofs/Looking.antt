@@ -1,5 +1,5 @@
 -- What look-ups of rows say of what is held.
-use Rattle.std.proofs.Common.{◌≡◌, ℕ, List, Option, Some, None, option_map, option_and_then, find, Result, Ok, Err, refl, sym, ap, ◌∙◌}
+use Rattle.std.proofs.Common.{◌≡◌, ℕ, List, Option, Some, None, option_map, option_and_then, find, Result, Ok, Err, OnOk, refl, sym, ap, ◌∙◌}
 use Rattle.sqlite.specs.State.{State}
 use Rattle.statements_facts.specs.declared.scope.Scope.{Scope}
 use Rattle.statements_facts.specs.Listed.{first_reason}
@@ -73,3 +73,8 @@ pub looks_up : {A Part : Type 0} (old new : State) (result : Result A StoreFault
     → Finds old new (λ it found. view found ≡ want (held_in it)) result → LooksUp old new (λ held found. view found ≡ want held) result
 looks_up old new (Ok found) view want h = found_in old new (λ held found. view found ≡ want held) found h
 looks_up old new (Err fault) view want h = fails_in old new fault h
+
+-- what holds holds where the answer is Ok
+pub on_ok : {A E : Type 0} {P : Type 0} (result : Result A E) → P → OnOk result P
+on_ok (Ok found) p = p
+on_ok (Err fault) p = tt

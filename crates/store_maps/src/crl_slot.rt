@@ -4,7 +4,7 @@ ghost use Rattle.std.specs.Prelude.{◌≡◌, ◌<◌};
 ghost use Rattle.statements_facts.specs.Fact.{issuer_of};
 ghost use Rattle.store_sql.specs.Statements.{CommitsNothing};
 ghost use Rattle.store_maps.specs.Held.{seen_crl, seen_with_reason, IsCrlUnder, IsCrlHeld};
-ghost use Rattle.store_sql.specs.Inside.{inside, IsInTransaction, KeepsReference};
+ghost use Rattle.store_sql.specs.Inside.{inside, IsInTransaction, KeepsReference, SucceedsOnlyIfOpen};
 ghost use Rattle.store_maps.specs.LooksUp.{LooksUpInside};
 ghost use Rattle.store_rows.specs.Steps.{FindsIn};
 
@@ -71,6 +71,7 @@ pub fn crl<S: Alter>(
     ensures same_reference { KeepsReference tx.old tx.new }
     ensures looks_up { LooksUpInside S.Store tx.old tx.new
         (IsCrlHeld (issuer_of issuer.now) scope serial.now) result }
+    ensures open { SucceedsOnlyIfOpen S.Store tx.old tx.new result }
     ensures survives { CommitsNothing (inside S.Store tx.old) (inside S.Store tx.new) }
 {
     let id = match find_issuer(tx, issuer) {

@@ -1,5 +1,6 @@
 use Rattle.std.proofs.Common.{map, ap, ◌∙◌}
 use Rattle.relying_verdicts.specs.View.{seen_evidence}
+use Rattle.relying_verdicts.proofs.Opening.{are_asked, some_found}
 use Rattle.relying_verdicts.proofs.Chains.{first_fails, other_fails, both_found}
 use Rattle.relying_verdicts.proofs.Differing.{compared_as}
 use Rattle.relying_verdicts.proofs.comparing.compare_held.Goals as goal
@@ -16,3 +17,9 @@ returns-in-Ok-evidence_on-clause-asks g c clean other_clean =
 pub returns-clause-asks : goal.returns-clause-asks
 returns-clause-asks g c clean other_clean =
     other_fails _ _ _ _ _ c.in-Ok.held c.in-Err-evidence_on.fault (c.in-Ok.ensures.asks clean) (c.in-Err-evidence_on.ensures.asks other_clean)
+
+pub returns-in-Ok-evidence_on-clause-open : goal.returns-in-Ok-evidence_on-clause-open
+returns-in-Ok-evidence_on-clause-open g c clean other_clean some =
+    are_asked _ _ _ _ _ c.compare_at.result c.compare_at.ensures
+    (c.in-Ok.ensures.open clean (some_found c.in-Ok.held.items c.args.query.now.path.items c.in-Ok.ensures.count some))
+    (c.in-Ok-evidence_on.ensures.open other_clean (some_found c.in-Ok-evidence_on.others.items c.args.query.now.path.items c.in-Ok-evidence_on.ensures.count some))

@@ -4,6 +4,7 @@ use Rattle.path.specs.Validity.{IsOutcome}
 use Rattle.relying_agreement.specs.Verdict.{verdict_by}
 use Rattle.relying_verdicts.specs.View.{seen_evidence, seen_query}
 use Rattle.relying_verdicts.proofs.Chains.{found_as}
+use Rattle.relying_verdicts.proofs.Opening.{is_open, some_certificate, some_found}
 use Rattle.relying_verdicts.proofs.judging.verdict.Goals as goal
 
 pub returns-in-Ok-evidence_on-clause-asks : goal.returns-in-Ok-evidence_on-clause-asks
@@ -14,3 +15,13 @@ returns-in-Ok-evidence_on-clause-asks g c clean =
       is_outcome = subst (IsOutcome (g.V.Verifier.accepts c.args.verifier.now) (seen_query c.args.query.now)) c.in-Good.is c.in-Ok.ensures;
       verdict_is = c.verdict_at.ensures ∙ ap (verdict_by c.args.query.now.moment) (ap (map seen_evidence) c.as_slice.ensures.value ∙ is);
     })
+
+pub returns-in-Ok-evidence_on-clause-open : goal.returns-in-Ok-evidence_on-clause-open
+returns-in-Ok-evidence_on-clause-open g c clean =
+    let valid = subst (IsOutcome (g.V.Verifier.accepts c.args.verifier.now) (seen_query c.args.query.now)) c.in-Good.is c.in-Ok.ensures in
+    let some = some_certificate c.args.query.now.path.items _ valid.served.some in
+    is_open _ _ _ c.args.query.now.moment _ c.verdict_at.result c.verdict_at.ensures
+    (c.in-Ok-evidence_on.ensures.open clean (some_found c.in-Ok-evidence_on.evidence.items c.args.query.now.path.items c.in-Ok-evidence_on.ensures.count some))
+
+pub returns-in-Bad-clause-open : goal.returns-in-Bad-clause-open
+returns-in-Bad-clause-open g c clean = subst (IsOutcome (g.V.Verifier.accepts c.args.verifier.now) (seen_query c.args.query.now)) c.in-Bad.is c.in-Ok.ensures

@@ -22,9 +22,13 @@ loop-index-preserved g c =
       λ clean. found_then _ _ _ _ c.loop-index.all.items _ c.in-Ok.it _ _ (l.3 (omega (arith, clean, c.evidence_of.ensures.survives.clean))) (c.in-Ok.ensures.asks clean)
           (λ held so_far it_is. subst (IsSoFar (seen_query c.args.query.now) (seen_certificate c.certificate-item.result) c.args.query.now.path.items (c.loop-index.index + 1) held) (sym grown)
           (goes_on (seen_query c.args.query.now) (seen_certificate c.loop-index.issuer.now) c.args.query.now.path.items c.loop-index.index c.certificate-item.result _ held c.loop-index.all.items c.in-Ok.it below is refl it_is so_far)),
+      λ clean some. (l.3 (omega (arith, clean, c.evidence_of.ensures.survives.clean))).keeps.was_open (c.in-Ok.ensures.open clean),
     )
 
 pub returns-clause-asks : goal.returns-clause-asks
 returns-clause-asks g c clean =
     found_as _ _ _ c.loop-index.all.items _ c.loop-index.all (c.loop-index.invariant.3 clean)
     (λ held so_far. ends (seen_query c.args.query.now) (seen_certificate c.loop-index.issuer.now) c.args.query.now.path.items c.loop-index.index held c.loop-index.all.items (omega arith) so_far)
+
+pub returns-clause-open : goal.returns-clause-open
+returns-clause-open g c clean = c.loop-index.invariant.4 clean

@@ -1,4 +1,4 @@
-use Rattle.std.proofs.Common.{◌≡◌, vec_len}
+use Rattle.std.proofs.Common.{◌≡◌, ◌≢◌, [], vec_len, IsTrue}
 use Rattle.sqlite.specs.State.{HasCleanDisk}
 use Rattle.sqlite.specs.Held.{state}
 use Rattle.cert.specs.Certificate.{seen_certificate}
@@ -14,3 +14,4 @@ invariant-loop-index g l =
     let now = state g.S.Store l.tx.conn.now in
     (l.tx.conn.ghost_name ≡ l.initial.tx.conn.ghost_name) × CommitsNothing old now × (vec_len l.all ≡ l.index)
     × (HasCleanDisk now → IsFoundIn old now (IsSoFar (seen_query l.query) (seen_certificate l.issuer) l.query.path.items l.index) l.all.items)
+    × (HasCleanDisk now → l.all.items ≢ [] → IsTrue old.is_open)

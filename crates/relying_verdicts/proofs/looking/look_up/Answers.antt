@@ -11,9 +11,12 @@ returns-in-Ok-ocsp-clause-looks_up g c clean =
     let serial = c.args.certificate.now.serial in
     let hash_is : c.digest-name_hash.result ≡ sha1 (seen_certificate c.args.certificate.now).issuer.octets = cc in
     found_then _ _ _ _ c.in-Ok.lists _ c.in-Ok-ocsp.ocsp _ _ (c.in-Ok.ensures.looks_up (omega (arith, clean, c.ocsp.ensures.survives.clean))) (c.in-Ok-ocsp.ensures.looks_up clean)
-    (λ held lists said. answers_are held (issuer_of c.args.issuer.now) (seen_certificate c.args.certificate.now) c.kind_of-kind.result serial.body.now c.digest-name_hash.result _ _ _
-    c.kind_of-kind.ensures serial.body_is hash_is lists.0 lists.1 said)
+    (λ held lists said. answers_are held (issuer_of c.args.issuer.now) (seen_certificate c.args.certificate.now) c.own_scope-kind.result serial.body.now c.digest-name_hash.result _ _ _
+    c.own_scope-kind.ensures serial.body_is hash_is lists.0 lists.1 said)
 
 pub returns-in-Err-ocsp-clause-looks_up : goal.returns-in-Err-ocsp-clause-looks_up
 returns-in-Err-ocsp-clause-looks_up g c clean =
     fails_then _ _ _ _ c.in-Ok.lists c.in-Err-ocsp.fault (c.in-Ok.ensures.looks_up (omega (arith, clean, c.ocsp.ensures.survives.clean))) (c.in-Err-ocsp.ensures.looks_up clean)
+
+pub returns-in-Ok-ocsp-clause-open : goal.returns-in-Ok-ocsp-clause-open
+returns-in-Ok-ocsp-clause-open g c clean = c.in-Ok.ensures.open (omega (arith, clean, c.ocsp.ensures.survives.clean))

@@ -3,7 +3,7 @@ use Rattle.statements_facts.specs.Fact.{issuer_of}
 use Rattle.store_maps.specs.Held.{crl_under, seen_crl}
 use Rattle.statements_facts.specs.Statement.{answer_for}
 use Rattle.store_maps.proofs.Chains.{answered_as, found_in}
-use Rattle.store_maps.proofs.Looking.{none_held, looks_under, looks_up}
+use Rattle.store_maps.proofs.Looking.{none_held, on_ok, looks_under, looks_up}
 use Rattle.store_maps.proofs.crl_slot.crl.Goals as goal
 
 pub returns-in-Ok-None-clause-looks_up : goal.returns-in-Ok-None-clause-looks_up
@@ -16,3 +16,9 @@ returns-clause-looks_up g c clean =
     looks_up _ _ c.look_under.result (option_map seen_crl) (λ held. option_map (answer_for c.args.serial.now) (held.crl (record { issuer = issuer_of c.args.issuer.now; scope = c.args.scope })))
     (looks_under _ _ _ (issuer_of c.args.issuer.now) c.in-Ok-Some.field-0 c.in-Ok-Some.id c.look_under.result (option_map seen_crl) (answer_for c.args.serial.now) (λ it. crl_under it c.args.scope) c.in-Ok-Some.field-0-is
     (c.in-Ok-Some.ensures.finds (omega (arith, clean, c.look_under.ensures.survives.clean))) (c.look_under.ensures.finds clean))
+
+pub returns-in-Ok-None-clause-open : goal.returns-in-Ok-None-clause-open
+returns-in-Ok-None-clause-open g c clean = (c.in-Ok-None.ensures.known clean).was_open
+
+pub returns-clause-open : goal.returns-clause-open
+returns-clause-open g c clean = on_ok c.look_under.result (c.in-Ok-Some.ensures.known (omega (arith, clean, c.look_under.ensures.survives.clean))).was_open

@@ -3,7 +3,7 @@ use Rattle.statements_facts.specs.Fact.{issuer_of}
 use Rattle.store_rows.specs.Seen.{seen_held_status}
 use Rattle.store_maps.specs.Held.{ocsp_under}
 use Rattle.store_maps.proofs.Chains.{answered_as, found_in}
-use Rattle.store_maps.proofs.Looking.{none_held, looks_same, looks_up}
+use Rattle.store_maps.proofs.Looking.{none_held, on_ok, looks_same, looks_up}
 use Rattle.store_maps.proofs.ocsp_slot.ocsp.Goals as goal
 
 pub returns-in-Ok-None-clause-looks_up : goal.returns-in-Ok-None-clause-looks_up
@@ -16,3 +16,9 @@ returns-clause-looks_up g c clean =
     looks_up _ _ c.find_single.result (option_map seen_held_status) (λ held. held.ocsp (record { issuer = issuer_of c.args.issuer.now; name_hash = c.args.name_hash.now; serial = c.args.serial.now }))
     (looks_same _ _ _ (issuer_of c.args.issuer.now) c.in-Ok-Some.field-0 c.in-Ok-Some.id c.find_single.result (option_map seen_held_status) (λ it. ocsp_under it c.args.name_hash.now c.args.serial.now) c.in-Ok-Some.field-0-is
     (c.in-Ok-Some.ensures.finds (omega (arith, clean, c.find_single.ensures.survives.clean))) (c.find_single.ensures.finds clean))
+
+pub returns-in-Ok-None-clause-open : goal.returns-in-Ok-None-clause-open
+returns-in-Ok-None-clause-open g c clean = (c.in-Ok-None.ensures.known clean).was_open
+
+pub returns-clause-open : goal.returns-clause-open
+returns-clause-open g c clean = on_ok c.find_single.result (c.in-Ok-Some.ensures.known (omega (arith, clean, c.find_single.ensures.survives.clean))).was_open
