@@ -16,12 +16,12 @@ use Rattle.statements_facts.specs.Statement.{IssuerIdentity, Holdings}
 use Rattle.statements_facts.specs.Single.{SingleFact, seen_single}
 use Rattle.statements_facts.specs.Fact.{Fact}
 use Rattle.store_sql.specs.declared.fault.StoreFault.{StoreFault}
-use Rattle.store_sql.specs.declared.fault.StoreFault.TheVariants.{Schema as NotOurs}
 use Rattle.statements_facts.specs.declared.counts.TakenAs.{TakenAs}
 use Rattle.statements_facts.specs.declared.counts.Counts.{Counts}
 use Rattle.statements_facts.specs.Coming.{after_all, same_outcome, number_of}
 use Rattle.statements_facts.proofs.Laws.{one_more_taken, nothing_counted, one_more_counted}
 use Rattle.store_maps.specs.Held.{IsStoreOf}
+use Rattle.store_maps.proofs.HeldLaws.{trees_of}
 use Rattle.store_taking.specs.Passing.{HasStepped, StepFails}
 use Rattle.store_taking.specs.Taking.{IsTaken, AreTaken, fact_of_single, facts_of_singles}
 use Rattle.store_taking.specs.Delivery.{Commits, Undoes, Ends, Puts, CommitsWhole}
@@ -98,7 +98,7 @@ pub rolled_back : (last new : State) (e : Error) → IsTrue last.in_transaction 
 rolled_back last new e inside (inl fails) = fails.3
 rolled_back last new e inside (inr late) = absurd (both_ways _ late.1 inside)
 
-undoes : (old last new : State) (fault : StoreFault) → KeepsCommit old last → IsRolledBack last new → (fault ≡ NotOurs → (held : Holdings) → IsStoreOf old.now held → ⊥) → Undoes old new fault
+undoes : (old last new : State) (fault : StoreFault) → KeepsCommit old last → IsRolledBack last new → (fault ≡ StoreFault.Schema → (held : Holdings) → IsStoreOf old.now held → ⊥) → Undoes old new fault
 undoes old last new fault keeps back formed = record {
   was_open = λ h. keeps.was_open (back.was_open h);
   undone = λ h. (back.undone h).0 ∙ keeps.committed (back.was_open h);
@@ -108,14 +108,14 @@ undoes old last new fault keeps back formed = record {
 pub stop_undoes : (old last new : State) (fault : StoreFault) → StepFails old last IsStoreOf fault → IsRolledBack last new → Undoes old new fault
 stop_undoes old last new fault stops back = undoes old last new fault stops.keeps back stops.formed
 
-pub failed_commit_undoes : (old last new : State) (facts : List Fact) (counts : Counts) (e : Error) (fault : StoreFault) → HasStepped old last IsStoreOf (AreTaken facts counts) → FailsToCommit last new e → fault ≢ NotOurs → Undoes old new fault
+pub failed_commit_undoes : (old last new : State) (facts : List Fact) (counts : Counts) (e : Error) (fault : StoreFault) → HasStepped old last IsStoreOf (AreTaken facts counts) → FailsToCommit last new e → fault ≢ StoreFault.Schema → Undoes old new fault
 failed_commit_undoes old last new facts counts e fault passes fails other = undoes old last new fault passes.keeps (rolled_back last new e passes.mode fails) (λ is held store. other is)
 
 -- what the commit leaves is the whole delivery
 pub leaves_whole : (old last : State) (facts : List Fact) (counts : Counts) (trees : Trees) → HasStepped old last IsStoreOf (AreTaken facts counts) → IsTrue old.is_open → trees ≡ last.now.trees → CommitsWhole old facts trees
 leaves_whole old last facts counts trees passes was_open is = (
   was_open,
-  λ held store. (last.now.schema, subst (λ t. IsStoreOf (record { schema = last.now.schema; trees = t }) (after_all held facts)) (sym is) (passes.held held store).hold),
+  λ held store. trees_of (after_all held facts) last.now trees is (passes.held held store).hold,
 )
 
 -- ---- from before the transaction began
@@ -139,7 +139,7 @@ puts_so old new facts (Ok counts) settled ends durable = record {
   taken = ends.taken;
   durable = λ held store trees may.
       let left : trees ≡ new.now.trees = durable ends.is_open trees may ∙ ap (λ (db : Database). db.trees) ends.committed_is in
-      (new.now.schema, subst (λ t. IsStoreOf (record { schema = new.now.schema; trees = t }) (after_all held facts)) (sym left) (ends.taken held store).hold);
+      trees_of (after_all held facts) new.now trees left (ends.taken held store).hold;
 }
 puts_so old new facts (Err fault) settled ends durable = record {
   was_open = ends.was_open;

@@ -115,7 +115,7 @@ scope_low All = omega arith
 scope_low User = omega arith
 scope_low Ca = omega arith
 
-pub crl_in_form : (it : Contents) (id : ℕ) (scope : Scope) (head : CrlHead) → AreInForm it → IsNumbered head → AreInForm (with_crl id scope head.number head.window it)
+pub crl_in_form : (it : Contents) (id : ℕ) (scope : Scope) (head : CrlHead) → AreInForm it → IsNumbered head → AreInForm (with_crl id scope head it)
 crl_in_form it id scope head form numbered = record {
   ids = form.ids;
   numbers = all_and (λ (row : CrlRow). IsNumbered (head_of row)) (filter (λ row. not (is_crl_of id scope row)) it.crls) _ (all_filtered (λ (row : CrlRow). IsNumbered (head_of row)) (λ row. not (is_crl_of id scope row)) it.crls form.numbers) numbered;
@@ -141,7 +141,7 @@ list_owned it id scope head listed owned low = record {
 
 -- ---- a single response in the place of another
 
-pub single_in_form : (it : Contents) (id : ℕ) (name_hash serial : List ℕ) (fact : OcspFact) → AreInForm it → IsSaid fact → AreInForm (with_single id name_hash serial fact it)
+pub single_in_form : (it : Contents) (id : ℕ) (name_hash serial : List ℕ) (fact : OcspFact) → AreInForm it → IsSaid fact → AreInForm (with_single id (record { name_hash = name_hash; serial = serial; fact = fact }) it)
 single_in_form it id name_hash serial fact form said = record {
   ids = form.ids;
   numbers = form.numbers;
@@ -150,7 +150,7 @@ single_in_form it id name_hash serial fact form said = record {
   placed = form.placed;
 }
 
-pub single_owned : (it : Contents) (id : ℕ) (name_hash serial : List ℕ) (fact : OcspFact) → IsOwned it → id < next_id it.issuers → IsOwned (with_single id name_hash serial fact it)
+pub single_owned : (it : Contents) (id : ℕ) (name_hash serial : List ℕ) (fact : OcspFact) → IsOwned it → id < next_id it.issuers → IsOwned (with_single id (record { name_hash = name_hash; serial = serial; fact = fact }) it)
 single_owned it id name_hash serial fact owned low = record {
   crls = owned.crls;
   singles = all_and (λ (row : SingleRow). row.issuer < next_id it.issuers) (filter (λ row. not (is_single_of id name_hash serial row)) it.singles) _ (all_filtered (λ (row : SingleRow). row.issuer < next_id it.issuers) (λ row. not (is_single_of id name_hash serial row)) it.singles owned.singles) low;

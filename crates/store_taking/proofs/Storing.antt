@@ -75,7 +75,7 @@ module _ (identity : IssuerIdentity) (id : ℕ) (scope : Scope) (head : CrlHead)
         origin = store.origin;
         contents = with_list id scope head listed it;
         rows = moves.rows store.origin it store.rows store.form;
-        form = entries_in_form (with_crl id scope head.number head.window it) id (scope_number scope) listed (crl_in_form it id scope head store.form numbered) room (scope_low scope) formed.few formed.ascend formed.bytes;
+        form = entries_in_form (with_crl id scope head it) id (scope_number scope) listed (crl_in_form it id scope head store.form numbered) room (scope_low scope) formed.few formed.ascend formed.bytes;
         owned = list_owned it id scope head listed store.owned low;
         held_is = list_held it slot id head listed store.form store.rows.issuers_rise room formed.few formed.ascend was.known ∙ ap (λ h. with_crl_fact h slot (fact_of_rows head listed)) store.held_is;
       }
@@ -119,14 +119,14 @@ module _ (identity : IssuerIdentity) (id : ℕ) (name_hash serial : List ℕ) (s
         record { holds = subst (IsStoreOf new.now) (sym (left_out held told outcome other so.1)) so.0.store; counted = so.1 };
   }
 
-  single_put_in : (mid new : State) → Moves mid new (with_single id name_hash serial said) → IsSaid said → (held : Holdings) → HasIssuer identity id mid.now held → IsStoreOf new.now (with_ocsp_fact held place said)
+  single_put_in : (mid new : State) → Moves mid new (with_single id (record { name_hash = name_hash; serial = serial; fact = said })) → IsSaid said → (held : Holdings) → HasIssuer identity id mid.now held → IsStoreOf new.now (with_ocsp_fact held place said)
   single_put_in mid new moves formed held was =
       let store = was.store in
       let it = store.contents in
       let low = id_below it.issuers identity id store.rows.issuers_rise was.known in
       record {
         origin = store.origin;
-        contents = with_single id name_hash serial said it;
+        contents = with_single id (record { name_hash = name_hash; serial = serial; fact = said }) it;
         rows = moves.rows store.origin it store.rows store.form;
         form = single_in_form it id name_hash serial said store.form formed;
         owned = single_owned it id name_hash serial said store.owned low;
@@ -136,7 +136,7 @@ module _ (identity : IssuerIdentity) (id : ℕ) (name_hash serial : List ℕ) (s
   single_stored_as : (held : Holdings) → IsTakenAs held told Stored → with_ocsp_fact held place said ≡ after_one held told
   single_stored_as held comes = sym (rw comes refl)
 
-  pub single_stored : (old mid new : State) → HasFound old mid JudgedSo Stored → Moves mid new (with_single id name_hash serial said) → IsSaid said → HasStepped old new (HasIssuer identity id) (IsTaken told Stored)
+  pub single_stored : (old mid new : State) → HasFound old mid JudgedSo Stored → Moves mid new (with_single id (record { name_hash = name_hash; serial = serial; fact = said })) → IsSaid said → HasStepped old new (HasIssuer identity id) (IsTaken told Stored)
   single_stored old mid new answer moves formed = record {
     keeps = keeps_then old mid new answer.keeps (record { was_open = λ _. moves.was_open; committed = λ _. moves.committed_is });
     mode = moves.mode;

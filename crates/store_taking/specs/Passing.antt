@@ -1,8 +1,11 @@
 -- What a call inside a transaction does to what a store holds.
 use Rattle.std.specs.Prelude.{◌≡◌, ℕ, Some, None, Result, Ok, Err, IsTrue}
 use Rattle.sqlite.specs.Effect.{Database}
-use Rattle.sqlite.specs.State.{State, KeepsCommit}
+use Rattle.sqlite_trees.specs.declared.store.Store.{Ghosts}
+use Rattle.sqlite.specs.declared.transaction.Transaction.{Transaction}
+use Rattle.sqlite.specs.State.{State, HasCleanDisk, KeepsCommit}
 use Rattle.statements_facts.specs.Statement.{IssuerIdentity, Holdings}
+use Rattle.store_sql.specs.Inside.{inside}
 use Rattle.store_sql.specs.declared.fault.StoreFault.{StoreFault}
 use Rattle.store_sql.specs.declared.fault.StoreFault.TheVariants.{Schema}
 use Rattle.store_rows.specs.Contents.{id_of}
@@ -44,3 +47,18 @@ pub record IsIdOf (old new : State) (identity : IssuerIdentity) (id : ℕ) : Typ
 abbrev pub KnowsId : State → State → IssuerIdentity → Result ℕ StoreFault → Type 0
 KnowsId old new identity (Ok id) = IsIdOf old new identity id
 KnowsId old new identity (Err fault) = FailsOverStore old new fault
+
+-- ---- the same of a call on a transaction, if the disk has returned what was written
+
+abbrev pub StepsIn : {S A : Type 0} → Ghosts S → Transaction S → Transaction S → (Database → Holdings → Type 0) → (A → Database → Holdings → Type 0) → Result A StoreFault → Type 0
+StepsIn g old new Before After result = HasCleanDisk (inside g new) → StepsTo (inside g old) (inside g new) Before After result
+
+abbrev pub KnowsIdIn : {S : Type 0} → Ghosts S → Transaction S → Transaction S → IssuerIdentity → Result ℕ StoreFault → Type 0
+KnowsIdIn g old new identity result = HasCleanDisk (inside g new) → KnowsId (inside g old) (inside g new) identity result
+
+-- an issuer that has no id is given one: what is held stays
+abbrev pub AddsIssuer : {S : Type 0} → Ghosts S → Transaction S → Transaction S → IssuerIdentity → Result ℕ StoreFault → Type 0
+AddsIssuer g old new identity result = StepsIn g old new (LacksIssuer identity) (HasIssuer identity) result
+
+abbrev pub FindsOrAddsIssuer : {S : Type 0} → Ghosts S → Transaction S → Transaction S → IssuerIdentity → Result ℕ StoreFault → Type 0
+FindsOrAddsIssuer g old new identity result = StepsIn g old new IsStoreOf (HasIssuer identity) result

@@ -1,14 +1,12 @@
 //! Deliveries: all facts of a statement, in one transaction.
 
-ghost use Rattle.std.specs.Prelude.{◌≡◌, IsTrue, false, OnOk};
+ghost use Rattle.std.specs.Prelude.{◌≡◌, false};
 ghost use Rattle.sqlite.specs.Held.{state};
-ghost use Rattle.sqlite.specs.State.{HasCleanDisk, Survives};
-ghost use Rattle.statements_facts.specs.Fact.{issuer_of, facts_in};
+ghost use Rattle.statements_facts.specs.Fact.{facts_in};
 ghost use Rattle.store_sql.specs.Statements.{CommitsNothing, IsDurable};
-ghost use Rattle.store_maps.specs.Held.{IsStoreOf};
-ghost use Rattle.store_taking.specs.Passing.{StepsTo};
-ghost use Rattle.store_taking.specs.Taking.{AreTaken, facts_of_singles};
-ghost use Rattle.store_taking.specs.Delivery.{Puts, CommitsWhole, Ends};
+ghost use Rattle.store_sql.specs.Inside.{inside, IsInTransaction, KeepsReference, SucceedsOnlyIfOpen};
+ghost use Rattle.store_taking.specs.Taking.{TakesFacts};
+ghost use Rattle.store_taking.specs.Delivery.{EndsDelivery, PutsFacts, AllOrNothing};
 
 use crate::lists::take_list;
 use crate::responses::take_single;
@@ -20,11 +18,11 @@ fn take_singles<S: Alter>(
     tx: &mut Transaction<'_, S>,
     response: &OcspFacts<'_>,
 ) -> Result<Counts, StoreFault>
-    requires inside { HasCleanDisk (state S.Store tx.old.conn.now) → IsTrue (state S.Store tx.old.conn.now).in_transaction }
-    ensures same_reference { tx.new.conn.ghost_name ≡ tx.old.conn.ghost_name }
-    ensures takes { HasCleanDisk (state S.Store tx.new.conn.now) → StepsTo (state S.Store tx.old.conn.now) (state S.Store tx.new.conn.now) IsStoreOf (AreTaken (facts_of_singles (issuer_of response.now.issuer) response.now.singles)) result }
-    ensures open { HasCleanDisk (state S.Store tx.new.conn.now) → OnOk result (IsTrue (state S.Store tx.old.conn.now).is_open) }
-    ensures survives { CommitsNothing (state S.Store tx.old.conn.now) (state S.Store tx.new.conn.now) }
+    requires inside { IsInTransaction S.Store tx.old }
+    ensures same_reference { KeepsReference tx.old tx.new }
+    ensures takes { TakesFacts S.Store tx.old tx.new (facts_in (Facts.Ocsp response.now)) result }
+    ensures open { SucceedsOnlyIfOpen S.Store tx.old tx.new result }
+    ensures survives { CommitsNothing (inside S.Store tx.old) (inside S.Store tx.new) }
 {
     let all = response.singles.as_slice();
     let mut counts = Counts::none();
@@ -39,11 +37,11 @@ fn take_singles<S: Alter>(
 
 /// Takes all facts of a statement, in order, inside a transaction.
 fn take_all<S: Alter>(tx: &mut Transaction<'_, S>, facts: &Facts<'_>) -> Result<Counts, StoreFault>
-    requires inside { HasCleanDisk (state S.Store tx.old.conn.now) → IsTrue (state S.Store tx.old.conn.now).in_transaction }
-    ensures same_reference { tx.new.conn.ghost_name ≡ tx.old.conn.ghost_name }
-    ensures takes { HasCleanDisk (state S.Store tx.new.conn.now) → StepsTo (state S.Store tx.old.conn.now) (state S.Store tx.new.conn.now) IsStoreOf (AreTaken (facts_in facts.now)) result }
-    ensures open { HasCleanDisk (state S.Store tx.new.conn.now) → OnOk result (IsTrue (state S.Store tx.old.conn.now).is_open) }
-    ensures survives { CommitsNothing (state S.Store tx.old.conn.now) (state S.Store tx.new.conn.now) }
+    requires inside { IsInTransaction S.Store tx.old }
+    ensures same_reference { KeepsReference tx.old tx.new }
+    ensures takes { TakesFacts S.Store tx.old tx.new (facts_in facts.now) result }
+    ensures open { SucceedsOnlyIfOpen S.Store tx.old tx.new result }
+    ensures survives { CommitsNothing (inside S.Store tx.old) (inside S.Store tx.new) }
 {
     match facts {
         Facts::Crl(list) => match take_list(tx, list) {
@@ -58,9 +56,9 @@ fn take_all<S: Alter>(tx: &mut Transaction<'_, S>, facts: &Facts<'_>) -> Result<
 fn deliver<S: Alter>(conn: &mut Connection<S>, facts: &Facts<'_>) -> Result<Counts, StoreFault>
     requires idle { conn.old.in_transaction ≡ false }
     ensures idle { conn.new.in_transaction ≡ false }
-    ensures ends { HasCleanDisk (state S.Store conn.new) → Ends (state S.Store conn.old) (state S.Store conn.new) (facts_in facts.now) result }
+    ensures ends { EndsDelivery (state S.Store conn.old) (state S.Store conn.new) facts.now result }
     ensures settled { IsDurable (state S.Store conn.new) }
-    ensures survives { Survives (state S.Store conn.old) (state S.Store conn.new) (CommitsWhole (state S.Store conn.old) (facts_in facts.now)) }
+    ensures survives { AllOrNothing (state S.Store conn.old) (state S.Store conn.new) facts.now }
 {
     let mut tx = conn.transaction();
     let counts = match take_all(&mut tx, facts) {
@@ -77,8 +75,8 @@ fn deliver<S: Alter>(conn: &mut Connection<S>, facts: &Facts<'_>) -> Result<Coun
 /// fault is answered, what is held is as it was. The connection is in no transaction; else it is refused.
 pub fn put<S: Alter>(conn: &mut Connection<S>, facts: &Facts<'_>) -> Result<Counts, StoreFault>
     ensures idle { conn.old.in_transaction ≡ false → conn.new.in_transaction ≡ false }
-    ensures puts { HasCleanDisk (state S.Store conn.new) → Puts (state S.Store conn.old) (state S.Store conn.new) (facts_in facts.now) result }
-    ensures survives { Survives (state S.Store conn.old) (state S.Store conn.new) (CommitsWhole (state S.Store conn.old) (facts_in facts.now)) }
+    ensures puts { PutsFacts (state S.Store conn.old) (state S.Store conn.new) facts.now result }
+    ensures survives { AllOrNothing (state S.Store conn.old) (state S.Store conn.new) facts.now }
 {
     if !conn.is_autocommit() {
         return Err(StoreFault::Store);

@@ -1,13 +1,11 @@
 //! The ids of issuers, who are added where they are new.
 
-ghost use Rattle.std.specs.Prelude.{◌≡◌, IfOk, IsTrue, OnOk};
-ghost use Rattle.sqlite.specs.Held.{state};
-ghost use Rattle.sqlite.specs.State.{HasCleanDisk};
+ghost use Rattle.std.specs.Prelude.{IfOk};
 ghost use Rattle.statements_facts.specs.Fact.{issuer_of};
 ghost use Rattle.store_sql.specs.Statements.{CommitsNothing};
 ghost use Rattle.store_rows.specs.Holding.{HasRoom};
-ghost use Rattle.store_maps.specs.Held.{IsStoreOf};
-ghost use Rattle.store_taking.specs.Passing.{StepsTo, KnowsId, HasIssuer, LacksIssuer};
+ghost use Rattle.store_sql.specs.Inside.{inside, IsInTransaction, KeepsReference, SucceedsOnlyIfOpen};
+ghost use Rattle.store_taking.specs.Passing.{KnowsIdIn, AddsIssuer, FindsOrAddsIssuer};
 
 use sqlite::{Alter, Transaction};
 use statements_facts::Issuer;
@@ -19,11 +17,11 @@ fn id_of_added<S: Alter>(
     tx: &mut Transaction<'_, S>,
     issuer: &Issuer<'_>,
 ) -> Result<u32, StoreFault>
-    requires inside { HasCleanDisk (state S.Store tx.old.conn.now) → IsTrue (state S.Store tx.old.conn.now).in_transaction }
-    ensures same_reference { tx.new.conn.ghost_name ≡ tx.old.conn.ghost_name }
-    ensures known { HasCleanDisk (state S.Store tx.new.conn.now) → KnowsId (state S.Store tx.old.conn.now) (state S.Store tx.new.conn.now) (issuer_of issuer.now) result }
+    requires inside { IsInTransaction S.Store tx.old }
+    ensures same_reference { KeepsReference tx.old tx.new }
+    ensures known { KnowsIdIn S.Store tx.old tx.new (issuer_of issuer.now) result }
     ensures room { IfOk result HasRoom }
-    ensures survives { CommitsNothing (state S.Store tx.old.conn.now) (state S.Store tx.new.conn.now) }
+    ensures survives { CommitsNothing (inside S.Store tx.old) (inside S.Store tx.new) }
 {
     match find_issuer(tx, issuer) {
         Ok(Some(id)) => Ok(id),
@@ -33,11 +31,11 @@ fn id_of_added<S: Alter>(
 }
 
 fn new_issuer<S: Alter>(tx: &mut Transaction<'_, S>, issuer: &Issuer<'_>) -> Result<u32, StoreFault>
-    requires inside { HasCleanDisk (state S.Store tx.old.conn.now) → IsTrue (state S.Store tx.old.conn.now).in_transaction }
-    ensures same_reference { tx.new.conn.ghost_name ≡ tx.old.conn.ghost_name }
-    ensures goes { HasCleanDisk (state S.Store tx.new.conn.now) → StepsTo (state S.Store tx.old.conn.now) (state S.Store tx.new.conn.now) (LacksIssuer (issuer_of issuer.now)) (HasIssuer (issuer_of issuer.now)) result }
+    requires inside { IsInTransaction S.Store tx.old }
+    ensures same_reference { KeepsReference tx.old tx.new }
+    ensures goes { AddsIssuer S.Store tx.old tx.new (issuer_of issuer.now) result }
     ensures room { IfOk result HasRoom }
-    ensures survives { CommitsNothing (state S.Store tx.old.conn.now) (state S.Store tx.new.conn.now) }
+    ensures survives { CommitsNothing (inside S.Store tx.old) (inside S.Store tx.new) }
 {
     if let Err(fault) = add_issuer(tx, issuer) {
         return Err(fault);
@@ -53,12 +51,12 @@ pub(crate) fn issuer_id<S: Alter>(
     tx: &mut Transaction<'_, S>,
     issuer: &Issuer<'_>,
 ) -> Result<u32, StoreFault>
-    requires inside { HasCleanDisk (state S.Store tx.old.conn.now) → IsTrue (state S.Store tx.old.conn.now).in_transaction }
-    ensures same_reference { tx.new.conn.ghost_name ≡ tx.old.conn.ghost_name }
-    ensures goes { HasCleanDisk (state S.Store tx.new.conn.now) → StepsTo (state S.Store tx.old.conn.now) (state S.Store tx.new.conn.now) IsStoreOf (HasIssuer (issuer_of issuer.now)) result }
-    ensures open { HasCleanDisk (state S.Store tx.new.conn.now) → OnOk result (IsTrue (state S.Store tx.old.conn.now).is_open) }
+    requires inside { IsInTransaction S.Store tx.old }
+    ensures same_reference { KeepsReference tx.old tx.new }
+    ensures goes { FindsOrAddsIssuer S.Store tx.old tx.new (issuer_of issuer.now) result }
+    ensures open { SucceedsOnlyIfOpen S.Store tx.old tx.new result }
     ensures room { IfOk result HasRoom }
-    ensures survives { CommitsNothing (state S.Store tx.old.conn.now) (state S.Store tx.new.conn.now) }
+    ensures survives { CommitsNothing (inside S.Store tx.old) (inside S.Store tx.new) }
 {
     match find_issuer(tx, issuer) {
         Ok(Some(id)) => Ok(id),

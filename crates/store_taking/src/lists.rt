@@ -1,21 +1,14 @@
 //! Revocation lists that are put into a store.
 
-ghost use Rattle.std.specs.Prelude.{◌≡◌, ◌<◌, ◌^◌, Some, IsTrue, IfSome, IfNone, OnOk};
-ghost use Rattle.sqlite.specs.Held.{state};
-ghost use Rattle.sqlite.specs.State.{HasCleanDisk};
-ghost use Rattle.statements_facts.specs.Fact.{Fact, issuer_of, crl_slot, crl_fact};
+ghost use Rattle.std.specs.Prelude.{◌≡◌, ◌<◌, ◌^◌, IfSome, IfNone, OnOk};
 ghost use Rattle.statements_facts.specs.Listed.{IsAscending};
 ghost use Rattle.store_sql.specs.Statements.{CommitsNothing};
-ghost use Rattle.store_rows.specs.Contents.{scope_number};
 ghost use Rattle.store_rows.specs.Holding.{IsNumbered, FitInList};
-ghost use Rattle.store_rows.specs.Places.{entries_under};
 ghost use Rattle.store_rows.specs.Seen.{seen_head};
-ghost use Rattle.store_rows.specs.Steps.{Finds, Changes};
-ghost use Rattle.statements_facts.specs.Coming.{CrlIsTakenAs};
-ghost use Rattle.store_maps.specs.Held.{IsStoreOf, crl_under};
-ghost use Rattle.store_taking.specs.Lists.{crl_head, with_list, IsToldByEntries};
-ghost use Rattle.store_taking.specs.Taking.{IsTaken};
-ghost use Rattle.store_taking.specs.Passing.{StepsTo, HasIssuer};
+ghost use Rattle.store_taking.specs.Lists.{crl_head, with_crl_facts, HeadDecides, EntriesDecide, ListIsTakenAs};
+ghost use Rattle.store_sql.specs.Inside.{inside, IsInTransaction, KeepsReference, SucceedsOnlyIfOpen};
+ghost use Rattle.store_taking.specs.Taking.{fact_of_list, TakesFact, TakesUnder};
+ghost use Rattle.store_rows.specs.Steps.{FindsIn, ChangesIn};
 
 use crate::known::issuer_id;
 use asn::Number20;
@@ -47,7 +40,7 @@ fn head_of(list: &CrlFacts<'_>) -> Head
 /// What becomes of a list beside the one that is held, as far as its number and window tell: nothing is told where they are
 /// the same.
 fn outcome_by_head(held: &Head, list: &CrlFacts<'_>) -> Option<TakenAs>
-    ensures some { IfSome result (λ outcome. (reasons : _) → CrlIsTakenAs (Some (record { number = held.now.number; window = record { from = held.now.from; until = held.now.until }; reasons = reasons })) (crl_fact list.now) outcome) }
+    ensures some { IfSome result (HeadDecides held.now list.now) }
     ensures none { IfNone result (seen_head held.now ≡ crl_head list.now) }
 {
     match list.number.cmp(&held.number) {
@@ -70,11 +63,11 @@ fn outcome_by_entries<S: Alter>(
     list: &CrlFacts<'_>,
 ) -> Result<TakenAs, StoreFault>
     requires issuer { key.now.issuer < 536870911 }
-    requires inside { HasCleanDisk (state S.Store tx.old.conn.now) → IsTrue (state S.Store tx.old.conn.now).in_transaction }
-    ensures same_reference { tx.new.conn.ghost_name ≡ tx.old.conn.ghost_name }
-    ensures finds { HasCleanDisk (state S.Store tx.new.conn.now) → Finds (state S.Store tx.old.conn.now) (state S.Store tx.new.conn.now) (λ it outcome. IsToldByEntries (entries_under it.entries key.now.issuer (scope_number key.now.scope)) list.now.revoked outcome) result }
+    requires inside { IsInTransaction S.Store tx.old }
+    ensures same_reference { KeepsReference tx.old tx.new }
+    ensures finds { FindsIn S.Store tx.old tx.new (EntriesDecide key.now list.now) result }
     ensures ascend { IsAscending list.now.revoked }
-    ensures survives { CommitsNothing (state S.Store tx.old.conn.now) (state S.Store tx.new.conn.now) }
+    ensures survives { CommitsNothing (inside S.Store tx.old) (inside S.Store tx.new) }
 {
     match has_entries(tx, key, &list.revoked) {
         Ok(true) => Ok(TakenAs::Kept),
@@ -90,10 +83,10 @@ fn outcome_of_list<S: Alter>(
     list: &CrlFacts<'_>,
 ) -> Result<TakenAs, StoreFault>
     requires issuer { key.now.issuer < 536870911 }
-    requires inside { HasCleanDisk (state S.Store tx.old.conn.now) → IsTrue (state S.Store tx.old.conn.now).in_transaction }
-    ensures same_reference { tx.new.conn.ghost_name ≡ tx.old.conn.ghost_name }
-    ensures finds { HasCleanDisk (state S.Store tx.new.conn.now) → Finds (state S.Store tx.old.conn.now) (state S.Store tx.new.conn.now) (λ it outcome. CrlIsTakenAs (crl_under it key.now.scope key.now.issuer) (crl_fact list.now) outcome) result }
-    ensures survives { CommitsNothing (state S.Store tx.old.conn.now) (state S.Store tx.new.conn.now) }
+    requires inside { IsInTransaction S.Store tx.old }
+    ensures same_reference { KeepsReference tx.old tx.new }
+    ensures finds { FindsIn S.Store tx.old tx.new (ListIsTakenAs key.now list.now) result }
+    ensures survives { CommitsNothing (inside S.Store tx.old) (inside S.Store tx.new) }
 {
     let held = match find_crl(tx, key.issuer, key.scope) {
         Ok(Some(held)) => held,
@@ -113,12 +106,12 @@ fn store_list<S: Alter>(
     list: &CrlFacts<'_>,
 ) -> Result<(), StoreFault>
     requires issuer { key.now.issuer < 536870911 }
-    requires inside { HasCleanDisk (state S.Store tx.old.conn.now) → IsTrue (state S.Store tx.old.conn.now).in_transaction }
-    ensures same_reference { tx.new.conn.ghost_name ≡ tx.old.conn.ghost_name }
+    requires inside { IsInTransaction S.Store tx.old }
+    ensures same_reference { KeepsReference tx.old tx.new }
     ensures numbered { IsNumbered (crl_head list.now) }
     ensures formed { OnOk result (FitInList list.now.revoked) }
-    ensures changes { HasCleanDisk (state S.Store tx.new.conn.now) → Changes (state S.Store tx.old.conn.now) (state S.Store tx.new.conn.now) (with_list key.now.issuer key.now.scope (crl_head list.now) list.now.revoked) result }
-    ensures survives { CommitsNothing (state S.Store tx.old.conn.now) (state S.Store tx.new.conn.now) }
+    ensures changes { ChangesIn S.Store tx.old tx.new (with_crl_facts key.now list.now) result }
+    ensures survives { CommitsNothing (inside S.Store tx.old) (inside S.Store tx.new) }
 {
     let head = head_of(list);
     if let Err(fault) = replace_crl(tx, key.issuer, key.scope, &head) {
@@ -136,10 +129,10 @@ fn take_under<S: Alter>(
     list: &CrlFacts<'_>,
 ) -> Result<TakenAs, StoreFault>
     requires issuer { id < 536870911 }
-    requires inside { HasCleanDisk (state S.Store tx.old.conn.now) → IsTrue (state S.Store tx.old.conn.now).in_transaction }
-    ensures same_reference { tx.new.conn.ghost_name ≡ tx.old.conn.ghost_name }
-    ensures goes { HasCleanDisk (state S.Store tx.new.conn.now) → StepsTo (state S.Store tx.old.conn.now) (state S.Store tx.new.conn.now) (HasIssuer (issuer_of list.now.issuer) id) (IsTaken (Fact.OfCrl (crl_slot list.now) (crl_fact list.now))) result }
-    ensures survives { CommitsNothing (state S.Store tx.old.conn.now) (state S.Store tx.new.conn.now) }
+    requires inside { IsInTransaction S.Store tx.old }
+    ensures same_reference { KeepsReference tx.old tx.new }
+    ensures goes { TakesUnder S.Store tx.old tx.new id (fact_of_list list.now) result }
+    ensures survives { CommitsNothing (inside S.Store tx.old) (inside S.Store tx.new) }
 {
     let key = ListKey {
         issuer: id,
@@ -165,11 +158,11 @@ pub fn take_list<S: Alter>(
     tx: &mut Transaction<'_, S>,
     list: &CrlFacts<'_>,
 ) -> Result<TakenAs, StoreFault>
-    requires inside { HasCleanDisk (state S.Store tx.old.conn.now) → IsTrue (state S.Store tx.old.conn.now).in_transaction }
-    ensures same_reference { tx.new.conn.ghost_name ≡ tx.old.conn.ghost_name }
-    ensures takes { HasCleanDisk (state S.Store tx.new.conn.now) → StepsTo (state S.Store tx.old.conn.now) (state S.Store tx.new.conn.now) IsStoreOf (IsTaken (Fact.OfCrl (crl_slot list.now) (crl_fact list.now))) result }
-    ensures open { HasCleanDisk (state S.Store tx.new.conn.now) → OnOk result (IsTrue (state S.Store tx.old.conn.now).is_open) }
-    ensures survives { CommitsNothing (state S.Store tx.old.conn.now) (state S.Store tx.new.conn.now) }
+    requires inside { IsInTransaction S.Store tx.old }
+    ensures same_reference { KeepsReference tx.old tx.new }
+    ensures takes { TakesFact S.Store tx.old tx.new (fact_of_list list.now) result }
+    ensures open { SucceedsOnlyIfOpen S.Store tx.old tx.new result }
+    ensures survives { CommitsNothing (inside S.Store tx.old) (inside S.Store tx.new) }
 {
     let id = match issuer_id(tx, &list.issuer) {
         Ok(id) => id,

@@ -1,18 +1,12 @@
 //! What responses say of single certificates, put into a store.
 
-ghost use Rattle.std.specs.Prelude.{◌≡◌, ◌↔◌, ◌<◌, Some, IsTrue, OnOk};
-ghost use Rattle.sqlite.specs.Held.{state};
-ghost use Rattle.sqlite.specs.State.{HasCleanDisk};
-ghost use Rattle.statements_facts.specs.Fact.{Fact, issuer_of, ocsp_slot};
-ghost use Rattle.statements_facts.specs.Single.{seen_single};
+ghost use Rattle.std.specs.Prelude.{◌↔◌, ◌<◌, IsTrue};
 ghost use Rattle.store_sql.specs.Statements.{CommitsNothing};
 ghost use Rattle.store_rows.specs.Holding.{HasReason};
-ghost use Rattle.store_rows.specs.Seen.{seen_held_status};
-ghost use Rattle.store_rows.specs.Steps.{Finds};
-ghost use Rattle.statements_facts.specs.Coming.{OcspIsTakenAs};
-ghost use Rattle.store_maps.specs.Held.{IsStoreOf, ocsp_under};
-ghost use Rattle.store_taking.specs.Taking.{IsTaken};
-ghost use Rattle.store_taking.specs.Passing.{StepsTo, HasIssuer};
+ghost use Rattle.store_sql.specs.Inside.{inside, IsInTransaction, KeepsReference, SucceedsOnlyIfOpen};
+ghost use Rattle.store_taking.specs.Taking.{fact_from, TakesFact, TakesUnder};
+ghost use Rattle.store_taking.specs.Lists.{SaysSame, SingleIsTakenBeside, SingleIsTakenAs};
+ghost use Rattle.store_rows.specs.Steps.{FindsIn};
 
 use crate::known::issuer_id;
 use sqlite::{Alter, Transaction};
@@ -23,14 +17,14 @@ use store_sql::StoreFault;
 
 /// Whether the two say the same of a certificate for the same time.
 fn says_same(held: &HeldStatus, single: &Single<'_>) -> bool
-    ensures { IsTrue result ↔ (((seen_single single.now).fact.window ≡ (seen_held_status held.now).window) × ((seen_single single.now).fact.status ≡ (seen_held_status held.now).status)) }
+    ensures { IsTrue result ↔ SaysSame held.now single.now }
 {
     single.from == held.from && single.until == held.until && single.status == held.status
 }
 
 /// What becomes of a single response beside what is held of its certificate.
 fn outcome_beside(held: &HeldStatus, single: &Single<'_>) -> TakenAs
-    ensures { OcspIsTakenAs (Some (seen_held_status held.now)) (seen_single single.now).fact result }
+    ensures { SingleIsTakenBeside held.now single.now result }
 {
     let this_update = single.this_update.cmp(&held.this_update);
     match this_update.then(single.produced_at.cmp(&held.produced_at)) {
@@ -61,10 +55,10 @@ fn outcome_of_single<S: Alter>(
     id: u32,
     single: &Single<'_>,
 ) -> Result<TakenAs, StoreFault>
-    requires inside { HasCleanDisk (state S.Store tx.old.conn.now) → IsTrue (state S.Store tx.old.conn.now).in_transaction }
-    ensures same_reference { tx.new.conn.ghost_name ≡ tx.old.conn.ghost_name }
-    ensures finds { HasCleanDisk (state S.Store tx.new.conn.now) → Finds (state S.Store tx.old.conn.now) (state S.Store tx.new.conn.now) (λ it outcome. OcspIsTakenAs (ocsp_under it (seen_single single.now).name_hash (seen_single single.now).serial id) (seen_single single.now).fact outcome) result }
-    ensures survives { CommitsNothing (state S.Store tx.old.conn.now) (state S.Store tx.new.conn.now) }
+    requires inside { IsInTransaction S.Store tx.old }
+    ensures same_reference { KeepsReference tx.old tx.new }
+    ensures finds { FindsIn S.Store tx.old tx.new (SingleIsTakenAs id single.now) result }
+    ensures survives { CommitsNothing (inside S.Store tx.old) (inside S.Store tx.new) }
 {
     match find_single(tx, id, single.name_hash, single.serial) {
         Ok(Some(held)) => Ok(outcome_beside(&held, single)),
@@ -80,10 +74,10 @@ fn take_under<S: Alter>(
     single: &Single<'_>,
 ) -> Result<TakenAs, StoreFault>
     requires issuer { id < 536870911 }
-    requires inside { HasCleanDisk (state S.Store tx.old.conn.now) → IsTrue (state S.Store tx.old.conn.now).in_transaction }
-    ensures same_reference { tx.new.conn.ghost_name ≡ tx.old.conn.ghost_name }
-    ensures goes { HasCleanDisk (state S.Store tx.new.conn.now) → StepsTo (state S.Store tx.old.conn.now) (state S.Store tx.new.conn.now) (HasIssuer (issuer_of issuer.now) id) (IsTaken (Fact.OfResponse (ocsp_slot (issuer_of issuer.now) (seen_single single.now)) (seen_single single.now).fact)) result }
-    ensures survives { CommitsNothing (state S.Store tx.old.conn.now) (state S.Store tx.new.conn.now) }
+    requires inside { IsInTransaction S.Store tx.old }
+    ensures same_reference { KeepsReference tx.old tx.new }
+    ensures goes { TakesUnder S.Store tx.old tx.new id (fact_from issuer.now single.now) result }
+    ensures survives { CommitsNothing (inside S.Store tx.old) (inside S.Store tx.new) }
 {
     let outcome = match outcome_of_single(tx, id, single) {
         Ok(outcome) => outcome,
@@ -107,11 +101,11 @@ pub fn take_single<S: Alter>(
     issuer: &Issuer<'_>,
     single: &Single<'_>,
 ) -> Result<TakenAs, StoreFault>
-    requires inside { HasCleanDisk (state S.Store tx.old.conn.now) → IsTrue (state S.Store tx.old.conn.now).in_transaction }
-    ensures same_reference { tx.new.conn.ghost_name ≡ tx.old.conn.ghost_name }
-    ensures takes { HasCleanDisk (state S.Store tx.new.conn.now) → StepsTo (state S.Store tx.old.conn.now) (state S.Store tx.new.conn.now) IsStoreOf (IsTaken (Fact.OfResponse (ocsp_slot (issuer_of issuer.now) (seen_single single.now)) (seen_single single.now).fact)) result }
-    ensures open { HasCleanDisk (state S.Store tx.new.conn.now) → OnOk result (IsTrue (state S.Store tx.old.conn.now).is_open) }
-    ensures survives { CommitsNothing (state S.Store tx.old.conn.now) (state S.Store tx.new.conn.now) }
+    requires inside { IsInTransaction S.Store tx.old }
+    ensures same_reference { KeepsReference tx.old tx.new }
+    ensures takes { TakesFact S.Store tx.old tx.new (fact_from issuer.now single.now) result }
+    ensures open { SucceedsOnlyIfOpen S.Store tx.old tx.new result }
+    ensures survives { CommitsNothing (inside S.Store tx.old) (inside S.Store tx.new) }
 {
     let id = match issuer_id(tx, issuer) {
         Ok(id) => id,

@@ -1,4 +1,4 @@
-use Rattle.std.proofs.Common.{map, ap, ◌∙◌}
+use Rattle.std.proofs.Common.{arith, ◌≡◌, vec_len, map, ap, ◌∙◌}
 use Rattle.relying_verdicts.specs.View.{seen_evidence}
 use Rattle.relying_verdicts.proofs.Opening.{are_asked, some_found}
 use Rattle.relying_verdicts.proofs.Chains.{first_fails, other_fails, both_found}
@@ -20,6 +20,7 @@ returns-clause-asks g c clean other_clean =
 
 pub returns-in-Ok-evidence_on-clause-open : goal.returns-in-Ok-evidence_on-clause-open
 returns-in-Ok-evidence_on-clause-open g c clean other_clean some =
-    are_asked _ _ _ _ _ c.compare_at.result c.compare_at.ensures
-    (c.in-Ok.ensures.open clean (some_found c.in-Ok.held.items c.args.query.now.path.items c.in-Ok.ensures.count some))
-    (c.in-Ok-evidence_on.ensures.open other_clean (some_found c.in-Ok-evidence_on.others.items c.args.query.now.path.items c.in-Ok-evidence_on.ensures.count some))
+    let count : vec_len c.in-Ok-evidence_on.others ≡ vec_len c.args.query.now.path = c.in-Ok-evidence_on.ensures.count in
+    are_asked _ _ c.args.query.now.moment (map seen_evidence c.as_slice.result.now) (map seen_evidence c.as_slice-in-Ok-evidence_on.result.now) c.compare_at.result c.compare_at.ensures
+    (c.in-Ok.ensures.open clean (some_found c.in-Ok.held.items c.args.query.now.path.items (omega (arith, c.in-Ok.ensures.count)) some))
+    (c.in-Ok-evidence_on.ensures.open other_clean (some_found c.in-Ok-evidence_on.others.items c.args.query.now.path.items (omega (arith, count)) some))

@@ -1,4 +1,4 @@
-use Rattle.std.proofs.Common.{map, subst, ap, ◌∙◌}
+use Rattle.std.proofs.Common.{arith, map, subst, ap, ◌∙◌}
 use Rattle.path.specs.declared.reason.Outcome.TheVariants.{Good}
 use Rattle.path.specs.Validity.{IsOutcome}
 use Rattle.relying_agreement.specs.Verdict.{verdict_by}
@@ -20,8 +20,8 @@ pub returns-in-Ok-evidence_on-clause-open : goal.returns-in-Ok-evidence_on-claus
 returns-in-Ok-evidence_on-clause-open g c clean =
     let valid = subst (IsOutcome (g.V.Verifier.accepts c.args.verifier.now) (seen_query c.args.query.now)) c.in-Good.is c.in-Ok.ensures in
     let some = some_certificate c.args.query.now.path.items _ valid.served.some in
-    is_open _ _ _ c.args.query.now.moment _ c.verdict_at.result c.verdict_at.ensures
-    (c.in-Ok-evidence_on.ensures.open clean (some_found c.in-Ok-evidence_on.evidence.items c.args.query.now.path.items c.in-Ok-evidence_on.ensures.count some))
+    is_open _ _ _ c.args.query.now.moment (map seen_evidence c.as_slice.result.now) c.verdict_at.result c.verdict_at.ensures
+    (c.in-Ok-evidence_on.ensures.open clean (some_found c.in-Ok-evidence_on.evidence.items c.args.query.now.path.items (omega (arith, c.in-Ok-evidence_on.ensures.count)) some))
 
 pub returns-in-Bad-clause-open : goal.returns-in-Bad-clause-open
 returns-in-Bad-clause-open g c clean = subst (IsOutcome (g.V.Verifier.accepts c.args.verifier.now) (seen_query c.args.query.now)) c.in-Bad.is c.in-Ok.ensures
