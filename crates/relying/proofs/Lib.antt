@@ -2,3 +2,4 @@ mod Happening
 mod Looking
 mod Progress
 mod Agreeing
+mod Agreed

@@ -5,3 +5,4 @@ pub mod Restart
 pub mod Run
 pub mod Stopping
 pub mod Never
+pub mod Agreed

@@ -2,6 +2,7 @@
 //! (RFC 5280, 6; RFC 6960, 3.2).
 #![tactic(auto)]
 
+mod agreement;
 mod comparing;
 mod delivering;
 mod events;
@@ -10,6 +11,7 @@ mod judging;
 mod node;
 mod running;
 
+pub use agreement::node_laws;
 pub use comparing::compare;
 pub use events::{Answer, Event};
 pub use fault::{DeliverFault, RunFault};

@@ -1,0 +1,83 @@
+-- Two parties agree, by what their public calls say.
+use Rattle.std.proofs.Common.{◌≡◌, ◌⊎◌, inl, inr, ◌++◌, ℕ, Bool, List, Result, Ok, IsTrue, refl, sym, subst, ◌∙◌}
+use Rattle.sqlite_disk.specs.declared.Disk.{Ghosts}
+use Rattle.sqlite.specs.State.{State}
+use Rattle.statements_facts.specs.Statement.{Holdings}
+use Rattle.statements_facts.specs.declared.counts.Counts.{Counts}
+use Rattle.path.specs.declared.reason.Outcome.TheVariants.{Bad}
+use Rattle.path.specs.declared.reason.Reason.{Reason}
+use Rattle.path.specs.Query.{Query, Accepts}
+use Rattle.path.specs.Validity.{IsFirstFailure}
+use Rattle.relying_agreement.specs.Agreement.{RunsAgree}
+use Rattle.relying_agreement.specs.Run.{Event, genuine_facts}
+use Rattle.relying_agreement.specs.Verdict.{IsVerdict, ValidExactlyWhere, VerdictIsOne}
+use Rattle.relying_agreement.specs.declared.verdict.Verdict.{Verdict}
+use Rattle.relying_agreement.specs.declared.verdict.Verdict.TheVariants.{Invalid, Revoked, Unknown, Valid}
+use Rattle.relying_verdicts.specs.Asking.{IsInvalidOrOpen}
+use Rattle.relying.specs.Agreed.{HasJudged, NodesAgree, NodeIsExact, RunsFollow, party_of}
+use Rattle.relying.specs.Run.{IsEndOfRun, Ran, as_answered}
+use Rattle.relying.specs.View.{stored}
+use Rattle.relying.specs.declared.fault.DeliverFault.{DeliverFault}
+use Rattle.relying.specs.declared.node.Node.{Node}
+use Rattle.relying.proofs.Happening.{runs_then, runs_are_runs}
+
+-- the verdict is Invalid, whatever is held, or the connection was open
+Fails : Accepts → Query → Verdict → Type 0
+Fails accepts query v = (j : ℕ) × (reason : Reason) × (v ≡ Invalid j reason) × IsFirstFailure accepts query j reason
+
+which : (accepts : Accepts) (query : Query) (live : Bool) (v : Verdict) → IsInvalidOrOpen accepts query live v → IsTrue live ⊎ Fails accepts query v
+which accepts query live (Invalid j reason) fails = inr (j, reason, refl, fails)
+which accepts query live (Revoked j reason) opened = inl opened
+which accepts query live (Unknown j) opened = inl opened
+which accepts query live Valid opened = inl opened
+
+of_invalid : (accepts : Accepts) (query : Query) (held : Holdings) (v : Verdict) → Fails accepts query v → IsVerdict accepts query held v
+of_invalid accepts query held v (j, reason, is, fails) =
+    subst (IsVerdict accepts query held) (sym is) (record { outcome = Bad j reason; is_outcome = fails; verdict_is = refl })
+
+module _ {V D : Type 0} {g : Ghosts D} (one_verdict : VerdictIsOne) (accepts : Accepts) (query : Query) where
+  ended : (events : List Event) (answers : List (Result Counts DeliverFault)) (start : Holdings) (begun ran asked : Node V D g) (v : Verdict)
+      → HasJudged accepts query events answers start begun ran asked v → IsTrue (stored ran).is_open → IsEndOfRun accepts events answers start (stored ran)
+  ended events answers start begun ran asked v judged live = judged.runs.ended live start judged.begins
+
+  -- one fails, whatever is held
+  fails_alike : (events : List Event) (answers : List (Result Counts DeliverFault)) (start : Holdings) (begun ran asked : Node V D g) (v w : Verdict)
+      → Fails accepts query v → HasJudged accepts query events answers start begun ran asked w → v ≡ w
+  fails_alike events answers start begun ran asked v w fails judged = elim (which accepts query (stored ran).is_open w judged.opens) [
+    | inl live ↦ let it = ended events answers start begun ran asked w judged live in
+        one_verdict accepts query it.held v w (of_invalid accepts query it.held v fails) (judged.looks.1 it.held it.store)
+    | inr too ↦ one_verdict accepts query start v w (of_invalid accepts query start v fails) (of_invalid accepts query start w too)
+  ]
+
+pub nodes_agree : {V D : Type 0} {g : Ghosts D} → VerdictIsOne → RunsAgree → NodesAgree V D g
+nodes_agree {V} {D} {g} one_verdict runs_agree accepts query events others answers others_answers start others_start begun ran asked other_begun other_ran other_asked v w one two premises =
+    elim (which accepts query (stored ran).is_open v one.opens) [
+      | inr fails ↦ fails_alike one_verdict accepts query others others_answers others_start other_begun other_ran other_asked v w fails two
+      | inl live ↦ elim (which accepts query (stored other_ran).is_open w two.opens) [
+        | inr fails ↦ sym (fails_alike one_verdict accepts query events answers start begun ran asked w v fails one)
+        | inl other_live ↦
+            let it = one.runs.ended live start one.begins in
+            let their = two.runs.ended other_live others_start two.begins in
+            let both = premises it.held their.held it.store their.store in
+            runs_agree genuine_facts query (party_of accepts events answers start it.held) (party_of accepts others others_answers others_start their.held) v w events others _ _ refl
+            it.newest their.newest both.0 both.1 (one.looks.1 it.held it.store) (two.looks.1 their.held their.store)
+      ]
+    ]
+
+pub node_is_exact : {V D : Type 0} {g : Ghosts D} → VerdictIsOne → ValidExactlyWhere → NodeIsExact V D g
+node_is_exact one_verdict valid accepts query events answers start held begun ran asked v judged store =
+    let is = judged.looks.1 held store in
+    let exact = valid accepts query held in (
+      λ valid_is. exact.0 (subst (IsVerdict accepts query held) valid_is is),
+      λ clear. one_verdict accepts query held v Valid is (exact.1 clear),
+    )
+
+pub runs_follow : {V D : Type 0} {g : Ghosts D} → RunsFollow V D g
+runs_follow accepts events more answers more_answers begun middle last first second = record {
+  was_open = λ live. first.was_open (second.was_open live);
+  ended = λ live start store.
+      let before = first.ended (second.was_open live) start store in
+      let after = second.ended live before.held before.store in
+      let runs = runs_then accepts events more answers more_answers start before.held after.held before.runs after.runs in
+      record { held = after.held; store = after.store; runs = runs; newest = runs_are_runs accepts (events ++ more) (answers ++ more_answers) start after.held runs };
+}

@@ -1,0 +1,70 @@
+-- What two parties answer, by the clauses of their public calls: the headline.
+use Rattle.std.specs.Prelude.{◌≡◌, ◌↔◌, ◌++◌, List, Result, Ok, map}
+use Rattle.std.specs.List.{AllByRecursion}
+use Rattle.sqlite_disk.specs.declared.Disk.{Ghosts}
+use Rattle.statements_facts.specs.Statement.{Holdings}
+use Rattle.statements_facts.specs.declared.counts.Counts.{Counts}
+use Rattle.store.specs.Adopts.{StaysIfOpen}
+use Rattle.store_maps.specs.Held.{IsStoreOf}
+use Rattle.path.specs.Query.{Query, Accepts}
+use Rattle.path.specs.Validity.{IsValidPath}
+use Rattle.relying_agreement.specs.Agreement.{HoldSameNewest, IssuersAreConsistent}
+use Rattle.relying_agreement.specs.Link.{links_of}
+use Rattle.relying_agreement.specs.Run.{Event, Party, facts_taken, genuine_facts}
+use Rattle.relying_agreement.specs.Verdict.{IsClear, IsVerdict}
+use Rattle.relying_agreement.specs.declared.verdict.Verdict.{Verdict}
+use Rattle.relying_agreement.specs.declared.verdict.Verdict.TheVariants.{Valid}
+use Rattle.relying_verdicts.specs.Asking.{IsInvalidOrOpen}
+use Rattle.relying.specs.Asking.{HasLooked}
+use Rattle.relying.specs.Run.{Ran, as_answered}
+use Rattle.relying.specs.View.{stored}
+use Rattle.relying.specs.declared.fault.DeliverFault.{DeliverFault}
+use Rattle.relying.specs.declared.node.Node.{Node}
+
+-- who judges signatures so, held this at the start, took the facts of the deliveries that were answered with counts, and holds that
+abbrev pub party_of : Accepts → List Event → List (Result Counts DeliverFault) → Holdings → Holdings → Party
+party_of accepts events answers start held = record {
+  accepts = accepts;
+  start = start;
+  taken = facts_taken genuine_facts accepts events (map as_answered answers);
+  held = held;
+}
+
+-- A node whose store held this took the events, with these answers, and was then asked, with this verdict. Each line is what a call
+-- says, `run` or `verdict`, if the disk returned what was written. The store may be one that a crash left, or that earlier runs left.
+pub record HasJudged {V D : Type 0} {g : Ghosts D} (accepts : Accepts) (query : Query) (events : List Event) (answers : List (Result Counts DeliverFault))
+    (start : Holdings) (begun ran asked : Node V D g) (verdict : Verdict) : Type 0 where
+  pub begins : IsStoreOf (stored begun).now start
+  pub runs : Ran accepts events answers (stored begun) (stored ran)
+  pub looks : HasLooked StaysIfOpen (stored ran) (stored asked) (IsVerdict accepts query) (Ok verdict)
+  pub opens : IsInvalidOrOpen accepts query (stored ran).is_open verdict
+
+-- Whatever two nodes took: if both judge by one relation, the issuers of the path are consistent, and both stores hold the same newest for
+-- the path, their verdicts are equal.
+abbrev pub NodesAgree : (V D : Type 0) → Ghosts D → Type 0
+NodesAgree V D g =
+    (accepts : Accepts) (query : Query) (events others : List Event) (answers others_answers : List (Result Counts DeliverFault))
+    (start others_start : Holdings) (begun ran asked other_begun other_ran other_asked : Node V D g) (v w : Verdict) →
+    HasJudged accepts query events answers start begun ran asked v →
+    HasJudged accepts query others others_answers others_start other_begun other_ran other_asked w →
+    ((held others_held : Holdings) → IsStoreOf (stored ran).now held → IsStoreOf (stored other_ran).now others_held →
+    IssuersAreConsistent query (party_of accepts events answers start held) (party_of accepts others others_answers others_start others_held)
+    × HoldSameNewest query held others_held) →
+    v ≡ w
+
+-- The verdict is valid exactly where the conditions of 6.1 hold, and for each certificate a current statement speaks and none revokes it.
+abbrev pub NodeIsExact : (V D : Type 0) → Ghosts D → Type 0
+NodeIsExact V D g =
+    (accepts : Accepts) (query : Query) (events : List Event) (answers : List (Result Counts DeliverFault))
+    (start held : Holdings) (begun ran asked : Node V D g) (v : Verdict) →
+    HasJudged accepts query events answers start begun ran asked v →
+    IsStoreOf (stored ran).now held →
+    (v ≡ Valid) ↔ (IsValidPath accepts query × AllByRecursion (IsClear held query.moment) (links_of query))
+
+-- one run behind another is a run over all their events
+abbrev pub RunsFollow : (V D : Type 0) → Ghosts D → Type 0
+RunsFollow V D g =
+    (accepts : Accepts) (events more : List Event) (answers more_answers : List (Result Counts DeliverFault)) (begun middle last : Node V D g) →
+    Ran accepts events answers (stored begun) (stored middle) →
+    Ran accepts more more_answers (stored middle) (stored last) →
+    Ran accepts (events ++ more) (answers ++ more_answers) (stored begun) (stored last)
