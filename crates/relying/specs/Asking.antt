@@ -4,6 +4,7 @@ use Rattle.sqlite.specs.State.{State, HasCleanDisk, KeepsCommit}
 use Rattle.statements_facts.specs.Statement.{Holdings}
 use Rattle.store_sql.specs.declared.fault.StoreFault.TheVariants.{Schema as NotOurs}
 use Rattle.store_maps.specs.Held.{IsStoreOf}
+use Rattle.store_adoption.specs.Creates.{IsSettled}
 use Rattle.store.specs.Adopts.{StaysIfOpen}
 use Rattle.path.specs.Query.{Query, Accepts}
 use Rattle.relying_agreement.specs.declared.verdict.Verdict.{Verdict}
@@ -34,6 +35,10 @@ LooksInside old new Is result = HasCleanDisk new → HasLooked KeepsCommit old n
 -- written.
 abbrev pub AnswersOnlyIfOpen : Accepts → Query → State → State → Result Verdict Fault → Type 0
 AnswersOnlyIfOpen accepts query old new result = HasCleanDisk new → IfOk result (IsInvalidOrOpen accepts query old.is_open)
+
+-- before a call and after it, what is shown is committed
+abbrev pub AreSettled : State → State → Type 0
+AreSettled old new = IsSettled old × IsSettled new
 
 -- ---- of two stores
 

@@ -2,10 +2,9 @@
 
 ghost use Rattle.std.specs.Prelude.{◌≡◌, false};
 ghost use Rattle.sqlite.specs.Held.{state};
-ghost use Rattle.store_adoption.specs.Creates.{AreSettled};
 ghost use Rattle.store_sql.specs.Statements.{IsDurable, CommitsNothing};
 ghost use Rattle.relying_agreement.specs.Verdict.{IsVerdict};
-ghost use Rattle.relying.specs.Asking.{AnswersOnlyIfOpen, Looks, LooksInside};
+ghost use Rattle.relying.specs.Asking.{AnswersOnlyIfOpen, AreSettled, Looks, LooksInside};
 ghost use Rattle.relying_verdicts.specs.View.{seen_query};
 
 use path_verifiers::Verifier;

@@ -11,7 +11,6 @@ use Rattle.sqlite.specs.State.{State, IsUnchanged, KeepsCommit}
 use Rattle.sqlite.proofs.InsideLemmas.{unchanged_keeps, keeps_then}
 use Rattle.sqlite.proofs.Callers.{IsPlain, command_of, reads_as, begins_as, unchanged_then}
 use Rattle.store_sql.specs.declared.fault.StoreFault.{StoreFault}
-use Rattle.store_sql.specs.declared.fault.StoreFault.TheVariants.{Schema as NotOurs}
 use Rattle.store_sql.proofs.Laws.{shown_as}
 use Rattle.store_adoption.specs.Tests.{AllPass, SomeFail, Tests}
 use Rattle.store_adoption.specs.Inspects.{TablesAreInOrder, Checks}
@@ -59,6 +58,6 @@ checks_then old mid new P P′ Q′ R S a (Err fault) first second both asks =
     (keeps_then old mid new (unchanged_keeps old mid (inl first.0)) second.0, λ ours ordered all. second.1 ours (subst TablesAreInOrder (sym first.0.0.now_is) ordered) (subst Q′ (sym first.0.0.now_is) (asks ordered (first.1 ordered) all)))
 
 -- the first test fails
-pub first_fails : (old new : State) (Q S : Database → Type 0) (fault : StoreFault) → KeepsCommit old new × (fault ≡ NotOurs → TablesAreInOrder old.now → Q old.now → ⊥) → (TablesAreInOrder old.now → S old.now → Q old.now)
-    → KeepsCommit old new × (fault ≡ NotOurs → TablesAreInOrder old.now → S old.now → ⊥)
+pub first_fails : (old new : State) (Q S : Database → Type 0) (fault : StoreFault) → KeepsCommit old new × (fault ≡ StoreFault.Schema → TablesAreInOrder old.now → Q old.now → ⊥) → (TablesAreInOrder old.now → S old.now → Q old.now)
+    → KeepsCommit old new × (fault ≡ StoreFault.Schema → TablesAreInOrder old.now → S old.now → ⊥)
 first_fails old new Q S fault h asks = (h.0, λ ours ordered all. h.1 ours ordered (asks ordered all))

@@ -1,16 +1,8 @@
--- A database and its trees.
-use Rattle.std.proofs.Common.{◌≡◌, sym, subst}
-use Rattle.sqlite.specs.Tree.{Trees}
-use Rattle.sqlite.specs.Schema.{Schema}
+-- A database without tables.
+use Rattle.std.proofs.Common.{◌≡◌}
 use Rattle.sqlite.specs.Effect.{Database}
-use Rattle.statements_facts.specs.Statement.{Holdings}
-use Rattle.store_sql.specs.Tables.{no_schema, store_schema}
+use Rattle.store_sql.specs.Tables.{no_schema}
 use Rattle.store_rows.specs.Making.{IsEmptyWith}
-use Rattle.store_maps.specs.Held.{IsStoreOf}
-use Rattle.store_adoption.specs.Creates.{AreTreesOf}
-
-pub trees_of : (held : Holdings) (db : Database) (trees : Trees) → trees ≡ db.trees → IsStoreOf db held → AreTreesOf held trees
-trees_of held db trees is it = (it.origin, subst (λ (t : Trees). IsStoreOf (record { schema = store_schema it.origin; trees = t }) held) (sym is) (subst (λ (s : Schema). IsStoreOf (record { schema = s; trees = db.trees }) held) it.rows.schema_is it))
 
 pub empty_with : (db : Database) → db.schema ≡ no_schema → IsEmptyWith db no_schema
 empty_with db is = record { schema_is = is; empty = tt }

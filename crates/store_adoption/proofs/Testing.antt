@@ -12,7 +12,6 @@ use Rattle.sqlite.proofs.InsideLemmas.{unchanged_keeps}
 use Rattle.sqlite.proofs.StateLemmas.{survives_weaker}
 use Rattle.sqlite.proofs.Callers.{IsPlain, never_commits, unchanged_then}
 use Rattle.store_sql.specs.declared.fault.StoreFault.{StoreFault}
-use Rattle.store_sql.specs.declared.fault.StoreFault.TheVariants.{Schema as NotOurs}
 use Rattle.store_adoption.specs.Tests.{AllPass, TestFails}
 
 pub unchanged_itself : (s : State) → IsTrue s.is_open → IsUnchanged s s
@@ -62,12 +61,12 @@ all_pass text old mid new rows Passed plain first last shown passed = record {
   passed = passed;
 }
 
-pub gave_up : (text : List ℕ) (old new : State) (Formed : List Row → Type 0) (fault : StoreFault) → fault ≢ NotOurs → KeepsCommit old new → TestFails old new text Formed fault
+pub gave_up : (text : List ℕ) (old new : State) (Formed : List Row → Type 0) (fault : StoreFault) → fault ≢ StoreFault.Schema → KeepsCommit old new → TestFails old new text Formed fault
 gave_up text old new Formed fault other keeps = record { keeps = keeps; why = λ ours. absurd (other ours) }
 
 -- a row was refused
 pub refused : (text : List ℕ) (old new : State) (rows : List Row) (row : Row) (Formed : List Row → Type 0) (fault : StoreFault) → IsUnchanged old new → Begins text [] new (rows ++ row ∷ [])
-    → (fault ≡ NotOurs → (later : List Row) → Formed (rows ++ row ∷ later) → ⊥) → TestFails old new text Formed fault
+    → (fault ≡ StoreFault.Schema → (later : List Row) → Formed (rows ++ row ∷ later) → ⊥) → TestFails old new text Formed fault
 refused text old new rows row Formed fault same begins why = record {
   keeps = unchanged_keeps old new (inl same);
   why = λ ours. (same, record { rows = rows ++ row ∷ []; begins = begins; refused = λ later formed. why ours later (subst Formed (append_assoc rows (row ∷ []) later) formed) });

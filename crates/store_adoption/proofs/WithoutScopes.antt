@@ -19,7 +19,7 @@ use Rattle.store_rows.specs.Contents.{IssuerRow, SingleRow, issuer_row, single_r
 use Rattle.store_rows.specs.Holding.{HasRoom, HasByte, IsSaid, IsNumbered, next_id}
 use Rattle.store_adoption.specs.Version1.{UnscopedCrl, UnscopedEntry, UnscopedEntryRow, UnscopedContents, unscoped_crl_row, unscoped_entry_row, HoldsVersion1, AreUnscopedInForm, IsVersion1, AreLists, HasLists, held_in_version_1}
 use Rattle.store_adoption.specs.Cells.{natural_in, octets_in, integer_in, IsVersionCells, IsIssuerCells, IsSingleCells, IsUnscopedCrlCells, IsUnscopedEntryCells, unscoped_crl_in, unscoped_entry_in, next_after}
-use Rattle.store_adoption.specs.Inspects.{TablesAreInOrder, InOrderOfVersion1, HasVersion, HasIssuers, HasNext, HasUnder, HasIdsOfVersion1, ShowsLists, version_cells, issuer_cells, single_cells, unscoped_crl_cells, unscoped_entry_cells}
+use Rattle.store_adoption.specs.Inspects.{TablesAreInOrder, InOrderOfVersion1, HasVersion, HasIssuers, HasNext, HasUnder, HasIds, ShowsLists, version_cells, issuer_cells, single_cells, unscoped_crl_cells, unscoped_entry_cells}
 use Rattle.store_adoption.proofs.Typed.{IsKeyed, HasId, AreOf, keyed_rows, rows_with_id}
 use Rattle.store_adoption.proofs.Decoded.{all_is, all_read, all_shown, canonical, natural_back, issuer_in, single_in, reason_fits}
 use Rattle.store_adoption.proofs.Adopting.{Spec, version_spec, issuer_spec, single_spec, IsRead, read_issuer, read_single, version_is, map_map, rises, rise_nat, next_same, few_statuses, few_reasons, told, next_back, numbered, rise_pos, is_table, all_ints, not_version_1}
@@ -100,7 +100,7 @@ shown_lists db shown_crls shown_entries it rows form shows = (
 
 -- ---- all rows
 
-pub lists_of : (db : Database) (next : ℕ) (shown_crls : List UnscopedCrl) (shown_entries : List UnscopedEntry) → db.schema ≡ version_1_schema → IsDatabase db → TablesAreInOrder db → HasIdsOfVersion1 next db → HasUnder next db → ShowsLists shown_crls shown_entries db
+pub lists_of : (db : Database) (next : ℕ) (shown_crls : List UnscopedCrl) (shown_entries : List UnscopedEntry) → db.schema ≡ version_1_schema → IsDatabase db → TablesAreInOrder db → (HasIds 1) next db → HasUnder next db → ShowsLists shown_crls shown_entries db
     → HasLists shown_crls shown_entries db
 lists_of db next shown_crls shown_entries has sound ordered ids under shows =
     let o = in_order_before db has ordered in

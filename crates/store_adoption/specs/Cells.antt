@@ -1,10 +1,12 @@
 -- Values as the columns have them, and the rows that a store writes.
-use Rattle.std.specs.Prelude.{◌≡◌, ◌<◌, ◌+◌, ◌^◌, ◌⊎◌, ⊤, ℕ, ℤ, pos, List, [], ◌∷◌, fold, Option, Some, None}
+use Rattle.std.specs.Prelude.{◌≡◌, ◌<◌, ◌+◌, ◌^◌, ◌⊎◌, ⊤, ℕ, ℤ, pos, List, [], ◌∷◌, fold, Option, Some, None, Result, Err}
+use Rattle.std.specs.Global.{Vec}
 use Rattle.asn.specs.Integer.{binary_value}
 use Rattle.asn.specs.NumberLaws.{number_octets}
 use Rattle.sqlite.specs.declared.types.Value.{Value}
 use Rattle.sqlite.specs.declared.types.Value.TheVariants.{Int, Blob}
 use Rattle.sqlite.specs.Order.{Row, column}
+use Rattle.store_sql.specs.declared.fault.StoreFault.{StoreFault}
 use Rattle.store_rows.specs.Contents.{CrlHead, EntryRow}
 use Rattle.store_rows.specs.Places.{base_of, IsBelow}
 use Rattle.store_adoption.specs.Version1.{UnscopedCrl, UnscopedEntry}
@@ -40,6 +42,24 @@ number_in value = binary_value (octets_in value)
 abbrev pub HasNumber : Value → Type 0
 HasNumber value = (value ≡ Blob (number_octets 20 (number_in value))) × (number_in value < 2 ^ 160)
 
+-- ---- what is read of a cell
+
+-- the fault `Schema` says that this does not hold
+abbrev pub SchemaRefutes : {A : Type 0} → Result A StoreFault → Type 0 → Type 0
+SchemaRefutes result P = result ≡ Err StoreFault.Schema → P → ⊥
+
+abbrev pub ReadsNatural : ℕ → Row → ℕ → ℕ → Type 0
+ReadsNatural bound row at number = HasNatural bound (column row at) × (natural_in (column row at) ≡ number)
+
+abbrev pub ReadsOctets : Row → ℕ → Vec ℕ → Type 0
+ReadsOctets row at octets = HasOctets (column row at) × (octets_in (column row at) ≡ octets.items)
+
+abbrev pub ReadsInteger : Row → ℕ → ℤ → Type 0
+ReadsInteger row at number = HasInteger (column row at) × (integer_in (column row at) ≡ number)
+
+abbrev pub ReadsNumber : Row → ℕ → ℕ → Type 0
+ReadsNumber row at number = HasNumber (column row at) × (number_in (column row at) ≡ number)
+
 -- ---- the rows of each table, as they are shown
 
 abbrev pub IsVersionCells : ℕ → Row → Type 0
@@ -57,6 +77,13 @@ abbrev pub IsCrlCells : ℕ → Row → Type 0
 IsCrlCells next row = HasNatural next (column row 0) × HasNatural 3 (column row 1) × HasNumber (column row 2)
 
 -- a reason stands beside a status that is not revoked as 0
+abbrev pub HasStatus : Row → Type 0
+HasStatus row = HasNatural 3 (column row 1) × HasNatural 256 (column row 2) × ((natural_in (column row 1) ≡ 1) ⊎ (natural_in (column row 2) ≡ 0))
+
+abbrev pub RefusesStatusCells : {A : Type 0} → Row → Result A StoreFault → Type 0
+RefusesStatusCells row result =
+    result ≡ Err StoreFault.Schema → HasNatural 3 (column row 1) → HasNatural 256 (column row 2) → (natural_in (column row 1) ≡ 1) ⊎ (natural_in (column row 2) ≡ 0) → ⊥
+
 abbrev pub IsSingleCells : ℕ → Row → Type 0
 IsSingleCells next row = HasNatural next (column row 0) × HasNatural 3 (column row 1) × HasNatural 256 (column row 2)
     × ((natural_in (column row 1) ≡ 1) ⊎ (natural_in (column row 2) ≡ 0))
@@ -105,12 +132,19 @@ unscoped_entry_in row = record {
 abbrev pub Begins : EntryRow → Type 0
 Begins e = e.place ≡ base_of e.issuer e.scope
 
+-- a place that its list may have
+abbrev pub IsInRoom : EntryRow → Type 0
+IsInRoom e = e.place < base_of e.issuer e.scope + 4294967296
+
+abbrev pub IsOfSameList : EntryRow → EntryRow → Type 0
+IsOfSameList last e = (e.issuer ≡ last.issuer) × (e.scope ≡ last.scope)
+
 -- it stands behind another of its list, with a greater serial number
 pub record Continues (last e : EntryRow) : Type 0 where
   pub issuer : e.issuer ≡ last.issuer
   pub scope : e.scope ≡ last.scope
   pub place : e.place ≡ last.place + 1
-  pub room : e.place < base_of e.issuer e.scope + 4294967296
+  pub room : IsInRoom e
   pub serial : IsBelow last.listed e.listed
 
 abbrev pub Follows : Option EntryRow → EntryRow → Type 0

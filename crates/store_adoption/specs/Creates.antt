@@ -1,25 +1,17 @@
 -- A store is made, and what a crash leaves.
 use Rattle.std.specs.Prelude.{◌≡◌, ◌≢◌, Result, Ok, Err, IsTrue}
-use Rattle.sqlite.specs.Tree.{Trees}
-use Rattle.sqlite.specs.State.{State, KeepsCommit}
-use Rattle.statements_facts.specs.Statement.{Holdings, empty_holdings}
-use Rattle.store_sql.specs.declared.origin.Origin.{Origin}
+use Rattle.sqlite_trees.specs.declared.store.Store.{Ghosts}
+use Rattle.sqlite.specs.Held.{Held, state}
+use Rattle.sqlite.specs.State.{State, HasCleanDisk, KeepsCommit, Survives}
+use Rattle.statements_facts.specs.Statement.{empty_holdings}
 use Rattle.store_sql.specs.declared.fault.StoreFault.{StoreFault}
 use Rattle.store_sql.specs.declared.fault.StoreFault.TheVariants.{Schema}
-use Rattle.store_sql.specs.Tables.{no_schema, store_schema}
-use Rattle.store_maps.specs.Held.{IsStoreOf}
+use Rattle.store_sql.specs.Tables.{no_schema}
+use Rattle.store_maps.specs.Held.{IsStoreOf, AreTreesOf}
 
 -- what is shown is committed
 abbrev pub IsSettled : State → Type 0
 IsSettled s = IsTrue s.is_open → s.now ≡ s.committed
-
--- before a call and after it
-abbrev pub AreSettled : State → State → Type 0
-AreSettled old new = IsSettled old × IsSettled new
-
--- these are the trees of a store that holds this
-abbrev pub AreTreesOf : Holdings → Trees → Type 0
-AreTreesOf held trees = (origin : Origin) × IsStoreOf (record { schema = store_schema origin; trees = trees }) held
 
 -- the database was empty, and is a store that holds nothing; this is committed
 pub record IsCreated (old new : State) : Type 0 where
@@ -32,3 +24,11 @@ pub record IsCreated (old new : State) : Type 0 where
 abbrev pub Creates : {A : Type 0} → State → State → Result A StoreFault → Type 0
 Creates old new (Ok done) = IsCreated old new
 Creates old new (Err fault) = KeepsCommit old new × (fault ≢ Schema)
+
+-- the same of a call on a connection, if the disk has returned what was written
+abbrev pub CreatesOn : {S A : Type 0} → Ghosts S → Held S → Held S → Result A StoreFault → Type 0
+CreatesOn g old new result = HasCleanDisk (state g new) → Creates (state g old) (state g new) result
+
+-- a crash leaves what it could leave before, or a store that holds nothing
+abbrev pub MayLeaveEmptyStore : State → State → Type 0
+MayLeaveEmptyStore old new = Survives old new (AreTreesOf empty_holdings)

@@ -3,8 +3,11 @@ use Rattle.std.specs.Prelude.{◌≡◌, ℕ, List, [], ◌∷◌, map, length, 
 use Rattle.std.specs.List.{AllByRecursion}
 use Rattle.sqlite.specs.Order.{Row, column}
 use Rattle.sqlite.specs.Effect.{Database}
-use Rattle.sqlite.specs.State.{State, IsUnchanged, KeepsCommit}
+use Rattle.sqlite.specs.Schema.{Schema as TheSchema}
+use Rattle.sqlite.specs.Held.{Held, state}
+use Rattle.sqlite.specs.State.{State, HasCleanDisk, IsUnchanged, KeepsCommit}
 use Rattle.sqlite_trees.specs.declared.store.Shape.TheVariants.{Table}
+use Rattle.sqlite_trees.specs.declared.store.Store.{Ghosts}
 use Rattle.sqlite_trees.specs.View.{IsShaped}
 use Rattle.statements_facts.specs.Statement.{Holdings}
 use Rattle.store_sql.specs.declared.origin.Origin.{Origin}
@@ -51,6 +54,28 @@ ReadsVersion1 old new crls entries result = Checks old new (λ lists. HasLists (
 abbrev pub Inspects : {A : Type 0} → State → State → Result A StoreFault → Type 0
 Inspects old new result = Checks old new (λ done. IsStore) IsStore result
 
+-- ---- the same of a call on a connection, if the disk has returned what was written
+
+abbrev pub ChecksOn : {S A : Type 0} → Ghosts S → Held S → Held S → (A → Database → Type 0) → (Database → Type 0) → Result A StoreFault → Type 0
+ChecksOn g old new P Q result = HasCleanDisk (state g new) → Checks (state g old) (state g new) P Q result
+
+-- where nothing is read beside
+abbrev pub ChecksThat : {S A : Type 0} → Ghosts S → Held S → Held S → (Database → Type 0) → Result A StoreFault → Type 0
+ChecksThat g old new P result = ChecksOn g old new (λ done. P) P result
+
+-- what is answered is shown beside
+abbrev pub ReadsOn : {S A : Type 0} → Ghosts S → Held S → Held S → (Database → Type 0) → (A → Database → Type 0) → Result A StoreFault → Type 0
+ReadsOn g old new P IsShown result = ChecksOn g old new (λ answer db. P db × IsShown answer db) P result
+
+abbrev pub ReadsVersion1On : {S A : Type 0} → Ghosts S → Held S → Held S → (A → List UnscopedCrl) → (A → List UnscopedEntry) → Result A StoreFault → Type 0
+ReadsVersion1On g old new crls entries result = HasCleanDisk (state g new) → ReadsVersion1 (state g old) (state g new) crls entries result
+
+abbrev pub InspectsOn : {S A : Type 0} → Ghosts S → Held S → Held S → Result A StoreFault → Type 0
+InspectsOn g old new result = HasCleanDisk (state g new) → Inspects (state g old) (state g new) result
+
+abbrev pub HasSchema : {S : Type 0} → Ghosts S → Held S → TheSchema → Type 0
+HasSchema g conn schema = HasCleanDisk (state g conn) → (state g conn).now.schema ≡ schema
+
 -- ---- table by table, as the rows are shown
 
 abbrev pub version_cells : Row → Row
@@ -68,8 +93,11 @@ HasIssuers db = AllByRecursion IsIssuerCells (map issuer_cells (db.trees 1))
 abbrev pub HasNext : ℕ → Database → Type 0
 HasNext next db = next_after (map issuer_cells (db.trees 1)) ≡ next
 
-abbrev pub HasIds : ℕ → Database → Type 0
-HasIds next db = HasVersion 2 db × HasIssuers db × HasNext next db
+abbrev pub HasVersionAndIssuers : ℕ → Database → Type 0
+HasVersionAndIssuers version db = HasVersion version db × HasIssuers db
+
+abbrev pub HasIds : ℕ → ℕ → Database → Type 0
+HasIds version next db = HasVersion version db × HasIssuers db × HasNext next db
 
 abbrev pub crl_cells : Row → Row
 crl_cells row = column row 1 ∷ column row 2 ∷ column row 3 ∷ []
@@ -82,6 +110,10 @@ single_cells row = column row 1 ∷ column row 8 ∷ column row 9 ∷ []
 
 abbrev pub HasSingles : ℕ → Database → Type 0
 HasSingles next db = AllByRecursion (IsSingleCells next) (map single_cells (db.trees 3))
+
+-- what stands under the ids of issuers
+abbrev pub HasCrlsAndSingles : Origin → ℕ → Database → Type 0
+HasCrlsAndSingles origin next db = HasCrls origin next db × HasSingles next db
 
 abbrev pub entry_cells : Row → Row
 entry_cells row = column row 0 ∷ column row 2 ∷ column row 3 ∷ column row 4 ∷ column row 5 ∷ []
@@ -97,9 +129,6 @@ pub record HasHeads (origin : Origin) (db : Database) : Type 0 where
   pub singles : HasSingles (next_after (map issuer_cells (db.trees 1))) db
 
 -- ---- the same of version 1
-
-abbrev pub HasIdsOfVersion1 : ℕ → Database → Type 0
-HasIdsOfVersion1 next db = HasVersion 1 db × HasIssuers db × HasNext next db
 
 abbrev pub unscoped_crl_cells : Row → Row
 unscoped_crl_cells row = column row 0 ∷ column row 2 ∷ column row 3 ∷ column row 4 ∷ []

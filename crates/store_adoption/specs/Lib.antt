@@ -5,3 +5,4 @@ pub mod Cells
 pub mod Tests
 pub mod Seen
 pub mod Inspects
+pub mod Read

@@ -1,8 +1,8 @@
 //! Cells of the rows that a text shows.
 
-ghost use Rattle.std.specs.Prelude.{◌≡◌, Err, IfOk, OnOk};
+ghost use Rattle.std.specs.Prelude.{IfOk, OnOk};
 ghost use Rattle.sqlite.specs.Order.{column};
-ghost use Rattle.store_adoption.specs.Cells.{HasInteger, HasNatural, HasOctets, HasNumber, integer_in, natural_in, number_in, octets_in};
+ghost use Rattle.store_adoption.specs.Cells.{HasInteger, HasNatural, HasOctets, HasNumber, SchemaRefutes, ReadsNatural, ReadsOctets, ReadsInteger, ReadsNumber};
 
 use asn::Number20;
 use sqlite::{Error, ErrorCode, Row};
@@ -12,16 +12,16 @@ use store_sql::StoreFault;
 /// The number in a cell that is not negative and below the bound.
 #[tactic(auto, using(crate::proofs::Cells::natural_read, crate::proofs::Cells::natural_refused))]
 pub(crate) fn below(row: &Row, at: usize, bound: u32) -> Result<u32, StoreFault>
-    ensures ok { IfOk result (λ number. HasNatural bound (column row.now at) × (natural_in (column row.now at) ≡ number)) }
-    ensures schema { result ≡ Err StoreFault.Schema → HasNatural bound (column row.now at) → ⊥ }
+    ensures ok { IfOk result (ReadsNatural bound row.now at) }
+    ensures schema { SchemaRefutes result (HasNatural bound (column row.now at)) }
 {
     natural(row, at, bound)
 }
 
 /// The number in a cell that is not negative.
 pub(crate) fn place(row: &Row, at: usize) -> Result<u64, StoreFault>
-    ensures ok { IfOk result (λ number. HasNatural 18446744073709551616 (column row.now at) × (natural_in (column row.now at) ≡ number)) }
-    ensures schema { result ≡ Err StoreFault.Schema → HasNatural 18446744073709551616 (column row.now at) → ⊥ }
+    ensures ok { IfOk result (ReadsNatural 18446744073709551616 row.now at) }
+    ensures schema { SchemaRefutes result (HasNatural 18446744073709551616 (column row.now at)) }
 {
     match row.get(at) {
         Ok(number) => Ok(number),
@@ -33,8 +33,8 @@ pub(crate) fn place(row: &Row, at: usize) -> Result<u64, StoreFault>
 /// The octets in a cell.
 #[tactic(auto, using(crate::proofs::Cells::octets_read, crate::proofs::Cells::octets_refused))]
 pub(crate) fn blob(row: &Row, at: usize) -> Result<Vec<u8>, StoreFault>
-    ensures ok { IfOk result (λ octets. HasOctets (column row.now at) × (octets_in (column row.now at) ≡ octets.items)) }
-    ensures schema { result ≡ Err StoreFault.Schema → HasOctets (column row.now at) → ⊥ }
+    ensures ok { IfOk result (ReadsOctets row.now at) }
+    ensures schema { SchemaRefutes result (HasOctets (column row.now at)) }
 {
     octets(row, at)
 }
@@ -42,16 +42,16 @@ pub(crate) fn blob(row: &Row, at: usize) -> Result<Vec<u8>, StoreFault>
 /// The integer in a cell.
 #[tactic(auto, using(crate::proofs::Cells::integer_read, crate::proofs::Cells::integer_refused))]
 pub(crate) fn whole(row: &Row, at: usize) -> Result<i64, StoreFault>
-    ensures ok { IfOk result (λ number. HasInteger (column row.now at) × (integer_in (column row.now at) ≡ number)) }
-    ensures schema { result ≡ Err StoreFault.Schema → HasInteger (column row.now at) → ⊥ }
+    ensures ok { IfOk result (ReadsInteger row.now at) }
+    ensures schema { SchemaRefutes result (HasInteger (column row.now at)) }
 {
     integer(row, at)
 }
 
 /// The number that a cell holds in twenty octets.
 pub(crate) fn number(row: &Row, at: usize) -> Result<Number20, StoreFault>
-    ensures ok { IfOk result (λ number. HasNumber (column row.now at) × (number_in (column row.now at) ≡ number)) }
-    ensures schema { result ≡ Err StoreFault.Schema → HasNumber (column row.now at) → ⊥ }
+    ensures ok { IfOk result (ReadsNumber row.now at) }
+    ensures schema { SchemaRefutes result (HasNumber (column row.now at)) }
 {
     let octets = match octets(row, at) {
         Ok(octets) => octets,
@@ -66,7 +66,7 @@ pub(crate) fn number(row: &Row, at: usize) -> Result<Number20, StoreFault>
 /// The cell holds a number in twenty octets.
 pub(crate) fn has_number(row: &Row, at: usize) -> Result<(), StoreFault>
     ensures ok { OnOk result (HasNumber (column row.now at)) }
-    ensures schema { result ≡ Err StoreFault.Schema → HasNumber (column row.now at) → ⊥ }
+    ensures schema { SchemaRefutes result (HasNumber (column row.now at)) }
 {
     match number(row, at) {
         Ok(_) => Ok(()),

@@ -2,10 +2,8 @@
 
 ghost use Rattle.std.specs.Prelude.{◌≡◌, false};
 ghost use Rattle.sqlite.specs.Held.{state};
-ghost use Rattle.sqlite.specs.State.{HasCleanDisk, Survives};
-ghost use Rattle.store_adoption.specs.Creates.{AreTreesOf, Creates, IsSettled};
+ghost use Rattle.store_adoption.specs.Creates.{IsSettled, CreatesOn, MayLeaveEmptyStore};
 ghost use Rattle.store_sql.specs.Statements.{IsDurable};
-ghost use Rattle.statements_facts.specs.Statement.{empty_holdings};
 
 use sqlite::{Alter, Connection};
 use store_maps::make;
@@ -14,8 +12,8 @@ use store_sql::{StoreFault, is_empty};
 fn make_committed<S: Alter>(conn: &mut Connection<S>) -> Result<(), StoreFault>
     requires idle { conn.old.in_transaction ≡ false }
     ensures idle { conn.new.in_transaction ≡ false }
-    ensures creates { HasCleanDisk (state S.Store conn.new) → Creates (state S.Store conn.old) (state S.Store conn.new) result }
-    ensures crash { Survives (state S.Store conn.old) (state S.Store conn.new) (AreTreesOf empty_holdings) }
+    ensures creates { CreatesOn S.Store conn.old conn.new result }
+    ensures crash { MayLeaveEmptyStore (state S.Store conn.old) (state S.Store conn.new) }
 {
     if !is_empty(conn.schema()) {
         return Err(StoreFault::Store);
@@ -35,10 +33,10 @@ fn make_committed<S: Alter>(conn: &mut Connection<S>) -> Result<(), StoreFault>
 pub fn create<S: Alter>(conn: &mut Connection<S>) -> Result<(), StoreFault>
     requires idle { conn.old.in_transaction ≡ false }
     ensures idle { conn.new.in_transaction ≡ false }
-    ensures creates { HasCleanDisk (state S.Store conn.new) → Creates (state S.Store conn.old) (state S.Store conn.new) result }
+    ensures creates { CreatesOn S.Store conn.old conn.new result }
     ensures settled { IsSettled (state S.Store conn.old) × IsSettled (state S.Store conn.new) }
     ensures durable { IsDurable (state S.Store conn.new) }
-    ensures crash { Survives (state S.Store conn.old) (state S.Store conn.new) (AreTreesOf empty_holdings) }
+    ensures crash { MayLeaveEmptyStore (state S.Store conn.old) (state S.Store conn.new) }
 {
     let _before = conn.is_autocommit();
     let made = make_committed(conn);

@@ -1,8 +1,8 @@
 //! Entries of revocation lists, at their places.
 
-ghost use Rattle.std.specs.Prelude.{◌≡◌, ◌<◌, ◌↔◌, ◌⊎◌, ◌+◌, Err, IfOk, IsTrue, option_map};
-ghost use Rattle.store_adoption.specs.Cells.{Begins, Continues, Follows, IsEntryCells, IsListed, entry_in};
-ghost use Rattle.store_adoption.specs.Seen.{seen_placed};
+ghost use Rattle.std.specs.Prelude.{◌≡◌, ◌<◌, ◌↔◌, ◌+◌, Err, IfOk, IsTrue, option_map};
+ghost use Rattle.store_adoption.specs.Cells.{Begins, Continues, Follows, IsEntryCells, IsListed, entry_in, IsInRoom, IsOfSameList};
+ghost use Rattle.store_adoption.specs.Seen.{seen_placed, IsPlacedIn};
 ghost use Rattle.store_rows.specs.Places.{IsBelow, base_of};
 
 use crate::cell::{below, blob, place};
@@ -45,14 +45,14 @@ fn begins(entry: &Placed) -> bool
 /// Whether it has a place that its list may have.
 fn has_room(entry: &Placed) -> bool
     requires { IsListed (seen_placed entry.now) }
-    ensures { IsTrue result ↔ (entry.now.place < base_of entry.now.issuer entry.now.scope + 4294967296) }
+    ensures { IsTrue result ↔ IsInRoom (seen_placed entry.now) }
 {
     entry.place < base(entry) + ROOM
 }
 
 /// Whether it is of the same list.
 fn is_of_list(last: &Placed, entry: &Placed) -> bool
-    ensures { IsTrue result ↔ ((entry.now.issuer ≡ last.now.issuer) × (entry.now.scope ≡ last.now.scope)) }
+    ensures { IsTrue result ↔ IsOfSameList (seen_placed last.now) (seen_placed entry.now) }
 {
     entry.issuer == last.issuer && entry.scope == last.scope
 }
@@ -95,7 +95,7 @@ fn follows(last: &Option<Placed>, entry: &Placed) -> bool
 }
 
 fn read_placed(row: &Row) -> Result<Placed, StoreFault>
-    ensures ok { IfOk result (λ entry. IsEntryCells row.now × (seen_placed entry ≡ entry_in row.now)) }
+    ensures ok { IfOk result (IsPlacedIn row.now) }
     ensures schema { result ≡ Err StoreFault.Schema → IsEntryCells row.now → ⊥ }
 {
     let place = place(row, 0)?;

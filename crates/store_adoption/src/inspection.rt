@@ -2,11 +2,10 @@
 
 ghost use Rattle.std.specs.Prelude.{◌≡◌, false};
 ghost use Rattle.sqlite.specs.Held.{state};
-ghost use Rattle.sqlite.specs.State.{HasCleanDisk};
 ghost use Rattle.store_sql.specs.Statements.{CommitsNothing, IsDurable};
 ghost use Rattle.store_sql.specs.Tables.{store_schema};
 ghost use Rattle.store_adoption.specs.Creates.{IsSettled};
-ghost use Rattle.store_adoption.specs.Inspects.{Checks, Inspects, HasVersion, HasIssuers, HasNext, HasCrls, HasSingles, HasEntries, HasHeads, HasIds};
+ghost use Rattle.store_adoption.specs.Inspects.{HasVersion, HasIssuers, HasCrls, HasSingles, HasEntries, HasHeads, HasIds, ChecksOn, ChecksThat, InspectsOn, HasSchema, HasVersionAndIssuers, HasCrlsAndSingles, ReadsOn, HasNext};
 
 use crate::crl_test::CrlTest;
 use crate::entry_test::EntryTest;
@@ -19,9 +18,9 @@ use store_sql::{Origin, StoreFault, origin_of};
 
 fn inspect_version<S: Alter>(conn: &mut Connection<S>, origin: Origin) -> Result<(), StoreFault>
     requires idle { conn.old.in_transaction ≡ false }
-    requires ours { HasCleanDisk (state S.Store conn.old) → (state S.Store conn.old).now.schema ≡ store_schema origin }
+    requires ours { HasSchema S.Store conn.old (store_schema origin) }
     ensures idle { conn.new.in_transaction ≡ false }
-    ensures checks { HasCleanDisk (state S.Store conn.new) → Checks (state S.Store conn.old) (state S.Store conn.new) (λ done. HasVersion 2) (HasVersion 2) result }
+    ensures checks { ChecksThat S.Store conn.old conn.new (HasVersion 2) result }
     ensures survives { CommitsNothing (state S.Store conn.old) (state S.Store conn.new) }
 {
     let mut test = VersionTest {
@@ -41,9 +40,9 @@ fn inspect_version<S: Alter>(conn: &mut Connection<S>, origin: Origin) -> Result
 /// One more than the id of the last issuer.
 fn inspect_issuers<S: Alter>(conn: &mut Connection<S>, origin: Origin) -> Result<u32, StoreFault>
     requires idle { conn.old.in_transaction ≡ false }
-    requires ours { HasCleanDisk (state S.Store conn.old) → (state S.Store conn.old).now.schema ≡ store_schema origin }
+    requires ours { HasSchema S.Store conn.old (store_schema origin) }
     ensures idle { conn.new.in_transaction ≡ false }
-    ensures checks { HasCleanDisk (state S.Store conn.new) → Checks (state S.Store conn.old) (state S.Store conn.new) (λ next db. HasIssuers db × HasNext next db) HasIssuers result }
+    ensures checks { ReadsOn S.Store conn.old conn.new HasIssuers HasNext result }
     ensures survives { CommitsNothing (state S.Store conn.old) (state S.Store conn.new) }
 {
     let mut test = IssuerTest { next: 1 };
@@ -59,9 +58,9 @@ fn inspect_crls<S: Alter>(
     next: u32,
 ) -> Result<(), StoreFault>
     requires idle { conn.old.in_transaction ≡ false }
-    requires ours { HasCleanDisk (state S.Store conn.old) → (state S.Store conn.old).now.schema ≡ store_schema origin }
+    requires ours { HasSchema S.Store conn.old (store_schema origin) }
     ensures idle { conn.new.in_transaction ≡ false }
-    ensures checks { HasCleanDisk (state S.Store conn.new) → Checks (state S.Store conn.old) (state S.Store conn.new) (λ done. HasCrls origin next) (HasCrls origin next) result }
+    ensures checks { ChecksThat S.Store conn.old conn.new (HasCrls origin next) result }
     ensures survives { CommitsNothing (state S.Store conn.old) (state S.Store conn.new) }
 {
     let mut test = CrlTest { next };
@@ -81,9 +80,9 @@ fn inspect_singles<S: Alter>(
     next: u32,
 ) -> Result<(), StoreFault>
     requires idle { conn.old.in_transaction ≡ false }
-    requires ours { HasCleanDisk (state S.Store conn.old) → (state S.Store conn.old).now.schema ≡ store_schema origin }
+    requires ours { HasSchema S.Store conn.old (store_schema origin) }
     ensures idle { conn.new.in_transaction ≡ false }
-    ensures checks { HasCleanDisk (state S.Store conn.new) → Checks (state S.Store conn.old) (state S.Store conn.new) (λ done. HasSingles next) (HasSingles next) result }
+    ensures checks { ChecksThat S.Store conn.old conn.new (HasSingles next) result }
     ensures survives { CommitsNothing (state S.Store conn.old) (state S.Store conn.new) }
 {
     let mut test = SingleTest { next };
@@ -99,9 +98,9 @@ fn inspect_singles<S: Alter>(
 
 fn inspect_entries<S: Alter>(conn: &mut Connection<S>, origin: Origin) -> Result<(), StoreFault>
     requires idle { conn.old.in_transaction ≡ false }
-    requires ours { HasCleanDisk (state S.Store conn.old) → (state S.Store conn.old).now.schema ≡ store_schema origin }
+    requires ours { HasSchema S.Store conn.old (store_schema origin) }
     ensures idle { conn.new.in_transaction ≡ false }
-    ensures checks { HasCleanDisk (state S.Store conn.new) → Checks (state S.Store conn.old) (state S.Store conn.new) (λ done. HasEntries origin) (HasEntries origin) result }
+    ensures checks { ChecksThat S.Store conn.old conn.new (HasEntries origin) result }
     ensures survives { CommitsNothing (state S.Store conn.old) (state S.Store conn.new) }
 {
     let mut test = EntryTest { last: None };
@@ -122,9 +121,9 @@ fn inspect_under<S: Alter>(
     next: u32,
 ) -> Result<(), StoreFault>
     requires idle { conn.old.in_transaction ≡ false }
-    requires ours { HasCleanDisk (state S.Store conn.old) → (state S.Store conn.old).now.schema ≡ store_schema origin }
+    requires ours { HasSchema S.Store conn.old (store_schema origin) }
     ensures idle { conn.new.in_transaction ≡ false }
-    ensures checks { HasCleanDisk (state S.Store conn.new) → Checks (state S.Store conn.old) (state S.Store conn.new) (λ done db. HasCrls origin next db × HasSingles next db) (λ db. HasCrls origin next db × HasSingles next db) result }
+    ensures checks { ChecksThat S.Store conn.old conn.new (HasCrlsAndSingles origin next) result }
     ensures survives { CommitsNothing (state S.Store conn.old) (state S.Store conn.new) }
 {
     if let Err(fault) = inspect_crls(conn, origin, next) {
@@ -139,9 +138,9 @@ fn inspect_under<S: Alter>(
 /// The version, and one more than the id of the last issuer.
 fn inspect_ids<S: Alter>(conn: &mut Connection<S>, origin: Origin) -> Result<u32, StoreFault>
     requires idle { conn.old.in_transaction ≡ false }
-    requires ours { HasCleanDisk (state S.Store conn.old) → (state S.Store conn.old).now.schema ≡ store_schema origin }
+    requires ours { HasSchema S.Store conn.old (store_schema origin) }
     ensures idle { conn.new.in_transaction ≡ false }
-    ensures checks { HasCleanDisk (state S.Store conn.new) → Checks (state S.Store conn.old) (state S.Store conn.new) HasIds (λ db. HasVersion 2 db × HasIssuers db) result }
+    ensures checks { ChecksOn S.Store conn.old conn.new (HasIds 2) (HasVersionAndIssuers 2) result }
     ensures survives { CommitsNothing (state S.Store conn.old) (state S.Store conn.new) }
 {
     if let Err(fault) = inspect_version(conn, origin) {
@@ -155,9 +154,9 @@ fn inspect_ids<S: Alter>(conn: &mut Connection<S>, origin: Origin) -> Result<u32
 
 fn inspect_heads<S: Alter>(conn: &mut Connection<S>, origin: Origin) -> Result<(), StoreFault>
     requires idle { conn.old.in_transaction ≡ false }
-    requires ours { HasCleanDisk (state S.Store conn.old) → (state S.Store conn.old).now.schema ≡ store_schema origin }
+    requires ours { HasSchema S.Store conn.old (store_schema origin) }
     ensures idle { conn.new.in_transaction ≡ false }
-    ensures checks { HasCleanDisk (state S.Store conn.new) → Checks (state S.Store conn.old) (state S.Store conn.new) (λ done. HasHeads origin) (HasHeads origin) result }
+    ensures checks { ChecksThat S.Store conn.old conn.new (HasHeads origin) result }
     ensures survives { CommitsNothing (state S.Store conn.old) (state S.Store conn.new) }
 {
     let next = match inspect_ids(conn, origin) {
@@ -173,7 +172,7 @@ fn inspect_heads<S: Alter>(conn: &mut Connection<S>, origin: Origin) -> Result<(
 fn inspect_all<S: Alter>(conn: &mut Connection<S>) -> Result<(), StoreFault>
     requires idle { conn.old.in_transaction ≡ false }
     ensures idle { conn.new.in_transaction ≡ false }
-    ensures inspects { HasCleanDisk (state S.Store conn.new) → Inspects (state S.Store conn.old) (state S.Store conn.new) result }
+    ensures inspects { InspectsOn S.Store conn.old conn.new result }
     ensures survives { CommitsNothing (state S.Store conn.old) (state S.Store conn.new) }
 {
     let Some(origin) = origin_of(conn.schema()) else {
@@ -192,7 +191,7 @@ fn inspect_all<S: Alter>(conn: &mut Connection<S>) -> Result<(), StoreFault>
 pub fn inspect<S: Alter>(conn: &mut Connection<S>) -> Result<(), StoreFault>
     requires idle { conn.old.in_transaction ≡ false }
     ensures idle { conn.new.in_transaction ≡ false }
-    ensures inspects { HasCleanDisk (state S.Store conn.new) → Inspects (state S.Store conn.old) (state S.Store conn.new) result }
+    ensures inspects { InspectsOn S.Store conn.old conn.new result }
     ensures settled { IsSettled (state S.Store conn.old) × IsSettled (state S.Store conn.new) }
     ensures durable { IsDurable (state S.Store conn.new) }
     ensures survives { CommitsNothing (state S.Store conn.old) (state S.Store conn.new) }

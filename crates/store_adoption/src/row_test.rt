@@ -1,12 +1,12 @@
 //! A table's rows, tested one after the other.
 
-ghost use Rattle.std.specs.Prelude.{◌≡◌, ◌≢◌, ◌↔◌, ◌++◌, ◌∷◌, [], false, Err, OnOk};
+ghost use Rattle.std.specs.Prelude.{◌≡◌, ◌≢◌, [], false, Err, OnOk};
 ghost use Rattle.sqlite.specs.Held.{state};
 ghost use Rattle.sqlite.specs.State.{HasCleanDisk};
 ghost use Rattle.sqlite.specs.Given.{IsPlain};
 ghost use Rattle.sqlite.specs.Listing.{understood};
 ghost use Rattle.store_sql.specs.Statements.{CommitsNothing};
-ghost use Rattle.store_adoption.specs.Tests.{Tests};
+ghost use Rattle.store_adoption.specs.Tests.{PassesOneMore, HoldsAlike, TestsOn, SchemaBreaksForm};
 
 use sqlite::{Alter, Connection, Error, Row};
 use store_sql::StoreFault;
@@ -24,9 +24,9 @@ pub(crate) trait RowTest {
 
     /// Takes the next row; `StoreFault::Schema` where no store has it there.
     fn take(&mut self, row: &Row) -> Result<(), StoreFault>
-        ensures passed { OnOk result ((rows : List Cells) → passed self.old rows → passed self.new (rows ++ row.now ∷ [])) }
-        ensures same { OnOk result ((rows : List Cells) → are_formed self.old rows ↔ are_formed self.new rows) }
-        ensures refused { result ≡ Err StoreFault.Schema → (rows later : List Cells) → passed self.old rows → are_formed self.old (rows ++ row.now ∷ later) → ⊥ };
+        ensures passed { OnOk result (PassesOneMore (passed self.old) (passed self.new) row.now) }
+        ensures same { OnOk result (HoldsAlike (are_formed self.old) (are_formed self.new)) }
+        ensures refused { SchemaBreaksForm (passed self.old) (are_formed self.old) row.now result };
 }
 
 /// A refusal of the database, which says nothing of the rows.
@@ -46,8 +46,10 @@ pub(crate) fn test_rows<S: Alter, T: RowTest>(
     requires idle { conn.old.in_transaction ≡ false }
     requires plain { HasCleanDisk (state S.Store conn.old) → IsPlain (understood (state S.Store conn.old).now.schema sql.now) }
     ensures idle { conn.new.in_transaction ≡ false }
-    ensures tests { HasCleanDisk (state S.Store conn.new) → Tests (state S.Store conn.old) (state S.Store conn.new) sql.now (T.RowTest.passed test.new) (T.RowTest.are_formed test.old) result }
-    ensures same { OnOk result ((rows : _) → T.RowTest.are_formed test.old rows ↔ T.RowTest.are_formed test.new rows) }
+    ensures tests { TestsOn S.Store conn.old conn.new sql.now
+        (T.RowTest.passed test.new) (T.RowTest.are_formed test.old) result }
+    ensures same { OnOk result
+        (HoldsAlike (T.RowTest.are_formed test.old) (T.RowTest.are_formed test.new)) }
     ensures survives { CommitsNothing (state S.Store conn.old) (state S.Store conn.new) }
 {
     let mut rows = match conn.query(sql, &[]) {

@@ -1,8 +1,7 @@
 //! What responses say of single certificates.
 
-ghost use Rattle.std.specs.Prelude.{◌≡◌, ◌⊎◌, OnOk, Err};
-ghost use Rattle.store_adoption.specs.Cells.{IsSingleCells, HasNatural, natural_in};
-ghost use Rattle.sqlite.specs.Order.{column};
+ghost use Rattle.std.specs.Prelude.{◌≡◌, OnOk, Err};
+ghost use Rattle.store_adoption.specs.Cells.{IsSingleCells, HasStatus, RefusesStatusCells};
 
 use crate::cell::below;
 use crate::row_test::RowTest;
@@ -17,8 +16,8 @@ pub(crate) struct SingleTest {
 
 /// A reason stands beside a status that is not revoked as 0.
 fn has_status(row: &Row) -> Result<(), StoreFault>
-    ensures ok { OnOk result (HasNatural 3 (column row.now 1) × HasNatural 256 (column row.now 2) × ((natural_in (column row.now 1) ≡ 1) ⊎ (natural_in (column row.now 2) ≡ 0))) }
-    ensures schema { result ≡ Err StoreFault.Schema → HasNatural 3 (column row.now 1) → HasNatural 256 (column row.now 2) → (natural_in (column row.now 1) ≡ 1) ⊎ (natural_in (column row.now 2) ≡ 0) → ⊥ }
+    ensures ok { OnOk result (HasStatus row.now) }
+    ensures schema { RefusesStatusCells row.now result }
 {
     let status = match below(row, 1, 3) {
         Ok(status) => status,

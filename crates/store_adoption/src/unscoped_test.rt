@@ -2,7 +2,7 @@
 
 ghost use Rattle.std.specs.Prelude.{◌≡◌, Err, IfOk};
 ghost use Rattle.store_adoption.specs.Cells.{IsUnscopedCrlCells, IsUnscopedEntryCells, HasHead, head_in, unscoped_crl_in, unscoped_entry_in};
-ghost use Rattle.store_adoption.specs.Seen.{seen_list, seen_own};
+ghost use Rattle.store_adoption.specs.Seen.{seen_list, seen_own, IsListIn, IsOwnIn};
 ghost use Rattle.store_rows.specs.Seen.{seen_head};
 
 use crate::cell::{below, blob, number, whole};
@@ -35,7 +35,7 @@ fn read_head(row: &Row) -> Result<Head, StoreFault>
 }
 
 fn read_list(row: &Row, next: u32) -> Result<UnscopedList, StoreFault>
-    ensures ok { IfOk result (λ list. IsUnscopedCrlCells next row.now × (seen_list list ≡ unscoped_crl_in row.now)) }
+    ensures ok { IfOk result (IsListIn next row.now) }
     ensures schema { result ≡ Err StoreFault.Schema → IsUnscopedCrlCells next row.now → ⊥ }
 {
     let issuer = below(row, 0, next)?;
@@ -74,7 +74,7 @@ pub(crate) struct OwnTest {
 }
 
 fn read_own(row: &Row, next: u32) -> Result<OwnEntry, StoreFault>
-    ensures ok { IfOk result (λ entry. IsUnscopedEntryCells next row.now × (seen_own entry ≡ unscoped_entry_in row.now)) }
+    ensures ok { IfOk result (IsOwnIn next row.now) }
     ensures schema { result ≡ Err StoreFault.Schema → IsUnscopedEntryCells next row.now → ⊥ }
 {
     let issuer = below(row, 0, next)?;

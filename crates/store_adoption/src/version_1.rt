@@ -1,13 +1,13 @@
 //! A database of version 1, read once.
 
-ghost use Rattle.std.specs.Prelude.{◌≡◌, false, map};
+ghost use Rattle.std.specs.Prelude.{◌≡◌, false};
 ghost use Rattle.sqlite.specs.Held.{state};
-ghost use Rattle.sqlite.specs.State.{HasCleanDisk};
 ghost use Rattle.store_sql.specs.Statements.{CommitsNothing, IsDurable};
 ghost use Rattle.store_sql.specs.Tables.{version_1_schema};
 ghost use Rattle.store_adoption.specs.Creates.{IsSettled};
-ghost use Rattle.store_adoption.specs.Seen.{seen_list, seen_own};
-ghost use Rattle.store_adoption.specs.Inspects.{Checks, ReadsVersion1, HasVersion, HasIssuers, HasNext, HasSingles, HasIdsOfVersion1, HasUnscopedCrls, HasUnscopedEntries, ShowsCrls, ShowsEntries, HasListsUnder, HasUnder, ShowsLists};
+ghost use Rattle.store_adoption.specs.Inspects.{HasVersion, HasIssuers, HasSingles, HasUnscopedCrls, HasUnscopedEntries, HasListsUnder, HasUnder, ChecksOn, ChecksThat, ReadsVersion1On, HasSchema, HasVersionAndIssuers, HasIds, ReadsOn, HasNext};
+ghost use Rattle.store_adoption.specs.Seen.{seen_crls, seen_entries};
+ghost use Rattle.store_adoption.specs.Read.{ShowsUnscoped, ShowsOwn, ShowsAll};
 
 use crate::issuer_test::IssuerTest;
 use crate::row_test::test_rows;
@@ -21,9 +21,9 @@ use store_sql::{StoreFault, is_version_1};
 
 fn read_version<S: Alter>(conn: &mut Connection<S>) -> Result<(), StoreFault>
     requires idle { conn.old.in_transaction ≡ false }
-    requires ours { HasCleanDisk (state S.Store conn.old) → (state S.Store conn.old).now.schema ≡ version_1_schema }
+    requires ours { HasSchema S.Store conn.old version_1_schema }
     ensures idle { conn.new.in_transaction ≡ false }
-    ensures checks { HasCleanDisk (state S.Store conn.new) → Checks (state S.Store conn.old) (state S.Store conn.new) (λ done. HasVersion 1) (HasVersion 1) result }
+    ensures checks { ChecksThat S.Store conn.old conn.new (HasVersion 1) result }
     ensures survives { CommitsNothing (state S.Store conn.old) (state S.Store conn.new) }
 {
     let mut test = VersionTest {
@@ -43,9 +43,9 @@ fn read_version<S: Alter>(conn: &mut Connection<S>) -> Result<(), StoreFault>
 /// One more than the id of the last issuer.
 fn read_issuers<S: Alter>(conn: &mut Connection<S>) -> Result<u32, StoreFault>
     requires idle { conn.old.in_transaction ≡ false }
-    requires ours { HasCleanDisk (state S.Store conn.old) → (state S.Store conn.old).now.schema ≡ version_1_schema }
+    requires ours { HasSchema S.Store conn.old version_1_schema }
     ensures idle { conn.new.in_transaction ≡ false }
-    ensures checks { HasCleanDisk (state S.Store conn.new) → Checks (state S.Store conn.old) (state S.Store conn.new) (λ next db. HasIssuers db × HasNext next db) HasIssuers result }
+    ensures checks { ReadsOn S.Store conn.old conn.new HasIssuers HasNext result }
     ensures survives { CommitsNothing (state S.Store conn.old) (state S.Store conn.new) }
 {
     let mut test = IssuerTest { next: 1 };
@@ -57,9 +57,9 @@ fn read_issuers<S: Alter>(conn: &mut Connection<S>) -> Result<u32, StoreFault>
 
 fn read_singles<S: Alter>(conn: &mut Connection<S>, next: u32) -> Result<(), StoreFault>
     requires idle { conn.old.in_transaction ≡ false }
-    requires ours { HasCleanDisk (state S.Store conn.old) → (state S.Store conn.old).now.schema ≡ version_1_schema }
+    requires ours { HasSchema S.Store conn.old version_1_schema }
     ensures idle { conn.new.in_transaction ≡ false }
-    ensures checks { HasCleanDisk (state S.Store conn.new) → Checks (state S.Store conn.old) (state S.Store conn.new) (λ done. HasSingles next) (HasSingles next) result }
+    ensures checks { ChecksThat S.Store conn.old conn.new (HasSingles next) result }
     ensures survives { CommitsNothing (state S.Store conn.old) (state S.Store conn.new) }
 {
     let mut test = SingleTest { next };
@@ -79,9 +79,9 @@ fn read_lists<S: Alter>(
     next: u32,
 ) -> Result<Vec<UnscopedList>, StoreFault>
     requires idle { conn.old.in_transaction ≡ false }
-    requires ours { HasCleanDisk (state S.Store conn.old) → (state S.Store conn.old).now.schema ≡ version_1_schema }
+    requires ours { HasSchema S.Store conn.old version_1_schema }
     ensures idle { conn.new.in_transaction ≡ false }
-    ensures checks { HasCleanDisk (state S.Store conn.new) → Checks (state S.Store conn.old) (state S.Store conn.new) (λ lists db. HasUnscopedCrls next db × ShowsCrls (map seen_list lists.items) db) (HasUnscopedCrls next) result }
+    ensures checks { ReadsOn S.Store conn.old conn.new (HasUnscopedCrls next) ShowsUnscoped result }
     ensures survives { CommitsNothing (state S.Store conn.old) (state S.Store conn.new) }
 {
     let mut test = ListTest {
@@ -104,9 +104,9 @@ fn read_entries<S: Alter>(
     next: u32,
 ) -> Result<Vec<OwnEntry>, StoreFault>
     requires idle { conn.old.in_transaction ≡ false }
-    requires ours { HasCleanDisk (state S.Store conn.old) → (state S.Store conn.old).now.schema ≡ version_1_schema }
+    requires ours { HasSchema S.Store conn.old version_1_schema }
     ensures idle { conn.new.in_transaction ≡ false }
-    ensures checks { HasCleanDisk (state S.Store conn.new) → Checks (state S.Store conn.old) (state S.Store conn.new) (λ entries db. HasUnscopedEntries next db × ShowsEntries (map seen_own entries.items) db) (HasUnscopedEntries next) result }
+    ensures checks { ReadsOn S.Store conn.old conn.new (HasUnscopedEntries next) ShowsOwn result }
     ensures survives { CommitsNothing (state S.Store conn.old) (state S.Store conn.new) }
 {
     let mut test = OwnTest {
@@ -126,9 +126,9 @@ fn read_entries<S: Alter>(
 /// The version, and one more than the id of the last issuer.
 fn read_ids<S: Alter>(conn: &mut Connection<S>) -> Result<u32, StoreFault>
     requires idle { conn.old.in_transaction ≡ false }
-    requires ours { HasCleanDisk (state S.Store conn.old) → (state S.Store conn.old).now.schema ≡ version_1_schema }
+    requires ours { HasSchema S.Store conn.old version_1_schema }
     ensures idle { conn.new.in_transaction ≡ false }
-    ensures checks { HasCleanDisk (state S.Store conn.new) → Checks (state S.Store conn.old) (state S.Store conn.new) HasIdsOfVersion1 (λ db. HasVersion 1 db × HasIssuers db) result }
+    ensures checks { ChecksOn S.Store conn.old conn.new (HasIds 1) (HasVersionAndIssuers 1) result }
     ensures survives { CommitsNothing (state S.Store conn.old) (state S.Store conn.new) }
 {
     if let Err(fault) = read_version(conn) {
@@ -147,9 +147,9 @@ fn read_all_lists<S: Alter>(
     next: u32,
 ) -> Result<UnscopedLists, StoreFault>
     requires idle { conn.old.in_transaction ≡ false }
-    requires ours { HasCleanDisk (state S.Store conn.old) → (state S.Store conn.old).now.schema ≡ version_1_schema }
+    requires ours { HasSchema S.Store conn.old version_1_schema }
     ensures idle { conn.new.in_transaction ≡ false }
-    ensures checks { HasCleanDisk (state S.Store conn.new) → Checks (state S.Store conn.old) (state S.Store conn.new) (λ all db. HasListsUnder next db × ShowsLists (map seen_list all.lists.items) (map seen_own all.entries.items) db) (HasListsUnder next) result }
+    ensures checks { ReadsOn S.Store conn.old conn.new (HasListsUnder next) ShowsAll result }
     ensures survives { CommitsNothing (state S.Store conn.old) (state S.Store conn.new) }
 {
     let lists = match read_lists(alloc, conn, next) {
@@ -169,9 +169,9 @@ fn read_under<S: Alter>(
     next: u32,
 ) -> Result<UnscopedLists, StoreFault>
     requires idle { conn.old.in_transaction ≡ false }
-    requires ours { HasCleanDisk (state S.Store conn.old) → (state S.Store conn.old).now.schema ≡ version_1_schema }
+    requires ours { HasSchema S.Store conn.old version_1_schema }
     ensures idle { conn.new.in_transaction ≡ false }
-    ensures checks { HasCleanDisk (state S.Store conn.new) → Checks (state S.Store conn.old) (state S.Store conn.new) (λ all db. HasUnder next db × ShowsLists (map seen_list all.lists.items) (map seen_own all.entries.items) db) (HasUnder next) result }
+    ensures checks { ReadsOn S.Store conn.old conn.new (HasUnder next) ShowsAll result }
     ensures survives { CommitsNothing (state S.Store conn.old) (state S.Store conn.new) }
 {
     if let Err(fault) = read_singles(conn, next) {
@@ -186,7 +186,7 @@ fn read_under<S: Alter>(
 fn read_all<S: Alter>(alloc: Global, conn: &mut Connection<S>) -> Result<UnscopedLists, StoreFault>
     requires idle { conn.old.in_transaction ≡ false }
     ensures idle { conn.new.in_transaction ≡ false }
-    ensures reads { HasCleanDisk (state S.Store conn.new) → ReadsVersion1 (state S.Store conn.old) (state S.Store conn.new) (λ all. map seen_list all.lists.items) (λ all. map seen_own all.entries.items) result }
+    ensures reads { ReadsVersion1On S.Store conn.old conn.new seen_crls seen_entries result }
     ensures survives { CommitsNothing (state S.Store conn.old) (state S.Store conn.new) }
 {
     if !is_version_1(conn.schema()) {
@@ -210,7 +210,7 @@ pub fn read_version_1<S: Alter>(
 ) -> Result<UnscopedLists, StoreFault>
     requires idle { conn.old.in_transaction ≡ false }
     ensures idle { conn.new.in_transaction ≡ false }
-    ensures reads { HasCleanDisk (state S.Store conn.new) → ReadsVersion1 (state S.Store conn.old) (state S.Store conn.new) (λ all. map seen_list all.lists.items) (λ all. map seen_own all.entries.items) result }
+    ensures reads { ReadsVersion1On S.Store conn.old conn.new seen_crls seen_entries result }
     ensures settled { IsSettled (state S.Store conn.old) × IsSettled (state S.Store conn.new) }
     ensures durable { IsDurable (state S.Store conn.new) }
     ensures survives { CommitsNothing (state S.Store conn.old) (state S.Store conn.new) }

@@ -4,8 +4,9 @@ use Rattle.sqlite.specs.Held.{state}
 use Rattle.sqlite.proofs.StateLemmas.{survives_then}
 use Rattle.sqlite.proofs.Callers.{survives_begin}
 use Rattle.statements_facts.specs.Statement.{empty_holdings}
-use Rattle.store_adoption.specs.Creates.{AreTreesOf}
-use Rattle.store_adoption.proofs.Stores.{trees_of, empty_with}
+use Rattle.store_maps.specs.Held.{AreTreesOf}
+use Rattle.store_maps.proofs.HeldLaws.{trees_of}
+use Rattle.store_adoption.proofs.Stores.{empty_with}
 use Rattle.store_adoption.proofs.creation.make_committed.Goals as goal
 
 pub returns-in-Ok-clause-crash : goal.returns-in-Ok-clause-crash

@@ -6,8 +6,9 @@ use Rattle.sqlite.specs.Given.{Advances, row_if}
 use Rattle.sqlite.proofs.StateLemmas.{survives_then}
 use Rattle.sqlite.proofs.InsideLemmas.{unchanged_keeps, keeps_then}
 use Rattle.sqlite.proofs.Callers.{begun_plain, given_begin, unchanged_then}
-use Rattle.store_sql.specs.declared.fault.StoreFault.TheVariants.{Store, Schema as NotOurs}
+use Rattle.store_sql.specs.declared.fault.StoreFault.TheVariants.{Store}
 use Rattle.store_adoption.specs.Tests.{AllPass, TestFails}
+use Rattle.store_sql.specs.declared.fault.StoreFault.{StoreFault}
 use Rattle.store_adoption.proofs.Testing.{advance_keeps, all_pass, gave_up, query_keeps, refused, shows_nothing}
 use Rattle.store_adoption.proofs.row_test.test_rows.Goals as goal
 
@@ -100,7 +101,7 @@ returns-clause-tests g c =
     let mid = state g.S.Store c.each.rows.conn.now in
     let same : c.each.rows.conn.now ≡ c.conn-2-1.given.0 = search rules in
     subst (λ h. HasCleanDisk (state g.S.Store h) → TestFails old (state g.S.Store h) c.args.sql.now (g.T.RowTest.are_formed c.args.test.now) Store) same
-    (λ clean. gave_up c.args.sql.now old mid (g.T.RowTest.are_formed c.args.test.now) Store (λ ours. absurd (let no : Store ≡ NotOurs = ours in cc)) (unchanged_keeps old mid (inl (c.each.invariant.3 clean).2)))
+    (λ clean. gave_up c.args.sql.now old mid (g.T.RowTest.are_formed c.args.test.now) Store (λ ours. absurd (let no : Store ≡ StoreFault.Schema = ours in cc)) (unchanged_keeps old mid (inl (c.each.invariant.3 clean).2)))
 
 pub each-init : goal.each-init
 each-init g c =

@@ -1,7 +1,7 @@
 use Rattle.std.proofs.Common.{ℕ, Err, arith}
 use Rattle.sqlite.specs.Held.{state}
 use Rattle.sqlite.proofs.StateLemmas.{survives_then}
-use Rattle.store_adoption.specs.Inspects.{HasVersion, HasIssuers, HasNext, HasIdsOfVersion1}
+use Rattle.store_adoption.specs.Inspects.{HasVersion, HasIssuers, HasNext, HasIds}
 use Rattle.store_adoption.proofs.Inspecting.{checks_then}
 use Rattle.store_adoption.proofs.version_1.read_ids.Goals as goal
 
@@ -17,5 +17,5 @@ returns-in-Err-read_issuers-clause-checks g c clean =
     let mid = state g.S.Store c.read_version.new.conn in
     let step = c.read_issuers.ensures.survives.clean in
     let first = c.in_default.ensures.checks (omega (arith, step, clean)) in
-    checks_then {A = Unit {0}} {B = ℕ} old mid (state g.S.Store c.read_issuers.new.conn) (λ _. HasVersion 1) (λ next db. HasIssuers db × HasNext next db) HasIssuers HasIdsOfVersion1 (λ db. HasVersion 1 db × HasIssuers db) c.in_default.field-0 (Err c.in-Err-read_issuers.fault)
+    checks_then {A = Unit {0}} {B = ℕ} old mid (state g.S.Store c.read_issuers.new.conn) (λ _. HasVersion 1) (λ next db. HasIssuers db × HasNext next db) HasIssuers (HasIds 1) (λ db. HasVersion 1 db × HasIssuers db) c.in_default.field-0 (Err c.in-Err-read_issuers.fault)
     first (c.in-Err-read_issuers.ensures.checks clean) (λ next ordered a b. (a, b.0, b.1)) (λ ordered a all. all.1)

@@ -1,12 +1,12 @@
-use Rattle.store_sql.specs.declared.fault.StoreFault.TheVariants.{Schema as NotOurs}
 use Rattle.std.proofs.Common.{◌≡◌, IsTrue, Err, rules, option_map, ap}
 use Rattle.store_adoption.specs.Cells.{IsEntryCells}
 use Rattle.store_adoption.specs.Seen.{seen_placed}
+use Rattle.store_sql.specs.declared.fault.StoreFault.{StoreFault}
 use Rattle.store_adoption.proofs.Following.{all_here, entry_follows, entry_passes}
 use Rattle.store_adoption.proofs.entry_test.EntryTestRowTest.take.Goals as goal
 
 pub returns-in-Err-clause-refused : goal.returns-in-Err-clause-refused
-returns-in-Err-clause-refused c e rows later passed formed = c.in-Err.ensures.schema (ap Err (let is : c.in-Err.fault ≡ NotOurs = cc in is)) (all_here IsEntryCells rows c.args.row.now later formed.0)
+returns-in-Err-clause-refused c e rows later passed formed = c.in-Err.ensures.schema (ap Err (let is : c.in-Err.fault ≡ StoreFault.Schema = cc in is)) (all_here IsEntryCells rows c.args.row.now later formed.0)
 
 pub returns-then-not-follows-clause-refused : goal.returns-then-not-follows-clause-refused
 returns-then-not-follows-clause-refused c e rows later passed formed =
