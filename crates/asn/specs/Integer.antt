@@ -22,6 +22,10 @@ pub record IsNumber20 (octets : List ℕ) (number : ℕ) : Type 0 where
   pub bound : number < 2 ^ 160
 
 -- the same number in binary, with no octet of zeros at the front
+-- the octets are not the content of an INTEGER whose number is not negative
+abbrev pub HasNoMagnitude : List ℕ → Type 0
+HasNoMagnitude content = (number : ℕ) → IsInteger content → integer_value content ≡ pos number → ⊥
+
 pub record IsMagnitude (octets magnitude : List ℕ) : Type 0 where
   pub content : IsInteger octets
   pub value : integer_value octets ≡ pos (binary_value magnitude)

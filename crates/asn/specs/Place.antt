@@ -17,6 +17,18 @@ seen_tlv tlv = record { octets = tlv.whole.now; at = tlv.at }
 abbrev pub remaining : Cursor → Place
 remaining cursor = record { octets = cursor.octets.now; at = cursor.at }
 
+-- octets that stand at this offset
+abbrev pub text_at : List ℕ → ℕ → Place
+text_at octets at = record { octets = octets; at = at }
+
+-- octets that stand behind a value, which stands at this offset
+abbrev pub text_behind : ℕ → Tlv → List ℕ → Place
+text_behind at tlv others = record { octets = others; at = at + length tlv.whole.now }
+
+-- how many octets a cursor has left
+abbrev pub octets_left : Cursor → ℕ
+octets_left cursor = length (remaining cursor).octets
+
 -- the identifier octet, and the contents octets, of a value
 abbrev pub tag : Place → ℕ
 tag value = slice_index value.octets 0
@@ -56,3 +68,11 @@ pub record Splits (text value rest : Place) : Type 0 where
   pub some : 0 < length value.octets
   pub value_at : value.at ≡ text.at
   pub rest_at : rest.at ≡ text.at + length value.octets
+
+-- what a cursor had left is a value and what it has left then
+abbrev pub SplitsOff : Cursor → Cursor → Tlv → Type 0
+SplitsOff old new tlv = Splits (remaining old) (seen_tlv tlv) (remaining new)
+
+-- octets that stand at this offset are a value and the others behind it
+abbrev pub SplitsAt : ℕ → List ℕ → Tlv → List ℕ → Type 0
+SplitsAt at octets tlv others = Splits (text_at octets at) (seen_tlv tlv) (text_behind at tlv others)

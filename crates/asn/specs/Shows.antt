@@ -1,8 +1,9 @@
 -- What a value and a cursor show of the value that their octets are the encoding of.
-use Rattle.std.specs.Prelude.{◌≡◌, ℕ, ◌+◌, Option, None, Some, true, false}
+use Rattle.std.specs.Prelude.{◌≡◌, ℕ, ◌+◌, ◌++◌, List, Option, None, Some, true, false}
 use Rattle.der.specs.Value.{Value, Values, primitive, constructed, none, more}
 use Rattle.der.specs.Identifier.{is_constructed}
-use Rattle.der.specs.Encoding.{EncodesAt, EncodesAllAt}
+use Rattle.der.specs.Encoding.{EncodesAt, EncodesAllAt, Encodes}
+use Rattle.asn.specs.Place.{remaining}
 use Rattle.asn.specs.declared.tlv.Tlv.{Tlv}
 use Rattle.asn.specs.declared.tlv.Cursor.{Cursor}
 
@@ -27,3 +28,22 @@ ShowsNext depth none (Some tlv) left = ⊥
 ShowsNext depth (more value values) None left = ⊥
 ShowsNext depth (more value values) (Some tlv) left =
     EncodesAt depth tlv.whole.now value × Shows depth value tlv × EncodesAllAt depth left.octets.now values
+
+-- whatever value the octets are the encoding of, it is shown
+abbrev pub ShowsEncoded : List ℕ → Tlv → Type 0
+ShowsEncoded octets tlv = (value : Value) → Encodes octets value → Shows 1 value tlv
+
+-- whatever value is shown, at whatever depth, the cursor shows what stands inside it
+abbrev pub ShowsContents : Tlv → Option Cursor → Type 0
+ShowsContents tlv inside = (depth : ℕ) (value : Value) → Shows depth value tlv → ShowsInside depth value inside
+
+-- whatever values the old cursor has left, the next of them is shown, and the new cursor has the others left
+abbrev pub ShowsFirst : Cursor → Option Tlv → Cursor → Type 0
+ShowsFirst old next new =
+    (depth : ℕ) (values : Values) → EncodesAllAt depth (remaining old).octets values → ShowsNext depth values next new
+
+-- octets that begin with the encoding of a value are cut behind it
+abbrev pub CutsBehindValue : List ℕ → Tlv → List ℕ → Type 0
+CutsBehindValue octets tlv others =
+    (depth : ℕ) (value : Value) (front rest : List ℕ) → octets ≡ front ++ rest → EncodesAt depth front value
+    → (tlv.whole.now ≡ front) × (others ≡ rest)

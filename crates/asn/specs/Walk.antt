@@ -1,8 +1,10 @@
 -- Reading values from left to right, with the first fault that is met and its place.
 use Rattle.std.specs.Prelude.{◌≡◌, ◌==◌, ℕ, ℤ, Bool, true, false, List, [], ◌∷◌, Option, Some, None, Result, Ok, Err, if◌then◌else◌}
 use Rattle.std.specs.List.{list_any}
-use Rattle.asn.specs.Place.{Place, tag, body}
-use Rattle.asn.specs.Members.{Members, none_left, next_at}
+use Rattle.asn.specs.Place.{Place, seen_tlv, tag, body}
+use Rattle.asn.specs.Members.{Members, left, none_left, next_at}
+use Rattle.asn.specs.declared.tlv.Tlv.{Tlv}
+use Rattle.asn.specs.declared.tlv.Cursor.{Cursor}
 use Rattle.asn.specs.Time.{seconds_in}
 
 infixl 10 ◌>>=◌
@@ -14,6 +16,15 @@ abbrev pub ◌>>=◌ : {A B E : Type 0} → Result A E → (A → Result B E) �
 abbrev pub Gives : {X Y E : Type 0} → (X → Y) → Result X E → Result Y E → Type 0
 Gives view (Ok x) walk = walk ≡ Ok (view x)
 Gives view (Err e) walk = walk ≡ Err e
+
+-- what a function returned, seen by view, and the members that its cursor has left then, are what the step gives of those
+-- that it had left
+abbrev pub StepGives : {X Y E : Type 0} → (X → Y) → Result X E → Cursor → Cursor → (Members → Result (Y × Members) E) → Type 0
+StepGives view result old new step = Gives (λ x. (view x, left new)) result (step (left old))
+
+-- what a function that reads a value returned, seen by view, is what the walk gives of it
+abbrev pub ReadsAs : {X Y E : Type 0} → (X → Y) → Result X E → Tlv → (Place → Result Y E) → Type 0
+ReadsAs view result value read = Gives view result (read (seen_tlv value))
 
 abbrev pub seen : {X Y : Type 0} → (X → Y) → Option X → Option Y
 seen view None = None

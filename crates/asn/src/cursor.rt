@@ -1,15 +1,15 @@
 //! The value of a text, and the values inside a value, from left to right.
 
-ghost use Rattle.std.specs.Prelude.{◌≡◌, ◌↔◌, ◌+◌, ◌<◌, ◌^◌, ◌++◌, ℕ, List, length, slice_index, [], IsTrue, IsSome, IsOk, IfOk, IfErr, IfNone, IfSome, MatchOption, true};
-ghost use Rattle.der.specs.Value.{Value, Values};
+ghost use Rattle.std.specs.Prelude.{◌≡◌, ◌↔◌, ◌+◌, ◌<◌, ◌^◌, length, IsSome, IsOk, IfOk, IfErr, IfNone, IfSome, true};
+ghost use Rattle.der.specs.Value.{Value};
 ghost use Rattle.der.specs.Identifier.{is_constructed};
 ghost use Rattle.der.specs.Length.{contents_limit};
-ghost use Rattle.der.specs.Encoding.{EncodesAt, EncodesAllAt, Encodes};
+ghost use Rattle.der.specs.Encoding.{Encodes};
 ghost use Rattle.der.specs.FirstFault.{IsFirstFault};
 ghost use Rattle.asn.specs.Part.{IsWhole, BeginsEncoded};
-ghost use Rattle.asn.specs.Place.{seen_tlv, remaining, ends, front, behind, body_place, Splits};
-ghost use Rattle.asn.specs.Members.{left, members, with_first, none_left, next_at};
-ghost use Rattle.asn.specs.Shows.{Shows, ShowsInside, ShowsNext};
+ghost use Rattle.asn.specs.Place.{seen_tlv, remaining, text_at, text_behind, octets_left, ends, front, behind, body_place, SplitsAt, SplitsOff};
+ghost use Rattle.asn.specs.Members.{left, members, none_left, next_at, TakesFirst};
+ghost use Rattle.asn.specs.Shows.{ShowsEncoded, ShowsContents, ShowsFirst, CutsBehindValue};
 
 use crate::tlv::{Cursor, Tlv};
 use der::{Fault, Header, check, is_constructed_form};
@@ -19,11 +19,10 @@ use der::{Fault, Header, check, is_constructed_form};
 pub(crate) fn front_of<'a>(octets: &'a [u8], at: usize) -> (Tlv<'a>, &'a [u8])
     requires encoded { ∥ BeginsEncoded octets.now ∥₁ }
     requires fits { at + length octets.now < 2 ^ 64 }
-    ensures splits { Splits (record { octets = octets.now; at = at }) (seen_tlv result.0) (record { octets = result.1.now; at = at + length result.0.whole.now }) }
-    ensures first { seen_tlv result.0 ≡ front (record { octets = octets.now; at = at }) }
-    ensures others { record { octets = result.1.now; at = at + length result.0.whole.now } ≡ behind (record { octets = octets.now; at = at }) }
-    ensures value { (depth : ℕ) (value : Value) (front rest : List ℕ) → octets.now ≡ front ++ rest
-        → EncodesAt depth front value → (result.0.whole.now ≡ front) × (result.1.now ≡ rest) }
+    ensures splits { SplitsAt at octets.now result.0 result.1.now }
+    ensures first { seen_tlv result.0 ≡ front (text_at octets.now at) }
+    ensures others { text_behind at result.0 result.1.now ≡ behind (text_at octets.now at) }
+    ensures value { CutsBehindValue octets.now result.0 result.1.now }
 {
     let header = Header::known(octets);
     let (whole, rest) = octets.split_at(header.len + header.contents);
@@ -44,8 +43,8 @@ pub(crate) fn front_of<'a>(octets: &'a [u8], at: usize) -> (Tlv<'a>, &'a [u8])
 pub(crate) fn whole_at(octets: &[u8], at: usize) -> Tlv<'_>
     requires encoded { ∥ IsWhole octets.now ∥₁ }
     requires fits { at + length octets.now < 2 ^ 64 }
-    ensures place { seen_tlv result ≡ record { octets = octets.now; at = at } }
-    ensures shows { (value : Value) → Encodes octets.now value → Shows 1 value result }
+    ensures place { seen_tlv result ≡ text_at octets.now at }
+    ensures shows { ShowsEncoded octets.now result }
 {
     let (tlv, _) = front_of(octets, at);
     tlv
@@ -56,8 +55,8 @@ pub(crate) fn whole_at(octets: &[u8], at: usize) -> Tlv<'_>
 pub fn whole(octets: &[u8]) -> Result<Tlv<'_>, Fault>
     ensures accepts { IsOk result ↔ ((value : Value) × Encodes octets.now value) }
     ensures refuses { IfErr result (λ fault. IsFirstFault octets.now fault) }
-    ensures place { IfOk result (λ tlv. seen_tlv tlv ≡ record { octets = octets.now; at = 0 }) }
-    ensures shows { IfOk result (λ tlv. (value : Value) → Encodes octets.now value → Shows 1 value tlv) }
+    ensures place { IfOk result (λ tlv. seen_tlv tlv ≡ text_at octets.now 0) }
+    ensures shows { IfOk result (ShowsEncoded octets.now) }
 {
     check(octets)?;
     Ok(whole_at(octets, 0))
@@ -66,7 +65,7 @@ pub fn whole(octets: &[u8]) -> Result<Tlv<'_>, Fault>
 impl<'a> Tlv<'a> {
     /// The same value as a text of its own: its offset is 0, and those of the values inside count from it.
     pub fn alone(&self) -> Tlv<'a>
-        ensures place { seen_tlv result ≡ record { octets = self.now.whole.now; at = 0 } }
+        ensures place { seen_tlv result ≡ text_at self.now.whole.now 0 }
         ensures same { (result.tag ≡ self.now.tag) × (result.body.now ≡ self.now.body.now) }
     {
         Tlv {
@@ -90,12 +89,12 @@ impl<'a> Tlv<'a> {
     /// The values inside this one, in order; `None` where it is primitive.
     pub fn inside(&self) -> Option<Cursor<'a>>
         ensures constructed { IsSome result ↔ (is_constructed self.now.tag ≡ true) }
-        ensures place { IfSome result (λ cursor. remaining cursor ≡ body_place (seen_tlv self.now)) }
-        ensures body { IfSome result (λ cursor. (remaining cursor).octets ≡ self.now.body.now) }
-        ensures shorter { IfSome result (λ cursor. length (remaining cursor).octets < length self.now.whole.now) }
-        ensures bounded { IfSome result (λ cursor. length (remaining cursor).octets < contents_limit) }
-        ensures left { IfSome result (λ cursor. left cursor ≡ members (seen_tlv self.now)) }
-        ensures shows { (depth : ℕ) (value : Value) → Shows depth value self.now → ShowsInside depth value result }
+        ensures place { IfSome result (λ c. remaining c ≡ body_place (seen_tlv self.now)) }
+        ensures body { IfSome result (λ c. (remaining c).octets ≡ self.now.body.now) }
+        ensures shorter { IfSome result (λ c. octets_left c < length self.now.whole.now) }
+        ensures bounded { IfSome result (λ c. octets_left c < contents_limit) }
+        ensures left { IfSome result (λ c. left c ≡ members (seen_tlv self.now)) }
+        ensures shows { ShowsContents self.now result }
     {
         if is_constructed_form(self.tag) {
             Some(Cursor {
@@ -129,10 +128,10 @@ impl<'a> Cursor<'a> {
 
     /// The next value; `None`, and the cursor as it was, where none is left.
     pub fn next(&mut self) -> Option<Tlv<'a>>
-        ensures step { MatchOption result ((left self.old).values ≡ []) (λ tlv. left self.old ≡ with_first (seen_tlv tlv) (left self.new)) }
+        ensures step { TakesFirst self.old result self.new }
         ensures none { IfNone result (self.new ≡ self.old) }
-        ensures splits { IfSome result (λ tlv. Splits (remaining self.old) (seen_tlv tlv) (remaining self.new)) }
-        ensures shows { (depth : ℕ) (values : Values) → EncodesAllAt depth (remaining self.old).octets values → ShowsNext depth values result self.new }
+        ensures splits { IfSome result (SplitsOff self.old self.new) }
+        ensures shows { ShowsFirst self.old result self.new }
     {
         if self.end() {
             return None;

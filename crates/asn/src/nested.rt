@@ -30,10 +30,8 @@ impl<'a> Tlv<'a> {
     pub fn outermost(octets: &'a [u8]) -> Result<Tlv<'a>, (Rule, usize)>
         ensures { Gives seen_tlv result (outermost octets.now) }
     {
-        match judge(octets) {
-            Ok(()) => Ok(whole_at(octets, 0)),
-            Err(fault) => Err(fault),
-        }
+        judge(octets)?;
+        Ok(whole_at(octets, 0))
     }
 
     /// The one value that the contents are the encoding of, or the first fault in them, with its offset in the text handed

@@ -1,9 +1,8 @@
 //! Numbers of at most 20 octets, as a CRL number is (RFC 5280 5.2.3).
 
-ghost use Rattle.std.specs.Prelude.{◌≡◌, ◌<◌, ◌≤◌, ◌^◌, ℕ, length, pos, nat_eq, Some, IfSome, IfNone};
+ghost use Rattle.std.specs.Prelude.{◌≡◌, ◌<◌, ◌≤◌, ◌^◌, ℕ, length, nat_eq, Some, IfSome, IfNone};
 ghost use Rattle.std.specs.Ordering.{nat_cmp};
-ghost use Rattle.der.specs.Contents.{IsInteger};
-ghost use Rattle.asn.specs.Integer.{IsMagnitude, IsNumber20, binary_value, integer_value};
+ghost use Rattle.asn.specs.Integer.{IsMagnitude, HasNoMagnitude, IsNumber20, binary_value};
 ghost use Rattle.std.specs.Cmp.Rules.{comparing};
 ghost use Rattle.std.proofs.Common.{rules};
 
@@ -39,8 +38,7 @@ impl Model for Number20 {
 /// The octets of a number that is not negative, without those of zeros at the front.
 fn magnitude_of(content: &[u8]) -> Option<&[u8]>
     ensures some { IfSome result (λ magnitude. IsMagnitude content.now magnitude.now) }
-    ensures none { IfNone result
-        ((number : ℕ) → IsInteger content.now → integer_value content.now ≡ pos number → ⊥) }
+    ensures none { IfNone result (HasNoMagnitude content.now) }
 {
     match content {
         [0, second, ..] if *second < 128 => None,

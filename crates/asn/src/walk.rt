@@ -1,11 +1,11 @@
 //! Reading the values of a layout from left to right.
 
-ghost use Rattle.std.specs.Prelude.{◌≡◌, ◌<◌, true, length, IfOk, IfSome, OnErr};
+ghost use Rattle.std.specs.Prelude.{◌≡◌, ◌<◌, true, IfOk, IfSome, OnErr};
 ghost use Rattle.der.specs.Identifier.{is_constructed};
 ghost use Rattle.der.specs.Length.{contents_limit};
-ghost use Rattle.asn.specs.Place.{seen_tlv, remaining};
+ghost use Rattle.asn.specs.Place.{seen_tlv, octets_left};
 ghost use Rattle.asn.specs.Members.{left, members, begins};
-ghost use Rattle.asn.specs.Walk.{Gives, seen, is_a, required, choice, optional, any, next_or, ended, some, seconds, time, default_false};
+ghost use Rattle.asn.specs.Walk.{Gives, StepGives, seen, is_a, required, choice, optional, any, next_or, ended, some, seconds, time, default_false};
 
 use crate::identifier::{BOOLEAN, GENERALIZED_TIME, UTC_TIME};
 use crate::time::seconds_of_time;
@@ -27,7 +27,7 @@ impl<'a> Cursor<'a> {
     /// the enclosing value where none is left.
     #[tactic(auto, unfolding(crate::specs::Walk::required, crate::specs::Members::next_at, crate::specs::Walk::any))]
     pub fn required<F: Copy>(&mut self, tag: u8, fault: F) -> Result<Tlv<'a>, (F, usize)>
-        ensures walk { Gives (λ tlv. (seen_tlv tlv, left self.new)) result (required tag fault (left self.old)) }
+        ensures walk { StepGives seen_tlv result self.old self.new (required tag fault) }
         ensures tag { IfOk result (λ tlv. tlv.tag ≡ tag) }
         ensures passed { left self.new ≡ (any (left self.old)).1 }
     {
@@ -42,7 +42,7 @@ impl<'a> Cursor<'a> {
     /// end of the enclosing value where none is left.
     #[tactic(auto, unfolding(crate::specs::Walk::choice, crate::specs::Walk::check_that))]
     pub fn choice<F: Copy>(&mut self, tags: &[u8], fault: F) -> Result<Tlv<'a>, (F, usize)>
-        ensures walk { Gives (λ tlv. (seen_tlv tlv, left self.new)) result (choice tags.now fault (left self.old)) }
+        ensures walk { StepGives seen_tlv result self.old self.new (choice tags.now fault) }
         ensures passed { left self.new ≡ (any (left self.old)).1 }
     {
         let value = self.next_or(fault)?;
@@ -57,7 +57,7 @@ impl<'a> Cursor<'a> {
     /// the fault `layout`, as of `choice`, where it is neither; else `fault`, at the value, where it is no time.
     #[tactic(auto, unfolding(crate::specs::Walk::time))]
     pub fn time<F: Copy>(&mut self, layout: F, fault: F) -> Result<i64, (F, usize)>
-        ensures walk { Gives (λ moment. (moment, left self.new)) result (time layout fault (left self.old)) }
+        ensures walk { StepGives (λ moment. moment) result self.old self.new (time layout fault) }
         ensures passed { left self.new ≡ (any (left self.old)).1 }
     {
         let value = self.choice(&[UTC_TIME, GENERALIZED_TIME], layout)?;
@@ -76,7 +76,7 @@ impl<'a> Cursor<'a> {
     /// Takes a BOOLEAN DEFAULT FALSE, which is TRUE where it is there (X.690, 11.5); else the fault, at the BOOLEAN.
     #[tactic(auto, unfolding(crate::specs::Walk::default_false, crate::specs::Walk::any, crate::specs::Walk::optional))]
     pub fn default_false<F: Copy>(&mut self, fault: F) -> Result<bool, (F, usize)>
-        ensures walk { Gives (λ flag. (flag, left self.new)) result (default_false fault (left self.old)) }
+        ensures walk { StepGives (λ flag. flag) result self.old self.new (default_false fault) }
         ensures passed { OnErr result (left self.new ≡ (any (left self.old)).1) }
     {
         match self.optional(BOOLEAN) {
@@ -99,7 +99,7 @@ impl<'a> Cursor<'a> {
     /// Takes the next value, of any kind; the fault, at the end of the enclosing value, where none is left.
     #[tactic(auto, unfolding(crate::specs::Walk::next_or, crate::specs::Members::next_at, crate::specs::Walk::any))]
     pub fn next_or<F: Copy>(&mut self, fault: F) -> Result<Tlv<'a>, (F, usize)>
-        ensures walk { Gives (λ tlv. (seen_tlv tlv, left self.new)) result (next_or fault (left self.old)) }
+        ensures walk { StepGives seen_tlv result self.old self.new (next_or fault) }
         ensures passed { left self.new ≡ (any (left self.old)).1 }
     {
         let at = self.at();
@@ -162,7 +162,7 @@ impl<'a> Tlv<'a> {
     pub fn members(&self) -> Cursor<'a>
         requires { is_constructed self.now.tag ≡ true }
         ensures left { left result ≡ members (seen_tlv self.now) }
-        ensures bounded { length (remaining result).octets < contents_limit }
+        ensures bounded { octets_left result < contents_limit }
     {
         match self.inside() {
             Some(members) => members,

@@ -93,6 +93,11 @@ pub record ComponentsStandIn (text : List ℕ) (certificate : Certificate) : Typ
   pub key : StandsIn text (body_place certificate.key_info.key.value)
   pub signature : StandsIn text (body_place certificate.signature.value)
 
+-- in each text in which the components of the certificate stand, the fields tell them
+abbrev pub TellsComponents : code.Fields → Certificate → Type 0
+TellsComponents told certificate =
+    (text : List ℕ) → ComponentsStandIn text certificate → TellsFields text told certificate
+
 -- where the fault is one of DER, the number of the rule of DER that is broken
 abbrev pub der_number : CertRule → ℕ
 der_number (Der rule) = rule_number rule

@@ -1,7 +1,9 @@
 -- Parts of a text, by offset and length.
 use Rattle.std.specs.Prelude.{◌≡◌, ◌≤◌, ◌+◌, ℕ, List, slice_range, length, take}
 use Rattle.asn.specs.Part.{IsPartOf}
-use Rattle.asn.specs.Place.{Place, body, body_place}
+use Rattle.asn.specs.declared.tlv.Tlv.{Tlv}
+use Rattle.asn.specs.Place.{Place, seen_tlv, body, body_place}
+use Rattle.cert.specs.BitString.{bits_in}
 use Rattle.capi.specs.declared.fields.Part.{Part}
 
 -- where the part ends
@@ -16,6 +18,20 @@ pub record IsPart (text : List ℕ) (part : Part) (octets : List ℕ) : Type 0 w
 -- the place is a part of the text
 abbrev pub StandsIn : List ℕ → Place → Type 0
 StandsIn text place = IsPartOf text place.at place.octets
+
+-- in each text in which these octets stand at the offset, the part is these octets
+abbrev pub IsPartAt : ℕ → List ℕ → Part → Type 0
+IsPartAt offset octets part = (text : List ℕ) → IsPartOf text offset octets → IsPart text part octets
+
+-- in each text in which the contents of the value stand, the part is these contents
+abbrev pub IsContentsOf : Tlv → Part → Type 0
+IsContentsOf value part =
+    (text : List ℕ) → StandsIn text (body_place (seen_tlv value)) → IsPart text part (body (seen_tlv value))
+
+-- the same of the bits of a BIT STRING, behind the count of unused bits
+abbrev pub IsBitsOf : Tlv → Part → Type 0
+IsBitsOf value part =
+    (text : List ℕ) → StandsIn text (body_place (seen_tlv value)) → IsPart text part (bits_in (body (seen_tlv value)))
 
 -- where the bits of a BIT STRING begin, behind the count of unused bits
 abbrev pub bits_at : Place → ℕ

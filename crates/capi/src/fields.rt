@@ -51,16 +51,14 @@ pub struct Fields {
 }
 
 impl Part {
-    ghost use Rattle.std.specs.Prelude.{◌≡◌, ◌<◌, ◌≤◌, ◌+◌, ◌^◌, ℕ, List, length};
-    ghost use Rattle.asn.specs.Part.{IsPartOf};
-    ghost use Rattle.asn.specs.Place.{seen_tlv, body, body_place};
-    ghost use Rattle.cert.specs.BitString.{bits_in};
+    ghost use Rattle.std.specs.Prelude.{◌≡◌, ◌<◌, ◌+◌, length};
+    ghost use Rattle.asn.specs.Place.{seen_tlv, body_place};
     ghost use Rattle.names.specs.GeneralView.{name_contents};
-    ghost use Rattle.capi.specs.Parts.{IsPart, StandsIn, bits_at};
+    ghost use Rattle.capi.specs.Parts.{IsPartAt, IsContentsOf, IsBitsOf, bits_at};
 
     /// The octets that stand at this offset.
     fn at(offset: usize, octets: &[u8]) -> Part
-        ensures part { (text : List ℕ) → IsPartOf text offset octets.now → IsPart text result octets.now }
+        ensures part { IsPartAt offset octets.now result }
         ensures place { result.offset ≡ offset }
     {
         Part {
@@ -71,7 +69,7 @@ impl Part {
 
     /// The whole value.
     fn whole(value: Tlv<'_>) -> Part
-        ensures part { (text : List ℕ) → StandsIn text (seen_tlv value.entry) → IsPart text result value.entry.whole.now }
+        ensures part { IsPartAt value.entry.at value.entry.whole.now result }
         ensures place { result.offset ≡ value.entry.at }
     {
         Part::at(value.at, value.whole)
@@ -79,8 +77,7 @@ impl Part {
 
     /// The whole name.
     fn name(name: &Name<'_>) -> Part
-        ensures part { (text : List ℕ) → IsPartOf text (name_contents name.now).at (name_contents name.now).octets
-            → IsPart text result (name_contents name.now).octets }
+        ensures part { IsPartAt (name_contents name.now).at (name_contents name.now).octets result }
         ensures place { result.offset ≡ (name_contents name.now).at }
     {
         Part::at(name.offset(), name.raw())
@@ -88,7 +85,7 @@ impl Part {
 
     /// The contents of the value.
     fn contents(value: Tlv<'_>) -> Part
-        ensures part { (text : List ℕ) → StandsIn text (body_place (seen_tlv value.entry)) → IsPart text result (body (seen_tlv value.entry)) }
+        ensures part { IsContentsOf value.entry result }
         ensures place { result.offset ≡ (body_place (seen_tlv value.entry)).at }
     {
         Part::at(value.body_at(), value.body)
@@ -96,7 +93,7 @@ impl Part {
 
     /// The contents of the BIT STRING, behind the count of unused bits.
     fn bits(value: Tlv<'_>) -> Part
-        ensures part { (text : List ℕ) → StandsIn text (body_place (seen_tlv value.entry)) → IsPart text result (bits_in (body (seen_tlv value.entry))) }
+        ensures part { IsBitsOf value.entry result }
         ensures place { result.offset ≡ bits_at (seen_tlv value.entry) }
     {
         match value.body {
@@ -107,9 +104,9 @@ impl Part {
 }
 
 impl ExtensionFields {
-    ghost use Rattle.std.specs.Prelude.{◌≡◌, ◌<◌, ◌^◌, ℕ, Some};
+    ghost use Rattle.std.specs.Prelude.{◌≡◌, ◌<◌, Some};
     ghost use Rattle.cert.specs.Extensions.{seen_extensions};
-    ghost use Rattle.cert.specs.KeyUsage.{seen_key_usage, has_bit};
+    ghost use Rattle.cert.specs.KeyUsage.{seen_key_usage};
     ghost use Rattle.capi.specs.Fields.{TellsExtensions, bits_below};
 
     /// Bit n of the number is bit n of the key usage, of the nine that have names.
@@ -160,14 +157,12 @@ impl ExtensionFields {
 }
 
 impl Fields {
-    ghost use Rattle.std.specs.Prelude.{ℕ, List};
     ghost use Rattle.cert.specs.Certificate.{seen_certificate};
-    ghost use Rattle.capi.specs.Fields.{TellsFields, AreAtComponents, ComponentsStandIn};
+    ghost use Rattle.capi.specs.Fields.{TellsComponents, AreAtComponents};
 
     /// The fields of the certificate, with the offsets of its components.
     pub(crate) fn of(certificate: &Certificate<'_>) -> Fields
-        ensures parts { (text : List ℕ) → ComponentsStandIn text (seen_certificate certificate.now)
-            → TellsFields text result (seen_certificate certificate.now) }
+        ensures parts { TellsComponents result (seen_certificate certificate.now) }
         ensures places { AreAtComponents result (seen_certificate certificate.now) }
     {
         let key_info = certificate.subject_public_key_info;

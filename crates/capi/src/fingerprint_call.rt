@@ -10,9 +10,9 @@ pub extern "C" fn x509check_fingerprint(
     key_info: &[u8],
     message: &[u8],
     signature: &[u8],
-    fingerprint: &mut [u8; 32],
+    print: &mut [u8; 32],
 )
-    ensures { fingerprint.new ≡ fingerprint_of algorithm.now key_info.now message.now signature.now }
+    ensures { print.new ≡ fingerprint_of algorithm.now key_info.now message.now signature.now }
 {
-    *fingerprint = path_verifiers::fingerprint(algorithm, key_info, message, signature);
+    *print = path_verifiers::fingerprint(algorithm, key_info, message, signature);
 }

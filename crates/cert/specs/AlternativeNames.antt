@@ -1,16 +1,21 @@
 -- subjectAltName (RFC 5280, 4.2.1.6): SEQUENCE SIZE (1..MAX) OF GeneralName
-use Rattle.std.specs.Prelude.{◌≡◌, ◌<◌, ◌≤◌, ◌↔◌, ℕ, List, [], ◌∷◌, ◌++◌, length, is_some, Result, Ok}
+use Rattle.std.specs.Prelude.{◌≡◌, ◌<◌, ◌≤◌, ◌↔◌, ℕ, List, [], ◌∷◌, ◌++◌, length, map, is_some, Result, Ok}
+use Rattle.std.specs.Global.{Vec}
+use Rattle.names.specs.declared.general.General.{General}
+use Rattle.names.specs.GeneralView.{general_name}
 use Rattle.std.specs.List.{AllZip}
 use Rattle.asn.specs.DerLaws.{AreOctets}
 use Rattle.asn.specs.Part.{IsWhole}
-use Rattle.asn.specs.Place.{Place, tag, body, body_place}
-use Rattle.asn.specs.Members.{members}
+use Rattle.asn.specs.Place.{Place, seen_tlv, tag, body, body_place}
+use Rattle.asn.specs.Members.{Members, members}
 use Rattle.asn.specs.Walk.{◌>>=◌, check_that, is_a, some, each}
 use Rattle.asn.specs.Judgement.{nested}
 use Rattle.names.specs.NameRule.TheVariants.{NameLayout}
 use Rattle.names.specs.GeneralLayout.{GeneralName, form_of_identifier, general}
 use Rattle.names.specs.GeneralForms.{IsGeneralName}
-use Rattle.cert.specs.Fault.{as_der, as_name}
+use Rattle.cert.specs.Fault.{as_der, as_name, GivesUnlessFull}
+use Rattle.cert.specs.declared.fault.CertFault.{CertFault}
+use Rattle.asn.specs.declared.tlv.Tlv.{Tlv}
 use Rattle.cert.specs.Limit.{has_room}
 use Rattle.cert.specs.declared.fault.CertRule.{CertRule}
 use Rattle.cert.specs.declared.fault.CertRule.TheVariants.{Name, ExtensionValue}
@@ -48,3 +53,14 @@ abbrev pub AlternativeNamesAreExact : Type 0
 AlternativeNamesAreExact =
     (octet_string : Place) (names : List GeneralName) → AreOctets (body octet_string) →
     (alternative_names octet_string ≡ Ok names) ↔ AreAlternativeNames octet_string names
+
+abbrev pub seen_names : Vec General → List GeneralName
+seen_names names = map general_name names.items
+
+-- all names, in order
+abbrev pub all_names : Members → Result (List GeneralName) (CertRule × ℕ)
+all_names left = each one_more_name [] left.values
+
+-- The names before and after one more is read.
+abbrev pub AddsName : Tlv → Vec General → Vec General → Result (Unit {0}) CertFault → Type 0
+AddsName value old new result = GivesUnlessFull (λ _. seen_names new) result (one_more_name (seen_names old) (seen_tlv value))

@@ -2,18 +2,22 @@
 use Rattle.std.specs.Prelude.{ℕ, Bool, List, Option, Some, None, Result, Ok}
 use Rattle.std.specs.Str.{bytes_eq}
 use Rattle.asn.specs.Place.{Place, seen_tlv, body}
-use Rattle.asn.specs.Members.{Members, members}
+use Rattle.asn.specs.Members.{Members, left, members}
 use Rattle.asn.specs.Walk.{◌>>=◌, is_a, next_or, optional, ended, check_that}
 use Rattle.asn.specs.Judgement.{outermost}
-use Rattle.names.specs.DistinguishedName.{matching}
+use Rattle.names.specs.DistinguishedName.{NamesMatch, matching}
 use Rattle.names.specs.GeneralLayout.{NameContents}
 use Rattle.names.specs.GeneralView.{name_contents}
 use Rattle.cert.specs.declared.fault.CertRule.{CertRule}
 use Rattle.cert.specs.declared.fault.CertRule.TheVariants as R
 use Rattle.cert.specs.declared.version.Version.{Version}
+use Rattle.cert.specs.declared.algorithm.AlgorithmIdentifier as algorithm
 use Rattle.cert.specs.declared.certificate.Certificate as code
 use Rattle.cert.specs.declared.certificate.TbsCertificate as signed_part
-use Rattle.cert.specs.Fault.{as_der}
+use Rattle.cert.specs.Fault.{as_der, GivesUnlessFull}
+use Rattle.cert.specs.declared.fault.CertFault.{CertFault}
+use Rattle.cert.specs.declared.extensions.Extensions as code_of
+use Rattle.asn.specs.declared.tlv.Cursor.{Cursor}
 use Rattle.cert.specs.AlgorithmIdentifier.{AlgorithmIdentifier, seen_algorithm}
 use Rattle.cert.specs.Validity.{Validity, seen_validity}
 use Rattle.cert.specs.SubjectPublicKeyInfo.{SubjectPublicKeyInfo, seen_key_info}
@@ -34,6 +38,11 @@ extensions_in version (Some explicit) left = do
 
 unfoldable pub optional_extensions : Version → Members → Result (Extensions × Members) (CertRule × ℕ)
 optional_extensions version left = extensions_in version (optional 0xA3 left).0 (optional 0xA3 left).1
+
+-- What is taken of a cursor before and after them.
+abbrev pub TakesOptionalExtensions : Version → Cursor → Cursor → Result code_of.Extensions CertFault → Type 0
+TakesOptionalExtensions version old new result =
+    GivesUnlessFull (λ read. (seen_extensions read, left new)) result (optional_extensions version (left old))
 
 -- TBSCertificate ::= SEQUENCE { version [0], serialNumber, signature, issuer, validity, subject, subjectPublicKeyInfo,
 -- issuerUniqueID [1], subjectUniqueID [2], extensions [3] }
@@ -58,9 +67,21 @@ tbs_certificate value = do
 unfoldable pub same_algorithm : AlgorithmIdentifier → Place → Result (Unit {0}) (CertRule × ℕ)
 same_algorithm inner value = check_that (bytes_eq value.octets inner.value.octets) R.AlgorithmsDiffer value.at
 
+-- the next value, which is signatureAlgorithm
+abbrev pub next_same_algorithm : AlgorithmIdentifier → Members → Result (Unit {0} × Members) (CertRule × ℕ)
+next_same_algorithm inner left = component 0x30 (same_algorithm inner) left
+
+-- the same, where the algorithm identifier in the signed part was read
+abbrev pub repeats_algorithm : algorithm.AlgorithmIdentifier → Members → Result (Unit {0} × Members) (CertRule × ℕ)
+repeats_algorithm inner left = next_same_algorithm (seen_algorithm inner) left
+
 -- signatureValue (4.1.1.3): a BIT STRING of octets, with no bit unused
 unfoldable pub signature_value : Place → Result BitString (CertRule × ℕ)
 signature_value value = check_that (has_no_unused_bits (body value)) R.SignatureBits value.at >>= λ whole. Ok (bit_string_at value)
+
+-- the next value, which is signatureValue
+abbrev pub next_signature : Members → Result (BitString × Members) (CertRule × ℕ)
+next_signature left = component 0x03 signature_value left
 
 -- The fields of a certificate. What is a part of its octets is told with its place.
 pub record Certificate : Type 0 where
@@ -112,8 +133,8 @@ certificate_at value = do
   sequence ← is_a 0x30 R.Layout value
   signed ← next_or R.Layout (members value)
   tbs ← tbs_certificate signed.0
-  algorithm ← component 0x30 (same_algorithm tbs.head.signature) signed.1
-  signature ← component 0x03 signature_value algorithm.1
+  algorithm ← next_same_algorithm tbs.head.signature signed.1
+  signature ← next_signature algorithm.1
   done ← ended R.Layout signature.1
   Ok (certificate_with value.octets signed.0 tbs signature.0)
 
@@ -121,5 +142,8 @@ unfoldable pub certificate : List ℕ → Result Certificate (CertRule × ℕ)
 certificate octets = as_der (outermost octets) >>= λ value. certificate_at value
 
 -- subject and issuer match (6.1)
+abbrev pub IsSelfIssued : Certificate → Type 0
+IsSelfIssued certificate = NamesMatch certificate.subject.rdns certificate.issuer.rdns
+
 unfoldable pub is_self_issued : Certificate → Bool
 is_self_issued certificate = matching certificate.subject.rdns certificate.issuer.rdns

@@ -1,9 +1,9 @@
 -- What the extensions of a certificate say (RFC 5280, 4.2).
-use Rattle.std.specs.Prelude.{ℕ, ◌==◌, ◌&&◌, Bool, true, false, not, List, [], ◌∷◌, ◌++◌, map, Option, Some, None, Result, Ok, if◌then◌else◌}
+use Rattle.std.specs.Prelude.{◌≡◌, ℕ, ◌==◌, ◌&&◌, Bool, true, false, not, List, [], ◌∷◌, ◌++◌, map, Option, Some, None, Result, Ok, if◌then◌else◌}
 use Rattle.std.specs.Str.{bytes_eq}
 use Rattle.std.specs.FinSet.{empty, contains, insert}
-use Rattle.asn.specs.Place.{Place}
-use Rattle.asn.specs.Members.{members}
+use Rattle.asn.specs.Place.{Place, seen_tlv}
+use Rattle.asn.specs.Members.{Members, members}
 use Rattle.asn.specs.Walk.{◌>>=◌, seen, check_that, is_a, some, each}
 use Rattle.asn.specs.Oid.{oid_contents}
 use Rattle.names.specs.GeneralLayout.{GeneralName}
@@ -14,7 +14,11 @@ use Rattle.cert.specs.declared.extension_kind.ExtensionKind.{ExtensionKind}
 use Rattle.cert.specs.declared.extension_kind.ExtensionKind.TheVariants as Kind
 use Rattle.cert.specs.declared.extensions.Extensions as code
 use Rattle.cert.specs.declared.extensions.Taken as taken
-use Rattle.cert.specs.Extension.{Extension, extension}
+use Rattle.cert.specs.Extension.{Extension, extension, seen_extension}
+use Rattle.cert.specs.declared.extension.Extension as read
+use Rattle.cert.specs.declared.fault.CertFault.{CertFault}
+use Rattle.cert.specs.Fault.{GivesUnlessFull}
+use Rattle.asn.specs.declared.tlv.Tlv.{Tlv}
 use Rattle.cert.specs.KeyUsage.{key_usage, seen_key_usage}
 use Rattle.cert.specs.BasicConstraints.{BasicConstraints, basic_constraints, seen_basic_constraints}
 use Rattle.cert.specs.AlternativeNames.{alternative_names}
@@ -206,3 +210,21 @@ extensions value = do
   one ← some Layout (members value)
   taken ← each one_extension nothing_taken ((members value).values)
   Ok (taken.told)
+
+-- all extensions, in order
+abbrev pub all_extensions : Members → Result Taken (CertRule × ℕ)
+all_extensions left = each one_extension nothing_taken left.values
+
+-- What is known of the extensions before and after the OCTET STRING of one of that kind is read.
+abbrev pub TellsExtension : ExtensionKind → Tlv → code.Extensions → code.Extensions → Result (Unit {0}) CertFault → Type 0
+TellsExtension kind octet_string old new result =
+    GivesUnlessFull (λ _. seen_extensions new) result (told_by kind (seen_tlv octet_string) (seen_extensions old))
+
+-- the type of an extension is listed, if it is critical and not recognised
+abbrev pub NotesExtension : read.Extension → code.Extensions → code.Extensions → Type 0
+NotesExtension extension old new = seen_extensions new ≡ noted (seen_extension extension) (seen_extensions old)
+
+-- What was taken before and after one more extension is read.
+abbrev pub TakesExtension : Tlv → taken.Taken → taken.Taken → Result (Unit {0}) CertFault → Type 0
+TakesExtension value old new result =
+    GivesUnlessFull (λ _. seen_taken new) result (one_extension (seen_taken old) (seen_tlv value))

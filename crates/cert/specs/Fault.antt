@@ -1,5 +1,7 @@
 -- The numbers and names of the rules, and how faults of the layers below are passed on.
 use Rattle.std.specs.Prelude.{◌≡◌, ℕ, List, codes, Option, Some, None, Result, Ok, Err}
+use Rattle.asn.specs.declared.tlv.Tlv.{Tlv}
+use Rattle.asn.specs.Place.{Place, seen_tlv}
 use Rattle.asn.specs.Rule.{Rule}
 use Rattle.names.specs.NameRule.{NameRule}
 use Rattle.names.specs.Fault.{fault_number, fault_name}
@@ -67,3 +69,7 @@ FailsUnlessFull (Refused rule at) walk = walk ≡ Err (rule, at)
 abbrev pub GivesUnlessFull : {X Y : Type 0} → (X → Y) → Result X CertFault → Result Y (CertRule × ℕ) → Type 0
 GivesUnlessFull view (Ok x) walk = walk ≡ Ok (view x)
 GivesUnlessFull view (Err fault) walk = FailsUnlessFull fault walk
+
+-- the same of a function that reads a value
+abbrev pub ReadsUnlessFull : {X Y : Type 0} → (X → Y) → Result X CertFault → Tlv → (Place → Result Y (CertRule × ℕ)) → Type 0
+ReadsUnlessFull view result value read = GivesUnlessFull view result (read (seen_tlv value))

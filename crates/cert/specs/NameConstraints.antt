@@ -2,16 +2,21 @@
 -- SEQUENCE { permittedSubtrees [0] GeneralSubtrees OPTIONAL, excludedSubtrees [1] GeneralSubtrees OPTIONAL }
 use Rattle.std.specs.Prelude.{◌≡◌, ◌+◌, ◌<◌, ◌≤◌, ◌↔◌, ℕ, ◌-◌, ◌||◌, not, List, [], ◌∷◌, ◌++◌, length, map, Option, Some, None, Result, Ok}
 use Rattle.std.specs.List.{AllZip}
+use Rattle.std.specs.Global.{Vec}
+use Rattle.names.specs.declared.subtree.Subtree.{Subtree}
 use Rattle.asn.specs.DerLaws.{AreOctets}
 use Rattle.asn.specs.Part.{IsWhole}
-use Rattle.asn.specs.Place.{Place, tag, body, body_place}
-use Rattle.asn.specs.Members.{Members, members, begins, next_at}
+use Rattle.asn.specs.Place.{Place, seen_tlv, tag, body, body_place}
+use Rattle.asn.specs.Members.{Members, left, members, begins, next_at}
 use Rattle.asn.specs.Walk.{◌>>=◌, check_that, is_a, optional, next_or, some, ended, each}
 use Rattle.asn.specs.Judgement.{nested}
 use Rattle.names.specs.GeneralLayout.{SubtreeBase, base}
 use Rattle.names.specs.GeneralView.{subtree_base}
 use Rattle.names.specs.GeneralForms.{IsSubtreeBase}
-use Rattle.cert.specs.Fault.{as_der, as_name}
+use Rattle.cert.specs.Fault.{as_der, as_name, GivesUnlessFull}
+use Rattle.cert.specs.declared.fault.CertFault.{CertFault}
+use Rattle.asn.specs.declared.tlv.Tlv.{Tlv}
+use Rattle.asn.specs.declared.tlv.Cursor.{Cursor}
 use Rattle.cert.specs.Limit.{has_room}
 use Rattle.cert.specs.declared.fault.CertRule.{CertRule}
 use Rattle.cert.specs.declared.fault.CertRule.TheVariants.{ExtensionValue, SubtreeBounds}
@@ -64,6 +69,11 @@ subtrees_in most (Some list) left = do
 unfoldable pub subtrees : ℕ → ℕ → Members → Result (List SubtreeBase × Members) (CertRule × ℕ)
 subtrees most identifier left = subtrees_in most (optional identifier left).0 (optional identifier left).1
 
+-- What is taken of a cursor before and after them.
+abbrev pub TakesSubtrees : ℕ → ℕ → Cursor → Cursor → Result (Vec Subtree) CertFault → Type 0
+TakesSubtrees most identifier old new result =
+    GivesUnlessFull (λ all. (map subtree_base all.items, left new)) result (subtrees most identifier (left old))
+
 -- The checks in their order.
 unfoldable pub name_constraints : Place → Result NameConstraints (CertRule × ℕ)
 name_constraints octet_string = do
@@ -104,3 +114,15 @@ abbrev pub NameConstraintsAreExact : Type 0
 NameConstraintsAreExact =
     (octet_string : Place) (fields : NameConstraints) → AreOctets (body octet_string) →
     (name_constraints octet_string ≡ Ok fields) ↔ IsNameConstraints octet_string fields
+
+abbrev pub seen_bases : Vec Subtree → List SubtreeBase
+seen_bases subtrees = map subtree_base subtrees.items
+
+-- all subtrees, at most so many, in order
+abbrev pub all_subtrees : ℕ → Members → Result (List SubtreeBase) (CertRule × ℕ)
+all_subtrees most left = each (one_more_subtree most) [] left.values
+
+-- The subtrees before and after one more is read.
+abbrev pub AddsSubtree : ℕ → Tlv → Vec Subtree → Vec Subtree → Result (Unit {0}) CertFault → Type 0
+AddsSubtree most value old new result =
+    GivesUnlessFull (λ _. seen_bases new) result (one_more_subtree most (seen_bases old) (seen_tlv value))

@@ -1,13 +1,18 @@
 -- extKeyUsage (RFC 5280, 4.2.1.12): SEQUENCE SIZE (1..MAX) OF OBJECT IDENTIFIER
-use Rattle.std.specs.Prelude.{◌≡◌, ◌<◌, ◌↔◌, ℕ, List, [], ◌∷◌, ◌++◌, length, Result, Ok}
+use Rattle.std.specs.Prelude.{◌≡◌, ◌<◌, ◌↔◌, ℕ, List, [], ◌∷◌, ◌++◌, length, map, Result, Ok}
+use Rattle.std.specs.Global.{Vec}
+use Rattle.asn.specs.declared.oid.Oid.{Oid}
+use Rattle.asn.specs.Oid.{oid_contents}
 use Rattle.std.specs.List.{AllZip}
 use Rattle.asn.specs.DerLaws.{AreOctets}
 use Rattle.asn.specs.Part.{IsWhole}
-use Rattle.asn.specs.Place.{Place, tag, body, body_place}
-use Rattle.asn.specs.Members.{members}
+use Rattle.asn.specs.Place.{Place, seen_tlv, tag, body, body_place}
+use Rattle.asn.specs.Members.{Members, members}
 use Rattle.asn.specs.Walk.{◌>>=◌, is_a, some, each}
 use Rattle.asn.specs.Judgement.{nested}
-use Rattle.cert.specs.Fault.{as_der}
+use Rattle.cert.specs.Fault.{as_der, GivesUnlessFull}
+use Rattle.cert.specs.declared.fault.CertFault.{CertFault}
+use Rattle.asn.specs.declared.tlv.Tlv.{Tlv}
 use Rattle.cert.specs.declared.fault.CertRule.{CertRule}
 use Rattle.cert.specs.declared.fault.CertRule.TheVariants.{ExtensionValue}
 
@@ -40,3 +45,15 @@ abbrev pub PurposesAreExact : Type 0
 PurposesAreExact =
     (octet_string : Place) (oids : List (List ℕ)) → AreOctets (body octet_string) →
     (purposes octet_string ≡ Ok oids) ↔ ArePurposes octet_string oids
+
+abbrev pub seen_purposes : Vec Oid → List (List ℕ)
+seen_purposes oids = map oid_contents oids.items
+
+-- all purposes, in order
+abbrev pub all_purposes : Members → Result (List (List ℕ)) (CertRule × ℕ)
+all_purposes left = each one_more_purpose [] left.values
+
+-- The purposes before and after one more is read.
+abbrev pub AddsPurpose : Tlv → Vec Oid → Vec Oid → Result (Unit {0}) CertFault → Type 0
+AddsPurpose value old new result =
+    GivesUnlessFull (λ _. seen_purposes new) result (one_more_purpose (seen_purposes old) (seen_tlv value))

@@ -32,6 +32,10 @@ component identifier read left = do
   found ← read value.0
   Ok (found, value.1)
 
+-- the next value, which is an algorithm identifier (4.1.1.2)
+abbrev pub next_algorithm : Members → Result (AlgorithmIdentifier × Members) (CertRule × ℕ)
+next_algorithm left = next_read (algorithm_identifier R.Layout) left
+
 -- serialNumber (4.1.2.2): 1 to 32 octets, of any sign
 abbrev pub is_serial : List ℕ → Bool
 is_serial contents = nat_lt 0 (length contents) && nat_lt (length contents) 33
@@ -42,6 +46,10 @@ serial_number value = check_that (is_serial (body value)) R.Serial value.at >>= 
 -- a name (4.1.2.4, 4.1.2.6)
 unfoldable pub distinguished_name : Place → Result NameContents (CertRule × ℕ)
 distinguished_name value = as_name (name value) >>= λ done. Ok (contents_at value)
+
+-- the next value, which is a name
+abbrev pub next_name : Members → Result (NameContents × Members) (CertRule × ℕ)
+next_name left = component 0x30 distinguished_name left
 
 -- issuer (4.1.2.4): a name that is not empty
 abbrev pub is_empty_name : List RdnMap → Bool
@@ -77,7 +85,7 @@ unfoldable pub tbs_head : Members → Result (TbsHead × Members) (CertRule × �
 tbs_head left = do
   version ← version left
   serial ← component 0x02 serial_number version.1
-  signature ← next_read (algorithm_identifier R.Layout) serial.1
+  signature ← next_algorithm serial.1
   issuer ← component 0x30 issuer signature.1
   validity ← next_read validity issuer.1
   Ok (record { version = version.0; serial = serial.0; signature = signature.0; issuer = issuer.0; validity = validity.0 }, validity.1)
@@ -92,7 +100,7 @@ seen_subject read = record { name = name_contents read.name; key_info = seen_key
 
 unfoldable pub tbs_subject : Version → Members → Result (Subject × Members) (CertRule × ℕ)
 tbs_subject version left = do
-  name ← component 0x30 distinguished_name left
+  name ← next_name left
   key_info ← next_read key_info name.1
   issuer_id ← unique_id 0x81 version key_info.1
   subject_id ← unique_id 0x82 version issuer_id

@@ -1,11 +1,9 @@
 //! subjectAltName: further names of a certificate's subject (RFC 5280, 4.2.1.6).
 
-ghost use Rattle.std.specs.Prelude.{[], map};
-ghost use Rattle.asn.specs.Reading.{seen_tlv, left, Gives, each};
+ghost use Rattle.asn.specs.Reading.{seen_tlv, left, Gives};
 ghost use Rattle.names.specs.GeneralLayout.{general};
-ghost use Rattle.names.specs.GeneralView.{general_name};
-ghost use Rattle.cert.specs.Fault.{as_name, GivesUnlessFull};
-ghost use Rattle.cert.specs.AlternativeNames.{has_form, one_more_name, alternative_names};
+ghost use Rattle.cert.specs.Fault.{GivesUnlessFull, ReadsUnlessFull};
+ghost use Rattle.cert.specs.AlternativeNames.{has_form, alternative_names, seen_names, all_names, AddsName};
 
 use crate::contained::contained_value;
 use crate::fault::{CertFault, CertRule, Refusal, name_refusal};
@@ -28,8 +26,7 @@ fn check_form(value: Tlv<'_>) -> Result<(), Refusal>
 /// Adds the name that the value is.
 #[tactic(auto, unfolding(crate::specs::AlternativeNames::one_more_name))]
 fn push_name<'a>(all: &mut Vec<General<'a>>, value: Tlv<'a>) -> Result<(), CertFault>
-    ensures { GivesUnlessFull (λ _. map general_name all.new.items) result
-        (one_more_name (map general_name all.old.items) (seen_tlv value.entry)) }
+    ensures { AddsName value.entry all.old all.new result }
 {
     check_form(value)?;
     check_room(MOST_NAMES, all.len(), value.at)?;
@@ -40,16 +37,12 @@ fn push_name<'a>(all: &mut Vec<General<'a>>, value: Tlv<'a>) -> Result<(), CertF
 
 /// The names that the values are.
 fn name_list<'a>(alloc: Global, members: Cursor<'a>) -> Result<Vec<General<'a>>, CertFault>
-    ensures { GivesUnlessFull (λ all. map general_name all.items) result
-        (each one_more_name [] ((left members.entry).values)) }
+    ensures { GivesUnlessFull seen_names result (all_names (left members.entry)) }
 {
     let mut members = members;
     let mut all = Vec::new(alloc);
     while let Some(value) = members.next() {
-        match push_name(&mut all, value) {
-            Ok(()) => {}
-            Err(fault) => return Err(fault),
-        }
+        push_name(&mut all, value)?;
     }
     Ok(all)
 }
@@ -65,7 +58,7 @@ pub(crate) fn read_alternative_names<'a>(
     alloc: Global,
     octet_string: Tlv<'a>,
 ) -> Result<Vec<General<'a>>, CertFault>
-    ensures { GivesUnlessFull (λ all. map general_name all.items) result (alternative_names (seen_tlv octet_string.entry)) }
+    ensures { ReadsUnlessFull seen_names result octet_string.entry alternative_names }
 {
     let value = contained_value(octet_string)?;
     value.is_a(SEQUENCE, CertRule::ExtensionValue)?;

@@ -1,7 +1,7 @@
 //! basicConstraints: whether a certificate is that of an authority, and how long a path from it may be (RFC 5280, 4.2.1.9).
 
 ghost use Rattle.std.specs.Prelude.{◌≡◌};
-ghost use Rattle.asn.specs.Reading.{seen_tlv, left, Gives};
+ghost use Rattle.asn.specs.Reading.{StepGives, ReadsAs};
 ghost use Rattle.cert.specs.BasicConstraints.{is_negative, saturated, path_length, basic_constraints, seen_basic_constraints};
 
 use crate::contained::contained_value;
@@ -40,7 +40,7 @@ fn saturated_number(octets: &[u8]) -> u32
 /// The path length, where it is there; else the fault, at it, where it is negative.
 #[tactic(auto, unfolding(crate::specs::BasicConstraints::path_length))]
 fn take_path_length(members: &mut Cursor<'_>) -> Result<Option<u32>, Refusal>
-    ensures { Gives (λ number. (number, left members.new)) result (path_length (left members.old)) }
+    ensures { StepGives (λ number. number) result members.old members.new path_length }
 {
     match members.optional(INTEGER) {
         None => Ok(None),
@@ -60,7 +60,7 @@ impl BasicConstraints {
     /// length without `ca` is accepted.
     #[tactic(auto, unfolding(crate::specs::BasicConstraints::basic_constraints))]
     pub fn read(octet_string: Tlv<'_>) -> Result<BasicConstraints, Refusal>
-        ensures { Gives seen_basic_constraints result (basic_constraints (seen_tlv octet_string.entry)) }
+        ensures { ReadsAs seen_basic_constraints result octet_string.entry basic_constraints }
     {
         let value = contained_value(octet_string)?;
         value.is_a(SEQUENCE, CertRule::ExtensionValue)?;

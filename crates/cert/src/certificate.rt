@@ -1,15 +1,11 @@
 //! Certificates (RFC 5280, 4.1).
 
 ghost use Rattle.std.specs.Prelude.{◌≡◌, IsTrue, ◌↔◌};
-ghost use Rattle.asn.specs.Reading.{seen_tlv, left, Gives};
+ghost use Rattle.asn.specs.Reading.{seen_tlv, Gives, StepGives};
 ghost use Rattle.asn.specs.Judgement.{outermost as asn_outermost};
-ghost use Rattle.names.specs.DistinguishedName.{NamesMatch};
-ghost use Rattle.cert.specs.AlgorithmIdentifier.{seen_algorithm};
 ghost use Rattle.cert.specs.BitString.{seen_bit_string};
-ghost use Rattle.cert.specs.Certificate.{optional_extensions, tbs_certificate, seen_tbs, same_algorithm, signature_value, certificate_at, certificate, seen_certificate, is_self_issued};
-ghost use Rattle.cert.specs.Extensions.{seen_extensions};
+ghost use Rattle.cert.specs.Certificate.{TakesOptionalExtensions, tbs_certificate, seen_tbs, repeats_algorithm, next_signature, signature_value, certificate_at, certificate, seen_certificate, IsSelfIssued, is_self_issued};
 ghost use Rattle.cert.specs.Fault.{GivesUnlessFull, as_der};
-ghost use Rattle.cert.specs.TbsCertificate.{component};
 
 use crate::algorithm::AlgorithmIdentifier;
 use crate::bit_string::{BitString, is_of_whole_octets};
@@ -53,7 +49,7 @@ fn take_extensions<'a>(
     version: Version,
     members: &mut Cursor<'a>,
 ) -> Result<Extensions<'a>, CertFault>
-    ensures { GivesUnlessFull (λ read. (seen_extensions read, left members.new)) result (optional_extensions version (left members.old)) }
+    ensures { TakesOptionalExtensions version members.old members.new result }
 {
     let Some(explicit) = members.optional(0xA3) else {
         return Ok(Extensions::none(alloc));
@@ -103,7 +99,7 @@ fn take_same_algorithm(
     inner: AlgorithmIdentifier<'_>,
     members: &mut Cursor<'_>,
 ) -> Result<(), Refusal>
-    ensures { Gives (λ _. (tt, left members.new)) result (component 0x30 (same_algorithm (seen_algorithm inner.entry)) (left members.old)) }
+    ensures { StepGives (λ _. tt) result members.old members.new (repeats_algorithm inner.entry) }
 {
     let value = members.required(SEQUENCE, CertRule::Layout)?;
     if value.whole == inner.value.whole {
@@ -127,7 +123,7 @@ fn signature_at(value: Tlv<'_>) -> Result<BitString<'_>, Refusal>
 
 #[tactic(auto, unfolding(crate::specs::TbsCertificate::component))]
 fn take_signature<'a>(members: &mut Cursor<'a>) -> Result<BitString<'a>, Refusal>
-    ensures { Gives (λ read. (seen_bit_string read, left members.new)) result (component 0x03 signature_value (left members.old)) }
+    ensures { StepGives seen_bit_string result members.old members.new next_signature }
 {
     signature_at(members.required(BIT_STRING, CertRule::Layout)?)
 }
@@ -194,7 +190,7 @@ impl<'a> Certificate<'a> {
     /// Whether subject and issuer match (RFC 5280, 6.1).
     #[tactic(auto, unfolding(crate::specs::Certificate::is_self_issued))]
     pub fn self_issued(&self) -> bool
-        ensures decides { IsTrue result ↔ NamesMatch (seen_certificate self.now).subject.rdns (seen_certificate self.now).issuer.rdns }
+        ensures decides { IsTrue result ↔ IsSelfIssued (seen_certificate self.now) }
         ensures test { result ≡ is_self_issued (seen_certificate self.now) }
     {
         self.subject.matches(&self.issuer)

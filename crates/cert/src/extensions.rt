@@ -2,10 +2,9 @@
 
 ghost use Rattle.std.specs.Prelude.{◌≡◌, OnErr, OnOk, Err};
 ghost use Rattle.cert.specs.declared.fault.CertFault.TheVariants.{Memory};
-ghost use Rattle.asn.specs.Reading.{seen_tlv, left, each};
+ghost use Rattle.asn.specs.Reading.{seen_tlv, left};
 ghost use Rattle.asn.specs.Oid.{oid_contents};
-ghost use Rattle.cert.specs.Extension.{seen_extension};
-ghost use Rattle.cert.specs.Extensions.{seen_extensions, no_extensions, kind_of_extension, listed, noted, told_by, one_extension, nothing_taken, seen_taken, extensions};
+ghost use Rattle.cert.specs.Extensions.{seen_extensions, no_extensions, kind_of_extension, TellsExtension, NotesExtension, TakesExtension, all_extensions, seen_taken, extensions};
 ghost use Rattle.cert.specs.Fault.{GivesUnlessFull};
 
 use crate::alternative_names::read_alternative_names;
@@ -67,7 +66,7 @@ impl<'a> Extensions<'a> {
         kind: ExtensionKind,
         octet_string: Tlv<'a>,
     ) -> Result<(), CertFault>
-        ensures { GivesUnlessFull (λ _. seen_extensions self.new) result (told_by kind (seen_tlv octet_string.entry) (seen_extensions self.old)) }
+        ensures { TellsExtension kind octet_string.entry self.old self.new result }
     {
         match kind {
             ExtensionKind::KeyUsage => self.key_usage = Some(KeyUsage::read(octet_string)?),
@@ -92,7 +91,7 @@ impl<'a> Extensions<'a> {
     fn note(&mut self, kind: ExtensionKind, extension: Extension<'a>) -> Result<(), CertFault>
         requires { kind ≡ kind_of_extension (oid_contents extension.oid) }
         ensures full { OnErr result (result ≡ Err Memory) }
-        ensures noted { OnOk result (seen_extensions self.new ≡ noted (seen_extension extension.entry) (seen_extensions self.old)) }
+        ensures noted { OnOk result (NotesExtension extension.entry self.old self.new) }
     {
         if extension.critical && !kind.is_recognised() {
             self.unrecognised.push(extension.oid)?;
@@ -112,7 +111,7 @@ impl<'a> Taken<'a> {
     /// Takes one more extension, which must be of a type that none of the earlier ones has.
     #[tactic(auto, unfolding(crate::specs::Extensions::one_extension, asn::specs::Walk::check_that))]
     fn take(&mut self, alloc: Global, value: Tlv<'a>) -> Result<(), CertFault>
-        ensures { GivesUnlessFull (λ _. seen_taken self.new) result (one_extension (seen_taken self.old) (seen_tlv value.entry)) }
+        ensures { TakesExtension value.entry self.old self.new result }
     {
         let extension = Extension::read(value, CertRule::Layout)?;
         if !self.types.insert(extension.oid.contents())? {
@@ -126,7 +125,7 @@ impl<'a> Taken<'a> {
 
 /// Takes the extensions that the values are.
 fn take_all<'a>(alloc: Global, members: Cursor<'a>) -> Result<Taken<'a>, CertFault>
-    ensures { GivesUnlessFull seen_taken result (each one_extension nothing_taken ((left members.entry).values)) }
+    ensures { GivesUnlessFull seen_taken result (all_extensions (left members.entry)) }
 {
     let mut members = members;
     let mut taken = Taken {
@@ -134,10 +133,7 @@ fn take_all<'a>(alloc: Global, members: Cursor<'a>) -> Result<Taken<'a>, CertFau
         told: Extensions::none(alloc),
     };
     while let Some(value) = members.next() {
-        match taken.take(alloc, value) {
-            Ok(()) => {}
-            Err(fault) => return Err(fault),
-        }
+        taken.take(alloc, value)?;
     }
     Ok(taken)
 }

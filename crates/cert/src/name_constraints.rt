@@ -22,8 +22,7 @@ pub struct NameConstraints<'a> {
 }
 
 impl<'a> NameConstraints<'a> {
-    ghost use Rattle.asn.specs.Reading.{seen_tlv};
-    ghost use Rattle.cert.specs.Fault.{GivesUnlessFull};
+    ghost use Rattle.cert.specs.Fault.{ReadsUnlessFull};
     ghost use Rattle.cert.specs.NameConstraints.{name_constraints, seen_name_constraints};
 
     /// The name constraints that the OCTET STRING holds; else the first fault: `Der` in its contents, `ExtensionValue` at a
@@ -33,7 +32,7 @@ impl<'a> NameConstraints<'a> {
     /// missing.
     #[tactic(auto, unfolding(crate::specs::NameConstraints::name_constraints))]
     pub fn read(alloc: Global, octet_string: Tlv<'a>) -> Result<NameConstraints<'a>, CertFault>
-        ensures { GivesUnlessFull seen_name_constraints result (name_constraints (seen_tlv octet_string.entry)) }
+        ensures { ReadsUnlessFull seen_name_constraints result octet_string.entry name_constraints }
     {
         let value = contained_value(octet_string)?;
         value.is_a(SEQUENCE, CertRule::ExtensionValue)?;

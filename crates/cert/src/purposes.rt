@@ -1,10 +1,8 @@
 //! extKeyUsage: the purposes that a certificate is for (RFC 5280, 4.2.1.12).
 
-ghost use Rattle.std.specs.Prelude.{[], map};
-ghost use Rattle.asn.specs.Reading.{seen_tlv, left, each};
-ghost use Rattle.asn.specs.Oid.{oid_contents};
-ghost use Rattle.cert.specs.Fault.{GivesUnlessFull};
-ghost use Rattle.cert.specs.Purposes.{one_more_purpose, purposes};
+ghost use Rattle.asn.specs.Reading.{left};
+ghost use Rattle.cert.specs.Fault.{GivesUnlessFull, ReadsUnlessFull};
+ghost use Rattle.cert.specs.Purposes.{purposes, seen_purposes, all_purposes, AddsPurpose};
 
 use crate::contained::contained_value;
 use crate::fault::{CertFault, CertRule};
@@ -14,8 +12,7 @@ use std::alloc::Global;
 /// Adds the purpose that the value is.
 #[tactic(auto, unfolding(crate::specs::Purposes::one_more_purpose))]
 fn push_purpose<'a>(all: &mut Vec<Oid<'a>>, value: Tlv<'a>) -> Result<(), CertFault>
-    ensures { GivesUnlessFull (λ _. map oid_contents all.new.items) result
-        (one_more_purpose (map oid_contents all.old.items) (seen_tlv value.entry)) }
+    ensures { AddsPurpose value.entry all.old all.new result }
 {
     value.is_a(OBJECT_IDENTIFIER, CertRule::ExtensionValue)?;
     all.push(Oid::new(value.body))?;
@@ -24,16 +21,12 @@ fn push_purpose<'a>(all: &mut Vec<Oid<'a>>, value: Tlv<'a>) -> Result<(), CertFa
 
 /// The purposes that the values are.
 fn purpose_list<'a>(alloc: Global, members: Cursor<'a>) -> Result<Vec<Oid<'a>>, CertFault>
-    ensures { GivesUnlessFull (λ all. map oid_contents all.items) result
-        (each one_more_purpose [] ((left members.entry).values)) }
+    ensures { GivesUnlessFull seen_purposes result (all_purposes (left members.entry)) }
 {
     let mut members = members;
     let mut all = Vec::new(alloc);
     while let Some(value) = members.next() {
-        match push_purpose(&mut all, value) {
-            Ok(()) => {}
-            Err(fault) => return Err(fault),
-        }
+        push_purpose(&mut all, value)?;
     }
     Ok(all)
 }
@@ -49,7 +42,7 @@ pub(crate) fn read_purposes<'a>(
     alloc: Global,
     octet_string: Tlv<'a>,
 ) -> Result<Vec<Oid<'a>>, CertFault>
-    ensures { GivesUnlessFull (λ all. map oid_contents all.items) result (purposes (seen_tlv octet_string.entry)) }
+    ensures { ReadsUnlessFull seen_purposes result octet_string.entry purposes }
 {
     let value = contained_value(octet_string)?;
     value.is_a(SEQUENCE, CertRule::ExtensionValue)?;

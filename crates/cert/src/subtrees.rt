@@ -1,11 +1,11 @@
 //! The subtrees of nameConstraints (RFC 5280, 4.2.1.10).
 
-ghost use Rattle.std.specs.Prelude.{◌≤◌, [], IfOk, map, vec_len};
-ghost use Rattle.asn.specs.Reading.{seen_tlv, left, Gives, each};
+ghost use Rattle.std.specs.Prelude.{◌≤◌, IfOk, vec_len};
+ghost use Rattle.asn.specs.Reading.{left, Gives};
 ghost use Rattle.names.specs.GeneralLayout.{base};
 ghost use Rattle.names.specs.GeneralView.{subtree_base};
-ghost use Rattle.cert.specs.Fault.{as_name, GivesUnlessFull};
-ghost use Rattle.cert.specs.NameConstraints.{no_bounds, subtree, one_more_subtree, some_subtrees, subtrees};
+ghost use Rattle.cert.specs.Fault.{GivesUnlessFull};
+ghost use Rattle.cert.specs.NameConstraints.{no_bounds, subtree, all_subtrees, AddsSubtree, some_subtrees, seen_bases, TakesSubtrees};
 
 use crate::fault::{CertFault, CertRule, Refusal, name_refusal};
 use crate::limit::{MOST_NAMES, check_room};
@@ -45,8 +45,7 @@ fn push_subtree<'a>(
     most: usize,
     value: Tlv<'a>,
 ) -> Result<(), CertFault>
-    ensures walk { GivesUnlessFull (λ _. map subtree_base all.new.items) result
-        (one_more_subtree most (map subtree_base all.old.items) (seen_tlv value.entry)) }
+    ensures walk { AddsSubtree most value.entry all.old all.new result }
     ensures served { vec_len all.old ≤ most → vec_len all.new ≤ most }
 {
     value.is_a(SEQUENCE, CertRule::ExtensionValue)?;
@@ -62,17 +61,13 @@ fn subtree_list<'a>(
     most: usize,
     members: Cursor<'a>,
 ) -> Result<Vec<Subtree<'a>>, CertFault>
-    ensures walk { GivesUnlessFull (λ all. map subtree_base all.items) result
-        (each (one_more_subtree most) [] ((left members.entry).values)) }
+    ensures walk { GivesUnlessFull seen_bases result (all_subtrees most (left members.entry)) }
     ensures served { IfOk result (λ all. vec_len all ≤ most) }
 {
     let mut members = members;
     let mut all = Vec::new(alloc);
     while let Some(value) = members.next() {
-        match push_subtree(&mut all, most, value) {
-            Ok(()) => {}
-            Err(fault) => return Err(fault),
-        }
+        push_subtree(&mut all, most, value)?;
     }
     Ok(all)
 }
@@ -86,7 +81,7 @@ fn read_subtrees<'a>(
     most: usize,
     members: Cursor<'a>,
 ) -> Result<Vec<Subtree<'a>>, CertFault>
-    ensures walk { GivesUnlessFull (λ all. map subtree_base all.items) result (some_subtrees most (left members.entry)) }
+    ensures walk { GivesUnlessFull seen_bases result (some_subtrees most (left members.entry)) }
     ensures served { IfOk result (λ all. vec_len all ≤ most) }
 {
     members.some(CertRule::ExtensionValue)?;
@@ -99,8 +94,7 @@ pub(crate) fn take_permitted<'a>(
     alloc: Global,
     members: &mut Cursor<'a>,
 ) -> Result<Vec<Subtree<'a>>, CertFault>
-    ensures walk { GivesUnlessFull (λ all. (map subtree_base all.items, left members.new)) result
-        (subtrees 4096 0xA0 (left members.old)) }
+    ensures walk { TakesSubtrees 4096 0xA0 members.old members.new result }
     ensures served { IfOk result (λ all. vec_len all ≤ MOST_NAMES) }
 {
     match members.optional(0xA0) {
@@ -116,8 +110,7 @@ pub(crate) fn take_excluded<'a>(
     most: usize,
     members: &mut Cursor<'a>,
 ) -> Result<Vec<Subtree<'a>>, CertFault>
-    ensures walk { GivesUnlessFull (λ all. (map subtree_base all.items, left members.new)) result
-        (subtrees most 0xA1 (left members.old)) }
+    ensures walk { TakesSubtrees most 0xA1 members.old members.new result }
     ensures served { IfOk result (λ all. vec_len all ≤ most) }
 {
     match members.optional(0xA1) {

@@ -1,12 +1,11 @@
 //! The signed part of a certificate (RFC 5280, 4.1.2).
 
 ghost use Rattle.std.specs.Prelude.{◌≡◌};
-ghost use Rattle.asn.specs.Reading.{seen_tlv, left, Gives};
+ghost use Rattle.asn.specs.Reading.{seen_tlv, left, Gives, StepGives};
 ghost use Rattle.names.specs.GeneralView.{name_contents};
-ghost use Rattle.cert.specs.AlgorithmIdentifier.{algorithm_identifier, seen_algorithm};
-ghost use Rattle.cert.specs.declared.fault.CertRule.TheVariants.{Layout};
+ghost use Rattle.cert.specs.AlgorithmIdentifier.{seen_algorithm};
 ghost use Rattle.cert.specs.SubjectPublicKeyInfo.{key_info, seen_key_info};
-ghost use Rattle.cert.specs.TbsCertificate.{next_read, component, is_serial, serial_number, distinguished_name, issuer, unique_id, tbs_head, seen_head, tbs_subject, seen_subject};
+ghost use Rattle.cert.specs.TbsCertificate.{next_read, next_algorithm, next_name, component, is_serial, serial_number, distinguished_name, issuer, unique_id, tbs_head, seen_head, tbs_subject, seen_subject};
 ghost use Rattle.cert.specs.Validity.{validity, seen_validity};
 
 use crate::algorithm::AlgorithmIdentifier;
@@ -75,42 +74,42 @@ fn issuer_at(value: Tlv<'_>) -> Result<Name<'_>, Refusal>
 
 #[tactic(auto, unfolding(crate::specs::TbsCertificate::component))]
 fn take_serial<'a>(members: &mut Cursor<'a>) -> Result<Tlv<'a>, Refusal>
-    ensures { Gives (λ serial. (seen_tlv serial, left members.new)) result (component 0x02 serial_number (left members.old)) }
+    ensures { StepGives seen_tlv result members.old members.new (component 0x02 serial_number) }
 {
     serial_at(members.required(INTEGER, CertRule::Layout)?)
 }
 
 #[tactic(auto, unfolding(crate::specs::TbsCertificate::next_read))]
 fn take_algorithm<'a>(members: &mut Cursor<'a>) -> Result<AlgorithmIdentifier<'a>, Refusal>
-    ensures { Gives (λ read. (seen_algorithm read, left members.new)) result (next_read (algorithm_identifier Layout) (left members.old)) }
+    ensures { StepGives seen_algorithm result members.old members.new next_algorithm }
 {
     AlgorithmIdentifier::read(members.next_or(CertRule::Layout)?, CertRule::Layout)
 }
 
 #[tactic(auto, unfolding(crate::specs::TbsCertificate::component))]
 fn take_name<'a>(members: &mut Cursor<'a>) -> Result<Name<'a>, Refusal>
-    ensures { Gives (λ read. (name_contents read, left members.new)) result (component 0x30 distinguished_name (left members.old)) }
+    ensures { StepGives name_contents result members.old members.new next_name }
 {
     name_at(members.required(SEQUENCE, CertRule::Layout)?)
 }
 
 #[tactic(auto, unfolding(crate::specs::TbsCertificate::component))]
 fn take_issuer<'a>(members: &mut Cursor<'a>) -> Result<Name<'a>, Refusal>
-    ensures { Gives (λ read. (name_contents read, left members.new)) result (component 0x30 issuer (left members.old)) }
+    ensures { StepGives name_contents result members.old members.new (component 0x30 issuer) }
 {
     issuer_at(members.required(SEQUENCE, CertRule::Layout)?)
 }
 
 #[tactic(auto, unfolding(crate::specs::TbsCertificate::next_read))]
 fn take_validity(members: &mut Cursor<'_>) -> Result<Validity, Refusal>
-    ensures { Gives (λ read. (seen_validity read, left members.new)) result (next_read validity (left members.old)) }
+    ensures { StepGives seen_validity result members.old members.new (next_read validity) }
 {
     Validity::read(members.next_or(CertRule::Layout)?)
 }
 
 #[tactic(auto, unfolding(crate::specs::TbsCertificate::next_read))]
 fn take_key_info<'a>(members: &mut Cursor<'a>) -> Result<SubjectPublicKeyInfo<'a>, Refusal>
-    ensures { Gives (λ read. (seen_key_info read, left members.new)) result (next_read key_info (left members.old)) }
+    ensures { StepGives seen_key_info result members.old members.new (next_read key_info) }
 {
     SubjectPublicKeyInfo::read(members.next_or(CertRule::Layout)?)
 }
@@ -130,7 +129,7 @@ impl<'a> TbsHead<'a> {
     /// version [0], serialNumber, signature, issuer, validity
     #[tactic(auto, unfolding(crate::specs::TbsCertificate::tbs_head))]
     pub(crate) fn take(members: &mut Cursor<'a>) -> Result<TbsHead<'a>, Refusal>
-        ensures { Gives (λ read. (seen_head read, left members.new)) result (tbs_head (left members.old)) }
+        ensures { StepGives seen_head result members.old members.new tbs_head }
     {
         let version = Version::take(members)?;
         let serial = take_serial(members)?;
@@ -151,7 +150,7 @@ impl<'a> Subject<'a> {
     /// subject, subjectPublicKeyInfo, issuerUniqueID [1], subjectUniqueID [2]
     #[tactic(auto, unfolding(crate::specs::TbsCertificate::tbs_subject))]
     pub(crate) fn take(version: Version, members: &mut Cursor<'a>) -> Result<Subject<'a>, Refusal>
-        ensures { Gives (λ read. (seen_subject read, left members.new)) result (tbs_subject version (left members.old)) }
+        ensures { StepGives seen_subject result members.old members.new (tbs_subject version) }
     {
         let name = take_name(members)?;
         let key_info = take_key_info(members)?;

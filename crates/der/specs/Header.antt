@@ -7,7 +7,7 @@ use Rattle.der.specs.Length.{contents_limit, first_length, header_len, contents_
 use Rattle.der.specs.FirstFault.{Breaks, BreaksFirst}
 use Rattle.der.specs.Fault.{rule_number}
 use Rattle.der.specs.declared.fault.Rule.{Rule}
-use Rattle.der.specs.declared.fault.Rule.TheVariants.{LengthForm}
+use Rattle.der.specs.declared.fault.Rule.TheVariants.{LengthForm, Truncated}
 use Rattle.der.specs.declared.header.Header.{Header}
 
 -- none of the rules on a header is broken, at whatever depth
@@ -21,6 +21,10 @@ pub record IsHeaderOf (text : List ℕ) (header : Header) : Type 0 where
   pub identifier : header.identifier ≡ slice_index text 0
   pub len : header.len ≡ header_len text
   pub contents : header.contents ≡ contents_len text
+
+-- the header at the front of the text breaks the rule, and none with a lesser number, at whatever depth the value stands
+abbrev pub BreaksHeaderRule : List ℕ → Rule → Type 0
+BreaksHeaderRule text rule = (depth : ℕ) → (rule_number rule < 5) × BreaksFirst rule depth text
 
 -- what the octets before the contents say, whatever rules they break
 pub record SaysHeader (text : List ℕ) (header : Header) : Type 0 where
@@ -45,6 +49,15 @@ pub record IsLengthOf (text : List ℕ) (len contents : ℕ) : Type 0 where
 -- a rule that the length octets break is the first after the identifier's
 abbrev pub KeepsLength : List ℕ → Rule → Type 0
 KeepsLength text rule = (other : Rule) → 1 < rule_number other → rule_number other < rule_number rule → Breaks other 1 text → ⊥
+
+-- The length octets break the rule, which is one on a header behind the identifier's, and none before it.
+abbrev pub BreaksLengthRule : List ℕ → Rule → Type 0
+BreaksLengthRule text rule =
+    (depth : ℕ) → Breaks rule depth text × (1 < rule_number rule) × (rule_number rule < 5) × KeepsLength text rule
+
+-- if the rule is that the text is cut short, it ends within the header
+abbrev pub EndsInHeader : List ℕ → Rule → Type 0
+EndsInHeader text rule = rule ≡ Truncated → length text < header_len text
 
 -- The first octets of a text, behind which its header goes on: no rule is broken so far.
 pub record GoesOn (front : List ℕ) : Type 0 where

@@ -1,9 +1,7 @@
 //! The identifier and length octets before the contents.
 
-ghost use Rattle.std.specs.Prelude.{◌≡◌, ◌<◌, ℕ, IfOk, IfErr, IfSome, IfNone};
-ghost use Rattle.der.specs.Fault.{rule_number};
-ghost use Rattle.der.specs.FirstFault.{BreaksFirst};
-ghost use Rattle.der.specs.Header.{IsHeaderOf, SaysHeader, HasServedLength, GoesOn, HasHeader, IsBrokenAhead};
+ghost use Rattle.std.specs.Prelude.{◌<◌, IfOk, IfErr, IfSome, IfNone};
+ghost use Rattle.der.specs.Header.{IsHeaderOf, SaysHeader, HasServedLength, GoesOn, HasHeader, IsBrokenAhead, BreaksHeaderRule};
 
 use crate::fault::Rule;
 use crate::identifier::is_refused_identifier;
@@ -25,7 +23,7 @@ impl Header {
     #[inline(always)]
     pub fn read(text: &[u8]) -> Result<Header, Rule>
         ensures ok { IfOk result (λ header. IsHeaderOf text.now header) }
-        ensures err { IfErr result (λ rule. (depth : ℕ) → (rule_number rule < 5) × BreaksFirst rule depth text.now) }
+        ensures err { IfErr result (BreaksHeaderRule text.now) }
     {
         if text.is_empty() {
             return Err(Rule::Truncated);

@@ -1,9 +1,7 @@
 //! Length octets (X.690, 8.1.3 and 10.1).
 
-ghost use Rattle.std.specs.Prelude.{◌≡◌, ◌<◌, ◌≤◌, ℕ, length, IfOk, IfErr};
-ghost use Rattle.der.specs.Fault.{rule_number};
-ghost use Rattle.der.specs.FirstFault.{Breaks};
-ghost use Rattle.der.specs.Header.{IsLengthOf, KeepsLength, HasServedLength};
+ghost use Rattle.std.specs.Prelude.{◌≡◌, ◌<◌, ◌≤◌, length, IfOk, IfErr};
+ghost use Rattle.der.specs.Header.{IsLengthOf, BreaksLengthRule, EndsInHeader, HasServedLength};
 ghost use Rattle.der.specs.Length.{header_len, contents_len};
 
 use crate::fault::Rule;
@@ -13,9 +11,8 @@ use crate::fault::Rule;
 pub(crate) fn length_of(text: &[u8]) -> Result<(usize, usize), Rule>
     requires { 2 ≤ length text.now }
     ensures ok { IfOk result (λ found. IsLengthOf text.now found.0 found.1) }
-    ensures err { IfErr result (λ rule. (depth : ℕ) → Breaks rule depth text.now
-        × (1 < rule_number rule) × (rule_number rule < 5) × KeepsLength text.now rule) }
-    ensures short { IfErr result (λ rule. rule ≡ Rule.Truncated → length text.now < header_len text.now) }
+    ensures err { IfErr result (BreaksLengthRule text.now) }
+    ensures short { IfErr result (EndsInHeader text.now) }
 {
     let first = text[1];
     if first < 128 {

@@ -1,7 +1,7 @@
 //! A look at octets that goes from value to value without a call for those inside. What it accepts is an encoding; it leaves
 //! the octets of which it isn't sure to `grammar`, which finds the first fault.
 
-ghost use Rattle.std.specs.Prelude.{◌≡◌, IsTrue, IfSome};
+ghost use Rattle.std.specs.Prelude.{IsTrue, IfSome};
 ghost use Rattle.der.specs.Value.{Value};
 ghost use Rattle.der.specs.Encoding.{Encodes};
 ghost use Rattle.der.specs.Front.{AreEncodings, BeginsWith};
@@ -24,7 +24,7 @@ struct Front<'a> {
 /// The value at the front of the text, if its header breaks no rule, nor its contents where it is primitive.
 #[inline(always)]
 fn front_of(text: &[u8]) -> Option<Front<'_>>
-    ensures { IfSome result (λ front. BeginsWith text.now front.constructed front.contents.now front.others.now) }
+    ensures { IfSome result (λ f. BeginsWith text.now f.constructed f.contents.now f.others.now) }
 {
     let Ok(header) = Header::read(text) else {
         return None;

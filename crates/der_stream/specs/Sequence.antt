@@ -1,19 +1,15 @@
 -- Values one after the other, at the front of a source of octets.
-use Rattle.std.specs.Prelude.{◌≡◌, ◌≢◌, ◌⊎◌, ◌<◌, ◌≤◌, ◌++◌, ⊤, ℕ, List, length, Option, Some, None}
+use Rattle.std.specs.Prelude.{◌≡◌, ◌≢◌, ◌⊎◌, ◌<◌, ◌++◌, ⊤, ℕ, List, length, map, Option, Some, None}
 use Rattle.std.specs.List.{flat_map, AllByRecursion}
-use Rattle.der.specs.Value.{Value}
-use Rattle.der.specs.Encoding.{Encodes}
 use Rattle.der_stream.specs.declared.reading.ReadFault.{ReadFault}
 use Rattle.der_stream.specs.declared.reading.ReadFault.TheVariants.{Limit}
+use Rattle.der_stream.specs.declared.sequence.PathOctets.{PathOctets}
 use Rattle.der_stream.specs.Stream.{ended, TakesFrom, TakesFault}
+pub use Rattle.der_stream.specs.Stream.{IsValueWithin}
 
 -- octets one after the other
 abbrev pub joined : List (List ℕ) → List ℕ
 joined values = flat_map (λ octets. octets) values
-
--- the encoding of one value, within the limit
-abbrev pub IsValueWithin : ℕ → List ℕ → Type 0
-IsValueWithin limit octets = ((v : Value) × Encodes octets v) × (length octets ≤ limit)
 
 -- the octets begin with these values, in order, and then these are left
 pub record BeginsWith (limit : ℕ) (text : List ℕ) (values : List (List ℕ)) (left : List ℕ) : Type 0 where
@@ -38,6 +34,11 @@ pub record ReadsValues (limit most : ℕ) (old new : Option (List ℕ)) (values 
   pub behind : Option (List ℕ)
   pub begins : BeginsFrom limit old values behind
   pub stops : StopsBehind limit most values behind new stopped
+
+-- the same of what `path_octets` answers, with room for the longest value that there is
+abbrev pub ReadsAtMost : {R : Type 0} → ℕ → (R → Option (List ℕ)) → R → R → PathOctets → Type 0
+ReadsAtMost most remaining old new path =
+    ReadsValues 268435461 most (remaining old) (remaining new) (map (λ octets. octets.items) path.values.items) path.stopped
 
 -- no value was past the limit, as far as the source tells what it has left
 abbrev pub NoneIsPast : Option (List ℕ) → Option (ℕ × ReadFault) → Type 0

@@ -1,5 +1,6 @@
 -- One value from the front of a source of octets.
-use Rattle.std.specs.Prelude.{◌≡◌, ◌==◌, ◌||◌, ℕ, ◌<◌, ◌≤◌, List, [], ◌++◌, length, drop, ⊤, Option, Some, None, if◌then◌else◌}
+use Rattle.std.specs.Prelude.{◌≡◌, ◌==◌, ◌||◌, ℕ, ◌<◌, ◌≤◌, List, [], ◌∷◌, ◌++◌, length, take, drop, ⊤, Option, Some, None, Vec, option_map, if◌then◌else◌}
+use Rattle.std.specs.Io.KnownBytes.{Consumes, IsAtEnd}
 use Rattle.der.specs.Value.{Value}
 use Rattle.der.specs.Length.{first_length, header_len, end_of, IsHeaderWhole}
 use Rattle.der.specs.Encoding.{Encodes}
@@ -72,6 +73,48 @@ pub record IsHeaderRead (octets : List ℕ) (len : ℕ) : Type 0 where
   pub faultless : HasFaultlessHeader octets
   pub whole : length octets ≡ header_len octets
   pub len_is : len ≡ end_of octets
+
+-- An octet was read, or the source is at its end.
+abbrev pub ReadsOctet : Option (List ℕ) → Option (List ℕ) → Option ℕ → Type 0
+ReadsOctet old new (Some octet) = Consumes old new (octet ∷ [])
+ReadsOctet old new None = Consumes old new [] × IsAtEnd new
+
+-- These octets of a header were read, or the source is at its end, so that no value is read from it.
+abbrev pub ReadsHeader : {R : Type 0} → (R → Option (List ℕ)) → R → R → List ℕ → Option ℕ → Type 0
+ReadsHeader remaining old new octets (Some len) = Consumes (remaining old) (remaining new) octets
+ReadsHeader remaining old new octets None = (limit : ℕ) → TakesValue limit (remaining old) (remaining new) None
+
+-- the fault of a header, or no fault of the octets, whatever the limit is
+abbrev pub IsHeaderFault : Option (List ℕ) → Option (List ℕ) → ReadFault → Type 0
+IsHeaderFault old new fault = (limit : ℕ) → TakesFault limit old new fault
+
+-- So many octets were read into the buffer, behind the octets that filled it.
+abbrev pub Fills : {R : Type 0} → (R → Option (List ℕ)) → R → R → ℕ → List ℕ → ℕ → Type 0
+Fills remaining old new filled buffer count = Consumes (remaining old) (remaining new) (take count (drop filled buffer))
+
+-- what was read are the octets behind those that the buffer held
+abbrev pub ReadsMore : {R A : Type 0} → (R → Option (List ℕ)) → R → R → Vec ℕ A → Vec ℕ A → Type 0
+ReadsMore remaining old new held octets =
+    Consumes (remaining old) (remaining new) (drop (length held.items) octets.items)
+
+-- the fault of a value with so many octets, or no fault of the octets, where the buffer holds what was read first
+abbrev pub IsContentsFault : {R A : Type 0} → ℕ → (R → Option (List ℕ)) → R → R → Vec ℕ A → ReadFault → Type 0
+IsContentsFault len remaining old new held fault =
+    (limit : ℕ) (first : Option (List ℕ)) → len ≤ limit → Consumes first (remaining old) held.items
+    → TakesFault limit first (remaining new) fault
+
+-- the value that is answered, if one is, was read, and nothing behind it
+abbrev pub TakesOctets : {R A : Type 0} → ℕ → (R → Option (List ℕ)) → R → R → Option (Vec ℕ A) → Type 0
+TakesOctets limit remaining old new found =
+    TakesValue limit (remaining old) (remaining new) (option_map (λ octets. octets.items) found)
+
+-- the source is refused for the fault, and no octet was read that it does not need
+abbrev pub IsRefusedBy : {R : Type 0} → ℕ → (R → Option (List ℕ)) → R → R → ReadFault → Type 0
+IsRefusedBy limit remaining old new fault = TakesFault limit (remaining old) (remaining new) fault
+
+-- the encoding of one value, within the limit
+abbrev pub IsValueWithin : ℕ → List ℕ → Type 0
+IsValueWithin limit octets = ((v : Value) × Encodes octets v) × (length octets ≤ limit)
 
 -- want of memory, or an error of the source
 abbrev pub IsNoRefusal : ReadFault → Type 0

@@ -1,12 +1,10 @@
 //! Values from a source of octets, one at a time.
 
-ghost use Rattle.std.specs.Prelude.{◌≡◌, ℕ, ◌+◌, ◌*◌, ◌<◌, ◌≤◌, List, [], ◌∷◌, Option, length, take, drop, IfOk, IfErr, IfSome, IfNone, OnOk, option_map};
+ghost use Rattle.std.specs.Prelude.{◌≡◌, ◌+◌, ◌*◌, ◌<◌, ◌≤◌, [], Option, length, take, IfOk, IfErr, IfSome, OnOk};
 ghost use Rattle.std.specs.Io.{StartsWith};
-ghost use Rattle.std.specs.Io.KnownBytes.{Consumes, IsAtEnd};
-ghost use Rattle.der.specs.Value.{Value};
-ghost use Rattle.der.specs.Encoding.{Encodes};
+ghost use Rattle.std.specs.Io.KnownBytes.{IsAtEnd};
 ghost use Rattle.der.specs.declared.fault.Fault.TheVariants.{Refused};
-ghost use Rattle.der_stream.specs.Stream.{TakesValue, TakesFault, OneAnswer, IsHeaderRead, IsNoRefusal};
+ghost use Rattle.der_stream.specs.Stream.{OneAnswer, IsHeaderRead, IsNoRefusal, ReadsOctet, ReadsHeader, IsHeaderFault, Fills, ReadsMore, IsContentsFault, IsValueWithin, TakesOctets, IsRefusedBy};
 ghost use Rattle.der_stream.specs.Fault.{read_fault_number, read_fault_name, read_fault_place};
 
 use der::{Fault, Header, Rule, check};
@@ -72,8 +70,7 @@ fn refused(rule: Rule) -> ReadFault
 
 /// The next octet of the source; `None` at its end.
 fn read_octet<R: Read>(source: &mut R) -> Result<Option<u8>, ReadFault>
-    ensures some { IfOk result (λ found. IfSome found (λ octet. Consumes (R.remaining source.old) (R.remaining source.new) (octet ∷ []))) }
-    ensures none { IfOk result (λ found. IfNone found (Consumes (R.remaining source.old) (R.remaining source.new) [] × IsAtEnd (R.remaining source.new))) }
+    ensures read { IfOk result (ReadsOctet (R.remaining source.old) (R.remaining source.new)) }
     ensures err { IfErr result (λ fault. fault ≡ ReadFault.Io) }
 {
     let mut octet = [0u8; 1];
@@ -88,10 +85,9 @@ fn read_octet<R: Read>(source: &mut R) -> Result<Option<u8>, ReadFault>
 /// `None` at the end of the source.
 fn read_header<R: Read>(source: &mut R, octets: &mut Vec<u8>) -> Result<Option<usize>, ReadFault>
     requires { octets.old.items ≡ [] }
-    ensures header { IfOk result (λ found. IfSome found (λ len. IsHeaderRead octets.new.items len)) }
-    ensures read { IfOk result (λ found. IfSome found (λ len. Consumes (R.remaining source.old) (R.remaining source.new) octets.new.items)) }
-    ensures none { IfOk result (λ found. IfNone found ((limit : ℕ) → TakesValue limit (R.remaining source.old) (R.remaining source.new) None)) }
-    ensures err { IfErr result (λ fault. (limit : ℕ) → TakesFault limit (R.remaining source.old) (R.remaining source.new) fault) }
+    ensures header { IfOk result (λ found. IfSome found (IsHeaderRead octets.new.items)) }
+    ensures read { IfOk result (ReadsHeader R.remaining source.old source.new octets.new.items) }
+    ensures err { IfErr result (IsHeaderFault (R.remaining source.old) (R.remaining source.new)) }
 {
     'octets: loop {
         let Some(octet) = read_octet(source)? else {
@@ -137,7 +133,7 @@ fn read_behind<R: Read>(
     requires { filled < length buffer.old }
     ensures front { take filled buffer.new ≡ take filled buffer.old }
     ensures fits { IfOk result (λ count. filled + count ≤ length buffer.new) }
-    ensures read { IfOk result (λ count. Consumes (R.remaining source.old) (R.remaining source.new) (take count (drop filled buffer.new))) }
+    ensures read { IfOk result (Fills R.remaining source.old source.new filled buffer.new) }
     ensures end { IfOk result (λ count. count ≡ 0 → IsAtEnd (R.remaining source.new)) }
     ensures err { IfErr result (λ fault. fault ≡ ReadFault.Io) }
 {
@@ -160,7 +156,7 @@ fn read_more<R: Read>(
     ensures front { take filled octets.new.items ≡ take filled octets.old.items }
     ensures fits { IfOk result (λ count. filled + count ≤ length octets.new.items) }
     ensures within { OnOk result (length octets.new.items ≤ len) }
-    ensures read { IfOk result (λ count. Consumes (R.remaining source.old) (R.remaining source.new) (take count (drop filled octets.new.items))) }
+    ensures read { IfOk result (Fills R.remaining source.old source.new filled octets.new.items) }
     ensures end { IfOk result (λ count. count ≡ 0 → IsAtEnd (R.remaining source.new)) }
     ensures err { IfErr result (λ fault. IsNoRefusal fault) }
 {
@@ -175,9 +171,8 @@ fn read_contents<R: Read>(source: &mut R, octets: &mut Vec<u8>, len: usize) -> R
     requires { IsHeaderRead octets.old.items len }
     ensures front { OnOk result (StartsWith octets.new.items octets.old.items) }
     ensures whole { OnOk result (length octets.new.items ≡ len) }
-    ensures read { OnOk result (Consumes (R.remaining source.old) (R.remaining source.new) (drop (length octets.old.items) octets.new.items)) }
-    ensures err { IfErr result (λ fault. (limit : ℕ) (first : Option (List ℕ)) → len ≤ limit
-        → Consumes first (R.remaining source.old) octets.old.items → TakesFault limit first (R.remaining source.new) fault) }
+    ensures read { OnOk result (ReadsMore R.remaining source.old source.new octets.old octets.new) }
+    ensures err { IfErr result (IsContentsFault len R.remaining source.old source.new octets.old) }
 {
     let mut filled = octets.len();
     while filled < len {
@@ -202,10 +197,9 @@ pub fn read_one<R: Read>(
     source: &mut R,
     limit: usize,
 ) -> Result<Option<Vec<u8>>, ReadFault>
-    ensures value { IfOk result (λ found. IfSome found (λ octets. ((v : Value) × Encodes octets.items v) × (length octets.items ≤ limit))) }
-    ensures taken { IfOk result (λ found. TakesValue limit (R.remaining source.old) (R.remaining source.new)
-        (option_map (λ octets. octets.items) found)) }
-    ensures refused { IfErr result (λ fault. TakesFault limit (R.remaining source.old) (R.remaining source.new) fault) }
+    ensures value { IfOk result (λ found. IfSome found (λ it. IsValueWithin limit it.items)) }
+    ensures taken { IfOk result (TakesOctets limit R.remaining source.old source.new) }
+    ensures refused { IfErr result (IsRefusedBy limit R.remaining source.old source.new) }
 {
     let mut octets = Vec::new(alloc);
     let Some(len) = read_header(source, &mut octets)? else {

@@ -1,7 +1,6 @@
 //! Values read one after the other.
 
-ghost use Rattle.std.specs.Prelude.{map};
-ghost use Rattle.der_stream.specs.Sequence.{NoneIsPast, ReadsValues};
+ghost use Rattle.der_stream.specs.Sequence.{NoneIsPast, ReadsAtMost};
 
 use crate::{ReadFault, read_one};
 use der::Fault;
@@ -25,7 +24,7 @@ pub struct PathOctets {
 /// for the list of them, the value that was read is refused with want of memory. No value is past the limit, since none can have more
 /// octets; a source that does not tell what it has left promises nothing of that.
 pub fn path_octets<R: Read>(alloc: Global, source: &mut R, most: u32) -> PathOctets
-    ensures values { ReadsValues 268435461 most (R.remaining source.old) (R.remaining source.new) (map (λ octets. octets.items) result.values.items) result.stopped }
+    ensures values { ReadsAtMost most R.remaining source.old source.new result }
     ensures longest { NoneIsPast (R.remaining source.old) result.stopped }
 {
     let mut values = Vec::new(alloc);

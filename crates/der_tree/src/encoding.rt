@@ -1,13 +1,12 @@
 //! The encoding of a tree.
 
-ghost use Rattle.std.specs.Prelude.{◌≡◌, ◌↔◌, ◌+◌, ◌<◌, ◌≤◌, ◌++◌, ℕ, List, [], ◌∷◌, length, IsTrue, IfOk, IfSome, IfNone, OnOk, MatchResult};
+ghost use Rattle.std.specs.Prelude.{◌≡◌, ◌↔◌, ◌+◌, ◌<◌, ◌≤◌, ◌++◌, ◌∷◌, IsTrue, IfOk, IfSome, IfNone, OnOk};
 ghost use Rattle.der.specs.Value.{primitive};
 ghost use Rattle.der.specs.Encoding.{Encodes};
 ghost use Rattle.der.specs.Length.{contents_limit, length_octets};
-ghost use Rattle.asn.specs.Size.{size_around, size_of, size_of_all, IsHolder, octets_of, octets_of_all, IsEncodableAt, AreEncodableAt};
+ghost use Rattle.asn.specs.Size.{size_around, IsHolder, octets_of, octets_of_all, IsEncodableAt, AreEncodableAt};
 ghost use Rattle.der_tree.specs.Fault.{encode_fault_number, encode_fault_name};
-ghost use Rattle.der_tree.specs.Tree.{value_of, values_of};
-ghost use Rattle.der_tree.specs.declared.encoding.EncodeFault.TheVariants.{Memory as memory};
+ghost use Rattle.der_tree.specs.Tree.{value_of, values_of, HasSizeAt, HaveSizeAt, HaveNoSizeAt, GivesEncoding, HasNoEncoding};
 
 use crate::tree::Tree;
 use der::{MAX_DEPTH, is_constructed_form, is_contents, is_refused_identifier};
@@ -66,7 +65,7 @@ fn with_header(contents: usize) -> usize
 
 /// How many octets the encoding of a primitive value has; `None` where it has none at this depth.
 fn primitive_size(identifier: u8, contents: &[u8], depth: u32) -> Option<usize>
-    ensures some { IfSome result (λ size. IsEncodableAt depth (primitive identifier contents.now) × (size ≡ size_around (length contents.now))) }
+    ensures some { IfSome result (HasSizeAt depth (primitive identifier contents.now)) }
     ensures none { IfNone result (IsEncodableAt depth (primitive identifier contents.now) → ⊥) }
 {
     if depth > MAX_DEPTH
@@ -91,7 +90,7 @@ fn may_hold_values(identifier: u8, depth: u32) -> bool
 #[cycle(size)]
 fn size_at(tree: &Tree, depth: u32) -> Option<usize>
     requires { depth ≤ 33 }
-    ensures some { IfSome result (λ size. IsEncodableAt depth (value_of tree.now) × (size ≡ size_of (value_of tree.now))) }
+    ensures some { IfSome result (HasSizeAt depth (value_of tree.now)) }
     ensures bound { IfSome result (λ size. size < contents_limit + 6) }
     ensures none { IfNone result (IsEncodableAt depth (value_of tree.now) → ⊥) }
 {
@@ -112,8 +111,8 @@ fn size_at(tree: &Tree, depth: u32) -> Option<usize>
 #[cycle(size)]
 fn sizes_at(trees: &[Tree], depth: u32) -> Option<usize>
     requires { depth ≤ 33 }
-    ensures some { IfSome result (λ size. AreEncodableAt depth (values_of trees.now) × (size ≡ size_of_all (values_of trees.now)) × (size < contents_limit)) }
-    ensures none { IfNone result (AreEncodableAt depth (values_of trees.now) → size_of_all (values_of trees.now) < contents_limit → ⊥) }
+    ensures some { IfSome result (HaveSizeAt depth (values_of trees.now)) }
+    ensures none { IfNone result (HaveNoSizeAt depth (values_of trees.now)) }
 {
     let mut size = 0;
     for tree in trees {
@@ -189,8 +188,8 @@ fn octets_of_tree(alloc: Global, tree: &Tree, size: usize) -> Result<Vec<u8>, Al
 /// nodes times their depth, which is at most 32; the octets are allocated once.
 pub fn encode(alloc: Global, tree: &Tree) -> Result<Vec<u8>, EncodeFault>
     ensures found { IfOk result (λ octets. Encodes octets.items (value_of tree.now)) }
-    ensures only { (octets : List ℕ) → Encodes octets (value_of tree.now) → MatchResult result (λ found. found.items ≡ octets) (λ fault. fault ≡ memory) }
-    ensures refused { (result ≡ Err EncodeFault.NotSpellable) ↔ ((octets : List ℕ) → Encodes octets (value_of tree.now) → ⊥) }
+    ensures only { GivesEncoding (value_of tree.now) result }
+    ensures refused { (result ≡ Err EncodeFault.NotSpellable) ↔ HasNoEncoding (value_of tree.now) }
 {
     let Some(size) = size_at(tree, 1) else {
         return Err(EncodeFault::NotSpellable);

@@ -1,13 +1,10 @@
 //! Values as trees.
 
-ghost use Rattle.std.specs.Prelude.{◌≡◌, ◌⊎◌, ℕ, IfOk, IfErr, MatchResult};
-ghost use Rattle.der.specs.Value.{Value, Values};
-ghost use Rattle.der.specs.Encoding.{EncodesAllAt, Encodes};
+ghost use Rattle.std.specs.Prelude.{◌≡◌, ◌⊎◌, IfOk, IfErr};
+ghost use Rattle.der.specs.Encoding.{Encodes};
 ghost use Rattle.der.specs.FirstFault.{IsFirstFault};
 ghost use Rattle.der.specs.declared.fault.Fault.TheVariants.{Memory};
-ghost use Rattle.asn.specs.Place.{remaining};
-ghost use Rattle.asn.specs.Shows.{Shows};
-ghost use Rattle.der_tree.specs.Tree.{value_of, values_of};
+ghost use Rattle.der_tree.specs.Tree.{value_of, IsTreeOf, AreTreesIn, GivesTree};
 
 use asn::{Cursor, Fault, Tlv, whole};
 use std::alloc::{AllocError, Global};
@@ -21,8 +18,7 @@ pub enum Tree {
 
 #[cycle(build)]
 fn tree_of(alloc: Global, tlv: Tlv<'_>) -> Result<Tree, AllocError>
-    ensures { IfOk result (λ tree. (depth : ℕ) (value : Value) → Shows depth value tlv.entry
-        → value_of tree ≡ value) }
+    ensures { IfOk result (IsTreeOf tlv.entry) }
 {
     match tlv.inside() {
         None => Ok(Tree::Primitive(tlv.tag, Vec::from_slice(alloc, tlv.body)?)),
@@ -32,8 +28,7 @@ fn tree_of(alloc: Global, tlv: Tlv<'_>) -> Result<Tree, AllocError>
 
 #[cycle(build)]
 fn trees_of(alloc: Global, members: Cursor<'_>) -> Result<Vec<Tree>, AllocError>
-    ensures { IfOk result (λ trees. (depth : ℕ) (values : Values) → EncodesAllAt depth (remaining members.entry).octets values
-        → values_of trees.items ≡ values) }
+    ensures { IfOk result (λ trees. AreTreesIn members.entry trees.items) }
 {
     let mut members = members;
     let mut trees = Vec::new(alloc);
@@ -48,7 +43,7 @@ fn trees_of(alloc: Global, members: Cursor<'_>) -> Result<Vec<Tree>, AllocError>
 /// a node for each value.
 pub fn parse_tree(alloc: Global, octets: &[u8]) -> Result<Tree, Fault>
     ensures found { IfOk result (λ tree. Encodes octets.now (value_of tree)) }
-    ensures only { (value : Value) → Encodes octets.now value → MatchResult result (λ tree. value_of tree ≡ value) (λ fault. fault ≡ Memory) }
+    ensures only { GivesTree octets.now result }
     ensures refused { IfErr result (λ fault. (fault ≡ Memory) ⊎ IsFirstFault octets.now fault) }
 {
     let tlv = whole(octets)?;

@@ -1,5 +1,5 @@
 -- Names and subtrees that say the same cover the same.
-use Rattle.std.proofs.Common.{◌≡◌, ◌==◌, ◌⊎◌, ℕ, List, length, refl, ap, IsTrue}
+use Rattle.std.proofs.Common.{◌==◌, ◌⊎◌, ℕ, List, length, refl, ap, IsTrue}
 use Rattle.std.specs.Prelude.{◌↔◌}
 use Rattle.std.proofs.lemmas.Bool.{and_parts, and_from, eqb-true, eq-eqb}
 use Rattle.names.specs.declared.general.General.TheVariants as G
@@ -9,7 +9,7 @@ use Rattle.names.specs.Ip.{agree, is_in_range, is_range_inside}
 use Rattle.names.specs.GeneralSubtree.{is_in_subtree, is_subtree_inside, has_form}
 use Rattle.names.specs.Bases.{DomainNames, every_name, names_within, names_below, AddressRange}
 use Rattle.names.specs.GeneralLayout.{GeneralName, SubtreeBase, directory_name, dns_name, ip_address, directory_base, dns_base, ip_base, other_base}
-use Rattle.names.specs.GeneralCoverage.{is_among, are_among, is_address_of, is_range_of, is_covered, is_base_inside, is_of_form, IsAmong, IsAddressOf, CoverageTestIsExact, CoverageIsOfContents, InsideIsOfContents, NameFormIsOfContents, BaseFormIsOfContents, FormTestIsOfContents, BaseInsideIsSound, SharedBasesAreNested, CoveredIsOfForm, CoveredIsProcessed, BaseFormTestIsExact}
+use Rattle.names.specs.GeneralCoverage.{is_among, is_address_of, is_range_of, is_covered, is_base_inside, is_of_form, IsAmong, IsAddressOf, CoverageTestIsExact, CoverageIsOfContents, InsideIsOfContents, NameFormIsOfContents, BaseFormIsOfContents, FormTestIsOfContents, BaseInsideIsSound, SharedBasesAreNested, CoveredIsOfForm, CoveredIsProcessed, BaseFormTestIsExact}
 use Rattle.names.proofs.DomainLaws.{more_is_exact, names_inside, names_nested, among, among_all}
 use Rattle.names.proofs.Labels.{ends_in_is_exact}
 use Rattle.names.proofs.Ranges.{Same, same_of, agree_of, addresses_inside, addresses_nested}

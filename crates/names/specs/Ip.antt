@@ -28,6 +28,14 @@ pub record HasHole (mask : List ℕ) : Type 0 where
   pub zero_bit : bit mask hole ≡ 0
   pub one_bit : bit mask later ≡ 1
 
+-- no bit from this index on is a one
+abbrev pub HasNoOneFrom : ℕ → List ℕ → Type 0
+HasNoOneFrom start mask = (i : ℕ) → start ≤ i → i < 8 * length mask → bit mask i ≡ 0
+
+-- the bit at the index, from the start on, is a one
+abbrev pub IsOneFrom : ℕ → List ℕ → ℕ → Type 0
+IsOneFrom start mask i = (start ≤ i) × (i < 8 * length mask) × (bit mask i ≡ 1)
+
 -- the base of a constraint: an address, and a mask of its length
 pub record IsRangeOf (base : List ℕ) (range : IpRange) : Type 0 where
   pub address : IsIpAddress range.address.now

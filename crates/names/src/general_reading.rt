@@ -1,6 +1,7 @@
 //! Reading general names, and the bases of subtrees (RFC 5280, 4.2.1.6 and 4.2.1.10).
 
-ghost use Rattle.std.specs.Prelude.{◌≡◌, IfSome};
+ghost use Rattle.std.specs.Prelude.{◌≡◌};
+ghost use Rattle.asn.specs.Place.{text_at};
 ghost use Rattle.asn.specs.Reading.{seen_tlv, Gives};
 ghost use Rattle.names.specs.GeneralLayout.{form_of_identifier, explicit_name, general, dns_name_at, ip_address_at, base, dns_base_at, ip_base_at};
 ghost use Rattle.names.specs.Bases.{DnsNameTestIsExact, NamesOfBaseAreExact, AddressTestIsExact, RangeOfBaseIsExact, RefusedBaseIsExact};
@@ -93,7 +94,7 @@ impl<'a> General<'a> {
     /// The general name that the value is, or the first fault in it, with its offset in the value. The contents of forms other
     /// than directoryName, dNSName and iPAddress are free. No memory is taken.
     pub fn read(value: Tlv<'a>) -> Result<General<'a>, Refusal>
-        ensures { Gives general_name result (general (record { octets = value.entry.whole.now; at = 0 })) }
+        ensures { Gives general_name result (general (text_at value.entry.whole.now 0)) }
     {
         General::at(value.alone())
     }
@@ -140,7 +141,7 @@ impl<'a> Subtree<'a> {
     /// The base of a subtree that the value is, or the first fault in it, with its offset in the value. The contents of forms
     /// other than directoryName, dNSName and iPAddress are free. No memory is taken.
     pub fn read_base(value: Tlv<'a>) -> Result<Subtree<'a>, Refusal>
-        ensures { Gives subtree_base result (base (record { octets = value.entry.whole.now; at = 0 })) }
+        ensures { Gives subtree_base result (base (text_at value.entry.whole.now 0)) }
     {
         Subtree::base_at(value.alone())
     }

@@ -1,7 +1,7 @@
 //! IP addresses and the ranges that constrain them (RFC 5280, 4.2.1.6 and 4.2.1.10).
 
 ghost use Rattle.std.specs.Prelude.{◌≡◌, ◌≤◌, ◌<◌, ◌*◌, ◌↔◌, ℕ, IsTrue, IsOk, IfOk, IfErr, IfSome, IfNone, MatchOption, length};
-ghost use Rattle.names.specs.Ip.{IsIpAddress, IsMaskOf, HasHole, IsRangeOf, IsRefusedFor, IsInRange, bit, agree, is_in_range, is_range_inside};
+ghost use Rattle.names.specs.Ip.{IsIpAddress, IsMaskOf, HasHole, HasNoOneFrom, IsOneFrom, IsRangeOf, IsRefusedFor, IsInRange, bit, agree, is_in_range, is_range_inside};
 ghost use Rattle.asn.specs.Reading.{Gives};
 ghost use Rattle.names.specs.Bases.{is_ip_address, address_range, range_of_base};
 ghost use Rattle.names.specs.Laws.{RangeTestIsExact, RangeInsideIsSound, SharedRangesAreNested};
@@ -70,8 +70,8 @@ fn leading_ones(mask: &[u8]) -> u16
 /// The index of the first one from `start` on.
 fn one_from(mask: &[u8], start: u16) -> Option<u16>
     requires { length mask.now ≤ 16 }
-    ensures none { IfNone result ((i : ℕ) → start ≤ i → i < 8 * length mask.now → bit mask.now i ≡ 0) }
-    ensures some { IfSome result (λ i. (start ≤ i) × (i < 8 * length mask.now) × (bit mask.now i ≡ 1)) }
+    ensures none { IfNone result (HasNoOneFrom start mask.now) }
+    ensures some { IfSome result (IsOneFrom start mask.now) }
 {
     let count = 8 * mask.len() as u16;
     for i in start..count {

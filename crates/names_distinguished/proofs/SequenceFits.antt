@@ -13,7 +13,7 @@ use Rattle.names_distinguished.specs.AttributeValue.{is_text}
 use Rattle.names_distinguished.specs.NameLayout.{AttributePlaces, attribute_members}
 use Rattle.names_distinguished.specs.NameParts.{entry_of_parts, entry_in, entry_at, map_at}
 use Rattle.names_distinguished.specs.NameKey.{EntryFits, RdnFits, NameFits}
-use Rattle.names_distinguished.specs.NameView.{sequence_of}
+use Rattle.names_distinguished.specs.NameView.{maps_of}
 use Rattle.names_distinguished.proofs.Fits.{value_fits, prepared_short, set_fits}
 
 abbrev IsUpTo : ℕ → Place → Type 0
@@ -75,8 +75,8 @@ maps_fit (p ∷ ps) most short all =
     let h = all.0 in
     (map_fits p (omega arith), maps_fit ps most short all.1)
 
-pub sequence_fits : (sequence : RdnSequence) → NameFits (sequence_of sequence)
-unfolding sequence_of members_at
+pub sequence_fits : (sequence : RdnSequence) → NameFits (maps_of sequence)
+unfolding maps_of members_at
 sequence_fits sequence =
     let text = remaining sequence.rdns in
     let short = sequence.short in

@@ -1,10 +1,11 @@
 -- Where two sets agree, type by type, as it is counted run by run.
-use Rattle.std.specs.Prelude.{◌≡◌, ◌+◌, ℕ, false, List, [], ◌∷◌, map, Option, Some, None, is_some, if◌then◌else◌}
+use Rattle.std.specs.Prelude.{◌≡◌, ◌+◌, ℕ, false, List, [], ◌∷◌, map, Option, Some, None, is_some, MatchOption, if◌then◌else◌}
 use Rattle.std.specs.List.{AllByRecursion}
 use Rattle.names_distinguished.specs.declared.run.Run.{Run}
 use Rattle.names_distinguished.specs.declared.run.Source.{Source}
 use Rattle.names_distinguished.specs.declared.run.Source.TheVariants.{Set, Batch}
 use Rattle.names_distinguished.specs.declared.attribute.Attribute.{Attribute}
+use Rattle.names_distinguished.specs.declared.rdn.Rdn.{Rdn}
 use Rattle.names_distinguished.specs.AttributeValue.{ComparedValue}
 use Rattle.names_distinguished.specs.DistinguishedName.{Entry, value_at}
 use Rattle.names_distinguished.specs.NameView.{entry_of, entries_of}
@@ -62,3 +63,16 @@ found_in run (e ∷ es) = (if is_some (value_at e.0 run) then 1 else 0) + found_
 pub record IsCount (run set : List Entry) (count : ℕ) : Type 0 where
   pub fits : AllFit run set
   pub number : count ≡ found_in run set
+
+-- the first attribute of a source, and those behind it
+abbrev pub IsFirstIn : Source → Attribute × Source → Type 0
+IsFirstIn source parts = entries_in source ≡ entry_of parts.0 ∷ entries_in parts.1
+
+-- how many of the attributes have a type of the run, unless one has another value than the run's: of one, and of a set
+abbrev pub FindsAttribute : Run → Attribute → Option ℕ → Type 0
+FindsAttribute run attribute result =
+    MatchOption result (¬ (Fits (run_left run) (entry_of attribute))) (IsCount (run_left run) (entry_of attribute ∷ []))
+
+abbrev pub FindsAll : Run → Rdn → Option ℕ → Type 0
+FindsAll run set result =
+    MatchOption result (¬ (AllFit (run_left run) (entries_of set))) (IsCount (run_left run) (entries_of set))

@@ -2,7 +2,7 @@
 use Rattle.std.specs.Prelude.{◌≡◌, ◌↔◌, ℕ, List}
 use Rattle.names_distinguished.specs.declared.name.Name.{Name}
 use Rattle.names_distinguished.specs.DistinguishedName.{RdnMap, NamesMatch}
-use Rattle.names_distinguished.specs.NameView.{sequence_of}
+use Rattle.names_distinguished.specs.NameView.{maps_of}
 use Rattle.names_distinguished.specs.NameKey.{name_key}
 
 -- its whole encoding
@@ -15,7 +15,7 @@ offset_of name = name.offset
 
 -- its sets of attributes, as they are compared
 unfoldable pub rdns_of : Name → List RdnMap
-rdns_of name = sequence_of name.rdns
+rdns_of name = maps_of name.rdns
 
 -- two names have one key exactly where they match
 abbrev pub KeysDecideMatching : Type 0

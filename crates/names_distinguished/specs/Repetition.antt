@@ -33,6 +33,10 @@ kinds_left attributes = map placed_at (left attributes).values
 abbrev pub kinds_of : Kinds → List Placed
 kinds_of kinds = kinds_left kinds.attributes
 
+-- the first of these types, and those behind it
+abbrev pub IsFirstKind : Kinds → Kinds → PlacedKind → Type 0
+IsFirstKind old new next = kinds_of old ≡ (next.at, next.kind.now) ∷ kinds_of new
+
 abbrev pub with_next : Option PlacedKind → List Placed → List Placed
 with_next None others = []
 with_next (Some next) others = (next.at, next.kind.now) ∷ others
@@ -79,6 +83,10 @@ pub record IsPast (kind : List ℕ) (limit : ℕ) (run rest : List Placed) : Typ
 pub record GoesOn (last kind : List ℕ) (run rest chosen : List Placed) : Type 0 where
   pub covers : Covers last run rest → Covers kind run chosen
   pub ascends : (limit : ℕ) → Ascends limit run → Ascends limit rest → Ascends limit chosen
+
+-- the same of places in a run
+abbrev pub GoesOnFrom : List ℕ → List ℕ → Kinds → Pointer → Pointer → Type 0
+GoesOnFrom last kind run old new = GoesOn last kind (kinds_of run) (pointed old) (pointed new)
 
 -- the limit before the type, if it is the first
 pub record IsLimitBefore (kind : List ℕ) (limit : ℕ) (rest : List Placed) (least : ℕ) : Type 0 where

@@ -1,13 +1,13 @@
 //! Attributes of names (X.501, AttributeTypeAndValue; RFC 5280, 4.1.2.4).
 
-ghost use Rattle.std.specs.Prelude.{◌≡◌, ◌↔◌, ◌<◌, ℕ, List, IsTrue, false};
+ghost use Rattle.std.specs.Prelude.{◌≡◌, ◌↔◌, ◌<◌, IsTrue, false};
 ghost use Rattle.std.specs.List.{list_all};
 ghost use Rattle.std.specs.Str.{is_utf8};
 ghost use Rattle.std.specs.Char.{is_ascii};
 ghost use Rattle.asn.specs.Reading.{seen_tlv, left, Gives};
 ghost use Rattle.names_distinguished.specs.AttributeValue.{compared_value, is_text};
-ghost use Rattle.names_distinguished.specs.NameLayout.{attribute_members, attribute, attribute_order, has_kind, has_kind_before, is_less, is_string};
-ghost use Rattle.names_distinguished.specs.AttributeView.{seen_members};
+ghost use Rattle.names_distinguished.specs.NameLayout.{attribute_members, has_kind, has_kind_before, is_less, is_string};
+ghost use Rattle.names_distinguished.specs.AttributeView.{seen_members, order_among, attribute_among};
 ghost use Rattle.names_distinguished.specs.NameParts.{entry_of_parts};
 ghost use Rattle.names_distinguished.specs.NameView.{entry_of};
 ghost use Rattle.names_distinguished.specs.Repetition.{kind_at};
@@ -140,7 +140,7 @@ fn check_order(
     tlv: Tlv<'_>,
 ) -> Result<(), Refusal>
     requires { tlv.at < clear → has_kind_before kind.now tlv.at (left all).values ≡ false }
-    ensures { Gives (λ _. tt) result (attribute_order ((left all.entry).values) before.now kind.now (seen_tlv tlv.entry)) }
+    ensures { Gives (λ _. tt) result (order_among all.entry before.now kind.now tlv.entry) }
 {
     if repeats_unless_clear(all, clear, tlv.at, kind) {
         return Err((NameRule::RdnRepeat, tlv.at));
@@ -168,7 +168,7 @@ pub(crate) fn read_attribute<'a>(
     tlv: Tlv<'a>,
 ) -> Result<&'a [u8], Refusal>
     requires { tlv.at < clear → has_kind_before (kind_at (seen_tlv tlv)) tlv.at (left all).values ≡ false }
-    ensures { Gives (λ octets. octets.now) result (attribute ((left all.entry).values) before.now (seen_tlv tlv.entry)) }
+    ensures { Gives (λ octets. octets.now) result (attribute_among all.entry before.now tlv.entry) }
 {
     let members = AttributeMembers::read(tlv)?;
     check_order(all, clear, before, members.kind.body, tlv)?;

@@ -1,8 +1,9 @@
 //! Attributes of many short runs, sorted by their types without memory.
 
-ghost use Rattle.std.specs.Prelude.{◌≡◌, ◌≤◌, [], ◌∷◌, map, take, drop, length, false, IsTrue};
-ghost use Rattle.names_distinguished.specs.Batch.{is_ascending, IsPlaceOf, StartsApart, IsAdded};
-ghost use Rattle.names_distinguished.specs.NameView.{entry_of, entries_of};
+ghost use Rattle.std.specs.Prelude.{◌≡◌, ◌≤◌, [], ◌∷◌, map, drop, length, false, IsTrue};
+ghost use Rattle.names_distinguished.specs.Batch.{is_ascending, StartsApart};
+ghost use Rattle.names_distinguished.specs.AttributeOrder.{IsPlaceAmong};
+ghost use Rattle.names_distinguished.specs.NameView.{entry_of};
 
 use crate::attribute::Attribute;
 use crate::kinds::{Kinds, is_kind_before};
@@ -23,7 +24,7 @@ pub(crate) struct Batch<'a> {
 /// The place of the type among attributes that ascend: as many come before it.
 fn place_of(sorted: &[Attribute<'_>], kind: &[u8]) -> usize
     ensures within { result ≤ length sorted.now }
-    ensures place { IsPlaceOf kind.now (map entry_of (take result sorted.now)) (map entry_of (drop result sorted.now)) }
+    ensures place { IsPlaceAmong sorted.now kind.now result }
 {
     for (place, attribute) in sorted.iter().enumerate() {
         if !is_kind_before(attribute.kind, kind) {
@@ -46,8 +47,8 @@ fn is_free(sorted: &[Attribute<'_>], place: usize, kind: &[u8]) -> bool
 
 impl<'a> Batch<'a> {
     ghost use Rattle.names_distinguished.specs.Agreement.{run_left};
-    ghost use Rattle.names_distinguished.specs.Batch.{IsBatchOf, IsBatchOfSet};
-    ghost use Rattle.names_distinguished.specs.BatchView.{batched};
+    ghost use Rattle.names_distinguished.specs.Batch.{IsBatchOf};
+    ghost use Rattle.names_distinguished.specs.BatchView.{batched, IsAddedTo, IsFrontBatch};
     ghost use Rattle.names_distinguished.specs.Repetition.{kinds_of};
 
     /// A batch of no attributes.
@@ -70,7 +71,7 @@ impl<'a> Batch<'a> {
 
     /// Adds the attribute, and answers whether it did: there has to be room, and no attribute of the type.
     fn add(&mut self, attribute: Attribute<'a>) -> bool
-        ensures added { IsTrue result → IsAdded (entry_of attribute.entry) (batched self.old) (batched self.new) }
+        ensures added { IsTrue result → IsAddedTo attribute.entry self.old self.new }
         ensures same { result ≡ false → batched self.new ≡ batched self.old }
     {
         let place = place_of(self.attributes.as_slice(), attribute.kind);
@@ -102,7 +103,7 @@ impl<'a> Batch<'a> {
 
     /// This attribute and as many of those behind it in its set as there is room for; and those that are not among them.
     pub(crate) fn of_set(first: Attribute<'a>, others: Rdn<'a>) -> (Batch<'a>, Rdn<'a>)
-        ensures { IsBatchOfSet (entry_of first.entry ∷ entries_of others.entry) (entries_of result.1) (batched result.0) }
+        ensures { IsFrontBatch first.entry others.entry result.0 result.1 }
     {
         let mut batch = Batch::of_one(first);
         let mut rest = others;

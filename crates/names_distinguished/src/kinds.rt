@@ -1,8 +1,8 @@
 //! The types of the attributes of an RDN, in order.
 
-ghost use Rattle.std.specs.Prelude.{◌≡◌, ◌∷◌, [], MatchOption};
+ghost use Rattle.std.specs.Prelude.{◌≡◌, [], MatchOption};
 ghost use Rattle.asn.specs.Reading.{seen_tlv, left};
-ghost use Rattle.names_distinguished.specs.Repetition.{comes_before, first_body, kind_at, kinds_of};
+ghost use Rattle.names_distinguished.specs.Repetition.{comes_before, first_body, kind_at, kinds_of, IsFirstKind};
 
 use asn::{Cursor, Tlv};
 
@@ -55,8 +55,7 @@ impl<'a> Kinds<'a> {
     /// The next type.
     #[tactic(auto, unfolding(crate::specs::Repetition::kinds_left))]
     pub(crate) fn next(&mut self) -> Option<PlacedKind<'a>>
-        ensures { MatchOption result (kinds_of self.old ≡ [])
-            (λ next. kinds_of self.old ≡ (next.at, next.kind.now) ∷ kinds_of self.new) }
+        ensures { MatchOption result (kinds_of self.old ≡ []) (IsFirstKind self.old self.new) }
     {
         let attribute = self.attributes.next()?;
         Some(PlacedKind {

@@ -1,9 +1,10 @@
 //! Distinguished names (X.501, 9.2; RFC 5280, 4.1.2.4): read from octets, compared and turned into keys.
 
-ghost use Rattle.std.specs.Prelude.{◌≡◌, ◌↔◌, ◌<◌, ℕ, [], length, IsTrue, IfOk, OnOk};
+ghost use Rattle.std.specs.Prelude.{◌≡◌, ◌↔◌, ◌<◌, [], length, IsTrue, IfOk};
 ghost use Rattle.asn.specs.Reading.{seen_tlv, remaining, left, members, Gives, each};
 ghost use Rattle.asn.specs.Length.{contents_limit};
-ghost use Rattle.asn.specs.Members.{octets_of_each};
+ghost use Rattle.asn.specs.Members.{HasMembersOf};
+ghost use Rattle.asn.specs.Place.{text_at};
 ghost use Rattle.asn.specs.Oid.{oid_contents};
 ghost use Rattle.names_distinguished.specs.DistinguishedName.{NamesMatch, IsWithin, HasKind, matching, is_within, MatchingIsExact, WithinIsExact};
 ghost use Rattle.names_distinguished.specs.NameKey.{name_key};
@@ -27,7 +28,7 @@ pub struct Name<'a> {
     pub(crate) raw: &'a [u8],
     pub(crate) offset: usize,
     pub(crate) rdns: RdnSequence<'a>,
-    pub ghost members: { octets_of_each (left rdns.rdns).values ≡ octets_of_each (members (record { octets = raw.now; at = 0 })).values },
+    pub ghost members: { HasMembersOf rdns.rdns raw.now },
 }
 
 /// How far the attributes are known to have new types, once the one at the offset was read. A run is looked at when its first
@@ -121,10 +122,10 @@ impl<'a> Name<'a> {
     /// in the octets where the attributes of an RDN have one size or are few; else each size of 256 attributes or more, and each
     /// 256 attributes of other sizes, cost a walk over those before.
     pub fn read(value: Tlv<'a>) -> Result<Name<'a>, Refusal>
-        ensures walk { Gives (λ _. tt) result (name (record { octets = value.entry.whole.now; at = 0 })) }
+        ensures walk { Gives (λ _. tt) result (name (text_at value.entry.whole.now 0)) }
         ensures raw { IfOk result (λ found. raw_of found ≡ value.entry.whole.now) }
         ensures offset { IfOk result (λ found. offset_of found ≡ 0) }
-        ensures rdns { IfOk result (λ found. rdns_of found ≡ rdns_at (record { octets = value.entry.whole.now; at = 0 })) }
+        ensures rdns { IfOk result (λ it. rdns_of it ≡ rdns_at (text_at value.entry.whole.now 0)) }
     {
         Name::at(value.alone())
     }
@@ -148,7 +149,7 @@ impl<'a> Name<'a> {
     /// The RDNs in order, each a SET of attributes: the members of the name.
     #[tactic(auto, unfolding(crate::specs::NameOctets::raw_of))]
     pub fn rdns(&self) -> Cursor<'a>
-        ensures { octets_of_each (left result).values ≡ octets_of_each (members (record { octets = raw_of self.now; at = 0 })).values }
+        ensures { HasMembersOf result (raw_of self.now) }
     {
         self.rdns.rdns
     }

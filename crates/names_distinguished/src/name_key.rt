@@ -1,12 +1,11 @@
 //! The key of a name: octets that two names share exactly where they match.
 
-ghost use Rattle.std.specs.Prelude.{◌≡◌, ◌↔◌, ◌<◌, ◌^◌, ◌++◌, ◌∷◌, [], IsTrue, OnOk, IfOk, map, length};
+ghost use Rattle.std.specs.Prelude.{◌≡◌, ◌↔◌, ◌<◌, ◌^◌, ◌++◌, ◌∷◌, IsTrue, OnOk, IfOk, map, length};
 ghost use Rattle.std.specs.FinMap.{entries};
-ghost use Rattle.names_distinguished.specs.AttributeOrder.{AscendsByKind, HasSameValues, EndsInKind};
-ghost use Rattle.names_distinguished.specs.DistinguishedName.{rdn_map};
-ghost use Rattle.names_distinguished.specs.NameKey.{number, counted, entry_key, rdn_key, name_key, EntryFits, RdnFits, NameFits, KeyIsExact};
+ghost use Rattle.names_distinguished.specs.AttributeOrder.{AscendsByKind, HasSameValues, EndsInKind, AreFirstOfEach};
+ghost use Rattle.names_distinguished.specs.NameKey.{number, counted, entry_key, rdn_key, name_key, EntryFits, RdnFits, KeyIsExact};
 ghost use Rattle.names_distinguished.specs.NameOctets.{KeysDecideMatching};
-ghost use Rattle.names_distinguished.specs.NameView.{entry_of, entries_of, map_of, sequence_of};
+ghost use Rattle.names_distinguished.specs.NameView.{entry_of, entries_of, map_of, maps_of};
 
 use crate::attribute::{Attribute, is_text};
 use crate::rdn::Rdn;
@@ -98,7 +97,7 @@ fn first_of_each<'a>(
     sorted: &[Attribute<'a>],
 ) -> Result<Vec<Attribute<'a>>, AllocError>
     requires { AscendsByKind sorted.now }
-    ensures { IfOk result (λ list. map entry_of list.items ≡ entries (rdn_map (map entry_of sorted.now))) }
+    ensures { IfOk result (λ list. AreFirstOfEach sorted.now list.items) }
 {
     let mut list = Vec::new(alloc);
     for (i, attribute) in sorted.iter().enumerate() {
@@ -133,7 +132,7 @@ fn push_rdn(alloc: Global, out: &mut Vec<u8>, rdn: &Rdn<'_>) -> Result<(), Alloc
 
 /// How many sets the name has.
 fn count_of(name: &RdnSequence<'_>) -> usize
-    ensures { result ≡ length (sequence_of name.now) }
+    ensures { result ≡ length (maps_of name.now) }
 {
     let mut count = 0;
     let mut rest = *name;
@@ -149,7 +148,7 @@ impl RdnSequence<'_> {
     /// contents of the type's object identifier after their number, and either `01` and the prepared text after its number,
     /// or `00` and the identifier and contents of the value after their number. Numbers have four octets, the highest first.
     pub(crate) fn key(&self, alloc: Global) -> Result<Vec<u8>, AllocError>
-        ensures { IfOk result (λ key. key.items ≡ name_key (sequence_of self.now)) }
+        ensures { IfOk result (λ key. key.items ≡ name_key (maps_of self.now)) }
     {
         let mut out = Vec::new(alloc);
         push_number(&mut out, count_of(self))?;

@@ -1,9 +1,8 @@
 //! Relative distinguished names (X.501, 9.3): sets of attributes.
 
-ghost use Rattle.std.specs.Prelude.{◌≡◌, ◌↔◌, ◌∷◌, ◌++◌, [], IsTrue, IfSome, MatchOption, length, map, option_map};
-ghost use Rattle.std.specs.List.{AllByRecursion};
+ghost use Rattle.std.specs.Prelude.{◌≡◌, ◌↔◌, ◌++◌, [], IsTrue, IfSome, MatchOption, length, map, option_map};
 ghost use Rattle.names_distinguished.specs.AttributeValue.{compared_value};
-ghost use Rattle.names_distinguished.specs.DistinguishedName.{AgreeAt, value_at};
+ghost use Rattle.names_distinguished.specs.DistinguishedName.{value_at};
 ghost use Rattle.asn.specs.Reading.{left};
 ghost use Rattle.names_distinguished.specs.NameParts.{AreAttributes, are_distinct, entry_at};
 
@@ -25,15 +24,14 @@ pub(crate) struct Rdn<'a> {
 }
 
 impl<'a> Rdn<'a> {
-    ghost use Rattle.names_distinguished.specs.NameView.{entry_of, entries_of, map_of};
+    ghost use Rattle.names_distinguished.specs.NameView.{entries_of, map_of, IsFirstAttribute, AgreeOnFirst};
     ghost use Rattle.names_distinguished.specs.Agreement.{run_of};
-    ghost use Rattle.names_distinguished.specs.Batch.{IsFrontCount, FrontDiffers};
+    ghost use Rattle.names_distinguished.specs.BatchView.{CountsFront};
 
     /// The first attribute, and those after it.
     #[tactic(auto, unfolding(crate::specs::NameView::entries_of))]
     pub(crate) fn split_first(&self) -> Option<(Attribute<'a>, Rdn<'a>)>
-        ensures { MatchOption result (entries_of self.now ≡ [])
-            (λ parts. entries_of self.now ≡ entry_of parts.0 ∷ entries_of parts.1) }
+        ensures { MatchOption result (entries_of self.now ≡ []) (IsFirstAttribute self.now) }
     {
         let mut attributes = self.attributes;
         let attribute = attributes.next()?;
@@ -110,8 +108,7 @@ impl<'a> Rdn<'a> {
     /// where one has another value.
     fn count_run(&self, other: &Rdn<'_>) -> Option<(usize, Rdn<'a>)>
         requires { ¬ (entries_of self.now ≡ []) }
-        ensures { MatchOption result (FrontDiffers (entries_of self.now) (entries_of other.now))
-            (λ part. IsFrontCount (entries_of self.now) (entries_of other.now) (entries_of part.1) part.0) }
+        ensures { CountsFront self.now other.now result }
     {
         let behind = self.behind_run();
         match Run::first(Source::Set(*self)).count_in(other) {
@@ -124,8 +121,7 @@ impl<'a> Rdn<'a> {
     #[inline(never)]
     fn count_batch(&self, other: &Rdn<'_>) -> Option<(usize, Rdn<'a>)>
         requires { ¬ (entries_of self.now ≡ []) }
-        ensures { MatchOption result (FrontDiffers (entries_of self.now) (entries_of other.now))
-            (λ part. IsFrontCount (entries_of self.now) (entries_of other.now) (entries_of part.1) part.0) }
+        ensures { CountsFront self.now other.now result }
     {
         let Some((first, others)) = self.split_first() else {
             unreachable!();
@@ -140,8 +136,7 @@ impl<'a> Rdn<'a> {
     /// The same of a run, where it is long or the sets have few attributes, and else of a batch.
     fn count_front(&self, other: &Rdn<'_>, few: bool) -> Option<(usize, Rdn<'a>)>
         requires { ¬ (entries_of self.now ≡ []) }
-        ensures { MatchOption result (FrontDiffers (entries_of self.now) (entries_of other.now))
-            (λ part. IsFrontCount (entries_of self.now) (entries_of other.now) (entries_of part.1) part.0) }
+        ensures { CountsFront self.now other.now result }
     {
         if few || self.begins_with_long_run() {
             self.count_run(other)
@@ -153,8 +148,7 @@ impl<'a> Rdn<'a> {
     /// Whether two sets have the same value, or both none, of each type that this set has: as many of its attributes have a type
     /// of the other set as it has.
     fn agrees_on_its_own(&self, other: &Rdn<'_>) -> bool
-        ensures { IsTrue result
-            ↔ AllByRecursion (λ e. AgreeAt (entries_of self.now) (entries_of other.now) e.0) (entries_of self.now) }
+        ensures { IsTrue result ↔ AgreeOnFirst self.now other.now }
     {
         let count = self.count();
         let mut rest = *other;

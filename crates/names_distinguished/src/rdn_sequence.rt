@@ -1,6 +1,6 @@
 //! Distinguished names (X.501, 9.2; RFC 5280, 4.1.2.4).
 
-ghost use Rattle.std.specs.Prelude.{◌≡◌, ◌↔◌, ◌<◌, ◌^◌, ◌++◌, ◌∷◌, [], length, IsTrue, MatchOption};
+ghost use Rattle.std.specs.Prelude.{◌≡◌, ◌↔◌, ◌<◌, ◌^◌, [], length, IsTrue, MatchOption};
 ghost use Rattle.names_distinguished.specs.DistinguishedName.{NamesMatch, IsWithin, HasKind, matching, is_within};
 ghost use Rattle.asn.specs.Reading.{remaining, left};
 ghost use Rattle.names_distinguished.specs.NameParts.{AreRdns};
@@ -17,13 +17,12 @@ pub(crate) struct RdnSequence<'a> {
 }
 
 impl<'a> RdnSequence<'a> {
-    ghost use Rattle.names_distinguished.specs.NameView.{map_of, sequence_of};
+    ghost use Rattle.names_distinguished.specs.NameView.{maps_of, IsFirstRdn, IsNotWithin, IsLeftBehind};
 
     /// The first relative name, and those after it.
-    #[tactic(auto, unfolding(crate::specs::NameView::sequence_of))]
+    #[tactic(auto, unfolding(crate::specs::NameView::maps_of))]
     pub(crate) fn split_first(&self) -> Option<(Rdn<'a>, RdnSequence<'a>)>
-        ensures { MatchOption result (sequence_of self.now ≡ [])
-            (λ parts. sequence_of self.now ≡ map_of parts.0 ∷ sequence_of parts.1) }
+        ensures { MatchOption result (maps_of self.now ≡ []) (IsFirstRdn self.now) }
     {
         let mut rdns = self.rdns;
         let rdn = rdns.next()?;
@@ -35,15 +34,14 @@ impl<'a> RdnSequence<'a> {
 
     /// Whether the name has no relative name.
     pub(crate) fn is_empty(&self) -> bool
-        ensures { IsTrue result ↔ (sequence_of self.now ≡ []) }
+        ensures { IsTrue result ↔ (maps_of self.now ≡ []) }
     {
         self.split_first().is_none()
     }
 
     /// What follows the first relative names, where these match all those of the other, in order.
     fn after(&self, other: &RdnSequence<'_>) -> Option<RdnSequence<'a>>
-        ensures { MatchOption result (¬ (IsWithin (sequence_of self.now) (sequence_of other.now)))
-            (λ rest. sequence_of self.now ≡ sequence_of other.now ++ sequence_of rest) }
+        ensures { MatchOption result (IsNotWithin self.now other.now) (IsLeftBehind self.now other.now) }
     {
         let mut inner = *self;
         let mut outer = *other;
@@ -59,16 +57,16 @@ impl<'a> RdnSequence<'a> {
 
     /// Whether the name begins with all relative names of the other.
     pub(crate) fn within(&self, other: &RdnSequence<'_>) -> bool
-        ensures decides { IsTrue result ↔ IsWithin (sequence_of self.now) (sequence_of other.now) }
-        ensures test { result ≡ is_within (sequence_of self.now) (sequence_of other.now) }
+        ensures decides { IsTrue result ↔ IsWithin (maps_of self.now) (maps_of other.now) }
+        ensures test { result ≡ is_within (maps_of self.now) (maps_of other.now) }
     {
         self.after(other).is_some()
     }
 
     /// Whether the names have as many relative names, which match in order.
     pub(crate) fn matches(&self, other: &RdnSequence<'_>) -> bool
-        ensures decides { IsTrue result ↔ NamesMatch (sequence_of self.now) (sequence_of other.now) }
-        ensures test { result ≡ matching (sequence_of self.now) (sequence_of other.now) }
+        ensures decides { IsTrue result ↔ NamesMatch (maps_of self.now) (maps_of other.now) }
+        ensures test { result ≡ matching (maps_of self.now) (maps_of other.now) }
     {
         match self.after(other) {
             Some(rest) => rest.is_empty(),
@@ -78,7 +76,7 @@ impl<'a> RdnSequence<'a> {
 
     /// Whether some attribute has the type, whose object identifier has these contents.
     pub(crate) fn has(&self, kind: &[u8]) -> bool
-        ensures { IsTrue result ↔ HasKind kind.now (sequence_of self.now) }
+        ensures { IsTrue result ↔ HasKind kind.now (maps_of self.now) }
     {
         let mut rest = *self;
         while let Some((rdn, after)) = rest.split_first() {

@@ -8,7 +8,7 @@
 ghost use Rattle.std.specs.Prelude.{◌≡◌, IsTrue};
 ghost use Rattle.names_distinguished.specs.Batch.{NoneBefore};
 ghost use Rattle.names_distinguished.specs.BatchView.{batched};
-ghost use Rattle.names_distinguished.specs.Repetition.{kinds_of, pointed, Ascends, IsPast, GoesOn, IsLimitBefore, IsRest, AreNew};
+ghost use Rattle.names_distinguished.specs.Repetition.{kinds_of, pointed, Ascends, IsPast, GoesOnFrom, IsLimitBefore, IsRest, AreNew};
 
 use crate::batch::{Batch, MOST};
 use crate::kinds::{Kinds, PlacedKind, is_kind_before};
@@ -36,7 +36,7 @@ impl<'a> Pointer<'a> {
 
     /// This place where the type does not come before the last that was looked for, else the first of the run.
     fn going_on(self, run: Kinds<'a>, last: &[u8], kind: &[u8]) -> Pointer<'a>
-        ensures { GoesOn last.now kind.now (kinds_of run.entry) (pointed self.entry) (pointed result) }
+        ensures { GoesOnFrom last.now kind.now run.entry self.entry result }
     {
         if is_kind_before(kind, last) {
             Pointer::first(run)

@@ -1,9 +1,8 @@
 //! Attributes whose types ascend.
 
-ghost use Rattle.std.specs.Prelude.{◌≡◌, ◌∷◌, [], MatchOption, option_map};
+ghost use Rattle.std.specs.Prelude.{◌≡◌, [], MatchOption, option_map};
 ghost use Rattle.names_distinguished.specs.AttributeValue.{compared_value};
 ghost use Rattle.names_distinguished.specs.DistinguishedName.{value_at};
-ghost use Rattle.names_distinguished.specs.NameView.{entry_of, entries_of};
 
 use crate::attribute::Attribute;
 use crate::kinds::is_kind_before;
@@ -17,13 +16,12 @@ pub(crate) enum Source<'a> {
 }
 
 impl<'a> Source<'a> {
-    ghost use Rattle.names_distinguished.specs.Agreement.{entries_in};
+    ghost use Rattle.names_distinguished.specs.Agreement.{entries_in, IsFirstIn};
 
     /// The first attribute, and those after it.
     #[tactic(auto, unfolding(crate::specs::Agreement::entries_in))]
     fn split_first(&self) -> Option<(Attribute<'a>, Source<'a>)>
-        ensures { MatchOption result (entries_in self.now ≡ [])
-            (λ parts. entries_in self.now ≡ entry_of parts.0 ∷ entries_in parts.1) }
+        ensures { MatchOption result (entries_in self.now ≡ []) (IsFirstIn self.now) }
     {
         match *self {
             Source::Set(set) => match set.split_first() {
@@ -46,7 +44,7 @@ pub(crate) struct Run<'a> {
 }
 
 impl<'a> Run<'a> {
-    ghost use Rattle.names_distinguished.specs.Agreement.{entries_in, rising, run_of, run_left, SearchesOn, StopsAt, IsFoundPast, Fits, AllFit, IsCount};
+    ghost use Rattle.names_distinguished.specs.Agreement.{entries_in, rising, run_of, run_left, SearchesOn, StopsAt, IsFoundPast, FindsAttribute, FindsAll};
 
     /// The run that the attributes begin with.
     pub(crate) fn first(attributes: Source<'a>) -> Run<'a>
@@ -127,8 +125,7 @@ impl<'a> Run<'a> {
     /// value of that type.
     fn finds(&self, attribute: &Attribute<'_>) -> Option<usize>
         requires { StopsAt attribute.now.kind.now (run_left self.now) }
-        ensures { MatchOption result (¬ (Fits (run_left self.now) (entry_of attribute.now)))
-            (IsCount (run_left self.now) (entry_of attribute.now ∷ [])) }
+        ensures { FindsAttribute self.now attribute.now result }
     {
         match self.of_kind(attribute.kind) {
             Some(found) => {
@@ -145,8 +142,7 @@ impl<'a> Run<'a> {
     /// How many attributes of the set have a type of this run; `None` where one has another value than the run's. It is one
     /// walk over the set, in which the run is looked through once for each run of the set.
     pub(crate) fn count_in(&self, set: &Rdn<'_>) -> Option<usize>
-        ensures { MatchOption result (¬ (AllFit (run_left self.now) (entries_of set.now)))
-            (IsCount (run_left self.now) (entries_of set.now)) }
+        ensures { FindsAll self.now set.now result }
     {
         let mut rest = *set;
         let mut left = *self;

@@ -1,6 +1,7 @@
 -- Texts as they are compared: without regard to the case of ASCII letters (RFC 4518, 2.2) and to insignificant spaces
 -- (RFC 4518, 2.6.1), as RFC 5280, 7.1, asks.
 use Rattle.std.specs.Prelude.{◌≡◌, ◌<◌, ℕ, List, [], ◌∷◌, ◌++◌, Bool, false, ◌==◌, not, nat_lt, length, map}
+use Rattle.std.specs.Borrow.{Bor}
 use Rattle.std.specs.List.{slice_split, filter, join_with_byte, All}
 use Rattle.std.specs.Char.{to_ascii_lowercase}
 
@@ -28,6 +29,10 @@ prepared text = join_with_byte 32 (words text)
 pub record BeginsWithWord (text word rest : List ℕ) : Type 0 where
   pub first : words text ≡ lowered word ∷ words rest
   pub shorter : length rest < length text
+
+-- the same of parts of a text
+abbrev pub IsFirstWord : List ℕ → Bor (List ℕ) × Bor (List ℕ) → Type 0
+IsFirstWord text found = BeginsWithWord text found.0.now found.1.now
 
 -- to prepare twice is to prepare once
 abbrev pub PreparationIsIdempotent : Type 0

@@ -2,7 +2,7 @@
 
 ghost use Rattle.std.specs.Prelude.{◌≡◌, ◌≤◌, ◌↔◌, [], IsTrue, IfOk, MatchOption, length};
 ghost use Rattle.std.specs.List.{position, position_or_len};
-ghost use Rattle.names_text.specs.Preparation.{words, prepared, is_space, not_space, BeginsWithWord, PreparationIsIdempotent, CaseIsIgnored, EndSpacesAreDropped, SpaceRunsAreOneSpace, InnerSpacesStay, WordsStay};
+ghost use Rattle.names_text.specs.Preparation.{words, prepared, is_space, not_space, IsFirstWord, PreparationIsIdempotent, CaseIsIgnored, EndSpacesAreDropped, SpaceRunsAreOneSpace, InnerSpacesStay, WordsStay};
 
 use std::alloc::{AllocError, Global};
 
@@ -44,8 +44,7 @@ fn word_len(text: &[u8]) -> usize
 
 /// The first word of `text`, and what stands after it.
 fn next_word(text: &[u8]) -> Option<(&[u8], &[u8])>
-    ensures { MatchOption result (words text.now ≡ [])
-        (λ found. BeginsWithWord text.now found.0.now found.1.now) }
+    ensures { MatchOption result (words text.now ≡ []) (IsFirstWord text.now) }
 {
     let (_, rest) = text.split_at(spaces_before(text));
     if rest.is_empty() {

@@ -1,17 +1,20 @@
 -- What a validation under way stands for, and what a step of it says (RFC 5280, 6.1.2 to 6.1.5).
-use Rattle.std.specs.Prelude.{◌≡◌, ◌⊎◌, ◌↔◌, ◌+◌, ◌<◌, ◌≤◌, ℕ, ℤ, List, map, Option, false, length, take, sum_by}
+use Rattle.std.specs.Prelude.{◌≡◌, ◌⊎◌, ◌↔◌, ◌+◌, ◌<◌, ◌≤◌, ℕ, ℤ, List, map, Option, Result, IfOk, OnErr, false, length, take, sum_by}
+use Rattle.std.specs.Borrow.{Bor}
+use Rattle.std.specs.Option.{option_copied}
 use Rattle.names.specs.GeneralName.{IsProcessed}
 use Rattle.names.specs.GeneralLayout.{GeneralName}
 use Rattle.names.specs.GeneralCoverage.{form_of_general_name}
 use Rattle.cert.specs.Certificate.{Certificate, seen_certificate}
 use Rattle.cert.specs.declared.certificate.Certificate as code
 use Rattle.path.specs.declared.reason.Reason.{Reason}
+use Rattle.path.specs.declared.reason.Outcome.{Outcome}
 use Rattle.path.specs.declared.reason.Step.{Step}
 use Rattle.path.specs.declared.reason.Step.TheVariants.{Passed, Failed, Ended}
 use Rattle.path.specs.Query.{Query, Accepts, count}
 use Rattle.path_conditions.specs.NamesOf.{Permits, Excludes}
-use Rattle.path.specs.Conditions.{MeetsConditions, constraints_at}
-use Rattle.path.specs.Validity.{IsServed, IsLeastBroken, IsNotServedFor}
+use Rattle.path.specs.Conditions.{MeetsCondition, MeetsConditions, constraints_at}
+use Rattle.path.specs.Validity.{IsServed, IsLeastBroken, IsNotServedFor, IsOutcome}
 use Rattle.path_conditions.specs.Narrowing.{has_processed}
 use Rattle.path_conditions.specs.Constraints.{Constraints, AdmitsName}
 
@@ -23,6 +26,10 @@ query_of anchor path moment purpose = record {
   moment = moment;
   purpose = purpose;
 }
+
+-- the question that a caller asks
+abbrev pub question : code.Certificate → List code.Certificate → ℤ → Option (Bor (List ℕ)) → Query
+question anchor path moment purpose = query_of anchor path moment (option_copied purpose)
 
 -- a validation that certificates 1 to done have passed
 pub record Progress (V : Type 0) : Type 0 where
@@ -57,15 +64,53 @@ pub record CarriesNoSubtree (q : Query) (j : ℕ) : Type 0 where
   pub permitted : has_processed (constraints_at q j).permitted ≡ false
   pub excluded : has_processed (constraints_at q j).excluded ≡ false
 
+-- no certificate of the path carries one
+abbrev pub CarryNoSubtrees : code.Certificate → List code.Certificate → ℤ → Option (Bor (List ℕ)) → Type 0
+CarryNoSubtrees anchor path moment purpose =
+    (j : ℕ) → 1 ≤ j → j ≤ length path → CarriesNoSubtree (question anchor path moment purpose) j
+
+-- what is answered is the outcome of the question that the caller asks
+abbrev pub HasOutcome : {V E : Type 0} → (V → Accepts) → V → code.Certificate → List code.Certificate → ℤ → Option (Bor (List ℕ)) → Result Outcome E → Type 0
+HasOutcome accepts verifier anchor path moment purpose result =
+    IfOk result (IsOutcome (accepts verifier) (question anchor path moment purpose))
+
+-- certificates 1 to j meet all conditions, and j carries a subtree of a processed form, for which memory is asked
+pub record AsksMemoryAt (accepts : Accepts) (q : Query) (j : ℕ) : Type 0 where
+  pub served : IsServed q
+  pub from : 1 ≤ j
+  pub to : j ≤ count q
+  pub each : (i : ℕ) → 1 ≤ i → i ≤ j → MeetsConditions accepts q i
+  pub carries : ¬ CarriesNoSubtree q j
+
+-- an error is answered only if the question that the caller asks has such a certificate
+abbrev pub NeedsRoom : {V E : Type 0} → (V → Accepts) → V → code.Certificate → List code.Certificate → ℤ → Option (Bor (List ℕ)) → Result Outcome E → Type 0
+NeedsRoom accepts verifier anchor path moment purpose result =
+    OnErr result ((j : ℕ) × AsksMemoryAt (accepts verifier) (question anchor path moment purpose) j)
+
+-- The words below speak of the certificate behind those that have passed: it meets the condition whose breach is the reason,
+-- or all of them, or this is the condition of the least rank that it breaks.
+abbrev pub NextMeets : {V : Type 0} → (V → Accepts) → Progress V → Reason → Type 0
+NextMeets accepts state reason = MeetsCondition (accepts state.verifier) state.query (state.done + 1) reason
+
+abbrev pub MeetsAll : {V : Type 0} → (V → Accepts) → Progress V → Type 0
+MeetsAll accepts state = MeetsConditions (accepts state.verifier) state.query (state.done + 1)
+
+abbrev pub NextBreaks : {V : Type 0} → (V → Accepts) → Progress V → Reason → Type 0
+NextBreaks accepts state reason = IsLeastBroken (accepts state.verifier) state.query (state.done + 1) reason
+
+-- there is such a certificate, the path is served, and it meets all conditions
+abbrev pub NextPasses : {V : Type 0} → (V → Accepts) → Progress V → Type 0
+NextPasses accepts state = IsServed state.query × (state.done < count state.query) × MeetsAll accepts state
+
 -- why the next step fails
 abbrev pub FailsFor : Accepts → Query → ℕ → Reason → Type 0
 FailsFor accepts q k reason =
     IsNotServedFor q reason ⊎ (IsServed q × (k < count q) × IsLeastBroken accepts q (k + 1) reason)
 
 -- what a step says, and where it leads
-abbrev pub Advances : {V : Type 0} → Accepts → Progress V → Step → Progress V → Type 0
-Advances accepts old Passed new =
-    IsServed old.query × (old.done < count old.query) × MeetsConditions accepts old.query (old.done + 1)
+abbrev pub TakesStep : {V : Type 0} → (V → Accepts) → Progress V → Progress V → Step → Type 0
+TakesStep accepts old new Passed =
+    IsServed old.query × (old.done < count old.query) × MeetsAll accepts old
     × (new.done ≡ old.done + 1) × (new.query ≡ old.query) × (new.verifier ≡ old.verifier)
-Advances accepts old (Failed reason) new = FailsFor accepts old.query old.done reason × (new ≡ old)
-Advances accepts old Ended new = IsServed old.query × (old.done ≡ count old.query) × (new ≡ old)
+TakesStep accepts old new (Failed reason) = FailsFor (accepts old.verifier) old.query old.done reason × (new ≡ old)
+TakesStep accepts old new Ended = IsServed old.query × (old.done ≡ count old.query) × (new ≡ old)

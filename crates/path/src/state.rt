@@ -1,16 +1,16 @@
 //! The validation of a path under way, one certificate after the other (RFC 5280, 6.1.2 to 6.1.5).
 
-ghost use Rattle.std.specs.Prelude.{◌≡◌, ◌↔◌, ◌⊎◌, ◌<◌, ◌≤◌, ◌+◌, IsTrue, IsOk, IfOk, OnOk, OnErr, MatchOption, false, Some};
+ghost use Rattle.std.specs.Prelude.{◌≡◌, ◌↔◌, ◌<◌, ◌≤◌, ◌+◌, IsTrue, IsOk, IfOk, OnOk, OnErr, MatchOption, false, Some};
 ghost use Rattle.std.specs.List.{list_any};
 ghost use Rattle.std.specs.Option.{option_copied};
 ghost use Rattle.std.specs.Str.{bytes_eq};
 ghost use Rattle.cert.specs.Certificate.{seen_certificate};
 ghost use Rattle.path.specs.declared.reason.Reason.TheVariants as reason;
 ghost use Rattle.path.specs.Query.{count, certificate_at};
-ghost use Rattle.path.specs.Conditions.{AreNamesChecked, MeetsCondition, MeetsConditions};
-ghost use Rattle.path.specs.Validity.{IsServed, IsLeastBroken};
+ghost use Rattle.path.specs.Conditions.{AreNamesChecked};
+ghost use Rattle.path.specs.Validity.{IsServed};
 ghost use Rattle.path_conditions.specs.Constraints.{subtrees_in};
-ghost use Rattle.path.specs.State.{query_of, Advances, AdmitsExactly, CarriesNoSubtree, subtrees_up_to};
+ghost use Rattle.path.specs.State.{question, TakesStep, NextMeets, MeetsAll, NextBreaks, NextPasses, AdmitsExactly, CarriesNoSubtree, subtrees_up_to};
 ghost use Rattle.path.specs.Keeping.{spent, lesser};
 
 use crate::reason::{Reason, Step};
@@ -139,7 +139,7 @@ impl<'p, 'c, V: Verifier> State<'p, 'c, V> {
         purpose: Option<&'p [u8]>,
     ) -> State<'p, 'c, V>
         ensures verifier { result.verifier ≡ verifier.now }
-        ensures query { result.query ≡ query_of anchor.now path.now moment (option_copied purpose.entry) }
+        ensures query { result.query ≡ question anchor.now path.now moment purpose.entry }
         ensures done { result.done ≡ 0 }
     {
         State {
@@ -204,7 +204,7 @@ impl<'p, 'c, V: Verifier> State<'p, 'c, V> {
     /// as far as they are the same.
     fn is_not_repeated(&self) -> bool
         requires { self.now.done < count self.now.query }
-        ensures { IsTrue result ↔ MeetsCondition (V.accepts self.now.verifier) self.now.query (self.now.done + 1) reason.Repeated }
+        ensures { IsTrue result ↔ NextMeets V.accepts self.now reason.Repeated }
     {
         let path = self.path;
         !repeats(&path[..self.done], self.certificate())
@@ -212,7 +212,7 @@ impl<'p, 'c, V: Verifier> State<'p, 'c, V> {
 
     fn is_signed_by_issuer(&self) -> bool
         requires { self.now.done < count self.now.query }
-        ensures { IsTrue result ↔ MeetsCondition (V.accepts self.now.verifier) self.now.query (self.now.done + 1) reason.Signature }
+        ensures { IsTrue result ↔ NextMeets V.accepts self.now reason.Signature }
     {
         let certificate = self.certificate();
         self.verifier.judge(
@@ -225,35 +225,35 @@ impl<'p, 'c, V: Verifier> State<'p, 'c, V> {
 
     fn is_named_by_issuer(&self) -> bool
         requires { self.now.done < count self.now.query }
-        ensures { IsTrue result ↔ MeetsCondition (V.accepts self.now.verifier) self.now.query (self.now.done + 1) reason.Issuer }
+        ensures { IsTrue result ↔ NextMeets V.accepts self.now reason.Issuer }
     {
         self.certificate().issuer.matches(&self.issuer)
     }
 
     fn are_names_permitted(&self) -> bool
         requires { self.now.done < count self.now.query }
-        ensures { IsTrue result ↔ MeetsCondition (V.accepts self.now.verifier) self.now.query (self.now.done + 1) reason.NotPermitted }
+        ensures { IsTrue result ↔ NextMeets V.accepts self.now reason.NotPermitted }
     {
         !self.are_names_checked() || self.constraints.permits_names_of(self.certificate())
     }
 
     fn are_names_not_excluded(&self) -> bool
         requires { self.now.done < count self.now.query }
-        ensures { IsTrue result ↔ MeetsCondition (V.accepts self.now.verifier) self.now.query (self.now.done + 1) reason.Excluded }
+        ensures { IsTrue result ↔ NextMeets V.accepts self.now reason.Excluded }
     {
         !self.are_names_checked() || !self.constraints.excludes_name_of(self.certificate())
     }
 
     fn are_constraints_processed(&self) -> bool
         requires { self.now.done < count self.now.query }
-        ensures { IsTrue result ↔ MeetsCondition (V.accepts self.now.verifier) self.now.query (self.now.done + 1) reason.ConstraintForm }
+        ensures { IsTrue result ↔ NextMeets V.accepts self.now reason.ConstraintForm }
     {
         !self.are_names_checked() || !self.forms.has_form_of_name_of(self.certificate())
     }
 
     fn is_within_path_length(&self) -> bool
         requires { self.now.done < count self.now.query }
-        ensures { IsTrue result ↔ MeetsCondition (V.accepts self.now.verifier) self.now.query (self.now.done + 1) reason.PathLength }
+        ensures { IsTrue result ↔ NextMeets V.accepts self.now reason.PathLength }
     {
         self.is_last() || has_room(self.room, self.certificate().self_issued())
     }
@@ -261,7 +261,7 @@ impl<'p, 'c, V: Verifier> State<'p, 'c, V> {
     /// Whether the certificate meets the condition whose breach is the reason.
     fn meets(&self, reason: Reason) -> bool
         requires { self.now.done < count self.now.query }
-        ensures { IsTrue result ↔ MeetsCondition (V.accepts self.now.verifier) self.now.query (self.now.done + 1) reason }
+        ensures { IsTrue result ↔ NextMeets V.accepts self.now reason }
     {
         let certificate = self.certificate();
         match reason {
@@ -286,7 +286,7 @@ impl<'p, 'c, V: Verifier> State<'p, 'c, V> {
     /// The condition of the least rank that the certificate breaks.
     fn broken(&self) -> Option<Reason>
         requires { self.now.done < count self.now.query }
-        ensures { MatchOption result (MeetsConditions (V.accepts self.now.verifier) self.now.query (self.now.done + 1)) (λ r. IsLeastBroken (V.accepts self.now.verifier) self.now.query (self.now.done + 1) r) }
+        ensures { MatchOption result (MeetsAll V.accepts self.now) (NextBreaks V.accepts self.now) }
     {
         for reason in REASONS {
             if !self.meets(reason) {
@@ -300,7 +300,7 @@ impl<'p, 'c, V: Verifier> State<'p, 'c, V> {
     fn pass(&mut self) -> Result<(), AllocError>
         requires below { self.old.done < count self.old.query }
         requires served { IsServed self.old.query }
-        requires length { MeetsCondition (V.accepts self.old.verifier) self.old.query (self.old.done + 1) reason.PathLength }
+        requires length { NextMeets V.accepts self.old reason.PathLength }
         ensures done { OnOk result (self.new.done ≡ self.old.done + 1) }
         ensures query { OnOk result (self.new.query ≡ self.old.query) }
         ensures verifier { OnOk result (self.new.verifier ≡ self.old.verifier) }
@@ -326,10 +326,10 @@ impl<'p, 'c, V: Verifier> State<'p, 'c, V> {
     /// each that it carries; and what looking for a repeated certificate costs. Memory is taken only where the certificate
     /// passes and carries a subtree of a processed form.
     pub fn next(&mut self) -> Result<Step, AllocError>
-        ensures step { IfOk result (λ step. Advances (V.accepts self.old.verifier) self.old step self.new) }
+        ensures step { IfOk result (TakesStep V.accepts self.old self.new) }
         ensures err { OnErr result (self.new ≡ self.old) }
         // Memory is asked for only where the certificate passes, and carries a subtree of a processed form.
-        ensures passing { OnErr result (IsServed self.old.query × (self.old.done < count self.old.query) × MeetsConditions (V.accepts self.old.verifier) self.old.query (self.old.done + 1)) }
+        ensures passing { OnErr result (NextPasses V.accepts self.old) }
         ensures calm { CarriesNoSubtree self.old.query (self.old.done + 1) → IsOk result }
     {
         let count = self.path.len();

@@ -1,9 +1,8 @@
 //! The validation of a whole path (RFC 5280, 6.1).
 
-ghost use Rattle.std.specs.Prelude.{◌≡◌, ◌<◌, ◌≤◌, ◌+◌, ℕ, IfOk, IsOk, length};
-ghost use Rattle.std.specs.Option.{option_copied};
-ghost use Rattle.path.specs.Validity.{IsOutcome, OutcomeIsOne};
-ghost use Rattle.path.specs.State.{query_of, CarriesNoSubtree};
+ghost use Rattle.std.specs.Prelude.{◌≡◌, ◌<◌, ◌≤◌, ◌+◌, IsOk};
+ghost use Rattle.path.specs.Validity.{OutcomeIsOne};
+ghost use Rattle.path.specs.State.{CarryNoSubtrees, HasOutcome, NeedsRoom};
 
 use crate::reason::{Outcome, Step};
 use crate::state::{MOST_CERTIFICATES, State};
@@ -41,8 +40,10 @@ pub fn validate<V: Verifier>(
     moment: i64,
     purpose: Option<&[u8]>,
 ) -> Result<Outcome, AllocError>
-    ensures outcome { IfOk result (λ outcome. IsOutcome (V.accepts verifier.now) (query_of anchor.now path.now moment (option_copied purpose.entry)) outcome) }
-    ensures calm { ((j : ℕ) → 1 ≤ j → j ≤ length path.now → CarriesNoSubtree (query_of anchor.now path.now moment (option_copied purpose.entry)) j) → IsOk result }
+    ensures ok { HasOutcome V.accepts verifier.now anchor.now path.now moment purpose.entry result }
+    // Memory is asked for only where a certificate that is not refused carries a subtree of a processed form.
+    ensures err { NeedsRoom V.accepts verifier.now anchor.now path.now moment purpose.entry result }
+    ensures calm { CarryNoSubtrees anchor.now path.now moment purpose.entry → IsOk result }
 {
     let mut state = State::start(alloc, verifier, anchor, path, moment, purpose);
     loop {

@@ -1,5 +1,7 @@
 -- What a certificate of a path has to meet alone (RFC 5280, 6.1.3 to 6.1.5).
 use Rattle.std.specs.Prelude.{◌≡◌, ◌⊎◌, ◌||◌, ◌≤ℤ◌, ℕ, ℤ, List, [], ◌∷◌, Bool, true, false, Option, Some, None, MatchOption, Contains}
+use Rattle.std.specs.Option.{option_copied}
+use Rattle.std.specs.Borrow.{Bor}
 use Rattle.std.specs.Str.{bytes_eq}
 use Rattle.cert.specs.declared.version.Version.TheVariants.{V3}
 use Rattle.cert.specs.Certificate.{Certificate}
@@ -49,6 +51,9 @@ abbrev pub AllowsPurpose : Certificate → Option (List ℕ) → Type 0
 AllowsPurpose c None = Unit {0}
 AllowsPurpose c (Some purpose) =
     (c.extensions.purposes ≡ []) ⊎ (Contains c.extensions.purposes purpose ⊎ Contains c.extensions.purposes any_purpose)
+
+abbrev pub AllowsAsked : Certificate → Option (Bor (List ℕ)) → Type 0
+AllowsAsked c purpose = AllowsPurpose c (option_copied purpose)
 
 abbrev pub lists_purpose : List ℕ → List ℕ → Bool
 lists_purpose purpose listed = bytes_eq listed purpose || bytes_eq listed any_purpose

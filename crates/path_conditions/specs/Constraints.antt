@@ -1,17 +1,20 @@
 -- The constraints that hold behind the certificates passed so far (RFC 5280, 6.1.2 (b) and (c)): for each processed form the
 -- permitted subtrees, where some certificate had any, and the excluded subtrees.
-use Rattle.std.specs.Prelude.{◌≡◌, ◌+◌, ◌++◌, ℕ, List, Bool, true, false, Option, Some, None, length, filter, slice_index_or}
+use Rattle.std.specs.Prelude.{◌≡◌, ◌+◌, ◌++◌, ◌||◌, ℕ, List, [], Bool, true, false, Option, Some, None, length, filter, slice_index_or}
+use Rattle.std.specs.List.{list_all, list_any}
 use Rattle.std.specs.Option.{option_map}
 use Rattle.names.specs.declared.general.Form.{Form}
 use Rattle.names.specs.declared.general.Form.TheVariants as F
-use Rattle.names.specs.GeneralLayout.{GeneralName, SubtreeBase, directory_name, dns_name, ip_address, other_name}
-use Rattle.names.specs.GeneralCoverage.{form_of_general_name}
+use Rattle.names.specs.GeneralLayout.{NameContents, GeneralName, SubtreeBase, directory_name, dns_name, ip_address, other_name}
+use Rattle.names.specs.GeneralCoverage.{form_of_general_name, is_of_form}
+use Rattle.names.specs.DistinguishedName.{HasKind}
 use Rattle.cert.specs.Certificate.{Certificate}
-use Rattle.cert.specs.NameConstraints.{NameConstraints}
+use Rattle.cert.specs.NameConstraints.{NameConstraints, seen_name_constraints}
+use Rattle.cert.specs.declared.name_constraints.NameConstraints as carried
 use Rattle.path_conditions.specs.declared.constraints.Constraints as code
 use Rattle.path_conditions.specs.declared.form_set.FormSet.{FormSet}
-use Rattle.path_conditions.specs.NamesOf.{IsInOneOf, BearsForm}
-use Rattle.path_conditions.specs.Narrowing.{bases_of, is_in_one_of, is_processed_base, changed, change_of}
+use Rattle.path_conditions.specs.NamesOf.{IsInOneOf, BearsForm, subject_names, email_address}
+use Rattle.path_conditions.specs.Narrowing.{bases_of, is_in_one_of, are_about, has_processed, is_processed_base, changed, change_of}
 
 pub record Constraints : Type 0 where
   pub directory : Option (List SubtreeBase)
@@ -26,6 +29,10 @@ seen_constraints held = record {
   ip = option_map (λ list. bases_of list.items) held.ip;
   excluded = bases_of held.excluded.items;
 }
+
+-- those before the first certificate, which admit every name
+abbrev pub no_constraints : Constraints
+no_constraints = record { directory = None; dns = None; ip = None; excluded = [] }
 
 -- the permitted subtrees for names of the form
 abbrev pub permitted_for : Constraints → Form → Option (List SubtreeBase)
@@ -59,6 +66,16 @@ narrowed_by carried held = record {
   excluded = held.excluded ++ filter (λ base. is_processed_base base) carried.excluded;
 }
 
+-- the same of those that are held
+abbrev pub IsNarrowedBy : carried.NameConstraints → code.Constraints → code.Constraints → Type 0
+IsNarrowedBy constraints old new =
+    seen_constraints new ≡ narrowed_by (seen_name_constraints constraints) (seen_constraints old)
+
+-- a certificate carries no subtree of a processed form
+pub record HasNoProcessed (constraints : carried.NameConstraints) : Type 0 where
+  pub permitted : has_processed (bases_of constraints.permitted.items) ≡ false
+  pub excluded : has_processed (bases_of constraints.excluded.items) ≡ false
+
 -- tests
 
 abbrev pub permits_in : Option (List SubtreeBase) → GeneralName → Bool
@@ -71,9 +88,40 @@ permits_name held (dns_name name) = permits_in held.dns (dns_name name)
 permits_name held (ip_address name) = permits_in held.ip (ip_address name)
 permits_name held (other_name number name) = true
 
+-- the constraints that are held permit all names, and exclude one of them
+abbrev pub permits_each : code.Constraints → List GeneralName → Bool
+permits_each held names = list_all (λ name. permits_name (seen_constraints held) name) names
+
+abbrev pub excludes_one : code.Constraints → List GeneralName → Bool
+excludes_one held names = list_any (λ name. is_in_one_of (seen_constraints held).excluded name) names
+
+-- the subject as a name, where it is not empty
+abbrev pub names_in_subject : NameContents → List GeneralName
+names_in_subject subject = subject_names subject subject.rdns
+
 -- the number is in the set
 abbrev pub has_number : FormSet → ℕ → Bool
 has_number set number = slice_index_or set.numbers number false
+
+-- the set has the form of a subtree as well, or the forms of several, where they are not processed
+abbrev pub AddsForm : SubtreeBase → FormSet → FormSet → Type 0
+AddsForm base old new =
+    (number : ℕ) → has_number new number ≡ (has_number old number || is_of_form base (F.Other number))
+
+abbrev pub AddsForms : List SubtreeBase → FormSet → FormSet → Type 0
+AddsForms bases old new =
+    (number : ℕ) → has_number new number ≡ (has_number old number || are_about bases (F.Other number))
+
+-- the same of the subtrees that a certificate carries, permitted and excluded
+abbrev pub AddsFormsOf : NameConstraints → FormSet → FormSet → Type 0
+AddsFormsOf constraints old new =
+    (number : ℕ) → has_number new number
+    ≡ ((has_number old number || are_about constraints.permitted (F.Other number))
+    || are_about constraints.excluded (F.Other number))
+
+-- the form of rfc822Name is in the set, and the subject has an emailAddress
+abbrev pub HasFormOfEmail : FormSet → NameContents → Type 0
+HasFormOfEmail set subject = (has_number set 1 ≡ true) × HasKind email_address subject.rdns
 
 abbrev pub has_form_of : FormSet → GeneralName → Bool
 has_form_of set (directory_name name) = false

@@ -2,10 +2,9 @@
 
 ghost use Rattle.std.specs.Prelude.{◌≡◌, ◌↔◌, IsTrue, map};
 ghost use Rattle.std.specs.List.{list_any};
-ghost use Rattle.std.specs.Option.{option_copied};
 ghost use Rattle.asn.specs.Oid.{oid_contents};
 ghost use Rattle.cert.specs.Certificate.{seen_certificate};
-ghost use Rattle.path_conditions.specs.CertificateConditions.{HasBegun, HasNotExpired, IsCa, MaySignCertificates, NeedsNoPolicyTree, CriticalExtensionsAreKnown, AllowsPurpose, lists_purpose, path_length_of};
+ghost use Rattle.path_conditions.specs.CertificateConditions.{HasBegun, HasNotExpired, IsCa, MaySignCertificates, NeedsNoPolicyTree, CriticalExtensionsAreKnown, AllowsAsked, lists_purpose, path_length_of};
 
 use asn::Oid;
 use cert::{Certificate, Version};
@@ -87,7 +86,7 @@ fn lists(listed: &[Oid<'_>], purpose: &[u8]) -> bool
 
 /// Whether extKeyUsage, where it is there, lists the purpose, where one is asked for, or any.
 pub fn allows_purpose(certificate: &Certificate<'_>, purpose: Option<&[u8]>) -> bool
-    ensures { IsTrue result ↔ AllowsPurpose (seen_certificate certificate.now) (option_copied purpose.entry) }
+    ensures { IsTrue result ↔ AllowsAsked (seen_certificate certificate.now) purpose.entry }
 {
     let Some(purpose) = purpose else {
         return true;

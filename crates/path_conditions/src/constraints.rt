@@ -1,14 +1,11 @@
 //! The name constraints that hold behind the certificates of a path that have passed.
 
-ghost use Rattle.std.specs.Prelude.{◌≡◌, ◌↔◌, ◌≤◌, ◌++◌, [], map, false, OnOk, OnErr, IfOk, IsOk};
-ghost use Rattle.std.specs.List.{list_all, list_any};
-ghost use Rattle.std.specs.Option.{option_map};
+ghost use Rattle.std.specs.Prelude.{◌≡◌, ◌≤◌, ◌++◌, map, false, OnOk, OnErr, IfOk, IsOk};
 ghost use Rattle.names.specs.GeneralView.{general_name, name_contents};
 ghost use Rattle.cert.specs.Certificate.{seen_certificate};
-ghost use Rattle.cert.specs.NameConstraints.{seen_name_constraints};
-ghost use Rattle.path_conditions.specs.NamesOf.{names_of, subject_names};
-ghost use Rattle.path_conditions.specs.Narrowing.{bases_of, selected, is_in_one_of, has_processed, is_processed_base, changed};
-ghost use Rattle.path_conditions.specs.Constraints.{seen_constraints, narrowed_by, permits_in, permits_name, size_of, subtrees_in};
+ghost use Rattle.path_conditions.specs.NamesOf.{names_of};
+ghost use Rattle.path_conditions.specs.Narrowing.{bases_of, has_processed, IsReplacedBy, seen_subtrees, processed_in};
+ghost use Rattle.path_conditions.specs.Constraints.{seen_constraints, no_constraints, IsNarrowedBy, HasNoProcessed, permits_in, permits_name, permits_each, excludes_one, names_in_subject, size_of, subtrees_in};
 
 use crate::coverage::{is_processed, lies_in_one, one_is_processed};
 use crate::narrowing::narrowed_list;
@@ -27,7 +24,7 @@ pub struct Constraints<'a> {
 
 /// Puts a new list in place, where there is one.
 fn replace<'a>(list: &mut Option<Vec<Subtree<'a>>>, change: Option<Vec<Subtree<'a>>>)
-    ensures { option_map (λ v. bases_of v.items) list.new ≡ changed (option_map (λ v. bases_of v.items) list.old) (option_map (λ v. bases_of v.items) change.entry) }
+    ensures { IsReplacedBy change.entry list.old list.new }
 {
     if let Some(change) = change {
         *list = Some(change);
@@ -39,7 +36,7 @@ fn select_processed<'a>(
     alloc: Global,
     carried: &[Subtree<'a>],
 ) -> Result<Vec<Subtree<'a>>, AllocError>
-    ensures { IfOk result (λ list. list.items ≡ selected (λ base. is_processed_base base) carried.now) }
+    ensures { IfOk result (λ list. list.items ≡ processed_in carried.now) }
 {
     carried
         .iter()
@@ -54,7 +51,7 @@ fn exclude<'a>(
     held: &mut Vec<Subtree<'a>>,
     carried: &[Subtree<'a>],
 ) -> Result<(), AllocError>
-    ensures ok { OnOk result (held.new.items ≡ held.old.items ++ selected (λ base. is_processed_base base) carried.now) }
+    ensures ok { OnOk result (held.new.items ≡ held.old.items ++ processed_in carried.now) }
     ensures err { OnErr result (held.new.items ≡ held.old.items) }
     ensures calm { has_processed (bases_of carried.now) ≡ false → IsOk result }
 {
@@ -67,7 +64,7 @@ fn exclude<'a>(
 
 /// How many subtrees a list has.
 fn len_of(list: &Option<Vec<Subtree<'_>>>) -> usize
-    ensures { result ≡ size_of (option_map (λ v. bases_of v.items) list.now) }
+    ensures { result ≡ size_of (seen_subtrees list.now) }
 {
     match list {
         None => 0,
@@ -77,7 +74,7 @@ fn len_of(list: &Option<Vec<Subtree<'_>>>) -> usize
 
 /// Whether the list, where there is one, holds the name.
 fn is_permitted_by(list: &Option<Vec<Subtree<'_>>>, name: &General<'_>) -> bool
-    ensures { result ≡ permits_in (option_map (λ v. bases_of v.items) list.now) (general_name name.now) }
+    ensures { result ≡ permits_in (seen_subtrees list.now) (general_name name.now) }
 {
     match list {
         None => true,
@@ -88,7 +85,7 @@ fn is_permitted_by(list: &Option<Vec<Subtree<'_>>>, name: &General<'_>) -> bool
 impl<'a> Constraints<'a> {
     /// Those before the first certificate, which admit every name.
     pub fn none(alloc: Global) -> Constraints<'a>
-        ensures { seen_constraints result ≡ record { directory = None; dns = None; ip = None; excluded = [] } }
+        ensures { seen_constraints result ≡ no_constraints }
     {
         Constraints {
             directory: None,
@@ -100,9 +97,9 @@ impl<'a> Constraints<'a> {
 
     /// Narrows the permitted subtrees, and adds the excluded ones. New lists are built before old ones are replaced.
     pub fn narrow(&mut self, alloc: Global, carried: &NameConstraints<'a>) -> Result<(), AllocError>
-        ensures ok { OnOk result (seen_constraints self.new ≡ narrowed_by (seen_name_constraints carried.now) (seen_constraints self.old)) }
+        ensures ok { OnOk result (IsNarrowedBy carried.now self.old self.new) }
         ensures err { OnErr result (seen_constraints self.new ≡ seen_constraints self.old) }
-        ensures calm { has_processed (bases_of carried.now.permitted.items) ≡ false → has_processed (bases_of carried.now.excluded.items) ≡ false → IsOk result }
+        ensures calm { HasNoProcessed carried.now → IsOk result }
     {
         let directory = narrowed_list(alloc, Form::Directory, &self.directory, &carried.permitted)?;
         let dns = narrowed_list(alloc, Form::Dns, &self.dns, &carried.permitted)?;
@@ -136,21 +133,21 @@ impl<'a> Constraints<'a> {
 
     /// Whether the subject, where it is not empty, is permitted.
     fn permits_subject(&self, subject: Name<'_>) -> bool
-        ensures { result ≡ list_all (λ name. permits_name (seen_constraints self.now) name) (subject_names (name_contents subject.entry) (name_contents subject.entry).rdns) }
+        ensures { result ≡ permits_each self.now (names_in_subject (name_contents subject.entry)) }
     {
         subject.is_empty() || self.permits(&General::Directory(subject))
     }
 
     /// Whether all names are permitted.
     fn permits_all(&self, names: &[General<'_>]) -> bool
-        ensures { result ≡ list_all (λ name. permits_name (seen_constraints self.now) name) (map general_name names.now) }
+        ensures { result ≡ permits_each self.now (map general_name names.now) }
     {
         names.iter().all(|name| self.permits(name))
     }
 
     /// Whether all names of the certificate are permitted.
     pub fn permits_names_of(&self, certificate: &Certificate<'_>) -> bool
-        ensures { result ≡ list_all (λ name. permits_name (seen_constraints self.now) name) (names_of (seen_certificate certificate.now)) }
+        ensures { result ≡ permits_each self.now (names_of (seen_certificate certificate.now)) }
     {
         self.permits_subject(certificate.subject)
             && self.permits_all(&certificate.extensions.alternative_names)
@@ -158,21 +155,21 @@ impl<'a> Constraints<'a> {
 
     /// Whether the subject, where it is not empty, is excluded.
     fn excludes_subject(&self, subject: Name<'_>) -> bool
-        ensures { result ≡ list_any (λ name. is_in_one_of (seen_constraints self.now).excluded name) (subject_names (name_contents subject.entry) (name_contents subject.entry).rdns) }
+        ensures { result ≡ excludes_one self.now (names_in_subject (name_contents subject.entry)) }
     {
         !subject.is_empty() && lies_in_one(&self.excluded, &General::Directory(subject))
     }
 
     /// Whether one of the names is excluded.
     fn excludes_one(&self, names: &[General<'_>]) -> bool
-        ensures { result ≡ list_any (λ name. is_in_one_of (seen_constraints self.now).excluded name) (map general_name names.now) }
+        ensures { result ≡ excludes_one self.now (map general_name names.now) }
     {
         names.iter().any(|name| lies_in_one(&self.excluded, name))
     }
 
     /// Whether a name of the certificate is excluded.
     pub fn excludes_name_of(&self, certificate: &Certificate<'_>) -> bool
-        ensures { result ≡ list_any (λ name. is_in_one_of (seen_constraints self.now).excluded name) (names_of (seen_certificate certificate.now)) }
+        ensures { result ≡ excludes_one self.now (names_of (seen_certificate certificate.now)) }
     {
         self.excludes_subject(certificate.subject)
             || self.excludes_one(&certificate.extensions.alternative_names)

@@ -1,16 +1,14 @@
 //! Sets of forms of names that are not processed.
 
-ghost use Rattle.std.specs.Prelude.{◌≡◌, ◌↔◌, ◌||◌, ℕ, IsTrue, true, false, map};
+ghost use Rattle.std.specs.Prelude.{◌≡◌, ◌↔◌, ℕ, IsTrue, false, map};
 ghost use Rattle.std.specs.List.{list_any};
-ghost use Rattle.names.specs.declared.general.Form.TheVariants as F;
 ghost use Rattle.names.specs.GeneralView.{general_name, name_contents, subtree_base};
 ghost use Rattle.names.specs.DistinguishedName.{HasKind};
 ghost use Rattle.cert.specs.Certificate.{seen_certificate};
 ghost use Rattle.cert.specs.NameConstraints.{seen_name_constraints};
 ghost use Rattle.path_conditions.specs.NamesOf.{email_address};
-ghost use Rattle.names.specs.GeneralCoverage.{is_of_form};
-ghost use Rattle.path_conditions.specs.Constraints.{has_number, has_form_of, BearsOneOf};
-ghost use Rattle.path_conditions.specs.Narrowing.{bases_of, are_about};
+ghost use Rattle.path_conditions.specs.Constraints.{has_number, has_form_of, BearsOneOf, AddsForm, AddsForms, AddsFormsOf, HasFormOfEmail};
+ghost use Rattle.path_conditions.specs.Narrowing.{bases_of};
 
 use asn::Oid;
 use cert::{Certificate, NameConstraints};
@@ -64,7 +62,7 @@ impl FormSet {
 
     /// Puts the form of the subtree into the set, where it is not processed.
     fn insert_form(&mut self, base: &Subtree<'_>)
-        ensures { (number : ℕ) → has_number self.new number ≡ (has_number self.old number || is_of_form (subtree_base base.now) (F.Other number)) }
+        ensures { AddsForm (subtree_base base.now) self.old self.new }
     {
         coverage_laws();
         if let Form::Other(number) = base.form() {
@@ -74,7 +72,7 @@ impl FormSet {
 
     /// Puts the forms of the subtrees that are not processed into the set.
     fn insert_forms(&mut self, bases: &[Subtree<'_>])
-        ensures { (number : ℕ) → has_number self.new number ≡ (has_number self.old number || are_about (bases_of bases.now) (F.Other number)) }
+        ensures { AddsForms (bases_of bases.now) self.old self.new }
     {
         for base in bases {
             self.insert_form(base);
@@ -84,7 +82,7 @@ impl FormSet {
     /// Puts the forms of the subtrees that a certificate carries, permitted and excluded, into the set, where they are not
     /// processed.
     pub fn insert_forms_of(&mut self, carried: &NameConstraints<'_>)
-        ensures { (number : ℕ) → has_number self.new number ≡ ((has_number self.old number || are_about (seen_name_constraints carried.now).permitted (F.Other number)) || are_about (seen_name_constraints carried.now).excluded (F.Other number)) }
+        ensures { AddsFormsOf (seen_name_constraints carried.now) self.old self.new }
     {
         self.insert_forms(&carried.permitted);
         self.insert_forms(&carried.excluded);
@@ -92,14 +90,14 @@ impl FormSet {
 
     /// Whether a name has a form of the set.
     fn has_form_of_one(&self, names: &[General<'_>]) -> bool
-        ensures { result ≡ list_any (λ name. has_form_of self.now name) (map general_name names.now) }
+        ensures { result ≡ list_any (has_form_of self.now) (map general_name names.now) }
     {
         names.iter().any(|name| self.has_form_of(name))
     }
 
     /// Whether the form of rfc822Name is in the set, and the subject has an emailAddress.
     fn has_form_of_subject(&self, subject: Name<'_>) -> bool
-        ensures { IsTrue result ↔ ((has_number self.now 1 ≡ true) × HasKind email_address (name_contents subject.entry).rdns) }
+        ensures { IsTrue result ↔ HasFormOfEmail self.now (name_contents subject.entry) }
     {
         self.has(RFC822_NAME) && has_email_address(subject)
     }

@@ -1,10 +1,8 @@
 //! Narrowing of lists of subtrees (RFC 5280, 6.1.4 (g)).
 
-ghost use Rattle.std.specs.Prelude.{◌≡◌, ◌++◌, IfOk, IsOk, false, filter};
-ghost use Rattle.std.specs.Option.{option_map};
+ghost use Rattle.std.specs.Prelude.{◌≡◌, IfOk, IsOk, false};
 ghost use Rattle.names.specs.GeneralView.{subtree_base};
-ghost use Rattle.names.specs.GeneralCoverage.{is_of_form};
-ghost use Rattle.path_conditions.specs.Narrowing.{bases_of, selected, enters, is_inside_one_of, narrowed, are_about, change_of};
+ghost use Rattle.path_conditions.specs.Narrowing.{bases_of, enters, are_about, AreOfForm, AreKept, AreEntering, IsNarrowed, IsChangeOf};
 
 use crate::coverage::{is_about, is_part_of_one, one_is_about};
 use names::{Form, Subtree};
@@ -16,7 +14,7 @@ fn select<'a>(
     form: Form,
     carried: &[Subtree<'a>],
 ) -> Result<Vec<Subtree<'a>>, AllocError>
-    ensures { IfOk result (λ list. list.items ≡ selected (λ base. is_of_form base form) carried.now) }
+    ensures { IfOk result (AreOfForm form carried.now) }
 {
     carried
         .iter()
@@ -31,7 +29,7 @@ fn keep_parts<'a>(
     held: &[Subtree<'a>],
     carried: &[Subtree<'_>],
 ) -> Result<Vec<Subtree<'a>>, AllocError>
-    ensures { IfOk result (λ list. list.items ≡ selected (λ base. is_inside_one_of (bases_of carried.now) base) held.now) }
+    ensures { IfOk result (AreKept held.now carried.now) }
 {
     held.iter()
         .copied()
@@ -54,7 +52,7 @@ fn select_entering<'a>(
     kept: &[Subtree<'_>],
     carried: &[Subtree<'a>],
 ) -> Result<Vec<Subtree<'a>>, AllocError>
-    ensures { IfOk result (λ list. list.items ≡ selected (λ base. enters form (bases_of held.now) (bases_of kept.now) base) carried.now) }
+    ensures { IfOk result (AreEntering form held.now kept.now carried.now) }
 {
     carried
         .iter()
@@ -72,7 +70,7 @@ fn narrow<'a>(
     held: &[Subtree<'a>],
     carried: &[Subtree<'a>],
 ) -> Result<Vec<Subtree<'a>>, AllocError>
-    ensures { IfOk result (λ list. bases_of list.items ≡ narrowed form (bases_of held.now) (bases_of carried.now)) }
+    ensures { IfOk result (IsNarrowed form held.now carried.now) }
 {
     let mut list = keep_parts(alloc, held, carried)?;
     let entering = select_entering(alloc, form, held, list.as_slice(), carried)?;
@@ -87,7 +85,7 @@ pub(crate) fn narrowed_list<'a>(
     held: &Option<Vec<Subtree<'a>>>,
     carried: &[Subtree<'a>],
 ) -> Result<Option<Vec<Subtree<'a>>>, AllocError>
-    ensures value { IfOk result (λ list. option_map (λ v. bases_of v.items) list ≡ change_of form (option_map (λ v. bases_of v.items) held.now) (bases_of carried.now)) }
+    ensures value { IfOk result (IsChangeOf form held.now carried.now) }
     ensures calm { are_about (bases_of carried.now) form ≡ false → IsOk result }
 {
     if !one_is_about(carried, form) {

@@ -2,6 +2,8 @@
 use Rattle.std.specs.Prelude.{ℕ, List, ◌++◌, length}
 use Rattle.std.specs.Int.{w64, to_be_bytes}
 use Rattle.sha2.specs.Sha256.{sha256}
+use Rattle.sha2.specs.Hashers.{Holds256}
+use Rattle.sha2.specs.declared.Sha256.{Sha256}
 
 -- a text behind its length in 8 octets, the highest first
 abbrev pub framed : List ℕ → List ℕ
@@ -15,3 +17,7 @@ judgement algorithm key_info message signature =
 -- their digest by SHA-256 (FIPS 180-4)
 unfoldable pub fingerprint_of : List ℕ → List ℕ → List ℕ → List ℕ → List ℕ
 fingerprint_of algorithm key_info message signature = sha256 (judgement algorithm key_info message signature)
+
+-- whatever octets the hasher held, it holds them and these behind
+abbrev pub HashesMore : Sha256 → Sha256 → List ℕ → Type 0
+HashesMore old new octets = (message : List ℕ) → Holds256 old message → Holds256 new (message ++ octets)

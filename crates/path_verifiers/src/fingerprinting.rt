@@ -1,15 +1,14 @@
 //! Fingerprints of what a verifier is asked.
 
-ghost use Rattle.std.specs.Prelude.{◌≡◌, ◌++◌, ℕ, List};
-ghost use Rattle.sha2.specs.Hashers.{Holds256};
-ghost use Rattle.path_verifiers.specs.Fingerprint.{framed, fingerprint_of};
+ghost use Rattle.std.specs.Prelude.{◌≡◌};
+ghost use Rattle.path_verifiers.specs.Fingerprint.{framed, fingerprint_of, HashesMore};
 ghost use Rattle.path_verifiers.specs.FramingLaws.{JudgementsAreDistinct};
 
 use sha2::{Digest, Sha256};
 
 /// Adds a text behind its length in 8 octets, the highest first.
 fn add_framed(hasher: &mut Sha256, text: &[u8])
-    ensures { (message : List ℕ) → Holds256 hasher.old message → Holds256 hasher.new (message ++ framed text.now) }
+    ensures { HashesMore hasher.old hasher.new (framed text.now) }
 {
     hasher.update((text.len() as u64).to_be_bytes());
     hasher.update(text);

@@ -61,3 +61,25 @@ some_value (Some x) some = (x, refl)
 pub no_value : {A : Type 0} (o : Option A) → (is_some o ≡ true → ⊥) → o ≡ None
 no_value None not_some = refl
 no_value (Some x) not_some = absurd (not_some refl)
+
+pub chained_to : {A B : Type 0} (f : A → Option B) (o : Option A) (y : B) → option_and_then f o ≡ Some y → (x : A) × (o ≡ Some x) × (f x ≡ Some y)
+chained_to f None y is = absurd (none-some y is)
+chained_to f (Some x) y is = (x, refl, is)
+
+pub to_chained : {A B : Type 0} (f : A → Option B) (o : Option A) (x : A) (y : B) → o ≡ Some x → f x ≡ Some y → option_and_then f o ≡ Some y
+to_chained f o x y is found = ap (option_and_then f) is ∙ found
+
+-- the first of two that is there
+pub first_or : {A : Type 0} (a b : Option A) (y : A) → option_or a b ≡ Some y → (a ≡ Some y) ⊎ ((a ≡ None) × (b ≡ Some y))
+first_or None b y is = inr (refl, is)
+first_or (Some x) b y is = inl is
+
+pub or_first : {A : Type 0} (a b : Option A) (y : A) → a ≡ Some y → option_or a b ≡ Some y
+or_first a b y is = ap (λ o. option_or o b) is
+
+pub or_second : {A : Type 0} (a b : Option A) → a ≡ None → option_or a b ≡ b
+or_second a b none = ap (λ o. option_or o b) none
+
+pub none_of : {A : Type 0} (o : Option A) → ((x : A) → o ≡ Some x → ⊥) → o ≡ None
+none_of None never = refl
+none_of (Some x) never = absurd (never x refl)

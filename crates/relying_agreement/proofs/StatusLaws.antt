@@ -1,7 +1,8 @@
 -- The tests of status say what the words do: which statements count, whether one covers, whether one revokes.
-use Rattle.std.proofs.Common.{◌≡◌, ◌⊎◌, ◌&&◌, ℤ, ◌≤ℤ◌, int_le, Bool, true, false, T, Option, Some, option_map, is_some, IsSome, Decides, refl, sym, ap, subst, ◌∙◌, inl, inr, true≢false}
+use Rattle.std.proofs.Common.{◌≡◌, ◌⊎◌, ◌&&◌, ℕ, ℤ, ◌≤ℤ◌, int_le, Bool, true, false, T, Option, Some, None, option_map, is_some, IsSome, Decides, refl, sym, ap, subst, ◌∙◌, inl, inr, true≢false}
 use Rattle.std.specs.Bool.{passes}
 use Rattle.std.proofs.lemmas.Bool.{and_parts, and_from}
+use Rattle.std.proofs.lemmas.Option.{none-some, same_Some}
 use Rattle.std.proofs.lemmas.Bool.Decides.{Decides-and, Decides-or, Decides-like}
 use Rattle.cert.specs.Place.{body}
 use Rattle.statements_facts.specs.declared.scope.Scope.{Scope}
@@ -10,8 +11,8 @@ use Rattle.statements_facts.specs.declared.single.Status.{Status}
 use Rattle.statements_facts.specs.declared.single.Status.TheVariants as said
 use Rattle.statements_facts.specs.Statement.{Window, CrlFact, OcspFact, Holdings, CrlAnswer, answer_for}
 use Rattle.relying_agreement.specs.Link.{Link, own_scope, crl_slot, ocsp_slot}
-use Rattle.relying_agreement.specs.Status.{IsCurrent, is_current, may_sign_crls, crl_answer, evidence_of, kept_if, crl_that_counts, ocsp_that_counts, reason_of_status, is_good, crl_reason, ocsp_reason, deciding_reason, is_covered_by, CrlCounts, OcspCounts, SomeRevokes, IsCovered}
-use Rattle.relying_agreement.proofs.Options.{kept_is, is_kept, kept_some, mapped_is, chained_is, is_chained, either_decides, some_value}
+use Rattle.relying_agreement.specs.Status.{IsCurrent, is_current, may_sign_crls, crl_answer, evidence_of, kept_if, crl_that_counts, ocsp_that_counts, reason_of_status, is_good, crl_reason, ocsp_reason, deciding_reason, is_covered_by, CrlCounts, OcspCounts, CrlRevokes, OcspRevokes, IsNotListed, IsRevoked, SomeRevokes, IsCovered}
+use Rattle.relying_agreement.proofs.Options.{kept_is, is_kept, kept_some, mapped_is, chained_is, is_chained, chained_to, to_chained, first_or, or_first, or_second, none_of, either_decides, some_value}
 
 is_so : (b : Bool) → T b → b ≡ true
 is_so true t = refl
@@ -142,3 +143,58 @@ module _ (held : Holdings) (moment : ℤ) (link : Link) where
         | inr response ↦ inr (inr response)
       ])
       (either_decides _ _ (crl_lists All) (either_decides _ _ (crl_lists own) response_revokes))
+
+  -- ---- why
+
+  crl_revokes : (scope : Scope) (reason : ℕ) → crl_reason moment may_sign (crl_answer held link scope) ≡ Some reason → CrlRevokes held moment link scope reason
+  crl_revokes scope reason e =
+      let found = chained_to (λ (counted : CrlAnswer). counted.reason) (crl_that_counts moment may_sign (crl_answer held link scope)) reason e in
+      let c = counted scope found.0 found.1 in
+      record { fact = c.0; is_held = c.1.0; may_sign = c.1.1; current = c.1.2; listed = ap (λ (a : CrlAnswer). a.reason) c.2 ∙ found.2 }
+
+  crl_gives : (scope : Scope) (reason : ℕ) → CrlRevokes held moment link scope reason → crl_reason moment may_sign (crl_answer held link scope) ≡ Some reason
+  crl_gives scope reason r =
+      to_chained (λ (counted : CrlAnswer). counted.reason) (crl_that_counts moment may_sign (crl_answer held link scope)) (answer r.fact) reason
+      (counts scope r.fact (r.is_held, r.may_sign, r.current)) r.listed
+
+  not_listed : (scope : Scope) → crl_reason moment may_sign (crl_answer held link scope) ≡ None → IsNotListed held moment link scope
+  not_listed scope none reason revokes = none-some reason (sym none ∙ crl_gives scope reason revokes)
+
+  gives_none : (scope : Scope) → IsNotListed held moment link scope → crl_reason moment may_sign (crl_answer held link scope) ≡ None
+  gives_none scope none = none_of (crl_reason moment may_sign (crl_answer held link scope)) (λ reason e. none reason (crl_revokes scope reason e))
+
+  status_is : (status : Status) (reason : ℕ) → reason_of_status status ≡ Some reason → status ≡ said.Revoked reason
+  status_is said.Good reason e = absurd (none-some reason e)
+  status_is (said.Revoked other) reason e = ap said.Revoked (same_Some other reason e)
+  status_is said.Unknown reason e = absurd (none-some reason e)
+
+  ocsp_revokes : (reason : ℕ) → ocsp_reason moment (held.ocsp (ocsp_slot link)) ≡ Some reason → OcspRevokes held moment link reason
+  ocsp_revokes reason e =
+      let found = chained_to (λ (response : OcspFact). reason_of_status response.status) the_response reason e in
+      record { fact = found.0; counts = response_counted found.0 found.1; status = status_is found.0.status reason found.2 }
+
+  ocsp_gives : (reason : ℕ) → OcspRevokes held moment link reason → ocsp_reason moment (held.ocsp (ocsp_slot link)) ≡ Some reason
+  ocsp_gives reason r =
+      to_chained (λ (response : OcspFact). reason_of_status response.status) the_response r.fact reason (response_counts r.fact r.counts) (ap reason_of_status r.status)
+
+  -- the reason that is found is the one of the words
+  pub revoked_so : (reason : ℕ) → deciding_reason moment (evidence_of held link) ≡ Some reason → IsRevoked held moment link reason
+  revoked_so reason e = elim (first_or _ _ reason e) [
+    | inl all ↦ inl (crl_revokes All reason all)
+    | inr (none, later) ↦ inr (
+      not_listed All none,
+      elim (first_or _ _ reason later) [
+        | inl kind ↦ inl (crl_revokes own reason kind)
+        | inr (no_kind, response) ↦ inr (not_listed own no_kind, ocsp_revokes reason response)
+      ],
+    )
+  ]
+
+  pub reason_so : (reason : ℕ) → IsRevoked held moment link reason → deciding_reason moment (evidence_of held link) ≡ Some reason
+  reason_so reason revoked = elim revoked [
+    | inl all ↦ or_first _ _ reason (crl_gives All reason all)
+    | inr (none, later) ↦ or_second _ _ (gives_none All none) ∙ elim later [
+      | inl kind ↦ or_first _ _ reason (crl_gives own reason kind)
+      | inr (no_kind, response) ↦ or_second _ _ (gives_none own no_kind) ∙ ocsp_gives reason response
+    ]
+  ]

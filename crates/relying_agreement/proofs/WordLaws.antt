@@ -11,7 +11,7 @@ use Rattle.relying_agreement.specs.Status.{Evidence, evidence_of, deciding_reaso
 use Rattle.relying_agreement.specs.Verdict.{or_revoked, first_revoked, first_uncovered, evidence_on, verdict_from, IsFirst, RevokedExactlyWhere, UnknownExactlyWhere}
 use Rattle.relying_agreement.proofs.Options.{no_value}
 use Rattle.relying_agreement.proofs.ValidLaws.{none_of_both, of_valid_path, from_valid_path}
-use Rattle.relying_agreement.proofs.StatusLaws.{cover_decides, revoke_decides}
+use Rattle.relying_agreement.proofs.StatusLaws.{cover_decides, revoke_decides, reason_so, revoked_so}
 
 abbrev place : Verdict → ℕ
 place (Invalid j reason) = j
@@ -72,14 +72,14 @@ module _ (held : Holdings) (moment : ℤ) where
       → (link : Link) × IsFirst Revokes links link × (j ≡ link.number) × IsRevoked held moment link reason
   found_revoked [] j reason e = absurd (none-some (j, reason) e)
   found_revoked (link ∷ links) j reason e = elim (revoked_either link.number (deciding_reason moment (evidence_of held link)) (first_revoked moment (seen links)) j reason e) [
-    | inl (here, is) ↦ (link, record { before = []; after = links; is = refl; here = (revoke_decides held moment link).0 (ap is_some is); none_before = tt }, here, is)
+    | inl (here, is) ↦ (link, record { before = []; after = links; is = refl; here = (revoke_decides held moment link).0 (ap is_some is); none_before = tt }, here, revoked_so held moment link reason is)
     | inr (none, later) ↦ let rest = found_revoked links j reason later in
         (rest.0, record { before = link ∷ rest.1.before; after = rest.1.after; is = ap (λ xs. link ∷ xs) rest.1.is; here = rest.1.here; none_before = (not_revoked link none, rest.1.none_before) }, rest.2, rest.3)
   ]
 
   revoked_at : (before after : List Link) (link : Link) (reason : ℕ) → AllByRecursion (λ earlier. ¬ (Revokes earlier)) before → IsRevoked held moment link reason
       → first_revoked moment (seen (before ++ link ∷ after)) ≡ Some (link.number, reason)
-  revoked_at [] after link reason none is = ap (λ o. or_revoked link.number o (first_revoked moment (seen after))) is
+  revoked_at [] after link reason none is = ap (λ o. or_revoked link.number o (first_revoked moment (seen after))) (reason_so held moment link reason is)
   revoked_at (earlier ∷ before) after link reason none is =
       ap (λ o. or_revoked earlier.number o (first_revoked moment (seen (before ++ link ∷ after)))) (no_reason earlier none.0)
       ∙ revoked_at before after link reason none.1 is

@@ -132,9 +132,30 @@ SomeRevokes held moment link =
     ((fact : CrlFact) × CrlCounts held moment link fact × IsSome (fact.reasons (body link.certificate.serial)))
     ⊎ ((fact : OcspFact) × OcspCounts held moment link fact × IsSome (reason_of_status fact.status))
 
--- revoked, and why
+-- the list of a scope counts, and lists the certificate for this reason
+pub record CrlRevokes (held : Holdings) (moment : ℤ) (link : Link) (scope : Scope) (reason : ℕ) : Type 0 where
+  pub fact : CrlFact
+  pub is_held : held.crl (crl_slot link scope) ≡ Some fact
+  pub may_sign : IsTrue (may_sign_crls link)
+  pub current : IsCurrent fact.window moment
+  pub listed : fact.reasons (body link.certificate.serial) ≡ Some reason
+
+abbrev pub IsNotListed : Holdings → ℤ → Link → Scope → Type 0
+IsNotListed held moment link scope = (reason : ℕ) → ¬ (CrlRevokes held moment link scope reason)
+
+-- the response counts, and says that the certificate is revoked for this reason
+pub record OcspRevokes (held : Holdings) (moment : ℤ) (link : Link) (reason : ℕ) : Type 0 where
+  pub fact : OcspFact
+  pub counts : OcspCounts held moment link fact
+  pub status : fact.status ≡ said.Revoked reason
+
+-- Revoked, and why: the list of all certificates says so; if it does not, the list of the certificate's kind; else the response.
 abbrev pub IsRevoked : Holdings → ℤ → Link → ℕ → Type 0
-IsRevoked held moment link reason = deciding_reason moment (evidence_of held link) ≡ Some reason
+IsRevoked held moment link reason =
+    CrlRevokes held moment link All reason
+    ⊎ (IsNotListed held moment link All
+    × (CrlRevokes held moment link (own_scope link.certificate) reason
+    ⊎ (IsNotListed held moment link (own_scope link.certificate) × OcspRevokes held moment link reason)))
 
 -- a list counts, or a response that says good
 abbrev pub IsCovered : Holdings → ℤ → Link → Type 0

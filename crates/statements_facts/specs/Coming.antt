@@ -82,6 +82,10 @@ number_of Stored counts = counts.stored
 number_of Kept counts = counts.kept
 number_of Contradicted counts = counts.contradicted
 
+-- the counts after one more of these outcomes, whose number is one greater, while the others stay
+abbrev pub HaveOneMore : TakenAs → Counts → Counts → Type 0
+HaveOneMore outcome before after = (each : TakenAs) → number_of each after ≡ number_of each before + (if same_outcome each outcome then 1 else 0)
+
 abbrev pub total_of : Counts → ℕ
 total_of counts = counts.stored + counts.kept + counts.contradicted
 

@@ -1,11 +1,8 @@
 //! Entries sorted by the first octets of their serial numbers.
 
 ghost use Rattle.std.specs.Prelude.{◌≡◌, ℕ, List, IfOk, IsTrue, map};
-ghost use Rattle.std.specs.Ordering.{nat_cmp};
-ghost use Rattle.std.specs.declared.cmp.Ordering.TheVariants.{Less};
-ghost use Rattle.std.specs.Cmp.Lexicographic.{slice_cmp};
 ghost use Rattle.std.specs.List.Sorted.{IsPermutation};
-ghost use Rattle.statements_facts.specs.Listed.{IsAscending, first_reason, seen_listed};
+ghost use Rattle.statements_facts.specs.Listed.{HasLessSerial, IsAscending, first_reason, seen_listed};
 ghost use Rattle.statements_facts.specs.Prefixed.{seen_prefixed};
 
 use crate::prefix::{prefix_laws, prefix_of};
@@ -66,7 +63,7 @@ pub(crate) fn sorted_by_prefix(all: Vec<Prefixed<'_>>) -> Result<Vec<Prefixed<'_
 
 /// Whether the serial number of the one is less. That takes no look at it where its prefix is.
 fn precedes(one: &Prefixed<'_>, other: &Prefixed<'_>) -> bool
-    ensures { IsTrue result → slice_cmp nat_cmp one.now.listed.serial.now other.now.listed.serial.now ≡ Less }
+    ensures { IsTrue result → HasLessSerial (seen_prefixed one.now) (seen_prefixed other.now) }
 {
     let (serial, next) = (one.listed.serial, other.listed.serial);
     if one.prefix < other.prefix {

@@ -1,7 +1,7 @@
 //! What becomes of the facts of a delivery.
 
-ghost use Rattle.std.specs.Prelude.{◌≡◌, ◌+◌, ◌<◌, if◌then◌else◌};
-ghost use Rattle.statements_facts.specs.Coming.{number_of, same_outcome, total_of};
+ghost use Rattle.std.specs.Prelude.{◌≡◌, ◌+◌, ◌<◌};
+ghost use Rattle.statements_facts.specs.Coming.{HaveOneMore, number_of, total_of};
 
 /// What becomes of a fact that comes to a store.
 #[derive(Clone, Copy, Debug, PartialEq, Eq)]
@@ -38,7 +38,7 @@ impl Counts {
     /// Of one fact more.
     pub fn and(self, outcome: TakenAs) -> Counts
         requires { total_of self < usize.MAX }
-        ensures counted { (each : _) → number_of each result ≡ number_of each self + (if same_outcome each outcome then 1 else 0) }
+        ensures counted { HaveOneMore outcome self result }
         ensures total { total_of result ≡ total_of self + 1 }
     {
         let mut counts = self;

@@ -11,7 +11,7 @@ some_there (suc n) b e f = omega arith
 
 pub returns-else-is_empty-clause-err : goal.returns-else-is_empty-clause-err
 returns-else-is_empty-clause-err g c = λ limit.
-    let left = rw c.in_default.is at c.in_ok-octet.ensures.none in
+    let left = rw c.in_default.is at c.in_ok-octet.ensures.read in
     let some = some_there (vec_len c.octets.octets) c.is_empty.result c.is_empty.ensures c.if-is_empty.false in
     let read = Consumes-trans _ _ _ _ _ c.octets.invariant.read left.0 in
     rw c.refused.ensures (cut_header limit _ _ c.octets.octets.items c.octets.invariant.goes_on (omega (arith, some, c.octets.octets.ok)) (subst (Consumes _ _) (append-nil _) read) left.1)
@@ -24,13 +24,13 @@ returns-in-Ok-Some-clause-header g c =
 
 pub returns-in-Ok-Some-clause-read : goal.returns-in-Ok-Some-clause-read
 returns-in-Ok-Some-clause-read g c =
-    let one = rw c.in-Some.is at c.in_ok-octet.ensures.some in
+    let one = rw c.in-Some.is at c.in_ok-octet.ensures.read in
     let joined : c.push.new.self.items ≡ c.octets.octets.items ++ c.in-Some.octet ∷ [] = rw c.if-is_err.ensures.negation at c.push.ensures.items in
     rw joined (Consumes-trans _ _ _ _ _ c.octets.invariant.read one)
 
 pub returns-in-Err-clause-err : goal.returns-in-Err-clause-err
 returns-in-Err-clause-err g c = λ limit.
-    let one = rw c.in-Some.is at c.in_ok-octet.ensures.some in
+    let one = rw c.in-Some.is at c.in_ok-octet.ensures.read in
     let joined : c.push.new.self.items ≡ c.octets.octets.items ++ c.in-Some.octet ∷ [] = rw c.if-is_err.ensures.negation at c.push.ensures.items in
     let read = Consumes-trans _ _ _ _ _ c.octets.invariant.read one in
     let broken : IsBrokenAhead c.push.new.self.items c.in-Err.rule = rw (← c.deref.ensures.value) c.in-Err.ensures.err in

@@ -1,5 +1,6 @@
 use Rattle.std.proofs.Common.{◌≡◌, ◌+◌, ◌∙◌, ap, arith, length, subst, w64}
 use Rattle.std.proofs.lemmas.Bool.{false≢true}
+use Rattle.std.proofs.lemmas.Result.{err_from_is_err_and}
 use Rattle.std.specs.Option.{option_copied}
 use Rattle.std.proofs.Math.Facts.{to_z-of_z}
 use Rattle.std.proofs.lemmas.List.{length-map}
@@ -7,7 +8,7 @@ use Rattle.cert.specs.Certificate.{seen_certificate}
 use Rattle.path.specs.Query.{Query, count}
 use Rattle.path.specs.Conditions.{MeetsConditions}
 use Rattle.path.specs.Validity.{IsFirstFailure}
-use Rattle.path.specs.State.{query_of}
+use Rattle.path.specs.State.{query_of, AsksMemoryAt}
 use Rattle.path.proofs.Rooms.{split_last}
 use Rattle.path.proofs.Outcomes.{failed}
 use Rattle.path.proofs.validation.validate.Goals as goal
@@ -24,6 +25,24 @@ loop-state-preserved g c =
       passed = rw (step.4, step.5, step.3) (split_last (λ j. MeetsConditions (g.V.Verifier.accepts old.verifier) old.query j) old.done kept.passed step.2);
     }
 
+pub returns-in_err-next-clause-err : goal.returns-in_err-next-clause-err
+returns-in_err-next-clause-err g c =
+    let old = c.loop-state.state in
+    let kept = c.loop-state.invariant in
+    let query = kept.query ∙ (c.start-state.ensures.query ∙ ap (λ m. query_of c.args.anchor.now c.args.path.now m (option_copied c.args.purpose)) (to_z-of_z {w = w64} c.ranges.moment)) in
+    let verifier = kept.verifier ∙ c.start-state.ensures.verifier in
+    let (served, below, meets) = c.in_err-next.ensures.passing in
+    let accepts = g.V.Verifier.accepts old.verifier in
+    let at : AsksMemoryAt accepts old.query (old.done + 1) = record {
+      served = served;
+      from = omega arith;
+      to = omega (arith, below);
+      each = split_last (λ j. MeetsConditions accepts old.query j) old.done kept.passed meets;
+      carries = λ none. false≢true (c.in_err-next.ensures.calm none);
+    } in
+    let is = err_from_is_err_and c.from_residual.result c.from_residual.ensures.1 in
+    rw is.1 (old.done + 1, subst (λ (q : Query). AsksMemoryAt (g.V.Verifier.accepts c.args.verifier.now) q (old.done + 1)) query (rw (← verifier) at))
+
 pub returns-in_err-next-clause-calm : goal.returns-in_err-next-clause-calm
 returns-in_err-next-clause-calm g c = λ none.
     let query = c.loop-state.invariant.query ∙ (c.start-state.ensures.query ∙ ap (λ m. query_of c.args.anchor.now c.args.path.now m (option_copied c.args.purpose)) (to_z-of_z {w = w64} c.ranges.moment)) in
@@ -32,8 +51,8 @@ returns-in_err-next-clause-calm g c = λ none.
     let same = length-map c.args.path.now seen_certificate in
     absurd (false≢true (c.in_err-next.ensures.calm (rw query (none (c.loop-state.state.done + 1) (omega arith) (omega arith)))))
 
-pub returns-in-Failed-clause-outcome : goal.returns-in-Failed-clause-outcome
-returns-in-Failed-clause-outcome g c =
+pub returns-in-Failed-clause-ok : goal.returns-in-Failed-clause-ok
+returns-in-Failed-clause-ok g c =
     let old = c.loop-state.state in
     let kept = c.loop-state.invariant in
     let query = kept.query ∙ (c.start-state.ensures.query ∙ ap (λ m. query_of c.args.anchor.now c.args.path.now m (option_copied c.args.purpose)) (to_z-of_z {w = w64} c.ranges.moment)) in

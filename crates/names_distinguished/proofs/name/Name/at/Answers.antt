@@ -3,7 +3,7 @@ use Rattle.asn.specs.Members.{Members, octets_of_each}
 use Rattle.asn.specs.Place.{seen_tlv}
 use Rattle.asn.proofs.Laws.{members_same}
 use Rattle.names_distinguished.specs.NameParts.{AreRdns, map_at, rdns_at}
-use Rattle.names_distinguished.specs.NameView.{sequence_of}
+use Rattle.names_distinguished.specs.NameView.{maps_of}
 use Rattle.names_distinguished.specs.NameOctets.{raw_of, offset_of, rdns_of}
 use Rattle.names_distinguished.proofs.Reading.{rdns_read}
 use Rattle.names_distinguished.proofs.name.Name.at.Goals as goal
@@ -28,5 +28,5 @@ unfolding offset_of
 returns-clause-offset c = refl
 
 pub returns-clause-rdns : goal.returns-clause-rdns
-unfolding rdns_of sequence_of rdns_at
+unfolding rdns_of maps_of rdns_at
 returns-clause-rdns c = ap (λ (m : Members). map map_at m.values) c.in_ok-rdns.ensures.rdns

@@ -7,7 +7,7 @@ use Rattle.asn.specs.Members.{Members, left}
 use Rattle.asn.specs.Place.{seen_tlv}
 use Rattle.names_distinguished.specs.DistinguishedName.{rdn_map}
 use Rattle.names_distinguished.specs.NameParts.{AreAttributes, are_distinct, entry_at, map_at}
-use Rattle.names_distinguished.specs.NameView.{entries_of, sequence_of}
+use Rattle.names_distinguished.specs.NameView.{entries_of, maps_of}
 use Rattle.names_distinguished.proofs.Reading.{first_rdn}
 use Rattle.names_distinguished.proofs.rdn_sequence.RdnSequence.split_first.Goals as goal
 
@@ -36,7 +36,7 @@ unreachable-requires c =
     cc)
 
 pub returns : goal.returns
-unfolding sequence_of entries_of map_at
+unfolding maps_of entries_of map_at
 returns c =
     ap (λ (m : Members). map map_at m.values) c.in_ok-rdn.ensures.step
     ∙ ap (λ (m : Members). rdn_map (map entry_at m.values) ∷ map map_at (left c.next.new.self).values) (sym c.in-Some.ensures.left)

@@ -7,13 +7,13 @@ use Rattle.path_conditions.proofs.NarrowedLists.{no_directory, no_dns, no_ip, co
 use Rattle.path_conditions.proofs.constraints.Constraints.narrow.Goals as goal
 
 pub returns-in_err-directory-clause-calm : goal.returns-in_err-directory-clause-calm
-returns-in_err-directory-clause-calm c = λ p x. absurd (false≢true (c.in_err-directory.ensures.calm (rw c.deref.ensures.value (no_directory _ p))))
+returns-in_err-directory-clause-calm c = λ none. absurd (false≢true (c.in_err-directory.ensures.calm (rw c.deref.ensures.value (no_directory _ none.permitted))))
 
 pub returns-in_err-dns-clause-calm : goal.returns-in_err-dns-clause-calm
-returns-in_err-dns-clause-calm c = λ p x. absurd (false≢true (c.in_err-dns.ensures.calm (rw c.deref-2.ensures.value (no_dns _ p))))
+returns-in_err-dns-clause-calm c = λ none. absurd (false≢true (c.in_err-dns.ensures.calm (rw c.deref-2.ensures.value (no_dns _ none.permitted))))
 
 pub returns-in_err-ip-clause-calm : goal.returns-in_err-ip-clause-calm
-returns-in_err-ip-clause-calm c = λ p x. absurd (false≢true (c.in_err-ip.ensures.calm (rw c.deref-3.ensures.value (no_ip _ p))))
+returns-in_err-ip-clause-calm c = λ none. absurd (false≢true (c.in_err-ip.ensures.calm (rw c.deref-3.ensures.value (no_ip _ none.permitted))))
 
 pub returns-clause-ok : goal.returns-clause-ok
 returns-clause-ok c =
