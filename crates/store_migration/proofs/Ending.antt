@@ -9,10 +9,9 @@ use Rattle.sqlite.specs.Store.{Ghosts}
 use Rattle.sqlite.proofs.InsideLemmas.{unchanged_keeps, keeps_then}
 use Rattle.statements_facts.specs.Statement.{Holdings}
 use Rattle.store_sql.specs.declared.fault.StoreFault.{StoreFault}
-use Rattle.store_sql.specs.declared.fault.StoreFault.TheVariants.{Schema as NotOurs}
 use Rattle.store_sql.specs.Tables.{store_schema}
 use Rattle.store_maps.specs.Held.{IsStoreOf}
-use Rattle.store_adoption.specs.Creates.{AreTreesOf}
+use Rattle.store_maps.proofs.HeldLaws.{trees_of}
 use Rattle.store_adoption.specs.Version1.{UnscopedCrl, UnscopedEntry, IsVersion1Of, HasLists}
 use Rattle.store_taking.specs.Passing.{HasStepped, StepFails}
 use Rattle.store_migration.specs.Moved.{IsOld}
@@ -32,9 +31,6 @@ old_of crls entries db held has it = record {
   rows = it.rows;
 }
 
-trees_of : (held : Holdings) (db : Database) (trees : Trees) → trees ≡ db.trees → IsStoreOf db held → AreTreesOf held trees
-trees_of held db trees is it = (it.origin, subst (λ (t : Trees). IsStoreOf (record { schema = store_schema it.origin; trees = t }) held) (sym is) (subst (λ (s : Schema). IsStoreOf (record { schema = s; trees = db.trees }) held) it.rows.schema_is it))
-
 module _ {S : Type 0} (g : Ghosts S) (old begun : Held S) (is : begun ≡ record old { in_transaction = true }) (crls : List UnscopedCrl) (entries : List UnscopedEntry) where
   -- what the commit leaves is the store of version 2
   pub leaves_moved : (last : State) (trees : Trees) → HasStepped (state g begun) last (IsOld crls entries) IsStoreOf → trees ≡ last.now.trees → LeavesMoved (state g old) crls entries trees
@@ -42,7 +38,7 @@ module _ {S : Type 0} (g : Ghosts S) (old begun : Held S) (is : begun ≡ record
       let p = subst (λ h. HasStepped (state g h) last (IsOld crls entries) IsStoreOf) is passes in
       trees_of held last.now trees left (p.held held was)
 
-  pub stops_moved : (last new : State) (fault : StoreFault) → StepFails (state g begun) last (IsOld crls entries) fault → IsRolledBack last new → KeepsCommit (state g old) new × (fault ≡ NotOurs → (held : Holdings) → IsOld crls entries (state g old).now held → ⊥)
+  pub stops_moved : (last new : State) (fault : StoreFault) → StepFails (state g begun) last (IsOld crls entries) fault → IsRolledBack last new → KeepsCommit (state g old) new × (fault ≡ StoreFault.Schema → (held : Holdings) → IsOld crls entries (state g old).now held → ⊥)
   stops_moved last new fault stops back =
       let h = subst (λ b. StepFails (state g b) last (IsOld crls entries) fault) is stops in
       (keeps_then (state g old) last new (record { was_open = h.keeps.was_open; committed = h.keeps.committed }) (unchanged_keeps last new (inr back)), λ ours held it. h.formed ours held it)

@@ -14,7 +14,6 @@ use Rattle.statements_facts.specs.declared.scope.Scope.TheVariants.{All, User, C
 use Rattle.statements_facts.specs.Listed.{ListedSerial, first_reason}
 use Rattle.statements_facts.specs.Statement.{CrlSlot, Holdings}
 use Rattle.store_sql.specs.declared.fault.StoreFault.{StoreFault}
-use Rattle.store_sql.specs.declared.fault.StoreFault.TheVariants.{Schema as NotOurs}
 use Rattle.store_sql.specs.declared.origin.Origin.TheVariants.{Migrated}
 use Rattle.store_rows.specs.Contents.{CrlRow, CrlHead, Contents, crl_row, id_of, is_crl_of, scope_number}
 use Rattle.store_rows.specs.Places.{Replaces, replaced}
@@ -160,7 +159,7 @@ list_moves old new crls entries moved crl listed moves formed room reasons next 
         was = m.was;
         contents = with_list crl.issuer All crl.head listed it;
         rows = moves.rows Migrated it m.rows m.form;
-        form = entries_in_form (with_crl crl.issuer All crl.head.number crl.head.window it) crl.issuer 0 listed (crl_in_form it crl.issuer All crl.head m.form fits.1) room (omega arith) formed.few formed.ascend formed.bytes;
+        form = entries_in_form (with_crl crl.issuer All crl.head it) crl.issuer 0 listed (crl_in_form it crl.issuer All crl.head m.form fits.1) room (omega arith) formed.few formed.ascend formed.bytes;
         owned = list_owned it crl.issuer All crl.head listed m.owned (subst (λ rows. crl.issuer < next_id rows) (sym m.issuers_are) fits.0);
         issuers_are = m.issuers_are;
         singles_are = m.singles_are;
@@ -171,7 +170,7 @@ list_moves old new crls entries moved crl listed moves formed room reasons next 
 pub list_stops : (old new : State) (crls : List UnscopedCrl) (entries : List UnscopedEntry) (moved : List UnscopedCrl) (fault : StoreFault) → Fails old new fault → StepFails old new (HasMoved crls entries moved) fault
 list_stops _ _ crls entries moved fault f = record { keeps = f.keeps; formed = λ e held was. f.formed e Migrated was.contents was.rows was.form }
 
-pub stops_here : (s : State) (P : Database → Holdings → Type 0) (fault : StoreFault) → fault ≢ NotOurs → StepFails s s P fault
+pub stops_here : (s : State) (P : Database → Holdings → Type 0) (fault : StoreFault) → fault ≢ StoreFault.Schema → StepFails s s P fault
 stops_here s P fault other = record { keeps = record { was_open = λ h. h; committed = λ _. refl }; formed = λ e held was. other e }
 
 -- ---- the loop

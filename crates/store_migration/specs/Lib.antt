@@ -2,3 +2,4 @@ pub mod Texts
 pub mod Grouped
 pub mod Moved
 pub mod Migrates
+pub mod Moves

@@ -1,13 +1,16 @@
 -- A database of version 1 becomes a store of version 2, whole or not at all.
 use Rattle.std.specs.Prelude.{◌≡◌, List, Result, Ok, Err, IsTrue}
-use Rattle.sqlite.specs.State.{State, KeepsCommit}
+use Rattle.sqlite.specs.Held.{Held, state}
+use Rattle.sqlite.specs.State.{State, HasCleanDisk, KeepsCommit, Survives}
+use Rattle.sqlite_trees.specs.declared.store.Store.{Ghosts}
 use Rattle.sqlite_trees.specs.Tree.{Trees}
 use Rattle.statements_facts.specs.Statement.{Holdings}
 use Rattle.store_sql.specs.declared.fault.StoreFault.{StoreFault}
 use Rattle.store_sql.specs.declared.fault.StoreFault.TheVariants.{Schema}
-use Rattle.store_maps.specs.Held.{IsStoreOf}
-use Rattle.store_adoption.specs.Creates.{AreTreesOf}
+use Rattle.store_maps.specs.Held.{IsStoreOf, AreTreesOf}
 use Rattle.store_adoption.specs.Inspects.{TablesAreInOrder}
+use Rattle.store_adoption.specs.declared.unscoped.UnscopedLists.{UnscopedLists}
+use Rattle.store_adoption.specs.Seen.{seen_crls, seen_entries}
 use Rattle.store_adoption.specs.Version1.{UnscopedCrl, UnscopedEntry, IsVersion1Of, IsVersion1}
 use Rattle.store_migration.specs.Moved.{IsOld}
 
@@ -28,6 +31,13 @@ Migrates old new (Err fault) = KeepsCommit old new × (fault ≡ Schema → (hel
 abbrev pub LeavesMigrated : State → Trees → Type 0
 LeavesMigrated old trees = (TablesAreInOrder old.now → IsVersion1 old.now) × ((held : Holdings) → IsVersion1Of old.now held → AreTreesOf held trees)
 
+abbrev pub MayLeaveMigrated : State → State → Type 0
+MayLeaveMigrated old new = Survives old new (LeavesMigrated old)
+
+-- a call on a connection migrates, if the disk has returned what was written
+abbrev pub MigratesOn : {S A : Type 0} → Ghosts S → Held S → Held S → Result A StoreFault → Type 0
+MigratesOn g old new result = HasCleanDisk (state g new) → Migrates (state g old) (state g new) result
+
 -- ---- on the way, where these are the lists and their entries
 
 pub record HaveMoved (old new : State) (crls : List UnscopedCrl) (entries : List UnscopedEntry) : Type 0 where
@@ -42,3 +52,11 @@ MigratesLists old new crls entries (Err fault) = KeepsCommit old new × (fault �
 
 abbrev pub LeavesMoved : State → List UnscopedCrl → List UnscopedEntry → Trees → Type 0
 LeavesMoved old crls entries trees = (held : Holdings) → IsOld crls entries old.now held → AreTreesOf held trees
+
+-- ---- the same of what was read
+
+abbrev pub MigratesListsOn : {S A : Type 0} → Ghosts S → Held S → Held S → UnscopedLists → Result A StoreFault → Type 0
+MigratesListsOn g old new all result = HasCleanDisk (state g new) → MigratesLists (state g old) (state g new) (seen_crls all) (seen_entries all) result
+
+abbrev pub MayLeaveMoved : State → State → UnscopedLists → Type 0
+MayLeaveMoved old new all = Survives old new (LeavesMoved old (seen_crls all) (seen_entries all))

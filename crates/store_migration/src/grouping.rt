@@ -2,10 +2,8 @@
 
 ghost use Rattle.std.specs.Prelude.{◌≡◌, ◌==◌, IfOk, filter, map};
 ghost use Rattle.std.specs.List.Sorted.{IsNonDecreasingBy};
-ghost use Rattle.statements_facts.specs.Listed.{seen_listed};
 ghost use Rattle.store_adoption.specs.Seen.{seen_own};
-ghost use Rattle.store_adoption.specs.Version1.{listed_under};
-ghost use Rattle.store_migration.specs.Grouped.{HasSameLists, seen_entry};
+ghost use Rattle.store_migration.specs.Grouped.{seen_entry, KeepsLists, AreListedUnder};
 
 use crate::grouped::IssuersEntry;
 use statements_facts::Listed;
@@ -32,7 +30,7 @@ fn in_place<'a>(alloc: Global, entries: &'a [OwnEntry]) -> Result<Vec<IssuersEnt
 /// The entries by the ids of their issuers; those of one issuer stay in their order.
 fn sorted_by_issuer(all: Vec<IssuersEntry<'_>>) -> Result<Vec<IssuersEntry<'_>>, AllocError>
     ensures rise { IfOk result (λ sorted. IsNonDecreasingBy (λ entry. entry.issuer) sorted.items) }
-    ensures same { IfOk result (λ sorted. HasSameLists (map seen_entry sorted.items) (map seen_entry all.entry.items)) }
+    ensures same { IfOk result (KeepsLists (map seen_entry all.entry.items)) }
 {
     let mut all = all;
     all.sort_by_key(|entry| entry.issuer)?;
@@ -45,7 +43,7 @@ pub(crate) fn by_issuer<'a>(
     entries: &'a [OwnEntry],
 ) -> Result<Vec<IssuersEntry<'a>>, AllocError>
     ensures rise { IfOk result (λ sorted. IsNonDecreasingBy (λ entry. entry.issuer) sorted.items) }
-    ensures same { IfOk result (λ sorted. HasSameLists (map seen_entry sorted.items) (map seen_own entries.now)) }
+    ensures same { IfOk result (KeepsLists (map seen_own entries.now)) }
 {
     let all = in_place(alloc, entries)?;
     sorted_by_issuer(all)
@@ -69,7 +67,7 @@ pub(crate) fn entries_of<'a>(
     issuer: u32,
 ) -> Result<Vec<Listed<'a>>, AllocError>
     requires { IsNonDecreasingBy (λ entry. entry.issuer) sorted.now }
-    ensures { IfOk result (λ listed. map seen_listed listed.items ≡ listed_under (map seen_entry sorted.now) issuer) }
+    ensures { IfOk result (AreListedUnder sorted.now issuer) }
 {
     let run = run_of(sorted, issuer);
     let mut listed = Vec::with_capacity(alloc, run.len())?;

@@ -1,21 +1,13 @@
 //! Lists of version 1, put in their places as lists for all certificates.
 
-ghost use Rattle.std.specs.Prelude.{◌≡◌, ◌≢◌, ◌<◌, ◌^◌, ◌++◌, ◌∷◌, ℕ, List, [], map, Err, IfOk, OnOk, IsTrue};
-ghost use Rattle.sqlite.specs.Held.{state};
-ghost use Rattle.sqlite.specs.State.{HasCleanDisk};
-ghost use Rattle.statements_facts.specs.declared.scope.Scope.TheVariants.{All};
-ghost use Rattle.statements_facts.specs.Listed.{first_reason};
+ghost use Rattle.std.specs.Prelude.{◌≢◌, ◌<◌, ◌^◌, Err, IfOk, OnOk};
 ghost use Rattle.std.specs.List.Sorted.{IsNonDecreasingBy};
 ghost use Rattle.store_sql.specs.Statements.{CommitsNothing};
 ghost use Rattle.store_rows.specs.Holding.{FitInList};
-ghost use Rattle.store_rows.specs.Seen.{seen_head};
-ghost use Rattle.store_rows.specs.Steps.{Changes};
-ghost use Rattle.store_adoption.specs.Seen.{seen_list, seen_own};
-ghost use Rattle.store_adoption.specs.Version1.{UnscopedCrl, UnscopedEntry, listed_under};
-ghost use Rattle.store_taking.specs.Lists.{with_list};
-ghost use Rattle.store_taking.specs.Passing.{StepsTo};
-ghost use Rattle.store_migration.specs.Grouped.{HasSameLists, seen_entry};
-ghost use Rattle.store_migration.specs.Moved.{HasMoved, IsNext};
+ghost use Rattle.store_sql.specs.Inside.{inside, IsInTransaction, KeepsReference};
+ghost use Rattle.store_migration.specs.Grouped.{HasReasonsOf};
+ghost use Rattle.store_migration.specs.Moves.{with_unscoped, MovesList, MovesLists, MovesAll};
+ghost use Rattle.store_rows.specs.Steps.{ChangesIn};
 
 use crate::grouped::IssuersEntry;
 use crate::grouping::{by_issuer, entries_of};
@@ -33,7 +25,7 @@ fn revoked_of<'a>(
     issuer: u32,
 ) -> Result<RevokedSerials<'a>, StoreFault>
     requires { IsNonDecreasingBy (λ entry. entry.issuer) sorted.now }
-    ensures reasons { IfOk result (λ revoked. (serial : List ℕ) → first_reason revoked serial ≡ first_reason (listed_under (map seen_entry sorted.now) issuer) serial) }
+    ensures reasons { IfOk result (HasReasonsOf sorted.now issuer) }
     ensures memory { result ≢ Err StoreFault.Schema }
 {
     let listed = match entries_of(alloc, sorted, issuer) {
@@ -60,11 +52,11 @@ fn put_revoked<S: Alter>(
     revoked: &RevokedSerials<'_>,
 ) -> Result<(), StoreFault>
     requires issuer { list.now.issuer < 536870911 }
-    requires inside { HasCleanDisk (state S.Store tx.old.conn.now) → IsTrue (state S.Store tx.old.conn.now).in_transaction }
-    ensures same_reference { tx.new.conn.ghost_name ≡ tx.old.conn.ghost_name }
+    requires inside { IsInTransaction S.Store tx.old }
+    ensures same_reference { KeepsReference tx.old tx.new }
     ensures formed { OnOk result (FitInList revoked.now) }
-    ensures changes { HasCleanDisk (state S.Store tx.new.conn.now) → Changes (state S.Store tx.old.conn.now) (state S.Store tx.new.conn.now) (with_list list.now.issuer All (seen_head list.now.head) revoked.now) result }
-    ensures survives { CommitsNothing (state S.Store tx.old.conn.now) (state S.Store tx.new.conn.now) }
+    ensures changes { ChangesIn S.Store tx.old tx.new (with_unscoped list.now revoked.now) result }
+    ensures survives { CommitsNothing (inside S.Store tx.old) (inside S.Store tx.new) }
 {
     let head = list.head;
     is_numbered(head.number);
@@ -89,10 +81,10 @@ fn put_list<S: Alter>(
     sorted: &[IssuersEntry<'_>],
 ) -> Result<(), StoreFault>
     requires rise { IsNonDecreasingBy (λ entry. entry.issuer) sorted.now }
-    requires inside { HasCleanDisk (state S.Store tx.old.conn.now) → IsTrue (state S.Store tx.old.conn.now).in_transaction }
-    ensures same_reference { tx.new.conn.ghost_name ≡ tx.old.conn.ghost_name }
-    ensures puts { HasCleanDisk (state S.Store tx.new.conn.now) → (crls moved : List UnscopedCrl) (entries : List UnscopedEntry) → HasSameLists (map seen_entry sorted.now) entries → IsNext crls moved (seen_list list.now) → StepsTo (state S.Store tx.old.conn.now) (state S.Store tx.new.conn.now) (HasMoved crls entries moved) (λ done. HasMoved crls entries (moved ++ seen_list list.now ∷ [])) result }
-    ensures survives { CommitsNothing (state S.Store tx.old.conn.now) (state S.Store tx.new.conn.now) }
+    requires inside { IsInTransaction S.Store tx.old }
+    ensures same_reference { KeepsReference tx.old tx.new }
+    ensures puts { MovesList S.Store tx.old tx.new list.now sorted.now result }
+    ensures survives { CommitsNothing (inside S.Store tx.old) (inside S.Store tx.new) }
 {
     if list.issuer >= ID_LIMIT {
         return Err(StoreFault::Store);
@@ -115,10 +107,10 @@ fn put_each<S: Alter>(
     sorted: &[IssuersEntry<'_>],
 ) -> Result<(), StoreFault>
     requires rise { IsNonDecreasingBy (λ entry. entry.issuer) sorted.now }
-    requires inside { HasCleanDisk (state S.Store tx.old.conn.now) → IsTrue (state S.Store tx.old.conn.now).in_transaction }
-    ensures same_reference { tx.new.conn.ghost_name ≡ tx.old.conn.ghost_name }
-    ensures puts { HasCleanDisk (state S.Store tx.new.conn.now) → (entries : List UnscopedEntry) → HasSameLists (map seen_entry sorted.now) entries → StepsTo (state S.Store tx.old.conn.now) (state S.Store tx.new.conn.now) (HasMoved (map seen_list lists.now) entries []) (λ done. HasMoved (map seen_list lists.now) entries (map seen_list lists.now)) result }
-    ensures survives { CommitsNothing (state S.Store tx.old.conn.now) (state S.Store tx.new.conn.now) }
+    requires inside { IsInTransaction S.Store tx.old }
+    ensures same_reference { KeepsReference tx.old tx.new }
+    ensures puts { MovesLists S.Store tx.old tx.new lists.now sorted.now result }
+    ensures survives { CommitsNothing (inside S.Store tx.old) (inside S.Store tx.new) }
 {
     'each: for list in lists {
         match put_list(alloc, tx, list, sorted) {
@@ -135,10 +127,10 @@ pub(crate) fn put_lists<S: Alter>(
     tx: &mut Transaction<'_, S>,
     all: &UnscopedLists,
 ) -> Result<(), StoreFault>
-    requires inside { HasCleanDisk (state S.Store tx.old.conn.now) → IsTrue (state S.Store tx.old.conn.now).in_transaction }
-    ensures same_reference { tx.new.conn.ghost_name ≡ tx.old.conn.ghost_name }
-    ensures puts { HasCleanDisk (state S.Store tx.new.conn.now) → StepsTo (state S.Store tx.old.conn.now) (state S.Store tx.new.conn.now) (HasMoved (map seen_list all.now.lists.items) (map seen_own all.now.entries.items) []) (λ done. HasMoved (map seen_list all.now.lists.items) (map seen_own all.now.entries.items) (map seen_list all.now.lists.items)) result }
-    ensures survives { CommitsNothing (state S.Store tx.old.conn.now) (state S.Store tx.new.conn.now) }
+    requires inside { IsInTransaction S.Store tx.old }
+    ensures same_reference { KeepsReference tx.old tx.new }
+    ensures puts { MovesAll S.Store tx.old tx.new all.now result }
+    ensures survives { CommitsNothing (inside S.Store tx.old) (inside S.Store tx.new) }
 {
     let sorted = match by_issuer(alloc, all.entries.as_slice()) {
         Ok(sorted) => sorted,

@@ -1,15 +1,12 @@
 //! The migration, in one transaction.
 
-ghost use Rattle.std.specs.Prelude.{◌≡◌, false, map, IsTrue};
+ghost use Rattle.std.specs.Prelude.{◌≡◌, false};
 ghost use Rattle.sqlite.specs.Held.{state};
-ghost use Rattle.sqlite.specs.State.{HasCleanDisk, Survives};
 ghost use Rattle.store_sql.specs.Statements.{CommitsNothing, IsDurable};
-ghost use Rattle.store_maps.specs.Held.{IsStoreOf};
 ghost use Rattle.store_adoption.specs.Creates.{IsSettled};
-ghost use Rattle.store_adoption.specs.Seen.{seen_list, seen_own};
-ghost use Rattle.store_taking.specs.Passing.{StepsTo};
-ghost use Rattle.store_migration.specs.Moved.{IsOld};
-ghost use Rattle.store_migration.specs.Migrates.{Migrates, MigratesLists, LeavesMigrated, LeavesMoved};
+ghost use Rattle.store_sql.specs.Inside.{inside, IsInTransaction, KeepsReference};
+ghost use Rattle.store_migration.specs.Moves.{BecomesStore};
+ghost use Rattle.store_migration.specs.Migrates.{MigratesListsOn, MayLeaveMoved, MigratesOn, MayLeaveMigrated};
 
 use crate::listing::put_lists;
 use crate::preparing::prepare;
@@ -23,10 +20,10 @@ fn move_lists<S: Alter>(
     tx: &mut Transaction<'_, S>,
     all: &UnscopedLists,
 ) -> Result<(), StoreFault>
-    requires inside { HasCleanDisk (state S.Store tx.old.conn.now) → IsTrue (state S.Store tx.old.conn.now).in_transaction }
-    ensures same_reference { tx.new.conn.ghost_name ≡ tx.old.conn.ghost_name }
-    ensures moves { HasCleanDisk (state S.Store tx.new.conn.now) → StepsTo (state S.Store tx.old.conn.now) (state S.Store tx.new.conn.now) (IsOld (map seen_list all.now.lists.items) (map seen_own all.now.entries.items)) (λ done. IsStoreOf) result }
-    ensures survives { CommitsNothing (state S.Store tx.old.conn.now) (state S.Store tx.new.conn.now) }
+    requires inside { IsInTransaction S.Store tx.old }
+    ensures same_reference { KeepsReference tx.old tx.new }
+    ensures moves { BecomesStore S.Store tx.old tx.new all.now result }
+    ensures survives { CommitsNothing (inside S.Store tx.old) (inside S.Store tx.new) }
 {
     if let Err(fault) = prepare(tx) {
         return Err(fault);
@@ -45,8 +42,8 @@ fn move_committed<S: Alter>(
 ) -> Result<(), StoreFault>
     requires idle { conn.old.in_transaction ≡ false }
     ensures idle { conn.new.in_transaction ≡ false }
-    ensures moves { HasCleanDisk (state S.Store conn.new) → MigratesLists (state S.Store conn.old) (state S.Store conn.new) (map seen_list all.now.lists.items) (map seen_own all.now.entries.items) result }
-    ensures crash { Survives (state S.Store conn.old) (state S.Store conn.new) (LeavesMoved (state S.Store conn.old) (map seen_list all.now.lists.items) (map seen_own all.now.entries.items)) }
+    ensures moves { MigratesListsOn S.Store conn.old conn.new all.now result }
+    ensures crash { MayLeaveMoved (state S.Store conn.old) (state S.Store conn.new) all.now }
 {
     let mut tx = conn.transaction();
     if let Err(fault) = move_lists(alloc, &mut tx, all) {
@@ -61,8 +58,8 @@ fn move_committed<S: Alter>(
 fn migrate_idle<S: Alter>(alloc: Global, conn: &mut Connection<S>) -> Result<(), StoreFault>
     requires idle { conn.old.in_transaction ≡ false }
     ensures idle { conn.new.in_transaction ≡ false }
-    ensures migrates { HasCleanDisk (state S.Store conn.new) → Migrates (state S.Store conn.old) (state S.Store conn.new) result }
-    ensures crash { Survives (state S.Store conn.old) (state S.Store conn.new) (LeavesMigrated (state S.Store conn.old)) }
+    ensures migrates { MigratesOn S.Store conn.old conn.new result }
+    ensures crash { MayLeaveMigrated (state S.Store conn.old) (state S.Store conn.new) }
 {
     let all = match read_version_1(alloc, conn) {
         Ok(all) => all,
@@ -79,10 +76,10 @@ fn migrate_idle<S: Alter>(alloc: Global, conn: &mut Connection<S>) -> Result<(),
 pub fn migrate<S: Alter>(alloc: Global, conn: &mut Connection<S>) -> Result<(), StoreFault>
     requires idle { conn.old.in_transaction ≡ false }
     ensures idle { conn.new.in_transaction ≡ false }
-    ensures migrates { HasCleanDisk (state S.Store conn.new) → Migrates (state S.Store conn.old) (state S.Store conn.new) result }
+    ensures migrates { MigratesOn S.Store conn.old conn.new result }
     ensures settled { IsSettled (state S.Store conn.old) × IsSettled (state S.Store conn.new) }
     ensures durable { IsDurable (state S.Store conn.new) }
-    ensures crash { Survives (state S.Store conn.old) (state S.Store conn.new) (LeavesMigrated (state S.Store conn.old)) }
+    ensures crash { MayLeaveMigrated (state S.Store conn.old) (state S.Store conn.new) }
 {
     let _before = conn.is_autocommit();
     let done = migrate_idle(alloc, conn);

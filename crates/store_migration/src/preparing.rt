@@ -1,12 +1,8 @@
 //! The tables of version 2, beside those of version 1.
 
-ghost use Rattle.std.specs.Prelude.{◌≡◌, List, [], IsTrue};
-ghost use Rattle.sqlite.specs.Held.{state};
-ghost use Rattle.sqlite.specs.State.{HasCleanDisk};
 ghost use Rattle.store_sql.specs.Statements.{CommitsNothing};
-ghost use Rattle.store_adoption.specs.Version1.{UnscopedCrl, UnscopedEntry};
-ghost use Rattle.store_taking.specs.Passing.{StepsTo};
-ghost use Rattle.store_migration.specs.Moved.{IsOld, HasTables, HasMoved};
+ghost use Rattle.store_sql.specs.Inside.{inside, IsInTransaction, KeepsReference};
+ghost use Rattle.store_migration.specs.Moves.{AddsTables, SetsVersion, Prepares};
 
 use sqlite::{Alter, Transaction};
 use store_sql::{
@@ -14,10 +10,10 @@ use store_sql::{
 };
 
 fn make_tables<S: Alter>(tx: &mut Transaction<'_, S>) -> Result<(), StoreFault>
-    requires inside { HasCleanDisk (state S.Store tx.old.conn.now) → IsTrue (state S.Store tx.old.conn.now).in_transaction }
-    ensures same_reference { tx.new.conn.ghost_name ≡ tx.old.conn.ghost_name }
-    ensures makes { HasCleanDisk (state S.Store tx.new.conn.now) → (crls : List UnscopedCrl) (entries : List UnscopedEntry) → StepsTo (state S.Store tx.old.conn.now) (state S.Store tx.new.conn.now) (IsOld crls entries) (λ done. HasTables crls entries) result }
-    ensures survives { CommitsNothing (state S.Store tx.old.conn.now) (state S.Store tx.new.conn.now) }
+    requires inside { IsInTransaction S.Store tx.old }
+    ensures same_reference { KeepsReference tx.old tx.new }
+    ensures makes { AddsTables S.Store tx.old tx.new result }
+    ensures survives { CommitsNothing (inside S.Store tx.old) (inside S.Store tx.new) }
 {
     if let Err(error) = create_scoped_crls(tx) {
         return Err(StoreFault::from(error));
@@ -29,10 +25,10 @@ fn make_tables<S: Alter>(tx: &mut Transaction<'_, S>) -> Result<(), StoreFault>
 }
 
 fn set_version<S: Alter>(tx: &mut Transaction<'_, S>) -> Result<(), StoreFault>
-    requires inside { HasCleanDisk (state S.Store tx.old.conn.now) → IsTrue (state S.Store tx.old.conn.now).in_transaction }
-    ensures same_reference { tx.new.conn.ghost_name ≡ tx.old.conn.ghost_name }
-    ensures sets { HasCleanDisk (state S.Store tx.new.conn.now) → (crls : List UnscopedCrl) (entries : List UnscopedEntry) → StepsTo (state S.Store tx.old.conn.now) (state S.Store tx.new.conn.now) (HasTables crls entries) (λ done. HasMoved crls entries []) result }
-    ensures survives { CommitsNothing (state S.Store tx.old.conn.now) (state S.Store tx.new.conn.now) }
+    requires inside { IsInTransaction S.Store tx.old }
+    ensures same_reference { KeepsReference tx.old tx.new }
+    ensures sets { SetsVersion S.Store tx.old tx.new result }
+    ensures survives { CommitsNothing (inside S.Store tx.old) (inside S.Store tx.new) }
 {
     if let Err(error) = delete_version(tx) {
         return Err(StoreFault::from(error));
@@ -45,10 +41,10 @@ fn set_version<S: Alter>(tx: &mut Transaction<'_, S>) -> Result<(), StoreFault>
 
 /// Makes the tables of version 2, and sets the version. No list is in them yet.
 pub(crate) fn prepare<S: Alter>(tx: &mut Transaction<'_, S>) -> Result<(), StoreFault>
-    requires inside { HasCleanDisk (state S.Store tx.old.conn.now) → IsTrue (state S.Store tx.old.conn.now).in_transaction }
-    ensures same_reference { tx.new.conn.ghost_name ≡ tx.old.conn.ghost_name }
-    ensures prepares { HasCleanDisk (state S.Store tx.new.conn.now) → (crls : List UnscopedCrl) (entries : List UnscopedEntry) → StepsTo (state S.Store tx.old.conn.now) (state S.Store tx.new.conn.now) (IsOld crls entries) (λ done. HasMoved crls entries []) result }
-    ensures survives { CommitsNothing (state S.Store tx.old.conn.now) (state S.Store tx.new.conn.now) }
+    requires inside { IsInTransaction S.Store tx.old }
+    ensures same_reference { KeepsReference tx.old tx.new }
+    ensures prepares { Prepares S.Store tx.old tx.new result }
+    ensures survives { CommitsNothing (inside S.Store tx.old) (inside S.Store tx.new) }
 {
     if let Err(fault) = make_tables(tx) {
         return Err(fault);

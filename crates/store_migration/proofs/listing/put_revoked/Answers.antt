@@ -9,12 +9,12 @@ pub returns-in-Ok-clause-changes : goal.returns-in-Ok-clause-changes
 returns-in-Ok-clause-changes g c clean =
     let head = seen_head c.args.list.now.head in
     let id = c.args.list.now.issuer in
-    moves_then _ _ _ (with_crl id All head.number head.window) (with_entries id 0 c.args.revoked.now) (c.in_default.ensures.changes (omega (arith, clean, c.replace_entries.ensures.survives.clean))) (c.in-Ok.ensures.changes clean)
+    moves_then _ _ _ (with_crl id All head) (with_entries id 0 c.args.revoked.now) (c.in_default.ensures.changes (omega (arith, clean, c.replace_entries.ensures.survives.clean))) (c.in-Ok.ensures.changes clean)
     (λ it form. crl_in_form it id All head form c.is_numbered.ensures)
 
 pub returns-in-Err-replace_entries-clause-changes : goal.returns-in-Err-replace_entries-clause-changes
 returns-in-Err-replace_entries-clause-changes g c clean =
     let head = seen_head c.args.list.now.head in
     let id = c.args.list.now.issuer in
-    moves_then_fails _ _ _ (with_crl id All head.number head.window) c.in-Err-replace_entries.fault (c.in_default.ensures.changes (omega (arith, clean, c.replace_entries.ensures.survives.clean))) (c.in-Err-replace_entries.ensures.changes clean)
+    moves_then_fails _ _ _ (with_crl id All head) c.in-Err-replace_entries.fault (c.in_default.ensures.changes (omega (arith, clean, c.replace_entries.ensures.survives.clean))) (c.in-Err-replace_entries.ensures.changes clean)
     (λ it form. crl_in_form it id All head form c.is_numbered.ensures)

@@ -4,10 +4,10 @@ use Rattle.sqlite.specs.State.{HasCleanDisk, Survives, KeepsCommit}
 use Rattle.sqlite.proofs.Callers.{survives_begin}
 use Rattle.sqlite.proofs.StateLemmas.{survives_then}
 use Rattle.statements_facts.specs.Statement.{Holdings}
-use Rattle.store_sql.specs.declared.fault.StoreFault.TheVariants.{Schema as NotOurs}
 use Rattle.store_adoption.specs.Seen.{seen_list, seen_own}
 use Rattle.store_migration.specs.Moved.{IsOld}
 use Rattle.store_migration.specs.Migrates.{LeavesMoved}
+use Rattle.store_sql.specs.declared.fault.StoreFault.{StoreFault}
 use Rattle.store_migration.proofs.Ending.{leaves_moved, stops_moved}
 use Rattle.store_migration.proofs.migrating.move_committed.Goals as goal
 
@@ -18,7 +18,7 @@ returns-in-Err-clause-moves g c =
     let crls = map seen_list c.args.all.now.lists.items in
     let entries = map seen_own c.args.all.now.entries.items in
     let same : c.drop-tx.new.self.0 ≡ c.conn-1.given.0 = search rules in
-    subst (λ h. HasCleanDisk (state g.S.Store h) → KeepsCommit (state g.S.Store old) (state g.S.Store h) × (c.in-Err.fault ≡ NotOurs → (held : Holdings) → IsOld crls entries (state g.S.Store old).now held → ⊥)) same
+    subst (λ h. HasCleanDisk (state g.S.Store h) → KeepsCommit (state g.S.Store old) (state g.S.Store h) × (c.in-Err.fault ≡ StoreFault.Schema → (held : Holdings) → IsOld crls entries (state g.S.Store old).now held → ⊥)) same
     (λ clean. stops_moved g.S.Store old c.transaction-tx.result.conn.now c.transaction-tx.ensures.begun crls entries (state g.S.Store last) (state g.S.Store c.drop-tx.new.self.0) c.in-Err.fault
     (c.in-Err.ensures.moves (omega (arith, clean, c.drop-tx.ensures.survives.clean))) (c.drop-tx.ensures.undone clean))
 
