@@ -4,4 +4,5 @@ mod Nothing
 mod Owning
 mod Listing
 mod Saying
+mod Trees
 pub mod HeldLaws
