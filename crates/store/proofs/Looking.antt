@@ -6,12 +6,11 @@ use Rattle.sqlite.specs.State.{State, KeepsCommit, IsRolledBack}
 use Rattle.sqlite.proofs.InsideLemmas.{unchanged_keeps, keeps_then}
 use Rattle.statements_facts.specs.Statement.{Holdings}
 use Rattle.store_sql.specs.declared.fault.StoreFault.{StoreFault}
-use Rattle.store_sql.specs.declared.fault.StoreFault.TheVariants.{Schema as NotOurs}
 use Rattle.store_maps.specs.Held.{IsStoreOf}
 use Rattle.store_maps.specs.LooksUp.{FailsIn, IsFoundIn}
 
 pub fails_at : {S : Type 0} (g : Ghosts S) (old begun : Held S) (last new : State) (fault : StoreFault) → begun ≡ record old { in_transaction = true } → FailsIn (state g begun) last fault → IsRolledBack last new
-    → KeepsCommit (state g old) new × (fault ≡ NotOurs → (held : Holdings) → IsStoreOf (state g old).now held → ⊥)
+    → KeepsCommit (state g old) new × (fault ≡ StoreFault.Schema → (held : Holdings) → IsStoreOf (state g old).now held → ⊥)
 fails_at g old begun last new fault is fails undone =
     let h = subst (λ b. FailsIn (state g b) last fault) is fails in
     (keeps_then (state g old) last new (record { was_open = h.keeps.was_open; committed = h.keeps.committed }) (unchanged_keeps last new (inr undone)), λ ours held it. h.formed ours held it)

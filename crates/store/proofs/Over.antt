@@ -4,7 +4,6 @@ use Rattle.sqlite.specs.Effect.{Database}
 use Rattle.sqlite.specs.State.{State, IsUnchanged, KeepsCommit}
 use Rattle.statements_facts.specs.Statement.{Holdings}
 use Rattle.store_sql.specs.declared.fault.StoreFault.{StoreFault}
-use Rattle.store_sql.specs.declared.fault.StoreFault.TheVariants.{Schema as NotOurs}
 use Rattle.store_sql.specs.Tables.{version_1_schema}
 use Rattle.store_maps.specs.Held.{IsStoreOf}
 use Rattle.store_adoption.specs.Inspects.{TablesAreInOrder, IsStore}
@@ -27,11 +26,11 @@ migrated_over old new has ordered m =
       migrated = m.held;
     }
 
-pub migration_fails : (old new : State) (fault : StoreFault) → old.now.schema ≡ version_1_schema → KeepsCommit old new × (fault ≡ NotOurs → (held : Holdings) → IsVersion1Of old.now held → ⊥)
-    → KeepsCommit old new × (fault ≡ NotOurs → (held : Holdings) → IsStoreOf old.now held ⊎ IsVersion1Of old.now held → ⊥)
+pub migration_fails : (old new : State) (fault : StoreFault) → old.now.schema ≡ version_1_schema → KeepsCommit old new × (fault ≡ StoreFault.Schema → (held : Holdings) → IsVersion1Of old.now held → ⊥)
+    → KeepsCommit old new × (fault ≡ StoreFault.Schema → (held : Holdings) → IsStoreOf old.now held ⊎ IsVersion1Of old.now held → ⊥)
 migration_fails old new fault has h = (h.0, λ ours held it. refused ours held it)
   where
-    refused : fault ≡ NotOurs → (held : Holdings) → IsStoreOf old.now held ⊎ IsVersion1Of old.now held → ⊥
+    refused : fault ≡ StoreFault.Schema → (held : Holdings) → IsStoreOf old.now held ⊎ IsVersion1Of old.now held → ⊥
     refused ours held (inl it) = other old.now held has it
     refused ours held (inr it) = h.1 ours held it
 
@@ -45,10 +44,10 @@ adopted_over old new far h =
       migrated = λ held it. absurd (far it.rows.schema_is);
     }
 
-pub adoption_fails : (old new : State) (fault : StoreFault) → old.now.schema ≢ version_1_schema → KeepsCommit old new × (fault ≡ NotOurs → (held : Holdings) → IsStoreOf old.now held → ⊥)
-    → KeepsCommit old new × (fault ≡ NotOurs → (held : Holdings) → IsStoreOf old.now held ⊎ IsVersion1Of old.now held → ⊥)
+pub adoption_fails : (old new : State) (fault : StoreFault) → old.now.schema ≢ version_1_schema → KeepsCommit old new × (fault ≡ StoreFault.Schema → (held : Holdings) → IsStoreOf old.now held → ⊥)
+    → KeepsCommit old new × (fault ≡ StoreFault.Schema → (held : Holdings) → IsStoreOf old.now held ⊎ IsVersion1Of old.now held → ⊥)
 adoption_fails old new fault far h = (h.0, λ ours held it. refused ours held it)
   where
-    refused : fault ≡ NotOurs → (held : Holdings) → IsStoreOf old.now held ⊎ IsVersion1Of old.now held → ⊥
+    refused : fault ≡ StoreFault.Schema → (held : Holdings) → IsStoreOf old.now held ⊎ IsVersion1Of old.now held → ⊥
     refused ours held (inl it) = h.1 ours held it
     refused ours held (inr it) = far it.rows.schema_is

@@ -1,6 +1,7 @@
 -- What the calls of a store say of the database outside a transaction.
 use Rattle.std.specs.Prelude.{◌≡◌, ◌⊎◌, Result, Ok, Err, IsTrue}
-use Rattle.sqlite.specs.State.{State, HasCleanDisk, IsUnchanged, KeepsCommit}
+use Rattle.sqlite.specs.Effect.{Database}
+use Rattle.sqlite.specs.State.{State, HasCleanDisk, IsUnchanged, KeepsCommit, Survives}
 use Rattle.sqlite_disk.specs.declared.Disk.{Ghosts}
 use Rattle.sqlite_disk.specs.declared.Files.{Files}
 use Rattle.sqlite_store.specs.declared.store.FileStore.{FileStore}
@@ -8,14 +9,17 @@ use Rattle.sqlite.specs.Held.{Held}
 use Rattle.sqlite.specs.Files.{file_state, Finds, IsOpened}
 use Rattle.sqlite.specs.Closing.{IsCopied}
 use Rattle.sqlite.specs.WalReads.{AreClean}
-use Rattle.statements_facts.specs.Statement.{Holdings}
+use Rattle.statements_facts.specs.declared.counts.Counts.{Counts}
+use Rattle.statements_facts.specs.declared.fact.Facts.{Facts}
+use Rattle.statements_facts.specs.Statement.{Holdings, empty_holdings}
 use Rattle.store_sql.specs.declared.fault.StoreFault.{StoreFault}
 use Rattle.store_sql.specs.declared.fault.StoreFault.TheVariants.{Schema}
 use Rattle.store_sql.specs.Statements.{CommitsNothing}
-use Rattle.store_maps.specs.Held.{IsStoreOf}
+use Rattle.store_maps.specs.Held.{IsStoreOf, AreTreesOf}
 use Rattle.sqlite_trees.specs.Tree.{Trees}
-use Rattle.store_adoption.specs.Creates.{AreTreesOf}
-use Rattle.store_adoption.specs.Inspects.{IsStore}
+use Rattle.store_taking.specs.Delivery.{PutsFacts, AllOrNothing}
+use Rattle.store_adoption.specs.Creates.{IsCreated, MayLeaveEmptyStore}
+use Rattle.store_adoption.specs.Inspects.{IsStore, TablesAreInOrder}
 use Rattle.store_adoption.specs.Version1.{IsVersion1Of, IsVersion1}
 
 -- nothing changes and the database is a store; or a fault, which is for the tables and rows only where it is none
@@ -36,29 +40,46 @@ abbrev pub TakesOver : {A : Type 0} → State → State → Result A StoreFault 
 TakesOver old new (Ok done) = IsTakenOver old new
 TakesOver old new (Err fault) = KeepsCommit old new × (fault ≡ Schema → (held : Holdings) → IsStoreOf old.now held ⊎ IsVersion1Of old.now held → ⊥)
 
+-- the same over a store of which nothing says that the rows of its tables stand in the order of their ids
+abbrev pub TakesOverOrdered : {A : Type 0} → State → State → Result A StoreFault → Type 0
+TakesOverOrdered old new (Ok done) = IsTrue old.is_open × (TablesAreInOrder old.now → IsTakenOver old new)
+TakesOverOrdered old new (Err fault) = KeepsCommit old new × (fault ≡ Schema → (held : Holdings) → IsStoreOf old.now held ⊎ IsVersion1Of old.now held → ⊥)
+
+abbrev pub TakesOverInOrder : {A : Type 0} → State → State → Result A StoreFault → Type 0
+TakesOverInOrder old new result = HasCleanDisk new → TakesOverOrdered old new result
+
 -- the store of version 2 that one of version 1 becomes
 abbrev pub IsMigratedFrom : State → Trees → Type 0
 IsMigratedFrom old trees = IsVersion1 old.now × ((held : Holdings) → IsVersion1Of old.now held → AreTreesOf held trees)
 
--- the last commit stays, and what is found is what is held; no fault is for the form of the rows of a store
-abbrev pub LooksAt : {A : Type 0} → State → State → (Holdings → A → Type 0) → Result A StoreFault → Type 0
-LooksAt old new Is (Ok found) = KeepsCommit old new × ((held : Holdings) → IsStoreOf old.now held → Is held found)
-LooksAt old new Is (Err fault) = KeepsCommit old new × (fault ≡ Schema → (held : Holdings) → IsStoreOf old.now held → ⊥)
+-- ---- look-ups between transactions
 
 -- where the connection is still open the database is as it was, and so are both maps
 pub record StaysIfOpen (old new : State) : Type 0 where
   pub was_open : IsTrue new.is_open → IsTrue old.is_open
   pub now_is : IsTrue new.is_open → new.now ≡ old.now
 
-abbrev pub LookedUp : {A : Type 0} → State → State → (Holdings → A → Type 0) → Result A StoreFault → Type 0
-LookedUp old new Is (Ok found) = StaysIfOpen old new × ((held : Holdings) → IsStoreOf old.now held → Is held found)
-LookedUp old new Is (Err fault) = StaysIfOpen old new × (fault ≡ Schema → (held : Holdings) → IsStoreOf old.now held → ⊥)
+-- what is found is what is held, and no fault is for the form of the rows of a store; the database is kept so
+abbrev pub FindsOrFails : {A : Type 0} → Type 0 → Database → (Holdings → A → Type 0) → Result A StoreFault → Type 0
+FindsOrFails Kept db Is (Ok found) = Kept × ((held : Holdings) → IsStoreOf db held → Is held found)
+FindsOrFails Kept db Is (Err fault) = Kept × (fault ≡ Schema → (held : Holdings) → IsStoreOf db held → ⊥)
+
+-- if the disk has returned what was written
+abbrev pub FindsHeld : {A : Type 0} → (State → State → Type 0) → State → State → (Holdings → A → Type 0) → Result A StoreFault → Type 0
+FindsHeld Keeps old new Is result = HasCleanDisk new → FindsOrFails (Keeps old new) old.now Is result
 
 -- a connection that was opened on the files that a close gave back is the same store
 abbrev pub Reopens : {D : Type 0} {g : Ghosts D} → Held (FileStore D g) → Files D → Type 0
 Reopens {D} {g} old files = (again : Held (FileStore D g)) → Finds files again → IsOpened again → (held : Holdings) → IsStoreOf (file_state old).now held → IsStoreOf (file_state again).now held
 
 -- ---- closed and opened again
+
+abbrev pub AreUsable : {D : Type 0} → Ghosts D → Files D → Type 0
+AreUsable g files = IsTrue (g.is_usable files.log) × IsTrue (g.is_usable files.db)
+
+-- where their disk returned what was written, the database file has all that was committed
+abbrev pub CopiesTo : {D : Type 0} {g : Ghosts D} → Held (FileStore D g) → Files D → Type 0
+CopiesTo {D} {g} old files = AreClean g files.log files.db → IsCopied old files
 
 -- it holds what it held
 pub record Restarts (old new : State) : Type 0 where
@@ -81,3 +102,52 @@ pub record IsNoStoreAgain {D : Type 0} {g : Ghosts D} (old : Held (FileStore D g
 abbrev pub FailsToReopen : {D : Type 0} {g : Ghosts D} → Held (FileStore D g) → StoreFault → Type 0
 FailsToReopen old Schema = IsNoStoreAgain old
 FailsToReopen old fault = Unit {0}
+
+-- ---- calls on a connection over files, if the disk has returned what was written
+
+module _ {D : Type 0} {g : Ghosts D} (old new : Held (FileStore D g)) where
+  abbrev pub AdoptsOn : {A : Type 0} → Result A StoreFault → Type 0
+  AdoptsOn result = HasCleanDisk (file_state new) → Adopts (file_state old) (file_state new) result
+
+  abbrev pub TakesOverOn : {A : Type 0} → Result A StoreFault → Type 0
+  TakesOverOn result = HasCleanDisk (file_state new) → TakesOver (file_state old) (file_state new) result
+
+  -- a crash leaves what it could leave before, or the store of version 2 that one of version 1 becomes
+  abbrev pub MayLeaveVersion2 : Type 0
+  MayLeaveVersion2 = Survives (file_state old) (file_state new) (IsMigratedFrom (file_state old))
+
+  abbrev pub MayLeaveEmpty : Type 0
+  MayLeaveEmpty = MayLeaveEmptyStore (file_state old) (file_state new)
+
+  abbrev pub IsCreatedOn : Type 0
+  IsCreatedOn = HasCleanDisk (file_state new) → IsCreated (file_state old) (file_state new)
+
+  -- it was a store, or of version 1
+  abbrev pub WasStoreOn : Type 0
+  WasStoreOn = HasCleanDisk (file_state new) → IsStore (file_state old).now ⊎ IsVersion1 (file_state old).now
+
+  -- a store does not change
+  abbrev pub KeepsStoreOn : Type 0
+  KeepsStoreOn = HasCleanDisk (file_state new) → IsStore (file_state old).now → IsUnchanged (file_state old) (file_state new)
+
+  -- what version 1 held is held by version 2
+  abbrev pub MigratesStoreOn : Type 0
+  MigratesStoreOn = HasCleanDisk (file_state new) → (held : Holdings) → IsVersion1Of (file_state old).now held → IsStoreOf (file_state new).now held
+
+  abbrev pub PutsOn : Facts → Result Counts StoreFault → Type 0
+  PutsOn facts result = PutsFacts (file_state old) (file_state new) facts result
+
+  abbrev pub AllOrNothingOn : Facts → Type 0
+  AllOrNothingOn facts = AllOrNothing (file_state old) (file_state new) facts
+
+  abbrev pub FindsHeldOn : {A : Type 0} → (Holdings → A → Type 0) → Result A StoreFault → Type 0
+  FindsHeldOn Is result = FindsHeld StaysIfOpen (file_state old) (file_state new) Is result
+
+  abbrev pub RestartsOn : Type 0
+  RestartsOn = HasCleanDisk (file_state new) → Restarts (file_state old) (file_state new)
+
+abbrev pub IsStoreOn : {D : Type 0} {g : Ghosts D} → Held (FileStore D g) → Type 0
+IsStoreOn conn = HasCleanDisk (file_state conn) → IsStore (file_state conn).now
+
+abbrev pub IsEmptyStoreOn : {D : Type 0} {g : Ghosts D} → Held (FileStore D g) → Type 0
+IsEmptyStoreOn conn = HasCleanDisk (file_state conn) → IsStoreOf (file_state conn).now empty_holdings

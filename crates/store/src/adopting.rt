@@ -2,33 +2,72 @@
 
 ghost use Rattle.std.specs.Prelude.{◌≡◌, false, OnOk};
 ghost use Rattle.sqlite.specs.Files.{file_state};
-ghost use Rattle.sqlite.specs.State.{HasCleanDisk, Survives};
 ghost use Rattle.store_sql.specs.Statements.{CommitsNothing, IsDurable};
 ghost use Rattle.store_adoption.specs.Creates.{IsSettled};
-ghost use Rattle.store_migration.specs.Migrates.{LeavesMigrated};
-ghost use Rattle.store.specs.Adopts.{Adopts, IsMigratedFrom, TakesOver};
+ghost use Rattle.store.specs.Adopts.{AdoptsOn, TakesOverOn, MayLeaveVersion2, TakesOverInOrder};
+ghost use Rattle.store_migration.specs.Migrates.{MayLeaveMigrated};
+ghost use Rattle.sqlite.specs.State.{IsLive};
+ghost use Rattle.sqlite.specs.Held.{state};
+ghost use Rattle.store_adoption.specs.Inspects.{InspectsOn};
 
-use sqlite::{Connection, FileStore};
+use sqlite::{Alter, Connection, FileStore};
 use sqlite_disk::Disk;
 use std::alloc::Global;
 use store_adoption::inspect;
 use store_migration::migrate;
 use store_sql::{StoreFault, is_version_1};
 
+/// The two calls that `adopt` makes. They stand in a function that is generic in the store for the prover alone: over files each
+/// of them would cost it half a minute.
+fn inspect_live<S: Alter>(conn: &mut Connection<S>) -> Result<(), StoreFault>
+    requires idle { conn.old.in_transaction ≡ false }
+    ensures idle { conn.new.in_transaction ≡ false }
+    ensures live { IsLive (state S.Store conn.old) }
+    ensures inspects { InspectsOn S.Store conn.old conn.new result }
+    ensures settled { IsSettled (state S.Store conn.old) × IsSettled (state S.Store conn.new) }
+    ensures durable { IsDurable (state S.Store conn.new) }
+    ensures survives { CommitsNothing (state S.Store conn.old) (state S.Store conn.new) }
+{
+    let _live = conn.schema();
+    inspect(conn)
+}
+
 /// Takes a database for a store: `StoreFault::Schema` where it has other tables than those of version 2, another version, or a row
 /// that no store writes there. It reads each row once, and changes nothing.
 pub fn adopt<D: Disk + Drop>(conn: &mut Connection<FileStore<D>>) -> Result<(), StoreFault>
     requires idle { conn.old.in_transaction ≡ false }
     ensures idle { conn.new.in_transaction ≡ false }
-    ensures adopts { HasCleanDisk (file_state conn.new) → Adopts (file_state conn.old) (file_state conn.new) result }
+    ensures adopts { AdoptsOn conn.old conn.new result }
     ensures settled { IsSettled (file_state conn.old) × IsSettled (file_state conn.new) }
     ensures durable { IsDurable (file_state conn.new) }
     ensures survives { CommitsNothing (file_state conn.old) (file_state conn.new) }
 {
-    let _live = conn.schema();
-    match inspect(conn) {
+    match inspect_live(conn) {
         Ok(()) => Ok(()),
         Err(fault) => Err(fault),
+    }
+}
+
+/// The calls that `take_over` makes, in a function that is generic in the store, as `inspect_live`.
+fn migrate_or_inspect<S: Alter>(alloc: Global, conn: &mut Connection<S>) -> Result<(), StoreFault>
+    requires idle { conn.old.in_transaction ≡ false }
+    ensures idle { conn.new.in_transaction ≡ false }
+    ensures live { IsLive (state S.Store conn.old) }
+    ensures takes { TakesOverInOrder (state S.Store conn.old) (state S.Store conn.new) result }
+    ensures settled { IsSettled (state S.Store conn.old) × IsSettled (state S.Store conn.new) }
+    ensures durable { IsDurable (state S.Store conn.new) }
+    ensures crash { MayLeaveMigrated (state S.Store conn.old) (state S.Store conn.new) }
+{
+    if is_version_1(conn.schema()) {
+        match migrate(alloc, conn) {
+            Ok(()) => Ok(()),
+            Err(fault) => Err(fault),
+        }
+    } else {
+        match inspect(conn) {
+            Ok(()) => Ok(()),
+            Err(fault) => Err(fault),
+        }
     }
 }
 
@@ -40,21 +79,14 @@ pub fn take_over<D: Disk + Drop>(
 ) -> Result<(), StoreFault>
     requires idle { conn.old.in_transaction ≡ false }
     ensures idle { conn.new.in_transaction ≡ false }
-    ensures takes { HasCleanDisk (file_state conn.new) → TakesOver (file_state conn.old) (file_state conn.new) result }
+    ensures takes { TakesOverOn conn.old conn.new result }
     ensures settled { IsSettled (file_state conn.old) × IsSettled (file_state conn.new) }
     ensures durable { IsDurable (file_state conn.new) }
-    ensures crash { Survives (file_state conn.old) (file_state conn.new) (LeavesMigrated (file_state conn.old)) }
-    ensures left { OnOk result (Survives (file_state conn.old) (file_state conn.new) (IsMigratedFrom (file_state conn.old))) }
+    ensures crash { MayLeaveMigrated (file_state conn.old) (file_state conn.new) }
+    ensures left { OnOk result (MayLeaveVersion2 conn.old conn.new) }
 {
-    if is_version_1(conn.schema()) {
-        match migrate(alloc, conn) {
-            Ok(()) => Ok(()),
-            Err(fault) => Err(fault),
-        }
-    } else {
-        match adopt(conn) {
-            Ok(()) => Ok(()),
-            Err(fault) => Err(fault),
-        }
+    match migrate_or_inspect(alloc, conn) {
+        Ok(()) => Ok(()),
+        Err(fault) => Err(fault),
     }
 }

@@ -1,20 +1,11 @@
 //! A store over files.
 
-ghost use Rattle.std.specs.Prelude.{◌≡◌, ◌≢◌, ◌⊎◌, false, IfErr, IfOk, IsTrue, option_map};
+ghost use Rattle.std.specs.Prelude.{◌≡◌, ◌≢◌, false, IfErr, IfOk};
 ghost use Rattle.sqlite.specs.Files.{file_state};
-ghost use Rattle.sqlite.specs.Closing.{IsCopied};
-ghost use Rattle.sqlite.specs.WalReads.{AreClean};
-ghost use Rattle.sqlite.specs.State.{HasCleanDisk, IsUnchanged, Survives};
-ghost use Rattle.statements_facts.specs.Fact.{facts_in, issuer_of};
-ghost use Rattle.statements_facts.specs.Statement.{Holdings, empty_holdings, answer_for};
+ghost use Rattle.statements_facts.specs.Fact.{issuer_of};
 ghost use Rattle.store_sql.specs.Statements.{CommitsNothing, IsDurable};
-ghost use Rattle.store_rows.specs.Seen.{seen_held_status};
-ghost use Rattle.store_maps.specs.Held.{IsStoreOf, seen_crl};
-ghost use Rattle.store_adoption.specs.Creates.{AreTreesOf, IsCreated, IsSettled};
-ghost use Rattle.store_adoption.specs.Inspects.{IsStore};
-ghost use Rattle.store_adoption.specs.Version1.{IsVersion1Of, IsVersion1};
-ghost use Rattle.store.specs.Adopts.{FailsToReopen, IsMigratedFrom, LookedUp, Reopens, Restarts};
-ghost use Rattle.store_taking.specs.Delivery.{CommitsWhole, Puts};
+ghost use Rattle.store.specs.Adopts.{FailsToReopen, Reopens, MayLeaveVersion2, IsCreatedOn, IsEmptyStoreOn, MayLeaveEmpty, WasStoreOn, KeepsStoreOn, MigratesStoreOn, IsStoreOn, PutsOn, AllOrNothingOn, FindsHeldOn, AreUsable, CopiesTo, RestartsOn};
+ghost use Rattle.store_maps.specs.Held.{IsCrlHeld, IsOcspHeld};
 
 use crate::adopting::{adopt, take_over};
 use crate::look_up::{look_up_crl, look_up_ocsp};
@@ -45,10 +36,10 @@ impl<D: Disk + Drop> Store<D> {
     /// Makes a store in an empty database. It holds nothing. Where a table stands there already, that is `StoreFault::Store`.
     pub fn create(mut conn: Connection<FileStore<D>>) -> Result<Store<D>, StoreFault>
         requires idle { conn.in_transaction ≡ false }
-        ensures created { IfOk result (λ store. HasCleanDisk (file_state store.conn) → IsCreated (file_state conn) (file_state store.conn)) }
-        ensures nothing { IfOk result (λ store. HasCleanDisk (file_state store.conn) → IsStoreOf (file_state store.conn).now empty_holdings) }
+        ensures created { IfOk result (λ store. IsCreatedOn conn store.conn) }
+        ensures nothing { IfOk result (λ store. IsEmptyStoreOn store.conn) }
         ensures durable { IfOk result (λ store. IsDurable (file_state store.conn)) }
-        ensures crash { IfOk result (λ store. Survives (file_state conn) (file_state store.conn) (AreTreesOf empty_holdings)) }
+        ensures crash { IfOk result (λ store. MayLeaveEmpty conn store.conn) }
     {
         match create(&mut conn) {
             Ok(()) => Ok(Store { conn }),
@@ -59,12 +50,12 @@ impl<D: Disk + Drop> Store<D> {
     /// Takes a database for a store, and migrates it first where it is of version 1: `StoreFault::Schema` where it is neither.
     pub fn adopt(alloc: Global, mut conn: Connection<FileStore<D>>) -> Result<Store<D>, StoreFault>
         requires idle { conn.in_transaction ≡ false }
-        ensures was { IfOk result (λ store. HasCleanDisk (file_state store.conn) → IsStore (file_state conn).now ⊎ IsVersion1 (file_state conn).now) }
-        ensures unchanged { IfOk result (λ store. HasCleanDisk (file_state store.conn) → IsStore (file_state conn).now → IsUnchanged (file_state conn) (file_state store.conn)) }
-        ensures migrated { IfOk result (λ store. HasCleanDisk (file_state store.conn) → (held : Holdings) → IsVersion1Of (file_state conn).now held → IsStoreOf (file_state store.conn).now held) }
-        ensures store { IfOk result (λ store. HasCleanDisk (file_state store.conn) → IsStore (file_state store.conn).now) }
+        ensures was { IfOk result (λ store. WasStoreOn conn store.conn) }
+        ensures unchanged { IfOk result (λ store. KeepsStoreOn conn store.conn) }
+        ensures migrated { IfOk result (λ store. MigratesStoreOn conn store.conn) }
+        ensures store { IfOk result (λ store. IsStoreOn store.conn) }
         ensures durable { IfOk result (λ store. IsDurable (file_state store.conn)) }
-        ensures crash { IfOk result (λ store. Survives (file_state conn) (file_state store.conn) (IsMigratedFrom (file_state conn))) }
+        ensures crash { IfOk result (λ store. MayLeaveVersion2 conn store.conn) }
     {
         match take_over(alloc, &mut conn) {
             Ok(()) => Ok(Store { conn }),
@@ -75,8 +66,8 @@ impl<D: Disk + Drop> Store<D> {
     /// Puts all facts of a statement into the store, in order and in one transaction: in each slot the newest is held then. The
     /// facts are counted: stored, kept out, or contradicting what is held. Where a fault is answered, what is held is as it was.
     pub fn put(&mut self, facts: &Facts<'_>) -> Result<Counts, StoreFault>
-        ensures puts { HasCleanDisk (file_state self.new.conn) → Puts (file_state self.old.conn) (file_state self.new.conn) (facts_in facts.now) result }
-        ensures survives { Survives (file_state self.old.conn) (file_state self.new.conn) (CommitsWhole (file_state self.old.conn) (facts_in facts.now)) }
+        ensures puts { PutsOn self.old.conn self.new.conn facts.now result }
+        ensures survives { AllOrNothingOn self.old.conn self.new.conn facts.now }
     {
         put(&mut self.conn, facts)
     }
@@ -88,7 +79,8 @@ impl<D: Disk + Drop> Store<D> {
         scope: Scope,
         serial: &[u8],
     ) -> Result<Option<HeldCrl>, StoreFault>
-        ensures looks_up { HasCleanDisk (file_state self.new.conn) → LookedUp (file_state self.old.conn) (file_state self.new.conn) (λ held crl. option_map seen_crl crl ≡ option_map (answer_for serial.now) (held.crl (record { issuer = issuer_of issuer.now; scope = scope }))) result }
+        ensures looks_up { FindsHeldOn self.old.conn self.new.conn
+            (IsCrlHeld (issuer_of issuer.now) scope serial.now) result }
         ensures durable { IsDurable (file_state self.new.conn) }
         ensures survives { CommitsNothing (file_state self.old.conn) (file_state self.new.conn) }
     {
@@ -103,7 +95,8 @@ impl<D: Disk + Drop> Store<D> {
         name_hash: &'x [u8],
         serial: &'x [u8],
     ) -> Result<Option<HeldStatus>, StoreFault>
-        ensures looks_up { HasCleanDisk (file_state self.new.conn) → LookedUp (file_state self.old.conn) (file_state self.new.conn) (λ held said. option_map seen_held_status said ≡ held.ocsp (record { issuer = issuer_of issuer.now; name_hash = name_hash.now; serial = serial.now })) result }
+        ensures looks_up { FindsHeldOn self.old.conn self.new.conn
+            (IsOcspHeld (issuer_of issuer.now) name_hash.now serial.now) result }
         ensures durable { IsDurable (file_state self.new.conn) }
         ensures survives { CommitsNothing (file_state self.old.conn) (file_state self.new.conn) }
     {
@@ -112,8 +105,8 @@ impl<D: Disk + Drop> Store<D> {
 
     /// Closes the store: the database file then has all that is held, and a connection that is opened on the files is the same store.
     pub fn into_files(self) -> Result<Files<D>, StoreFault>
-        ensures usable { IfOk result (λ files. IsTrue (D.Disk.is_usable files.log) × IsTrue (D.Disk.is_usable files.db)) }
-        ensures copied { IfOk result (λ files. AreClean D.Disk files.log files.db → IsCopied self.conn files) }
+        ensures usable { IfOk result (AreUsable D.Disk) }
+        ensures copied { IfOk result (CopiesTo self.conn) }
         ensures reopens { IfOk result (Reopens self.conn) }
         ensures fault { IfErr result (λ fault. fault ≢ StoreFault.Schema) }
     {
@@ -130,7 +123,7 @@ impl<D: Disk + Drop> Store<D> {
 
     /// Closes the store's files and takes them for a store again.
     pub fn reopen(self, alloc: Global) -> Result<Store<D>, StoreFault>
-        ensures restarts { IfOk result (λ store. HasCleanDisk (file_state store.conn) → Restarts (file_state self.conn) (file_state store.conn)) }
+        ensures restarts { IfOk result (λ store. RestartsOn self.conn store.conn) }
         ensures durable { IfOk result (λ store. IsDurable (file_state store.conn)) }
         ensures fails { IfErr result (FailsToReopen self.conn) }
     {

@@ -1,15 +1,13 @@
 //! Look-ups, in a transaction that is dropped.
 
-ghost use Rattle.std.specs.Prelude.{◌≡◌, false, option_map};
+ghost use Rattle.std.specs.Prelude.{◌≡◌, false};
 ghost use Rattle.sqlite.specs.Held.{state};
-ghost use Rattle.sqlite.specs.State.{HasCleanDisk};
 ghost use Rattle.statements_facts.specs.Fact.{issuer_of};
 ghost use Rattle.store_sql.specs.Statements.{CommitsNothing, IsDurable};
-ghost use Rattle.store_rows.specs.Seen.{seen_held_status};
-ghost use Rattle.store_maps.specs.Held.{seen_crl};
-ghost use Rattle.statements_facts.specs.Statement.{answer_for};
 ghost use Rattle.store_adoption.specs.Creates.{IsSettled};
-ghost use Rattle.store.specs.Adopts.{LooksAt, LookedUp};
+ghost use Rattle.store.specs.Adopts.{FindsHeld, StaysIfOpen};
+ghost use Rattle.store_maps.specs.Held.{IsCrlHeld, IsOcspHeld};
+ghost use Rattle.sqlite.specs.State.{KeepsCommit};
 
 use sqlite::{Alter, Connection};
 use statements_facts::{Issuer, Scope};
@@ -25,7 +23,8 @@ fn crl_in_transaction<S: Alter>(
 ) -> Result<Option<HeldCrl>, StoreFault>
     requires idle { conn.old.in_transaction ≡ false }
     ensures idle { conn.new.in_transaction ≡ false }
-    ensures looks_at { HasCleanDisk (state S.Store conn.new) → LooksAt (state S.Store conn.old) (state S.Store conn.new) (λ held crl. option_map seen_crl crl ≡ option_map (answer_for serial.now) (held.crl (record { issuer = issuer_of issuer.now; scope = scope }))) result }
+    ensures looks_at { FindsHeld KeepsCommit (state S.Store conn.old) (state S.Store conn.new)
+        (IsCrlHeld (issuer_of issuer.now) scope serial.now) result }
     ensures survives { CommitsNothing (state S.Store conn.old) (state S.Store conn.new) }
 {
     let mut tx = conn.transaction();
@@ -44,7 +43,8 @@ pub fn look_up_crl<S: Alter>(
 ) -> Result<Option<HeldCrl>, StoreFault>
     requires idle { conn.old.in_transaction ≡ false }
     ensures idle { conn.new.in_transaction ≡ false }
-    ensures looks_up { HasCleanDisk (state S.Store conn.new) → LookedUp (state S.Store conn.old) (state S.Store conn.new) (λ held crl. option_map seen_crl crl ≡ option_map (answer_for serial.now) (held.crl (record { issuer = issuer_of issuer.now; scope = scope }))) result }
+    ensures looks_up { FindsHeld StaysIfOpen (state S.Store conn.old) (state S.Store conn.new)
+        (IsCrlHeld (issuer_of issuer.now) scope serial.now) result }
     ensures settled { IsSettled (state S.Store conn.old) × IsSettled (state S.Store conn.new) }
     ensures durable { IsDurable (state S.Store conn.new) }
     ensures survives { CommitsNothing (state S.Store conn.old) (state S.Store conn.new) }
@@ -63,7 +63,8 @@ fn ocsp_in_transaction<'x, S: Alter>(
 ) -> Result<Option<HeldStatus>, StoreFault>
     requires idle { conn.old.in_transaction ≡ false }
     ensures idle { conn.new.in_transaction ≡ false }
-    ensures looks_at { HasCleanDisk (state S.Store conn.new) → LooksAt (state S.Store conn.old) (state S.Store conn.new) (λ held said. option_map seen_held_status said ≡ held.ocsp (record { issuer = issuer_of issuer.now; name_hash = name_hash.now; serial = serial.now })) result }
+    ensures looks_at { FindsHeld KeepsCommit (state S.Store conn.old) (state S.Store conn.new)
+        (IsOcspHeld (issuer_of issuer.now) name_hash.now serial.now) result }
     ensures survives { CommitsNothing (state S.Store conn.old) (state S.Store conn.new) }
 {
     let mut tx = conn.transaction();
@@ -83,7 +84,8 @@ pub fn look_up_ocsp<'x, S: Alter>(
 ) -> Result<Option<HeldStatus>, StoreFault>
     requires idle { conn.old.in_transaction ≡ false }
     ensures idle { conn.new.in_transaction ≡ false }
-    ensures looks_up { HasCleanDisk (state S.Store conn.new) → LookedUp (state S.Store conn.old) (state S.Store conn.new) (λ held said. option_map seen_held_status said ≡ held.ocsp (record { issuer = issuer_of issuer.now; name_hash = name_hash.now; serial = serial.now })) result }
+    ensures looks_up { FindsHeld StaysIfOpen (state S.Store conn.old) (state S.Store conn.new)
+        (IsOcspHeld (issuer_of issuer.now) name_hash.now serial.now) result }
     ensures settled { IsSettled (state S.Store conn.old) × IsSettled (state S.Store conn.new) }
     ensures durable { IsDurable (state S.Store conn.new) }
     ensures survives { CommitsNothing (state S.Store conn.old) (state S.Store conn.new) }

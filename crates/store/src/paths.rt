@@ -1,11 +1,7 @@
 //! Stores at paths.
 
 ghost use Rattle.std.specs.Prelude.{IfOk};
-ghost use Rattle.sqlite.specs.Files.{file_state};
-ghost use Rattle.sqlite.specs.State.{HasCleanDisk};
-ghost use Rattle.store_maps.specs.Held.{IsStoreOf};
-ghost use Rattle.statements_facts.specs.Statement.{empty_holdings};
-ghost use Rattle.store_adoption.specs.Inspects.{IsStore};
+ghost use Rattle.store.specs.Adopts.{IsEmptyStoreOn, IsStoreOn};
 
 use crate::handle::Store;
 use sqlite::Connection;
@@ -18,7 +14,7 @@ impl Store<File> {
     /// Takes the file at a path for a store, and migrates it first where it is of version 1: `StoreFault::Store` where there is none or it
     /// is no database, `StoreFault::Schema` where it is no store.
     pub fn open(rt: &HostRuntime, path: &str) -> Result<Store<File>, StoreFault>
-        ensures store { IfOk result (λ store. HasCleanDisk (file_state store.conn) → IsStore (file_state store.conn).now) }
+        ensures store { IfOk result (λ store. IsStoreOn store.conn) }
     {
         if fs::open(rt, path).is_err() {
             return Err(StoreFault::Store);
@@ -31,7 +27,7 @@ impl Store<File> {
 
     /// Makes a store at a path, which holds nothing: `StoreFault::Store` where a file is there.
     pub fn make(rt: &HostRuntime, path: &str) -> Result<Store<File>, StoreFault>
-        ensures store { IfOk result (λ store. HasCleanDisk (file_state store.conn) → IsStoreOf (file_state store.conn).now empty_holdings) }
+        ensures store { IfOk result (λ store. IsEmptyStoreOn store.conn) }
     {
         if fs::open(rt, path).is_ok() {
             return Err(StoreFault::Store);

@@ -8,7 +8,7 @@ pub returns-in-Ok-clause-adopts : goal.returns-in-Ok-clause-adopts
 returns-in-Ok-clause-adopts g c clean =
     let h = c.in-Ok.ensures.inspects clean in
     let live = h.0.0.was_open in
-    let store = h.1 (open_in_order c.args.conn.now live (c.inspect.ensures.settled.0 live) (c.schema-live.ensures.live live).0) in
+    let store = h.1 (open_in_order c.args.conn.now live (c.inspect_live.ensures.settled.0 live) (c.inspect_live.ensures.live live).0) in
     (h.0, subst IsStore (sym h.0.0.now_is) store)
 
 pub returns-in-Err-clause-adopts : goal.returns-in-Err-clause-adopts
