@@ -128,34 +128,6 @@ fn take_signature<'a>(members: &mut Cursor<'a>) -> Result<BitString<'a>, Refusal
     signature_at(members.required(BIT_STRING, CertRule::Layout)?)
 }
 
-/// Certificate ::= SEQUENCE { tbsCertificate TBSCertificate, signatureAlgorithm AlgorithmIdentifier, signatureValue BIT STRING }
-#[inline(always)]
-#[tactic(auto, unfolding(crate::specs::Certificate::certificate_at))]
-fn read_certificate<'a>(alloc: Global, value: Tlv<'a>) -> Result<Certificate<'a>, CertFault>
-    ensures { GivesUnlessFull seen_certificate result (certificate_at (seen_tlv value.entry)) }
-{
-    value.is_a(SEQUENCE, CertRule::Layout)?;
-    let mut members = value.members();
-    let signed = members.next_or(CertRule::Layout)?;
-    let tbs = TbsCertificate::read(alloc, signed)?;
-    take_same_algorithm(tbs.head.signature, &mut members)?;
-    let signature = take_signature(&mut members)?;
-    members.ended(CertRule::Layout)?;
-    Ok(Certificate {
-        octets: value.whole,
-        tbs: signed,
-        version: tbs.head.version,
-        serial: tbs.head.serial,
-        algorithm: tbs.head.signature,
-        issuer: tbs.head.issuer,
-        validity: tbs.head.validity,
-        subject: tbs.subject.name,
-        subject_public_key_info: tbs.subject.key_info,
-        extensions: tbs.extensions,
-        signature,
-    })
-}
-
 /// The one value that the octets are the encoding of, with its fault as one of a certificate.
 fn outermost(octets: &[u8]) -> Result<Tlv<'_>, Refusal>
     ensures { Gives seen_tlv result (as_der (asn_outermost octets.now)) }
@@ -177,14 +149,37 @@ impl<'a> Certificate<'a> {
         ensures { GivesUnlessFull seen_certificate result (certificate octets.now) }
     {
         let value = outermost(octets)?;
-        read_certificate(alloc, value)
+        Certificate::at(alloc, value)
     }
 
+    /// Certificate ::= SEQUENCE { tbsCertificate TBSCertificate, signatureAlgorithm AlgorithmIdentifier, signatureValue BIT STRING }
+    ///
     /// As `read`, of a value in the text handed to `asn::whole`, with faults at their offsets in that text.
+    #[inline(always)]
+    #[tactic(auto, unfolding(crate::specs::Certificate::certificate_at))]
     pub fn at(alloc: Global, value: Tlv<'a>) -> Result<Certificate<'a>, CertFault>
         ensures { GivesUnlessFull seen_certificate result (certificate_at (seen_tlv value.entry)) }
     {
-        read_certificate(alloc, value)
+        value.is_a(SEQUENCE, CertRule::Layout)?;
+        let mut members = value.members();
+        let signed = members.next_or(CertRule::Layout)?;
+        let tbs = TbsCertificate::read(alloc, signed)?;
+        take_same_algorithm(tbs.head.signature, &mut members)?;
+        let signature = take_signature(&mut members)?;
+        members.ended(CertRule::Layout)?;
+        Ok(Certificate {
+            octets: value.whole,
+            tbs: signed,
+            version: tbs.head.version,
+            serial: tbs.head.serial,
+            algorithm: tbs.head.signature,
+            issuer: tbs.head.issuer,
+            validity: tbs.head.validity,
+            subject: tbs.subject.name,
+            subject_public_key_info: tbs.subject.key_info,
+            extensions: tbs.extensions,
+            signature,
+        })
     }
 
     /// Whether subject and issuer match (RFC 5280, 6.1).

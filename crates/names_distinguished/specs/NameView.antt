@@ -1,5 +1,5 @@
 -- What names hold, without where it lies in memory.
-use Rattle.std.specs.Prelude.{◌≡◌, List, ◌∷◌, ◌++◌, map}
+use Rattle.std.specs.Prelude.{◌≡◌, List, ◌∷◌, ◌++◌, map, Option, MatchOption}
 use Rattle.std.specs.List.{AllByRecursion}
 use Rattle.asn.specs.Members.{left}
 use Rattle.names_distinguished.specs.declared.attribute.Attribute.{Attribute}
@@ -34,8 +34,7 @@ abbrev pub IsFirstRdn : RdnSequence → Rdn × RdnSequence → Type 0
 IsFirstRdn sequence parts = maps_of sequence ≡ map_of parts.0 ∷ maps_of parts.1
 
 -- the first name begins with all sets of the other, and these are left; or it does not
-abbrev pub IsLeftBehind : RdnSequence → RdnSequence → RdnSequence → Type 0
-IsLeftBehind sequence other rest = maps_of sequence ≡ maps_of other ++ maps_of rest
-
-abbrev pub IsNotWithin : RdnSequence → RdnSequence → Type 0
-IsNotWithin sequence other = ¬ (IsWithin (maps_of sequence) (maps_of other))
+abbrev pub LeavesBehind : RdnSequence → RdnSequence → Option RdnSequence → Type 0
+LeavesBehind sequence other result =
+    MatchOption result (¬ (IsWithin (maps_of sequence) (maps_of other)))
+    (λ rest. maps_of sequence ≡ maps_of other ++ maps_of rest)

@@ -56,10 +56,7 @@ fn read_attributes(all: Cursor<'_>) -> Result<(), Refusal>
     let mut before: &[u8] = &[];
     let mut clear = 0;
     while let Some(tlv) = rest.next() {
-        match read_attribute(all, clear, before, tlv) {
-            Ok(octets) => before = octets,
-            Err(refusal) => return Err(refusal),
-        }
+        before = read_attribute(all, clear, before, tlv)?;
         clear = clear_after(all, clear, tlv.at, rest);
     }
     Ok(())

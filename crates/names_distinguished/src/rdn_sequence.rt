@@ -17,7 +17,7 @@ pub(crate) struct RdnSequence<'a> {
 }
 
 impl<'a> RdnSequence<'a> {
-    ghost use Rattle.names_distinguished.specs.NameView.{maps_of, IsFirstRdn, IsNotWithin, IsLeftBehind};
+    ghost use Rattle.names_distinguished.specs.NameView.{maps_of, IsFirstRdn, LeavesBehind};
 
     /// The first relative name, and those after it.
     #[tactic(auto, unfolding(crate::specs::NameView::maps_of))]
@@ -41,7 +41,7 @@ impl<'a> RdnSequence<'a> {
 
     /// What follows the first relative names, where these match all those of the other, in order.
     fn after(&self, other: &RdnSequence<'_>) -> Option<RdnSequence<'a>>
-        ensures { MatchOption result (IsNotWithin self.now other.now) (IsLeftBehind self.now other.now) }
+        ensures { LeavesBehind self.now other.now result }
     {
         let mut inner = *self;
         let mut outer = *other;
