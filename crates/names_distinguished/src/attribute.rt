@@ -167,7 +167,8 @@ pub(crate) fn read_attribute<'a>(
     before: &[u8],
     tlv: Tlv<'a>,
 ) -> Result<&'a [u8], Refusal>
-    requires { tlv.at < clear → has_kind_before (kind_at (seen_tlv tlv)) tlv.at (left all).values ≡ false }
+    requires { tlv.at < clear
+        → has_kind_before (kind_at (seen_tlv tlv)) tlv.at (left all).values ≡ false }
     ensures { Gives (λ octets. octets.now) result (attribute_among all.entry before.now tlv.entry) }
 {
     let members = AttributeMembers::read(tlv)?;

@@ -44,7 +44,8 @@ pub(crate) fn test_rows<S: Alter, T: RowTest>(
 ) -> Result<(), StoreFault>
     requires start { T.RowTest.passed test.old [] }
     requires idle { conn.old.in_transaction ≡ false }
-    requires plain { HasCleanDisk (state S.Store conn.old) → IsPlain (understood (state S.Store conn.old).now.schema sql.now) }
+    requires plain { HasCleanDisk (state S.Store conn.old)
+        → IsPlain (understood (state S.Store conn.old).now.schema sql.now) }
     ensures idle { conn.new.in_transaction ≡ false }
     ensures tests { TestsOn S.Store conn.old conn.new sql.now
         (T.RowTest.passed test.new) (T.RowTest.are_formed test.old) result }
