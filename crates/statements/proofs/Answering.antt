@@ -13,7 +13,7 @@ use Rattle.statements_facts.specs.Fact.{Fact}
 use Rattle.statements.specs.Issuer.{identity_of}
 use Rattle.statements.specs.CrlFact.{genuine_list}
 use Rattle.statements.specs.Responder.{Signer, signer_of}
-use Rattle.statements.specs.OcspFact.{signer_or_fault, or_nothing, singles_of, genuine_response, genuine_statement, fact_with}
+use Rattle.statements.specs.OcspFact.{signer_or_fault, or_nothing, singles_of, genuine_response, response_said, genuine_statement, fact_with}
 use Rattle.statements.specs.Genuine.{Accepts, ◌then◌, as_refused, FailsUnlessFull, AnswersUnlessFull}
 
 -- what is not read is refused so
@@ -54,21 +54,22 @@ same_answer (Err Memory) walk e = tt
 
 -- ---- responses
 
+pub signer_refused : (accepts : Accepts) (issuer : Certificate) (response : OcspResponse) (fault : StatementFault) → FailsUnlessFull fault (signer_or_fault (signer_of accepts issuer response)) → FailsUnlessFull fault (response_said accepts issuer response)
+signer_refused accepts issuer response fault fails =
+    first_fails fault (signer_or_fault (signer_of accepts issuer response)) (λ signer. or_nothing (some_singles (singles_of issuer response signer))) fails
+
+pub singles_are : (accepts : Accepts) (issuer : Certificate) (response : OcspResponse) (signer : Signer) (singles : List SingleFact) → signer_or_fault (signer_of accepts issuer response) ≡ Ok signer → singles ≡ singles_of issuer response signer → response_said accepts issuer response ≡ or_nothing (some_singles singles)
+singles_are accepts issuer response signer singles found are = rw (found, are) refl
+
 module _ (accepts : Accepts) (issuer : Certificate) (octets : List ℕ) where
   pub response_refused : (fault : StatementFault) → reading.FailsUnlessFull fault (ocsp_response octets) → FailsUnlessFull fault (genuine_response accepts issuer octets)
   unfolding genuine_response
   response_refused fault fails = not_read fault (ocsp_response octets) (λ response. signer_or_fault (signer_of accepts issuer response) then λ signer. or_nothing (some_singles (singles_of issuer response signer))) fails
 
-  pub signer_refused : (fault : StatementFault) (response : OcspResponse) → ocsp_response octets ≡ Ok response → FailsUnlessFull fault (signer_or_fault (signer_of accepts issuer response)) → FailsUnlessFull fault (genuine_response accepts issuer octets)
+  -- what a response that was read says, the octets say
+  pub response_answered : (response : OcspResponse) → ocsp_response octets ≡ Ok response → genuine_response accepts issuer octets ≡ response_said accepts issuer response
   unfolding genuine_response
-  signer_refused fault response read fails =
-      next_fails fault (as_refused (ocsp_response octets)) response (λ response. signer_or_fault (signer_of accepts issuer response) then λ signer. or_nothing (some_singles (singles_of issuer response signer)))
-      (was_read (ocsp_response octets) response read)
-      (first_fails fault (signer_or_fault (signer_of accepts issuer response)) (λ signer. or_nothing (some_singles (singles_of issuer response signer))) fails)
-
-  pub singles_are : (response : OcspResponse) (signer : Signer) (singles : List SingleFact) → ocsp_response octets ≡ Ok response → signer_or_fault (signer_of accepts issuer response) ≡ Ok signer → singles ≡ singles_of issuer response signer → genuine_response accepts issuer octets ≡ or_nothing (some_singles singles)
-  unfolding genuine_response
-  singles_are response signer singles read found are = rw (read, found, are) refl
+  response_answered response read = rw read refl
 
   -- ---- statements of both kinds
 

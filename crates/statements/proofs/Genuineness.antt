@@ -9,8 +9,8 @@ use Rattle.statements_parts.specs.declared.fault.StatementFault.{StatementFault}
 use Rattle.statements_parts.specs.declared.fault.StatementFault.TheVariants.{Refused, OtherIssuer, BadSignature, NoSigner, NothingForIssuer, Memory}
 use Rattle.statements_facts.specs.Statement.{CrlSlot, CrlFact}
 use Rattle.statements_parts.specs.Fault as reading
-use Rattle.statements.specs.Genuine.{Accepts, ◌then◌, as_refused, or_else, FailsUnlessFull}
-use Rattle.statements.specs.CrlFact.{IsCrlFact, GenuineListsAreFacts, genuine_list, of_issuer, is_signed, slot_of, fact_of_list}
+use Rattle.statements.specs.Genuine.{Accepts, ◌then◌, as_refused, or_else, FailsUnlessFull, OnFull}
+use Rattle.statements.specs.CrlFact.{IsCrlFact, GenuineListsAreFacts, genuine_list, list_said, of_issuer, is_signed, slot_of, fact_of_list}
 
 pub then_ok : {A B : Type 0} (r : Result A StatementFault) (f : A → Result B StatementFault) (y : B) → (r then f) ≡ Ok y → (x : A) × (r ≡ Ok x) × (f x ≡ Ok y)
 then_ok (Ok x) f y e = (x, refl, e)
@@ -75,15 +75,31 @@ list_refused accepts issuer octets NoSigner fails = absurd fails
 list_refused accepts issuer octets NothingForIssuer fails = absurd fails
 list_refused accepts issuer octets Memory fails = tt
 
-pub issuer_refused : (accepts : Accepts) (issuer : Certificate) (octets : List ℕ) (list : CertificateList) (fault : StatementFault) → certificate_list octets ≡ Ok list → of_issuer accepts issuer list ≡ Err fault → FailsUnlessFull fault (genuine_list accepts issuer octets)
-unfolding genuine_list
-issuer_refused accepts issuer octets list (Refused rule at) reads fails = rw (reads, fails) refl
-issuer_refused accepts issuer octets list OtherIssuer reads fails = rw (reads, fails) refl
-issuer_refused accepts issuer octets list BadSignature reads fails = rw (reads, fails) refl
-issuer_refused accepts issuer octets list NoSigner reads fails = rw (reads, fails) refl
-issuer_refused accepts issuer octets list NothingForIssuer reads fails = rw (reads, fails) refl
-issuer_refused accepts issuer octets list Memory reads fails = tt
+pub issuer_refused : (accepts : Accepts) (issuer : Certificate) (list : CertificateList) (fault : StatementFault) → of_issuer accepts issuer list ≡ Err fault → FailsUnlessFull fault (list_said accepts issuer list)
+issuer_refused accepts issuer list (Refused rule at) fails = rw fails refl
+issuer_refused accepts issuer list OtherIssuer fails = rw fails refl
+issuer_refused accepts issuer list BadSignature fails = rw fails refl
+issuer_refused accepts issuer list NoSigner fails = rw fails refl
+issuer_refused accepts issuer list NothingForIssuer fails = rw fails refl
+issuer_refused accepts issuer list Memory fails = tt
 
-pub list_believed : (accepts : Accepts) (issuer : Certificate) (octets : List ℕ) (list : CertificateList) (slot : CrlSlot) (fact : CrlFact) → certificate_list octets ≡ Ok list → of_issuer accepts issuer list ≡ Ok tt → slot ≡ slot_of issuer list → fact ≡ fact_of_list list → genuine_list accepts issuer octets ≡ Ok (slot, fact)
+pub no_memory_for_the_issuer : (accepts : Accepts) (issuer : Certificate) (list : CertificateList) (fault : StatementFault) (P : Type 0) → of_issuer accepts issuer list ≡ Err fault → OnFull {X = CrlSlot × CrlFact} (Err fault) P
+unfolding of_issuer
+no_memory_for_the_issuer accepts issuer list (Refused rule at) P e = tt
+no_memory_for_the_issuer accepts issuer list OtherIssuer P e = tt
+no_memory_for_the_issuer accepts issuer list BadSignature P e = tt
+no_memory_for_the_issuer accepts issuer list NoSigner P e = tt
+no_memory_for_the_issuer accepts issuer list NothingForIssuer P e = tt
+no_memory_for_the_issuer accepts issuer list Memory P e = absurd (by (matching list.issuer.rdns issuer.subject.rdns) (is_signed accepts issuer list) e) where
+  by : (named signed : Bool) → (or_else named OtherIssuer then λ done. or_else signed BadSignature) ≡ Err Memory → ⊥
+  by true true e = absurd cc
+  by true false e = absurd cc
+  by false signed e = absurd cc
+
+pub list_believed : (accepts : Accepts) (issuer : Certificate) (list : CertificateList) (slot : CrlSlot) (fact : CrlFact) → of_issuer accepts issuer list ≡ Ok tt → slot ≡ slot_of issuer list → fact ≡ fact_of_list list → list_said accepts issuer list ≡ Ok (slot, fact)
+list_believed accepts issuer list slot fact is slot_is fact_is = rw (is, slot_is, fact_is) refl
+
+-- what a list that was read says, the octets say
+pub list_answered : (accepts : Accepts) (issuer : Certificate) (octets : List ℕ) (list : CertificateList) → certificate_list octets ≡ Ok list → genuine_list accepts issuer octets ≡ list_said accepts issuer list
 unfolding genuine_list
-list_believed accepts issuer octets list slot fact reads is slot_is fact_is = rw (reads, is, slot_is, fact_is) refl
+list_answered accepts issuer octets list reads = rw reads refl

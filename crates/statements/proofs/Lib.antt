@@ -4,3 +4,4 @@ mod Listing
 mod Responding
 mod Signers
 mod Responses
+mod Needs

@@ -50,12 +50,14 @@ unfoldable pub of_issuer : Accepts → Certificate → CertificateList → Resul
 of_issuer accepts issuer list =
     or_else (matching list.issuer.rdns issuer.subject.rdns) OtherIssuer then λ named. or_else (is_signed accepts issuer list) BadSignature
 
+-- what a list says that was read, or why it is none of the issuer
+abbrev pub list_said : Accepts → Certificate → CertificateList → Result (CrlSlot × CrlFact) StatementFault
+list_said accepts issuer list = of_issuer accepts issuer list then λ is. Ok (slot_of issuer list, fact_of_list list)
+
 -- The checks in their order: what is read, and of whom it is.
 unfoldable pub genuine_list : Accepts → Certificate → List ℕ → Result (CrlSlot × CrlFact) StatementFault
 genuine_list accepts issuer octets =
-    as_refused (certificate_list octets) then λ list.
-    of_issuer accepts issuer list then λ is.
-    Ok (slot_of issuer list, fact_of_list list)
+    as_refused (certificate_list octets) then λ list. list_said accepts issuer list
 
 -- They succeed exactly where the octets are a list of the issuer.
 abbrev pub GenuineListsAreFacts : Type 0

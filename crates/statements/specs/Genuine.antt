@@ -1,7 +1,7 @@
 -- Statements that are believed or refused.
 use Rattle.std.specs.Prelude.{◌≡◌, ℕ, Bool, true, false, Result, Ok, Err}
 use Rattle.statements_parts.specs.declared.fault.StatementFault.{StatementFault}
-use Rattle.statements_parts.specs.declared.fault.StatementFault.TheVariants.{Refused, Memory}
+use Rattle.statements_parts.specs.declared.fault.StatementFault.TheVariants.{Refused, OtherIssuer, BadSignature, NoSigner, NothingForIssuer, Memory}
 use Rattle.statements_parts.specs.declared.fault.StatementRule.{StatementRule}
 pub use Rattle.path_verifiers.specs.Accepts.{Accepts}
 
@@ -29,3 +29,13 @@ FailsUnlessFull fault answer = answer ≡ Err fault
 abbrev pub AnswersUnlessFull : {X Y : Type 0} → (X → Y) → Result X StatementFault → Result Y StatementFault → Type 0
 AnswersUnlessFull view (Ok x) answer = answer ≡ Ok (view x)
 AnswersUnlessFull view (Err fault) answer = FailsUnlessFull fault answer
+
+-- this holds if memory was refused
+abbrev pub OnFull : {X : Type 0} → Result X StatementFault → Type 0 → Type 0
+OnFull (Ok x) fact = Unit {0}
+OnFull (Err Memory) fact = fact
+OnFull (Err (Refused rule at)) fact = Unit {0}
+OnFull (Err OtherIssuer) fact = Unit {0}
+OnFull (Err BadSignature) fact = Unit {0}
+OnFull (Err NoSigner) fact = Unit {0}
+OnFull (Err NothingForIssuer) fact = Unit {0}

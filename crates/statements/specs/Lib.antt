@@ -4,3 +4,4 @@ pub mod CrlFact
 pub mod Responder
 pub mod SignerView
 pub mod OcspFact
+pub mod Seen

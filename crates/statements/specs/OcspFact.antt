@@ -77,12 +77,16 @@ abbrev pub or_nothing : Option (List SingleFact) → Result (List SingleFact) St
 or_nothing None = Err NothingForIssuer
 or_nothing (Some singles) = Ok singles
 
+-- what a response says that was read, or why it is none of the issuer or says nothing
+abbrev pub response_said : Accepts → Certificate → OcspResponse → Result (List SingleFact) StatementFault
+response_said accepts issuer response =
+    signer_or_fault (signer_of accepts issuer response) then λ signer.
+    or_nothing (some_singles (singles_of issuer response signer))
+
 -- The checks in their order: what is read, its signer, whether it says something.
 unfoldable pub genuine_response : Accepts → Certificate → List ℕ → Result (List SingleFact) StatementFault
 genuine_response accepts issuer octets =
-    as_refused (ocsp_response octets) then λ response.
-    signer_or_fault (signer_of accepts issuer response) then λ signer.
-    or_nothing (some_singles (singles_of issuer response signer))
+    as_refused (ocsp_response octets) then λ response. response_said accepts issuer response
 
 -- The octets are a response that somebody signed who may answer for the issuer, and these are what it says. No moment is looked at.
 pub record IsGenuineResponse (accepts : Accepts) (issuer : Certificate) (octets : List ℕ) (singles : List SingleFact) : Type 0 where

@@ -5,8 +5,9 @@ ghost use Rattle.cert.specs.Certificate.{seen_certificate};
 ghost use Rattle.statements_crl.specs.CertificateList.{seen_list};
 ghost use Rattle.statements_crl.specs.CrlNumber.{is_crl_number};
 ghost use Rattle.statements_facts.specs.Fact.{crl_fact, crl_slot};
-ghost use Rattle.statements.specs.CrlFact.{GenuineListsAreFacts, fact_of_list, genuine_list, of_issuer, slot_of};
-ghost use Rattle.statements.specs.Genuine.{AnswersUnlessFull};
+ghost use Rattle.statements.specs.CrlFact.{GenuineListsAreFacts, fact_of_list, genuine_list, list_said};
+ghost use Rattle.statements.specs.Genuine.{AnswersUnlessFull, OnFull};
+ghost use Rattle.statements.specs.Seen.{IsOfIssuer, of_issuer_seen, slot_of_seen};
 
 use crate::issuing::issuer_of;
 use crate::listed::{listed_by, number_of};
@@ -24,7 +25,7 @@ fn check_issuer<V: Verifier>(
     issuer: &Certificate<'_>,
     list: &Crl<'_>,
 ) -> Result<(), StatementFault>
-    ensures { of_issuer (V.accepts verifier.now) (seen_certificate issuer.now) (seen_list list.now) ≡ result }
+    ensures { of_issuer_seen (V.accepts verifier.now) issuer.now list.now ≡ result }
 {
     if !list.issuer.matches(&issuer.subject) {
         return Err(StatementFault::OtherIssuer);
@@ -43,7 +44,7 @@ fn facts_of<'a>(
     list: &Crl<'a>,
 ) -> Result<CrlFacts<'a>, AllocError>
     requires { IsTrue (is_crl_number list.now.number.now) }
-    ensures slot { IfOk result (λ facts. crl_slot facts ≡ slot_of (seen_certificate issuer.now) (seen_list list.now)) }
+    ensures slot { IfOk result (λ facts. crl_slot facts ≡ slot_of_seen issuer.now list.now) }
     ensures fact { IfOk result (λ facts. crl_fact facts ≡ fact_of_list (seen_list list.now)) }
 {
     let listed = listed_by(alloc, list.revoked)?;
@@ -57,10 +58,28 @@ fn facts_of<'a>(
     })
 }
 
+/// What a list that was read says, if it is one of the issuer; else why it is none. No memory is taken for a list of another issuer, or
+/// without a signature of the issuer.
+#[tactic(auto, using(crate::proofs::Genuineness::issuer_refused, crate::proofs::Genuineness::no_memory_for_the_issuer, crate::proofs::Genuineness::list_believed))]
+fn facts_if_genuine<'a, V: Verifier>(
+    alloc: Global,
+    verifier: &V,
+    issuer: &Certificate<'a>,
+    list: &Crl<'a>,
+) -> Result<CrlFacts<'a>, StatementFault>
+    requires { IsTrue (is_crl_number list.now.number.now) }
+    ensures said { AnswersUnlessFull (λ facts. (crl_slot facts, crl_fact facts)) result
+        (list_said (V.accepts verifier.now) (seen_certificate issuer.now) (seen_list list.now)) }
+    ensures memory { OnFull result (IsOfIssuer (V.accepts verifier.now) issuer.now list.now) }
+{
+    check_issuer(verifier, issuer, list)?;
+    Ok(facts_of(alloc, issuer, list)?)
+}
+
 /// What a list of the issuer says. The fault of a list that is none, then that of one of another issuer, then that of one whose
 /// signature is not accepted under the issuer's key. No moment is looked at. Time is n log n in the octets, and memory is for
 /// the entries.
-#[tactic(auto, using(crate::proofs::Genuineness::list_refused, crate::proofs::Genuineness::issuer_refused, crate::proofs::Genuineness::list_believed))]
+#[tactic(auto, using(crate::proofs::Genuineness::list_refused, crate::proofs::Genuineness::list_answered))]
 pub fn crl_facts<'a, V: Verifier>(
     alloc: Global,
     verifier: &V,
@@ -71,8 +90,7 @@ pub fn crl_facts<'a, V: Verifier>(
         (genuine_list (V.accepts verifier.now) (seen_certificate issuer.now) octets.now) }
 {
     let list = Crl::read(alloc, octets)?;
-    check_issuer(verifier, issuer, &list)?;
-    Ok(facts_of(alloc, issuer, &list)?)
+    facts_if_genuine(alloc, verifier, issuer, &list)
 }
 
 /// A list is genuine exactly where it is read, has the issuer's name, and its signature is accepted under the issuer's key.

@@ -2,12 +2,12 @@
 
 ghost use Rattle.std.specs.Prelude.{◌≡◌, IfOk, map};
 ghost use Rattle.cert.specs.Certificate.{seen_certificate};
-ghost use Rattle.statements_facts.specs.Fact.{issuer_of as seen_issuer};
-ghost use Rattle.statements.specs.Genuine.{AnswersUnlessFull};
-ghost use Rattle.statements.specs.Issuer.{identity_of};
+ghost use Rattle.statements_ocsp.specs.OcspResponse.{seen_response};
+ghost use Rattle.statements.specs.Genuine.{AnswersUnlessFull, OnFull};
 ghost use Rattle.statements_facts.specs.Single.{seen_single, some_singles};
-ghost use Rattle.statements.specs.OcspFact.{GenuineResponsesAreSigned, genuine_response, or_nothing};
+ghost use Rattle.statements.specs.OcspFact.{GenuineResponsesAreSigned, genuine_response, or_nothing, response_said};
 ghost use Rattle.statements.specs.Responder.{SignersAreFound};
+ghost use Rattle.statements.specs.Seen.{IsSubjectOf, MayBeSigned};
 
 use crate::issuing::issuer_of;
 use crate::signer::Signer;
@@ -29,27 +29,48 @@ fn some_of(singles: Vec<Single<'_>>) -> Result<Singles<'_>, StatementFault>
     }
 }
 
-/// What the response says of the issuer's certificates.
-#[tactic(auto, using(crate::proofs::Answering::response_refused, crate::proofs::Answering::signer_refused, crate::proofs::Answering::singles_are, crate::proofs::Answering::same_answer))]
-fn singles_of_response<'a, V: Verifier>(
+/// What a response that was read says of the issuer's certificates. No memory is taken for a response that the issuer did not sign and
+/// that brings no certificates.
+#[tactic(auto, using(crate::proofs::Answering::signer_refused, crate::proofs::Answering::singles_are, crate::proofs::Answering::same_answer))]
+fn singles_if_genuine<'a, V: Verifier>(
     alloc: Global,
     verifier: &V,
     issuer: &Certificate<'_>,
-    octets: &'a [u8],
+    response: &Response<'a>,
 ) -> Result<Singles<'a>, StatementFault>
-    ensures { AnswersUnlessFull (λ singles. singles) result
-        (genuine_response (V.accepts verifier.now) (seen_certificate issuer.now) octets.now) }
+    ensures said { AnswersUnlessFull (λ singles. singles) result
+        (response_said (V.accepts verifier.now) (seen_certificate issuer.now) (seen_response response.now)) }
+    ensures memory { OnFull result (MayBeSigned (V.accepts verifier.now) issuer.now response.now) }
 {
-    let response = Response::read(alloc, octets)?;
-    let signer = Signer::find(alloc, verifier, issuer, &response)?;
-    let singles = singles_said(alloc, issuer, &response, &signer)?;
+    let signer = Signer::find(alloc, verifier, issuer, response)?;
+    let singles = singles_said(alloc, issuer, response, &signer)?;
     some_of(singles)
+}
+
+/// The same, with the issuer.
+fn facts_if_genuine<'a, V: Verifier>(
+    alloc: Global,
+    verifier: &V,
+    issuer: &Certificate<'a>,
+    response: &Response<'a>,
+) -> Result<OcspFacts<'a>, StatementFault>
+    ensures said { AnswersUnlessFull (λ facts. facts.singles) result
+        (response_said (V.accepts verifier.now) (seen_certificate issuer.now) (seen_response response.now)) }
+    ensures issuer { IfOk result (λ facts. IsSubjectOf issuer.now facts.issuer) }
+    ensures memory { OnFull result (MayBeSigned (V.accepts verifier.now) issuer.now response.now) }
+{
+    let singles = singles_if_genuine(alloc, verifier, issuer, response)?;
+    Ok(OcspFacts {
+        issuer: issuer_of(alloc, issuer)?,
+        singles,
+    })
 }
 
 /// What a response of the issuer or of one of its delegates says of the issuer's certificates. The fault of a response that is none,
 /// then that of one that nobody signed who may answer for the issuer, then that of one that says nothing of its certificates. No
 /// moment is looked at. Each certificate that comes with the response is read once, and its signature is asked for only where the
 /// responder id names it and the issuer's name is its issuer's.
+#[tactic(auto, using(crate::proofs::Answering::response_refused, crate::proofs::Answering::response_answered))]
 pub fn ocsp_facts<'a, V: Verifier>(
     alloc: Global,
     verifier: &V,
@@ -58,13 +79,10 @@ pub fn ocsp_facts<'a, V: Verifier>(
 ) -> Result<OcspFacts<'a>, StatementFault>
     ensures said { AnswersUnlessFull (λ facts. facts.singles) result
         (genuine_response (V.accepts verifier.now) (seen_certificate issuer.now) octets.now) }
-    ensures issuer { IfOk result (λ facts. seen_issuer facts.issuer ≡ identity_of (seen_certificate issuer.now)) }
+    ensures issuer { IfOk result (λ facts. IsSubjectOf issuer.now facts.issuer) }
 {
-    let singles = singles_of_response(alloc, verifier, issuer, octets)?;
-    Ok(OcspFacts {
-        issuer: issuer_of(alloc, issuer)?,
-        singles,
-    })
+    let response = Response::read(alloc, octets)?;
+    facts_if_genuine(alloc, verifier, issuer, &response)
 }
 
 /// The signer of a response is found exactly where there is one, and a response is genuine exactly where it is read, has a signer, and

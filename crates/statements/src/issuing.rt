@@ -1,9 +1,7 @@
 //! The issuer that a certificate is of.
 
-ghost use Rattle.std.specs.Prelude.{◌≡◌, IfOk};
-ghost use Rattle.cert.specs.Certificate.{seen_certificate};
-ghost use Rattle.statements_facts.specs.Fact.{issuer_of as seen_issuer};
-ghost use Rattle.statements.specs.Issuer.{identity_of};
+ghost use Rattle.std.specs.Prelude.{IfOk};
+ghost use Rattle.statements.specs.Seen.{IsSubjectOf};
 
 use cert::Certificate;
 use statements_facts::{Issuer, NameKey};
@@ -11,7 +9,7 @@ use std::alloc::{AllocError, Global};
 
 /// Whom a certificate is of: the key of its subject's name, and its subjectPublicKeyInfo.
 pub fn issuer_of<'a>(alloc: Global, certificate: &Certificate<'a>) -> Result<Issuer<'a>, AllocError>
-    ensures { IfOk result (λ issuer. seen_issuer issuer ≡ identity_of (seen_certificate certificate.now)) }
+    ensures { IfOk result (IsSubjectOf certificate.now) }
 {
     let name = certificate.subject.key(alloc)?;
     Ok(Issuer {

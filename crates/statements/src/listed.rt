@@ -3,9 +3,8 @@
 ghost use Rattle.std.specs.Prelude.{◌≡◌, ◌++◌, IfOk, IsTrue, map};
 ghost use Rattle.asn.specs.Integer.{binary_value};
 ghost use Rattle.statements_crl.specs.CrlNumber.{is_crl_number};
-ghost use Rattle.statements_crl.specs.Entry.{entries_left};
 ghost use Rattle.statements_facts.specs.Listed.{seen_listed};
-ghost use Rattle.statements.specs.CrlFact.{listed_serial};
+ghost use Rattle.statements.specs.Seen.{serials_left};
 
 use asn::Number20;
 use statements_crl::Entries;
@@ -22,7 +21,7 @@ pub(crate) fn number_of(contents: &[u8]) -> Number20
 
 /// The serial numbers and reasons of the entries, in order.
 pub(crate) fn listed_by(alloc: Global, entries: Entries<'_>) -> Result<Vec<Listed<'_>>, AllocError>
-    ensures { IfOk result (λ listed. map seen_listed listed.items ≡ map listed_serial (entries_left entries.entry)) }
+    ensures { IfOk result (λ listed. map seen_listed listed.items ≡ serials_left entries.entry) }
 {
     let mut entries = entries;
     let mut listed = Vec::new(alloc);

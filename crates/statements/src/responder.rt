@@ -4,9 +4,8 @@ ghost use Rattle.std.specs.Prelude.{◌≡◌, map};
 ghost use Rattle.std.specs.List.{list_any};
 ghost use Rattle.asn.specs.Oid.{oid_contents};
 ghost use Rattle.cert.specs.Certificate.{seen_certificate};
-ghost use Rattle.statements_ocsp.specs.OcspResponse.{seen_response};
-ghost use Rattle.statements_ocsp.specs.Responder.{seen_responder};
-ghost use Rattle.statements.specs.Responder.{is_issued, is_named_by, is_responder, is_signing, key_hash, may_respond, signs, signs_itself};
+ghost use Rattle.statements.specs.Responder.{is_signing, key_hash, may_respond};
+ghost use Rattle.statements.specs.Seen.{answers_for, is_issued_seen, is_named_by_seen, signs_itself_seen, signs_seen};
 
 use asn::Oid;
 use cert::Certificate;
@@ -26,7 +25,7 @@ pub(crate) fn hash_of_key(certificate: &Certificate<'_>) -> [u8; 20]
 
 /// Whether the responder id names the certificate.
 fn is_named(responder: &ResponderId<'_>, certificate: &Certificate<'_>) -> bool
-    ensures { result ≡ is_named_by (seen_responder responder.now) (seen_certificate certificate.now) }
+    ensures { result ≡ is_named_by_seen responder.now certificate.now }
 {
     match responder {
         ResponderId::ByName(name) => name.matches(&certificate.subject),
@@ -40,7 +39,7 @@ fn has_signed<V: Verifier>(
     response: &Response<'_>,
     certificate: &Certificate<'_>,
 ) -> bool
-    ensures { result ≡ signs (V.accepts verifier.now) (seen_response response.now) (seen_certificate certificate.now) }
+    ensures { result ≡ signs_seen (V.accepts verifier.now) response.now certificate.now }
 {
     let key_info = certificate.subject_public_key_info.value.whole;
     verifier.judge(
@@ -58,7 +57,7 @@ pub(crate) fn is_by_issuer<V: Verifier>(
     issuer: &Certificate<'_>,
     response: &Response<'_>,
 ) -> bool
-    ensures { result ≡ signs_itself (V.accepts verifier.now) (seen_certificate issuer.now) (seen_response response.now) }
+    ensures { result ≡ signs_itself_seen (V.accepts verifier.now) issuer.now response.now }
 {
     is_named(&response.responder, issuer) && has_signed(verifier, response, issuer)
 }
@@ -69,7 +68,7 @@ fn is_of_issuer<V: Verifier>(
     issuer: &Certificate<'_>,
     certificate: &Certificate<'_>,
 ) -> bool
-    ensures { result ≡ is_issued (V.accepts verifier.now) (seen_certificate issuer.now) (seen_certificate certificate.now) }
+    ensures { result ≡ is_issued_seen (V.accepts verifier.now) issuer.now certificate.now }
 {
     let key_info = issuer.subject_public_key_info.value.whole;
     certificate.issuer.matches(&issuer.subject)
@@ -105,12 +104,12 @@ pub(crate) fn is_by_delegate<V: Verifier>(
     verifier: &V,
     issuer: &Certificate<'_>,
     response: &Response<'_>,
-    certificate: &Certificate<'_>,
+    delegate: &Certificate<'_>,
 ) -> bool
-    ensures { result ≡ is_responder (V.accepts verifier.now) (seen_certificate issuer.now) (seen_response response.now) (seen_certificate certificate.now) }
+    ensures { result ≡ answers_for (V.accepts verifier.now) issuer.now response.now delegate.now }
 {
-    is_named(&response.responder, certificate)
-        && is_of_issuer(verifier, issuer, certificate)
-        && may_sign_responses(certificate)
-        && has_signed(verifier, response, certificate)
+    is_named(&response.responder, delegate)
+        && is_of_issuer(verifier, issuer, delegate)
+        && may_sign_responses(delegate)
+        && has_signed(verifier, response, delegate)
 }

@@ -1,12 +1,13 @@
 //! The signer of a response among the issuer and its delegates (RFC 6960, 4.2.2.2).
 
-ghost use Rattle.std.specs.Prelude.{◌≡◌, Ok, option_map};
+ghost use Rattle.std.specs.Prelude.{◌≡◌, ◌≢◌, [], Ok, option_map};
 ghost use Rattle.cert.specs.Certificate.{seen_certificate};
-ghost use Rattle.statements_ocsp.specs.OcspResponse.{seen_response};
-ghost use Rattle.statements.specs.Genuine.{AnswersUnlessFull};
+ghost use Rattle.statements_ocsp.specs.OcspResponse.{certs_left, seen_response};
+ghost use Rattle.statements.specs.Genuine.{AnswersUnlessFull, OnFull};
 ghost use Rattle.statements.specs.OcspFact.{signer_or_fault};
 ghost use Rattle.statements.specs.Responder.{delegate_of, signer_of};
 ghost use Rattle.statements.specs.SignerView.{seen_signer};
+ghost use Rattle.statements.specs.Seen.{DoesNotSign};
 
 use crate::responder::{is_by_delegate, is_by_issuer};
 use cert::Certificate;
@@ -30,8 +31,9 @@ fn first_delegate<'a, V: Verifier>(
     issuer: &Certificate<'_>,
     response: &Response<'a>,
 ) -> Result<Option<Certificate<'a>>, StatementFault>
-    ensures { AnswersUnlessFull (option_map seen_certificate) result
+    ensures first { AnswersUnlessFull (option_map seen_certificate) result
         (Ok (delegate_of (V.accepts verifier.now) (seen_certificate issuer.now) (seen_response response.now))) }
+    ensures memory { OnFull result (certs_left response.now.certs ≢ []) }
 {
     let mut certs = response.certs;
     while let Some(certificate) = certs.next_certificate(alloc)? {
@@ -43,15 +45,17 @@ fn first_delegate<'a, V: Verifier>(
 }
 
 impl<'a> Signer<'a> {
-    /// Who signed the response.
+    /// Who signed the response. Memory is taken only if the issuer did not sign it itself, to read the certificates that it brings.
     pub(crate) fn find<V: Verifier>(
         alloc: Global,
         verifier: &V,
         issuer: &Certificate<'_>,
         response: &Response<'a>,
     ) -> Result<Signer<'a>, StatementFault>
-        ensures { AnswersUnlessFull seen_signer result
+        ensures found { AnswersUnlessFull seen_signer result
             (signer_or_fault (signer_of (V.accepts verifier.now) (seen_certificate issuer.now) (seen_response response.now))) }
+        ensures own { OnFull result (DoesNotSign (V.accepts verifier.now) issuer.now response.now) }
+        ensures brought { OnFull result (certs_left response.now.certs ≢ []) }
     {
         if is_by_issuer(verifier, issuer, response) {
             return Ok(Signer::Issuer);

@@ -5,7 +5,8 @@ ghost use Rattle.cert.specs.Certificate.{seen_certificate};
 ghost use Rattle.statements_facts.specs.Single.{seen_single};
 ghost use Rattle.statements_ocsp.specs.OcspResponse.{seen_response};
 ghost use Rattle.statements_ocsp.specs.Single.{seen_single as seen_response_to};
-ghost use Rattle.statements.specs.OcspFact.{end_of, single_fact, singles_of, speaks_with, status_of, window_of};
+ghost use Rattle.statements.specs.OcspFact.{end_of, singles_of, speaks_with, status_of};
+ghost use Rattle.statements.specs.Seen.{single_fact_seen, window_of_seen};
 ghost use Rattle.statements.specs.SignerView.{seen_signer};
 
 use crate::responder::hash_of_key;
@@ -42,8 +43,8 @@ fn end(single: &SingleResponse<'_>) -> i64
 
 /// From when and until when it counts, by this signer.
 fn window(signer: &Signer<'_>, single: &SingleResponse<'_>) -> (i64, i64)
-    ensures from { result.0 ≡ (window_of (seen_signer signer.now) (seen_response_to single.now)).from }
-    ensures until { result.1 ≡ (window_of (seen_signer signer.now) (seen_response_to single.now)).until }
+    ensures from { result.0 ≡ (window_of_seen signer.now single.now).from }
+    ensures until { result.1 ≡ (window_of_seen signer.now single.now).until }
 {
     let (from, until) = (single.this_update, end(single));
     match signer {
@@ -68,7 +69,7 @@ fn status(status: CertStatus) -> Status
 
 /// What a single response says, in a response made at this time by this signer.
 fn said_by<'a>(signer: &Signer<'_>, produced_at: i64, single: &SingleResponse<'a>) -> Single<'a>
-    ensures { seen_single result ≡ single_fact (seen_signer signer.now) produced_at (seen_response_to single.now) }
+    ensures { seen_single result ≡ single_fact_seen signer.now produced_at single.now }
 {
     let (from, until) = window(signer, single);
     Single {

@@ -3,15 +3,15 @@ use Rattle.std.proofs.Common.{◌≡◌, ℕ, ℤ, List, [], ◌∷◌, Option, 
 use Rattle.std.specs.FinSet.{contains, insert}
 use Rattle.asn.specs.Place.{Place}
 use Rattle.asn.specs.Members.{Members, members}
-use Rattle.asn.specs.Walk.{◌>>=◌, check_that, each, some, is_a, optional, time, ended}
+use Rattle.asn.specs.Walk.{◌>>=◌, check_that, each, some, optional, ended}
 use Rattle.asn.proofs.Laws.{bind_ok, ok_is}
 use Rattle.statements_parts.specs.declared.fault.StatementRule.{StatementRule}
 use Rattle.statements_parts.specs.declared.fault.StatementRule.TheVariants.{Layout}
 use Rattle.cert.specs.Extension.{Extension, extension}
 use Rattle.cert.specs.OidSet.{Oids}
-use Rattle.statements_parts.specs.Parts.{component, serial_number, new_extension}
+use Rattle.statements_parts.specs.Parts.{new_extension}
 use Rattle.statements_crl.specs.EntryExtension.{TakenOfEntry, nothing_taken, one_extension, reason_after, reason_behind, reason_given, reason_of_list, optional_reason, reason_with}
-use Rattle.statements_crl.specs.Entry.{Entry, entry, entry_again, entries, entries_again, checked}
+use Rattle.statements_crl.specs.Entry.{Entry, entry, entry_again, entry_fields, entries, entries_again, checked, with_reason}
 
 is_extension : (types : Oids) (value : Place) (read : Extension × Oids) → new_extension types value ≡ Ok read → extension Layout value ≡ Ok read.0
 unfolding new_extension
@@ -47,23 +47,18 @@ optional_reason_is : (left : Members) (x : ℕ × Members) → optional_reason l
 unfolding optional_reason
 optional_reason_is left x e = reason_is (optional 0x30 left).0 (optional 0x30 left).1 x e
 
-abbrev answered : List ℕ → ℤ → ℕ → Result Entry (StatementRule × ℕ)
-answered serial date reason = Ok (record { serial = serial; revocation_date = date; reason = reason })
+abbrev answered : Entry → ℕ → Result Entry (StatementRule × ℕ)
+answered read reason = Ok (with_reason read reason)
 
 pub read_again : (value : Place) (fields : Entry) → entry value ≡ Ok fields → entry_again value ≡ Ok fields
 unfolding entry entry_again
 read_again value fields e =
-    let sequence = bind_ok {A = Unit {0}} _ _ fields e in
-    let serial = bind_ok {A = List ℕ × Members} _ _ fields sequence.2 in
-    let date = bind_ok {A = ℤ × Members} _ _ fields serial.2 in
-    let reason = bind_ok {A = ℕ × Members} _ _ fields date.2 in
-    let done = bind_ok {A = Unit {0}} _ _ fields reason.2 in
-    let same = optional_reason_is date.0.1 reason.0 reason.1 in
-    let is_sequence : is_a 0x30 Layout value ≡ Ok sequence.0 = sequence.1 in
-    let is_serial : component 0x02 serial_number (members value) ≡ Ok serial.0 = serial.1 in
-    let is_date : time Layout Layout serial.0.1 ≡ Ok date.0 = date.1 in
-    let is_done : ended Layout (optional 0x30 date.0.1).1 ≡ Ok done.0 = ap (λ r. ended Layout r.1) same ∙ done.1 in
-    rw (is_sequence, is_serial, is_date, is_done) (ap (λ r. answered serial.0.0 date.0.0 r.0) same ∙ done.2)
+    let read = bind_ok {A = Entry × Members} _ _ fields e in
+    let reason = bind_ok {A = ℕ × Members} _ _ fields read.2 in
+    let done = bind_ok {A = Unit {0}} (ended Layout reason.0.1) (λ done. answered read.0.0 reason.0.0) fields reason.2 in
+    let same = optional_reason_is read.0.1 reason.0 reason.1 in
+    let is_read : entry_fields value ≡ Ok read.0 = read.1 in
+    rw is_read (ap (λ r. answered read.0.0 r.0) same ∙ done.2)
 
 -- the first of some values is an entry: the fault of all is that of the others
 pub next_checked : (value : Place) (values : List Place) (fields : Entry) → entry value ≡ Ok fields → checked (entries values) ≡ checked (entries (value ∷ values))

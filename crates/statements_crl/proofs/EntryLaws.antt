@@ -1,16 +1,18 @@
 -- The walk of an entry finds what the standard calls one, and nothing else; and so does the walk of a list of them.
 use Rattle.std.proofs.Common.{◌≡◌, ℕ, ℤ, false, List, [], ◌∷◌, ◌++◌, append-nil, Option, Some, None, Ok, refl, sym, ap, ◌∙◌, subst}
 use Rattle.std.specs.List.{AllZip}
-use Rattle.asn.specs.Place.{Place}
+use Rattle.asn.specs.Place.{Place, tag, body}
+use Rattle.asn.specs.Time.{IsTime}
 use Rattle.asn.specs.Members.{Members, members, begins}
 use Rattle.asn.specs.Walk.{is_a, optional, time, each, some, ended}
 use Rattle.asn.proofs.Laws.{bind_ok, ok_is, is_a_ok, is_a_again, time_ok, time_again, ended_ok, ended_again, TakesOptional, optional_is, optional_there, optional_absent}
+use Rattle.cert.specs.CertificateForms.{IsSerialNumber}
 use Rattle.statements_parts.specs.Parts.{component, serial_number}
 use Rattle.statements_parts.proofs.Laws.{component_ok, component_again, serial_ok, serial_again}
 use Rattle.statements_parts.specs.declared.fault.StatementRule.{StatementRule}
 use Rattle.statements_parts.specs.declared.fault.StatementRule.TheVariants.{Layout}
 use Rattle.statements_crl.specs.EntryExtension.{TakenOfEntry, nothing_taken, one_extension, reason_of_list, optional_reason}
-use Rattle.statements_crl.specs.Entry.{Entry, entry, entries}
+use Rattle.statements_crl.specs.Entry.{Entry, entry, entry_fields, entries, with_reason}
 use Rattle.statements_crl.specs.EntryForms.{GivesOptionalReason, IsEntry, EntryIsExact}
 use Rattle.statements_crl.proofs.ReasonLaws.{reason_ok, some_again_of, reason_again}
 
@@ -62,35 +64,55 @@ optional_again left (list ∷ []) reason e is =
 optional_again left (list ∷ other ∷ lists) reason e is = absurd is
 
 -- entries
-abbrev entry_from : List ℕ × Members → ℤ × Members → ℕ × Members → Entry
-entry_from serial date reason = record { serial = serial.0; revocation_date = date.0; reason = reason.0 }
+record TakesFields (value : Place) (read : Entry × Members) : Type 0 where
+  user_certificate : Place
+  date : Place
+  sequence : tag value ≡ 0x30
+  members_are : (members value).values ≡ user_certificate ∷ date ∷ read.1.values
+  serial_is : IsSerialNumber user_certificate read.0.serial
+  date_is : IsTime (tag date) (body date) read.0.revocation_date
+
+fields_ok : (value : Place) (read : Entry × Members) → entry_fields value ≡ Ok read → TakesFields value read
+unfolding entry_fields
+fields_ok value read e =
+    let sequence = bind_ok {A = Unit {0}} (is_a 0x30 Layout value) _ read e in
+    let serial = bind_ok {A = List ℕ × Members} (component 0x02 serial_number (members value)) _ read sequence.2 in
+    let date = bind_ok {A = ℤ × Members} (time Layout Layout serial.0.1) _ read serial.2 in
+    let first = component_ok 0x02 serial_number (members value) serial.0 serial.1 in
+    let second = time_ok Layout Layout serial.0.1 date.0 date.1 in
+    let found : Entry × Members = (record { serial = serial.0.0; revocation_date = date.0.0; reason = 0 }, date.0.1) in
+    subst (TakesFields value) {x = found} (ok_is {E = StatementRule × ℕ} found read date.2) record {
+      user_certificate = first.value;
+      date = second.0;
+      sequence = is_a_ok _ _ _ _ sequence.1;
+      members_are = then (members value).values serial.0.1.values (second.0 ∷ date.0.1.values) first.value first.took.values second.1.next.values;
+      serial_is = serial_ok first.value serial.0.0 first.took.tag_is first.read_is;
+      date_is = second.1.is_time;
+    }
 
 is_entry : (value : Place) (fields : Entry) → entry value ≡ Ok fields → IsEntry value fields
 unfolding entry
 is_entry value fields e =
-    let sequence = bind_ok {A = Unit {0}} (is_a 0x30 Layout value) _ fields e in
-    let serial = bind_ok {A = List ℕ × Members} (component 0x02 serial_number (members value)) _ fields sequence.2 in
-    let date = bind_ok {A = ℤ × Members} (time Layout Layout serial.0.1) _ fields serial.2 in
-    let reason = bind_ok {A = ℕ × Members} (optional_reason date.0.1) _ fields date.2 in
+    let read = bind_ok {A = Entry × Members} (entry_fields value) _ fields e in
+    let reason = bind_ok {A = ℕ × Members} (optional_reason read.0.1) _ fields read.2 in
     let done = bind_ok {A = Unit {0}} (ended Layout reason.0.1) _ fields reason.2 in
-    let first = component_ok 0x02 serial_number (members value) serial.0 serial.1 in
-    let second = time_ok Layout Layout serial.0.1 date.0 date.1 in
-    let third = optional_ok date.0.1 reason.0 reason.1 in
-    let behind = at_the_end date.0.1.values third.lists reason.0.1.values third.values (ended_ok _ _ _ done.1) in
-    let found = entry_from serial.0 date.0 reason.0 in
+    let taken = fields_ok value read.0 read.1 in
+    let last = optional_ok read.0.1 reason.0 reason.1 in
+    let behind = at_the_end read.0.1.values last.lists reason.0.1.values last.values (ended_ok _ _ _ done.1) in
+    let found = with_reason read.0.0 reason.0.0 in
     subst (IsEntry value) {x = found} (ok_is {E = StatementRule × ℕ} found fields done.2) record {
-      user_certificate = first.value;
-      date = second.0;
-      extensions = third.lists;
-      sequence = is_a_ok _ _ _ _ sequence.1;
-      members_are = then (members value).values serial.0.1.values (second.0 ∷ third.lists) first.value first.took.values (then serial.0.1.values date.0.1.values third.lists second.0 second.1.next.values behind);
-      serial_is = serial_ok first.value serial.0.0 first.took.tag_is first.read_is;
-      date_is = second.1.is_time;
-      reason_is = third.is;
+      user_certificate = taken.user_certificate;
+      date = taken.date;
+      extensions = last.lists;
+      sequence = taken.sequence;
+      members_are = taken.members_are ∙ ap (λ values. taken.user_certificate ∷ taken.date ∷ values) behind;
+      serial_is = taken.serial_is;
+      date_is = taken.date_is;
+      reason_is = last.is;
     }
 
 entry_is : (value : Place) (fields : Entry) → IsEntry value fields → entry value ≡ Ok fields
-unfolding entry
+unfolding entry entry_fields
 entry_is value fields is =
     let next : List Place → Members = λ values. record { values = values; end = (members value).end } in
     let behind = is.date ∷ is.extensions in

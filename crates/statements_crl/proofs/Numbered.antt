@@ -114,11 +114,11 @@ list_known : (value : Place) (x : CertificateList) → certificate_list_at value
 unfolding certificate_list_at
 list_known value x e =
     let ends : Place → TbsCertList → List ℕ × Members → Result CertificateList (StatementRule × ℕ) = λ signed tbs signature. ended R.Layout signature.1 >>= λ done. Ok (list_with signed tbs signature.0) in
-    let behind : Place → TbsCertList → Members → Result CertificateList (StatementRule × ℕ) = λ signed tbs left. component 0x30 (same_algorithm tbs.head.signature) left >>= λ algorithm. component 0x03 signature_value algorithm.1 >>= ends signed tbs in
+    let behind : Place → TbsCertList → Members → Result CertificateList (StatementRule × ℕ) = λ signed tbs left. component 0x30 (same_algorithm tbs.head.signature.value.octets) left >>= λ algorithm. component 0x03 signature_value algorithm.1 >>= ends signed tbs in
     let sequence = bind_ok (is_a 0x30 R.Layout value) (λ sequence. next_or R.Layout (members value) >>= λ signed. tbs_cert_list signed.0 >>= λ tbs. behind signed.0 tbs signed.1) x e in
     let signed = bind_ok (next_or R.Layout (members value)) (λ signed. tbs_cert_list signed.0 >>= λ tbs. behind signed.0 tbs signed.1) x sequence.2 in
     let tbs = bind_ok (tbs_cert_list signed.0.0) (λ tbs. behind signed.0.0 tbs signed.0.1) x signed.2 in
-    let algorithm = bind_ok (component 0x30 (same_algorithm tbs.0.head.signature) signed.0.1) (λ algorithm. component 0x03 signature_value algorithm.1 >>= ends signed.0.0 tbs.0) x tbs.2 in
+    let algorithm = bind_ok (component 0x30 (same_algorithm tbs.0.head.signature.value.octets) signed.0.1) (λ algorithm. component 0x03 signature_value algorithm.1 >>= ends signed.0.0 tbs.0) x tbs.2 in
     let signature = bind_ok (component 0x03 signature_value algorithm.0.1) (ends signed.0.0 tbs.0) x algorithm.2 in
     let done = bind_ok (ended R.Layout signature.0.1) (λ done. Ok (list_with signed.0.0 tbs.0 signature.0.0)) x signature.2 in
     subst (λ x. IsTrue (is_crl_number x.number)) {x = list_with signed.0.0 tbs.0 signature.0.0} (ok_is {E = StatementRule × ℕ} (list_with signed.0.0 tbs.0 signature.0.0) x done.2) (tbs_known signed.0.0 tbs.0 tbs.1)

@@ -117,7 +117,7 @@ certificate_list_at value = do
   sequence ← is_a 0x30 Layout value
   signed ← next_or Layout (members value)
   tbs ← tbs_cert_list signed.0
-  algorithm ← component 0x30 (same_algorithm tbs.head.signature) signed.1
+  algorithm ← component 0x30 (same_algorithm tbs.head.signature.value.octets) signed.1
   signature ← component 0x03 signature_value algorithm.1
   done ← ended Layout signature.1
   Ok (list_with signed.0 tbs signature.0)

@@ -4,7 +4,7 @@ use Rattle.std.specs.Prelude.{ℕ, ℤ, List, [], ◌∷◌, Option, Some, None,
 use Rattle.std.specs.List.{find}
 use Rattle.std.specs.Str.{bytes_eq}
 use Rattle.asn.specs.Place.{Place}
-use Rattle.asn.specs.Members.{members, left}
+use Rattle.asn.specs.Members.{Members, members, left}
 use Rattle.asn.specs.declared.tlv.Cursor.{Cursor}
 use Rattle.asn.specs.Walk.{◌>>=◌, is_a, optional, time, ended}
 use Rattle.statements_crl.specs.declared.entry.Entry as code
@@ -24,15 +24,28 @@ pub record Entry : Type 0 where
 abbrev pub seen_entry : code.Entry → Entry
 seen_entry read = record { serial = read.serial.now; revocation_date = read.revocation_date; reason = read.reason }
 
--- The checks in their order.
-unfoldable pub entry : Place → Result Entry (StatementRule × ℕ)
-entry value = do
+-- the fields that were read, and what is left behind them
+abbrev pub seen_fields : code.Entry × Cursor → Entry × Members
+seen_fields read = (seen_entry read.0, left read.1)
+
+abbrev pub with_reason : Entry → ℕ → Entry
+with_reason entry reason = record { serial = entry.serial; revocation_date = entry.revocation_date; reason = reason }
+
+-- The checks in their order: those of the components up to the date,
+unfoldable pub entry_fields : Place → Result (Entry × Members) (StatementRule × ℕ)
+entry_fields value = do
   sequence ← is_a 0x30 Layout value
   serial ← component 0x02 serial_number (members value)
   date ← time Layout Layout serial.1
-  reason ← optional_reason date.1
+  Ok (record { serial = serial.0; revocation_date = date.0; reason = 0 }, date.1)
+
+-- and those of the extensions behind it.
+unfoldable pub entry : Place → Result Entry (StatementRule × ℕ)
+entry value = do
+  read ← entry_fields value
+  reason ← optional_reason read.1
   done ← ended Layout reason.1
-  Ok (record { serial = serial.0; revocation_date = date.0; reason = reason.0 })
+  Ok (with_reason read.0 reason.0)
 
 -- the entries that the values are, all of them
 abbrev pub entries : List Place → Result (List Entry) (StatementRule × ℕ)
@@ -47,14 +60,11 @@ abbrev pub checked : Result (List Entry) (StatementRule × ℕ) → Result (Unit
 checked (Ok read) = Ok tt
 checked (Err fault) = Err fault
 
--- The same of an entry that was read once.
+-- The same of an entry that was read once, whose end is not looked at again.
 unfoldable pub entry_again : Place → Result Entry (StatementRule × ℕ)
 entry_again value = do
-  sequence ← is_a 0x30 Layout value
-  serial ← component 0x02 serial_number (members value)
-  date ← time Layout Layout serial.1
-  done ← ended Layout (optional 0x30 date.1).1
-  Ok (record { serial = serial.0; revocation_date = date.0; reason = reason_given (optional 0x30 date.1).0 })
+  read ← entry_fields value
+  Ok (with_reason read.0 (reason_given (optional 0x30 read.1).0))
 
 abbrev pub and_then : Result Entry (StatementRule × ℕ) → List Entry → List Entry
 and_then (Ok first) others = first ∷ others

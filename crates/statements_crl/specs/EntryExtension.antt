@@ -73,12 +73,16 @@ one_extension earlier value = do
   reason ← reason_with read.0 earlier.reason
   Ok (record { types = read.1; reason = reason })
 
+-- the extensions that these values are, one after the other
+abbrev pub all_extensions : Members → Result TakenOfEntry (StatementRule × ℕ)
+all_extensions left = each one_extension nothing_taken left.values
+
 -- crlEntryExtensions Extensions OPTIONAL: the reason that they give
 abbrev pub reason_of_list : Option Place → Members → Result (ℕ × Members) (StatementRule × ℕ)
 reason_of_list None left = Ok (0, left)
 reason_of_list (Some list) left = do
   one ← some Layout (members list)
-  taken ← each one_extension nothing_taken ((members list).values)
+  taken ← all_extensions (members list)
   Ok (taken.reason, left)
 
 unfoldable pub optional_reason : Members → Result (ℕ × Members) (StatementRule × ℕ)

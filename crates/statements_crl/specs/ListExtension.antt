@@ -39,8 +39,8 @@ pub record ListExtensions : Type 0 where
   pub number : Option (List ℕ)
   pub scope : Scope
 
-abbrev pub seen_list_extensions : read_of.ListExtensions → ListExtensions
-seen_list_extensions read = record { number = seen (λ octets. octets.now) read.number; scope = read.scope }
+abbrev pub seen_said : read_of.ListExtensions → ListExtensions
+seen_said read = record { number = seen (λ octets. octets.now) read.number; scope = read.scope }
 
 abbrev pub no_list_extensions : ListExtensions
 no_list_extensions = record { number = None; scope = All }
@@ -66,7 +66,7 @@ pub record TakenOfList : Type 0 where
   pub said : ListExtensions
 
 abbrev pub seen_taken : taken.TakenOfList → TakenOfList
-seen_taken read = record { types = oids_in read.types; said = seen_list_extensions read.said }
+seen_taken read = record { types = oids_in read.types; said = seen_said read.said }
 
 abbrev pub nothing_taken : TakenOfList
 nothing_taken = record { types = empty; said = no_list_extensions }
@@ -77,6 +77,10 @@ one_extension earlier value = do
   read ← new_extension earlier.types value
   said ← said_by read.0 earlier.said
   Ok (record { types = read.1; said = said })
+
+-- the extensions that these values are, one after the other
+abbrev pub all_extensions : Members → Result TakenOfList (StatementRule × ℕ)
+all_extensions left = each one_extension nothing_taken left.values
 
 -- What a list is told by its extensions: the contents octets of its number, and its scope.
 pub record NumberAndScope : Type 0 where
@@ -94,7 +98,7 @@ unfoldable pub extensions : Place → Result NumberAndScope (StatementRule × �
 extensions list = do
   sequence ← is_a 0x30 R.Layout list
   one ← some R.Layout (members list)
-  taken ← each one_extension nothing_taken ((members list).values)
+  taken ← all_extensions (members list)
   named taken.said (members list).end
 
 -- crlExtensions [0] EXPLICIT Extensions, which have to be there

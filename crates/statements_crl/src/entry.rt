@@ -1,11 +1,11 @@
 //! Entries of a list (RFC 5280, 5.1.2.6).
 
 ghost use Rattle.asn.specs.Reading.{seen_tlv, Gives};
-ghost use Rattle.statements_crl.specs.Entry.{entry, entry_again, seen_entry};
+ghost use Rattle.statements_crl.specs.Entry.{entry, entry_again, entry_fields, seen_entry, seen_fields};
 ghost use Rattle.statements_parts.specs.Fault.{GivesUnlessFull};
 
 use crate::entry_extension::{reason_in_list, take_reason};
-use asn::{SEQUENCE, Tlv};
+use asn::{Cursor, SEQUENCE, Tlv};
 use statements_parts::{Refusal, StatementFault, StatementRule, take_serial};
 use std::alloc::Global;
 
@@ -21,22 +21,33 @@ pub struct Entry<'a> {
 }
 
 impl<'a> Entry<'a> {
-    /// The entry that the value is, or the first fault.
-    #[tactic(auto, unfolding(crate::specs::Entry::entry))]
-    pub(crate) fn read(alloc: Global, value: Tlv<'a>) -> Result<Entry<'a>, StatementFault>
-        ensures { GivesUnlessFull seen_entry result (entry (seen_tlv value.entry)) }
+    /// The components up to revocationDate, with no reason yet, and what stands behind them.
+    #[tactic(auto, unfolding(crate::specs::Entry::entry_fields))]
+    fn fields(value: Tlv<'a>) -> Result<(Entry<'a>, Cursor<'a>), Refusal>
+        ensures { Gives seen_fields result (entry_fields (seen_tlv value.entry)) }
     {
         value.is_a(SEQUENCE, StatementRule::Layout)?;
         let mut members = value.members();
         let serial = take_serial(&mut members)?;
         let revocation_date = members.time(StatementRule::Layout, StatementRule::Layout)?;
-        let reason = take_reason(alloc, &mut members)?;
-        members.ended(StatementRule::Layout)?;
-        Ok(Entry {
+        let read = Entry {
             serial,
             revocation_date,
-            reason,
-        })
+            reason: 0,
+        };
+        Ok((read, members))
+    }
+
+    /// The entry that the value is, or the first fault.
+    #[tactic(auto, unfolding(crate::specs::Entry::entry))]
+    pub(crate) fn read(alloc: Global, value: Tlv<'a>) -> Result<Entry<'a>, StatementFault>
+        ensures { GivesUnlessFull seen_entry result (entry (seen_tlv value.entry)) }
+    {
+        let (read, behind) = Entry::fields(value)?;
+        let mut members = behind;
+        let reason = take_reason(alloc, &mut members)?;
+        members.ended(StatementRule::Layout)?;
+        Ok(Entry { reason, ..read })
     }
 
     /// The same of an entry that was read once, without memory.
@@ -44,16 +55,9 @@ impl<'a> Entry<'a> {
     pub(crate) fn again(value: Tlv<'a>) -> Result<Entry<'a>, Refusal>
         ensures { Gives seen_entry result (entry_again (seen_tlv value.entry)) }
     {
-        value.is_a(SEQUENCE, StatementRule::Layout)?;
-        let mut members = value.members();
-        let serial = take_serial(&mut members)?;
-        let revocation_date = members.time(StatementRule::Layout, StatementRule::Layout)?;
-        let extensions = members.optional(SEQUENCE);
-        members.ended(StatementRule::Layout)?;
-        Ok(Entry {
-            serial,
-            revocation_date,
-            reason: reason_in_list(extensions),
-        })
+        let (read, behind) = Entry::fields(value)?;
+        let mut members = behind;
+        let reason = reason_in_list(members.optional(SEQUENCE));
+        Ok(Entry { reason, ..read })
     }
 }

@@ -1,11 +1,12 @@
 //! The extensions of an entry (RFC 5280, 5.3).
 
 ghost use Rattle.std.specs.Prelude.{◌≡◌, IfSome};
-ghost use Rattle.asn.specs.Reading.{seen_tlv, left, Gives, seen, each};
+ghost use Rattle.asn.specs.Reading.{seen_tlv, left, Gives, seen};
 ghost use Rattle.asn.specs.Oid.{oid_contents};
 ghost use Rattle.cert.specs.Extension.{seen_extension};
-ghost use Rattle.statements_crl.specs.EntryExtension.{entry_extension_kind, nothing_taken, one_extension, optional_reason, reason_after, reason_code, reason_behind, reason_given, encoded_reason, reason_with, seen_taken};
+ghost use Rattle.statements_crl.specs.EntryExtension.{all_extensions, entry_extension_kind, one_extension, optional_reason, reason_after, reason_code, reason_behind, reason_given, encoded_reason, reason_with, seen_taken};
 ghost use Rattle.statements_parts.specs.Fault.{GivesUnlessFull};
+ghost use Rattle.statements_parts.specs.Steps.{StepGivesUnlessFull, TakesUnlessFull};
 
 use asn::{Cursor, ENUMERATED, SEQUENCE, Tlv};
 use cert::{Extension, OidSet, certificate_extension_number};
@@ -98,7 +99,7 @@ impl<'a> TakenOfEntry<'a> {
     /// Takes one more extension, which must be of a type that none of the earlier ones has.
     #[tactic(auto, unfolding(crate::specs::EntryExtension::one_extension))]
     fn take(&mut self, value: Tlv<'a>) -> Result<(), StatementFault>
-        ensures { GivesUnlessFull (λ _. seen_taken self.new) result (one_extension (seen_taken self.old) (seen_tlv value.entry)) }
+        ensures { TakesUnlessFull seen_taken self.old self.new value.entry result one_extension }
     {
         let extension = new_extension(&mut self.types, value)?;
         self.reason = tell_reason(extension, self.reason)?;
@@ -108,7 +109,7 @@ impl<'a> TakenOfEntry<'a> {
 
 /// Takes the extensions that the values are.
 fn take_all<'a>(alloc: Global, members: Cursor<'a>) -> Result<TakenOfEntry<'a>, StatementFault>
-    ensures { GivesUnlessFull seen_taken result (each one_extension nothing_taken ((left members.entry).values)) }
+    ensures { GivesUnlessFull seen_taken result (all_extensions (left members.entry)) }
 {
     let mut members = members;
     let mut taken = TakenOfEntry {
@@ -116,10 +117,7 @@ fn take_all<'a>(alloc: Global, members: Cursor<'a>) -> Result<TakenOfEntry<'a>, 
         reason: 0,
     };
     while let Some(value) = members.next() {
-        match taken.take(value) {
-            Ok(()) => {}
-            Err(fault) => return Err(fault),
-        }
+        taken.take(value)?;
     }
     Ok(taken)
 }
@@ -128,7 +126,7 @@ fn take_all<'a>(alloc: Global, members: Cursor<'a>) -> Result<TakenOfEntry<'a>, 
 /// taken for the types of the extensions where there are more than 16.
 #[tactic(auto, unfolding(crate::specs::EntryExtension::optional_reason))]
 pub(crate) fn take_reason(alloc: Global, members: &mut Cursor<'_>) -> Result<u8, StatementFault>
-    ensures { GivesUnlessFull (λ reason. (reason, left members.new)) result (optional_reason (left members.old)) }
+    ensures { StepGivesUnlessFull (λ code. code) result members.old members.new optional_reason }
 {
     let Some(list) = members.optional(SEQUENCE) else {
         return Ok(0);

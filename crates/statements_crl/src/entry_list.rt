@@ -1,10 +1,10 @@
 //! The entries of a list, one after the other (RFC 5280, 5.1.2.6).
 
-ghost use Rattle.std.specs.Prelude.{◌≡◌, ◌∷◌, [], MatchOption};
 ghost use Rattle.asn.specs.Reading.{left};
 ghost use Rattle.statements_crl.specs.CertificateList.{revoked};
 ghost use Rattle.statements_crl.specs.Entry.{checked, entries, entries_left, seen_entry};
 ghost use Rattle.statements_parts.specs.Fault.{GivesUnlessFull};
+ghost use Rattle.statements_parts.specs.Steps.{HandsOutFirst, StepGivesUnlessFull};
 
 use crate::entry::Entry;
 use asn::{Cursor, SEQUENCE};
@@ -21,11 +21,13 @@ pub struct Entries<'a> {
 impl<'a> Entries<'a> {
     /// The next entry; `None` where none is left.
     pub fn next(&mut self) -> Option<Entry<'a>>
-        ensures { MatchOption result (entries_left self.old ≡ [])
-            (λ entry. entries_left self.old ≡ seen_entry entry ∷ entries_left self.new) }
+        ensures { HandsOutFirst seen_entry (entries_left self.old) (entries_left self.new) result }
     {
-        let value = self.members.as_mut()?.next()?;
-        Entry::again(value).ok()
+        let mut behind = self.members?;
+        let value = behind.next()?;
+        let entry = Entry::again(value).ok()?;
+        self.members = Some(behind);
+        Some(entry)
     }
 }
 
@@ -35,10 +37,7 @@ fn check_entries(alloc: Global, members: Cursor<'_>) -> Result<(), StatementFaul
 {
     let mut members = members;
     while let Some(value) = members.next() {
-        match Entry::read(alloc, value) {
-            Ok(_) => {}
-            Err(fault) => return Err(fault),
-        }
+        Entry::read(alloc, value)?;
     }
     Ok(())
 }
@@ -49,7 +48,7 @@ pub(crate) fn take_entries<'a>(
     alloc: Global,
     members: &mut Cursor<'a>,
 ) -> Result<Entries<'a>, StatementFault>
-    ensures { GivesUnlessFull (λ read. (entries_left read, left members.new)) result (revoked (left members.old)) }
+    ensures { StepGivesUnlessFull entries_left result members.old members.new revoked }
 {
     let Some(list) = members.optional(SEQUENCE) else {
         return Ok(Entries { members: None });

@@ -5,6 +5,7 @@ ghost use Rattle.asn.specs.Reading.{seen_tlv, left, Gives};
 ghost use Rattle.statements_crl.specs.CertificateList.{certificate_list, certificate_list_at, list_head, seen_head, seen_list, seen_tbs, tbs_cert_list, version_2};
 ghost use Rattle.statements_crl.specs.Entry.{entries_left, reason_listed};
 ghost use Rattle.statements_parts.specs.Fault.{GivesUnlessFull};
+ghost use Rattle.asn.specs.Walk.{StepGives};
 
 use crate::entry_list::{Entries, take_entries};
 use crate::list_extension::NumberAndScope;
@@ -67,7 +68,7 @@ impl<'a> ListHead<'a> {
     /// version, signature, issuer, thisUpdate, nextUpdate
     #[tactic(auto, unfolding(crate::specs::CertificateList::list_head))]
     fn take(members: &mut Cursor<'a>) -> Result<ListHead<'a>, Refusal>
-        ensures { Gives (λ read. (seen_head read, left members.new)) result (list_head (left members.old)) }
+        ensures { StepGives seen_head result members.old members.new list_head }
     {
         take_version(members)?;
         let signature = take_algorithm(members)?;
@@ -120,7 +121,7 @@ fn read_list<'a>(alloc: Global, value: Tlv<'a>) -> Result<Crl<'a>, StatementFaul
     let mut members = value.members();
     let signed = members.next_or(StatementRule::Layout)?;
     let tbs = TbsCertList::read(alloc, signed)?;
-    take_same_algorithm(tbs.head.signature, &mut members)?;
+    take_same_algorithm(tbs.head.signature.value.whole, &mut members)?;
     let signature = take_signature(&mut members)?;
     members.ended(StatementRule::Layout)?;
     Ok(Crl {

@@ -1,11 +1,12 @@
 //! The extensions of a list (RFC 5280, 5.2).
 
 ghost use Rattle.std.specs.Prelude.{◌≡◌};
-ghost use Rattle.asn.specs.Reading.{seen_tlv, left, members, Gives, each};
+ghost use Rattle.asn.specs.Reading.{seen_tlv, left, members, Gives};
 ghost use Rattle.asn.specs.Oid.{oid_contents};
 ghost use Rattle.cert.specs.Extension.{seen_extension};
-ghost use Rattle.statements_crl.specs.ListExtension.{extensions, list_extension_kind, list_extensions, nothing_taken, one_extension, said_by, seen_named, seen_list_extensions, seen_taken};
+ghost use Rattle.statements_crl.specs.ListExtension.{all_extensions, extensions, list_extension_kind, list_extensions, one_extension, said_by, seen_named, seen_said, seen_taken};
 ghost use Rattle.statements_parts.specs.Fault.{GivesUnlessFull};
+ghost use Rattle.statements_parts.specs.Steps.{StepGivesUnlessFull, TakesUnlessFull};
 
 use crate::issuer_scope::scope_of;
 use crate::number::number_of;
@@ -53,12 +54,12 @@ struct ListExtensions<'a> {
 impl<'a> ListExtensions<'a> {
     /// What is known once one more extension was read; or its fault, at the extension.
     #[tactic(auto, unfolding(crate::specs::ListExtension::said_by, asn::specs::Walk::check_that))]
-    fn with(self, extension: Extension<'a>) -> Result<ListExtensions<'a>, Refusal>
-        ensures { Gives seen_list_extensions result (said_by (seen_extension extension.entry) (seen_list_extensions self.entry)) }
+    fn with(&self, one: Extension<'a>) -> Result<ListExtensions<'a>, Refusal>
+        ensures { Gives seen_said result (said_by (seen_extension one.entry) (seen_said self.now)) }
     {
-        let at = extension.whole.at;
-        match ListExtensionKind::of(extension.oid.contents()) {
-            ListExtensionKind::CrlNumber => match number_of(extension.value.body) {
+        let at = one.whole.at;
+        match ListExtensionKind::of(one.oid.contents()) {
+            ListExtensionKind::CrlNumber => match number_of(one.value.body) {
                 Some(number) => Ok(ListExtensions {
                     number: Some(number),
                     scope: self.scope,
@@ -66,17 +67,17 @@ impl<'a> ListExtensions<'a> {
                 None => Err((StatementRule::NumberRange, at)),
             },
             ListExtensionKind::DeltaIndicator => Err((StatementRule::Delta, at)),
-            ListExtensionKind::IssuingDistributionPoint => match scope_of(extension.value.body) {
+            ListExtensionKind::IssuingDistributionPoint => match scope_of(one.value.body) {
                 Some(scope) => Ok(ListExtensions {
                     number: self.number,
                     scope,
                 }),
                 None => Err((StatementRule::Scope, at)),
             },
-            ListExtensionKind::Other if extension.critical => {
+            ListExtensionKind::Other if one.critical => {
                 Err((StatementRule::CriticalUnknown, at))
             }
-            ListExtensionKind::Other => Ok(self),
+            ListExtensionKind::Other => Ok(*self),
         }
     }
 }
@@ -92,7 +93,7 @@ impl<'a> TakenOfList<'a> {
     /// Takes one more extension, which must be of a type that none of the earlier ones has.
     #[tactic(auto, unfolding(crate::specs::ListExtension::one_extension))]
     fn take(&mut self, value: Tlv<'a>) -> Result<(), StatementFault>
-        ensures { GivesUnlessFull (λ _. seen_taken self.new) result (one_extension (seen_taken self.old) (seen_tlv value.entry)) }
+        ensures { TakesUnlessFull seen_taken self.old self.new value.entry result one_extension }
     {
         let extension = new_extension(&mut self.types, value)?;
         self.said = self.said.with(extension)?;
@@ -102,7 +103,7 @@ impl<'a> TakenOfList<'a> {
 
 /// Takes the extensions that the values are.
 fn take_all<'a>(alloc: Global, members: Cursor<'a>) -> Result<TakenOfList<'a>, StatementFault>
-    ensures { GivesUnlessFull seen_taken result (each one_extension nothing_taken ((left members.entry).values)) }
+    ensures { GivesUnlessFull seen_taken result (all_extensions (left members.entry)) }
 {
     let mut members = members;
     let mut taken = TakenOfList {
@@ -113,10 +114,7 @@ fn take_all<'a>(alloc: Global, members: Cursor<'a>) -> Result<TakenOfList<'a>, S
         },
     };
     while let Some(value) = members.next() {
-        match taken.take(value) {
-            Ok(()) => {}
-            Err(fault) => return Err(fault),
-        }
+        taken.take(value)?;
     }
     Ok(taken)
 }
@@ -162,7 +160,7 @@ impl<'a> NumberAndScope<'a> {
         alloc: Global,
         members: &mut Cursor<'a>,
     ) -> Result<NumberAndScope<'a>, StatementFault>
-        ensures { GivesUnlessFull (λ named. (seen_named named, left members.new)) result (list_extensions (left members.old)) }
+        ensures { StepGivesUnlessFull seen_named result members.old members.new list_extensions }
     {
         members.some(StatementRule::NoNumber)?;
         let explicit = members.required(0xA0, StatementRule::Layout)?;

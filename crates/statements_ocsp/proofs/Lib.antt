@@ -1,3 +1,4 @@
+mod PassedValues
 mod SingleAgain
 mod ListOfExtensions
 mod StatusLaws

@@ -7,7 +7,7 @@ use Rattle.asn.proofs.Laws.{bind_ok, ok_is}
 use Rattle.statements_parts.specs.declared.fault.StatementRule.{StatementRule}
 use Rattle.statements_parts.specs.declared.fault.StatementRule.TheVariants.{Layout, TooManySingles}
 use Rattle.statements_ocsp.specs.ResponseExtensions.{optional_extensions}
-use Rattle.statements_ocsp.specs.Single.{SingleResponse, single_fields, single, single_behind, singles, checked, single_again, singles_again}
+use Rattle.statements_ocsp.specs.Single.{SingleResponse, single_fields, single, single_after, singles, checked, single_again, singles_again}
 
 again : (value : Place) (fields : SingleResponse) → single value ≡ Ok fields → single_again value ≡ Ok fields
 unfolding single single_again
@@ -18,22 +18,22 @@ again value fields e =
     let is_read : single_fields value ≡ Ok read.0 = read.1 in
     rw is_read done.2
 
-read_again : (before : ℕ) (value : Place) (fields : SingleResponse) → single_behind before value ≡ Ok fields → single_again value ≡ Ok fields
-unfolding single_behind
+read_again : (before : ℕ) (value : Place) (fields : SingleResponse) → single_after before value ≡ Ok fields → single_again value ≡ Ok fields
+unfolding single_after
 read_again before value fields e =
     let sequence = bind_ok {A = Unit {0}} (is_a 0x30 Layout value) _ fields e in
     let served = bind_ok {A = Unit {0}} (check_that (nat_lt before 256) TooManySingles value.at) _ fields sequence.2 in
     again value fields served.2
 
 -- the first of some values is a single response: the fault of all is that of the others
-pub next_checked : (before : ℕ) (value : Place) (values : List Place) (fields : SingleResponse) → single_behind before value ≡ Ok fields → checked (singles (before + 1) values) ≡ checked (singles before (value ∷ values))
+pub next_checked : (before : ℕ) (value : Place) (values : List Place) (fields : SingleResponse) → single_after before value ≡ Ok fields → checked (singles (before + 1) values) ≡ checked (singles before (value ∷ values))
 next_checked before value values fields e = rw e (others (singles (before + 1) values))
   where
     others : (read : Result (List SingleResponse) (StatementRule × ℕ)) → checked read ≡ checked (read >>= λ rest. Ok (fields ∷ rest))
     others (Ok rest) = refl
     others (Err fault) = refl
 
-pub first_refused : (before : ℕ) (value : Place) (values : List Place) (fault : StatementRule × ℕ) → single_behind before value ≡ Err fault → checked (singles before (value ∷ values)) ≡ Err fault
+pub first_refused : (before : ℕ) (value : Place) (values : List Place) (fault : StatementRule × ℕ) → single_after before value ≡ Err fault → checked (singles before (value ∷ values)) ≡ Err fault
 first_refused before value values fault e = rw e refl
 
 -- what was checked is handed out

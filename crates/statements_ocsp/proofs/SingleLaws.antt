@@ -17,7 +17,7 @@ use Rattle.statements_ocsp.specs.CertificateId.{CertId, cert_id}
 use Rattle.statements_ocsp.specs.GeneralizedTime.{generalized_time}
 use Rattle.statements_ocsp.specs.CertificateStatus.{cert_status}
 use Rattle.statements_ocsp.specs.ResponseExtensions.{optional_extensions}
-use Rattle.statements_ocsp.specs.Single.{SingleResponse, next_update_of, next_update, single_fields, single, single_behind, singles}
+use Rattle.statements_ocsp.specs.Single.{SingleResponse, next_update_of, next_update, single_fields, single, single_after, singles}
 use Rattle.statements_ocsp.specs.SingleForms.{IsGeneralizedTimeAt, IsCertId, IsCertStatus, IsNextUpdate, AreOptionalExtensions, IsSingleResponse, SingleResponseIsExact}
 use Rattle.statements_ocsp.proofs.ListOfExtensions.{extensions_ok, extensions_again}
 use Rattle.statements_ocsp.proofs.StatusLaws.{moment_ok, moment_again, status_ok, status_again}
@@ -233,15 +233,15 @@ record AreSingles (before : ℕ) (values : List Place) (list : List SingleRespon
   each : AllZip IsSingleResponse values list
   few : before ≤ 256 → before + length list ≤ 256
 
-behind_ok : (before : ℕ) (value : Place) (fields : SingleResponse) → single_behind before value ≡ Ok fields → (before < 256) × IsSingleResponse value fields
-unfolding single_behind
+behind_ok : (before : ℕ) (value : Place) (fields : SingleResponse) → single_after before value ≡ Ok fields → (before < 256) × IsSingleResponse value fields
+unfolding single_after
 behind_ok before value fields e =
     let sequence = bind_ok {A = Unit {0}} (is_a 0x30 Layout value) _ fields e in
     let served = bind_ok {A = Unit {0}} (check_that (nat_lt before 256) TooManySingles value.at) _ fields sequence.2 in
     (ltb-true before 256 (check_ok _ _ _ _ served.1), is_single value fields served.2)
 
-behind_again : (before : ℕ) (value : Place) (fields : SingleResponse) → before < 256 → IsSingleResponse value fields → single_behind before value ≡ Ok fields
-unfolding single_behind
+behind_again : (before : ℕ) (value : Place) (fields : SingleResponse) → before < 256 → IsSingleResponse value fields → single_after before value ≡ Ok fields
+unfolding single_after
 behind_again before value fields room is =
     rw (is_a_again 0x30 Layout value is.sequence, check_again (nat_lt before 256) TooManySingles value.at (lt-ltb before 256 room), single_is value fields is) refl
 
@@ -249,7 +249,7 @@ singles_ok : (before : ℕ) (values : List Place) (list : List SingleResponse) �
 singles_ok before [] list e =
     subst (AreSingles before []) (ok_is {E = StatementRule × ℕ} [] list e) record { each = tt; few = λ room. omega arith }
 singles_ok before (value ∷ values) list e =
-    let first = bind_ok {A = SingleResponse} (single_behind before value) _ list e in
+    let first = bind_ok {A = SingleResponse} (single_after before value) _ list e in
     let others = bind_ok {A = List SingleResponse} (singles (before + 1) values) _ list first.2 in
     let one = behind_ok before value first.0 first.1 in
     let rest = singles_ok (before + 1) values others.0 others.1 in

@@ -1,6 +1,6 @@
 -- The certificates among the values that a response brings with it (RFC 6960, 4.2.1).
-use Rattle.std.specs.Prelude.{◌≡◌, ◌<◌, ℕ, List, [], ◌∷◌, length, Option, Some, None, Result, Ok, Err}
-use Rattle.std.specs.List.{filter_map}
+use Rattle.std.specs.Prelude.{◌≡◌, ◌≢◌, ◌<◌, ℕ, List, [], ◌∷◌, ◌++◌, length, Option, Some, None, Result, Ok, Err}
+use Rattle.std.specs.List.{filter_map, AllByRecursion}
 use Rattle.cert.specs.declared.fault.CertRule.{CertRule}
 use Rattle.cert.specs.declared.certificate.Certificate as read
 use Rattle.cert.specs.Certificate.{Certificate, certificate, seen_certificate}
@@ -27,3 +27,16 @@ abbrev pub HandsOut : walk.Certs → walk.Certs → Option read.Certificate → 
 HandsOut old new None = certificates_left old ≡ []
 HandsOut old new (Some c) =
     (certificates_left old ≡ seen_certificate c ∷ certificates_left new) × (length (certs_left new) < length (certs_left old))
+
+-- the values are some that are no certificates, and then the others
+abbrev pub PassesOver : List (List ℕ) → List (List ℕ) → Type 0
+PassesOver values others = (passed : List (List ℕ)) × (values ≡ passed ++ others) × AllByRecursion (λ octets. certificate_in octets ≡ None) passed
+
+-- Nothing is left then; or what was left is some values that are no certificates, the one that is handed out, and what is left then.
+abbrev pub PassesTo : List (List ℕ) → List (List ℕ) → Option read.Certificate → Type 0
+PassesTo old new None = new ≡ []
+PassesTo old new (Some c) = (octets : List ℕ) × (certificate_in octets ≡ Some (seen_certificate c)) × PassesOver old (octets ∷ new)
+
+-- Only values that are no certificates are gone, and one is left, the one that was to be read.
+abbrev pub StopsAtValue : List (List ℕ) → List (List ℕ) → Type 0
+StopsAtValue old new = PassesOver old new × (new ≢ [])

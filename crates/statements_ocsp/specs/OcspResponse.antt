@@ -35,13 +35,17 @@ seen_data read = record { responder = seen_responder read.responder; produced_at
 abbrev pub all_singles : Place → Result (List SingleResponse) (StatementRule × ℕ)
 all_singles list = singles 0 (members list).values
 
+-- responses: the next value as such a list
+abbrev pub next_singles : Members → Result (List SingleResponse × Members) (StatementRule × ℕ)
+next_singles = component 0x30 all_singles
+
 -- The checks in their order.
 unfoldable pub response_data : Place → Result ResponseData (StatementRule × ℕ)
 response_data value = do
   sequence ← is_a 0x30 Layout value
   responder ← responder (members value)
   produced_at ← generalized_time responder.1
-  responses ← component 0x30 all_singles produced_at.1
+  responses ← next_singles produced_at.1
   left ← optional_extensions responses.1
   done ← ended Layout left
   Ok (record { responder = responder.0; produced_at = produced_at.0; responses = responses.0 })
@@ -132,6 +136,10 @@ basic_response value = do
 unfoldable pub contained_response : Place → Result OcspResponse (StatementRule × ℕ)
 contained_response value = as_der (nested value) >>= λ inside. basic_response inside
 
+-- response: the next value as an OCTET STRING that holds one
+abbrev pub next_contained : Members → Result (OcspResponse × Members) (StatementRule × ℕ)
+next_contained = component 0x04 contained_response
+
 -- id-pkix-ocsp-basic (4.2.1): 1.3.6.1.5.5.7.48.1.1
 abbrev pub id_basic : List ℕ
 id_basic = 0x2B ∷ 0x06 ∷ 0x01 ∷ 0x05 ∷ 0x05 ∷ 0x07 ∷ 0x30 ∷ 0x01 ∷ 0x01 ∷ []
@@ -147,7 +155,7 @@ unfoldable pub response_bytes : Place → Result OcspResponse (StatementRule × 
 response_bytes value = do
   sequence ← is_a 0x30 Layout value
   left ← basic_type (members value)
-  response ← component 0x04 contained_response left
+  response ← next_contained left
   done ← ended Layout response.1
   Ok response.0
 

@@ -17,12 +17,16 @@ one_extension earlier value = do
   known ← check_that (not read.0.critical) CriticalUnknown value.at
   Ok read.1
 
+-- the extensions that these values are, one after the other: their types
+abbrev pub all_extensions : Members → Result Oids (StatementRule × ℕ)
+all_extensions left = each one_extension empty left.values
+
 -- Extensions ::= SEQUENCE SIZE (1..MAX) OF Extension
 unfoldable pub extensions : Place → Result (Unit {0}) (StatementRule × ℕ)
 extensions list = do
   sequence ← is_a 0x30 Layout list
   one ← some Layout (members list)
-  types ← each one_extension empty ((members list).values)
+  types ← all_extensions (members list)
   Ok tt
 
 abbrev pub extensions_of : Option Place → Members → Result Members (StatementRule × ℕ)

@@ -3,6 +3,7 @@
 use Rattle.std.specs.Prelude.{ℕ, ◌+◌, ℤ, nat_lt, List, [], ◌∷◌, Option, Some, None, Result, Ok, Err}
 use Rattle.asn.specs.Place.{Place}
 use Rattle.asn.specs.Members.{Members, members, left}
+use Rattle.asn.specs.declared.tlv.Cursor.{Cursor}
 use Rattle.asn.specs.Walk.{◌>>=◌, is_a, optional, ended, check_that}
 use Rattle.statements_parts.specs.Parts.{next_read}
 use Rattle.statements_parts.specs.declared.fault.StatementRule.{StatementRule}
@@ -24,6 +25,10 @@ pub record SingleResponse : Type 0 where
 
 abbrev pub seen_single : code.SingleResponse → SingleResponse
 seen_single read = record { id = seen_id read.id; status = read.status; this_update = read.this_update; next_update = read.next_update }
+
+-- the fields that were read, and what is left behind them
+abbrev pub seen_fields : code.SingleResponse × Cursor → SingleResponse × Members
+seen_fields read = (seen_single read.0, left read.1)
 
 -- nextUpdate [0] EXPLICIT GeneralizedTime OPTIONAL
 abbrev pub next_update_of : Option Place → Members → Result (Option ℤ × Members) (StatementRule × ℕ)
@@ -55,8 +60,8 @@ single value = do
   Ok read.0
 
 -- The single response with so many before it; of a list 256 are served, which is a choice of the profile.
-unfoldable pub single_behind : ℕ → Place → Result SingleResponse (StatementRule × ℕ)
-single_behind before value = do
+unfoldable pub single_after : ℕ → Place → Result SingleResponse (StatementRule × ℕ)
+single_after before value = do
   sequence ← is_a 0x30 Layout value
   served ← check_that (nat_lt before 256) TooManySingles value.at
   single value
@@ -65,7 +70,7 @@ single_behind before value = do
 abbrev pub singles : ℕ → List Place → Result (List SingleResponse) (StatementRule × ℕ)
 singles before [] = Ok []
 singles before (value ∷ values) = do
-  first ← single_behind before value
+  first ← single_after before value
   others ← singles (before + 1) values
   Ok (first ∷ others)
 

@@ -1,8 +1,9 @@
 //! What a single response says of its certificate (RFC 6960, 4.2.1).
 
 ghost use Rattle.std.specs.Prelude.{◌≡◌};
-ghost use Rattle.asn.specs.Reading.{seen_tlv, left, Gives};
+ghost use Rattle.asn.specs.Reading.{seen_tlv, Gives};
 ghost use Rattle.statements_parts.specs.Parts.{component};
+ghost use Rattle.asn.specs.Walk.{StepGives};
 ghost use Rattle.statements_ocsp.specs.CertificateStatus.{cert_status, null, reason, reason_of_contents, revocation_reason, revoked_info, status_at};
 
 use crate::generalized_time::take_time;
@@ -53,7 +54,7 @@ fn reason_at(value: Tlv<'_>) -> Result<u8, Refusal>
 
 #[tactic(auto, unfolding(statements_parts::specs::Parts::component))]
 fn take_code(members: &mut Cursor<'_>) -> Result<u8, Refusal>
-    ensures { Gives (λ code. (code, left members.new)) result (component 0x0A reason (left members.old)) }
+    ensures { StepGives (λ code. code) result members.old members.new (component 0x0A reason) }
 {
     reason_at(members.required(ENUMERATED, StatementRule::Layout)?)
 }
@@ -61,7 +62,7 @@ fn take_code(members: &mut Cursor<'_>) -> Result<u8, Refusal>
 /// Takes revocationReason [0] EXPLICIT CRLReason OPTIONAL.
 #[tactic(auto, unfolding(crate::specs::CertificateStatus::revocation_reason))]
 fn take_reason(members: &mut Cursor<'_>) -> Result<u8, Refusal>
-    ensures { Gives (λ code. (code, left members.new)) result (revocation_reason (left members.old)) }
+    ensures { StepGives (λ code. code) result members.old members.new revocation_reason }
 {
     let Some(explicit) = members.optional(0xA0) else {
         return Ok(0);
@@ -112,7 +113,7 @@ impl CertStatus {
     /// Takes a CertStatus.
     #[tactic(auto, unfolding(crate::specs::CertificateStatus::cert_status))]
     pub(crate) fn take(members: &mut Cursor<'_>) -> Result<CertStatus, Refusal>
-        ensures { Gives (λ status. (status, left members.new)) result (cert_status (left members.old)) }
+        ensures { StepGives (λ status. status) result members.old members.new cert_status }
     {
         status_at(members.next_or(StatementRule::Layout)?)
     }

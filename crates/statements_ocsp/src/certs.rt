@@ -1,8 +1,9 @@
 //! The certificates that a response brings with it (RFC 6960, 4.2.1).
 
-ghost use Rattle.std.specs.Prelude.{◌≡◌, ◌∷◌, [], IfOk, MatchOption};
-ghost use Rattle.asn.specs.Reading.{left, Gives};
-ghost use Rattle.statements_ocsp.specs.Certificates.{HandsOut};
+ghost use Rattle.std.specs.Prelude.{IfOk, OnErr};
+ghost use Rattle.statements_parts.specs.Steps.{HandsOutFirst};
+ghost use Rattle.asn.specs.Walk.{StepGives};
+ghost use Rattle.statements_ocsp.specs.Certificates.{HandsOut, PassesTo, StopsAtValue};
 ghost use Rattle.statements_ocsp.specs.OcspResponse.{certs, certs_left};
 
 use asn::{Cursor, SEQUENCE};
@@ -20,21 +21,27 @@ pub struct Certs<'a> {
 impl<'a> Certs<'a> {
     /// The whole encoding of the next value; `None` where none is left.
     pub fn next(&mut self) -> Option<&'a [u8]>
-        ensures { MatchOption result (certs_left self.old ≡ [])
-            (λ value. certs_left self.old ≡ value.now ∷ certs_left self.new) }
+        ensures { HandsOutFirst (λ x. x.now) (certs_left self.old) (certs_left self.new) result }
     {
         let value = self.members.as_mut()?.next()?;
         Some(value.whole)
     }
 
-    /// The next value that is a certificate; `None` where none is left. Values that are no certificates are passed over.
+    /// The next value that is a certificate; `None` where none is left. Values that are no certificates are passed over. If there is
+    /// no memory to read a value, it is the next one of a later call.
     pub fn next_certificate(&mut self, alloc: Global) -> Result<Option<Certificate<'a>>, AllocError>
-        ensures { IfOk result (HandsOut self.old self.new) }
+        ensures found { IfOk result (HandsOut self.old self.new) }
+        ensures passed { IfOk result (PassesTo (certs_left self.old) (certs_left self.new)) }
+        ensures kept { OnErr result (StopsAtValue (certs_left self.old) (certs_left self.new)) }
     {
-        while let Some(value) = self.next() {
+        let mut behind = *self;
+        while let Some(value) = behind.next() {
             match Certificate::read(alloc, value) {
-                Ok(certificate) => return Ok(Some(certificate)),
-                Err(CertFault::Refused(_, _)) => {}
+                Ok(certificate) => {
+                    *self = behind;
+                    return Ok(Some(certificate));
+                }
+                Err(CertFault::Refused(_, _)) => *self = behind,
                 Err(CertFault::Memory) => return Err(AllocError),
             }
         }
@@ -44,7 +51,7 @@ impl<'a> Certs<'a> {
     /// Takes certs [0] EXPLICIT SEQUENCE OF Certificate OPTIONAL.
     #[tactic(auto, unfolding(crate::specs::OcspResponse::certs))]
     pub(crate) fn take(members: &mut Cursor<'a>) -> Result<Certs<'a>, Refusal>
-        ensures { Gives (λ read. (certs_left read, left members.new)) result (certs (left members.old)) }
+        ensures { StepGives certs_left result members.old members.new certs }
     {
         let Some(explicit) = members.optional(0xA0) else {
             return Ok(Certs { members: None });

@@ -1,8 +1,9 @@
 //! Who answers (RFC 6960, 4.2.1).
 
-ghost use Rattle.asn.specs.Reading.{seen_tlv, left, Gives};
+ghost use Rattle.asn.specs.Reading.{seen_tlv, Gives};
 ghost use Rattle.names.specs.GeneralView.{name_contents};
-ghost use Rattle.statements_parts.specs.Parts.{component, distinguished_name};
+ghost use Rattle.statements_parts.specs.Parts.{next_name};
+ghost use Rattle.asn.specs.Walk.{StepGives};
 ghost use Rattle.statements_ocsp.specs.Responder.{keyed_responder, named_responder, responder, responder_at, seen_responder};
 
 use asn::{Cursor, OCTET_STRING, SEQUENCE, Tlv};
@@ -25,7 +26,7 @@ const BY_KEY: u8 = 0xA2;
 
 #[tactic(auto, unfolding(statements_parts::specs::Parts::component))]
 fn take_name<'a>(members: &mut Cursor<'a>) -> Result<Name<'a>, Refusal>
-    ensures { Gives (λ read. (name_contents read, left members.new)) result (component 0x30 distinguished_name (left members.old)) }
+    ensures { StepGives name_contents result members.old members.new next_name }
 {
     name_at(members.required(SEQUENCE, StatementRule::Layout)?)
 }
@@ -68,7 +69,7 @@ impl<'a> ResponderId<'a> {
     /// Takes responderID.
     #[tactic(auto, unfolding(crate::specs::Responder::responder))]
     pub(crate) fn take(members: &mut Cursor<'a>) -> Result<ResponderId<'a>, Refusal>
-        ensures { Gives (λ read. (seen_responder read, left members.new)) result (responder (left members.old)) }
+        ensures { StepGives seen_responder result members.old members.new responder }
     {
         ResponderId::read(members.next_or(StatementRule::Layout)?)
     }

@@ -4,8 +4,8 @@ ghost use Rattle.std.specs.Prelude.{◌≡◌};
 ghost use Rattle.asn.specs.Reading.{seen_tlv, left, Gives};
 ghost use Rattle.asn.specs.Judgement.{nested};
 ghost use Rattle.statements_parts.specs.Fault.{GivesUnlessFull, as_der};
-ghost use Rattle.statements_parts.specs.Parts.{component};
-ghost use Rattle.statements_ocsp.specs.OcspResponse.{basic_response, basic_type, contained_response, explicit_bytes, ocsp_response, ocsp_response_at, response_bytes, response_data, seen_data, seen_response, seen_signed, signature_part, successful};
+ghost use Rattle.statements_parts.specs.Steps.{StepGivesUnlessFull};
+ghost use Rattle.statements_ocsp.specs.OcspResponse.{basic_response, basic_type, explicit_bytes, next_contained, ocsp_response, ocsp_response_at, response_bytes, response_data, seen_data, seen_response, seen_signed, signature_part, successful};
 
 use crate::certs::Certs;
 use crate::generalized_time::take_time;
@@ -131,7 +131,7 @@ fn take_contained<'a>(
     alloc: Global,
     members: &mut Cursor<'a>,
 ) -> Result<Response<'a>, StatementFault>
-    ensures { GivesUnlessFull (λ read. (seen_response read, left members.new)) result (component 0x04 contained_response (left members.old)) }
+    ensures { StepGivesUnlessFull seen_response result members.old members.new next_contained }
 {
     let octet_string = members.required(OCTET_STRING, StatementRule::Layout)?;
     read_basic(alloc, contained_value(octet_string)?)

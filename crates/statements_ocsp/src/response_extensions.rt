@@ -1,11 +1,11 @@
 //! The extensions of responses and of single responses (RFC 6960, 4.4), of which none is known.
 
 ghost use Rattle.std.specs.Prelude.{◌≡◌};
-ghost use Rattle.std.specs.FinSet.{empty};
-ghost use Rattle.asn.specs.Reading.{seen_tlv, left, each};
+ghost use Rattle.asn.specs.Reading.{seen_tlv, left};
 ghost use Rattle.cert.specs.OidSet.{oids_in};
 ghost use Rattle.statements_parts.specs.Fault.{GivesUnlessFull};
-ghost use Rattle.statements_ocsp.specs.ResponseExtensions.{extensions, one_extension, optional_extensions};
+ghost use Rattle.statements_parts.specs.Steps.{PassesUnlessFull, TakesUnlessFull};
+ghost use Rattle.statements_ocsp.specs.ResponseExtensions.{all_extensions, extensions, one_extension, optional_extensions};
 
 use asn::{Cursor, SEQUENCE, Tlv};
 use cert::OidSet;
@@ -15,7 +15,7 @@ use std::alloc::Global;
 /// Checks one more extension, which must be of a type that none of the earlier ones has, and not critical.
 #[tactic(auto, unfolding(crate::specs::ResponseExtensions::one_extension, asn::specs::Walk::check_that))]
 fn check_extension<'a>(types: &mut OidSet<'a>, value: Tlv<'a>) -> Result<(), StatementFault>
-    ensures { GivesUnlessFull (λ _. oids_in types.new) result (one_extension (oids_in types.old) (seen_tlv value.entry)) }
+    ensures { TakesUnlessFull oids_in types.old types.new value.entry result one_extension }
 {
     let extension = new_extension(types, value)?;
     if extension.critical {
@@ -26,15 +26,12 @@ fn check_extension<'a>(types: &mut OidSet<'a>, value: Tlv<'a>) -> Result<(), Sta
 
 /// Checks the extensions that the values are, and gives their types.
 fn check_all<'a>(alloc: Global, members: Cursor<'a>) -> Result<OidSet<'a>, StatementFault>
-    ensures { GivesUnlessFull oids_in result (each one_extension empty ((left members.entry).values)) }
+    ensures { GivesUnlessFull oids_in result (all_extensions (left members.entry)) }
 {
     let mut members = members;
     let mut types = OidSet::new(alloc);
     while let Some(value) = members.next() {
-        match check_extension(&mut types, value) {
-            Ok(()) => {}
-            Err(fault) => return Err(fault),
-        }
+        check_extension(&mut types, value)?;
     }
     Ok(types)
 }
@@ -55,7 +52,7 @@ fn check_list(alloc: Global, list: Tlv<'_>) -> Result<(), StatementFault>
 /// more than 16.
 #[tactic(auto, unfolding(crate::specs::ResponseExtensions::optional_extensions))]
 pub(crate) fn skip_extensions(alloc: Global, members: &mut Cursor<'_>) -> Result<(), StatementFault>
-    ensures { GivesUnlessFull (λ _. left members.new) result (optional_extensions (left members.old)) }
+    ensures { PassesUnlessFull members.old members.new result optional_extensions }
 {
     let Some(explicit) = members.optional(0xA1) else {
         return Ok(());

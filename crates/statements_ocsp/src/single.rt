@@ -1,10 +1,11 @@
 //! Single responses (RFC 6960, 4.2.1).
 
-ghost use Rattle.asn.specs.Reading.{seen_tlv, left, Gives};
+ghost use Rattle.asn.specs.Reading.{seen_tlv, Gives};
 ghost use Rattle.statements_parts.specs.Fault.{GivesUnlessFull};
 ghost use Rattle.statements_parts.specs.Parts.{next_read};
+ghost use Rattle.asn.specs.Walk.{StepGives};
 ghost use Rattle.statements_ocsp.specs.CertificateId.{cert_id, seen_id};
-ghost use Rattle.statements_ocsp.specs.Single.{next_update, seen_single, single, single_again, single_fields};
+ghost use Rattle.statements_ocsp.specs.Single.{next_update, seen_fields, seen_single, single, single_again, single_fields};
 
 use crate::cert_id::CertId;
 use crate::cert_status::CertStatus;
@@ -29,7 +30,7 @@ pub struct SingleResponse<'a> {
 
 #[tactic(auto, unfolding(statements_parts::specs::Parts::next_read))]
 fn take_id<'a>(members: &mut Cursor<'a>) -> Result<CertId<'a>, Refusal>
-    ensures { Gives (λ id. (seen_id id, left members.new)) result (next_read cert_id (left members.old)) }
+    ensures { StepGives seen_id result members.old members.new (next_read cert_id) }
 {
     CertId::read(members.next_or(StatementRule::Layout)?)
 }
@@ -37,7 +38,7 @@ fn take_id<'a>(members: &mut Cursor<'a>) -> Result<CertId<'a>, Refusal>
 /// Takes nextUpdate [0] EXPLICIT GeneralizedTime OPTIONAL.
 #[tactic(auto, unfolding(crate::specs::Single::next_update))]
 fn take_next_update(members: &mut Cursor<'_>) -> Result<Option<i64>, Refusal>
-    ensures { Gives (λ moment. (moment, left members.new)) result (next_update (left members.old)) }
+    ensures { StepGives (λ moment. moment) result members.old members.new next_update }
 {
     let Some(explicit) = members.optional(0xA0) else {
         return Ok(None);
@@ -52,7 +53,7 @@ impl<'a> SingleResponse<'a> {
     /// The components up to nextUpdate, and what stands behind them.
     #[tactic(auto, unfolding(crate::specs::Single::single_fields))]
     fn fields(value: Tlv<'a>) -> Result<(SingleResponse<'a>, Cursor<'a>), Refusal>
-        ensures { Gives (λ read. (seen_single read.0, left read.1)) result (single_fields (seen_tlv value.entry)) }
+        ensures { Gives seen_fields result (single_fields (seen_tlv value.entry)) }
     {
         value.is_a(SEQUENCE, StatementRule::Layout)?;
         let mut members = value.members();

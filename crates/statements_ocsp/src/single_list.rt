@@ -1,13 +1,13 @@
 //! The single responses of a response, one after the other (RFC 6960, 4.2.1).
 
-ghost use Rattle.std.specs.Prelude.{◌≡◌, ◌<◌, ◌∷◌, [], MatchOption, OnOk, nat_lt};
+ghost use Rattle.std.specs.Prelude.{◌<◌, OnOk, nat_lt};
 ghost use Rattle.asn.specs.Reading.{seen_tlv, left, Gives};
 ghost use Rattle.asn.specs.Walk.{check_that};
 ghost use Rattle.statements_parts.specs.Fault.{GivesUnlessFull};
-ghost use Rattle.statements_parts.specs.Parts.{component};
+ghost use Rattle.statements_parts.specs.Steps.{HandsOutFirst, StepGivesUnlessFull};
 ghost use Rattle.statements_parts.specs.declared.fault.StatementRule.TheVariants.{TooManySingles};
-ghost use Rattle.statements_ocsp.specs.OcspResponse.{all_singles};
-ghost use Rattle.statements_ocsp.specs.Single.{checked, seen_single, single_behind, singles, singles_left};
+ghost use Rattle.statements_ocsp.specs.OcspResponse.{next_singles};
+ghost use Rattle.statements_ocsp.specs.Single.{checked, seen_single, single_after, singles, singles_left};
 
 use crate::single::SingleResponse;
 use asn::{Cursor, SEQUENCE, Tlv};
@@ -26,11 +26,13 @@ pub struct Singles<'a> {
 impl<'a> Singles<'a> {
     /// The next single response; `None` where none is left.
     pub fn next(&mut self) -> Option<SingleResponse<'a>>
-        ensures { MatchOption result (singles_left self.old ≡ [])
-            (λ single. singles_left self.old ≡ seen_single single ∷ singles_left self.new) }
+        ensures { HandsOutFirst seen_single (singles_left self.old) (singles_left self.new) result }
     {
-        let value = self.members.next()?;
-        SingleResponse::again(value).ok()
+        let mut behind = self.members;
+        let value = behind.next()?;
+        let single = SingleResponse::again(value).ok()?;
+        self.members = behind;
+        Some(single)
     }
 }
 
@@ -48,13 +50,13 @@ fn check_room(before: usize, at: usize) -> Result<(), Refusal>
 }
 
 /// The single response with so many before it.
-#[tactic(auto, unfolding(crate::specs::Single::single_behind))]
-fn read_behind<'a>(
+#[tactic(auto, unfolding(crate::specs::Single::single_after))]
+fn read_after<'a>(
     alloc: Global,
     before: usize,
     value: Tlv<'a>,
 ) -> Result<SingleResponse<'a>, StatementFault>
-    ensures walk { GivesUnlessFull seen_single result (single_behind before (seen_tlv value.entry)) }
+    ensures walk { GivesUnlessFull seen_single result (single_after before (seen_tlv value.entry)) }
     ensures room { OnOk result (before < 256) }
 {
     value.is_a(SEQUENCE, StatementRule::Layout)?;
@@ -69,10 +71,8 @@ fn check_singles(alloc: Global, members: Cursor<'_>) -> Result<(), StatementFaul
     let mut members = members;
     let mut before = 0;
     while let Some(value) = members.next() {
-        match read_behind(alloc, before, value) {
-            Ok(_) => before += 1,
-            Err(fault) => return Err(fault),
-        }
+        read_after(alloc, before, value)?;
+        before += 1;
     }
     Ok(())
 }
@@ -83,7 +83,7 @@ pub(crate) fn take_singles<'a>(
     alloc: Global,
     members: &mut Cursor<'a>,
 ) -> Result<Singles<'a>, StatementFault>
-    ensures { GivesUnlessFull (λ read. (singles_left read, left members.new)) result (component 0x30 all_singles (left members.old)) }
+    ensures { StepGivesUnlessFull singles_left result members.old members.new next_singles }
 {
     let list = members.required(SEQUENCE, StatementRule::Layout)?;
     let singles = list.members();

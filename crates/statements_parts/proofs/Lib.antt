@@ -1,3 +1,4 @@
+mod KnownTypes
 mod NewTypes
 mod PartLaws
 pub mod Laws

@@ -1,5 +1,6 @@
 pub mod Fault
 pub mod Parts
+pub mod Steps
 pub use Rattle.asn.specs.Place
 pub use Rattle.asn.specs.Members
 pub use Rattle.asn.specs.Walk

@@ -6,6 +6,7 @@ use Rattle.asn.specs.Members.{Members}
 use Rattle.asn.specs.Walk.{◌>>=◌, required, next_or, check_that}
 use Rattle.names.specs.NameLayout.{name}
 use Rattle.names.specs.GeneralLayout.{NameContents, contents_at}
+use Rattle.cert.specs.AlgorithmIdentifier.{AlgorithmIdentifier, algorithm_identifier}
 use Rattle.cert.specs.BitString.{bits_in, has_no_unused_bits}
 use Rattle.cert.specs.Extension.{Extension, extension}
 use Rattle.cert.specs.OidSet.{Oids}
@@ -32,13 +33,29 @@ component identifier read left = do
 unfoldable pub serial_number : Place → Result (List ℕ) (StatementRule × ℕ)
 serial_number value = check_that (is_serial (body value)) Layout value.at >>= λ short. Ok (body value)
 
+-- the next value as a serial number
+abbrev pub next_serial : Members → Result (List ℕ × Members) (StatementRule × ℕ)
+next_serial = component 0x02 serial_number
+
+-- the next value as an algorithm identifier (RFC 5280, 4.1.1.2)
+abbrev pub next_algorithm : Members → Result (AlgorithmIdentifier × Members) (StatementRule × ℕ)
+next_algorithm = next_read (algorithm_identifier Layout)
+
 -- a name (RFC 5280, 4.1.2.4), with its fault as one of the statement
 unfoldable pub distinguished_name : Place → Result NameContents (StatementRule × ℕ)
 distinguished_name value = as_name (name value) >>= λ done. Ok (contents_at value)
 
+-- the next value as a name
+abbrev pub next_name : Members → Result (NameContents × Members) (StatementRule × ℕ)
+next_name = component 0x30 distinguished_name
+
 -- the signature (RFC 5280, 5.1.1.3; RFC 6960, 4.2.1): a BIT STRING of octets, with no bit unused
 unfoldable pub signature_value : Place → Result (List ℕ) (StatementRule × ℕ)
 signature_value value = check_that (has_no_unused_bits (body value)) Layout value.at >>= λ whole. Ok (bits_in (body value))
+
+-- the next value as a signature
+abbrev pub next_signature : Members → Result (List ℕ × Members) (StatementRule × ℕ)
+next_signature = component 0x03 signature_value
 
 -- an extension of a type that none of the earlier ones of its list has (RFC 5280, 4.2), and their types with its own
 unfoldable pub new_extension : Oids → Place → Result (Extension × Oids) (StatementRule × ℕ)

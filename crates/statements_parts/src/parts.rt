@@ -2,14 +2,14 @@
 
 ghost use Rattle.std.specs.Prelude.{◌≡◌};
 ghost use Rattle.asn.specs.Reading.{seen_tlv, left, Gives};
+ghost use Rattle.asn.specs.Walk.{any, StepGives};
 ghost use Rattle.asn.specs.Judgement.{outermost as asn_outermost};
 ghost use Rattle.names.specs.GeneralView.{name_contents};
-ghost use Rattle.cert.specs.AlgorithmIdentifier.{algorithm_identifier, seen_algorithm};
-ghost use Rattle.cert.specs.Extension.{seen_extension};
+ghost use Rattle.cert.specs.AlgorithmIdentifier.{seen_algorithm};
 ghost use Rattle.cert.specs.OidSet.{oids_in};
-ghost use Rattle.statements_parts.specs.declared.fault.StatementRule.TheVariants.{Layout};
-ghost use Rattle.statements_parts.specs.Fault.{GivesUnlessFull, as_der};
-ghost use Rattle.statements_parts.specs.Parts.{component, distinguished_name, is_reason, new_extension, next_read, serial_number, signature_value};
+ghost use Rattle.statements_parts.specs.Fault.{as_der};
+ghost use Rattle.statements_parts.specs.Parts.{distinguished_name, is_reason, next_algorithm, next_serial, next_signature, serial_number, signature_value};
+ghost use Rattle.statements_parts.specs.Steps.{AddsExtension, OnRefused};
 
 use crate::fault::{Refusal, StatementFault, StatementRule, name_refusal};
 use asn::{BIT_STRING, Cursor, INTEGER, Tlv};
@@ -41,7 +41,8 @@ fn serial_at(value: Tlv<'_>) -> Result<&[u8], Refusal>
 /// Takes a serial number, and gives the contents of its INTEGER.
 #[tactic(auto, unfolding(crate::specs::Parts::component))]
 pub fn take_serial<'a>(members: &mut Cursor<'a>) -> Result<&'a [u8], Refusal>
-    ensures { Gives (λ contents. (contents.now, left members.new)) result (component 0x02 serial_number (left members.old)) }
+    ensures walk { StepGives (λ contents. contents.now) result members.old members.new next_serial }
+    ensures passed { left members.new ≡ (any (left members.old)).1 }
 {
     serial_at(members.required(INTEGER, StatementRule::Layout)?)
 }
@@ -57,7 +58,8 @@ pub fn name_at(value: Tlv<'_>) -> Result<Name<'_>, Refusal>
 /// Takes an algorithm identifier, whose parameters are not looked at.
 #[tactic(auto, unfolding(crate::specs::Parts::next_read))]
 pub fn take_algorithm<'a>(members: &mut Cursor<'a>) -> Result<AlgorithmIdentifier<'a>, Refusal>
-    ensures { Gives (λ read. (seen_algorithm read, left members.new)) result (next_read (algorithm_identifier Layout) (left members.old)) }
+    ensures walk { StepGives seen_algorithm result members.old members.new next_algorithm }
+    ensures passed { left members.new ≡ (any (left members.old)).1 }
 {
     AlgorithmIdentifier::read(
         members.next_or(StatementRule::Layout)?,
@@ -80,7 +82,8 @@ fn signature_at(value: Tlv<'_>) -> Result<&[u8], Refusal>
 /// Takes a signature BIT STRING, and gives its octets.
 #[tactic(auto, unfolding(crate::specs::Parts::component))]
 pub fn take_signature<'a>(members: &mut Cursor<'a>) -> Result<&'a [u8], Refusal>
-    ensures { Gives (λ octets. (octets.now, left members.new)) result (component 0x03 signature_value (left members.old)) }
+    ensures walk { StepGives (λ octets. octets.now) result members.old members.new next_signature }
+    ensures passed { left members.new ≡ (any (left members.old)).1 }
 {
     signature_at(members.required(BIT_STRING, StatementRule::Layout)?)
 }
@@ -92,7 +95,8 @@ pub fn new_extension<'a>(
     types: &mut OidSet<'a>,
     value: Tlv<'a>,
 ) -> Result<Extension<'a>, StatementFault>
-    ensures { GivesUnlessFull (λ read. (seen_extension read, oids_in types.new)) result (new_extension (oids_in types.old) (seen_tlv value.entry)) }
+    ensures walk { AddsExtension types.old types.new value.entry result }
+    ensures kept { OnRefused result (oids_in types.new ≡ oids_in types.old) }
 {
     let extension = Extension::read(value, StatementRule::Layout)?;
     if !types.insert(extension.oid.contents())? {

@@ -11,13 +11,13 @@ pub overflow_add-number : goal.overflow_add-number
 overflow_add-number g c =
     let short = certs_short c.args.response.now.certs in
     let was = c.loop-certificate.invariant.counted in
-    let given = (handed _ _ _ _ c.in-Some.is c.in_ok-certificate.ensures).1 in
+    let given = (handed _ _ _ _ c.in-Some.is c.in_ok-certificate.ensures.found).1 in
     omega (arith, short, was, given)
 
 pub loop-certificate-preserved : goal.loop-certificate-preserved
 loop-certificate-preserved g c =
     let was = c.loop-certificate.invariant in
-    let given = handed _ _ _ _ c.in-Some.is c.in_ok-certificate.ensures in
+    let given = handed _ _ _ _ c.in-Some.is c.in_ok-certificate.ensures.found in
     let key_info = seen_key_info c.args.key_info.now in
     let response = seen_response c.args.response.now in
     let certificate = seen_certificate c.in-Some.certificate in
