@@ -39,7 +39,8 @@ fn singles_if_genuine<'a, V: Verifier>(
     response: &Response<'a>,
 ) -> Result<Singles<'a>, StatementFault>
     ensures said { AnswersUnlessFull (λ singles. singles) result
-        (response_said (V.accepts verifier.now) (seen_certificate issuer.now) (seen_response response.now)) }
+        (response_said (V.accepts verifier.now) (seen_certificate issuer.now)
+        (seen_response response.now)) }
     ensures memory { OnFull result (MayBeSigned (V.accepts verifier.now) issuer.now response.now) }
 {
     let signer = Signer::find(alloc, verifier, issuer, response)?;
@@ -55,7 +56,8 @@ fn facts_if_genuine<'a, V: Verifier>(
     response: &Response<'a>,
 ) -> Result<OcspFacts<'a>, StatementFault>
     ensures said { AnswersUnlessFull (λ facts. facts.singles) result
-        (response_said (V.accepts verifier.now) (seen_certificate issuer.now) (seen_response response.now)) }
+        (response_said (V.accepts verifier.now) (seen_certificate issuer.now)
+        (seen_response response.now)) }
     ensures issuer { IfOk result (λ facts. IsSubjectOf issuer.now facts.issuer) }
     ensures memory { OnFull result (MayBeSigned (V.accepts verifier.now) issuer.now response.now) }
 {

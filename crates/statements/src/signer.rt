@@ -32,7 +32,8 @@ fn first_delegate<'a, V: Verifier>(
     response: &Response<'a>,
 ) -> Result<Option<Certificate<'a>>, StatementFault>
     ensures first { AnswersUnlessFull (option_map seen_certificate) result
-        (Ok (delegate_of (V.accepts verifier.now) (seen_certificate issuer.now) (seen_response response.now))) }
+        (Ok (delegate_of (V.accepts verifier.now) (seen_certificate issuer.now)
+        (seen_response response.now))) }
     ensures memory { OnFull result (certs_left response.now.certs ≢ []) }
 {
     let mut certs = response.certs;
@@ -53,7 +54,8 @@ impl<'a> Signer<'a> {
         response: &Response<'a>,
     ) -> Result<Signer<'a>, StatementFault>
         ensures found { AnswersUnlessFull seen_signer result
-            (signer_or_fault (signer_of (V.accepts verifier.now) (seen_certificate issuer.now) (seen_response response.now))) }
+            (signer_or_fault (signer_of (V.accepts verifier.now) (seen_certificate issuer.now)
+            (seen_response response.now))) }
         ensures own { OnFull result (DoesNotSign (V.accepts verifier.now) issuer.now response.now) }
         ensures brought { OnFull result (certs_left response.now.certs ≢ []) }
     {

@@ -91,7 +91,8 @@ pub(crate) fn singles_said<'a>(
     signer: &Signer<'_>,
 ) -> Result<Vec<Single<'a>>, AllocError>
     ensures { IfOk result (λ all. map seen_single all.items ≡
-        singles_of (seen_certificate issuer.now) (seen_response response.now) (seen_signer signer.now)) }
+        singles_of (seen_certificate issuer.now) (seen_response response.now)
+        (seen_signer signer.now)) }
 {
     let key_hash = hash_of_key(issuer);
     let mut all = Vec::new(alloc);

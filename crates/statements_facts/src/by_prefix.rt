@@ -54,7 +54,8 @@ pub(crate) fn arranged_by_prefix(all: Vec<Prefixed<'_>>) -> Vec<Prefixed<'_>>
 /// Sorted by their prefixes; those with one prefix stay in their order.
 pub(crate) fn sorted_by_prefix(all: Vec<Prefixed<'_>>) -> Result<Vec<Prefixed<'_>>, AllocError>
     ensures { IfOk result (λ sorted. (serial : List ℕ) →
-        first_reason (map seen_prefixed sorted.items) serial ≡ first_reason (map seen_prefixed all.entry.items) serial) }
+        first_reason (map seen_prefixed sorted.items) serial
+        ≡ first_reason (map seen_prefixed all.entry.items) serial) }
 {
     let mut all = all;
     all.sort_by_key(|entry| entry.prefix)?;

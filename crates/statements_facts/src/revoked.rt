@@ -50,7 +50,8 @@ fn ascend(listed: &[Listed<'_>]) -> bool
 fn first_of_each(listed: Vec<Listed<'_>>) -> Result<Vec<Listed<'_>>, AllocError>
     ensures ascend { IfOk result (λ left. IsAscending (map seen_listed left.items)) }
     ensures reasons { IfOk result (λ left. (serial : List ℕ) →
-        first_reason (map seen_listed left.items) serial ≡ first_reason (map seen_listed listed.entry.items) serial) }
+        first_reason (map seen_listed left.items) serial
+        ≡ first_reason (map seen_listed listed.entry.items) serial) }
 {
     let mut listed = listed;
     listed.sort_by_key(|entry| entry.serial)?;
@@ -62,7 +63,8 @@ fn first_of_each(listed: Vec<Listed<'_>>) -> Result<Vec<Listed<'_>>, AllocError>
 fn first_of_each_by_prefix(listed: Vec<Listed<'_>>) -> Result<Vec<Listed<'_>>, AllocError>
     ensures ascend { IfOk result (λ left. IsAscending (map seen_listed left.items)) }
     ensures reasons { IfOk result (λ left. (serial : List ℕ) →
-        first_reason (map seen_listed left.items) serial ≡ first_reason (map seen_listed listed.entry.items) serial) }
+        first_reason (map seen_listed left.items) serial
+        ≡ first_reason (map seen_listed listed.entry.items) serial) }
 {
     let prefixed = beside_prefixes(*listed.allocator(), listed.as_slice())?;
     let sorted = sorted_by_prefix(prefixed)?;
@@ -74,7 +76,8 @@ fn first_of_each_by_prefix(listed: Vec<Listed<'_>>) -> Result<Vec<Listed<'_>>, A
 fn each_once(listed: Vec<Listed<'_>>) -> Result<Vec<Listed<'_>>, AllocError>
     ensures ascend { IfOk result (λ left. IsAscending (map seen_listed left.items)) }
     ensures reasons { IfOk result (λ left. (serial : List ℕ) →
-        first_reason (map seen_listed left.items) serial ≡ first_reason (map seen_listed listed.entry.items) serial) }
+        first_reason (map seen_listed left.items) serial
+        ≡ first_reason (map seen_listed listed.entry.items) serial) }
 {
     if ascend(listed.as_slice()) {
         return Ok(listed);
@@ -95,7 +98,8 @@ impl<'a> RevokedSerials<'a> {
     pub fn of_entries(listed: Vec<Listed<'a>>) -> Result<RevokedSerials<'a>, AllocError>
         ensures ascend { IfOk result (λ revoked. IsAscending revoked) }
         ensures reasons { IfOk result (λ revoked. (serial : List ℕ) →
-            first_reason revoked serial ≡ first_reason (map seen_listed listed.entry.items) serial) }
+            first_reason revoked serial
+            ≡ first_reason (map seen_listed listed.entry.items) serial) }
     {
         let listed = each_once(listed)?;
         Ok(RevokedSerials { listed })
