@@ -22,7 +22,7 @@ use Rattle.relying.specs.declared.node.Node.{Node}
 use Rattle.relying.proofs.Happening.{runs_then, runs_are_runs}
 
 -- the verdict is Invalid, whatever is held, or the connection was open
-Fails : Accepts → Query → Verdict → Type 0
+abbrev Fails : Accepts → Query → Verdict → Type 0
 Fails accepts query v = (j : ℕ) × (reason : Reason) × (v ≡ Invalid j reason) × IsFirstFailure accepts query j reason
 
 which : (accepts : Accepts) (query : Query) (live : Bool) (v : Verdict) → IsInvalidOrOpen accepts query live v → IsTrue live ⊎ Fails accepts query v

@@ -5,7 +5,7 @@ use Rattle.sqlite.specs.Effect.{Database}
 use Rattle.sqlite_trees.specs.Tree.{Trees}
 use Rattle.statements_facts.specs.declared.scope.Scope.{Scope}
 use Rattle.statements_facts.specs.Listed.{first_reason}
-use Rattle.statements_facts.specs.Statement.{IssuerIdentity, Window, CrlFact, OcspFact, Holdings, CrlAnswer, answer_for}
+use Rattle.statements_facts.specs.Statement.{IssuerIdentity, CrlFact, OcspFact, Holdings, CrlAnswer, answer_for}
 use Rattle.store_sql.specs.declared.origin.Origin.{Origin}
 use Rattle.store_sql.specs.Tables.{store_schema}
 use Rattle.store_rows.specs.declared.crl.Head.{Head}

@@ -1,7 +1,6 @@
 -- The transaction ends.
-use Rattle.std.proofs.Common.{◌≡◌, true, List, sym, subst, inr}
+use Rattle.std.proofs.Common.{◌≡◌, true, List, subst, inr}
 use Rattle.sqlite.specs.Effect.{Database}
-use Rattle.sqlite.specs.Schema.{Schema}
 use Rattle.sqlite.specs.Held.{Held, state}
 use Rattle.sqlite.specs.State.{State, KeepsCommit, IsRolledBack}
 use Rattle.sqlite.specs.Tree.{Trees}
@@ -9,7 +8,6 @@ use Rattle.sqlite.specs.Store.{Ghosts}
 use Rattle.sqlite.proofs.InsideLemmas.{unchanged_keeps, keeps_then}
 use Rattle.statements_facts.specs.Statement.{Holdings}
 use Rattle.store_sql.specs.declared.fault.StoreFault.{StoreFault}
-use Rattle.store_sql.specs.Tables.{store_schema}
 use Rattle.store_maps.specs.Held.{IsStoreOf}
 use Rattle.store_maps.proofs.HeldLaws.{trees_of}
 use Rattle.store_adoption.specs.Version1.{UnscopedCrl, UnscopedEntry, IsVersion1Of, HasLists}

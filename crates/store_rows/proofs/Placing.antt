@@ -166,7 +166,7 @@ placed_without es i s placed = record {
     either : (P : List EntryRow → Type 0) (j t : ℕ) → P (filter (is_under j t) es) → P [] → P (filter (is_under j t) (without i s es))
     either P j t same none = elim (which es i s j t) [ inl gone ↦ rw gone none | inr kept ↦ rw kept same ]
 
--- ---- a row is put after its listed_in's last
+-- ---- a row is put after the last of its entries
 
 below_tells : (a b : ℕ) → ((nat_lt a b ≡ true) × (a < b)) ⊎ ((nat_lt a b ≡ false) × (b ≤ a))
 below_tells a b = elim (cases_Bool (nat_lt a b)) [

@@ -45,10 +45,8 @@ fn has_at<S: Alter>(
     ensures finds { FindsIn S.Store tx.old tx.new (TellsEntryAt list.now index listed.now) result }
     ensures survives { CommitsNothing (inside S.Store tx.old) (inside S.Store tx.new) }
 {
-    match stands_at(tx, list, index, listed.serial) {
-        Ok(beside) => Ok(is_same(beside, listed.reason)),
-        Err(fault) => Err(fault),
-    }
+    let beside = stands_at(tx, list, index, listed.serial)?;
+    Ok(is_same(beside, listed.reason))
 }
 
 /// Whether the list has nothing at this index.
@@ -64,10 +62,8 @@ fn ends_at<S: Alter>(
     ensures finds { FindsIn S.Store tx.old tx.new (TellsEndAt list.now index) result }
     ensures survives { CommitsNothing (inside S.Store tx.old) (inside S.Store tx.new) }
 {
-    match stands_at(tx, list, index, &[]) {
-        Ok(beside) => Ok(is_nothing(beside)),
-        Err(fault) => Err(fault),
-    }
+    let beside = stands_at(tx, list, index, &[])?;
+    Ok(is_nothing(beside))
 }
 
 /// Whether the entries of a list are these: a look-up for each, up to the first that is another. Both ascend, so that nothing

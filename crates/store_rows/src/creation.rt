@@ -18,13 +18,9 @@ fn make_first<S: Alter>(tx: &mut Transaction<'_, S>) -> Result<(), StoreFault>
     ensures builds { BuildsIn S.Store tx.old tx.new no_schema meta_and_issuers result }
     ensures survives { CommitsNothing (inside S.Store tx.old) (inside S.Store tx.new) }
 {
-    if let Err(error) = create_meta(tx) {
-        return Err(StoreFault::from(error));
-    }
-    match create_issuers(tx) {
-        Ok(_) => Ok(()),
-        Err(error) => Err(StoreFault::from(error)),
-    }
+    create_meta(tx)?;
+    create_issuers(tx)?;
+    Ok(())
 }
 
 fn make_next<S: Alter>(tx: &mut Transaction<'_, S>) -> Result<(), StoreFault>
@@ -33,13 +29,9 @@ fn make_next<S: Alter>(tx: &mut Transaction<'_, S>) -> Result<(), StoreFault>
     ensures builds { BuildsIn S.Store tx.old tx.new meta_and_issuers (half_schema Made) result }
     ensures survives { CommitsNothing (inside S.Store tx.old) (inside S.Store tx.new) }
 {
-    if let Err(error) = create_ocsp(tx) {
-        return Err(StoreFault::from(error));
-    }
-    match create_scoped_crls(tx) {
-        Ok(_) => Ok(()),
-        Err(error) => Err(StoreFault::from(error)),
-    }
+    create_ocsp(tx)?;
+    create_scoped_crls(tx)?;
+    Ok(())
 }
 
 fn make_last<S: Alter>(tx: &mut Transaction<'_, S>) -> Result<(), StoreFault>
@@ -48,13 +40,9 @@ fn make_last<S: Alter>(tx: &mut Transaction<'_, S>) -> Result<(), StoreFault>
     ensures makes { MakesIn S.Store tx.old tx.new (half_schema Made) result }
     ensures survives { CommitsNothing (inside S.Store tx.old) (inside S.Store tx.new) }
 {
-    if let Err(error) = create_scoped_entries(tx) {
-        return Err(StoreFault::from(error));
-    }
-    match insert_version(tx, 2) {
-        Ok(_) => Ok(()),
-        Err(error) => Err(StoreFault::from(error)),
-    }
+    create_scoped_entries(tx)?;
+    insert_version(tx, 2)?;
+    Ok(())
 }
 
 /// Makes the tables of a new store in an empty database.
@@ -64,14 +52,7 @@ pub fn make_tables<S: Alter>(tx: &mut Transaction<'_, S>) -> Result<(), StoreFau
     ensures makes { MakesIn S.Store tx.old tx.new no_schema result }
     ensures survives { CommitsNothing (inside S.Store tx.old) (inside S.Store tx.new) }
 {
-    if let Err(fault) = make_first(tx) {
-        return Err(fault);
-    }
-    if let Err(fault) = make_next(tx) {
-        return Err(fault);
-    }
-    match make_last(tx) {
-        Ok(()) => Ok(()),
-        Err(fault) => Err(fault),
-    }
+    make_first(tx)?;
+    make_next(tx)?;
+    make_last(tx)
 }

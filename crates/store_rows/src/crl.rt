@@ -89,10 +89,7 @@ pub fn find_crl<S: Alter>(
     ensures survives { CommitsNothing (inside S.Store tx.old) (inside S.Store tx.new) }
 {
     let key = key_of(issuer, scope);
-    let rows = match crl_rows(tx, &key) {
-        Ok(rows) => rows,
-        Err(error) => return Err(StoreFault::from(error)),
-    };
+    let rows = crl_rows(tx, &key)?;
     read_heads(rows.as_slice())
 }
 
@@ -142,11 +139,7 @@ pub fn replace_crl<S: Alter>(
     ensures survives { CommitsNothing (inside S.Store tx.old) (inside S.Store tx.new) }
 {
     let key = key_of(issuer, scope);
-    if let Err(error) = delete_crl(tx, &key) {
-        return Err(StoreFault::from(error));
-    }
-    match add_crl(tx, &key, head) {
-        Ok(_) => Ok(()),
-        Err(error) => Err(StoreFault::from(error)),
-    }
+    delete_crl(tx, &key)?;
+    add_crl(tx, &key, head)?;
+    Ok(())
 }

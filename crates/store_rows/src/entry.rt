@@ -89,10 +89,7 @@ pub(crate) fn stands_at<S: Alter>(
     ensures survives { CommitsNothing (inside S.Store tx.old) (inside S.Store tx.new) }
 {
     let place = base_of(list) + index;
-    let rows = match rows_at(tx, place) {
-        Ok(rows) => rows,
-        Err(error) => return Err(StoreFault::from(error)),
-    };
+    let rows = rows_at(tx, place)?;
     read_entries(rows.as_slice(), serial)
 }
 

@@ -42,10 +42,7 @@ pub fn find_issuer<S: Alter>(
     ensures room { IfOk result (λ id. IfSome id HasRoom) }
     ensures survives { CommitsNothing (inside S.Store tx.old) (inside S.Store tx.new) }
 {
-    let rows = match issuer_rows(tx, issuer.name.as_slice(), issuer.key_info) {
-        Ok(rows) => rows,
-        Err(error) => return Err(StoreFault::from(error)),
-    };
+    let rows = issuer_rows(tx, issuer.name.as_slice(), issuer.key_info)?;
     read_ids(rows.as_slice())
 }
 
@@ -59,8 +56,6 @@ pub fn add_issuer<S: Alter>(
     ensures changes { ChangesIn S.Store tx.old tx.new (with_issuer (issuer_of issuer.now)) result }
     ensures survives { CommitsNothing (inside S.Store tx.old) (inside S.Store tx.new) }
 {
-    match insert_issuer(tx, issuer.name.as_slice(), issuer.key_info) {
-        Ok(_) => Ok(()),
-        Err(error) => Err(StoreFault::from(error)),
-    }
+    insert_issuer(tx, issuer.name.as_slice(), issuer.key_info)?;
+    Ok(())
 }

@@ -128,10 +128,7 @@ pub fn find_single<'x, S: Alter>(
     ensures survives { CommitsNothing (inside S.Store tx.old) (inside S.Store tx.new) }
 {
     let key = key_of(issuer, name_hash, serial);
-    let rows = match single_rows(tx, &key) {
-        Ok(rows) => rows,
-        Err(error) => return Err(StoreFault::from(error)),
-    };
+    let rows = single_rows(tx, &key)?;
     read_all(rows.as_slice())
 }
 
@@ -160,12 +157,8 @@ pub fn replace_single<S: Alter>(
     ensures survives { CommitsNothing (inside S.Store tx.old) (inside S.Store tx.new) }
 {
     let key = key_of(issuer, single.name_hash, single.serial);
-    if let Err(error) = delete_single(tx, &key) {
-        return Err(StoreFault::from(error));
-    }
+    delete_single(tx, &key)?;
     let said = columns_of(single);
-    match insert_single(tx, &key, &said) {
-        Ok(_) => Ok(()),
-        Err(error) => Err(StoreFault::from(error)),
-    }
+    insert_single(tx, &key, &said)?;
+    Ok(())
 }

@@ -7,7 +7,6 @@ use Rattle.statements_facts.specs.Coming.{CrlIsTakenAs, OcspIsTakenAs}
 use Rattle.statements_facts.specs.Fact.{crl_fact}
 use Rattle.statements_facts.specs.Listed.{ListedSerial}
 use Rattle.statements_facts.specs.Single.{seen_single}
-use Rattle.statements_facts.specs.Statement.{OcspFact}
 use Rattle.store_rows.specs.declared.crl.Head.{Head}
 use Rattle.store_rows.specs.declared.entry.ListKey.{ListKey}
 use Rattle.store_rows.specs.declared.single.HeldStatus.{HeldStatus}

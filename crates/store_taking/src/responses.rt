@@ -107,9 +107,6 @@ pub fn take_single<S: Alter>(
     ensures open { SucceedsOnlyIfOpen S.Store tx.old tx.new result }
     ensures survives { CommitsNothing (inside S.Store tx.old) (inside S.Store tx.new) }
 {
-    let id = match issuer_id(tx, issuer) {
-        Ok(id) => id,
-        Err(fault) => return Err(fault),
-    };
+    let id = issuer_id(tx, issuer)?;
     take_under(tx, id, issuer, single)
 }

@@ -5,7 +5,7 @@ use Rattle.statements_facts.specs.Fact.{issuer_of}
 use Rattle.store_rows.proofs.Issuers.{issuer_moves}
 use Rattle.store_rows.proofs.issuer.add_issuer.Goals as goal
 
-pub returns-in-Ok-clause-changes : goal.returns-in-Ok-clause-changes
-returns-in-Ok-clause-changes g c clean =
+pub returns-clause-changes : goal.returns-clause-changes
+returns-clause-changes g c clean =
     let first : HasCleanDisk (state g.S.Store c.args.tx.now.conn.now) = omega (arith, clean, c.insert_issuer.ensures.survives.clean) in
-    issuer_moves _ _ (issuer_of c.args.issuer.now) c.in-Ok.field-0 (rw c.as_slice.ensures at (c.in-Ok.ensures.runs clean (c.requires.inside first)))
+    issuer_moves _ _ (issuer_of c.args.issuer.now) _ (rw c.as_slice.ensures at (c.in_ok-insert_issuer.ensures.runs clean (c.requires.inside first)))

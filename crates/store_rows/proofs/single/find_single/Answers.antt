@@ -8,5 +8,5 @@ use Rattle.store_rows.proofs.single.find_single.Goals as goal
 pub returns-clause-finds : goal.returns-clause-finds
 returns-clause-finds g c clean =
     let first : HasCleanDisk (state g.S.Store c.args.tx.now.conn.now) = omega (arith, clean, c.single_rows.ensures.survives.clean) in
-    single_found _ _ c.args.issuer c.args.name_hash.now c.args.serial.now c.in-Ok.rows.items c.read_all.result (option_map seen_held_status)
-    (rw (← c.as_slice.ensures.value) c.read_all.ensures.ok) (rw (← c.as_slice.ensures.value) c.read_all.ensures.schema) (c.requires.inside first) (rw (c.key_of-key.ensures.issuer, c.key_of-key.ensures.name_hash, c.key_of-key.ensures.serial) at (c.in-Ok.ensures.shows clean))
+    single_found _ _ c.args.issuer c.args.name_hash.now c.args.serial.now c.in_ok-rows.rows.items c.read_all.result (option_map seen_held_status)
+    (rw (← c.as_slice.ensures.value) c.read_all.ensures.ok) (rw (← c.as_slice.ensures.value) c.read_all.ensures.schema) (c.requires.inside first) (rw (c.key_of-key.ensures.issuer, c.key_of-key.ensures.name_hash, c.key_of-key.ensures.serial) at (c.in_ok-rows.ensures.shows clean))

@@ -8,8 +8,8 @@ use Rattle.store_taking.proofs.lists.take_list.Goals as goal
 
 pub returns-clause-takes : goal.returns-clause-takes
 returns-clause-takes g c clean =
-    goes_then _ _ _ IsStoreOf (HasIssuer (issuer_of c.args.list.now.issuer) c.in-Ok.id) (IsTaken (Fact.OfCrl (crl_slot c.args.list.now) (crl_fact c.args.list.now))) c.take_under.result
-    (c.in-Ok.ensures.goes (omega (arith, clean, c.take_under.ensures.survives.clean))) (c.take_under.ensures.goes clean)
+    goes_then _ _ _ IsStoreOf (HasIssuer (issuer_of c.args.list.now.issuer) c.in_ok-id.id) (IsTaken (Fact.OfCrl (crl_slot c.args.list.now) (crl_fact c.args.list.now))) c.take_under.result
+    (c.in_ok-id.ensures.goes (omega (arith, clean, c.take_under.ensures.survives.clean))) (c.take_under.ensures.goes clean)
 
 pub returns-clause-open : goal.returns-clause-open
-returns-clause-open g c clean = on_ok c.take_under.result _ (c.in-Ok.ensures.open (omega (arith, clean, c.take_under.ensures.survives.clean)))
+returns-clause-open g c clean = on_ok c.take_under.result _ (c.in_ok-id.ensures.open (omega (arith, clean, c.take_under.ensures.survives.clean)))
