@@ -17,7 +17,7 @@ use Rattle.cli.specs.declared.asking.Asked.{Asked}
 use Rattle.cli.specs.Asked.{AreAsked, IsAsked, IsQueryOf, path_texts, purpose_contents}
 use Rattle.cli.specs.Believed.{accepted_by}
 use Rattle.cli.specs.Delivered.{IsCertificateText}
-use Rattle.cli.specs.Judged.{IsCompared, IsComparedOf, IsFailureOfCheck, IsFailureOfComparison, IsJudged, IsJudgedOf, IsNotCompared, IsNotJudged}
+use Rattle.cli.specs.Checked.{IsCompared, IsComparedOf, IsFailureOfCheck, IsFailureOfComparison, IsChecked, IsCheckedOf, IsNotCompared, IsNotChecked}
 use Rattle.cli.specs.Standing.{Leaving, Standing}
 
 -- texts are those of one list of certificates
@@ -75,11 +75,11 @@ is_asked holds question it query are of =
     }
 
 -- the verdict and the comparison of what is asked are those that are asked for
-pub judged_asked : {E : Type 0} (holds : Holding) (stands : Standing) (leaves : Leaving) (question : Question) (it : Asked) (result : Result Verdict E) → AreAsked holds question it
-    → IfOk result (IsJudgedOf stands leaves question.store.now it) → IfOk result (IsJudged holds stands leaves question)
-judged_asked holds stands leaves question it (Ok verdict) are (query, of, judged) =
-    record { accepts = accepted_by it.verifier; query = query; asked = is_asked holds question it query are of; judged = judged }
-judged_asked holds stands leaves question it (Err e) are judged = tt
+pub checked_asked : {E : Type 0} (holds : Holding) (stands : Standing) (leaves : Leaving) (question : Question) (it : Asked) (result : Result Verdict E) → AreAsked holds question it
+    → IfOk result (IsCheckedOf stands leaves question.store.now it) → IfOk result (IsChecked holds stands leaves question)
+checked_asked holds stands leaves question it (Ok verdict) are (query, of, checked) =
+    record { accepts = accepted_by it.verifier; query = query; asked = is_asked holds question it query are of; checked = checked }
+checked_asked holds stands leaves question it (Err e) are checked = tt
 
 pub compared_asked : {E : Type 0} (holds : Holding) (stands : Standing) (leaves : Leaving) (question : Question) (other : List ℕ) (it : Asked) (result : Result Comparison E) → AreAsked holds question it
     → IfOk result (IsComparedOf stands leaves question.store.now other it) → IfOk result (IsCompared holds stands leaves question other)
@@ -97,7 +97,7 @@ query_in holds question it are = (
 )
 
 pub check_fails : {T : Type 0} (holds : Holding) (stands : Standing) (leaves : Leaving) (question : Question) (it : Asked) (result : Result T Failure) → AreAsked holds question it
-    → IfErr result (IsNotJudged stands leaves question.store.now) → IfErr result (IsFailureOfCheck holds stands leaves question)
+    → IfErr result (IsNotChecked stands leaves question.store.now) → IfErr result (IsFailureOfCheck holds stands leaves question)
 check_fails holds stands leaves question it (Ok x) are fails = tt
 check_fails holds stands leaves question it (Err failure) are fails = inr (query_in holds question it are, fails)
 

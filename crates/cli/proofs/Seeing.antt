@@ -16,18 +16,18 @@ use Rattle.relying.specs.Run.{Ran, Runs, TakesDelivery}
 use Rattle.relying.specs.declared.fault.DeliverFault.{DeliverFault}
 use Rattle.cli.specs.Standing.{Leaving, Seen, Standing, database, seen_of}
 use Rattle.cli.specs.Delivered.{HasTaken, IsTakenAt}
-use Rattle.cli.specs.Judged.{HasCompared, HasJudged, IsComparedBy, IsJudgedBy}
+use Rattle.cli.specs.Checked.{HasCompared, HasChecked, IsComparedBy, IsCheckedBy}
 
 -- a verdict
-pub judged : (leaves : Seen → Type 0) (accepts : Accepts) (query : Query) (old new : State) (verdict : Verdict) → leaves (seen_of new)
-    → Looks {A = Verdict} old new (IsVerdict accepts query) (Ok verdict) → HasJudged leaves accepts query (seen_of old) verdict
-judged leaves accepts query old new verdict left looks = (seen_of new, left, λ intact held stands. (looks intact).1 held stands)
+pub checked : (leaves : Seen → Type 0) (accepts : Accepts) (query : Query) (old new : State) (verdict : Verdict) → leaves (seen_of new)
+    → Looks {A = Verdict} old new (IsVerdict accepts query) (Ok verdict) → HasChecked leaves accepts query (seen_of old) verdict
+checked leaves accepts query old new verdict left looks = (seen_of new, left, λ intact held stands. (looks intact).1 held stands)
 
-pub judged_by : (stands : Standing) (leaves : Leaving) (path : List ℕ) (accepts : Accepts) (query : Query) (old : State) {E : Type 0} (result : Result Verdict E)
-    → stands path (database (seen_of old)) → (HasCleanDisk old → IsStore old.now) → IfOk result (HasJudged (leaves path) accepts query (seen_of old))
-    → IfOk result (IsJudgedBy stands leaves path accepts query)
-judged_by stands leaves path accepts query old (Ok verdict) stood is judged = (seen_of old, (stood, λ intact. is intact), judged)
-judged_by stands leaves path accepts query old (Err e) stood is judged = tt
+pub checked_by : (stands : Standing) (leaves : Leaving) (path : List ℕ) (accepts : Accepts) (query : Query) (old : State) {E : Type 0} (result : Result Verdict E)
+    → stands path (database (seen_of old)) → (HasCleanDisk old → IsStore old.now) → IfOk result (HasChecked (leaves path) accepts query (seen_of old))
+    → IfOk result (IsCheckedBy stands leaves path accepts query)
+checked_by stands leaves path accepts query old (Ok verdict) stood is checked = (seen_of old, (stood, λ intact. is intact), checked)
+checked_by stands leaves path accepts query old (Err e) stood is checked = tt
 
 -- a comparison
 pub compared : (leaves others_leave : Seen → Type 0) (accepts : Accepts) (query : Query) (old new other_old other_new : State) (comparison : Comparison) → leaves (seen_of new) → others_leave (seen_of other_new)

@@ -18,7 +18,7 @@ use Rattle.relying_verdicts.specs.declared.fault.Fault.TheVariants as F
 use Rattle.cli_failures.specs.declared.failure.Failure.{Failure}
 use Rattle.cli.specs.Standing.{IsNoAnswer, IsUnanswered, Leaving, Seen, Standing, database, seen_of, told_of_party}
 use Rattle.cli.specs.Delivered.{IsNotTaken, IsUncounted}
-use Rattle.cli.specs.Judged.{AreUnanswered, IsNoComparison, IsNotCompared, IsNotJudged}
+use Rattle.cli.specs.Checked.{AreUnanswered, IsNoComparison, IsNotCompared, IsNotChecked}
 
 -- ---- a verdict
 
@@ -28,14 +28,14 @@ other same = omega (arith, same)
 kept : (old new : State) → StaysIfOpen old new → IsTrue new.is_open → (held : Holdings) → IsStoreOf old.now held → IsStoreOf new.now held
 kept old new keeps is_open held stands = subst (λ now. IsStoreOf now held) (sym (keeps.now_is is_open)) stands
 
-pub not_judged : (leaves : Seen → Type 0) (old new : State) (fault : Fault) (failure : Failure)
+pub not_checked : (leaves : Seen → Type 0) (old new : State) (fault : Fault) (failure : Failure)
     → failure ≡ told_of_party fault → leaves (seen_of new) → (HasCleanDisk new → StaysIfOpen old new × IsFormed old fault) → IsNoAnswer leaves (seen_of old) failure
-not_judged leaves old new (F.Store S.Store) failure told left looks =
+not_checked leaves old new (F.Store S.Store) failure told left looks =
     inr (71, told, inl refl, (seen_of new, left, λ intact is_open held stands. (kept old new (looks intact).0 is_open held stands, other)))
-not_judged leaves old new (F.Store S.Schema) failure told left looks =
+not_checked leaves old new (F.Store S.Schema) failure told left looks =
     inr (72, told, inr refl, (seen_of new, left, λ intact is_open held stands. absurd ((looks intact).1 refl held stands)))
-not_judged leaves old new (F.Store S.Memory) failure told left looks = inl told
-not_judged leaves old new F.Memory failure told left looks = inl told
+not_checked leaves old new (F.Store S.Memory) failure told left looks = inl told
+not_checked leaves old new F.Memory failure told left looks = inl told
 
 -- ---- a comparison
 
@@ -107,10 +107,10 @@ unanswered : (stands : Standing) (leaves : Leaving) (path : List ℕ) (old : Sta
     → IsNoAnswer (leaves path) (seen_of old) failure → IsUnanswered stands leaves path failure
 unanswered stands leaves path old failure stood is fails = (seen_of old, (stood, λ intact. is intact), fails)
 
-pub not_judged_by : {T : Type 0} (stands : Standing) (leaves : Leaving) (path : List ℕ) (old : State) (result : Result T Failure) → stands path (database (seen_of old)) → (HasCleanDisk old → IsStore old.now)
-    → IfErr result (IsNoAnswer (leaves path) (seen_of old)) → IfErr result (IsNotJudged stands leaves path)
-not_judged_by stands leaves path old (Ok x) stood is fails = tt
-not_judged_by stands leaves path old (Err failure) stood is fails = inr (unanswered stands leaves path old failure stood is fails)
+pub not_checked_by : {T : Type 0} (stands : Standing) (leaves : Leaving) (path : List ℕ) (old : State) (result : Result T Failure) → stands path (database (seen_of old)) → (HasCleanDisk old → IsStore old.now)
+    → IfErr result (IsNoAnswer (leaves path) (seen_of old)) → IfErr result (IsNotChecked stands leaves path)
+not_checked_by stands leaves path old (Ok x) stood is fails = tt
+not_checked_by stands leaves path old (Err failure) stood is fails = inr (unanswered stands leaves path old failure stood is fails)
 
 pub not_taken_at : {T : Type 0} (stands : Standing) (leaves : Leaving) (path : List ℕ) (old : State) (result : Result T Failure) → stands path (database (seen_of old)) → (HasCleanDisk old → IsStore old.now)
     → IfErr result (IsNoAnswer (leaves path) (seen_of old)) → IfErr result (IsNotTaken stands leaves path)

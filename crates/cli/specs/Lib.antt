@@ -2,7 +2,7 @@ pub mod Standing
 pub mod Believed
 pub mod Asked
 pub mod Delivered
-pub mod Judged
+pub mod Checked
 pub mod Status
 pub mod Outcome
 pub mod Ended

@@ -14,7 +14,7 @@ use Rattle.cli_failures.specs.Failures.{Holding, IsNoValue, OrUnwritable}
 use Rattle.cli_failures.specs.declared.failure.Failure.{Failure}
 use Rattle.cli_failures.specs.declared.failure.Failure.TheVariants.{NoMemory, Unwritable}
 use Rattle.cli.specs.Delivered.{IsDeliveredText, IsFailureOfDelivery, WasDelivered}
-use Rattle.cli.specs.Judged.{IsCompared, IsFailureOfCheck, IsFailureOfComparison, IsJudged, WasJudged, WereCompared}
+use Rattle.cli.specs.Checked.{IsCompared, IsFailureOfCheck, IsFailureOfComparison, IsChecked, WasChecked, WereCompared}
 use Rattle.cli.specs.Standing.{Leaving, Standing}
 use Rattle.cli.specs.Status.{comparison_status, verdict_status}
 use Rattle.cli_showing.specs.Shown.{ArePrintsUnder, HoldUnder, HoldsKind, HoldsValue, IsFailureOfPrints, IsNotShown, IsShownText, IsTreeText}
@@ -45,7 +45,7 @@ IsAnswer holds stands leaves (Deliver store verdicts issuer file) status text =
     × IsDeliveredText holds stands leaves
     (record { store = store; verdicts = verdicts; issuer = issuer; file = file }) text
 IsAnswer holds stands leaves (Check question) status text =
-    IsVerdictText (IsJudged holds stands leaves question) status text
+    IsVerdictText (IsChecked holds stands leaves question) status text
 IsAnswer holds stands leaves (Compare question other) status text =
     IsComparisonText (IsCompared holds stands leaves question other.now) status text
 
@@ -71,7 +71,7 @@ IsFailureOf holds stands leaves (Deliver store verdicts issuer file) =
     (record { store = store; verdicts = verdicts; issuer = issuer; file = file }))
 IsFailureOf holds stands leaves (Check question) =
     OrUnwritable (IsFailureOfCheck holds stands leaves question)
-    (WasJudged holds stands leaves question)
+    (WasChecked holds stands leaves question)
 IsFailureOf holds stands leaves (Compare question other) =
     OrUnwritable (IsFailureOfComparison holds stands leaves question other.now)
     (WereCompared holds stands leaves question other.now)

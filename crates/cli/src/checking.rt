@@ -9,7 +9,7 @@ ghost use Rattle.relying_verdicts.specs.View.{seen_query};
 ghost use Rattle.cli.specs.Asked.{AreCertificateTexts, path_texts};
 ghost use Rattle.cli.specs.Believed.{accepted_by};
 ghost use Rattle.cli.specs.Delivered.{IsCertificateText};
-ghost use Rattle.cli.specs.Judged.{HasJudged, IsFailureOfCheck, IsJudged, IsJudgedBy, IsJudgedOf, IsNotJudged, WasJudged};
+ghost use Rattle.cli.specs.Checked.{HasChecked, IsFailureOfCheck, IsChecked, IsCheckedBy, IsCheckedOf, IsNotChecked, WasChecked};
 ghost use Rattle.cli.specs.Standing.{IsNoAnswer, seen_of, told_of_party};
 
 use crate::asking::{Asked, query_of, read_asked, texts_of};
@@ -26,7 +26,7 @@ use std::alloc::Global;
 use std::io::Write;
 
 // What a party's fault is for a run.
-pub(crate) fn not_judged<'a>(fault: Fault) -> Failure<'a>
+pub(crate) fn not_checked<'a>(fault: Fault) -> Failure<'a>
     ensures { result ≡ told_of_party fault }
 {
     match fault {
@@ -36,14 +36,15 @@ pub(crate) fn not_judged<'a>(fault: Fault) -> Failure<'a>
 }
 
 // The verdict of a party, whose store is closed then.
-fn judge_at<'a, S: Stores, V: Verifier + Drop>(
+fn check_at<'a, S: Stores, V: Verifier + Drop>(
     source: &S,
     alloc: Global,
     path: &str,
     node: Node<V, File>,
     query: &Query<'_>,
 ) -> Result<Verdict, Failure<'a>>
-    ensures judged { IfOk result (HasJudged (S.leaves source.now path.now) (V.accepts node.verifier)
+    ensures checked { IfOk result
+        (HasChecked (S.leaves source.now path.now) (V.accepts node.verifier)
         (seen_query query.now) (seen_of (stored node))) }
     ensures fails { IfErr result
         (IsNoAnswer (S.leaves source.now path.now) (seen_of (stored node))) }
@@ -53,30 +54,30 @@ fn judge_at<'a, S: Stores, V: Verifier + Drop>(
     source.close_store(path, node.into_store());
     match verdict {
         Ok(verdict) => Ok(verdict),
-        Err(fault) => Err(not_judged(fault)),
+        Err(fault) => Err(not_checked(fault)),
     }
 }
 
 // The verdict on the path by what the store holds.
-fn judge_by<'a, S: Stores>(
+fn check_by<'a, S: Stores>(
     source: &S,
     alloc: Global,
     path: &'a str,
     verifier: &ListVerifier,
     query: &Query<'_>,
 ) -> Result<Verdict, Failure<'a>>
-    ensures judged { IfOk result (IsJudgedBy (S.stands source.now) (S.leaves source.now)
+    ensures checked { IfOk result (IsCheckedBy (S.stands source.now) (S.leaves source.now)
         path.entry.now (accepted_by verifier.now) (seen_query query.now)) }
     ensures fails { IfErr result
-        (IsNotJudged (S.stands source.now) (S.leaves source.now) path.entry.now) }
+        (IsNotChecked (S.stands source.now) (S.leaves source.now) path.entry.now) }
 {
     let store = source.open_store(path)?;
     let node = Node::new(Shared { list: verifier }, store);
-    judge_at(source, alloc, path, node, query)
+    check_at(source, alloc, path, node, query)
 }
 
 // The same of what is asked.
-fn judge_asked<'a, S: Stores>(
+fn check_asked<'a, S: Stores>(
     source: &S,
     alloc: Global,
     path: &'a str,
@@ -84,10 +85,10 @@ fn judge_asked<'a, S: Stores>(
 ) -> Result<Verdict, Failure<'a>>
     requires anchor { IsCertificateText asked.now.anchor.items }
     requires path { AreCertificateTexts (path_texts asked.now) }
-    ensures judged { IfOk result
-        (IsJudgedOf (S.stands source.now) (S.leaves source.now) path.entry.now asked.now) }
+    ensures checked { IfOk result
+        (IsCheckedOf (S.stands source.now) (S.leaves source.now) path.entry.now asked.now) }
     ensures fails { IfErr result
-        (IsNotJudged (S.stands source.now) (S.leaves source.now) path.entry.now) }
+        (IsNotChecked (S.stands source.now) (S.leaves source.now) path.entry.now) }
 {
     let Ok(texts) = texts_of(alloc, asked.path.as_slice()) else {
         return Err(Failure::NoMemory);
@@ -96,22 +97,22 @@ fn judge_asked<'a, S: Stores>(
         Ok(query) => query,
         Err(failure) => return Err(failure),
     };
-    judge_by(source, alloc, path, &asked.verifier, &query)
+    check_by(source, alloc, path, &asked.verifier, &query)
 }
 
 // The verdict that the operands ask for.
-fn judge<'a, S: Source + Stores>(
+fn check_path<'a, S: Source + Stores>(
     source: &S,
     alloc: Global,
     question: &Question<'a>,
 ) -> Result<Verdict, Failure<'a>>
-    ensures judged { IfOk result
-        (IsJudged (S.holds source.now) (S.stands source.now) (S.leaves source.now) question.now) }
+    ensures checked { IfOk result
+        (IsChecked (S.holds source.now) (S.stands source.now) (S.leaves source.now) question.now) }
     ensures fails { IfErr result (IsFailureOfCheck
         (S.holds source.now) (S.stands source.now) (S.leaves source.now) question.now) }
 {
     let asked = read_asked(source, alloc, question)?;
-    judge_asked(source, alloc, question.store, &asked)
+    check_asked(source, alloc, question.store, &asked)
 }
 
 /// Writes the verdict on the path that the operands name, by the statements that the store holds (RFC 5280, 6; RFC 6960, 3.2).
@@ -121,16 +122,17 @@ pub fn check<'a, S: Source + Stores, O: Write>(
     question: &Question<'a>,
     out: &mut O,
 ) -> Result<Verdict, Failure<'a>>
-    ensures judged { IfOk result
-        (IsJudged (S.holds source.now) (S.stands source.now) (S.leaves source.now) question.now) }
+    ensures checked { IfOk result
+        (IsChecked (S.holds source.now) (S.stands source.now) (S.leaves source.now) question.now) }
     ensures written { IfOk result (λ verdict.
         Appends (O.contents out.old) (O.contents out.new) (verdict_line verdict)) }
     ensures fails { IfErr result (OrUnwritable (IsFailureOfCheck
         (S.holds source.now) (S.stands source.now) (S.leaves source.now) question.now)
-        (WasJudged (S.holds source.now) (S.stands source.now) (S.leaves source.now) question.now)) }
+        (WasChecked (S.holds source.now) (S.stands source.now) (S.leaves source.now)
+        question.now)) }
     ensures quiet { IfErr result (λ failure. UnlessLate failure (out.new ≡ out.old)) }
 {
-    let verdict = judge(source, alloc, question)?;
+    let verdict = check_path(source, alloc, question)?;
     match verdict_to(verdict, out) {
         Ok(()) => Ok(verdict),
         Err(_) => Err(Failure::Unwritable),

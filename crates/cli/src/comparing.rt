@@ -8,11 +8,11 @@ ghost use Rattle.relying_verdicts.specs.View.{seen_query};
 ghost use Rattle.cli.specs.Asked.{AreCertificateTexts, path_texts};
 ghost use Rattle.cli.specs.Believed.{accepted_by};
 ghost use Rattle.cli.specs.Delivered.{IsCertificateText};
-ghost use Rattle.cli.specs.Judged.{HasCompared, IsCompared, IsComparedBy, IsComparedOf, IsFailureOfComparison, IsNoComparison, IsNotCompared, WereCompared};
+ghost use Rattle.cli.specs.Checked.{HasCompared, IsCompared, IsComparedBy, IsComparedOf, IsFailureOfComparison, IsNoComparison, IsNotCompared, WereCompared};
 ghost use Rattle.cli.specs.Standing.{seen_in};
 
 use crate::asking::{Asked, query_of, read_asked, texts_of};
-use crate::checking::not_judged;
+use crate::checking::not_checked;
 use crate::sharing::Shared;
 use crate::stores::Stores;
 use cli_answers::comparison_to;
@@ -57,7 +57,7 @@ fn compare_at<'a, S: Stores>(
     source.close_store(paths.other, other.into_store());
     match comparison {
         Ok(comparison) => Ok(comparison),
-        Err(fault) => Err(not_judged(fault)),
+        Err(fault) => Err(not_checked(fault)),
     }
 }
 

@@ -2,7 +2,7 @@
 #![tactic(auto)]
 
 mod counted;
-mod judged;
+mod verdict_lines;
 
 pub use counted::counts_to;
-pub use judged::{comparison_to, verdict_to};
+pub use verdict_lines::{comparison_to, verdict_to};

@@ -11,7 +11,12 @@ use std::alloc::Global;
 ///
 /// A certificate is refused at an octet of its text or at its end, so that a place in the file is never past the greatest; where it
 /// were, no memory would hold the file.
-fn judge<'a>(alloc: Global, file: &'a str, value: &[u8], start: usize) -> Result<(), Failure<'a>>
+fn read_certificate<'a>(
+    alloc: Global,
+    file: &'a str,
+    value: &[u8],
+    start: usize,
+) -> Result<(), Failure<'a>>
     ensures reads { OnOk result (AreRead (value.now ∷ [])) }
     ensures fails { IfErr result (IsFailureAt value.now start file.entry.now) }
 {
@@ -28,8 +33,8 @@ fn judge<'a>(alloc: Global, file: &'a str, value: &[u8], start: usize) -> Result
     }
 }
 
-/// That the values, with which the file begins, are certificates, each judged before the next.
-pub(crate) fn judge_all<'a>(
+/// That the values, with which the file begins, are certificates, each read before the next.
+pub(crate) fn read_certificates<'a>(
     alloc: Global,
     file: &'a str,
     values: &[Vec<u8>],
@@ -41,7 +46,7 @@ pub(crate) fn judge_all<'a>(
 {
     let mut start = 0;
     for value in values {
-        judge(alloc, file, value, start)?;
+        read_certificate(alloc, file, value, start)?;
         start += value.len();
     }
     Ok(())

@@ -4,7 +4,7 @@ ghost use Rattle.cli_failures.specs.Failures.{IsJust};
 ghost use Rattle.cli_operands.specs.CertificateValues.{IsToldOf, MayBeTold, WereRead};
 ghost use Rattle.cli_operands.specs.PathText.{HoldTexts, HoldsTexts, IsFailureOfPath, IsFailureOnPath};
 
-use crate::certificate_values::judge_all;
+use crate::certificate_values::read_certificates;
 use cli_failures::{Failure, Source};
 use der::{Fault, Rule};
 use der_stream::{PathOctets, ReadFault, path_octets};
@@ -48,7 +48,7 @@ fn certificates_in<'a>(
     ensures fails { IfErr result (IsFailureOnPath (IsJust octets.now) file.entry.now) }
 {
     let PathOctets { values, stopped } = values_of(alloc, octets);
-    judge_all(alloc, file, values.as_slice())?;
+    read_certificates(alloc, file, values.as_slice())?;
     if let Some((place, fault)) = stopped {
         return Err(failure_of(file, place, fault));
     }
@@ -74,7 +74,7 @@ fn read_file<'a, S: Source>(
     certificates_in(alloc, file, octets.as_slice())
 }
 
-/// The values of the certificates that the files hold, each file read and judged before the next.
+/// The values of the certificates that the files hold, each file read before the next is opened.
 pub(crate) fn read_path<'a, S: Source>(
     source: &S,
     alloc: Global,

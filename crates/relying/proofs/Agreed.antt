@@ -14,7 +14,7 @@ use Rattle.relying_agreement.specs.Verdict.{IsVerdict, ValidExactlyWhere, Verdic
 use Rattle.relying_agreement.specs.declared.verdict.Verdict.{Verdict}
 use Rattle.relying_agreement.specs.declared.verdict.Verdict.TheVariants.{Invalid, Revoked, Unknown, Valid}
 use Rattle.relying_verdicts.specs.Asking.{IsInvalidOrOpen}
-use Rattle.relying.specs.Agreed.{HasJudged, NodesAgree, NodeIsExact, RunsFollow, party_of}
+use Rattle.relying.specs.Agreed.{GaveVerdict, NodesAgree, NodeIsExact, RunsFollow, party_of}
 use Rattle.relying.specs.Run.{IsEndOfRun, Ran, as_answered}
 use Rattle.relying.specs.View.{stored}
 use Rattle.relying.specs.declared.fault.DeliverFault.{DeliverFault}
@@ -37,15 +37,15 @@ of_invalid accepts query held v (j, reason, is, fails) =
 
 module _ {V D : Type 0} {g : Ghosts D} (one_verdict : VerdictIsOne) (accepts : Accepts) (query : Query) where
   ended : (events : List Event) (answers : List (Result Counts DeliverFault)) (start : Holdings) (begun ran asked : Node V D g) (v : Verdict)
-      → HasJudged accepts query events answers start begun ran asked v → IsTrue (stored ran).is_open → IsEndOfRun accepts events answers start (stored ran)
-  ended events answers start begun ran asked v judged live = judged.runs.ended live start judged.begins
+      → GaveVerdict accepts query events answers start begun ran asked v → IsTrue (stored ran).is_open → IsEndOfRun accepts events answers start (stored ran)
+  ended events answers start begun ran asked v gave live = gave.runs.ended live start gave.begins
 
   -- one fails, whatever is held
   fails_alike : (events : List Event) (answers : List (Result Counts DeliverFault)) (start : Holdings) (begun ran asked : Node V D g) (v w : Verdict)
-      → Fails accepts query v → HasJudged accepts query events answers start begun ran asked w → v ≡ w
-  fails_alike events answers start begun ran asked v w fails judged = elim (which accepts query (stored ran).is_open w judged.opens) [
-    | inl live ↦ let it = ended events answers start begun ran asked w judged live in
-        one_verdict accepts query it.held v w (of_invalid accepts query it.held v fails) (judged.looks.1 it.held it.store)
+      → Fails accepts query v → GaveVerdict accepts query events answers start begun ran asked w → v ≡ w
+  fails_alike events answers start begun ran asked v w fails gave = elim (which accepts query (stored ran).is_open w gave.opens) [
+    | inl live ↦ let it = ended events answers start begun ran asked w gave live in
+        one_verdict accepts query it.held v w (of_invalid accepts query it.held v fails) (gave.looks.1 it.held it.store)
     | inr too ↦ one_verdict accepts query start v w (of_invalid accepts query start v fails) (of_invalid accepts query start w too)
   ]
 
@@ -65,8 +65,8 @@ nodes_agree {V} {D} {g} one_verdict runs_agree accepts query events others answe
     ]
 
 pub node_is_exact : {V D : Type 0} {g : Ghosts D} → VerdictIsOne → ValidExactlyWhere → NodeIsExact V D g
-node_is_exact one_verdict valid accepts query events answers start held begun ran asked v judged store =
-    let is = judged.looks.1 held store in
+node_is_exact one_verdict valid accepts query events answers start held begun ran asked v gave store =
+    let is = gave.looks.1 held store in
     let exact = valid accepts query held in (
       λ valid_is. exact.0 (subst (IsVerdict accepts query held) valid_is is),
       λ clear. one_verdict accepts query held v Valid is (exact.1 clear),

@@ -32,7 +32,7 @@ party_of accepts events answers start held = record {
 
 -- A node whose store held this took the events, with these answers, and was then asked, with this verdict. Each line is what a call
 -- says, `run` or `verdict`, if the disk returned what was written. The store may be one that a crash left, or that earlier runs left.
-pub record HasJudged {V D : Type 0} {g : Ghosts D} (accepts : Accepts) (query : Query) (events : List Event) (answers : List (Result Counts DeliverFault))
+pub record GaveVerdict {V D : Type 0} {g : Ghosts D} (accepts : Accepts) (query : Query) (events : List Event) (answers : List (Result Counts DeliverFault))
     (start : Holdings) (begun ran asked : Node V D g) (verdict : Verdict) : Type 0 where
   pub begins : IsStoreOf (stored begun).now start
   pub runs : Ran accepts events answers (stored begun) (stored ran)
@@ -45,8 +45,8 @@ abbrev pub NodesAgree : (V D : Type 0) → Ghosts D → Type 0
 NodesAgree V D g =
     (accepts : Accepts) (query : Query) (events others : List Event) (answers others_answers : List (Result Counts DeliverFault))
     (start others_start : Holdings) (begun ran asked other_begun other_ran other_asked : Node V D g) (v w : Verdict) →
-    HasJudged accepts query events answers start begun ran asked v →
-    HasJudged accepts query others others_answers others_start other_begun other_ran other_asked w →
+    GaveVerdict accepts query events answers start begun ran asked v →
+    GaveVerdict accepts query others others_answers others_start other_begun other_ran other_asked w →
     ((held others_held : Holdings) → IsStoreOf (stored ran).now held → IsStoreOf (stored other_ran).now others_held →
     IssuersAreConsistent query (party_of accepts events answers start held) (party_of accepts others others_answers others_start others_held)
     × HoldSameNewest query held others_held) →
@@ -57,7 +57,7 @@ abbrev pub NodeIsExact : (V D : Type 0) → Ghosts D → Type 0
 NodeIsExact V D g =
     (accepts : Accepts) (query : Query) (events : List Event) (answers : List (Result Counts DeliverFault))
     (start held : Holdings) (begun ran asked : Node V D g) (v : Verdict) →
-    HasJudged accepts query events answers start begun ran asked v →
+    GaveVerdict accepts query events answers start begun ran asked v →
     IsStoreOf (stored ran).now held →
     (v ≡ Valid) ↔ (IsValidPath accepts query × AllByRecursion (IsClear held query.moment) (links_of query))
 

@@ -7,9 +7,9 @@ mod comparing;
 mod delivering;
 mod events;
 mod fault;
-mod judging;
 mod node;
 mod running;
+mod verdicts;
 
 pub use agreement::node_laws;
 pub use comparing::compare;

@@ -11,7 +11,7 @@ ghost use Rattle.relying_verdicts.specs.View.{seen_query};
 
 use crate::delivering::deliver;
 use crate::fault::DeliverFault;
-use crate::judging::judge;
+use crate::verdicts::verdict_of;
 use path_verifiers::Verifier;
 use relying_verdicts::{Fault, Query, Verdict};
 use sqlite_disk::Disk;
@@ -86,7 +86,7 @@ impl<V: Verifier + Drop, D: Disk + Drop> Node<V, D> {
         ensures durable { IsDurable (stored self.new) }
         ensures survives { CommitsNothing (stored self.old) (stored self.new) }
     {
-        judge(alloc, &self.verifier, &mut self.store.conn, query)
+        verdict_of(alloc, &self.verifier, &mut self.store.conn, query)
     }
 
     /// Closes the store's files and takes them for a store again. Where that fails there is no party any more: the caller opens

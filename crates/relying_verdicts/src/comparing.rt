@@ -14,9 +14,9 @@ ghost use Rattle.store_maps.specs.Held.{seen_crl};
 
 use crate::evidence::{Answers, Evidence, verdict_by};
 use crate::fault::Fault;
-use crate::judging::outcome_of;
 use crate::looking::evidence_on;
 use crate::query::Query;
+use crate::verdicts::outcome_of;
 use path::{Outcome, Verifier};
 use relying_agreement::{Comparison, Verdict};
 use sqlite::{Alter, Transaction};

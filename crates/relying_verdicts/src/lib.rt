@@ -5,12 +5,12 @@
 mod comparing;
 mod evidence;
 mod fault;
-mod judging;
 mod looking;
 mod query;
+mod verdicts;
 
 pub use comparing::compare;
 pub use fault::Fault;
-pub use judging::verdict;
 pub use query::{Query, QueryFault};
 pub use relying_agreement::{Comparison, Verdict};
+pub use verdicts::verdict;

@@ -16,6 +16,6 @@ pub returns-in-Err-clause-fails : goal.returns-in-Err-clause-fails
 returns-in-Err-clause-fails g c =
     not_compared (g.S.Stores.leaves c.args.source.now c.args.paths.now.path.now) (g.S.Stores.leaves c.args.source.now c.args.paths.now.other.now)
     (file_state c.args.store.conn) (file_state c.compare-comparison.new.one.store.conn) (file_state c.args.beside.conn) (file_state c.compare-comparison.new.other.store.conn)
-    c.in-Err.fault c.not_judged.result c.not_judged.ensures
+    c.in-Err.fault c.not_checked.result c.not_checked.ensures
     (rw c.into_store.ensures at c.close_store.ensures.leaves) (rw c.into_store-2.ensures at c.close_store-2.ensures.leaves)
     (rw (c.new-one.ensures.store, c.new-other.ensures.store) at c.in-Err.ensures.looks)

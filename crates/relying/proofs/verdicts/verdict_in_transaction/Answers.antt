@@ -6,7 +6,7 @@ use Rattle.relying_verdicts.specs.Asking.{IsInvalidOrOpen}
 use Rattle.relying_verdicts.specs.View.{seen_query}
 use Rattle.relying.specs.Asking.{LooksInside}
 use Rattle.relying.proofs.Looking.{looked, opened}
-use Rattle.relying.proofs.judging.judge_in_transaction.Goals as goal
+use Rattle.relying.proofs.verdicts.verdict_in_transaction.Goals as goal
 
 pub returns-in-Ok-clause-looks : goal.returns-in-Ok-clause-looks
 returns-in-Ok-clause-looks g c =

@@ -12,7 +12,7 @@ use relying_verdicts::{Fault, Query, Verdict, verdict};
 use sqlite::{Alter, Connection};
 use std::alloc::Global;
 
-fn judge_in_transaction<V: Verifier, S: Alter>(
+fn verdict_in_transaction<V: Verifier, S: Alter>(
     alloc: Global,
     verifier: &V,
     conn: &mut Connection<S>,
@@ -34,7 +34,7 @@ fn judge_in_transaction<V: Verifier, S: Alter>(
 }
 
 /// The verdict on a path by what the store holds.
-pub(crate) fn judge<V: Verifier, S: Alter>(
+pub(crate) fn verdict_of<V: Verifier, S: Alter>(
     alloc: Global,
     verifier: &V,
     conn: &mut Connection<S>,
@@ -51,7 +51,7 @@ pub(crate) fn judge<V: Verifier, S: Alter>(
     ensures survives { CommitsNothing (state S.Store conn.old) (state S.Store conn.new) }
 {
     let _before = conn.is_autocommit();
-    let found = judge_in_transaction(alloc, verifier, conn, query);
+    let found = verdict_in_transaction(alloc, verifier, conn, query);
     let _after = conn.is_autocommit();
     found
 }

@@ -19,32 +19,32 @@ use Rattle.cli.specs.declared.asking.Asked.{Asked}
 use Rattle.cli.specs.Standing.{IsFaultNumber, IsFound, IsIntact, IsNotFound, IsUnanswered, Leaving, Seen, Standing}
 
 -- the verdict of a party that held what a store held in its old state, which was left in another
-abbrev pub HasJudged : (Seen → Type 0) → Accepts → Query → Seen → Verdict → Type 0
-HasJudged leaves accepts query old verdict =
+abbrev pub HasChecked : (Seen → Type 0) → Accepts → Query → Seen → Verdict → Type 0
+HasChecked leaves accepts query old verdict =
     (new : Seen) × leaves new
     × (IsIntact new → (held : Holdings) → IsStoreOf old.now held → IsVerdict accepts query held verdict)
 
 -- the verdict by what the store at the path holds
-abbrev pub IsJudgedBy : Standing → Leaving → List ℕ → Accepts → Query → Verdict → Type 0
-IsJudgedBy stands leaves path accepts query verdict =
-    (old : Seen) × IsFound stands path old × HasJudged (leaves path) accepts query old verdict
+abbrev pub IsCheckedBy : Standing → Leaving → List ℕ → Accepts → Query → Verdict → Type 0
+IsCheckedBy stands leaves path accepts query verdict =
+    (old : Seen) × IsFound stands path old × HasChecked (leaves path) accepts query old verdict
 
 -- the same, of a question that is asked
-abbrev pub IsJudgedOf : Standing → Leaving → List ℕ → Asked → Verdict → Type 0
-IsJudgedOf stands leaves path asked verdict =
-    (query : Query) × IsQueryOf asked query × IsJudgedBy stands leaves path (accepted_by asked.verifier) query verdict
+abbrev pub IsCheckedOf : Standing → Leaving → List ℕ → Asked → Verdict → Type 0
+IsCheckedOf stands leaves path asked verdict =
+    (query : Query) × IsQueryOf asked query × IsCheckedBy stands leaves path (accepted_by asked.verifier) query verdict
 
 -- the verdict that is asked for
-pub record IsJudged (holds : Holding) (stands : Standing) (leaves : Leaving) (question : Question) (verdict : Verdict) : Type 0 where
+pub record IsChecked (holds : Holding) (stands : Standing) (leaves : Leaving) (question : Question) (verdict : Verdict) : Type 0 where
   pub accepts : Accepts
   pub query : Query
   pub asked : IsAsked holds question accepts query
-  pub judged : IsJudgedBy stands leaves question.store.now accepts query verdict
+  pub checked : IsCheckedBy stands leaves question.store.now accepts query verdict
 
 -- one or another
-abbrev pub WasJudged : Holding → Standing → Leaving → Question → Type 0
-WasJudged holds stands leaves question =
-    (verdict : Verdict) × IsJudged holds stands leaves question verdict
+abbrev pub WasChecked : Holding → Standing → Leaving → Question → Type 0
+WasChecked holds stands leaves question =
+    (verdict : Verdict) × IsChecked holds stands leaves question verdict
 
 -- ---- comparisons
 
@@ -82,8 +82,8 @@ WereCompared holds stands leaves question other =
 -- ---- what is wrong
 
 -- the store is not found, or does not answer
-abbrev pub IsNotJudged : Standing → Leaving → List ℕ → Failure → Type 0
-IsNotJudged stands leaves path failure =
+abbrev pub IsNotChecked : Standing → Leaving → List ℕ → Failure → Type 0
+IsNotChecked stands leaves path failure =
     IsNotFound stands path failure ⊎ IsUnanswered stands leaves path failure
 
 -- As long as both connections are open two stores hold what they held, and the fault with this number is not that one is no store.
@@ -118,7 +118,7 @@ IsNotCompared stands leaves path other failure =
 abbrev pub IsFailureOfCheck : Holding → Standing → Leaving → Question → Failure → Type 0
 IsFailureOfCheck holds stands leaves question =
     FailsFirst (IsFailureOfQuestion holds question) ((query : Query) × Asks holds question query)
-    (IsNotJudged stands leaves question.store.now)
+    (IsNotChecked stands leaves question.store.now)
 
 -- the same, and then the other store
 abbrev pub IsFailureOfComparison : Holding → Standing → Leaving → Question → List ℕ → Failure → Type 0

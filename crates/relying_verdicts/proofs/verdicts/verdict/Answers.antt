@@ -5,7 +5,7 @@ use Rattle.relying_agreement.specs.Verdict.{verdict_by}
 use Rattle.relying_verdicts.specs.View.{seen_evidence, seen_query}
 use Rattle.relying_verdicts.proofs.Chains.{found_as}
 use Rattle.relying_verdicts.proofs.Opening.{is_open, some_certificate, some_found}
-use Rattle.relying_verdicts.proofs.judging.verdict.Goals as goal
+use Rattle.relying_verdicts.proofs.verdicts.verdict.Goals as goal
 
 pub returns-in-Ok-evidence_on-clause-asks : goal.returns-in-Ok-evidence_on-clause-asks
 returns-in-Ok-evidence_on-clause-asks g c clean =

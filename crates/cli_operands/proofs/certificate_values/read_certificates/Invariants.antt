@@ -1,7 +1,7 @@
 use Rattle.std.proofs.Common.{◌≡◌, length, map, take}
 use Rattle.der_stream.specs.Sequence.{joined}
 use Rattle.cli_operands.specs.CertificateValues.{AreRead}
-use Rattle.cli_operands.proofs.certificate_values.judge_all.Given as goal
+use Rattle.cli_operands.proofs.certificate_values.read_certificates.Given as goal
 
 abbrev pub invariant-loop-value : goal.invariant-loop-value
 invariant-loop-value l = record {

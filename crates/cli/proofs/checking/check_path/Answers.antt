@@ -1,0 +1,11 @@
+use Rattle.cli.proofs.Questions.{check_fails, checked_asked}
+use Rattle.cli.proofs.checking.check_path.Goals as goal
+
+pub returns-clause-checked : goal.returns-clause-checked
+returns-clause-checked g c =
+    checked_asked (g.S.Source.holds c.args.source.now) (g.S.Stores.stands c.args.source.now) (g.S.Stores.leaves c.args.source.now) c.args.question.now c.in_ok-asked.asked
+    c.check_asked.result c.in_ok-asked.ensures.reads c.check_asked.ensures.checked
+
+pub returns-clause-fails : goal.returns-clause-fails
+returns-clause-fails g c =
+    check_fails (g.S.Source.holds c.args.source.now) (g.S.Stores.stands c.args.source.now) (g.S.Stores.leaves c.args.source.now) c.args.question.now c.in_ok-asked.asked c.check_asked.result c.in_ok-asked.ensures.reads c.check_asked.ensures.fails
