@@ -5,7 +5,7 @@ use Rattle.statements_facts.specs.declared.counts.Counts.{Counts}
 use Rattle.cli_failures.specs.Failures.{Holding, IsNoCertificate}
 use Rattle.cli_failures.specs.declared.failure.Failure.{Failure}
 use Rattle.cli_operands.specs.InOrder.{FailsFirst}
-use Rattle.cli_operands.specs.Question.{AcceptsJust, HoldsVerdicts}
+use Rattle.cli_operands.specs.Question.{AcceptsJust, HoldsFingerprints}
 use Rattle.cli.specs.declared.delivering.Delivery.{Delivery}
 use Rattle.cli.specs.Delivered.{HoldsIssuer, IsDelivered, IsDeliveredFor, IsFailureFor, IsFailureOfDelivery, IsGenuineUnder, IsNoStatementOf, IsNotTaken, IsTakenAt}
 use Rattle.cli.specs.Standing.{Leaving, Standing}
@@ -35,12 +35,12 @@ delivered holds stands leaves accepts words issuer statement (Err e) by read tak
 -- ---- for who believes the verdicts
 
 pub delivered_believed : {E : Type 0} (holds : Holding) (stands : Standing) (leaves : Leaving) (accepts : Accepts) (words : Delivery) (prints : List (List ℕ)) (result : Result Counts E)
-    → HoldsVerdicts holds words.verdicts.now prints → AcceptsJust prints accepts → IfOk result (IsDeliveredFor holds stands leaves accepts words)
+    → HoldsFingerprints holds words.verdicts.now prints → AcceptsJust prints accepts → IfOk result (IsDeliveredFor holds stands leaves accepts words)
     → IfOk result (IsDelivered holds stands leaves words)
 delivered_believed holds stands leaves accepts words prints (Ok counts) named believed delivered = (prints, accepts, named, believed, delivered)
 delivered_believed holds stands leaves accepts words prints (Err e) named believed delivered = tt
 
 pub fails_believed : {T : Type 0} (holds : Holding) (stands : Standing) (leaves : Leaving) (accepts : Accepts) (words : Delivery) (prints : List (List ℕ)) (result : Result T Failure)
-    → HoldsVerdicts holds words.verdicts.now prints → AcceptsJust prints accepts → IfErr result (IsFailureFor holds stands leaves accepts words) → IfErr result (IsFailureOfDelivery holds stands leaves words)
+    → HoldsFingerprints holds words.verdicts.now prints → AcceptsJust prints accepts → IfErr result (IsFailureFor holds stands leaves accepts words) → IfErr result (IsFailureOfDelivery holds stands leaves words)
 fails_believed holds stands leaves accepts words prints (Ok x) named believed fails = tt
 fails_believed holds stands leaves accepts words prints (Err failure) named believed fails = inr ((prints, named), (prints, accepts, named, believed, fails))

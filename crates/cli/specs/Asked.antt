@@ -6,14 +6,14 @@ use Rattle.cli_operands.specs.Moment.{IsMoment}
 use Rattle.path.specs.Query.{Query, Accepts}
 use Rattle.cli_failures.specs.Failures.{Holding}
 use Rattle.cli_operands.specs.PathText.{HoldTexts}
-use Rattle.cli_operands.specs.Question.{AcceptsJust, Asks, HoldsText, HoldsVerdicts, IsPurposeOf, files_of, purpose_text}
+use Rattle.cli_operands.specs.Question.{AcceptsJust, Asks, HoldsText, HoldsFingerprints, IsPurposeOf, files_of, purpose_text}
 use Rattle.cli.specs.declared.asking.Asked.{Asked}
 use Rattle.cli.specs.Believed.{accepted_by}
 
 -- who judges, and what is asked, as the operands say
 pub record IsAsked (holds : Holding) (question : Question) (accepts : Accepts) (query : Query) : Type 0 where
   pub prints : List (List ℕ)
-  pub verdicts : HoldsVerdicts holds question.verdicts.now prints
+  pub verdicts : HoldsFingerprints holds question.verdicts.now prints
   pub believed : AcceptsJust prints accepts
   pub asks : Asks holds question query
 
@@ -33,7 +33,7 @@ purpose_contents it = option_map (λ contents. contents.items) it.purpose
 -- this is what the operands say
 pub record AreAsked (holds : Holding) (question : Question) (it : Asked) : Type 0 where
   pub prints : List (List ℕ)
-  pub verdicts : HoldsVerdicts holds question.verdicts.now prints
+  pub verdicts : HoldsFingerprints holds question.verdicts.now prints
   pub believed : AcceptsJust prints (accepted_by it.verifier)
   pub moment : IsMoment question.moment.now it.moment
   pub purpose : IsPurposeOf (purpose_text question) (purpose_contents it)

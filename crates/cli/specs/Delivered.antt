@@ -17,7 +17,7 @@ use Rattle.cli_failures.specs.Failures.{Holding, HoldsCertificate, IsNoCertifica
 use Rattle.cli_failures.specs.declared.failure.Failure.{Failure}
 use Rattle.cli_failures.specs.declared.failure.Failure.TheVariants.{NotGenuine, NoMemory, StoreFailed}
 use Rattle.cli_operands.specs.InOrder.{FailsFirst}
-use Rattle.cli_operands.specs.Question.{AcceptsJust, HoldsVerdicts, IsFailureOnVerdicts}
+use Rattle.cli_operands.specs.Question.{AcceptsJust, HoldsFingerprints, IsFailureOnFingerprints}
 use Rattle.cli.specs.Standing.{IsFaultNumber, IsFound, IsIntact, IsNotMade, IsUnanswered, Leaving, Seen, Standing}
 use Rattle.cli.specs.declared.delivering.Delivery.{Delivery}
 
@@ -45,7 +45,7 @@ pub record IsDeliveredFor (holds : Holding) (stands : Standing) (leaves : Leavin
 -- the same of a party that believes the verdicts
 abbrev pub IsDelivered : Holding → Standing → Leaving → Delivery → Counts → Type 0
 IsDelivered holds stands leaves words counts =
-    (prints : List (List ℕ)) × (accepts : Accepts) × HoldsVerdicts holds words.verdicts.now prints
+    (prints : List (List ℕ)) × (accepts : Accepts) × HoldsFingerprints holds words.verdicts.now prints
     × AcceptsJust prints accepts × IsDeliveredFor holds stands leaves accepts words counts
 
 -- and counted so or so
@@ -129,12 +129,12 @@ IsFailureFor holds stands leaves accepts words =
 -- and for who believes the verdicts
 abbrev pub IsFailureForWhoBelieves : Holding → Standing → Leaving → Delivery → Failure → Type 0
 IsFailureForWhoBelieves holds stands leaves words failure =
-    (prints : List (List ℕ)) × (accepts : Accepts) × HoldsVerdicts holds words.verdicts.now prints
+    (prints : List (List ℕ)) × (accepts : Accepts) × HoldsFingerprints holds words.verdicts.now prints
     × AcceptsJust prints accepts × IsFailureFor holds stands leaves accepts words failure
 
 -- What is wrong, the first of it: the verdicts, and then that.
 abbrev pub IsFailureOfDelivery : Holding → Standing → Leaving → Delivery → Failure → Type 0
 IsFailureOfDelivery holds stands leaves words =
-    FailsFirst (IsFailureOnVerdicts holds words.verdicts.now)
-    ((prints : List (List ℕ)) × HoldsVerdicts holds words.verdicts.now prints)
+    FailsFirst (IsFailureOnFingerprints holds words.verdicts.now)
+    ((prints : List (List ℕ)) × HoldsFingerprints holds words.verdicts.now prints)
     (IsFailureForWhoBelieves holds stands leaves words)

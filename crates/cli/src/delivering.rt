@@ -15,7 +15,7 @@ use crate::stores::{Stores, failed};
 use cert::{CertFault, Certificate};
 use cli_answers::counts_to;
 use cli_failures::{Failure, Source, read_certificate};
-use cli_operands::read_verdicts;
+use cli_operands::read_fingerprints;
 use path_verifiers::{ListVerifier, Verifier};
 use relying::{Answer, DeliverFault, Event, Node, RunFault};
 use sqlite_std_file::File;
@@ -236,7 +236,7 @@ fn take<'a, S: Source + Stores>(
     ensures fails { IfErr result (IsFailureOfDelivery
         (S.holds source.now) (S.stands source.now) (S.leaves source.now) words.entry) }
 {
-    let prints = match read_verdicts(source, alloc, words.verdicts) {
+    let prints = match read_fingerprints(source, alloc, words.verdicts) {
         Ok(prints) => prints,
         Err(failure) => return Err(failure),
     };

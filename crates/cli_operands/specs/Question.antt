@@ -16,8 +16,8 @@ use Rattle.cli_operands.specs.PathText.{HoldPath, IsFailureOfPath}
 -- ---- verdicts
 
 -- the file names these fingerprints
-abbrev pub HoldsVerdicts : Holding → List ℕ → List (List ℕ) → Type 0
-HoldsVerdicts holds file prints =
+abbrev pub HoldsFingerprints : Holding → List ℕ → List (List ℕ) → Type 0
+HoldsFingerprints holds file prints =
     (octets : List ℕ) × holds file (Some octets) × Name (lines_of octets) prints
 
 -- a signature is accepted exactly where its fingerprint is one of these
@@ -28,10 +28,10 @@ AcceptsJust prints accepts =
     ↔ Contains prints (fingerprint_of algorithm key message signature)
 
 -- a failure on a file of verdicts
-abbrev pub IsFailureOnVerdicts : Holding → List ℕ → Failure → Type 0
-IsFailureOnVerdicts holds file (BadLine named line) =
+abbrev pub IsFailureOnFingerprints : Holding → List ℕ → Failure → Type 0
+IsFailureOnFingerprints holds file (BadLine named line) =
     (named.now ≡ file) × ((octets : List ℕ) × holds file (Some octets) × IsFirstBadLine octets line)
-IsFailureOnVerdicts holds file failure = IsUnread holds file failure
+IsFailureOnFingerprints holds file failure = IsUnread holds file failure
 
 -- ---- moments and purposes
 
@@ -77,8 +77,8 @@ IsFailureOfQuestion holds question =
     ((seconds : ℤ) × IsMoment question.moment.now seconds)
     (FailsFirst (IsBadPurpose (purpose_text question))
     ((contents : Option (List ℕ)) × IsPurposeOf (purpose_text question) contents)
-    (FailsFirst (IsFailureOnVerdicts holds question.verdicts.now)
-    ((prints : List (List ℕ)) × HoldsVerdicts holds question.verdicts.now prints)
+    (FailsFirst (IsFailureOnFingerprints holds question.verdicts.now)
+    ((prints : List (List ℕ)) × HoldsFingerprints holds question.verdicts.now prints)
     (FailsFirst (IsNoCertificate holds question.anchor.now)
     ((anchor : Certificate) × HoldsCertificate holds question.anchor.now anchor)
     (IsFailureOfPath holds (files_of question)))))

@@ -3,8 +3,8 @@ use Rattle.std.specs.Prelude.{◌≡◌, ◌≢◌, ◌<◌, ◌≤◌, ◌-◌,
 use Rattle.std.specs.List.{filter, slice_split}
 use Rattle.std.specs.Result.{result_ok}
 use Rattle.hex.specs.Hex.{decode_sized}
-use Rattle.cli_operands.specs.declared.verdict_lines.VerdictsFault.{VerdictsFault}
-use Rattle.cli_operands.specs.declared.verdict_lines.VerdictsFault.TheVariants.{Line, Memory}
+use Rattle.cli_operands.specs.declared.verdict_lines.FingerprintsFault.{FingerprintsFault}
+use Rattle.cli_operands.specs.declared.verdict_lines.FingerprintsFault.TheVariants.{Line, Memory}
 
 -- what stands between line feeds
 abbrev pub lines_of : List ℕ → List (List ℕ)
@@ -43,6 +43,6 @@ pub record IsFirstBadLine (octets : List ℕ) (number : ℕ) : Type 0 where
   pub first : (earlier : ℕ) → 1 ≤ earlier → earlier < number → IsBad (line_at octets earlier) → ⊥
 
 -- the octets are refused for their first bad line, or memory ran out
-abbrev pub IsRefusedWith : List ℕ → VerdictsFault → Type 0
+abbrev pub IsRefusedWith : List ℕ → FingerprintsFault → Type 0
 IsRefusedWith octets (Line number) = IsFirstBadLine octets number
 IsRefusedWith octets Memory = Unit {0}

@@ -12,6 +12,6 @@ mod verdict_lines;
 
 pub use moment::moment_of;
 pub use operand_files::{Operands, read_operands};
-pub use prints::read_verdicts;
+pub use prints::read_fingerprints;
 pub use purpose::purpose_of;
-pub use verdict_lines::{VerdictsFault, verdicts_of};
+pub use verdict_lines::{FingerprintsFault, fingerprints_of};

@@ -1,12 +1,12 @@
 //! What is asked of a path.
 ghost use Rattle.std.specs.Prelude.{map, IfErr, IfOk, option_map};
 ghost use Rattle.cli_operands.specs.Moment.{IsMoment};
-ghost use Rattle.cli_operands.specs.Question.{HoldsText, HoldsVerdicts, IsBadPurpose, IsFailureOfQuestion, IsPurposeOf, files_of, purpose_text};
+ghost use Rattle.cli_operands.specs.Question.{HoldsText, HoldsFingerprints, IsBadPurpose, IsFailureOfQuestion, IsPurposeOf, files_of, purpose_text};
 ghost use Rattle.cli_operands.specs.PathText.{HoldTexts};
 ghost use Rattle.cli_failures.specs.Failures.{IsNoCertificate};
 
 use crate::path_text::read_path;
-use crate::prints::read_verdicts;
+use crate::prints::read_fingerprints;
 use crate::{moment_of, purpose_of};
 use cli_failures::{Failure, Source, read_certificate};
 use cli_words::Question;
@@ -69,7 +69,7 @@ pub fn read_operands<'a, S: Source>(
     ensures purpose { IfOk result (λ asked. IsPurposeOf (purpose_text question.now)
         (option_map (λ contents. contents.items) asked.purpose)) }
     ensures verdicts { IfOk result (λ asked.
-        HoldsVerdicts (S.holds source.now) question.now.verdicts.now asked.prints.items) }
+        HoldsFingerprints (S.holds source.now) question.now.verdicts.now asked.prints.items) }
     ensures anchor { IfOk result (λ asked.
         HoldsText (S.holds source.now) question.now.anchor.now asked.anchor.items) }
     ensures path { IfOk result (λ asked. HoldTexts (S.holds source.now) (files_of question.now)
@@ -80,7 +80,7 @@ pub fn read_operands<'a, S: Source>(
         return Err(Failure::BadTime);
     };
     let purpose = read_purpose(alloc, question.purpose)?;
-    let prints = read_verdicts(source, alloc, question.verdicts)?;
+    let prints = read_fingerprints(source, alloc, question.verdicts)?;
     let anchor = read_anchor(source, alloc, question.anchor)?;
     let path = read_path(source, alloc, question.files.as_slice())?;
     Ok(Operands {

@@ -7,7 +7,7 @@ use thiserror::Error;
 
 /// Why a file of verdicts was refused.
 #[derive(Clone, Copy, Debug, PartialEq, Eq, Error)]
-pub enum VerdictsFault {
+pub enum FingerprintsFault {
     /// The line of this number, counted from 1, is the first on which something stands that is no fingerprint.
     #[error("line {0} is bad")]
     Line(usize),
@@ -15,13 +15,13 @@ pub enum VerdictsFault {
     Memory,
 }
 
-impl<T: Drop> From<AllocFailed<T>> for VerdictsFault {
-    ghost use Rattle.cli_operands.specs.declared.verdict_lines.VerdictsFault.TheVariants.{Memory};
+impl<T: Drop> From<AllocFailed<T>> for FingerprintsFault {
+    ghost use Rattle.cli_operands.specs.declared.verdict_lines.FingerprintsFault.TheVariants.{Memory};
 
     ghost from_gives = { λ _ fault. fault ≡ Memory };
 
-    fn from(_: AllocFailed<T>) -> VerdictsFault {
-        VerdictsFault::Memory
+    fn from(_: AllocFailed<T>) -> FingerprintsFault {
+        FingerprintsFault::Memory
     }
 }
 
@@ -54,7 +54,7 @@ fn print_in(line: &[u8]) -> Option<[u8; 32]>
 
 /// The fingerprints that the octets name, one a line: 64 hexadecimal digits of either case, and then nothing, or a space and any
 /// text. Empty lines are passed over; a line that a carriage return ends is bad.
-pub fn verdicts_of(alloc: Global, octets: &[u8]) -> Result<Vec<[u8; 32]>, VerdictsFault>
+pub fn fingerprints_of(alloc: Global, octets: &[u8]) -> Result<Vec<[u8; 32]>, FingerprintsFault>
     ensures named { IfOk result (λ prints. Name (lines_of octets.now) prints.items) }
     ensures refused { IfErr result (IsRefusedWith octets.now) }
 {
@@ -66,7 +66,7 @@ pub fn verdicts_of(alloc: Global, octets: &[u8]) -> Result<Vec<[u8; 32]>, Verdic
             continue;
         }
         let Some(print) = print_in(line) else {
-            return Err(VerdictsFault::Line(number));
+            return Err(FingerprintsFault::Line(number));
         };
         prints.push(print)?;
     }

@@ -1,6 +1,6 @@
 //! Files of verdicts.
 
-use cli_operands::{VerdictsFault, verdicts_of};
+use cli_operands::{FingerprintsFault, fingerprints_of};
 use std::alloc::Global;
 use std::process::Abort;
 use std::test::Fail;
@@ -113,15 +113,17 @@ fn reads_files_of_verdicts(rt: HostRuntime) -> Result<(), Fail> {
     let alloc = rt.alloc();
     for (name, lines, count) in FILES.iter() {
         let text = joined(alloc, lines)?;
-        let prints = verdicts_of(alloc, text.as_bytes()).ok().ok_or("a list")?;
+        let prints = fingerprints_of(alloc, text.as_bytes())
+            .ok()
+            .ok_or("a list")?;
         assert!(rt; are_named(prints.as_slice(), *count), "{name}");
     }
     Ok(())
 }
 
 fn is_refused(rt: &impl Abort, alloc: Global, name: &str, text: &str, number: usize) {
-    let fault = verdicts_of(alloc, text.as_bytes()).err();
-    assert!(rt; fault == Some(VerdictsFault::Line(number)), "{name}");
+    let fault = fingerprints_of(alloc, text.as_bytes()).err();
+    assert!(rt; fault == Some(FingerprintsFault::Line(number)), "{name}");
 }
 
 #[test]

@@ -5,7 +5,7 @@ use Rattle.std.proofs.lemmas.List.{length_push, map-append}
 use borrow.Author.Tests.{tests}
 use Rattle.cli_operands.specs.VerdictLines.{Name, print_in}
 use Rattle.cli_operands.proofs.Lines.{at_next, first_bad, good_more, is_bad, name_nothing, name_one, nothing_is_good, print_is_good}
-use Rattle.cli_operands.proofs.verdict_lines.verdicts_of.Goals as goal
+use Rattle.cli_operands.proofs.verdict_lines.fingerprints_of.Goals as goal
 
 pub loop-line-preserved-then-is_empty : goal.loop-line-preserved-then-is_empty
 loop-line-preserved-then-is_empty c =

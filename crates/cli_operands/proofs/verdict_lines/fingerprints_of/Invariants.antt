@@ -1,6 +1,6 @@
 use Rattle.std.proofs.Common.{◌≡◌, ◌≤◌, ℕ, length, map}
 use Rattle.cli_operands.specs.VerdictLines.{IsBad, Name, line_at}
-use Rattle.cli_operands.proofs.verdict_lines.verdicts_of.Given as goal
+use Rattle.cli_operands.proofs.verdict_lines.fingerprints_of.Given as goal
 
 abbrev pub invariant-loop-line : goal.invariant-loop-line
 invariant-loop-line l =
