@@ -22,6 +22,7 @@ migrated_over old new has ordered m =
       was_open = m.was_open;
       was = inr was;
       store = (was.0, m.held was.0 was.1);
+      is_open = m.is_open;
       unchanged = λ it. absurd (other old.now it.0 has it.1);
       migrated = m.held;
     }
@@ -40,6 +41,7 @@ adopted_over old new far h =
       was_open = h.0.0.was_open;
       was = inl (subst IsStore h.0.0.now_is h.1);
       store = h.1;
+      is_open = h.0.0.is_open;
       unchanged = λ it. h.0;
       migrated = λ held it. absurd (far it.rows.schema_is);
     }

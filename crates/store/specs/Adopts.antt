@@ -32,6 +32,7 @@ pub record IsTakenOver (old new : State) : Type 0 where
   pub was_open : IsTrue old.is_open
   pub was : IsStore old.now ⊎ IsVersion1 old.now
   pub store : IsStore new.now
+  pub is_open : IsTrue new.is_open
   pub unchanged : IsStore old.now → IsUnchanged old new
   pub migrated : (held : Holdings) → IsVersion1Of old.now held → IsStoreOf new.now held
 
@@ -151,3 +152,6 @@ IsStoreOn conn = HasCleanDisk (file_state conn) → IsStore (file_state conn).no
 
 abbrev pub IsEmptyStoreOn : {D : Type 0} {g : Ghosts D} → Held (FileStore D g) → Type 0
 IsEmptyStoreOn conn = HasCleanDisk (file_state conn) → IsStoreOf (file_state conn).now empty_holdings
+
+abbrev pub IsOpenOn : {D : Type 0} {g : Ghosts D} → Held (FileStore D g) → Type 0
+IsOpenOn conn = HasCleanDisk (file_state conn) → IsTrue (file_state conn).is_open

@@ -4,7 +4,8 @@ ghost use Rattle.std.specs.Prelude.{◌≡◌, ◌≢◌, false, IfErr, IfOk};
 ghost use Rattle.sqlite.specs.Files.{file_state};
 ghost use Rattle.statements_facts.specs.Fact.{issuer_of};
 ghost use Rattle.store_sql.specs.Statements.{CommitsNothing, IsDurable};
-ghost use Rattle.store.specs.Adopts.{FailsToReopen, Reopens, MayLeaveVersion2, IsCreatedOn, IsEmptyStoreOn, MayLeaveEmpty, WasStoreOn, KeepsStoreOn, MigratesStoreOn, IsStoreOn, PutsOn, AllOrNothingOn, FindsHeldOn, AreUsable, CopiesTo, RestartsOn};
+ghost use Rattle.store_adoption.specs.Creates.{IsSettled};
+ghost use Rattle.store.specs.Adopts.{FailsToReopen, Reopens, MayLeaveVersion2, IsCreatedOn, IsEmptyStoreOn, IsOpenOn, MayLeaveEmpty, WasStoreOn, KeepsStoreOn, MigratesStoreOn, IsStoreOn, PutsOn, AllOrNothingOn, FindsHeldOn, AreUsable, CopiesTo, RestartsOn};
 ghost use Rattle.store_maps.specs.Held.{IsCrlHeld, IsOcspHeld};
 
 use crate::adopting::{adopt, take_over};
@@ -38,6 +39,7 @@ impl<D: Disk + Drop> Store<D> {
         requires idle { conn.in_transaction ≡ false }
         ensures created { IfOk result (λ store. IsCreatedOn conn store.conn) }
         ensures nothing { IfOk result (λ store. IsEmptyStoreOn store.conn) }
+        ensures is_open { IfOk result (λ store. IsOpenOn store.conn) }
         ensures durable { IfOk result (λ store. IsDurable (file_state store.conn)) }
         ensures crash { IfOk result (λ store. MayLeaveEmpty conn store.conn) }
     {
@@ -54,6 +56,8 @@ impl<D: Disk + Drop> Store<D> {
         ensures unchanged { IfOk result (λ store. KeepsStoreOn conn store.conn) }
         ensures migrated { IfOk result (λ store. MigratesStoreOn conn store.conn) }
         ensures store { IfOk result (λ store. IsStoreOn store.conn) }
+        ensures is_open { IfOk result (λ store. IsOpenOn store.conn) }
+        ensures settled { IfOk result (λ store. IsSettled (file_state store.conn)) }
         ensures durable { IfOk result (λ store. IsDurable (file_state store.conn)) }
         ensures crash { IfOk result (λ store. MayLeaveVersion2 conn store.conn) }
     {

@@ -1,7 +1,9 @@
 //! Stores at paths.
 
 ghost use Rattle.std.specs.Prelude.{IfOk};
-ghost use Rattle.store.specs.Adopts.{IsEmptyStoreOn, IsStoreOn};
+ghost use Rattle.sqlite.specs.Files.{file_state};
+ghost use Rattle.store_adoption.specs.Creates.{IsSettled};
+ghost use Rattle.store.specs.Adopts.{IsEmptyStoreOn, IsOpenOn, IsStoreOn};
 
 use crate::handle::Store;
 use sqlite::Connection;
@@ -15,6 +17,8 @@ impl Store<File> {
     /// is no database, `StoreFault::Schema` where it is no store.
     pub fn open(rt: &HostRuntime, path: &str) -> Result<Store<File>, StoreFault>
         ensures store { IfOk result (λ store. IsStoreOn store.conn) }
+        ensures is_open { IfOk result (λ store. IsOpenOn store.conn) }
+        ensures settled { IfOk result (λ store. IsSettled (file_state store.conn)) }
     {
         if fs::open(rt, path).is_err() {
             return Err(StoreFault::Store);
@@ -28,6 +32,7 @@ impl Store<File> {
     /// Makes a store at a path, which holds nothing: `StoreFault::Store` where a file is there.
     pub fn make(rt: &HostRuntime, path: &str) -> Result<Store<File>, StoreFault>
         ensures store { IfOk result (λ store. IsEmptyStoreOn store.conn) }
+        ensures is_open { IfOk result (λ store. IsOpenOn store.conn) }
     {
         if fs::open(rt, path).is_ok() {
             return Err(StoreFault::Store);
