@@ -2,6 +2,8 @@
 #![tactic(auto)]
 
 #[cfg(test)]
+mod bad_cells;
+#[cfg(test)]
 mod looked_up;
 #[cfg(test)]
 mod putting;

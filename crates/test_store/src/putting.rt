@@ -137,18 +137,15 @@ pub fn listed<S: Alter>(
     }
 }
 
-/// What a response said.
+/// What a response said; `None` where it was not asked.
 pub fn said<S: Alter>(
     conn: &mut Connection<S>,
     issuer: &Issuer<'_>,
     single: &Single<'_>,
-) -> Option<HeldStatus> {
+) -> Option<Result<Option<HeldStatus>, StoreFault>> {
     if !conn.is_autocommit() {
         return None;
     }
     let mut tx = conn.transaction();
-    match ocsp(&mut tx, issuer, single.name_hash, single.serial) {
-        Ok(said) => said,
-        Err(_) => None,
-    }
+    Some(ocsp(&mut tx, issuer, single.name_hash, single.serial))
 }

@@ -28,6 +28,8 @@ pub enum Step {
     PutSingle(u32, Single<'static>),
     /// By the issuer's key, this is found.
     Says(&'static [u8], Single<'static>),
+    /// By the issuer's key, the same look-up is refused.
+    Refuses(&'static [u8], Single<'static>, StoreFault),
 }
 
 fn has_tables<S: Alter>(
@@ -50,8 +52,20 @@ fn is_same(said: &HeldStatus, single: &Single<'_>) -> bool {
 
 fn says<S: Alter>(conn: &mut Connection<S>, issuer: &Issuer<'_>, single: &Single<'_>) -> bool {
     match said(conn, issuer, single) {
-        Some(said) => is_same(&said, single),
-        None => false,
+        Some(Ok(Some(said))) => is_same(&said, single),
+        _ => false,
+    }
+}
+
+fn refuses<S: Alter>(
+    conn: &mut Connection<S>,
+    issuer: &Issuer<'_>,
+    single: &Single<'_>,
+    wanted: StoreFault,
+) -> bool {
+    match said(conn, issuer, single) {
+        Some(Err(fault)) => fault == wanted,
+        _ => false,
     }
 }
 
@@ -64,6 +78,7 @@ fn asks<S: Alter>(conn: &mut Connection<S>, issuer: &Issuer<'_>, step: &Step) ->
             listed(conn, issuer, scope, serial) == Some(wanted)
         }
         Step::Says(_key, single) => says(conn, issuer, &single),
+        Step::Refuses(_key, single, fault) => refuses(conn, issuer, &single, fault),
         _ => false,
     }
 }
@@ -77,12 +92,14 @@ fn does<S: Alter>(alloc: Global, conn: &mut Connection<S>, step: &Step) -> bool 
         Step::PutList(list, number) => put_list(conn, &list, number),
         Step::PutEntries(list, listed) => put_entries(alloc, conn, &list, listed),
         Step::PutSingle(id, single) => put_single(conn, id, &single),
-        Step::Add(key) | Step::HasId(key, _) | Step::Lists(key, _, _, _) | Step::Says(key, _) => {
-            match issuer(alloc, key) {
-                Some(issuer) => asks(conn, &issuer, step),
-                None => false,
-            }
-        }
+        Step::Add(key)
+        | Step::HasId(key, _)
+        | Step::Lists(key, _, _, _)
+        | Step::Says(key, _)
+        | Step::Refuses(key, _, _) => match issuer(alloc, key) {
+            Some(issuer) => asks(conn, &issuer, step),
+            None => false,
+        },
     }
 }
 
