@@ -1,4 +1,4 @@
-//! What `vectors` builds of texts in the notation of docs/FORMATS.md.
+//! What `vectors` builds of texts in the notation of docs/REFERENCE.md.
 
 use crate::rows::{FULL, ROWS};
 use crate::{holds, read_certificate};

@@ -1,4 +1,4 @@
-//! The revocation lists that `vectors` builds of texts in the notation of docs/FORMATS.md.
+//! The revocation lists that `vectors` builds of texts in the notation of docs/REFERENCE.md.
 
 use crate::holds;
 use crate::rows::LISTS;
