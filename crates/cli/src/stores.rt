@@ -67,7 +67,7 @@ fn open<'a>(rt: &HostRuntime, path: &str) -> Result<Store<File>, Failure<'a>>
 {
     match Store::open(rt, path) {
         Ok(store) => Ok(store),
-        Err(fault) => Err(failed(fault)),
+        Err(refusal) => Err(failed(refusal.fault())),
     }
 }
 
@@ -79,7 +79,7 @@ fn make<'a>(rt: &HostRuntime, path: &str) -> Result<Store<File>, Failure<'a>>
 {
     match Store::make(rt, path) {
         Ok(store) => Ok(store),
-        Err(fault) => Err(failed(fault)),
+        Err(refusal) => Err(failed(refusal.fault())),
     }
 }
 

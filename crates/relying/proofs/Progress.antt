@@ -10,10 +10,10 @@ use Rattle.sqlite.specs.State.{State, HasCleanDisk}
 use Rattle.statements_facts.specs.declared.counts.Counts.{Counts}
 use Rattle.path.specs.Query.{Accepts}
 use Rattle.relying_agreement.specs.Run.{Event}
-use Rattle.relying_verdicts.specs.declared.fault.Fault.{Fault}
+use Rattle.store.specs.declared.refusal.ReopenFault.{ReopenFault}
 use Rattle.relying.specs.declared.events.Event as said
 use Rattle.relying.specs.declared.fault.DeliverFault.{DeliverFault}
-use Rattle.relying.specs.Restart.{FailsToRestart}
+use Rattle.store.specs.Opens.{FailsToReopen}
 use Rattle.relying.specs.Run.{RanSoFar, Ran, HasHappened, StopsAt, AddsAnswer, AreAnswersTo, seen_event}
 use Rattle.relying.proofs.Happening.{one_more, one_more_answered, ends}
 
@@ -37,8 +37,8 @@ module _ (accepts : Accepts) (events : List said.Event) (i : ℕ) where
   pub all_answered : (answers : List (Result Counts DeliverFault)) → length events ≤ i → AreAnswersTo accepts (map seen_event (take i events)) answers → AreAnswersTo accepts (map seen_event events) answers
   all_answered answers all told = subst (λ done. AreAnswersTo accepts (map seen_event done) answers) (take_all i events all) told
 
-  pub stops_at : {D : Type 0} {g : Ghosts D} (d : said.Event) (answers : List (Result Counts DeliverFault)) (old last : Held (FileStore D g)) (fault : Fault) → i < length events
-      → (HasCleanDisk (file_state last) → RanSoFar accepts (map seen_event (take i events)) answers (file_state old) (file_state last)) → seen_event (get_or events i d) ≡ Event.Restart → FailsToRestart last fault
+  pub stops_at : {D : Type 0} {g : Ghosts D} (d : said.Event) (answers : List (Result Counts DeliverFault)) (old last : Held (FileStore D g)) (fault : ReopenFault D g) → i < length events
+      → (HasCleanDisk (file_state last) → RanSoFar accepts (map seen_event (take i events)) answers (file_state old) (file_state last)) → seen_event (get_or events i d) ≡ Event.Restart → FailsToReopen last fault
       → StopsAt accepts (map seen_event events) i old fault
   stops_at d answers old last fault below ran restarts fails = record {
     at = slice_get-map seen_event events i ∙ ap (option_map seen_event) (slice_get-get_or events i d below) ∙ ap (λ e. Some e) restarts;

@@ -17,8 +17,8 @@ use Rattle.relying.specs.declared.events.Event as said
 use Rattle.relying.specs.declared.fault.DeliverFault.{DeliverFault}
 use Rattle.relying.specs.declared.fault.DeliverFault.TheVariants.{Store}
 use Rattle.relying.specs.Delivery.{IsAnswerTo, IsReason, Says}
-use Rattle.relying.specs.Restart.{FailsToRestart}
-use Rattle.relying_verdicts.specs.declared.fault.Fault.{Fault}
+use Rattle.store.specs.Opens.{FailsToReopen}
+use Rattle.store.specs.declared.refusal.ReopenFault.{ReopenFault}
 
 abbrev pub seen_event : said.Event → Event
 seen_event (said.TheVariants.Deliver issuer statement) = Event.Deliver issuer.now statement.now
@@ -91,12 +91,12 @@ pub record AddsAnswer (accepts : Accepts) (event : Event) (before after : List (
   pub answers : AreAnswersTo accepts (event ∷ []) added
 
 -- A restart that fails, behind so many events, which ran so.
-pub record StopsAt {D : Type 0} {g : Ghosts D} (accepts : Accepts) (events : List Event) (done : ℕ) (old : Held (FileStore D g)) (fault : Fault) : Type 0 where
+pub record StopsAt {D : Type 0} {g : Ghosts D} (accepts : Accepts) (events : List Event) (done : ℕ) (old : Held (FileStore D g)) (fault : ReopenFault D g) : Type 0 where
   pub at : slice_get events done ≡ Some Event.Restart
   pub last : Held (FileStore D g)
   pub answers : List (Result Counts DeliverFault)
   pub so_far : HasCleanDisk (file_state last) → RanSoFar accepts (take done events) answers (file_state old) (file_state last)
-  pub fails : FailsToRestart last fault
+  pub fails : FailsToReopen last fault
 
 -- ---- laws
 

@@ -4,16 +4,16 @@ ghost use Rattle.std.specs.Prelude.{◌≡◌, ◌≤◌, ◌<◌, ◌+◌, IfEr
 ghost use Rattle.sqlite.specs.State.{HasCleanDisk};
 ghost use Rattle.relying_agreement.specs.Run.{Event as Happened};
 ghost use Rattle.relying.specs.Run.{AddsAnswer, HasHappened, seen_event};
-ghost use Rattle.relying.specs.Restart.{FailsToRestart};
 ghost use Rattle.relying.specs.View.{stored};
+ghost use Rattle.store.specs.Opens.{FailsToReopen};
 
 use crate::fault::DeliverFault;
 use crate::node::Node;
 use path_verifiers::Verifier;
-use relying_verdicts::Fault;
 use sqlite_disk::Disk;
 use statements_facts::Counts;
 use std::alloc::Global;
+use store::ReopenFault;
 
 /// What reaches a relying party.
 #[derive(Clone, Copy, Debug, PartialEq, Eq)]
@@ -58,7 +58,7 @@ pub(crate) fn take_event<V: Verifier + Drop, D: Disk + Drop>(
     alloc: Global,
     event: &Event<'_>,
     answers: &mut Vec<Answer>,
-) -> Result<Node<V, D>, Fault>
+) -> Result<Node<V, D>, ReopenFault<D>>
     requires room { vec_len answers.old < vec_capacity answers.old }
     ensures verifier { IfOk result (λ next. next.verifier ≡ node.verifier) }
     ensures clean { IfOk result (λ next. HasCleanDisk (stored next) → HasCleanDisk (stored node)) }
@@ -68,7 +68,7 @@ pub(crate) fn take_event<V: Verifier + Drop, D: Disk + Drop>(
         → HasHappened (V.accepts node.verifier) (seen_event event.now)
         answers.old.items answers.new.items (stored node) (stored next)) }
     ensures fails { IfErr result (λ fault.
-        (seen_event event.now ≡ Happened.Restart) × FailsToRestart node.store.conn fault) }
+        (seen_event event.now ≡ Happened.Restart) × FailsToReopen node.store.conn fault) }
     ensures capacity { vec_capacity answers.old ≤ vec_capacity answers.new }
     ensures len { vec_len answers.new ≤ vec_len answers.old + 1 }
 {

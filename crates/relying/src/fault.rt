@@ -3,9 +3,9 @@
 use crate::node::Node;
 use cert::CertFault;
 use path_verifiers::Verifier;
-use relying_verdicts::Fault;
 use sqlite_disk::Disk;
 use statements_parts::StatementFault;
+use store::ReopenFault;
 use store_sql::StoreFault;
 use thiserror::Error;
 
@@ -25,7 +25,6 @@ pub enum DeliverFault {
 pub enum RunFault<V: Verifier, D: Disk> {
     /// There is no room for the answers. Nothing was done.
     NoRoom(Node<V, D>),
-    /// A restart fails, behind so many events that were done. The relying party is no more; its files are as the last delivery
-    /// left them.
-    Restart(usize, Fault),
+    /// A restart fails, behind so many events that were done. What is left of the store holds what the last delivery left.
+    Restart(usize, ReopenFault<D>),
 }

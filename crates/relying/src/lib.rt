@@ -18,3 +18,4 @@ pub use fault::{DeliverFault, RunFault};
 pub use node::Node;
 pub use relying_verdicts::{Comparison, Fault, Query, QueryFault, Verdict};
 pub use running::run_laws;
+pub use store::ReopenFault;

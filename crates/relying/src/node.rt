@@ -5,9 +5,10 @@ ghost use Rattle.store_sql.specs.Statements.{IsDurable, CommitsNothing};
 ghost use Rattle.relying_agreement.specs.Verdict.{IsVerdict};
 ghost use Rattle.relying.specs.Asking.{AnswersOnlyIfOpen, Looks};
 ghost use Rattle.relying.specs.Delivery.{AnswersDelivery, IsAnswerTo, MayCommitDelivery};
-ghost use Rattle.relying.specs.Restart.{FailsToRestart, HasRestarted};
+ghost use Rattle.relying.specs.Restart.{HasRestarted};
 ghost use Rattle.relying.specs.View.{stored};
 ghost use Rattle.relying_verdicts.specs.View.{seen_query};
+ghost use Rattle.store.specs.Opens.{FailsToReopen};
 
 use crate::delivering::deliver;
 use crate::fault::DeliverFault;
@@ -17,7 +18,7 @@ use relying_verdicts::{Fault, Query, Verdict};
 use sqlite_disk::Disk;
 use statements_facts::Counts;
 use std::alloc::Global;
-use store::Store;
+use store::{ReopenFault, Store};
 
 /// A relying party: by what it judges signatures, and the newest statements that it has seen.
 pub struct Node<V: Verifier, D: Disk> {
@@ -89,18 +90,17 @@ impl<V: Verifier + Drop, D: Disk + Drop> Node<V, D> {
         verdict_of(alloc, &self.verifier, &mut self.store.conn, query)
     }
 
-    /// Closes the store's files and takes them for a store again. Where that fails there is no party any more: the caller opens
-    /// the store anew.
-    pub fn restart(self, alloc: Global) -> Result<Node<V, D>, Fault>
+    /// Closes the store's files and takes them for a store again. Where that fails, what is left of the store comes back.
+    pub fn restart(self, alloc: Global) -> Result<Node<V, D>, ReopenFault<D>>
         ensures verifier { IfOk result (λ node. node.verifier ≡ self.verifier) }
         ensures restarts { IfOk result (HasRestarted self) }
         ensures durable { IfOk result (λ node. IsDurable (stored node)) }
-        ensures fails { IfErr result (FailsToRestart self.store.conn) }
+        ensures fails { IfErr result (FailsToReopen self.store.conn) }
     {
         let Node { verifier, store } = self;
         match store.reopen(alloc) {
             Ok(store) => Ok(Node { verifier, store }),
-            Err(fault) => Err(Fault::Store(fault)),
+            Err(fault) => Err(fault),
         }
     }
 }

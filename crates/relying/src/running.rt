@@ -10,9 +10,9 @@ use crate::events::{Answer, Event, take_event};
 use crate::fault::RunFault;
 use crate::node::Node;
 use path_verifiers::Verifier;
-use relying_verdicts::Fault;
 use sqlite_disk::Disk;
 use std::alloc::Global;
+use store::ReopenFault;
 
 /// The events in order. There is room for the answers.
 fn run_all<V: Verifier + Drop, D: Disk + Drop>(
@@ -20,7 +20,7 @@ fn run_all<V: Verifier + Drop, D: Disk + Drop>(
     alloc: Global,
     events: &[Event<'_>],
     answers: &mut Vec<Answer>,
-) -> Result<Node<V, D>, (usize, Fault)>
+) -> Result<Node<V, D>, (usize, ReopenFault<D>)>
     requires none { answers.old.items ≡ [] }
     requires room { length events.now ≤ vec_capacity answers.old }
     ensures verifier { IfOk result (λ last. last.verifier ≡ node.verifier) }
@@ -45,7 +45,8 @@ fn run_all<V: Verifier + Drop, D: Disk + Drop>(
 
 impl<V: Verifier + Drop, D: Disk + Drop> Node<V, D> {
     /// Takes the events in order, and tells the answers to the deliveries in order. Room for as many answers as there are events is
-    /// taken first: where there is none, nothing is done and the party comes back. A restart that fails ends the run.
+    /// taken first: where there is none, nothing is done and the party comes back. A restart that fails ends the
+    /// run, and what is left of the store comes back.
     pub fn run(
         self,
         alloc: Global,

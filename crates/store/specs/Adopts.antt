@@ -1,5 +1,5 @@
 -- What the calls of a store say of the database outside a transaction.
-use Rattle.std.specs.Prelude.{◌≡◌, ◌⊎◌, Result, Ok, Err, IsTrue}
+use Rattle.std.specs.Prelude.{◌≡◌, ◌≢◌, ◌⊎◌, Result, Ok, Err, IsTrue}
 use Rattle.sqlite.specs.Effect.{Database}
 use Rattle.sqlite.specs.State.{State, HasCleanDisk, IsUnchanged, KeepsCommit, Survives}
 use Rattle.sqlite_disk.specs.declared.Disk.{Ghosts}
@@ -14,7 +14,6 @@ use Rattle.statements_facts.specs.declared.fact.Facts.{Facts}
 use Rattle.statements_facts.specs.Statement.{Holdings, empty_holdings}
 use Rattle.store_sql.specs.declared.fault.StoreFault.{StoreFault}
 use Rattle.store_sql.specs.declared.fault.StoreFault.TheVariants.{Schema}
-use Rattle.store_sql.specs.Statements.{CommitsNothing}
 use Rattle.store_maps.specs.Held.{IsStoreOf, AreTreesOf}
 use Rattle.sqlite_trees.specs.Tree.{Trees}
 use Rattle.store_taking.specs.Delivery.{PutsFacts, AllOrNothing}
@@ -48,6 +47,10 @@ TakesOverOrdered old new (Err fault) = KeepsCommit old new × (fault ≡ Schema 
 
 abbrev pub TakesOverInOrder : {A : Type 0} → State → State → Result A StoreFault → Type 0
 TakesOverInOrder old new result = HasCleanDisk new → TakesOverOrdered old new result
+
+-- the database is a store of neither version
+abbrev pub IsNoStore : Database → Type 0
+IsNoStore db = (held : Holdings) → IsStoreOf db held ⊎ IsVersion1Of db held → ⊥
 
 -- the store of version 2 that one of version 1 becomes
 abbrev pub IsMigratedFrom : State → Trees → Type 0
@@ -89,21 +92,6 @@ pub record Restarts (old new : State) : Type 0 where
   pub is_open : IsTrue new.is_open
   pub holds : (held : Holdings) → IsStoreOf old.now held → IsStoreOf new.now held
 
--- A connection that was opened on the files that a close gave back is none of a store. Where its disk returned what was written, what
--- was closed was none either.
-pub record IsNoStoreAgain {D : Type 0} {g : Ghosts D} (old : Held (FileStore D g)) : Type 0 where
-  pub files : Files D
-  pub copied : AreClean g files.log files.db → IsCopied old files
-  pub opened : Held (FileStore D g)
-  pub found : HasCleanDisk (file_state opened) → Finds files opened
-  pub again : Held (FileStore D g)
-  pub read : CommitsNothing (file_state opened) (file_state again)
-  pub none : HasCleanDisk (file_state again) → (held : Holdings) → IsStoreOf (file_state old).now held → ⊥
-
-abbrev pub FailsToReopen : {D : Type 0} {g : Ghosts D} → Held (FileStore D g) → StoreFault → Type 0
-FailsToReopen old Schema = IsNoStoreAgain old
-FailsToReopen old fault = Unit {0}
-
 -- ---- calls on a connection over files, if the disk has returned what was written
 
 module _ {D : Type 0} {g : Ghosts D} (old new : Held (FileStore D g)) where
@@ -122,6 +110,14 @@ module _ {D : Type 0} {g : Ghosts D} (old new : Held (FileStore D g)) where
 
   abbrev pub IsCreatedOn : Type 0
   IsCreatedOn = HasCleanDisk (file_state new) → IsCreated (file_state old) (file_state new)
+
+  -- The connection is as it was, if it is still open, and the fault is not for the tables.
+  abbrev pub IsNotCreatedOn : StoreFault → Type 0
+  IsNotCreatedOn fault = HasCleanDisk (file_state new) → StaysIfOpen (file_state old) (file_state new) × (fault ≢ Schema)
+
+  -- The connection is as it was, if it is still open, and the fault is for the tables and rows only where they are those of no store.
+  abbrev pub IsNotAdoptedOn : StoreFault → Type 0
+  IsNotAdoptedOn fault = HasCleanDisk (file_state new) → StaysIfOpen (file_state old) (file_state new) × (fault ≡ Schema → IsNoStore (file_state old).now)
 
   -- it was a store, or of version 1
   abbrev pub WasStoreOn : Type 0

@@ -1,1 +1,2 @@
 pub mod Adopts
+pub mod Opens

@@ -1,15 +1,18 @@
 //! A store over files.
 
 ghost use Rattle.std.specs.Prelude.{◌≡◌, ◌≢◌, false, IfErr, IfOk};
-ghost use Rattle.sqlite.specs.Files.{file_state};
+ghost use Rattle.sqlite.specs.Files.{IsClosed, file_state};
 ghost use Rattle.statements_facts.specs.Fact.{issuer_of};
 ghost use Rattle.store_sql.specs.Statements.{CommitsNothing, IsDurable};
 ghost use Rattle.store_adoption.specs.Creates.{IsSettled};
-ghost use Rattle.store.specs.Adopts.{FailsToReopen, Reopens, MayLeaveVersion2, IsCreatedOn, IsEmptyStoreOn, IsOpenOn, MayLeaveEmpty, WasStoreOn, KeepsStoreOn, MigratesStoreOn, IsStoreOn, PutsOn, AllOrNothingOn, FindsHeldOn, AreUsable, CopiesTo, RestartsOn};
+ghost use Rattle.store.specs.Adopts.{Reopens, MayLeaveVersion2, IsCreatedOn, IsEmptyStoreOn, IsNotAdoptedOn, IsNotCreatedOn, IsOpenOn, MayLeaveEmpty, WasStoreOn, KeepsStoreOn, MigratesStoreOn, IsStoreOn, PutsOn, AllOrNothingOn, FindsHeldOn, AreUsable, CopiesTo, RestartsOn};
+ghost use Rattle.store.specs.Opens.{FailsToReopen, reopen_fault};
+ghost use Rattle.store_migration.specs.Migrates.{MayLeaveMigrated};
 ghost use Rattle.store_maps.specs.Held.{IsCrlHeld, IsOcspHeld};
 
 use crate::adopting::{adopt, take_over};
 use crate::look_up::{look_up_crl, look_up_ocsp};
+use crate::refusal::{Refused, ReopenFault};
 use crate::reopening::open_again;
 use sqlite::{Connection, FileStore, Files};
 use sqlite_disk::Disk;
@@ -33,24 +36,41 @@ impl<D: Disk + Drop> Drop for Store<D> {
     }
 }
 
+impl<D: Disk> ReopenFault<D> {
+    /// The fault alone.
+    pub fn fault(&self) -> StoreFault
+        ensures { result ≡ reopen_fault self.now }
+    {
+        match self {
+            ReopenFault::Close(fault, _) | ReopenFault::Open(fault, _) => *fault,
+            ReopenFault::Adopt(refused) => refused.fault,
+        }
+    }
+}
+
 impl<D: Disk + Drop> Store<D> {
-    /// Makes a store in an empty database. It holds nothing. Where a table stands there already, that is `StoreFault::Store`.
-    pub fn create(mut conn: Connection<FileStore<D>>) -> Result<Store<D>, StoreFault>
+    /// Makes a store in an empty database. It holds nothing. Where a table stands there already, that is `StoreFault::Store`. After a
+    /// fault no table was made, and the connection comes back.
+    pub fn create(mut conn: Connection<FileStore<D>>) -> Result<Store<D>, Refused<D>>
         requires idle { conn.in_transaction ≡ false }
         ensures created { IfOk result (λ store. IsCreatedOn conn store.conn) }
         ensures nothing { IfOk result (λ store. IsEmptyStoreOn store.conn) }
         ensures is_open { IfOk result (λ store. IsOpenOn store.conn) }
         ensures durable { IfOk result (λ store. IsDurable (file_state store.conn)) }
         ensures crash { IfOk result (λ store. MayLeaveEmpty conn store.conn) }
+        ensures refused { IfErr result (λ refused. IsNotCreatedOn conn refused.conn refused.fault) }
+        ensures refused_durable { IfErr result (λ refused. IsDurable (file_state refused.conn)) }
+        ensures refused_crash { IfErr result (λ refused. MayLeaveEmpty conn refused.conn) }
     {
         match create(&mut conn) {
             Ok(()) => Ok(Store { conn }),
-            Err(fault) => Err(fault),
+            Err(fault) => Err(Refused { fault, conn }),
         }
     }
 
-    /// Takes a database for a store, and migrates it first where it is of version 1: `StoreFault::Schema` where it is neither.
-    pub fn adopt(alloc: Global, mut conn: Connection<FileStore<D>>) -> Result<Store<D>, StoreFault>
+    /// Takes a database for a store, and migrates it first where it is of version 1: `StoreFault::Schema` where it is neither. After a
+    /// fault the database is as it was, and the connection comes back.
+    pub fn adopt(alloc: Global, mut conn: Connection<FileStore<D>>) -> Result<Store<D>, Refused<D>>
         requires idle { conn.in_transaction ≡ false }
         ensures was { IfOk result (λ store. WasStoreOn conn store.conn) }
         ensures unchanged { IfOk result (λ store. KeepsStoreOn conn store.conn) }
@@ -60,10 +80,14 @@ impl<D: Disk + Drop> Store<D> {
         ensures settled { IfOk result (λ store. IsSettled (file_state store.conn)) }
         ensures durable { IfOk result (λ store. IsDurable (file_state store.conn)) }
         ensures crash { IfOk result (λ store. MayLeaveVersion2 conn store.conn) }
+        ensures refused { IfErr result (λ refused. IsNotAdoptedOn conn refused.conn refused.fault) }
+        ensures refused_durable { IfErr result (λ refused. IsDurable (file_state refused.conn)) }
+        ensures refused_crash { IfErr result (λ refused.
+            MayLeaveMigrated (file_state conn) (file_state refused.conn)) }
     {
         match take_over(alloc, &mut conn) {
             Ok(()) => Ok(Store { conn }),
-            Err(fault) => Err(fault),
+            Err(fault) => Err(Refused { fault, conn }),
         }
     }
 
@@ -108,25 +132,24 @@ impl<D: Disk + Drop> Store<D> {
     }
 
     /// Closes the store: the database file then has all that is held, and a connection that is opened on the files is the same store.
-    pub fn into_files(self) -> Result<Files<D>, StoreFault>
+    /// Where that fails, what SQLite keeps of the files comes back; what was committed is safe.
+    pub fn into_files(self) -> Result<Files<D>, (StoreFault, FileStore<D>)>
         ensures usable { IfOk result (AreUsable D.Disk) }
         ensures copied { IfOk result (CopiesTo self.conn) }
         ensures reopens { IfOk result (Reopens self.conn) }
-        ensures fault { IfErr result (λ fault. fault ≢ StoreFault.Schema) }
+        ensures fault { IfErr result (λ failed. failed.0 ≢ StoreFault.Schema) }
+        ensures left { IfErr result (λ failed. IsClosed self.conn failed.1) }
     {
         let Store { conn } = self;
         let _settled = conn.is_autocommit();
         match conn.close_files() {
             Ok(files) => Ok(files),
-            Err((error, store)) => {
-                drop(store.close());
-                Err(StoreFault::from(error))
-            }
+            Err((error, left)) => Err((StoreFault::from(error), left)),
         }
     }
 
     /// Closes the store's files and takes them for a store again.
-    pub fn reopen(self, alloc: Global) -> Result<Store<D>, StoreFault>
+    pub fn reopen(self, alloc: Global) -> Result<Store<D>, ReopenFault<D>>
         ensures restarts { IfOk result (λ store. RestartsOn self.conn store.conn) }
         ensures durable { IfOk result (λ store. IsDurable (file_state store.conn)) }
         ensures fails { IfErr result (FailsToReopen self.conn) }
@@ -134,12 +157,12 @@ impl<D: Disk + Drop> Store<D> {
         let mut conn = match self.into_files() {
             Ok(files) => match open_again(alloc, files) {
                 Ok(conn) => conn,
-                Err(fault) => return Err(fault),
+                Err((fault, left)) => return Err(ReopenFault::Open(fault, left)),
             },
-            Err(fault) => return Err(fault),
+            Err((fault, left)) => return Err(ReopenFault::Close(fault, left)),
         };
         if let Err(fault) = adopt(&mut conn) {
-            return Err(fault);
+            return Err(ReopenFault::Adopt(Refused { fault, conn }));
         }
         Ok(Store { conn })
     }

@@ -5,8 +5,10 @@ mod adopting;
 mod handle;
 mod look_up;
 mod paths;
+mod refusal;
 mod reopening;
 
 pub use adopting::{adopt, take_over};
 pub use handle::Store;
 pub use look_up::{look_up_crl, look_up_ocsp};
+pub use refusal::{OpenFault, Refused, ReopenFault};

@@ -1,45 +1,68 @@
 //! Stores at paths.
 
-ghost use Rattle.std.specs.Prelude.{IfOk};
+ghost use Rattle.std.specs.Prelude.{◌≡◌, IfErr, IfOk};
 ghost use Rattle.sqlite.specs.Files.{file_state};
 ghost use Rattle.store_adoption.specs.Creates.{IsSettled};
 ghost use Rattle.store.specs.Adopts.{IsEmptyStoreOn, IsOpenOn, IsStoreOn};
+ghost use Rattle.store.specs.Opens.{IsNotMade, IsNotOpened, fault_of};
 
 use crate::handle::Store;
+use crate::refusal::OpenFault;
 use sqlite::Connection;
 use sqlite_std_file::File;
 use std::fs;
 use std::rt::HostRuntime;
 use store_sql::StoreFault;
 
+impl OpenFault {
+    /// The fault alone.
+    pub fn fault(&self) -> StoreFault
+        ensures { result ≡ fault_of self.now }
+    {
+        match self {
+            OpenFault::Unconnected(fault) => *fault,
+            OpenFault::Refused(refused) => refused.fault,
+        }
+    }
+}
+
 impl Store<File> {
     /// Takes the file at a path for a store, and migrates it first where it is of version 1: `StoreFault::Store` where there is none or it
-    /// is no database, `StoreFault::Schema` where it is no store.
-    pub fn open(rt: &HostRuntime, path: &str) -> Result<Store<File>, StoreFault>
+    /// is no database, `StoreFault::Schema` where it is no store. A connection that is not taken for a store comes back.
+    pub fn open(rt: &HostRuntime, path: &str) -> Result<Store<File>, OpenFault>
         ensures store { IfOk result (λ store. IsStoreOn store.conn) }
         ensures is_open { IfOk result (λ store. IsOpenOn store.conn) }
         ensures settled { IfOk result (λ store. IsSettled (file_state store.conn)) }
+        ensures fails { IfErr result IsNotOpened }
     {
         if fs::open(rt, path).is_err() {
-            return Err(StoreFault::Store);
+            return Err(OpenFault::Unconnected(StoreFault::Store));
         }
         match Connection::open(rt, path) {
-            Ok(conn) => Store::adopt(rt.alloc(), conn),
-            Err(error) => Err(StoreFault::from(error)),
+            Ok(conn) => match Store::adopt(rt.alloc(), conn) {
+                Ok(store) => Ok(store),
+                Err(refused) => Err(OpenFault::Refused(refused)),
+            },
+            Err(error) => Err(OpenFault::Unconnected(StoreFault::from(error))),
         }
     }
 
-    /// Makes a store at a path, which holds nothing: `StoreFault::Store` where a file is there.
-    pub fn make(rt: &HostRuntime, path: &str) -> Result<Store<File>, StoreFault>
+    /// Makes a store at a path, which holds nothing: `StoreFault::Store` where a file is there. A connection in which no store could be
+    /// made comes back.
+    pub fn make(rt: &HostRuntime, path: &str) -> Result<Store<File>, OpenFault>
         ensures store { IfOk result (λ store. IsEmptyStoreOn store.conn) }
         ensures is_open { IfOk result (λ store. IsOpenOn store.conn) }
+        ensures fails { IfErr result IsNotMade }
     {
         if fs::open(rt, path).is_ok() {
-            return Err(StoreFault::Store);
+            return Err(OpenFault::Unconnected(StoreFault::Store));
         }
         match Connection::open(rt, path) {
-            Ok(conn) => Store::create(conn),
-            Err(error) => Err(StoreFault::from(error)),
+            Ok(conn) => match Store::create(conn) {
+                Ok(store) => Ok(store),
+                Err(refused) => Err(OpenFault::Refused(refused)),
+            },
+            Err(error) => Err(OpenFault::Unconnected(StoreFault::from(error))),
         }
     }
 }

@@ -1,10 +1,10 @@
 //! Files of a store that are opened again.
 
 ghost use Rattle.std.specs.Prelude.{◌≡◌, ◌≢◌, false, IfErr, IfOk, IsTrue};
-ghost use Rattle.sqlite.specs.Files.{file_state, Finds, IsOpened};
+ghost use Rattle.sqlite.specs.Files.{Finds, IsCleanLeft, IsOpened, LeavesFiles, file_state};
 ghost use Rattle.sqlite.specs.State.{HasCleanDisk};
 
-use sqlite::{Connection, FileStore, Files, Options};
+use sqlite::{Connection, FileStore, Files, Leftover, Options};
 use sqlite_disk::Disk;
 use std::alloc::Global;
 use store_sql::StoreFault;
@@ -16,16 +16,17 @@ const SEED: u64 = 0;
 pub(crate) fn open_again<D: Disk + Drop>(
     alloc: Global,
     files: Files<D>,
-) -> Result<Connection<FileStore<D>>, StoreFault>
+) -> Result<Connection<FileStore<D>>, (StoreFault, Leftover<D>)>
     requires log { IsTrue (D.Disk.is_usable files.log) }
     requires db { IsTrue (D.Disk.is_usable files.db) }
     ensures idle { IfOk result (λ conn. conn.in_transaction ≡ false) }
     ensures opened { IfOk result (λ conn. HasCleanDisk (file_state conn) → IsOpened conn) }
     ensures found { IfOk result (λ conn. HasCleanDisk (file_state conn) → Finds files conn) }
-    ensures fault { IfErr result (λ fault. fault ≢ StoreFault.Schema) }
+    ensures fault { IfErr result (λ failed. failed.0 ≢ StoreFault.Schema) }
+    ensures unharmed { IfErr result (λ failed. IsCleanLeft failed.1 → LeavesFiles files failed.1) }
 {
     match Connection::open_files(alloc, files, Options::new(SEED)) {
         Ok(conn) => Ok(conn),
-        Err((error, _left)) => Err(StoreFault::from(error)),
+        Err((error, left)) => Err((StoreFault::from(error), left)),
     }
 }

@@ -1,5 +1,5 @@
 //! Tests of relying parties over disks in memory: what they take, what they say after it, also behind a restart and over a store of
-//! version 1, and where they agree.
+//! version 1, and where they agree; and of stores at paths of the system's files.
 #![tactic(auto)]
 
 #[cfg(test)]
@@ -8,6 +8,8 @@ mod agreeing;
 mod answering;
 #[cfg(test)]
 mod asking;
+#[cfg(test)]
+mod at_paths;
 #[cfg(test)]
 mod memory;
 #[cfg(test)]

@@ -95,6 +95,8 @@ pub fn asked<Q: Question>(alloc: Global, told: &[Told], question: &Q) -> Option<
     match party(alloc)?.run(alloc, &events) {
         Ok((mut party, answers)) => Some(question.is_answered(alloc, &mut party, &answers)),
         Err(RunFault::NoRoom(_)) => None,
-        Err(RunFault::Restart(done, fault)) => Some(question.is_stopped(done, fault)),
+        Err(RunFault::Restart(done, fault)) => {
+            Some(question.is_stopped(done, Fault::Store(fault.fault())))
+        }
     }
 }

@@ -1,3 +1,4 @@
+use Rattle.std.proofs.Common.{sym, ◌∙◌}
 use Rattle.store.proofs.handle.Store.adopt.Goals as goal
 
 pub returns-in-Ok-clause-unchanged : goal.returns-in-Ok-clause-unchanged
@@ -17,3 +18,9 @@ returns-in-Ok-clause-is_open g c clean = (c.in-Ok.ensures.takes clean).is_open
 
 pub returns-in-Ok-clause-settled : goal.returns-in-Ok-clause-settled
 returns-in-Ok-clause-settled g c = c.take_over.ensures.settled.1
+
+pub returns-in-Err-clause-refused : goal.returns-in-Err-clause-refused
+returns-in-Err-clause-refused g c clean =
+    let h = c.in-Err.ensures.takes clean in
+    let settled = c.take_over.ensures.settled in
+    (record { was_open = h.0.was_open; now_is = λ up. settled.1 up ∙ h.0.committed up ∙ sym (settled.0 (h.0.was_open up)) }, h.1)

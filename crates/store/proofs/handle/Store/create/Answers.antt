@@ -1,3 +1,4 @@
+use Rattle.std.proofs.Common.{sym, ◌∙◌}
 use Rattle.store.proofs.handle.Store.create.Goals as goal
 
 pub returns-in-Ok : goal.returns-in-Ok
@@ -7,7 +8,25 @@ returns-in-Ok g c = record {
   is_open = λ clean. (c.in-Ok.ensures.creates clean).is_open;
   durable = c.create.ensures.durable;
   crash = c.create.ensures.crash;
+  refused = tt;
+  refused_durable = tt;
+  refused_crash = tt;
 }
 
 pub returns-in-Err : goal.returns-in-Err
-returns-in-Err g c = record { created = tt; nothing = tt; is_open = tt; durable = tt; crash = tt }
+returns-in-Err g c = record {
+  created = tt;
+  nothing = tt;
+  is_open = tt;
+  durable = tt;
+  crash = tt;
+  refused = λ clean. let h = c.in-Err.ensures.creates clean in (
+    record {
+      was_open = h.0.was_open;
+      now_is = λ up. c.create.ensures.settled.1 up ∙ h.0.committed up ∙ sym (c.create.ensures.settled.0 (h.0.was_open up));
+    },
+    h.1,
+  );
+  refused_durable = c.create.ensures.durable;
+  refused_crash = c.create.ensures.crash;
+}

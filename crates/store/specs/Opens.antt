@@ -1,0 +1,64 @@
+-- Why no store is opened or made at a path, or opened again, and what is left then.
+use Rattle.std.specs.Prelude.{◌≡◌, ◌≢◌, IsTrue}
+use Rattle.sqlite_disk.specs.declared.Disk.{Ghosts}
+use Rattle.sqlite_disk.specs.declared.Files.{Files}
+use Rattle.sqlite_store.specs.declared.store.FileStore.{FileStore}
+use Rattle.sqlite.specs.Held.{Held}
+use Rattle.sqlite.specs.Files.{IsCleanLeft, IsClosed, LeavesFiles, file_state}
+use Rattle.sqlite.specs.State.{HasCleanDisk}
+use Rattle.sqlite.specs.declared.file.Leftover.{Leftover}
+use Rattle.statements_facts.specs.Statement.{Holdings}
+use Rattle.store_sql.specs.declared.fault.StoreFault.{StoreFault}
+use Rattle.store_sql.specs.declared.fault.StoreFault.TheVariants.{Schema}
+use Rattle.store_maps.specs.Held.{IsStoreOf}
+use Rattle.store.specs.declared.refusal.Refused as refusal
+use Rattle.store.specs.declared.refusal.ReopenFault.{ReopenFault}
+use Rattle.store.specs.declared.refusal.ReopenFault.TheVariants.{Close, Open, Adopt}
+use Rattle.store.specs.declared.refusal.OpenFault.{OpenFault}
+use Rattle.store.specs.declared.refusal.OpenFault.TheVariants.{Unconnected, Refused}
+use Rattle.store.specs.Adopts.{CopiesTo, IsNoStore}
+
+-- ---- at a path
+
+abbrev pub fault_of : OpenFault → StoreFault
+fault_of (Unconnected fault) = fault
+fault_of (Refused refused) = refused.fault
+
+-- The fault is for the tables and rows only of a connection that was opened, and where it is still open it shows no store, if the disk
+-- returned what was written.
+abbrev pub IsNotOpened : OpenFault → Type 0
+IsNotOpened (Unconnected fault) = fault ≢ Schema
+IsNotOpened (Refused refused) =
+    HasCleanDisk (file_state refused.conn) → IsTrue (file_state refused.conn).is_open → refused.fault ≡ Schema →
+    IsNoStore (file_state refused.conn).now
+
+-- the fault is never for the tables and rows
+abbrev pub IsNotMade : OpenFault → Type 0
+IsNotMade (Unconnected fault) = fault ≢ Schema
+IsNotMade (Refused refused) = HasCleanDisk (file_state refused.conn) → refused.fault ≢ Schema
+
+-- ---- again
+
+abbrev pub reopen_fault : {D : Type 0} {g : Ghosts D} → ReopenFault D g → StoreFault
+reopen_fault (Close fault left) = fault
+reopen_fault (Open fault left) = fault
+reopen_fault (Adopt refused) = refused.fault
+
+-- what is left are the files of a close, unharmed
+pub record LeavesClosed {D : Type 0} {g : Ghosts D} (old : Held (FileStore D g)) (left : Leftover D g) : Type 0 where
+  pub files : Files D
+  pub copied : CopiesTo old files
+  pub unharmed : IsCleanLeft left → LeavesFiles files left
+
+-- if the disk returned what was written, a connection that is not taken for a store again shows, while it is open, what the store
+-- held, and the fault is not for its tables and rows
+abbrev pub StillHolds : {D : Type 0} {g : Ghosts D} → Held (FileStore D g) → refusal.Refused D g → Type 0
+StillHolds old refused =
+    HasCleanDisk (file_state refused.conn) → (held : Holdings) → IsStoreOf (file_state old).now held →
+    (refused.fault ≢ Schema) × (IsTrue (file_state refused.conn).is_open → IsStoreOf (file_state refused.conn).now held)
+
+-- What is left of a store that is not taken for one again.
+abbrev pub FailsToReopen : {D : Type 0} {g : Ghosts D} → Held (FileStore D g) → ReopenFault D g → Type 0
+FailsToReopen old (Close fault left) = (fault ≢ Schema) × IsClosed old left
+FailsToReopen old (Open fault left) = (fault ≢ Schema) × LeavesClosed old left
+FailsToReopen old (Adopt refused) = StillHolds old refused

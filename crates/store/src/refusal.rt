@@ -1,0 +1,41 @@
+//! Why there is no store, and what is left.
+
+ghost use Rattle.std.specs.Prelude.{◌≡◌, false};
+
+use sqlite::{Connection, FileStore, Leftover};
+use sqlite_disk::Disk;
+use sqlite_std_file::File;
+use store_sql::StoreFault;
+
+/// A connection that is not taken for a store, as it was, and why.
+pub struct Refused<D: Disk> {
+    pub fault: StoreFault,
+    pub conn: Connection<FileStore<D>>,
+    pub ghost idle: { conn.in_transaction ≡ false },
+}
+
+impl<D: Disk + Drop> Drop for Refused<D> {
+    fn drop(self) {
+        let Refused { fault: _, conn: _ } = self;
+    }
+}
+
+/// Why a store is not taken for one again behind a restart, and what is left of it.
+#[derive(Drop)]
+pub enum ReopenFault<D: Disk> {
+    /// Its files could not be closed.
+    Close(StoreFault, FileStore<D>),
+    /// They were closed, and could not be opened.
+    Open(StoreFault, Leftover<D>),
+    /// They were opened, and are not taken for a store.
+    Adopt(Refused<D>),
+}
+
+/// Why no store is opened or made at a path.
+#[derive(Drop)]
+pub enum OpenFault {
+    /// There is no connection to a database: a file is missing, in the way or no database, or memory ran out.
+    Unconnected(StoreFault),
+    /// The connection that was opened, which is not taken for a store.
+    Refused(Refused<File>),
+}

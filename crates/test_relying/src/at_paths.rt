@@ -1,0 +1,81 @@
+//! Stores at paths of the system's files.
+
+use sqlite::Connection;
+use std::fs;
+use std::test::Fail;
+use store::{OpenFault, Store};
+use store_sql::StoreFault;
+
+/// What `open` and `make` answer at a path.
+#[derive(Clone, Copy, Debug, PartialEq, Eq)]
+enum Answer {
+    Store,
+    /// There is no connection to a database.
+    Unconnected(StoreFault),
+    /// A connection comes back.
+    Refused(StoreFault),
+}
+
+fn refusal(fault: &OpenFault) -> Answer {
+    match fault {
+        OpenFault::Unconnected(fault) => Answer::Unconnected(*fault),
+        OpenFault::Refused(refused) => Answer::Refused(refused.fault),
+    }
+}
+
+fn opened(rt: &HostRuntime, path: &str) -> Answer {
+    match Store::open(rt, path) {
+        Ok(_) => Answer::Store,
+        Err(fault) => refusal(&fault),
+    }
+}
+
+fn made(rt: &HostRuntime, path: &str) -> Answer {
+    match Store::make(rt, path) {
+        Ok(_) => Answer::Store,
+        Err(fault) => refusal(&fault),
+    }
+}
+
+#[test]
+fn a_store_is_made_once_and_opened_again(rt: HostRuntime) -> Result<(), Fail> {
+    let path = "at_paths.store";
+    let _gone = fs::remove_file(&rt, path);
+    assert_eq!(rt; opened(&rt, path), Answer::Unconnected(StoreFault::Store));
+    assert_eq!(rt; made(&rt, path), Answer::Store);
+    assert_eq!(rt; made(&rt, path), Answer::Unconnected(StoreFault::Store));
+    assert_eq!(rt; opened(&rt, path), Answer::Store);
+    fs::remove_file(&rt, path)?;
+    Ok(())
+}
+
+#[test]
+fn a_file_that_is_no_database_is_left(rt: HostRuntime) -> Result<(), Fail> {
+    let path = "at_paths.text";
+    let text = b"This is no database, and it is not made one.".as_slice();
+    fs::write(&rt, path, text)?;
+    assert_eq!(rt; opened(&rt, path), Answer::Unconnected(StoreFault::Store));
+    assert_eq!(rt; made(&rt, path), Answer::Unconnected(StoreFault::Store));
+    assert!(rt; fs::read(&rt, path)?.as_slice() == text);
+    fs::remove_file(&rt, path)?;
+    Ok(())
+}
+
+/// A database with a table of another program.
+fn is_filled(rt: &HostRuntime, path: &str) -> bool {
+    match Connection::open(rt, path) {
+        Ok(mut conn) => conn.execute_batch("CREATE TABLE note (id INTEGER PRIMARY KEY) STRICT").is_ok(),
+        Err(_) => false,
+    }
+}
+
+#[test]
+fn a_database_of_another_program_comes_back(rt: HostRuntime) -> Result<(), Fail> {
+    let path = "at_paths.other";
+    let _gone = fs::remove_file(&rt, path);
+    assert!(rt; is_filled(&rt, path));
+    assert_eq!(rt; opened(&rt, path), Answer::Refused(StoreFault::Schema));
+    assert_eq!(rt; made(&rt, path), Answer::Unconnected(StoreFault::Store));
+    fs::remove_file(&rt, path)?;
+    Ok(())
+}
