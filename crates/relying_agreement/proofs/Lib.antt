@@ -7,6 +7,7 @@ mod Tests
 mod AgreementLaws
 mod ComparisonLaws
 mod RunLaws
+mod BecomingLaws
 mod ExamplePath
 mod ExampleLaws
 mod KnownVerdictLaws

@@ -2,6 +2,7 @@ pub mod Link
 pub mod Status
 pub mod Verdict
 pub mod Run
+pub mod Becoming
 pub mod Agreement
 pub mod Comparison
 pub mod Examples

@@ -1,6 +1,7 @@
 //! Laws of verdicts, of what is held, and of agreement.
 
 ghost use Rattle.relying_agreement.specs.Agreement.{AllIsEnough, HeldWasSeen, OneOfANumberIsConsistent, PartiesAgree, PointwiseIsEnough, RunsAgree, RunsAgreeWhereAllAreConsistent, SameNewestIsTheSame};
+ghost use Rattle.relying_agreement.specs.Becoming.{OutcomesArePlaces};
 ghost use Rattle.relying_agreement.specs.Comparison.{ComparisonExists, ComparisonIsOne, NeverDiffers};
 ghost use Rattle.relying_agreement.specs.Examples.{AllPremisesHold, NeedsConsistency, NeedsHoldsNewest, NeedsOneVerifier, NeedsSameNewest, StrangersDoNotMatter};
 ghost use Rattle.relying_agreement.specs.KnownVerdicts.{KnownVerdicts, NamesFirstDifference};
@@ -26,6 +27,11 @@ pub fn run_laws()
     ensures compose { RunsCompose }
     ensures each { EachHoldsNewest }
     ensures steps { StepsMakeARun }
+{}
+
+/// What becomes of each fact that is taken follows from those before it in its slot: it is stored if it is newer than each of them.
+pub fn taking_laws()
+    ensures { OutcomesArePlaces }
 {}
 
 /// Whatever reaches two relying parties, where both hold the same newest statements for a path their verdicts on it are equal.

@@ -4,5 +4,7 @@
 mod laws;
 mod verdict;
 
-pub use laws::{agreement_examples, agreement_laws, comparison_laws, run_laws, verdict_laws};
+pub use laws::{
+    agreement_examples, agreement_laws, comparison_laws, run_laws, taking_laws, verdict_laws,
+};
 pub use verdict::{Comparison, Verdict};
