@@ -1,0 +1,122 @@
+//! X.509 certificates, and whether one may be believed at a moment (RFC 5280; RFC 6960, 4.2): the crate that a program names.
+//!
+//! It passes on the whole public surface of the library, and has nothing of its own.
+//!
+//! A verdict on the certificate of a mail server, from octets, in six steps. `example_library` is this page as a program.
+//!
+//! 1. **Judge signatures.** The library has no cryptography of its own. Implement [`Verifier`] over a library that has: its `judge` is
+//!    asked whether a signature of a message is good under a key. [`ListVerifier`] is one that believes a list of fingerprints.
+//! 2. **Read.** Octets are DER. What is read borrows them; a refusal has a number, and an offset where one octet is at fault.
+//!
+//!        let anchor = Certificate::read(alloc, anchor_octets)?;
+//!
+//! 3. **Validate a path** (RFC 5280, 6.1), if nothing else is wanted: from below the anchor down to the certificate that is asked about,
+//!    at a moment in seconds from 1970-01-01T00:00:00Z. The answer is [`Outcome::Good`], or the first certificate that fails and why.
+//!
+//!        let outcome = validate(alloc, &verifier, &anchor, &path, moment, None)?;
+//!
+//! 4. **Hold statements.** A [`Store`] is a database, over files of the system ([`Store::open`], [`Store::make`]) or over a disk in memory.
+//!    It keeps the newest list of each issuer and scope, and the newest response for each certificate. A [`Node`] is a store with a
+//!    verifier: it takes what it is handed, in any order and however often, and believes what the issuer or its delegate signed.
+//!
+//!        let mut node = Node::new(verifier, store);
+//!        let counts = node.deliver(alloc, issuer_octets, list_octets)?;
+//!
+//! 5. **Ask for a verdict** ([`Verdict`]): the path's first, then whether a current statement speaks of each certificate, and whether
+//!    one revokes it. The store survives a restart, and a crash leaves each delivery whole or absent.
+//!
+//!        let query = Query::read(alloc, anchor_octets, &path_octets, moment, purpose)?;
+//!        let verdict = node.verdict(alloc, &query)?;
+//!
+//! 6. **Compare two parties** ([`compare`]). If both judge signatures alike and hold the same newest statements for the path, their
+//!    verdicts are equal, however the statements came: [`node_laws`] says so of the calls above.
+//!
+//! Calls that take memory say so in their errors, and no call stops the process. What else a part has to say stands in the modules.
+#![tactic(auto)]
+
+// ---- reading (RFC 5280, 4)
+
+pub use cert::{CertFault, CertRule, Certificate};
+
+// ---- signatures and paths (RFC 5280, 6.1)
+
+pub use path::{Outcome, Reason, State, Step, Verifier, outcome_laws, validate};
+pub use path_verifiers::{ListVerifier, fingerprint, framing_laws};
+
+// ---- statements of revocation (RFC 5280, 5; RFC 6960, 4.2)
+
+pub use statements::{genuine, issuer_of};
+pub use statements_crl::Crl;
+pub use statements_facts::{Counts, Facts, Issuer, NameKey, Scope};
+pub use statements_ocsp::Response;
+pub use statements_parts::{StatementFault, StatementRule};
+
+// ---- stores
+
+pub use sqlite::{Connection, FileStore, Files, Options};
+pub use sqlite_disk::{Disk, Memory};
+pub use sqlite_std_file::File;
+pub use store::{OpenFault, Refused, Store};
+pub use store_sql::StoreFault;
+
+// ---- relying parties
+
+pub use relying::{
+    Answer, Comparison, DeliverFault, Event, Fault, Node, Query, QueryFault, RunFault, Verdict,
+    compare, node_laws, run_laws,
+};
+pub use relying_agreement::{agreement_examples, agreement_laws, comparison_laws, taking_laws, verdict_laws};
+
+/// Values of DER (X.690): octets, trees, and values from a source.
+pub mod values {
+    pub use asn::{
+        BIT_STRING, BOOLEAN, Cursor, ENUMERATED, Fault, GENERALIZED_TIME, IA5_STRING, INTEGER,
+        Number20, OBJECT_IDENTIFIER, OCTET_STRING, Oid, PRINTABLE_STRING, Rule, SEQUENCE, SET, Tlv,
+        UTC_TIME, UTF8_STRING, check, member_laws, seconds_of_time, size_laws, time_laws, whole,
+    };
+    pub use der::{MAX_DEPTH, encoding_laws};
+    pub use der_stream::{PathOctets, ReadFault, path_octets, read_one, stream_laws};
+    pub use der_tree::{EncodeFault, Tree, encode, parse_tree};
+}
+
+/// Names (RFC 5280, 4.1.2.4, 4.2.1.6 and 4.2.1.10): distinguished names, general names, and the subtrees that constrain them.
+pub mod names {
+    pub use names::{
+        Attribute, Domain, Form, General, IpFault, IpRange, Name, NameRule, Refusal, Subtree,
+        coverage_laws, domain_laws, general_laws, is_dns_name, is_ip_address, is_text, key_laws,
+        name_laws, preparation_laws, prepared_text, range_laws, same_prepared, subtree_laws,
+    };
+}
+
+/// The parts of a certificate (RFC 5280, 4.1 and 4.2).
+pub mod certificates {
+    pub use cert::{
+        AlgorithmIdentifier, BasicConstraints, BitString, Extension, ExtensionKind, Extensions,
+        KeyUsage, MOST_NAMES, NameConstraints, OidSet, Refusal, SubjectPublicKeyInfo, Validity,
+        Version, certificate_laws, layout_laws,
+    };
+    pub use cert_offsets::offset_laws;
+    pub use path_conditions::{Constraints, FormSet};
+}
+
+/// The parts of lists and responses (RFC 5280, 5; RFC 6960, 4.2), and what they say.
+pub mod statements {
+    pub use statements::{crl_fact_laws, crl_facts, ocsp_fact_laws, ocsp_facts};
+    pub use statements_crl::{Entries, Entry, list_laws, number_laws};
+    pub use statements_facts::{
+        CrlFacts, Listed, OcspFacts, RevokedSerials, Single, Singles, Status, TakenAs, coming_laws,
+        newest_laws,
+    };
+    pub use statements_ocsp::{
+        CertId, CertStatus, Certs, ResponderId, SingleResponse, Singles as SingleResponses,
+        is_response, response_laws,
+    };
+    pub use statements_parts::Refusal;
+}
+
+/// What a store holds, and how it is moved, taken over and looked up.
+pub mod stores {
+    pub use store::{adopt, look_up_crl, look_up_ocsp, take_over};
+    pub use store_maps::HeldCrl;
+    pub use store_rows::HeldStatus;
+}
