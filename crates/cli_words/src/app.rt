@@ -113,8 +113,12 @@ fn deliver<'a>(alloc: Global) -> Result<Command<'a>, AllocError>
     ensures local { IfOk result (λ c. (fields_of c).has_globals ≡ false) }
 {
     let command = Command::new(alloc, "deliver")
-        .about("Puts a revocation list or an OCSP response into a store, which is made where there is none")
-        .after_help("Example:\n  x509check deliver --store store --verdicts good --issuer root.der root.crl");
+        .about(
+            "Puts a revocation list or an OCSP response into a store, which is made where there is none",
+        )
+        .after_help(
+            "Example:\n  x509check deliver --store store --verdicts good --issuer root.der root.crl",
+        );
     storing(alloc, command)?
         .arg(issuer(alloc))?
         .arg(file(alloc))
@@ -196,7 +200,9 @@ fn check<'a>(alloc: Global) -> Result<Command<'a>, AllocError>
     ensures local { IfOk result (λ c. (fields_of c).has_globals ≡ false) }
 {
     let command = Command::new(alloc, "check")
-        .about("Validates a path of certificates at a moment, with what a store holds of their revocation")
+        .about(
+            "Validates a path of certificates at a moment, with what a store holds of their revocation",
+        )
         .after_help(
             "Example:\n  x509check check --store store --verdicts good --at 20261201000000Z --anchor root.der middle.der leaf.der",
         );

@@ -11,7 +11,9 @@ use files::Octets;
 use std::alloc::Global;
 use std::io::Write;
 use std::process::ExitCode;
-use x509::{Certificate, Connection, Files, Memory, Node, Options, Query, Store, compare, validate};
+use x509::{
+    Certificate, Connection, Files, Memory, Node, Options, Query, Store, compare, validate,
+};
 
 type Party = Node<Digests, Memory>;
 

@@ -173,8 +173,8 @@ come_from start earlier (f ∷ facts) [] many each = absurd (omega (arith, many)
 come_from start earlier (f ∷ facts) (o ∷ outcomes) many each = (
   comes start earlier f o (subst (λ xs. Becomes start xs f o) (none_behind earlier) (each 0 f o refl refl)),
   subst (λ held. ComeTo held facts outcomes) (sym (one_later start earlier f))
-  (come_from start (earlier ++ f ∷ []) facts outcomes (omega (arith, many))
-  (λ at fact outcome here there. subst (λ xs. Becomes start xs fact outcome) (sym (one_then earlier f (take at facts))) (each (suc at) fact outcome here there))),
+      (come_from start (earlier ++ f ∷ []) facts outcomes (omega (arith, many))
+      (λ at fact outcome here there. subst (λ xs. Becomes start xs fact outcome) (sym (one_then earlier f (take at facts))) (each (suc at) fact outcome here there))),
 )
 
 pub outcomes_are_places : OutcomesArePlaces

@@ -41,8 +41,7 @@ module _ {D : Type 0} {g : Ghosts D} (old opened again : Held (FileStore D g)) (
       → (fault ≢ Schema) × (IsTrue (file_state again).is_open → IsStoreOf (file_state again).now held)
   still_holds fault settled_opened settled_again adopts clean held it =
       let was = same opened (found (clean_before clean)) (is_opened (clean_before clean)) held it in
-      let h = adopts clean in
-      (
+      let h = adopts clean in (
         λ schema. h.1 schema held was,
         λ up. subst (λ db. IsStoreOf db held) (sym (settled_again up ∙ h.0.committed up ∙ sym (settled_opened (h.0.was_open up)))) was,
       )

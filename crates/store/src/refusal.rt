@@ -8,16 +8,11 @@ use sqlite_std_file::File;
 use store_sql::StoreFault;
 
 /// A connection that is not taken for a store, as it was, and why.
+#[derive(Drop)]
 pub struct Refused<D: Disk> {
     pub fault: StoreFault,
     pub conn: Connection<FileStore<D>>,
     pub ghost idle: { conn.in_transaction ≡ false },
-}
-
-impl<D: Disk + Drop> Drop for Refused<D> {
-    fn drop(self) {
-        let Refused { fault: _, conn: _ } = self;
-    }
 }
 
 /// Why a store is not taken for one again behind a restart, and what is left of it.

@@ -35,7 +35,8 @@ fn put_list(conn: &mut Connection<Disks>, issuer: i64) -> Option<()> {
 fn filled(alloc: Global) -> Option<Connection<Disks>> {
     let mut conn = blank(alloc)?;
     conn.execute_batch(version_1_tables()).ok()?;
-    conn.execute_batch("BEGIN; INSERT INTO meta (id, version) VALUES (1, 1);").ok()?;
+    conn.execute_batch("BEGIN; INSERT INTO meta (id, version) VALUES (1, 1);")
+        .ok()?;
     for list in 0..LISTS {
         put_list(&mut conn, list + 1)?;
     }

@@ -27,7 +27,9 @@ const KEY: &[u8] = b"key";
 fn serials(alloc: Global, count: u32) -> Option<Vec<u8>> {
     let mut octets = Vec::new(alloc);
     for index in 0..count {
-        octets.extend_from_slice(&(FIRST | index).to_be_bytes()).ok()?;
+        octets
+            .extend_from_slice(&(FIRST | index).to_be_bytes())
+            .ok()?;
     }
     Some(octets)
 }
@@ -114,13 +116,18 @@ fn of_a_long_response(alloc: Global) -> Option<(Counts, Option<Status>)> {
     let mut store = made(alloc)?;
     let counts = store.put(&response(alloc, &octets)?).ok()?;
     let last = FIRST | (SINGLES - 1);
-    let held = store.ocsp(&issuer(alloc, KEY)?, NAME_HASH, &last.to_be_bytes()).ok()?;
+    let held = store
+        .ocsp(&issuer(alloc, KEY)?, NAME_HASH, &last.to_be_bytes())
+        .ok()?;
     Some((counts, held.map(|held| held.status)))
 }
 
 #[test]
 fn a_response_of_256_singles(rt: HostRuntime) {
-    assert_eq!(rt; of_a_long_response(rt.alloc()), Some((stored(256), Some(Status::Good))));
+    assert_eq!(rt;
+        of_a_long_response(rt.alloc()),
+        Some((stored(256), Some(Status::Good)))
+    );
 }
 
 /// Whether each of many issuers' lists is stored.

@@ -64,7 +64,9 @@ fn a_file_that_is_no_database_is_left(rt: HostRuntime) -> Result<(), Fail> {
 /// A database with a table of another program.
 fn is_filled(rt: &HostRuntime, path: &str) -> bool {
     match Connection::open(rt, path) {
-        Ok(mut conn) => conn.execute_batch("CREATE TABLE note (id INTEGER PRIMARY KEY) STRICT").is_ok(),
+        Ok(mut conn) => conn
+            .execute_batch("CREATE TABLE note (id INTEGER PRIMARY KEY) STRICT")
+            .is_ok(),
         Err(_) => false,
     }
 }

@@ -65,7 +65,9 @@ pub use relying::{
     Answer, Comparison, DeliverFault, Event, Fault, Node, Query, QueryFault, RunFault, Verdict,
     compare, node_laws, run_laws,
 };
-pub use relying_agreement::{agreement_examples, agreement_laws, comparison_laws, taking_laws, verdict_laws};
+pub use relying_agreement::{
+    agreement_examples, agreement_laws, comparison_laws, taking_laws, verdict_laws,
+};
 
 /// Values of DER (X.690): octets, trees, and values from a source.
 pub mod values {
