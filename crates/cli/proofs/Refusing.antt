@@ -1,36 +1,54 @@
 -- What fails first, and what was delivered, from the parts.
-use Rattle.std.proofs.Common.{inl, inr, ℕ, List, Some, Result, Ok, Err, IfErr, IfOk}
+use Rattle.std.proofs.Common.{◌≡◌, inr, ℕ, List, Some, Result, Ok, Err, IfErr, IfOk}
+use Rattle.cert.specs.Certificate.{Certificate, certificate}
+use Rattle.statements_facts.specs.Fact.{Fact}
+use Rattle.statements.specs.OcspFact.{genuine_statement}
+use Rattle.statements_parts.specs.declared.fault.StatementFault.{StatementFault}
 use Rattle.path.specs.Query.{Accepts}
 use Rattle.statements_facts.specs.declared.counts.Counts.{Counts}
-use Rattle.cli_failures.specs.Failures.{Holding, IsNoCertificate}
+use Rattle.cli_failures.specs.Failures.{Holding}
 use Rattle.cli_failures.specs.declared.failure.Failure.{Failure}
-use Rattle.cli_operands.specs.InOrder.{FailsFirst}
 use Rattle.cli_operands.specs.Question.{AcceptsJust, HoldsFingerprints}
 use Rattle.cli.specs.declared.delivering.Delivery.{Delivery}
-use Rattle.cli.specs.Delivered.{HoldsIssuer, IsDelivered, IsDeliveredFor, IsFailureFor, IsFailureOfDelivery, IsGenuineUnder, IsNoStatementOf, IsNotTaken, IsTakenAt}
+use Rattle.cli.specs.Delivered.{IsDelivered, IsDeliveredFor, IsDeliveredUnder, IsFailureFor, IsFailureOfDelivery, IsFailureUnder, IsNotTaken, IsNotTakenOf, IsTakenAt, IsTakenOf}
 use Rattle.cli.specs.Standing.{Leaving, Standing}
 
--- a failure on the issuer's certificate or on the statement
-pub read_fails : (holds : Holding) (stands : Standing) (leaves : Leaving) (accepts : Accepts) (words : Delivery) (failure : Failure)
-    → FailsFirst (IsNoCertificate holds words.issuer.now) (HoldsIssuer holds words.issuer.now) (IsNoStatementOf holds accepts words.issuer.now words.file.now) failure
-    → IsFailureFor holds stands leaves accepts words failure
-read_fails holds stands leaves accepts words failure (inl fails) = inl fails
-read_fails holds stands leaves accepts words failure (inr (held, fails)) = inr (held, inl fails)
+-- ---- a statement, by what is said of it
 
--- on the store, where all else passed
-pub store_fails : {T : Type 0} (holds : Holding) (stands : Standing) (leaves : Leaving) (accepts : Accepts) (words : Delivery) (issuer statement : List ℕ) (result : Result T Failure)
-    → holds words.issuer.now (Some issuer) → holds words.file.now (Some statement) → IsGenuineUnder accepts issuer statement → IfErr result (IsNotTaken stands leaves words.store.now) → IfErr result (IsFailureFor holds stands leaves accepts words)
-store_fails holds stands leaves accepts words issuer statement (Ok x) by read genuine fails = tt
-store_fails holds stands leaves accepts words issuer statement (Err failure) by read genuine fails =
-    inr ((genuine.0, (issuer, by, genuine.1)), inr ((issuer, statement, by, read, genuine), fails))
+module _ (stands : Standing) (leaves : Leaving) (words : Delivery) where
+  pub taken_of : {E : Type 0} (said : Result (List Fact) StatementFault) (facts : List Fact) (result : Result Counts E) → said ≡ Ok facts → IfOk result (IsTakenAt stands leaves words.store.now facts)
+      → IfOk result (IsTakenOf stands leaves said words)
+  taken_of said facts (Ok counts) is taken = (facts, is, taken)
+  taken_of said facts (Err e) is taken = tt
 
--- what was taken was delivered
-pub delivered : {E : Type 0} (holds : Holding) (stands : Standing) (leaves : Leaving) (accepts : Accepts) (words : Delivery) (issuer statement : List ℕ) (result : Result Counts E)
-    → holds words.issuer.now (Some issuer) → holds words.file.now (Some statement) → IfOk result (IsTakenAt stands leaves words.store.now accepts issuer statement)
-    → IfOk result (IsDeliveredFor holds stands leaves accepts words)
-delivered holds stands leaves accepts words issuer statement (Ok counts) by read taken =
-    record { issuer = issuer; issuer_is = by; statement = statement; statement_is = read; taken = taken }
-delivered holds stands leaves accepts words issuer statement (Err e) by read taken = tt
+  -- on the store, where all else passed
+  pub not_taken_of : {T : Type 0} (said : Result (List Fact) StatementFault) (facts : List Fact) (result : Result T Failure) → said ≡ Ok facts → IfErr result (IsNotTaken stands leaves words.store.now)
+      → IfErr result (IsNotTakenOf stands leaves said words)
+  not_taken_of said facts (Ok x) is fails = tt
+  not_taken_of said facts (Err failure) is fails = inr ((facts, is), fails)
+
+-- ---- under the issuer of a certificate
+
+module _ (holds : Holding) (stands : Standing) (leaves : Leaving) (accepts : Accepts) (words : Delivery) where
+  pub delivered_under : {E : Type 0} (issuer : Certificate) (statement : List ℕ) (result : Result Counts E) → holds words.file.now (Some statement)
+      → IfOk result (IsTakenOf stands leaves (genuine_statement accepts issuer statement) words) → IfOk result (IsDeliveredUnder holds stands leaves accepts issuer words)
+  delivered_under issuer statement (Ok counts) held taken = (statement, held, taken)
+  delivered_under issuer statement (Err e) held taken = tt
+
+  pub fails_under : {T : Type 0} (issuer : Certificate) (statement : List ℕ) (result : Result T Failure) → holds words.file.now (Some statement)
+      → IfErr result (IsNotTakenOf stands leaves (genuine_statement accepts issuer statement) words) → IfErr result (IsFailureUnder holds stands leaves accepts issuer words)
+  fails_under issuer statement (Ok x) held fails = tt
+  fails_under issuer statement (Err failure) held fails = inr (statement, held, fails)
+
+  pub delivered_for : {E : Type 0} (octets : List ℕ) (issuer : Certificate) (result : Result Counts E) → holds words.issuer.now (Some octets) → certificate octets ≡ Ok issuer
+      → IfOk result (IsDeliveredUnder holds stands leaves accepts issuer words) → IfOk result (IsDeliveredFor holds stands leaves accepts words)
+  delivered_for octets issuer (Ok counts) held is delivered = (issuer, (octets, held, is), delivered)
+  delivered_for octets issuer (Err e) held is delivered = tt
+
+  pub fails_for : {T : Type 0} (octets : List ℕ) (issuer : Certificate) (result : Result T Failure) → holds words.issuer.now (Some octets) → certificate octets ≡ Ok issuer
+      → IfErr result (IsFailureUnder holds stands leaves accepts issuer words) → IfErr result (IsFailureFor holds stands leaves accepts words)
+  fails_for octets issuer (Ok x) held is fails = tt
+  fails_for octets issuer (Err failure) held is fails = inr (issuer, (octets, held, is), fails)
 
 -- ---- for who believes the verdicts
 

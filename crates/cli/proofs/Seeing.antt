@@ -1,10 +1,12 @@
 -- What a party answered, by what was seen of its store.
-use Rattle.std.proofs.Common.{◌≡◌, ℕ, List, [], ◌∷◌, Ok, Err, Result, IfOk, subst, sym, ◌∙◌}
+use Rattle.std.proofs.Common.{ℕ, List, Ok, Err, Result, IfOk}
 use Rattle.sqlite.specs.State.{State, HasCleanDisk}
 use Rattle.statements_facts.specs.Statement.{Holdings}
 use Rattle.store_maps.specs.Held.{IsStoreOf}
 use Rattle.store_adoption.specs.Inspects.{IsStore}
-use Rattle.relying_agreement.specs.Run.{Event}
+use Rattle.statements_facts.specs.Fact.{Fact, facts_in}
+use Rattle.statements_facts.specs.declared.fact.Facts.{Facts}
+use Rattle.store_taking.specs.Delivery.{PutsFacts}
 use Rattle.relying_agreement.specs.Verdict.{IsVerdict}
 use Rattle.relying_agreement.specs.Comparison.{IsComparison}
 use Rattle.relying_agreement.specs.declared.verdict.Comparison.{Comparison}
@@ -12,8 +14,6 @@ use Rattle.relying_agreement.specs.declared.verdict.Verdict.{Verdict}
 use Rattle.statements_facts.specs.declared.counts.Counts.{Counts}
 use Rattle.path.specs.Query.{Query, Accepts}
 use Rattle.relying.specs.Asking.{Looks, LooksAtBoth}
-use Rattle.relying.specs.Run.{Ran, Runs, TakesDelivery}
-use Rattle.relying.specs.declared.fault.DeliverFault.{DeliverFault}
 use Rattle.cli.specs.Standing.{Leaving, Seen, Standing, database, seen_of}
 use Rattle.cli.specs.Delivered.{HasTaken, IsTakenAt}
 use Rattle.cli.specs.Checked.{HasCompared, HasChecked, IsComparedBy, IsCheckedBy}
@@ -45,33 +45,11 @@ compared_by stands leaves path beside accepts query old other_old (Ok comparison
 compared_by stands leaves path beside accepts query old other_old (Err e) stood is other_stood other_is compared = tt
 
 -- a delivery
-one_taken : (accepts : Accepts) (issuer statement : List ℕ) (counts : Counts) (start held : Holdings) (now : Holdings → Type 0)
-    → Runs accepts (Event.Deliver issuer statement ∷ []) (Ok counts ∷ []) start held → now held
-    → (next : Holdings) × now next × TakesDelivery accepts issuer statement start next (Ok counts)
-one_taken accepts issuer statement counts start held now (next, takes, same) stands = (next, subst now same stands, takes)
+pub taken : (leaves : Seen → Type 0) (old new : State) (facts : Facts) (counts : Counts) → leaves (seen_of new) → PutsFacts old new facts (Ok counts) → HasTaken leaves (facts_in facts) (seen_of old) counts
+taken leaves old new facts counts left puts = (seen_of new, left, λ intact start stands. let it = (puts intact).taken start stands in (it.hold, it.counted))
 
-pub taken : (leaves : Seen → Type 0) (accepts : Accepts) (issuer statement : List ℕ) (old new : State) (answers : List (Result Counts DeliverFault)) (counts : Counts)
-    → answers ≡ Ok counts ∷ [] → leaves (seen_of new)
-    → (HasCleanDisk new → Ran accepts (Event.Deliver issuer statement ∷ []) answers old new) → HasTaken leaves accepts issuer statement (seen_of old) counts
-taken leaves accepts issuer statement old new answers counts same left ran = (
-  seen_of new,
-  left,
-  λ intact is_open start stands.
-      let ended = (ran intact).ended is_open start stands in
-      let runs : Runs accepts (Event.Deliver issuer statement ∷ []) (Ok counts ∷ []) start ended.held =
-      subst (λ said. Runs accepts (Event.Deliver issuer statement ∷ []) said start ended.held) same ended.runs in
-      one_taken accepts issuer statement counts start ended.held (IsStoreOf new.now) runs ended.store,
-)
-
-pub all_taken : {E : Type 0} (leaves : Seen → Type 0) (accepts : Accepts) (issuer statement : List ℕ) (old new : State) (said answers : List (Result Counts DeliverFault)) (result : Result Counts E)
-    → said ≡ answers → IfOk result (λ counts. said ≡ Ok counts ∷ []) → leaves (seen_of new)
-    → (HasCleanDisk new → Ran accepts (Event.Deliver issuer statement ∷ []) answers old new) → IfOk result (HasTaken leaves accepts issuer statement (seen_of old))
-all_taken leaves accepts issuer statement old new said answers (Ok counts) same told left ran =
-    taken leaves accepts issuer statement old new answers counts (sym same ∙ told) left ran
-all_taken leaves accepts issuer statement old new said answers (Err e) same told left ran = tt
-
-pub taken_at : {E : Type 0} (stands : Standing) (leaves : Leaving) (path : List ℕ) (accepts : Accepts) (issuer statement : List ℕ) (old : State) (result : Result Counts E)
-    → stands path (database (seen_of old)) → (HasCleanDisk old → IsStore old.now) → IfOk result (HasTaken (leaves path) accepts issuer statement (seen_of old))
-    → IfOk result (IsTakenAt stands leaves path accepts issuer statement)
-taken_at stands leaves path accepts issuer statement old (Ok counts) stood is taken = (seen_of old, (stood, λ intact. is intact), taken)
-taken_at stands leaves path accepts issuer statement old (Err e) stood is taken = tt
+pub taken_at : {E : Type 0} (stands : Standing) (leaves : Leaving) (path : List ℕ) (facts : List Fact) (old : State) (result : Result Counts E)
+    → stands path (database (seen_of old)) → (HasCleanDisk old → IsStore old.now) → IfOk result (HasTaken (leaves path) facts (seen_of old))
+    → IfOk result (IsTakenAt stands leaves path facts)
+taken_at stands leaves path facts old (Ok counts) stood is taken = (seen_of old, (stood, λ intact. is intact), taken)
+taken_at stands leaves path facts old (Err e) stood is taken = tt

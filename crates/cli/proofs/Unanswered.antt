@@ -1,23 +1,20 @@
 -- A store that does not answer, by what its party answered.
-use Rattle.std.proofs.Common.{◌≡◌, ◌≢◌, inl, inr, refl, sym, subst, ℕ, List, [], ◌∷◌, Ok, Err, Result, IfErr, IsTrue, ◌∙◌, arith}
+use Rattle.std.proofs.Common.{◌≡◌, ◌≢◌, inl, inr, refl, sym, subst, ℕ, List, Err, Ok, Result, IfErr, IsTrue, arith}
 use Rattle.sqlite.specs.State.{State, HasCleanDisk}
 use Rattle.statements_facts.specs.Statement.{Holdings}
 use Rattle.store_maps.specs.Held.{IsStoreOf}
 use Rattle.store_adoption.specs.Inspects.{IsStore}
-use Rattle.relying_agreement.specs.Run.{Event}
-use Rattle.statements_facts.specs.declared.counts.Counts.{Counts}
-use Rattle.path.specs.Query.{Accepts}
 use Rattle.relying.specs.Asking.{IsFormed, IsFormedOfEither}
-use Rattle.relying.specs.Run.{Ran, Runs}
-use Rattle.relying.specs.declared.fault.DeliverFault.{DeliverFault}
-use Rattle.relying.specs.declared.fault.DeliverFault.TheVariants.{Store as OfStore}
 use Rattle.store.specs.Adopts.{StaysIfOpen}
+use Rattle.statements_facts.specs.declared.fact.Facts.{Facts}
+use Rattle.store_taking.specs.Delivery.{PutsFacts}
+use Rattle.store_sql.specs.declared.fault.StoreFault.{StoreFault}
 use Rattle.store_sql.specs.declared.fault.StoreFault.TheVariants as S
 use Rattle.relying_verdicts.specs.declared.fault.Fault.{Fault}
 use Rattle.relying_verdicts.specs.declared.fault.Fault.TheVariants as F
 use Rattle.cli_failures.specs.declared.failure.Failure.{Failure}
-use Rattle.cli.specs.Standing.{IsNoAnswer, IsUnanswered, Leaving, Seen, Standing, database, seen_of, told_of_party}
-use Rattle.cli.specs.Delivered.{IsNotTaken, IsUncounted}
+use Rattle.cli.specs.Standing.{IsNoAnswer, IsUnanswered, Leaving, Seen, Standing, database, seen_of, told_of, told_of_party}
+use Rattle.cli.specs.Delivered.{IsNotTaken}
 use Rattle.cli.specs.Checked.{AreUnanswered, IsNoComparison, IsNotCompared, IsNotChecked}
 
 -- ---- a verdict
@@ -65,41 +62,13 @@ not_compared leaves others_leave old new other_old other_new F.Memory failure to
 
 -- ---- a delivery
 
--- where its answer is not counts nothing was taken
-none_taken : (accepts : Accepts) (issuer statement : List ℕ) (answers : List (Result Counts DeliverFault)) (number : ℕ) (start held : Holdings)
-    → Runs accepts (Event.Deliver issuer statement ∷ []) answers start held → ((counts : Counts) → answers ≢ Ok counts ∷ []) → (number ≡ 72 → answers ≡ Err (OfStore S.Schema) ∷ [])
-    → (held ≡ start) × (number ≢ 72)
-none_taken accepts issuer statement [] number start held runs none only = absurd runs
-none_taken accepts issuer statement (Ok counts ∷ []) number start held runs none only = absurd (none counts refl)
-none_taken accepts issuer statement (Err fault ∷ []) number start held (next, (reason, formed, as_it_was), same) none only =
-    (same ∙ as_it_was, λ is. formed (let said : Err fault ∷ [] ≡ Err (OfStore S.Schema) ∷ [] = only is in let one : fault ≡ OfStore S.Schema = cc in one))
-none_taken accepts issuer statement (answer ∷ more ∷ rest) number start held (next, takes, runs) none only = absurd runs
-
-pub uncounted : (leaves : Seen → Type 0) (accepts : Accepts) (issuer statement : List ℕ) (old new : State) (said answers : List (Result Counts DeliverFault)) (failure : Failure)
-    → said ≡ answers → IsUncounted said failure → leaves (seen_of new) → (HasCleanDisk new → Ran accepts (Event.Deliver issuer statement ∷ []) answers old new)
-    → IsNoAnswer leaves (seen_of old) failure
-uncounted leaves accepts issuer statement old new said answers failure same (inl memory) left ran = inl memory
-uncounted leaves accepts issuer statement old new said answers failure same (inr (number, told, is, none, only)) left ran = inr (
-  number,
-  told,
-  is,
-  (
-    seen_of new,
-    left,
-    λ intact is_open start stands.
-        let ended = (ran intact).ended is_open start stands in
-        let nothing = none_taken accepts issuer statement said number start ended.held
-        (subst (λ given. Runs accepts (Event.Deliver issuer statement ∷ []) given start ended.held) (sym same) ended.runs) none only in
-        (subst (IsStoreOf new.now) nothing.0 ended.store, nothing.1),
-  ),
-)
-
-pub none_counted : {T : Type 0} (leaves : Seen → Type 0) (accepts : Accepts) (issuer statement : List ℕ) (old new : State) (said answers : List (Result Counts DeliverFault)) (result : Result T Failure)
-    → said ≡ answers → IfErr result (IsUncounted said) → leaves (seen_of new) → (HasCleanDisk new → Ran accepts (Event.Deliver issuer statement ∷ []) answers old new)
-    → IfErr result (IsNoAnswer leaves (seen_of old))
-none_counted leaves accepts issuer statement old new said answers (Ok x) same uncounts left ran = tt
-none_counted leaves accepts issuer statement old new said answers (Err failure) same uncounts left ran =
-    uncounted leaves accepts issuer statement old new said answers failure same uncounts left ran
+pub not_taken : (leaves : Seen → Type 0) (old new : State) (facts : Facts) (fault : StoreFault) (failure : Failure)
+    → failure ≡ told_of fault → leaves (seen_of new) → PutsFacts old new facts (Err fault) → IsNoAnswer leaves (seen_of old) failure
+not_taken leaves old new facts S.Store failure told left puts =
+    inr (71, told, inl refl, (seen_of new, left, λ intact is_open held stands. (subst (λ now. IsStoreOf now held) (sym ((puts intact).same is_open)) stands, other)))
+not_taken leaves old new facts S.Schema failure told left puts =
+    inr (72, told, inr refl, (seen_of new, left, λ intact is_open held stands. absurd ((puts intact).formed refl held stands)))
+not_taken leaves old new facts S.Memory failure told left puts = inl told
 
 -- ---- stores at paths
 

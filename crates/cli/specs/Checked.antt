@@ -12,10 +12,11 @@ use Rattle.cli_failures.specs.Failures.{Holding}
 use Rattle.cli_failures.specs.declared.failure.Failure.{Failure}
 use Rattle.cli_failures.specs.declared.failure.Failure.TheVariants.{StoreFailed, NoMemory}
 use Rattle.cli_operands.specs.InOrder.{FailsFirst}
+use Rattle.cli_operands.specs.Operands.{IsRefusalIn}
 use Rattle.cli_operands.specs.Question.{Asks, IsFailureOfQuestion}
+use Rattle.cli_operands.specs.declared.operand_files.Operands.{Operands}
 use Rattle.cli.specs.Asked.{IsAsked, IsQueryOf}
 use Rattle.cli.specs.Believed.{accepted_by}
-use Rattle.cli.specs.declared.asking.Asked.{Asked}
 use Rattle.cli.specs.Standing.{IsFaultNumber, IsFound, IsIntact, IsNotFound, IsUnanswered, Leaving, Seen, Standing}
 
 -- the verdict of a party that held what a store held in its old state, which was left in another
@@ -29,10 +30,10 @@ abbrev pub IsCheckedBy : Standing → Leaving → List ℕ → Accepts → Query
 IsCheckedBy stands leaves path accepts query verdict =
     (old : Seen) × IsFound stands path old × HasChecked (leaves path) accepts query old verdict
 
--- the same, of a question that is asked
-abbrev pub IsCheckedOf : Standing → Leaving → List ℕ → Asked → Verdict → Type 0
-IsCheckedOf stands leaves path asked verdict =
-    (query : Query) × IsQueryOf asked query × IsCheckedBy stands leaves path (accepted_by asked.verifier) query verdict
+-- the same, of the question that operands ask
+abbrev pub IsCheckedOf : Standing → Leaving → List ℕ → Operands → Verdict → Type 0
+IsCheckedOf stands leaves path operands verdict =
+    (query : Query) × IsQueryOf operands query × IsCheckedBy stands leaves path (accepted_by operands.verifier) query verdict
 
 -- the verdict that is asked for
 pub record IsChecked (holds : Holding) (stands : Standing) (leaves : Leaving) (question : Question) (verdict : Verdict) : Type 0 where
@@ -61,11 +62,11 @@ IsComparedBy stands leaves path other accepts query comparison =
     (old other_old : Seen) × IsFound stands path old × IsFound stands other other_old
     × HasCompared (leaves path) (leaves other) accepts query old other_old comparison
 
--- the same, of a question that is asked
-abbrev pub IsComparedOf : Standing → Leaving → List ℕ → List ℕ → Asked → Comparison → Type 0
-IsComparedOf stands leaves path other asked comparison =
-    (query : Query) × IsQueryOf asked query
-    × IsComparedBy stands leaves path other (accepted_by asked.verifier) query comparison
+-- the same, of the question that operands ask
+abbrev pub IsComparedOf : Standing → Leaving → List ℕ → List ℕ → Operands → Comparison → Type 0
+IsComparedOf stands leaves path other operands comparison =
+    (query : Query) × IsQueryOf operands query
+    × IsComparedBy stands leaves path other (accepted_by operands.verifier) query comparison
 
 -- the comparison that is asked for
 pub record IsCompared (holds : Holding) (stands : Standing) (leaves : Leaving) (question : Question) (other : List ℕ) (comparison : Comparison) : Type 0 where
@@ -85,6 +86,11 @@ WereCompared holds stands leaves question other =
 abbrev pub IsNotChecked : Standing → Leaving → List ℕ → Failure → Type 0
 IsNotChecked stands leaves path failure =
     IsNotFound stands path failure ⊎ IsUnanswered stands leaves path failure
+
+-- the same, of operands: a certificate of theirs is refused first
+abbrev pub IsNotCheckedOf : Standing → Leaving → List ℕ → Operands → Failure → Type 0
+IsNotCheckedOf stands leaves path operands =
+    FailsFirst (IsRefusalIn operands) ((query : Query) × IsQueryOf operands query) (IsNotChecked stands leaves path)
 
 -- As long as both connections are open two stores hold what they held, and the fault with this number is not that one is no store.
 abbrev pub HaveKept : Seen → Seen → Seen → Seen → ℕ → Type 0
@@ -113,6 +119,11 @@ IsNotCompared stands leaves path other failure =
     IsNotFound stands path failure
     ⊎ (((old : Seen) × IsFound stands path old × IsNotFound stands other failure)
     ⊎ AreUnanswered stands leaves path other failure)
+
+-- the same, of operands
+abbrev pub IsNotComparedOf : Standing → Leaving → List ℕ → List ℕ → Operands → Failure → Type 0
+IsNotComparedOf stands leaves path other operands =
+    FailsFirst (IsRefusalIn operands) ((query : Query) × IsQueryOf operands query) (IsNotCompared stands leaves path other)
 
 -- The first of it: the operands in their order, the store.
 abbrev pub IsFailureOfCheck : Holding → Standing → Leaving → Question → Failure → Type 0

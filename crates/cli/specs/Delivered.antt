@@ -1,48 +1,54 @@
 -- What a delivery to the store at a path answers, and why it fails.
-use Rattle.std.specs.Prelude.{◌≡◌, ◌≢◌, ◌⊎◌, ℕ, List, [], ◌∷◌, Some, Result, Ok, Err, IsTrue}
-use Rattle.cert.specs.Certificate.{Certificate, certificate}
+use Rattle.std.specs.Prelude.{◌≡◌, ◌⊎◌, ℕ, List, Some, Result, Ok, Err}
+use Rattle.cert.specs.Certificate.{Certificate}
+use Rattle.statements_facts.specs.Coming.{after_all, AreCounts}
 use Rattle.statements_facts.specs.Fact.{Fact}
 use Rattle.statements_facts.specs.Statement.{Holdings}
 use Rattle.store_maps.specs.Held.{IsStoreOf}
 use Rattle.statements_facts.specs.declared.counts.Counts.{Counts}
 use Rattle.cli_answers.specs.AnswerText.{counts_line}
 use Rattle.path.specs.Query.{Accepts}
-use Rattle.relying.specs.Run.{TakesDelivery}
-use Rattle.relying.specs.declared.fault.DeliverFault.{DeliverFault}
-use Rattle.relying.specs.declared.fault.DeliverFault.TheVariants.{Store}
-use Rattle.store_sql.specs.declared.fault.StoreFault.TheVariants.{Schema}
 use Rattle.statements_parts.specs.declared.fault.StatementFault.{StatementFault}
 use Rattle.statements.specs.OcspFact.{genuine_statement}
 use Rattle.cli_failures.specs.Failures.{Holding, HoldsCertificate, IsNoCertificate, IsUnread}
 use Rattle.cli_failures.specs.declared.failure.Failure.{Failure}
-use Rattle.cli_failures.specs.declared.failure.Failure.TheVariants.{NotGenuine, NoMemory, StoreFailed}
+use Rattle.cli_failures.specs.declared.failure.Failure.TheVariants.{NotGenuine, NoMemory}
 use Rattle.cli_operands.specs.InOrder.{FailsFirst}
 use Rattle.cli_operands.specs.Question.{AcceptsJust, HoldsFingerprints, IsFailureOnFingerprints}
-use Rattle.cli.specs.Standing.{IsFaultNumber, IsFound, IsIntact, IsNotMade, IsUnanswered, Leaving, Seen, Standing}
+use Rattle.cli.specs.Standing.{IsFound, IsIntact, IsNotMade, IsUnanswered, Leaving, Seen, Standing}
 use Rattle.cli.specs.declared.delivering.Delivery.{Delivery}
 
--- The statement was taken by a party that held what a store held in its old state, and that store was left in a state in which it holds
--- what the party does then: all facts are taken, and counted so.
-abbrev pub HasTaken : (Seen → Type 0) → Accepts → List ℕ → List ℕ → Seen → Counts → Type 0
-HasTaken leaves accepts issuer statement old counts =
+-- A store that was seen so has taken the facts, and was left in a state in which it holds what they make of what it held: all are taken,
+-- and counted so.
+abbrev pub HasTaken : (Seen → Type 0) → List Fact → Seen → Counts → Type 0
+HasTaken leaves facts old counts =
     (new : Seen) × leaves new
-    × (IsIntact new → IsTrue new.is_open → (start : Holdings) → IsStoreOf old.now start →
-    (next : Holdings) × IsStoreOf new.now next × TakesDelivery accepts issuer statement start next (Ok counts))
+    × (IsIntact new → (start : Holdings) → IsStoreOf old.now start →
+    IsStoreOf new.now (after_all start facts) × AreCounts start facts counts)
 
--- the same, of the store at a path
-abbrev pub IsTakenAt : Standing → Leaving → List ℕ → Accepts → List ℕ → List ℕ → Counts → Type 0
-IsTakenAt stands leaves path accepts issuer statement counts =
-    (old : Seen) × IsFound stands path old × HasTaken (leaves path) accepts issuer statement old counts
+-- the same of the store at a path
+abbrev pub IsTakenAt : Standing → Leaving → List ℕ → List Fact → Counts → Type 0
+IsTakenAt stands leaves path facts counts =
+    (old : Seen) × IsFound stands path old × HasTaken (leaves path) facts old counts
 
--- The statement in the file was delivered, under the issuer's certificate, to a party that accepts so and holds what the store held.
-pub record IsDeliveredFor (holds : Holding) (stands : Standing) (leaves : Leaving) (accepts : Accepts) (words : Delivery) (counts : Counts) : Type 0 where
-  pub issuer : List ℕ
-  pub issuer_is : holds words.issuer.now (Some issuer)
-  pub statement : List ℕ
-  pub statement_is : holds words.file.now (Some statement)
-  pub taken : IsTakenAt stands leaves words.store.now accepts issuer statement counts
+-- what is said is that the statement is genuine, and the store of the words has taken its facts
+abbrev pub IsTakenOf : Standing → Leaving → Result (List Fact) StatementFault → Delivery → Counts → Type 0
+IsTakenOf stands leaves said words counts =
+    (facts : List Fact) × (said ≡ Ok facts) × IsTakenAt stands leaves words.store.now facts counts
 
--- the same of a party that believes the verdicts
+-- The statement in the file is genuine under the issuer of a certificate, for who accepts so, and the store has taken what it says.
+abbrev pub IsDeliveredUnder : Holding → Standing → Leaving → Accepts → Certificate → Delivery → Counts → Type 0
+IsDeliveredUnder holds stands leaves accepts issuer words counts =
+    (statement : List ℕ) × holds words.file.now (Some statement)
+    × IsTakenOf stands leaves (genuine_statement accepts issuer statement) words counts
+
+-- the same, under the issuer whose certificate a file holds
+abbrev pub IsDeliveredFor : Holding → Standing → Leaving → Accepts → Delivery → Counts → Type 0
+IsDeliveredFor holds stands leaves accepts words counts =
+    (issuer : Certificate) × HoldsCertificate holds words.issuer.now issuer
+    × IsDeliveredUnder holds stands leaves accepts issuer words counts
+
+-- and for who believes the verdicts
 abbrev pub IsDelivered : Holding → Standing → Leaving → Delivery → Counts → Type 0
 IsDelivered holds stands leaves words counts =
     (prints : List (List ℕ)) × (accepts : Accepts) × HoldsFingerprints holds words.verdicts.now prints
@@ -60,71 +66,34 @@ IsDeliveredText holds stands leaves words text =
 
 -- ---- what is refused
 
--- the octets are those of a certificate
-abbrev pub IsCertificateText : List ℕ → Type 0
-IsCertificateText octets = (read : Certificate) × (certificate octets ≡ Ok read)
-
--- the file holds a certificate
-abbrev pub HoldsIssuer : Holding → List ℕ → Type 0
-HoldsIssuer holds file = (by : Certificate) × HoldsCertificate holds file by
-
--- what is said is that the statement is genuine
-abbrev pub IsGenuine : Result (List Fact) StatementFault → Type 0
-IsGenuine said = (facts : List Fact) × (said ≡ Ok facts)
-
 -- what is said is that the statement is refused for this fault
 abbrev pub IsDenied : Result (List Fact) StatementFault → List ℕ → Failure → Type 0
 IsDenied said file (NotGenuine named fault) = (named.now ≡ file) × (said ≡ Err fault)
 IsDenied said file failure = failure ≡ NoMemory
-
--- the file cannot be read, or what it holds is no statement of the issuer
-abbrev pub IsNoStatement : Holding → Accepts → Certificate → List ℕ → Failure → Type 0
-IsNoStatement holds accepts by file failure =
-    IsUnread holds file failure
-    ⊎ ((statement : List ℕ) × holds file (Some statement) × IsDenied (genuine_statement accepts by statement) file failure)
-
--- the same of the issuer whose certificate the octets are
-abbrev pub IsNoStatementUnder : Holding → Accepts → List ℕ → List ℕ → Failure → Type 0
-IsNoStatementUnder holds accepts issuer file failure =
-    (by : Certificate) × (certificate issuer ≡ Ok by) × IsNoStatement holds accepts by file failure
-
--- and of the issuer whose certificate a file holds
-abbrev pub IsNoStatementOf : Holding → Accepts → List ℕ → List ℕ → Failure → Type 0
-IsNoStatementOf holds accepts issuer file failure =
-    (by : Certificate) × HoldsCertificate holds issuer by × IsNoStatement holds accepts by file failure
-
--- what the octets say is genuine under the issuer whose certificate these others are
-abbrev pub IsGenuineUnder : Accepts → List ℕ → List ℕ → Type 0
-IsGenuineUnder accepts issuer statement =
-    (by : Certificate) × (certificate issuer ≡ Ok by)
-    × IsGenuine (genuine_statement accepts by statement)
-
--- the same of two files
-abbrev pub HoldsStatement : Holding → Accepts → List ℕ → List ℕ → Type 0
-HoldsStatement holds accepts issuer file =
-    (by statement : List ℕ) × holds issuer (Some by) × holds file (Some statement)
-    × IsGenuineUnder accepts by statement
-
--- the answers of a party are not the counts of one delivery: memory ran out, or there is a fault with that number
-abbrev pub IsUncounted : List (Result Counts DeliverFault) → Failure → Type 0
-IsUncounted answers failure =
-    (failure ≡ NoMemory)
-    ⊎ ((number : ℕ) × (failure ≡ StoreFailed number) × IsFaultNumber number
-    × ((counts : Counts) → answers ≢ Ok counts ∷ [])
-    × (number ≡ 72 → answers ≡ Err (Store Schema) ∷ []))
 
 -- no store was opened or made, or it did not answer
 abbrev pub IsNotTaken : Standing → Leaving → List ℕ → Failure → Type 0
 IsNotTaken stands leaves path failure =
     IsNotMade stands path failure ⊎ IsUnanswered stands leaves path failure
 
--- What is wrong for who accepts so, the first of it: the issuer's certificate, the statement, the store.
+-- what is said is that the statement is refused, or that it is genuine, and the store did not take it
+abbrev pub IsNotTakenOf : Standing → Leaving → Result (List Fact) StatementFault → Delivery → Failure → Type 0
+IsNotTakenOf stands leaves said words =
+    FailsFirst (IsDenied said words.file.now) ((facts : List Fact) × (said ≡ Ok facts)) (IsNotTaken stands leaves words.store.now)
+
+-- What is wrong under the issuer of a certificate, for who accepts so, the first of it: the file, the statement in it, the store.
+abbrev pub IsFailureUnder : Holding → Standing → Leaving → Accepts → Certificate → Delivery → Failure → Type 0
+IsFailureUnder holds stands leaves accepts issuer words failure =
+    IsUnread holds words.file.now failure
+    ⊎ ((statement : List ℕ) × holds words.file.now (Some statement)
+    × IsNotTakenOf stands leaves (genuine_statement accepts issuer statement) words failure)
+
+-- the issuer's certificate, and then that
 abbrev pub IsFailureFor : Holding → Standing → Leaving → Accepts → Delivery → Failure → Type 0
-IsFailureFor holds stands leaves accepts words =
-    FailsFirst (IsNoCertificate holds words.issuer.now) (HoldsIssuer holds words.issuer.now)
-    (FailsFirst (IsNoStatementOf holds accepts words.issuer.now words.file.now)
-    (HoldsStatement holds accepts words.issuer.now words.file.now)
-    (IsNotTaken stands leaves words.store.now))
+IsFailureFor holds stands leaves accepts words failure =
+    IsNoCertificate holds words.issuer.now failure
+    ⊎ ((issuer : Certificate) × HoldsCertificate holds words.issuer.now issuer
+    × IsFailureUnder holds stands leaves accepts issuer words failure)
 
 -- and for who believes the verdicts
 abbrev pub IsFailureForWhoBelieves : Holding → Standing → Leaving → Delivery → Failure → Type 0

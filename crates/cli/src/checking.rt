@@ -6,17 +6,16 @@ ghost use Rattle.cli_answers.specs.AnswerText.{verdict_line};
 ghost use Rattle.cli_failures.specs.Failures.{OrUnwritable};
 ghost use Rattle.cli_failures.specs.Report.{UnlessLate};
 ghost use Rattle.relying_verdicts.specs.View.{seen_query};
-ghost use Rattle.cli.specs.Asked.{AreCertificateTexts, path_texts};
 ghost use Rattle.cli.specs.Believed.{accepted_by};
-ghost use Rattle.cli.specs.Delivered.{IsCertificateText};
-ghost use Rattle.cli.specs.Checked.{HasChecked, IsFailureOfCheck, IsChecked, IsCheckedBy, IsCheckedOf, IsNotChecked, WasChecked};
+ghost use Rattle.cli.specs.Checked.{HasChecked, IsFailureOfCheck, IsChecked, IsCheckedBy, IsCheckedOf, IsNotChecked, IsNotCheckedOf, WasChecked};
 ghost use Rattle.cli.specs.Standing.{IsNoAnswer, seen_of, told_of_party};
 
-use crate::asking::{Asked, query_of, read_asked, texts_of};
+use crate::asking::query_of;
 use crate::sharing::Shared;
 use crate::stores::{Stores, failed};
 use cli_answers::verdict_to;
 use cli_failures::{Failure, Source};
+use cli_operands::{Operands, read_operands};
 use cli_words::Question;
 use path_verifiers::{ListVerifier, Verifier};
 use relying::{Fault, Node, Query};
@@ -76,28 +75,23 @@ fn check_by<'a, S: Stores>(
     check_at(source, alloc, path, node, query)
 }
 
-// The same of what is asked.
+// The same of what the operands ask.
 fn check_asked<'a, S: Stores>(
     source: &S,
     alloc: Global,
     path: &'a str,
-    asked: &Asked,
+    operands: &Operands<'a>,
 ) -> Result<Verdict, Failure<'a>>
-    requires anchor { IsCertificateText asked.now.anchor.items }
-    requires path { AreCertificateTexts (path_texts asked.now) }
     ensures checked { IfOk result
-        (IsCheckedOf (S.stands source.now) (S.leaves source.now) path.entry.now asked.now) }
+        (IsCheckedOf (S.stands source.now) (S.leaves source.now) path.entry.now operands.now) }
     ensures fails { IfErr result
-        (IsNotChecked (S.stands source.now) (S.leaves source.now) path.entry.now) }
+        (IsNotCheckedOf (S.stands source.now) (S.leaves source.now) path.entry.now operands.now) }
 {
-    let Ok(texts) = texts_of(alloc, asked.path.as_slice()) else {
-        return Err(Failure::NoMemory);
-    };
-    let query = match query_of(alloc, asked, texts.as_slice()) {
+    let query = match query_of(alloc, operands) {
         Ok(query) => query,
         Err(failure) => return Err(failure),
     };
-    check_by(source, alloc, path, &asked.verifier, &query)
+    check_by(source, alloc, path, &operands.verifier, &query)
 }
 
 // The verdict that the operands ask for.
@@ -111,8 +105,8 @@ fn check_path<'a, S: Source + Stores>(
     ensures fails { IfErr result (IsFailureOfCheck
         (S.holds source.now) (S.stands source.now) (S.leaves source.now) question.now) }
 {
-    let asked = read_asked(source, alloc, question)?;
-    check_asked(source, alloc, question.store, &asked)
+    let operands = read_operands(source, alloc, question)?;
+    check_asked(source, alloc, question.store, &operands)
 }
 
 /// Writes the verdict on the path that the operands name, by the statements that the store holds (RFC 5280, 6; RFC 6960, 3.2).

@@ -5,18 +5,17 @@ ghost use Rattle.cli_answers.specs.AnswerText.{comparison_line};
 ghost use Rattle.cli_failures.specs.Failures.{OrUnwritable};
 ghost use Rattle.cli_failures.specs.Report.{UnlessLate};
 ghost use Rattle.relying_verdicts.specs.View.{seen_query};
-ghost use Rattle.cli.specs.Asked.{AreCertificateTexts, path_texts};
 ghost use Rattle.cli.specs.Believed.{accepted_by};
-ghost use Rattle.cli.specs.Delivered.{IsCertificateText};
-ghost use Rattle.cli.specs.Checked.{HasCompared, IsCompared, IsComparedBy, IsComparedOf, IsFailureOfComparison, IsNoComparison, IsNotCompared, WereCompared};
+ghost use Rattle.cli.specs.Checked.{HasCompared, IsCompared, IsComparedBy, IsComparedOf, IsFailureOfComparison, IsNoComparison, IsNotCompared, IsNotComparedOf, WereCompared};
 ghost use Rattle.cli.specs.Standing.{seen_in};
 
-use crate::asking::{Asked, query_of, read_asked, texts_of};
+use crate::asking::query_of;
 use crate::checking::not_checked;
 use crate::sharing::Shared;
 use crate::stores::Stores;
 use cli_answers::comparison_to;
 use cli_failures::{Failure, Source};
+use cli_operands::{Operands, read_operands};
 use cli_words::Question;
 use path_verifiers::{ListVerifier, Verifier};
 use relying::{Node, Query};
@@ -79,28 +78,23 @@ fn compare_by<'a, S: Stores>(
     compare_at(source, alloc, paths, verifier, store, beside, query)
 }
 
-// The same of what is asked.
+// The same of what the operands ask.
 fn compare_asked<'a, S: Stores>(
     source: &S,
     alloc: Global,
     paths: &Pair<'a>,
-    asked: &Asked,
+    operands: &Operands<'a>,
 ) -> Result<Comparison, Failure<'a>>
-    requires anchor { IsCertificateText asked.now.anchor.items }
-    requires path { AreCertificateTexts (path_texts asked.now) }
     ensures compared { IfOk result (IsComparedOf (S.stands source.now) (S.leaves source.now)
-        paths.now.path.now paths.now.other.now asked.now) }
-    ensures fails { IfErr result (IsNotCompared (S.stands source.now) (S.leaves source.now)
-        paths.now.path.now paths.now.other.now) }
+        paths.now.path.now paths.now.other.now operands.now) }
+    ensures fails { IfErr result (IsNotComparedOf (S.stands source.now) (S.leaves source.now)
+        paths.now.path.now paths.now.other.now operands.now) }
 {
-    let Ok(texts) = texts_of(alloc, asked.path.as_slice()) else {
-        return Err(Failure::NoMemory);
-    };
-    let query = match query_of(alloc, asked, texts.as_slice()) {
+    let query = match query_of(alloc, operands) {
         Ok(query) => query,
         Err(failure) => return Err(failure),
     };
-    compare_by(source, alloc, paths, &asked.verifier, &query)
+    compare_by(source, alloc, paths, &operands.verifier, &query)
 }
 
 // The comparison that the operands ask for.
@@ -115,12 +109,12 @@ fn compare_verdicts<'a, S: Source + Stores>(
     ensures fails { IfErr result (IsFailureOfComparison (S.holds source.now) (S.stands source.now)
         (S.leaves source.now) question.now other.entry.now) }
 {
-    let asked = read_asked(source, alloc, question)?;
+    let operands = read_operands(source, alloc, question)?;
     let paths = Pair {
         path: question.store,
         other,
     };
-    compare_asked(source, alloc, &paths, &asked)
+    compare_asked(source, alloc, &paths, &operands)
 }
 
 /// Writes whether the store and the other give the same verdict on the path that the operands name, and the verdict; else both, and the

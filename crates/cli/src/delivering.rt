@@ -1,30 +1,29 @@
 //! Deliveries.
-ghost use Rattle.std.specs.Prelude.{◌≡◌, ◌∷◌, [], IfErr, IfOk, Ok, OnOk, Some};
+ghost use Rattle.std.specs.Prelude.{◌≡◌, IfErr, IfOk, Ok, OnOk};
 ghost use Rattle.relying.specs.View.{stored};
 ghost use Rattle.cert.specs.Certificate.{seen_certificate};
 ghost use Rattle.statements.specs.OcspFact.{genuine_statement};
-ghost use Rattle.cli_failures.specs.Failures.{IsJust, IsNoCertificate, OrUnwritable};
+ghost use Rattle.statements_facts.specs.Fact.{facts_in};
+ghost use Rattle.cli_failures.specs.Failures.{OrUnwritable};
 ghost use Rattle.cli_failures.specs.Report.{UnlessLate, Writes};
-ghost use Rattle.cli_operands.specs.InOrder.{FailsFirst};
 ghost use Rattle.cli.specs.Believed.{accepted_by};
-ghost use Rattle.cli.specs.Delivered.{HasTaken, HoldsIssuer, IsCertificateText, IsDelivered, IsDeliveredFor, IsDeliveredText, IsDenied, IsFailureFor, IsFailureOfDelivery, IsGenuine, IsGenuineUnder, IsNoStatement, IsNoStatementOf, IsNoStatementUnder, IsNotTaken, IsTakenAt, IsUncounted, WasDelivered};
+ghost use Rattle.cli.specs.Delivered.{HasTaken, IsDelivered, IsDeliveredFor, IsDeliveredText, IsDeliveredUnder, IsDenied, IsFailureFor, IsFailureOfDelivery, IsFailureUnder, IsNotTaken, IsNotTakenOf, IsTakenAt, IsTakenOf, WasDelivered};
 ghost use Rattle.cli.specs.Standing.{IsNoAnswer, seen_of};
 
 use crate::sharing::Shared;
 use crate::stores::{Stores, failed};
-use cert::{CertFault, Certificate};
+use cert::Certificate;
 use cli_answers::counts_to;
 use cli_failures::{Failure, Source, read_certificate};
 use cli_operands::read_fingerprints;
 use path_verifiers::{ListVerifier, Verifier};
-use relying::{Answer, DeliverFault, Event, Node, RunFault};
+use relying::Node;
 use sqlite_std_file::File;
 use statements::genuine;
-use statements_facts::Counts;
+use statements_facts::{Counts, Facts};
 use statements_parts::StatementFault;
 use std::alloc::Global;
 use std::io::Write;
-use store_sql::StoreFault;
 
 /// What `deliver` names.
 #[derive(Clone, Copy, Debug, PartialEq, Eq)]
@@ -39,168 +38,118 @@ pub struct Delivery<'a> {
     pub file: &'a str,
 }
 
-// The counts of an answer, or what it is for a run.
-fn counts_of<'a>(answer: Answer) -> Result<Counts, Failure<'a>>
-    ensures counts { IfOk result (λ counts. answer ≡ Ok counts) }
-    ensures fails { IfErr result (IsUncounted (answer ∷ [])) }
-{
-    match answer {
-        Ok(counts) => Ok(counts),
-        Err(DeliverFault::Store(fault)) => Err(failed(fault)),
-        Err(
-            DeliverFault::Issuer(CertFault::Memory)
-            | DeliverFault::Statement(StatementFault::Memory),
-        ) => Err(Failure::NoMemory),
-        // The statement was found genuine before the store was opened: the database lies.
-        Err(DeliverFault::Issuer(_) | DeliverFault::Statement(_)) => Err(failed(StoreFault::Store)),
-    }
-}
-
-// The counts of the one delivery of a run.
-fn counts_in<'a>(answers: &[Answer]) -> Result<Counts, Failure<'a>>
-    ensures counts { IfOk result (λ counts. answers.now ≡ Ok counts ∷ []) }
-    ensures fails { IfErr result (IsUncounted answers.now) }
-{
-    match answers {
-        [answer] => counts_of(*answer),
-        _ => Err(failed(StoreFault::Store)),
-    }
-}
-
-// Delivers the statement to the party, and closes its store.
-fn deliver_at<'a, S: Stores, V: Verifier + Drop>(
-    source: &S,
-    alloc: Global,
-    path: &str,
-    node: Node<V, File>,
-    issuer: &[u8],
-    statement: &[u8],
-) -> Result<Counts, Failure<'a>>
-    ensures taken { IfOk result (HasTaken (S.leaves source.now path.now) (V.accepts node.verifier)
-        issuer.now statement.now (seen_of (stored node))) }
-    ensures fails { IfErr result
-        (IsNoAnswer (S.leaves source.now path.now) (seen_of (stored node))) }
-{
-    let events = [Event::Deliver(issuer, statement)];
-    match node.run(alloc, &events) {
-        Ok((node, answers)) => {
-            source.close_store(path, node.into_store());
-            counts_in(answers.as_slice())
-        }
-        Err(RunFault::NoRoom(node)) => {
-            source.close_store(path, node.into_store());
-            Err(Failure::NoMemory)
-        }
-        Err(RunFault::Restart(..)) => unreachable!(),
-    }
-}
-
-// Whether the statement is one of the issuer.
-fn check_genuine<'a, V: Verifier>(
+// What the statement in the file says, if it is one of the issuer.
+fn read_facts<'a, 'x, V: Verifier>(
     alloc: Global,
     verifier: &V,
-    issuer: &Certificate<'_>,
+    issuer: &Certificate<'x>,
     file: &'a str,
-    statement: &[u8],
-) -> Result<(), Failure<'a>>
-    ensures genuine { OnOk result (IsGenuine (genuine_statement (V.accepts verifier.now)
-        (seen_certificate issuer.now) statement.now)) }
+    statement: &'x [u8],
+) -> Result<Facts<'x>, Failure<'a>>
+    ensures says { IfOk result (λ facts. genuine_statement (V.accepts verifier.now)
+        (seen_certificate issuer.now) statement.now ≡ Ok (facts_in facts)) }
     ensures denied { IfErr result (IsDenied (genuine_statement (V.accepts verifier.now)
         (seen_certificate issuer.now) statement.now) file.entry.now) }
 {
     match genuine(alloc, verifier, issuer, statement) {
-        Ok(_facts) => return Ok(()),
+        Ok(facts) => Ok(facts),
         Err(StatementFault::Memory) => Err(Failure::NoMemory),
         Err(fault) => Err(Failure::NotGenuine { file, fault }),
     }
 }
 
-// The octets of a statement of the issuer.
-fn read_statement<'a, S: Source, V: Verifier>(
+// The party takes the facts, and its store is closed.
+fn take_into<'a, S: Stores, V: Verifier + Drop>(
     source: &S,
-    alloc: Global,
-    verifier: &V,
-    issuer: &Certificate<'_>,
-    file: &'a str,
-) -> Result<Vec<u8>, Failure<'a>>
-    ensures reads { IfOk result (λ octets. S.holds source.now file.entry.now (Some octets.items)) }
-    ensures genuine { IfOk result (λ octets. IsGenuine (genuine_statement (V.accepts verifier.now)
-        (seen_certificate issuer.now) octets.items)) }
-    ensures fails { IfErr result (IsNoStatement (S.holds source.now) (V.accepts verifier.now)
-        (seen_certificate issuer.now) file.entry.now) }
-{
-    let statement = source.octets_of(file)?;
-    check_genuine(alloc, verifier, issuer, file, statement.as_slice())?;
-    Ok(statement)
-}
-
-// The same, of the issuer whose certificate these octets are.
-fn read_statement_of<'a, S: Source, V: Verifier>(
-    source: &S,
-    alloc: Global,
-    verifier: &V,
-    issuer: &[u8],
-    words: Delivery<'a>,
-) -> Result<Vec<u8>, Failure<'a>>
-    ensures genuine { IfOk result (λ octets.
-        IsGenuineUnder (V.accepts verifier.now) issuer.now octets.items) }
-    ensures reads { IfOk result (λ octets.
-        S.holds source.now words.entry.file.now (Some octets.items)) }
+    path: &str,
+    node: Node<V, File>,
+    facts: &Facts<'_>,
+) -> Result<Counts, Failure<'a>>
+    ensures taken { IfOk result
+        (HasTaken (S.leaves source.now path.now) (facts_in facts.now) (seen_of (stored node))) }
     ensures fails { IfErr result
-        (FailsFirst (IsNoCertificate (IsJust issuer.now) words.entry.issuer.now)
-        (IsCertificateText issuer.now)
-        (IsNoStatementUnder (S.holds source.now) (V.accepts verifier.now) issuer.now
-        words.entry.file.now)) }
+        (IsNoAnswer (S.leaves source.now path.now) (seen_of (stored node))) }
 {
-    let by = read_certificate(alloc, words.issuer, issuer)?;
-    read_statement(source, alloc, verifier, &by, words.file)
+    let mut node = node;
+    let counts = node.take(facts);
+    source.close_store(path, node.into_store());
+    match counts {
+        Ok(counts) => Ok(counts),
+        Err(fault) => Err(failed(fault)),
+    }
 }
 
-// The octets of the issuer's certificate and of a statement of that issuer.
-fn read_delivery<'a, S: Source, V: Verifier>(
-    source: &S,
-    alloc: Global,
-    verifier: &V,
-    words: Delivery<'a>,
-) -> Result<(Vec<u8>, Vec<u8>), Failure<'a>>
-    ensures issuer { IfOk result (λ read.
-        S.holds source.now words.entry.issuer.now (Some read.0.items)) }
-    ensures genuine { IfOk result (λ read.
-        IsGenuineUnder (V.accepts verifier.now) read.0.items read.1.items) }
-    ensures statement { IfOk result (λ read.
-        S.holds source.now words.entry.file.now (Some read.1.items)) }
-    ensures fails { IfErr result
-        (FailsFirst (IsNoCertificate (S.holds source.now) words.entry.issuer.now)
-        (HoldsIssuer (S.holds source.now) words.entry.issuer.now)
-        (IsNoStatementOf (S.holds source.now) (V.accepts verifier.now) words.entry.issuer.now
-        words.entry.file.now)) }
-{
-    let issuer = source.octets_of(words.issuer)?;
-    let statement = read_statement_of(source, alloc, verifier, issuer.as_slice(), words)?;
-    Ok((issuer, statement))
-}
-
-// Delivers a statement to the store at the path.
+// The store at the path takes the facts. Where no file is there it is made.
 fn take_at<'a, S: Stores>(
     source: &S,
-    alloc: Global,
     path: &'a str,
     verifier: &ListVerifier,
-    issuer: &[u8],
-    statement: &[u8],
+    facts: &Facts<'_>,
 ) -> Result<Counts, Failure<'a>>
     ensures taken { IfOk result (IsTakenAt (S.stands source.now) (S.leaves source.now)
-        path.entry.now (accepted_by verifier.now) issuer.now statement.now) }
+        path.entry.now (facts_in facts.now)) }
     ensures fails { IfErr result
         (IsNotTaken (S.stands source.now) (S.leaves source.now) path.entry.now) }
 {
     let store = source.open_or_make_store(path)?;
     let node = Node::new(Shared { list: verifier }, store);
-    deliver_at(source, alloc, path, node, issuer, statement)
+    take_into(source, path, node, facts)
 }
 
-// Delivers what the words name, for who believes the verifier.
-fn take_for<'a, S: Source + Stores>(
+// The store takes what these octets of the file say, under the issuer of the certificate.
+fn take_statement<'a, S: Stores>(
+    source: &S,
+    alloc: Global,
+    verifier: &ListVerifier,
+    issuer: &Certificate<'_>,
+    statement: &[u8],
+    words: Delivery<'a>,
+) -> Result<Counts, Failure<'a>>
+    ensures taken { IfOk result (IsTakenOf (S.stands source.now) (S.leaves source.now)
+        (genuine_statement (accepted_by verifier.now) (seen_certificate issuer.now) statement.now)
+        words.entry) }
+    ensures fails { IfErr result (IsNotTakenOf (S.stands source.now) (S.leaves source.now)
+        (genuine_statement (accepted_by verifier.now) (seen_certificate issuer.now) statement.now)
+        words.entry) }
+{
+    let facts = match read_facts(alloc, verifier, issuer, words.file, statement) {
+        Ok(facts) => facts,
+        Err(failure) => return Err(failure),
+    };
+    take_at(source, words.store, verifier, &facts)
+}
+
+// Delivers the statement in the file, under the issuer of the certificate.
+fn deliver_under<'a, S: Source + Stores>(
+    source: &S,
+    alloc: Global,
+    verifier: &ListVerifier,
+    issuer: &Certificate<'_>,
+    words: Delivery<'a>,
+) -> Result<Counts, Failure<'a>>
+    ensures delivered { IfOk result (IsDeliveredUnder (S.holds source.now) (S.stands source.now)
+        (S.leaves source.now) (accepted_by verifier.now) (seen_certificate issuer.now)
+        words.entry) }
+    ensures fails { IfErr result (IsFailureUnder (S.holds source.now) (S.stands source.now)
+        (S.leaves source.now) (accepted_by verifier.now) (seen_certificate issuer.now)
+        words.entry) }
+{
+    let statement = match source.octets_of(words.file) {
+        Ok(octets) => octets,
+        Err(failure) => return Err(failure),
+    };
+    take_statement(
+        source,
+        alloc,
+        verifier,
+        issuer,
+        statement.as_slice(),
+        words,
+    )
+}
+
+// Delivers the statement in the file, under the issuer whose certificate is in the other.
+fn deliver_for<'a, S: Source + Stores>(
     source: &S,
     alloc: Global,
     verifier: &ListVerifier,
@@ -211,22 +160,19 @@ fn take_for<'a, S: Source + Stores>(
     ensures fails { IfErr result (IsFailureFor (S.holds source.now) (S.stands source.now)
         (S.leaves source.now) (accepted_by verifier.now) words.entry) }
 {
-    let (issuer, statement) = match read_delivery(source, alloc, verifier, words) {
-        Ok(read) => read,
+    let octets = match source.octets_of(words.issuer) {
+        Ok(octets) => octets,
         Err(failure) => return Err(failure),
     };
-    take_at(
-        source,
-        alloc,
-        words.store,
-        verifier,
-        issuer.as_slice(),
-        statement.as_slice(),
-    )
+    let issuer = match read_certificate(alloc, words.issuer, octets.as_slice()) {
+        Ok(issuer) => issuer,
+        Err(failure) => return Err(failure),
+    };
+    deliver_under(source, alloc, verifier, &issuer, words)
 }
 
 // Delivers what the words name.
-fn take<'a, S: Source + Stores>(
+fn deliver_facts<'a, S: Source + Stores>(
     source: &S,
     alloc: Global,
     words: Delivery<'a>,
@@ -241,11 +187,11 @@ fn take<'a, S: Source + Stores>(
         Err(failure) => return Err(failure),
     };
     let verifier = ListVerifier::new(prints);
-    take_for(source, alloc, &verifier, words)
+    deliver_for(source, alloc, &verifier, words)
 }
 
-/// Delivers the statement in the file to the store, under the issuer's certificate, and writes how its facts were counted. Where no
-/// store is there it is made, but not for a statement that is refused.
+/// Delivers the statement in the file to the store, under the issuer's certificate, and writes how its facts were counted. Both files
+/// are read once, before the store is opened. Where no store is there it is made, but not for a statement that is refused.
 pub fn deliver<'a, S: Source + Stores, O: Write>(
     source: &S,
     alloc: Global,
@@ -262,6 +208,6 @@ pub fn deliver<'a, S: Source + Stores, O: Write>(
         words.entry)) }
     ensures quiet { IfErr result (λ failure. UnlessLate failure (out.new ≡ out.old)) }
 {
-    let counts = take(source, alloc, words)?;
+    let counts = deliver_facts(source, alloc, words)?;
     counts_to(&counts, out).map_err(|_| Failure::Unwritable)
 }

@@ -1,17 +1,23 @@
 -- Values that are certificates, and the first that is none.
-use Rattle.std.proofs.Common.{◌≡◌, ◌<◌, ◌≤◌, ◌+◌, ℕ, suc, List, [], ◌∷◌, ◌++◌, Option, Result, Ok, length, map, take, drop, get_or, refl, sym, ap, ◌∙◌, subst, arith, append_assoc, drop-cons}
+use Rattle.std.proofs.Common.{◌≡◌, ◌⊎◌, ◌<◌, ◌≤◌, ◌+◌, ℕ, suc, List, [], ◌∷◌, ◌++◌, Option, Some, None, Result, Ok, length, map, take, drop, get_or, refl, sym, ap, ◌∙◌, subst, inl, inr, arith, append_assoc, drop-cons}
 use Rattle.std.specs.List.{AllByRecursion}
 use Rattle.std.proofs.lemmas.List.{append-nil, get_or_default, length-append, map-append, take-append-drop, take_more}
 use Rattle.std.proofs.lemmas.Grind.{flat_map-append}
 use Rattle.cert.specs.Certificate.{Certificate, certificate}
 use Rattle.cert.specs.declared.fault.CertRule.{CertRule}
+use Rattle.der.specs.declared.fault.Fault.{Fault}
+use Rattle.der.specs.declared.fault.Fault.TheVariants.{Refused as Breaks, Memory}
+use Rattle.der.specs.declared.fault.Rule.{Rule}
+use Rattle.der.specs.declared.fault.Rule.TheVariants.{Truncated}
 use Rattle.der_stream.specs.declared.reading.ReadFault.{ReadFault}
+use Rattle.der_stream.specs.declared.reading.ReadFault.TheVariants.{Fault as OfValue, Limit, Io}
 use Rattle.der_stream.specs.Sequence.{IsValueWithin, joined}
-use Rattle.cli_failures.specs.Failures.{IsJust}
+use Rattle.cli_failures.specs.Failures.{Holding}
 use Rattle.cli_failures.specs.declared.failure.Failure.{Failure}
 use Rattle.cli_failures.specs.declared.failure.Failure.TheVariants.{Refused, NoCertificate, NoRevocationList, NoResponse, NotGenuine, BadLine, BadTime, BadPurpose, Unreadable, Unwritable, StoreFailed, NoMemory}
-use Rattle.cli_operands.specs.PathText.{AreTexts, Begins, HoldsOther, IsFailureOnPath, longest}
-use Rattle.cli_operands.specs.CertificateValues.{AreRead, IsFailureAmong, IsFailureAt, IsOtherAmong, WereRead}
+use Rattle.cli_operands.specs.PathText.{AreTexts, Begins, HoldsNoValue, HoldsOther, IsFailureOnPath, longest, most}
+use Rattle.cli_operands.specs.CertificateValues.{AreRead, IsFailureAmong, IsFailureAt, IsOtherAmong, IsToldOf, WereRead}
+use Rattle.cli_operands.specs.PathFiles.{IsFailureBehind}
 
 -- ---- values in order
 
@@ -48,9 +54,6 @@ part_of {V = V} text values i =
 pub texts_more : (values others : List (List ℕ)) (first second : List Certificate) → AreTexts values first → AreTexts others second → AreTexts (values ++ others) (first ++ second)
 texts_more values others first second are too =
     map-append certificate values others ∙ ap (λ (xs : List (Result Certificate (CertRule × ℕ))). xs ++ map certificate others) are ∙ ap (λ (xs : List (Result Certificate (CertRule × ℕ))). map Ok first ++ xs) too ∙ sym (map-append Ok first second)
-
-pub read_more : (values others : List (List ℕ)) → AreRead values → AreRead others → AreRead (values ++ others)
-read_more values others (first, are) (second, too) = (first ++ second, texts_more values others first second are too)
 
 pub place_more : (values : List (List ℕ)) (value : List ℕ) → length (joined (values ++ value ∷ [])) ≡ length (joined values) + length value
 place_more values value =
@@ -112,21 +115,82 @@ other_in octets values left rule at begins few other =
       at_is = other.at_is;
     }
 
--- whatever the file, memory may run out
-of_memory : (octets file : List ℕ) (failure : Failure) → failure ≡ NoMemory → IsFailureOnPath (IsJust octets) file failure
-of_memory octets file failure is = subst (IsFailureOnPath (IsJust octets) file) (sym is) tt
+-- ---- failures on a file that holds the octets
 
-pub refused_among : (octets : List ℕ) (values : List (List ℕ)) (stopped : Option (ℕ × ReadFault)) (file : List ℕ) (failure : Failure) → WereRead octets values stopped → IsFailureAmong values file failure
-    → IsFailureOnPath (IsJust octets) file failure
-refused_among octets values stopped file (NoCertificate named rule at) read (same, other) = (same, (octets, refl, other_in octets values read.left rule at read.begins read.few other))
-refused_among octets values stopped file (Refused named fault) read fails = of_memory octets file (Refused named fault) fails
-refused_among octets values stopped file (NoRevocationList named rule at) read fails = of_memory octets file (NoRevocationList named rule at) fails
-refused_among octets values stopped file (NoResponse named rule at) read fails = of_memory octets file (NoResponse named rule at) fails
-refused_among octets values stopped file (NotGenuine named fault) read fails = of_memory octets file (NotGenuine named fault) fails
-refused_among octets values stopped file (BadLine named line) read fails = of_memory octets file (BadLine named line) fails
-refused_among octets values stopped file BadTime read fails = of_memory octets file BadTime fails
-refused_among octets values stopped file BadPurpose read fails = of_memory octets file BadPurpose fails
-refused_among octets values stopped file (Unreadable named) read fails = of_memory octets file (Unreadable named) fails
-refused_among octets values stopped file Unwritable read fails = of_memory octets file Unwritable fails
-refused_among octets values stopped file (StoreFailed number) read fails = of_memory octets file (StoreFailed number) fails
-refused_among octets values stopped file NoMemory read fails = of_memory octets file NoMemory fails
+module _ (holds : Holding) (octets file : List ℕ) (held : holds file (Some octets)) where
+  -- whatever the file, memory may run out
+  pub of_memory : (failure : Failure) → failure ≡ NoMemory → IsFailureOnPath holds file failure
+  of_memory failure is = subst (IsFailureOnPath holds file) (sym is) tt
+
+  pub refused_among : (values : List (List ℕ)) (stopped : Option (ℕ × ReadFault)) (failure : Failure) → WereRead octets values stopped → IsFailureAmong values file failure → IsFailureOnPath holds file failure
+  refused_among values stopped (NoCertificate named rule at) read (same, other) = (same, (octets, held, other_in octets values read.left rule at read.begins read.few other))
+  refused_among values stopped (Refused named fault) read fails = of_memory (Refused named fault) fails
+  refused_among values stopped (NoRevocationList named rule at) read fails = of_memory (NoRevocationList named rule at) fails
+  refused_among values stopped (NoResponse named rule at) read fails = of_memory (NoResponse named rule at) fails
+  refused_among values stopped (NotGenuine named fault) read fails = of_memory (NotGenuine named fault) fails
+  refused_among values stopped (BadLine named line) read fails = of_memory (BadLine named line) fails
+  refused_among values stopped BadTime read fails = of_memory BadTime fails
+  refused_among values stopped BadPurpose read fails = of_memory BadPurpose fails
+  refused_among values stopped (Unreadable named) read fails = of_memory (Unreadable named) fails
+  refused_among values stopped Unwritable read fails = of_memory Unwritable fails
+  refused_among values stopped (StoreFailed number) read fails = of_memory (StoreFailed number) fails
+  refused_among values stopped NoMemory read fails = of_memory NoMemory fails
+
+  -- what stands behind certificates is no value
+  no_value : (values : List (List ℕ)) (place : ℕ) (rule : Rule) (at : ℕ) (fault : Fault) → WereRead octets values (Some (place, OfValue (Breaks rule at))) → AreRead values → fault ≡ Breaks rule (place + at) → HoldsNoValue octets fault
+  no_value values place rule at fault read (certificates, are) is = record {
+    before = values;
+    left = read.left;
+    begin = record { few = read.end.0; certificates = certificates; each = are; begins = read.begins };
+    broken = inl (rule, at, read.end.2, read.end.3, is ∙ ap (λ (start : ℕ). Breaks rule (start + at)) read.end.1);
+  }
+
+  told_behind : (values : List (List ℕ)) (place : ℕ) (rule : Rule) (at : ℕ) (failure : Failure) → WereRead octets values (Some (place, OfValue (Breaks rule at))) → AreRead values
+      → IsToldOf file place (OfValue (Breaks rule at)) failure → IsFailureOnPath holds file failure
+  told_behind values place rule at (Refused named fault) read are (same, is) = (same, (octets, held, no_value values place rule at fault read are is))
+  told_behind values place rule at (NoCertificate named other place_of) read are fails = of_memory (NoCertificate named other place_of) fails
+  told_behind values place rule at (NoRevocationList named other place_of) read are fails = of_memory (NoRevocationList named other place_of) fails
+  told_behind values place rule at (NoResponse named other place_of) read are fails = of_memory (NoResponse named other place_of) fails
+  told_behind values place rule at (NotGenuine named fault) read are fails = of_memory (NotGenuine named fault) fails
+  told_behind values place rule at (BadLine named line) read are fails = of_memory (BadLine named line) fails
+  told_behind values place rule at BadTime read are fails = of_memory BadTime fails
+  told_behind values place rule at BadPurpose read are fails = of_memory BadPurpose fails
+  told_behind values place rule at (Unreadable named) read are fails = of_memory (Unreadable named) fails
+  told_behind values place rule at Unwritable read are fails = of_memory Unwritable fails
+  told_behind values place rule at (StoreFailed number) read are fails = of_memory (StoreFailed number) fails
+  told_behind values place rule at NoMemory read are fails = of_memory NoMemory fails
+
+  -- nothing is there at all
+  empty : (values : List (List ℕ)) (fault : Fault) → WereRead octets values None → AreRead values → values ≡ [] → fault ≡ Breaks Truncated 0 → HoldsNoValue octets fault
+  empty values fault read are none is = record {
+    before = [];
+    left = octets;
+    begin = record { few = omega arith; certificates = []; each = refl; begins = record { each = tt; text_is = refl } };
+    broken = inr (nothing, is);
+  }
+    where
+      left_is : (read.left ≡ []) ⊎ (length values ≡ most) → read.left ≡ []
+      left_is (inl is) = is
+      left_is (inr many) = absurd (omega (arith, many, ap length none))
+
+      nothing : octets ≡ []
+      nothing = read.begins.text_is ∙ ap (λ (values : List (List ℕ)). joined values ++ read.left) none ∙ left_is read.end
+
+  pub refused_behind : (values : List (List ℕ)) (stopped : Option (ℕ × ReadFault)) (failure : Failure) → WereRead octets values stopped → AreRead values → IsFailureBehind values file stopped failure
+      → IsFailureOnPath holds file failure
+  refused_behind values (Some (place, OfValue (Breaks rule at))) failure read are fails = told_behind values place rule at failure read are fails
+  refused_behind values (Some (place, OfValue Memory)) failure read are fails = of_memory failure fails
+  refused_behind values (Some (place, Limit)) failure read are fails = of_memory failure fails
+  refused_behind values (Some (place, Io)) failure read are fails = of_memory failure fails
+  refused_behind values None (Refused named fault) read are (none, same, is) = (same, (octets, held, empty values fault read are none is))
+  refused_behind values None (NoCertificate named rule at) read are fails = absurd fails
+  refused_behind values None (NoRevocationList named rule at) read are fails = absurd fails
+  refused_behind values None (NoResponse named rule at) read are fails = absurd fails
+  refused_behind values None (NotGenuine named fault) read are fails = absurd fails
+  refused_behind values None (BadLine named line) read are fails = absurd fails
+  refused_behind values None BadTime read are fails = absurd fails
+  refused_behind values None BadPurpose read are fails = absurd fails
+  refused_behind values None (Unreadable named) read are fails = absurd fails
+  refused_behind values None Unwritable read are fails = absurd fails
+  refused_behind values None (StoreFailed number) read are fails = absurd fails
+  refused_behind values None NoMemory read are fails = absurd fails

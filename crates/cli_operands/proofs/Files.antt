@@ -1,41 +1,164 @@
--- Files one after the other.
-use Rattle.std.proofs.Common.{◌<◌, ◌+◌, ℕ, suc, Bor, List, [], ◌∷◌, ◌++◌, length, map, take, drop, get_or, refl, sym, ap, ◌∙◌, subst, inl, inr, append_assoc, append-nil}
-use Rattle.cert.specs.Certificate.{Certificate}
-use Rattle.cli_failures.specs.Failures.{Holding}
+-- Files one after the other: as they are read, and as their certificates are.
+use Rattle.std.proofs.Common.{◌≡◌, ◌<◌, ◌+◌, ℕ, suc, Bor, List, [], ◌∷◌, ◌++◌, Option, Some, None, length, map, take, drop, get_or, refl, sym, ap, ◌∙◌, subst, inl, inr, append_assoc, append-nil, drop-cons}
+use Rattle.std.proofs.lemmas.List.{get_or_default, take-append-drop, take_more}
+use Rattle.cert.specs.Certificate.{Certificate, certificate}
+use Rattle.cli_failures.specs.Failures.{Holding, IsJust, IsNoCertificate, IsUnread}
 use Rattle.cli_failures.specs.declared.failure.Failure.{Failure}
-use Rattle.cli_operands.specs.PathText.{HoldPath, HoldsCertificates, HoldsTexts, HoldTexts, IsFailureOfPath, IsFailureOnPath}
-use Rattle.cli_operands.proofs.Certificates.{one_more_at, parted_at, texts_more}
+use Rattle.cli_failures.specs.declared.failure.Failure.TheVariants.{Refused, NoCertificate, NoRevocationList, NoResponse, NotGenuine, BadLine, BadTime, BadPurpose, Unreadable, Unwritable, StoreFailed, NoMemory}
+use Rattle.cli_operands.specs.CertificateValues.{EndBehind, IsFailureAmong}
+use Rattle.cli_operands.specs.PathFiles.{AreCertificatesIn, AreCertificatesOf, AreFilesRead, IsFailureBehind, IsFailureIn, IsFailureOf, IsFileRead, values_of}
+use Rattle.cli_operands.specs.PathText.{HoldPath, HoldsCertificates, IsFailureOfPath, IsFailureOnPath}
+use Rattle.cli_operands.specs.declared.path_file.PathFile.{PathFile}
+use Rattle.cli_operands.proofs.Certificates.{of_memory, one_more_at, parted_at, refused_among, refused_behind}
 
--- ---- one file more
+-- ---- files that are read
 
-pub hold_more : (holds : Holding) (files : List (List ℕ)) (file : List ℕ) (certificates more : List Certificate) → HoldPath holds files certificates → HoldsCertificates holds file more
-    → HoldPath holds (files ++ file ∷ []) (certificates ++ more)
-hold_more holds [] file certificates more none held = (more, [], held, refl, ap (λ (xs : List Certificate). xs ++ more) none ∙ sym (append-nil more))
-hold_more holds (other ∷ files) file certificates more (first, behind, held_first, held_behind, is) held =
-    (first, behind ++ more, held_first, hold_more holds files file behind more held_behind held, ap (λ (xs : List Certificate). xs ++ more) is ∙ append_assoc first behind more)
+files_more : (holds : Holding) (files : List (List ℕ)) (file : List ℕ) (read : List PathFile) (it : PathFile) → AreFilesRead holds files read None → IsFileRead holds file it
+    → AreFilesRead holds (files ++ file ∷ []) (read ++ it ∷ []) None
+files_more holds [] file [] it none is = (is, tt)
+files_more holds [] file (other ∷ read) it none is = absurd none
+files_more holds (name ∷ files) file [] it none is = absurd none
+files_more holds (name ∷ files) file (other ∷ read) it (one, more) is = (one, files_more holds files file read it more is)
 
-pub fails_behind : (holds : Holding) (before : List (List ℕ)) (file : List ℕ) (behind : List (List ℕ)) (certificates : List Certificate) (failure : Failure) → HoldPath holds before certificates → IsFailureOnPath holds file failure
-    → IsFailureOfPath holds (before ++ file ∷ behind) failure
-fails_behind holds [] file behind certificates failure held fails = inl fails
-fails_behind holds (other ∷ before) file behind certificates failure (first, more, held_first, held_more, is) fails =
-    inr ((first, held_first), fails_behind holds before file behind more failure held_more fails)
+files_end : (holds : Holding) (before : List (List ℕ)) (file : List ℕ) (behind : List (List ℕ)) (read : List PathFile) (failure : Failure) → AreFilesRead holds before read None → IsUnread holds file failure
+    → AreFilesRead holds (before ++ file ∷ behind) read (Some failure)
+files_end holds [] file behind [] failure none fails = fails
+files_end holds [] file behind (other ∷ read) failure none fails = absurd none
+files_end holds (name ∷ before) file behind [] failure none fails = absurd none
+files_end holds (name ∷ before) file behind (other ∷ read) failure (one, more) fails = (one, files_end holds before file behind read failure more fails)
 
--- ---- a walk over the files
+module _ (holds : Holding) (files : List (Bor (List ℕ))) (i : ℕ) (d : Bor (List ℕ)) where
+  pub one_read : (read : List PathFile) (it : PathFile) → i < length files → AreFilesRead holds (map (λ file. file.now) (take i files)) read None → IsFileRead holds (get_or files i d).now it
+      → AreFilesRead holds (map (λ file. file.now) (take (i + 1) files)) (read ++ it ∷ []) None
+  one_read read it within are is =
+      subst (λ (names : List (List ℕ)). AreFilesRead holds names (read ++ it ∷ []) None) (sym (one_more_at (λ file. file.now) files i d within))
+      (files_more holds (map (λ file. file.now) (take i files)) (get_or files i d).now read it are is)
 
-pub path_longer : (holds : Holding) (files : List (Bor (List ℕ))) (i : ℕ) (d : Bor (List ℕ)) (texts more : List (List ℕ)) → i < length files → HoldTexts holds (map (λ file. file.now) (take i files)) texts
-    → HoldsTexts holds (get_or files i d).now more → HoldTexts holds (map (λ file. file.now) (take (i + 1) files)) (texts ++ more)
-path_longer holds files i d texts more within (certificates, held, are) (others, held_more, are_more) =
-    let file = get_or files i d in
-    let name = λ (file : Bor (List ℕ)). file.now in
-    let names = one_more_at name files i d within in (
-      certificates ++ others,
-      subst (λ (names : List (List ℕ)). HoldPath holds names (certificates ++ others)) (sym names) (hold_more holds (map name (take i files)) file.now certificates others held held_more),
-      texts_more texts more certificates others are are_more,
-    )
+  pub one_unread : (read : List PathFile) (failure : Failure) → i < length files → AreFilesRead holds (map (λ file. file.now) (take i files)) read None → IsUnread holds (get_or files i d).now failure
+      → AreFilesRead holds (map (λ file. file.now) files) read (Some failure)
+  one_unread read failure within are fails =
+      subst (λ (names : List (List ℕ)). AreFilesRead holds names read (Some failure)) (sym (parted_at (λ file. file.now) files i d within))
+      (files_end holds (map (λ file. file.now) (take i files)) (get_or files i d).now (map (λ file. file.now) (drop (suc i) files)) read failure are fails)
 
-pub path_refused : (holds : Holding) (files : List (Bor (List ℕ))) (i : ℕ) (d : Bor (List ℕ)) (texts : List (List ℕ)) (failure : Failure) → i < length files → HoldTexts holds (map (λ file. file.now) (take i files)) texts
-    → IsFailureOnPath holds (get_or files i d).now failure → IsFailureOfPath holds (map (λ file. file.now) files) failure
-path_refused holds files i d texts failure within (certificates, held, are) fails =
-    let name = λ (file : Bor (List ℕ)). file.now in
-    subst (λ (names : List (List ℕ)). IsFailureOfPath holds names failure) (sym (parted_at name files i d within))
-    (fails_behind holds (map name (take i files)) (get_or files i d).now (map name (drop (suc i) files)) certificates failure held fails)
+-- ---- their certificates
+
+certificates_more : (files : List PathFile) (it : PathFile) (certificates more : List Certificate) → AreCertificatesOf files certificates → AreCertificatesIn it more
+    → AreCertificatesOf (files ++ it ∷ []) (certificates ++ more)
+certificates_more [] it certificates more none are = (more, [], are, refl, ap (λ (xs : List Certificate). xs ++ more) none ∙ sym (append-nil more))
+certificates_more (other ∷ files) it certificates more (first, behind, are_first, are_behind, is) are =
+    (first, behind ++ more, are_first, certificates_more files it behind more are_behind are, ap (λ (xs : List Certificate). xs ++ more) is ∙ append_assoc first behind more)
+
+fails_behind : (before : List PathFile) (it : PathFile) (behind : List PathFile) (unread : Option Failure) (certificates : List Certificate) (failure : Failure) → AreCertificatesOf before certificates → IsFailureIn it failure
+    → IsFailureOf (before ++ it ∷ behind) unread failure
+fails_behind [] it behind unread certificates failure are fails = inl fails
+fails_behind (other ∷ before) it behind unread certificates failure (first, more, are_first, are_more, is) fails =
+    inr ((first, are_first), fails_behind before it behind unread more failure are_more fails)
+
+pub fails_in_the_end : (files : List PathFile) (unread : Option Failure) (certificates : List Certificate) (failure : Failure) → AreCertificatesOf files certificates → unread ≡ Some failure → IsFailureOf files unread failure
+fails_in_the_end [] unread certificates failure are is = inl is
+fails_in_the_end (it ∷ files) unread certificates failure (first, more, are_first, are_more, same) is = inr ((first, are_first), fails_in_the_end files unread more failure are_more is)
+
+pub no_memory : (files : List PathFile) (unread : Option Failure) → IsFailureOf files unread NoMemory
+no_memory [] unread = inr refl
+no_memory (it ∷ files) unread = inl (inl refl)
+
+module _ (files : List PathFile) (i : ℕ) (it : PathFile) (within : i < length files) (is : it ≡ get_or files i it) where
+  pub path_longer : (certificates more : List Certificate) → AreCertificatesOf (take i files) certificates → AreCertificatesIn it more → AreCertificatesOf (take (i + 1) files) (certificates ++ more)
+  path_longer certificates more are are_more =
+      subst (λ (read : List PathFile). AreCertificatesOf read (certificates ++ more)) (sym (take_more files i it within ∙ ap (λ (f : PathFile). take i files ++ f ∷ []) (sym is)))
+      (certificates_more (take i files) it certificates more are are_more)
+
+  pub path_refused : (unread : Option Failure) (certificates : List Certificate) (failure : Failure) → AreCertificatesOf (take i files) certificates → IsFailureIn it failure → IsFailureOf files unread failure
+  path_refused unread certificates failure are fails =
+      subst (λ (read : List PathFile). IsFailureOf read unread failure) (sym (sym (take-append-drop i files) ∙ ap (λ (xs : List PathFile). take i files ++ xs) (drop-cons files i it within ∙ ap (λ (f : PathFile). f ∷ drop (suc i) files) (sym is))))
+      (fails_behind (take i files) it (drop (suc i) files) unread certificates failure are fails)
+
+-- ---- what the files hold
+
+unread_on : (holds : Holding) (file : List ℕ) (failure : Failure) → IsUnread holds file failure → IsFailureOnPath holds file failure
+unread_on holds file (Refused named fault) fails = absurd fails
+unread_on holds file (NoCertificate named rule at) fails = absurd fails
+unread_on holds file (NoRevocationList named rule at) fails = absurd fails
+unread_on holds file (NoResponse named rule at) fails = absurd fails
+unread_on holds file (NotGenuine named fault) fails = absurd fails
+unread_on holds file (BadLine named line) fails = absurd fails
+unread_on holds file BadTime fails = absurd fails
+unread_on holds file BadPurpose fails = absurd fails
+unread_on holds file (Unreadable named) fails = fails
+unread_on holds file Unwritable fails = absurd fails
+unread_on holds file (StoreFailed number) fails = absurd fails
+unread_on holds file NoMemory fails = tt
+
+pub unread_certificate : (holds : Holding) (file : List ℕ) (failure : Failure) → IsUnread holds file failure → IsNoCertificate holds file failure
+unread_certificate holds file (Refused named fault) fails = absurd fails
+unread_certificate holds file (NoCertificate named rule at) fails = absurd fails
+unread_certificate holds file (NoRevocationList named rule at) fails = absurd fails
+unread_certificate holds file (NoResponse named rule at) fails = absurd fails
+unread_certificate holds file (NotGenuine named fault) fails = absurd fails
+unread_certificate holds file (BadLine named line) fails = absurd fails
+unread_certificate holds file BadTime fails = absurd fails
+unread_certificate holds file BadPurpose fails = absurd fails
+unread_certificate holds file (Unreadable named) fails = fails
+unread_certificate holds file Unwritable fails = absurd fails
+unread_certificate holds file (StoreFailed number) fails = absurd fails
+unread_certificate holds file NoMemory fails = tt
+
+pub no_certificate : (holds : Holding) (octets file : List ℕ) (failure : Failure) → holds file (Some octets) → IsNoCertificate (IsJust octets) file failure → IsNoCertificate holds file failure
+no_certificate holds octets file (Refused named fault) held fails = absurd fails
+no_certificate holds octets file (NoCertificate named rule at) held (same, (text, is, refused)) = (same, (octets, held, let one : text ≡ octets = cc in ap certificate (sym one) ∙ refused))
+no_certificate holds octets file (NoRevocationList named rule at) held fails = absurd fails
+no_certificate holds octets file (NoResponse named rule at) held fails = absurd fails
+no_certificate holds octets file (NotGenuine named fault) held fails = absurd fails
+no_certificate holds octets file (BadLine named line) held fails = absurd fails
+no_certificate holds octets file BadTime held fails = absurd fails
+no_certificate holds octets file BadPurpose held fails = absurd fails
+no_certificate holds octets file (Unreadable named) held (same, none) = absurd (let wrong : ⊥ = cc in wrong)
+no_certificate holds octets file Unwritable held fails = absurd fails
+no_certificate holds octets file (StoreFailed number) held fails = absurd fails
+no_certificate holds octets file NoMemory held fails = tt
+
+holds_certificates : (holds : Holding) (file : List ℕ) (it : PathFile) (certificates : List Certificate) → IsFileRead holds file it → AreCertificatesIn it certificates → HoldsCertificates holds file certificates
+holds_certificates holds file it certificates (named, (octets, held, read)) are = (
+  octets,
+  held,
+  record {
+    values = values_of it;
+    some = are.some;
+    left = read.left;
+    begins = read.begins;
+    few = read.few;
+    whole = subst (EndBehind (values_of it) read.left) are.whole read.end;
+    each = are.each;
+  },
+)
+
+fails_on : (holds : Holding) (file : List ℕ) (it : PathFile) (failure : Failure) → IsFileRead holds file it → IsFailureIn it failure → IsFailureOnPath holds file failure
+fails_on holds file it failure (named, (octets, held, read)) (inl among) =
+    refused_among holds octets file held (values_of it) it.stopped failure read (subst (λ (name : List ℕ). IsFailureAmong (values_of it) name failure) named among)
+fails_on holds file it failure (named, (octets, held, read)) (inr (are, behind)) =
+    refused_behind holds octets file held (values_of it) it.stopped failure read are (subst (λ (name : List ℕ). IsFailureBehind (values_of it) name it.stopped failure) named behind)
+
+pub hold_path : (holds : Holding) (files : List (List ℕ)) (read : List PathFile) (unread : Option Failure) (certificates : List Certificate) → AreFilesRead holds files read unread → unread ≡ None → AreCertificatesOf read certificates
+    → HoldPath holds files certificates
+hold_path holds [] [] None certificates are all path = path
+hold_path holds [] [] (Some failure) certificates are all path = absurd are
+hold_path holds [] (it ∷ read) unread certificates are all path = absurd are
+hold_path holds (file ∷ files) [] None certificates are all path = absurd are
+hold_path holds (file ∷ files) [] (Some failure) certificates are all path = absurd (let wrong : ⊥ = cc in wrong)
+hold_path holds (file ∷ files) (it ∷ read) unread certificates (one, rest) all (first, more, are_first, are_more, is) =
+    (first, more, holds_certificates holds file it first one are_first, hold_path holds files read unread more rest all are_more, is)
+
+pub fails_of : (holds : Holding) (files : List (List ℕ)) (read : List PathFile) (unread : Option Failure) (failure : Failure) → AreFilesRead holds files read unread → IsFailureOf read unread failure
+    → IsFailureOfPath holds files failure
+fails_of holds [] [] None failure are (inl is) = absurd (let wrong : ⊥ = cc in wrong)
+fails_of holds [] [] None failure are (inr memory) = memory
+fails_of holds [] [] (Some other) failure are fails = absurd are
+fails_of holds [] (it ∷ read) unread failure are fails = absurd are
+fails_of holds (file ∷ files) [] None failure are fails = absurd are
+fails_of holds (file ∷ files) [] (Some other) failure are (inl is) =
+    let same : other ≡ failure = cc in
+    inl (unread_on holds file failure (subst (IsUnread holds file) same are))
+fails_of holds (file ∷ files) [] (Some other) failure are (inr memory) = inl (unread_on holds file failure (subst (IsUnread holds file) (sym memory) tt))
+fails_of holds (file ∷ files) (it ∷ read) unread failure (one, rest) (inl fails) = inl (fails_on holds file it failure one fails)
+fails_of holds (file ∷ files) (it ∷ read) unread failure (one, rest) (inr ((certificates, are), fails)) =
+    inr ((certificates, holds_certificates holds file it certificates one are), fails_of holds files read unread failure rest fails)

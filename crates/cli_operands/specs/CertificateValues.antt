@@ -1,5 +1,5 @@
 -- Values with which a file begins, one after the other, as certificates.
-use Rattle.std.specs.Prelude.{◌≡◌, ◌+◌, ◌<◌, ◌≤◌, ◌^◌, ◌⊎◌, ℕ, List, [], ◌∷◌, ◌++◌, length, Option, Some, None, Err}
+use Rattle.std.specs.Prelude.{◌≡◌, ◌+◌, ◌<◌, ◌≤◌, ◌⊎◌, ℕ, List, [], ◌∷◌, ◌++◌, length, Option, Some, None, Err}
 use Rattle.cert.specs.Certificate.{Certificate, certificate}
 use Rattle.cert.specs.declared.fault.CertRule.{CertRule}
 use Rattle.der.specs.FirstFault.{FirstFaultIn}
@@ -57,10 +57,3 @@ abbrev pub IsToldOf : List ℕ → ℕ → ReadFault → Failure → Type 0
 IsToldOf file place (Fault (Breaks rule at)) (Refused named told) =
     (named.now ≡ file) × (told ≡ Breaks rule (place + at))
 IsToldOf file place fault failure = failure ≡ NoMemory
-
--- the place of the fault is one that can be told
-abbrev pub MayBeTold : ℕ → ReadFault → Type 0
-MayBeTold place (Fault (Breaks rule at)) = place + at < 2 ^ 64
-MayBeTold place (Fault Memory) = Unit {0}
-MayBeTold place Limit = ⊥
-MayBeTold place Io = Unit {0}

@@ -4,5 +4,7 @@ pub mod VerdictLines
 pub mod InOrder
 pub mod PathText
 pub mod CertificateValues
+pub mod PathFiles
 pub mod Question
+pub mod Operands
 pub use Rattle.asn.specs.Time

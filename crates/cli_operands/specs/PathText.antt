@@ -52,16 +52,6 @@ HoldPath holds (file ∷ files) certificates =
     (first more : List Certificate) × HoldsCertificates holds file first × HoldPath holds files more
     × (certificates ≡ first ++ more)
 
--- these are the texts of the certificates that the file holds
-abbrev pub HoldsTexts : Holding → List ℕ → List (List ℕ) → Type 0
-HoldsTexts holds file texts =
-    (certificates : List Certificate) × HoldsCertificates holds file certificates × AreTexts texts certificates
-
--- the same of files
-abbrev pub HoldTexts : Holding → List (List ℕ) → List (List ℕ) → Type 0
-HoldTexts holds files texts =
-    (certificates : List Certificate) × HoldPath holds files certificates × AreTexts texts certificates
-
 -- ---- what is refused
 
 -- the octets begin with certificates, fewer than are looked at, and then these are left

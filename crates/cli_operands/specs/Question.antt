@@ -1,10 +1,10 @@
 -- What the operands of `check` and `compare` ask, and what is wrong with them.
-use Rattle.std.specs.Prelude.{◌≡◌, ◌↔◌, ℕ, ℤ, List, Option, Some, None, IsTrue, Contains, map, option_map, Ok}
+use Rattle.std.specs.Prelude.{◌≡◌, ◌↔◌, ℕ, ℤ, List, Option, Some, None, IsTrue, Contains, map, option_map}
 use Rattle.cli_operands.specs.Moment.{IsMoment}
 use Rattle.cli_operands.specs.Purpose.{IsPurpose}
 use Rattle.cli_operands.specs.VerdictLines.{IsFirstBadLine, Name, lines_of}
 use Rattle.cli_words.specs.declared.question.Question.{Question as Asked}
-use Rattle.cert.specs.Certificate.{Certificate, certificate}
+use Rattle.cert.specs.Certificate.{Certificate}
 use Rattle.path.specs.Query.{Query, Accepts}
 use Rattle.path_verifiers.specs.Fingerprint.{fingerprint_of}
 use Rattle.cli_failures.specs.Failures.{Holding, HoldsCertificate, IsNoCertificate, IsUnread}
@@ -47,12 +47,6 @@ IsPurposeOf _ _ = ⊥
 abbrev pub IsBadPurpose : Option (List ℕ) → Failure → Type 0
 IsBadPurpose (Some text) BadPurpose = (contents : List ℕ) → IsPurpose text contents → ⊥
 IsBadPurpose asked failure = failure ≡ NoMemory
-
--- ---- certificates
-
--- the file holds the octets, and they are those of a certificate
-abbrev pub HoldsText : Holding → List ℕ → List ℕ → Type 0
-HoldsText holds file octets = holds file (Some octets) × ((read : Certificate) × (certificate octets ≡ Ok read))
 
 -- ---- the question
 

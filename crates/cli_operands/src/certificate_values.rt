@@ -1,53 +1,57 @@
-//! Whether the values of a file are certificates.
-ghost use Rattle.std.specs.Prelude.{◌<◌, ◌^◌, [], ◌∷◌, length, map, IfErr, OnOk};
+//! The certificates that the values of a file are.
+ghost use Rattle.std.specs.Prelude.{◌≡◌, ◌<◌, ◌^◌, length, map, IfErr, IfOk, Ok};
+ghost use Rattle.cert.specs.Certificate.{certificate, seen_certificate};
 ghost use Rattle.der_stream.specs.Sequence.{joined};
-ghost use Rattle.cli_operands.specs.CertificateValues.{AreRead, IsFailureAmong, IsFailureAt};
+ghost use Rattle.cli_operands.specs.CertificateValues.{IsFailureAmong, IsFailureAt};
+ghost use Rattle.cli_operands.specs.PathText.{AreTexts};
 
 use cert::{CertFault, Certificate};
 use cli_failures::Failure;
 use std::alloc::Global;
 
-/// That the value, which starts at this place of the file, is a certificate.
+/// The certificate that the value is, which starts at this place of the file.
 ///
 /// A certificate is refused at an octet of its text or at its end, so that a place in the file is never past the greatest; where it
 /// were, no memory would hold the file.
-fn read_certificate<'a>(
+fn read_certificate<'q, 'a>(
     alloc: Global,
     file: &'a str,
-    value: &[u8],
+    value: &'q [u8],
     start: usize,
-) -> Result<(), Failure<'a>>
-    ensures reads { OnOk result (AreRead (value.now ∷ [])) }
+) -> Result<Certificate<'q>, Failure<'a>>
+    ensures reads { IfOk result (λ read. certificate value.now ≡ Ok (seen_certificate read)) }
     ensures fails { IfErr result (IsFailureAt value.now start file.entry.now) }
 {
-    let fault = match Certificate::read(alloc, value) {
-        Ok(_read) => return Ok(()),
-        Err(fault) => fault,
-    };
-    match fault {
-        CertFault::Memory => Err(Failure::NoMemory),
-        CertFault::Refused(rule, offset) => match start.checked_add(offset) {
+    match Certificate::read(alloc, value) {
+        Ok(read) => Ok(read),
+        Err(CertFault::Memory) => Err(Failure::NoMemory),
+        Err(CertFault::Refused(rule, offset)) => match start.checked_add(offset) {
             Some(at) => Err(Failure::NoCertificate { file, rule, at }),
             None => Err(Failure::NoMemory),
         },
     }
 }
 
-/// That the values, with which the file begins, are certificates, each read before the next.
-pub(crate) fn read_certificates<'a>(
+/// The certificates that the values are, with which the file begins, each read before the next.
+pub(crate) fn read_certificates<'q, 'a>(
     alloc: Global,
     file: &'a str,
-    values: &[Vec<u8>],
-) -> Result<(), Failure<'a>>
+    values: &'q [Vec<u8>],
+) -> Result<Vec<Certificate<'q>>, Failure<'a>>
     requires { length (joined (map (λ value. value.items) values.now)) < 2 ^ 64 }
-    ensures reads { OnOk result (AreRead (map (λ value. value.items) values.now)) }
+    ensures reads { IfOk result (λ read. AreTexts (map (λ value. value.items) values.now)
+        (map seen_certificate read.items)) }
     ensures fails { IfErr result
         (IsFailureAmong (map (λ value. value.items) values.now) file.entry.now) }
 {
+    let mut certificates = Vec::new(alloc);
     let mut start = 0;
     for value in values {
-        read_certificate(alloc, file, value, start)?;
+        let certificate = read_certificate(alloc, file, value, start)?;
+        if certificates.push(certificate).is_err() {
+            return Err(Failure::NoMemory);
+        }
         start += value.len();
     }
-    Ok(())
+    Ok(certificates)
 }

@@ -5,7 +5,8 @@
 mod certificate_values;
 mod moment;
 mod operand_files;
-mod path_text;
+mod path_file;
+mod path_files;
 mod prints;
 mod purpose;
 mod verdict_lines;

@@ -1,30 +1,31 @@
 //! What is asked of a path.
 ghost use Rattle.std.specs.Prelude.{map, IfErr, IfOk, option_map};
-ghost use Rattle.cli_operands.specs.Moment.{IsMoment};
-ghost use Rattle.cli_operands.specs.Question.{HoldsText, HoldsFingerprints, IsBadPurpose, IsFailureOfQuestion, IsPurposeOf, files_of, purpose_text};
-ghost use Rattle.cli_operands.specs.PathText.{HoldTexts};
-ghost use Rattle.cli_failures.specs.Failures.{IsNoCertificate};
+ghost use Rattle.cert.specs.Certificate.{seen_certificate};
+ghost use Rattle.cli_operands.specs.Operands.{AreOperands, HaveCertificates, IsRefusalIn};
+ghost use Rattle.cli_operands.specs.Question.{IsBadPurpose, IsFailureOfQuestion, IsPurposeOf};
 
-use crate::path_text::read_path;
+use crate::path_file::PathFiles;
+use crate::path_files::{certificates_of, read_files};
 use crate::prints::read_fingerprints;
 use crate::{moment_of, purpose_of};
+use cert::Certificate;
 use cli_failures::{Failure, Source, read_certificate};
 use cli_words::Question;
+use path_verifiers::ListVerifier;
 use std::alloc::Global;
 
-/// What the operands of `check` and `compare` ask.
+/// What the operands of `check` and `compare` say, with the octets of the files that they name.
 #[derive(Drop)]
-pub struct Operands {
+pub struct Operands<'a> {
     /// In seconds from 1970-01-01T00:00:00Z.
     pub moment: i64,
     /// The contents of an OBJECT IDENTIFIER.
     pub purpose: Option<Vec<u8>>,
-    /// The fingerprints of good signatures.
-    pub prints: Vec<[u8; 32]>,
-    /// The octets of the anchor's certificate.
-    pub anchor: Vec<u8>,
-    /// The octets of each certificate of the path, in order.
-    pub path: Vec<Vec<u8>>,
+    /// Who believes the fingerprints of good signatures.
+    pub verifier: ListVerifier,
+    anchor_file: &'a str,
+    anchor: Vec<u8>,
+    path: PathFiles<'a>,
 }
 
 /// The contents of the purpose that is asked for, where one is.
@@ -43,37 +44,15 @@ fn read_purpose<'a>(alloc: Global, text: Option<&'a str>) -> Result<Option<Vec<u
     }
 }
 
-/// The octets of the certificate that the file holds.
-fn read_anchor<'a, S: Source>(
-    source: &S,
-    alloc: Global,
-    file: &'a str,
-) -> Result<Vec<u8>, Failure<'a>>
-    ensures reads { IfOk result (λ octets.
-        HoldsText (S.holds source.now) file.entry.now octets.items) }
-    ensures fails { IfErr result (IsNoCertificate (S.holds source.now) file.entry.now) }
-{
-    let octets = source.octets_of(file)?;
-    let _ = read_certificate(alloc, file, octets.as_slice())?;
-    Ok(octets)
-}
-
-/// What the operands ask: the moment, the purpose, the fingerprints, the anchor and the path, looked at in this order. The first that
-/// is wrong is told.
+/// Reads the operands: the moment, the purpose, the fingerprints, the anchor's file and the files of the path, looked at in this order.
+/// The first of these that is wrong is told; but a file of the path that cannot be read is told by `Operands::certificates`, since a
+/// certificate before it may be refused.
 pub fn read_operands<'a, S: Source>(
     source: &S,
     alloc: Global,
     question: &Question<'a>,
-) -> Result<Operands, Failure<'a>>
-    ensures moment { IfOk result (λ asked. IsMoment question.now.moment.now asked.moment) }
-    ensures purpose { IfOk result (λ asked. IsPurposeOf (purpose_text question.now)
-        (option_map (λ contents. contents.items) asked.purpose)) }
-    ensures verdicts { IfOk result (λ asked.
-        HoldsFingerprints (S.holds source.now) question.now.verdicts.now asked.prints.items) }
-    ensures anchor { IfOk result (λ asked.
-        HoldsText (S.holds source.now) question.now.anchor.now asked.anchor.items) }
-    ensures path { IfOk result (λ asked. HoldTexts (S.holds source.now) (files_of question.now)
-        (map (λ text. text.items) asked.path.items)) }
+) -> Result<Operands<'a>, Failure<'a>>
+    ensures reads { IfOk result (AreOperands (S.holds source.now) question.now) }
     ensures fails { IfErr result (IsFailureOfQuestion (S.holds source.now) question.now) }
 {
     let Some(moment) = moment_of(question.moment) else {
@@ -81,13 +60,31 @@ pub fn read_operands<'a, S: Source>(
     };
     let purpose = read_purpose(alloc, question.purpose)?;
     let prints = read_fingerprints(source, alloc, question.verdicts)?;
-    let anchor = read_anchor(source, alloc, question.anchor)?;
-    let path = read_path(source, alloc, question.files.as_slice())?;
+    let anchor = source.octets_of(question.anchor)?;
+    let path = read_files(source, alloc, question.files.as_slice());
     Ok(Operands {
         moment,
         purpose,
-        prints,
+        verifier: ListVerifier::new(prints),
+        anchor_file: question.anchor,
         anchor,
         path,
     })
+}
+
+impl<'a> Operands<'a> {
+    /// The certificates of the anchor and of the path, each read once. The first that is refused is told, the anchor first, and a file
+    /// that was not read behind those before it.
+    pub fn certificates<'q>(
+        &'q self,
+        alloc: Global,
+    ) -> Result<(Certificate<'q>, Vec<Certificate<'q>>), Failure<'a>>
+        ensures reads { IfOk result (λ read. HaveCertificates self.now
+            (seen_certificate read.0) (map seen_certificate read.1.items)) }
+        ensures fails { IfErr result (IsRefusalIn self.now) }
+    {
+        let anchor = read_certificate(alloc, self.anchor_file, self.anchor.as_slice())?;
+        let path = certificates_of(alloc, &self.path)?;
+        Ok((anchor, path))
+    }
 }

@@ -9,11 +9,12 @@ use Rattle.statements_facts.specs.declared.counts.Counts.{Counts}
 use Rattle.statements_facts.specs.Coming.{after_all, HoldsNewest}
 use Rattle.statements_facts.proofs.Laws.{holds_newest, takes_both}
 use Rattle.path.specs.Query.{Accepts}
-use Rattle.relying_agreement.specs.Run.{Event, facts_under, genuine_facts, facts_or_none, facts_taken}
+use Rattle.relying_agreement.specs.Run.{Event, genuine_facts, facts_taken}
 use Rattle.store.specs.Adopts.{Restarts}
 use Rattle.relying.specs.declared.fault.DeliverFault.{DeliverFault}
 use Rattle.relying.specs.declared.fault.DeliverFault.TheVariants.{Issuer, Statement, Store}
 use Rattle.relying.specs.Delivery.{IsAnswerTo, IsAnswered, Says}
+use Rattle.relying.proofs.Delivered.{facts_said}
 use Rattle.relying.specs.Run.{Runs, RanSoFar, Ran, HasHappened, RunsAreRuns, AddsAnswer, AreAnswersTo, as_answered}
 
 -- ---- one event
@@ -91,9 +92,6 @@ one_more accepts events event before after first mid new ran it = subst (λ told
 })
 
 -- ---- runs of events are runs
-
-facts_said : (accepts : Accepts) (issuer statement : List ℕ) (facts : List Fact) → Says accepts issuer statement facts → genuine_facts accepts issuer statement ≡ facts
-facts_said accepts issuer statement facts says = ap (facts_under accepts statement) says.by_is ∙ ap facts_or_none says.said
 
 runs_take : (accepts : Accepts) (events : List Event) (answers : List (Result Counts DeliverFault)) (start held : Holdings)
     → Runs accepts events answers start held → held ≡ after_all start (facts_taken genuine_facts accepts events (map as_answered answers))

@@ -1,3 +1,4 @@
+mod Delivered
 mod Happening
 mod Looking
 mod Progress

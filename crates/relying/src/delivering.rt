@@ -1,66 +1,36 @@
-//! Statements that are delivered.
+//! Statements that are read before they are taken.
 
-ghost use Rattle.std.specs.Prelude.{◌≡◌, false};
-ghost use Rattle.sqlite.specs.Held.{state};
-ghost use Rattle.cert.specs.Certificate.{seen_certificate};
-ghost use Rattle.relying.specs.Delivery.{AnswersDelivery, AnswersUnder, IsAnswerTo, IsAnswerUnder, MayCommitDelivery, MayCommitUnder};
-ghost use Rattle.statements.specs.OcspFact.{genuine_statement};
+ghost use Rattle.std.specs.Prelude.{IfErr, IfOk};
+ghost use Rattle.statements_facts.specs.Fact.{facts_in};
+ghost use Rattle.relying.specs.Delivery.{IsRefusal, Says};
 
 use crate::fault::DeliverFault;
 use cert::Certificate;
 use path_verifiers::Verifier;
-use sqlite::{Alter, Connection};
 use statements::genuine;
-use statements_facts::Counts;
+use statements_facts::Facts;
 use std::alloc::Global;
-use store_taking::put;
 
-/// Puts what a statement of the issuer says into the store.
-fn deliver_under<V: Verifier, S: Alter>(
+/// Reads a statement, a list or a response, under the issuer of a certificate: the first step of a delivery, which needs no store.
+/// `Node::take` is the second. The fault of the issuer's certificate comes first, then that of the statement; it is never the
+/// store's. The facts borrow both texts. Time is n log n in the octets.
+pub fn read_statement<'a, V: Verifier>(
     alloc: Global,
     verifier: &V,
-    conn: &mut Connection<S>,
-    issuer: &Certificate<'_>,
-    statement: &[u8],
-) -> Result<Counts, DeliverFault>
-    ensures idle { conn.old.in_transaction ≡ false → conn.new.in_transaction ≡ false }
-    ensures reason { IsAnswerUnder
-        (genuine_statement (V.accepts verifier.now) (seen_certificate issuer.now) statement.now)
-        result }
-    ensures answered { AnswersUnder
-        (genuine_statement (V.accepts verifier.now) (seen_certificate issuer.now) statement.now)
-        (state S.Store conn.old) (state S.Store conn.new) result }
-    ensures survives { MayCommitUnder
-        (genuine_statement (V.accepts verifier.now) (seen_certificate issuer.now) statement.now)
-        (state S.Store conn.old) (state S.Store conn.new) result }
+    issuer: &'a [u8],
+    statement: &'a [u8],
+) -> Result<Facts<'a>, DeliverFault>
+    ensures says { IfOk result (λ facts.
+        Says (V.accepts verifier.now) issuer.now statement.now (facts_in facts)) }
+    ensures refused { IfErr result
+        (IsRefusal (V.accepts verifier.now) issuer.now statement.now) }
 {
-    let facts = match genuine(alloc, verifier, issuer, statement) {
-        Ok(facts) => facts,
-        Err(fault) => return Err(DeliverFault::Statement(fault)),
+    let issuer = match Certificate::read(alloc, issuer) {
+        Ok(issuer) => issuer,
+        Err(fault) => return Err(DeliverFault::Issuer(fault)),
     };
-    match put(conn, &facts) {
-        Ok(counts) => Ok(counts),
-        Err(fault) => Err(DeliverFault::Store(fault)),
-    }
-}
-
-/// Puts what a statement says into the store, under the issuer of the certificate.
-pub(crate) fn deliver<V: Verifier, S: Alter>(
-    alloc: Global,
-    verifier: &V,
-    conn: &mut Connection<S>,
-    issuer: &[u8],
-    statement: &[u8],
-) -> Result<Counts, DeliverFault>
-    ensures idle { conn.old.in_transaction ≡ false → conn.new.in_transaction ≡ false }
-    ensures reason { IsAnswerTo (V.accepts verifier.now) issuer.now statement.now result }
-    ensures answered { AnswersDelivery (V.accepts verifier.now) issuer.now statement.now
-        (state S.Store conn.old) (state S.Store conn.new) result }
-    ensures survives { MayCommitDelivery (V.accepts verifier.now) issuer.now statement.now
-        (state S.Store conn.old) (state S.Store conn.new) result }
-{
-    match Certificate::read(alloc, issuer) {
-        Ok(issuer) => deliver_under(alloc, verifier, conn, &issuer, statement),
-        Err(fault) => Err(DeliverFault::Issuer(fault)),
+    match genuine(alloc, verifier, &issuer, statement) {
+        Ok(facts) => Ok(facts),
+        Err(fault) => Err(DeliverFault::Statement(fault)),
     }
 }

@@ -13,6 +13,7 @@ mod verdicts;
 
 pub use agreement::node_laws;
 pub use comparing::compare;
+pub use delivering::read_statement;
 pub use events::{Answer, Event};
 pub use fault::{DeliverFault, RunFault};
 pub use node::Node;

@@ -9,16 +9,18 @@ ghost use Rattle.relying.specs.Restart.{HasRestarted};
 ghost use Rattle.relying.specs.View.{stored};
 ghost use Rattle.relying_verdicts.specs.View.{seen_query};
 ghost use Rattle.store.specs.Opens.{FailsToReopen};
+ghost use Rattle.store_taking.specs.Delivery.{AllOrNothing, PutsFacts};
 
-use crate::delivering::deliver;
+use crate::delivering::read_statement;
 use crate::fault::DeliverFault;
 use crate::verdicts::verdict_of;
 use path_verifiers::Verifier;
 use relying_verdicts::{Fault, Query, Verdict};
 use sqlite_disk::Disk;
-use statements_facts::Counts;
+use statements_facts::{Counts, Facts};
 use std::alloc::Global;
 use store::{ReopenFault, Store};
+use store_sql::StoreFault;
 
 /// A relying party: by what it judges signatures, and the newest statements that it has seen.
 pub struct Node<V: Verifier, D: Disk> {
@@ -52,9 +54,9 @@ impl<V: Verifier + Drop, D: Disk + Drop> Node<V, D> {
         store
     }
 
-    /// Takes a statement, a list or a response, under the issuer of a certificate: of each slot the newest is held then. The
-    /// fault of the issuer's certificate comes first, then that of the statement, then that of the store. Where a fault is
-    /// answered, what is held is as it was. Time is n log n in the octets, but for the store's.
+    /// Takes a statement, a list or a response, under the issuer of a certificate: of each slot the newest is held then. It is
+    /// `read_statement` and then `take`: the fault of the issuer's certificate comes first, then that of the statement, then that
+    /// of the store. Where a fault is answered, what is held is as it was. Time is n log n in the octets, but for the store's.
     pub fn deliver(
         &mut self,
         alloc: Global,
@@ -68,13 +70,25 @@ impl<V: Verifier + Drop, D: Disk + Drop> Node<V, D> {
         ensures survives { MayCommitDelivery (V.accepts self.old.verifier) issuer.now statement.now
             (stored self.old) (stored self.new) result }
     {
-        deliver(
-            alloc,
-            &self.verifier,
-            &mut self.store.conn,
-            issuer,
-            statement,
-        )
+        let facts = match read_statement(alloc, &self.verifier, issuer, statement) {
+            Ok(facts) => facts,
+            Err(fault) => return Err(fault),
+        };
+        match self.take(&facts) {
+            Ok(counts) => Ok(counts),
+            Err(fault) => Err(DeliverFault::Store(fault)),
+        }
+    }
+
+    /// Takes what a statement says, in one transaction: the second step of a delivery. The facts are those of a statement that was
+    /// found genuine, by `read_statement` or `statements::genuine`, for the verifier of this party; who takes others believes them.
+    /// Where a fault is answered, what is held is as it was.
+    pub fn take(&mut self, facts: &Facts<'_>) -> Result<Counts, StoreFault>
+        ensures verifier { self.new.verifier ≡ self.old.verifier }
+        ensures takes { PutsFacts (stored self.old) (stored self.new) facts.now result }
+        ensures survives { AllOrNothing (stored self.old) (stored self.new) facts.now }
+    {
+        self.store.put(facts)
     }
 
     /// The verdict on a path by what is held. Where the path does not meet the conditions on it, the store is not asked.

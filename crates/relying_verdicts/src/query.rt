@@ -50,9 +50,29 @@ fn read_path<'a>(
 }
 
 impl<'a> Query<'a> {
-    /// The question about these certificates, at this moment (in seconds from 1970-01-01T00:00:00Z) and for this purpose (the contents
-    /// of an OBJECT IDENTIFIER). The first certificate that is refused is told, the anchor first; where there is no room for the list
-    /// of certificates it is the one being read, with `CertFault::Memory`.
+    /// The question about certificates that were read, at this moment (in seconds from 1970-01-01T00:00:00Z) and for this purpose (the
+    /// contents of an OBJECT IDENTIFIER).
+    pub fn new(
+        anchor: Certificate<'a>,
+        path: Vec<Certificate<'a>>,
+        moment: i64,
+        purpose: Option<&'a [u8]>,
+    ) -> Query<'a>
+        ensures anchor { (seen_query result).anchor ≡ seen_certificate anchor.entry }
+        ensures path { (seen_query result).certificates ≡ map seen_certificate path.entry.items }
+        ensures moment { (seen_query result).moment ≡ moment }
+        ensures purpose { (seen_query result).purpose ≡ option_copied purpose.entry }
+    {
+        Query {
+            anchor,
+            path,
+            moment,
+            purpose,
+        }
+    }
+
+    /// The same about the certificates that these texts are, which are read first. The first that is refused is told, the anchor first;
+    /// where there is no room for the list of certificates it is the one being read, with `CertFault::Memory`.
     pub fn read(
         alloc: Global,
         anchor: &'a [u8],

@@ -11,6 +11,8 @@ mod asking;
 #[cfg(test)]
 mod at_paths;
 #[cfg(test)]
+mod in_steps;
+#[cfg(test)]
 mod memory;
 #[cfg(test)]
 mod path_file;

@@ -1,0 +1,36 @@
+-- The laws that other crates may cite: what operands ask, and what is wrong with them.
+use Rattle.std.proofs.Common.{ℕ, List, inl, inr, subst}
+use Rattle.cert.specs.Certificate.{Certificate}
+use Rattle.cli_words.specs.declared.question.Question.{Question as Asked}
+use Rattle.cli_failures.specs.Failures.{Holding, HoldsCertificate, IsJust, IsNoCertificate}
+use Rattle.cli_failures.specs.declared.failure.Failure.{Failure}
+use Rattle.cli_operands.specs.InOrder.{FailsFirst}
+use Rattle.cli_operands.specs.PathText.{IsFailureOfPath}
+use Rattle.cli_operands.specs.Operands.{AreOperands, HaveCertificates, IsRefusalIn, purpose_contents}
+use Rattle.cli_operands.specs.Question.{Asks, IsFailureOfQuestion, files_of}
+use Rattle.cli_operands.specs.declared.operand_files.Operands.{Operands}
+use Rattle.cli_operands.proofs.Files.{fails_of, hold_path, no_certificate}
+-- files that hold no certificate
+pub use Rattle.cli_operands.proofs.Files.{no_certificate, unread_certificate}
+
+-- the question of the certificates that they have
+pub ask : (holds : Holding) (question : Asked) (it : Operands) (anchor : Certificate) (path : List Certificate) → AreOperands holds question it → HaveCertificates it anchor path
+    → Asks holds question (record { anchor = anchor; certificates = path; moment = it.moment; purpose = purpose_contents it })
+ask holds question it anchor path are have = record {
+  moment = are.moment;
+  purpose = are.purpose;
+  anchor = (it.anchor.items, are.anchor, have.anchor_is);
+  path = hold_path holds (files_of question) it.path.files.items it.path.unread path are.path have.all have.path_is;
+}
+
+-- a refusal of one of their certificates
+refused : (holds : Holding) (question : Asked) (it : Operands) (failure : Failure) → AreOperands holds question it → IsRefusalIn it failure
+    → FailsFirst (IsNoCertificate holds question.anchor.now) ((anchor : Certificate) × HoldsCertificate holds question.anchor.now anchor) (IsFailureOfPath holds (files_of question)) failure
+refused holds question it failure are (inl fails) =
+    inl (no_certificate holds it.anchor.items question.anchor.now failure are.anchor (subst (λ (file : List ℕ). IsNoCertificate (IsJust it.anchor.items) file failure) are.anchor_file fails))
+refused holds question it failure are (inr ((anchor, is), fails)) =
+    inr ((anchor, (it.anchor.items, are.anchor, is)), fails_of holds (files_of question) it.path.files.items it.path.unread failure are.path fails)
+
+pub refuse : (holds : Holding) (question : Asked) (it : Operands) (failure : Failure) → AreOperands holds question it → IsRefusalIn it failure → IsFailureOfQuestion holds question failure
+refuse holds question it failure are fails =
+    inr ((it.moment, are.moment), inr ((purpose_contents it, are.purpose), inr ((are.prints, are.verdicts), refused holds question it failure are fails)))

@@ -1,0 +1,68 @@
+-- Files of certificates that were read: their values, and the certificates that these are.
+use Rattle.std.specs.Prelude.{◌≡◌, ◌≢◌, ◌⊎◌, ℕ, List, [], ◌∷◌, ◌++◌, map, Option, Some, None}
+use Rattle.cert.specs.Certificate.{Certificate}
+use Rattle.der.specs.declared.fault.Fault.TheVariants.{Refused as Breaks}
+use Rattle.der.specs.declared.fault.Rule.TheVariants.{Truncated}
+use Rattle.der_stream.specs.declared.reading.ReadFault.{ReadFault}
+use Rattle.cli_failures.specs.Failures.{Holding, IsUnread}
+use Rattle.cli_failures.specs.declared.failure.Failure.{Failure}
+use Rattle.cli_failures.specs.declared.failure.Failure.TheVariants.{NoMemory, Refused}
+use Rattle.cli_operands.specs.InOrder.{FailsFirst}
+use Rattle.cli_operands.specs.PathText.{AreTexts}
+use Rattle.cli_operands.specs.CertificateValues.{AreRead, IsFailureAmong, IsToldOf, WereRead}
+use Rattle.cli_operands.specs.declared.path_file.PathFile.{PathFile}
+
+-- ---- files
+
+-- the values that were read of a file
+abbrev pub values_of : PathFile → List (List ℕ)
+values_of it = map (λ value. value.items) it.values.items
+
+-- the file holds octets, and these are the values with which they begin
+abbrev pub IsFileRead : Holding → List ℕ → PathFile → Type 0
+IsFileRead holds file it =
+    (it.file.now ≡ file)
+    × ((octets : List ℕ) × holds file (Some octets) × WereRead octets (values_of it) it.stopped)
+
+-- the files were read, or those before the first that was not, for this failure
+abbrev pub AreFilesRead : Holding → List (List ℕ) → List PathFile → Option Failure → Type 0
+AreFilesRead holds [] [] None = Unit {0}
+AreFilesRead holds [] [] (Some failure) = ⊥
+AreFilesRead holds [] (it ∷ more) unread = ⊥
+AreFilesRead holds (file ∷ files) [] None = ⊥
+AreFilesRead holds (file ∷ files) [] (Some failure) = IsUnread holds file failure
+AreFilesRead holds (file ∷ files) (it ∷ more) unread = IsFileRead holds file it × AreFilesRead holds files more unread
+
+-- ---- their certificates
+
+-- the values of the file are those of the certificates, and it ends behind them
+pub record AreCertificatesIn (it : PathFile) (certificates : List Certificate) : Type 0 where
+  pub some : values_of it ≢ []
+  pub whole : it.stopped ≡ None
+  pub each : AreTexts (values_of it) certificates
+
+-- the same of files, one after the other
+abbrev pub AreCertificatesOf : List PathFile → List Certificate → Type 0
+AreCertificatesOf [] certificates = certificates ≡ []
+AreCertificatesOf (it ∷ files) certificates =
+    (first more : List Certificate) × AreCertificatesIn it first × AreCertificatesOf files more
+    × (certificates ≡ first ++ more)
+
+-- a failure on what stands behind the values of a file: it is no value, or the file is empty
+abbrev pub IsFailureBehind : List (List ℕ) → List ℕ → Option (ℕ × ReadFault) → Failure → Type 0
+IsFailureBehind values file (Some (place, fault)) failure = IsToldOf file place fault failure
+IsFailureBehind values file None (Refused named fault) = (values ≡ []) × (named.now ≡ file) × (fault ≡ Breaks Truncated 0)
+IsFailureBehind values file None failure = ⊥
+
+-- the first failure on a file, value by value
+abbrev pub IsFailureIn : PathFile → Failure → Type 0
+IsFailureIn it =
+    FailsFirst (IsFailureAmong (values_of it) it.file.now) (AreRead (values_of it))
+    (IsFailureBehind (values_of it) it.file.now it.stopped)
+
+-- the first failure on files, behind which one may not have been read
+abbrev pub IsFailureOf : List PathFile → Option Failure → Failure → Type 0
+IsFailureOf [] unread failure = (unread ≡ Some failure) ⊎ (failure ≡ NoMemory)
+IsFailureOf (it ∷ files) unread failure =
+    FailsFirst (IsFailureIn it) ((certificates : List Certificate) × AreCertificatesIn it certificates)
+    (IsFailureOf files unread) failure

@@ -1,0 +1,25 @@
+//! The files of a path, as they were read.
+ghost use Rattle.std.specs.Prelude.{◌<◌, ◌^◌, length, map};
+ghost use Rattle.der_stream.specs.Sequence.{joined};
+
+use cli_failures::Failure;
+use der_stream::ReadFault;
+
+/// A file of certificates.
+#[derive(Drop)]
+pub(crate) struct PathFile<'a> {
+    pub file: &'a str,
+    /// The values that stand in it, in order.
+    pub values: Vec<Vec<u8>>,
+    /// Why no more were read behind them, if that is not for their number or the end of the file.
+    pub stopped: Option<(u64, ReadFault)>,
+    pub ghost fits: { length (joined (map (λ value. value.items) values.items)) < 2 ^ 64 },
+}
+
+/// The files of a path.
+#[derive(Drop)]
+pub(crate) struct PathFiles<'a> {
+    pub files: Vec<PathFile<'a>>,
+    /// Why the next of them was not read, if one was not.
+    pub unread: Option<Failure<'a>>,
+}

@@ -1,0 +1,148 @@
+//! The files of a path, several certificates in a row in each: read first, and then their certificates.
+ghost use Rattle.std.specs.Prelude.{◌≡◌, map, IfErr, IfOk, None};
+ghost use Rattle.cert.specs.Certificate.{seen_certificate};
+ghost use Rattle.cli_failures.specs.Failures.{IsUnread};
+ghost use Rattle.cli_operands.specs.CertificateValues.{IsToldOf, WereRead};
+ghost use Rattle.cli_operands.specs.PathFiles.{AreCertificatesIn, AreCertificatesOf, AreFilesRead, IsFailureIn, IsFailureOf, IsFileRead};
+
+use crate::certificate_values::read_certificates;
+use crate::path_file::{PathFile, PathFiles};
+use cert::Certificate;
+use cli_failures::{Failure, Source};
+use der::{Fault, Rule};
+use der_stream::{PathOctets, ReadFault, path_octets};
+use std::alloc::Global;
+
+// One more than a path may have, so that a path that is too long is told as such.
+const MOST: u32 = 129;
+
+/// The values with which the octets begin, and why no more were read.
+fn values_of(alloc: Global, octets: &[u8]) -> PathOctets
+    ensures { WereRead octets.now (map (λ value. value.items) result.values.items) result.stopped }
+{
+    let mut left = octets;
+    path_octets(alloc, &mut left, MOST)
+}
+
+/// The file whose octets these are.
+fn file_of<'a>(alloc: Global, file: &'a str, octets: &[u8]) -> PathFile<'a>
+    ensures name { result.file.now ≡ file.entry.now }
+    ensures values { WereRead octets.now (map (λ value. value.items) result.values.items)
+        result.stopped }
+{
+    let PathOctets { values, stopped } = values_of(alloc, octets);
+    PathFile {
+        file,
+        values,
+        stopped,
+    }
+}
+
+fn read_file<'a, S: Source>(
+    source: &S,
+    alloc: Global,
+    file: &'a str,
+) -> Result<PathFile<'a>, Failure<'a>>
+    ensures reads { IfOk result (IsFileRead (S.holds source.now) file.entry.now) }
+    ensures fails { IfErr result (IsUnread (S.holds source.now) file.entry.now) }
+{
+    let octets = source.octets_of(file)?;
+    Ok(file_of(alloc, file, octets.as_slice()))
+}
+
+/// The files of a path in order, up to the first that cannot be read. No certificate is read of them yet.
+pub(crate) fn read_files<'a, S: Source>(
+    source: &S,
+    alloc: Global,
+    files: &[&'a str],
+) -> PathFiles<'a>
+    ensures { AreFilesRead (S.holds source.now) (map (λ file. file.now) files.now)
+        result.files.items result.unread }
+{
+    let mut read = Vec::new(alloc);
+    for file in files {
+        let next = match read_file(source, alloc, file) {
+            Ok(next) => next,
+            Err(failure) => {
+                return PathFiles {
+                    files: read,
+                    unread: Some(failure),
+                };
+            }
+        };
+        if read.push(next).is_err() {
+            return PathFiles {
+                files: read,
+                unread: Some(Failure::NoMemory),
+            };
+        }
+    }
+    PathFiles {
+        files: read,
+        unread: None,
+    }
+}
+
+/// Why the file is refused, where the value that starts at this place is. Octets in memory are read without fail, and no memory holds a
+/// file in which the place is past the greatest, so that nothing but memory is wanted where no rule is broken.
+fn failure_of<'a>(file: &'a str, place: u64, fault: ReadFault) -> Failure<'a>
+    ensures { IsToldOf file.entry.now place fault result }
+{
+    match fault {
+        ReadFault::Fault(Fault::Refused(rule, offset)) => {
+            match (place as usize).checked_add(offset) {
+                Some(at) => Failure::Refused {
+                    file,
+                    fault: Fault::Refused(rule, at),
+                },
+                None => Failure::NoMemory,
+            }
+        }
+        ReadFault::Fault(Fault::Memory) | ReadFault::Io | ReadFault::Limit => Failure::NoMemory,
+    }
+}
+
+/// The certificates that the values of the file are, each read before the next.
+fn certificates_in<'q, 'a>(
+    alloc: Global,
+    it: &'q PathFile<'a>,
+) -> Result<Vec<Certificate<'q>>, Failure<'a>>
+    ensures reads { IfOk result (λ certificates.
+        AreCertificatesIn it.now (map seen_certificate certificates.items)) }
+    ensures fails { IfErr result (IsFailureIn it.now) }
+{
+    let certificates = read_certificates(alloc, it.file, it.values.as_slice())?;
+    if let Some((place, fault)) = it.stopped {
+        return Err(failure_of(it.file, place, fault));
+    }
+    if it.values.is_empty() {
+        return Err(Failure::Refused {
+            file: it.file,
+            fault: Fault::Refused(Rule::Truncated, 0),
+        });
+    }
+    Ok(certificates)
+}
+
+/// The certificates of the path, one file after the other. The first file is told that is refused, else the one that was not read.
+pub(crate) fn certificates_of<'q, 'a>(
+    alloc: Global,
+    path: &'q PathFiles<'a>,
+) -> Result<Vec<Certificate<'q>>, Failure<'a>>
+    ensures reads { IfOk result (λ certificates. AreCertificatesOf path.now.files.items
+        (map seen_certificate certificates.items)) }
+    ensures all { IfOk result (λ certificates. path.now.unread ≡ None) }
+    ensures fails { IfErr result (IsFailureOf path.now.files.items path.now.unread) }
+{
+    let mut all = Vec::new(alloc);
+    for file in path.files.as_slice() {
+        let mut certificates = certificates_in(alloc, file)?;
+        if all.append(&mut certificates).is_err() {
+            return Err(Failure::NoMemory);
+        }
+    }
+    match path.unread {
+        Some(failure) => Err(failure),
+        None => Ok(all),
+    }
+}

@@ -1,0 +1,41 @@
+-- A delivery in two steps: what was read, and what the store made of it.
+use Rattle.std.proofs.Common.{◌≡◌, ℕ, List, Ok, Err, arith, inl, refl, sym, ap, subst, ◌∙◌}
+use Rattle.sqlite.specs.State.{State, Survives}
+use Rattle.statements_facts.specs.Fact.{Fact}
+use Rattle.store_sql.specs.Statements.{CommitsNothing}
+use Rattle.store_taking.specs.Delivery.{CommitsWhole}
+use Rattle.path.specs.Query.{Accepts}
+use Rattle.relying_agreement.specs.Run.{facts_or_none, facts_under, genuine_facts}
+use Rattle.relying.specs.declared.fault.DeliverFault.{DeliverFault}
+use Rattle.relying.specs.declared.fault.DeliverFault.TheVariants.{Issuer, Statement, Store}
+use Rattle.relying.specs.Delivery.{IsAnswered, IsReason, IsRefusal, MayCommit, Says}
+
+-- ---- nothing was read
+
+pub refused : (accepts : Accepts) (issuer statement : List ℕ) (fault : DeliverFault) → IsRefusal accepts issuer statement fault → IsReason accepts issuer statement fault
+refused accepts issuer statement (Issuer fault) why = why
+refused accepts issuer statement (Statement fault) why = why
+refused accepts issuer statement (Store fault) why = absurd why
+
+pub refused_so : (accepts : Accepts) (issuer statement : List ℕ) (s : State) (fault : DeliverFault) → IsRefusal accepts issuer statement fault → IsAnswered accepts issuer statement s s (Err fault)
+refused_so accepts issuer statement s (Issuer fault) why = (why, record { was_open = λ live. live; now_is = λ live. refl })
+refused_so accepts issuer statement s (Statement fault) why = (why, record { was_open = λ live. live; now_is = λ live. refl })
+refused_so accepts issuer statement s (Store fault) why = absurd why
+
+nothing_done : (s : State) → CommitsNothing s s
+nothing_done s = record { clean = omega arith; shield = λ h. h; counts = omega arith; limit = refl; closes = λ clean is. inl is; crash = λ clean db may. inl may }
+
+pub commits_nothing : (accepts : Accepts) (issuer statement : List ℕ) (facts : List Fact) (s : State) (fault : DeliverFault) → IsRefusal accepts issuer statement fault → MayCommit facts s s (Err fault)
+commits_nothing accepts issuer statement facts s (Issuer fault) why = nothing_done s
+commits_nothing accepts issuer statement facts s (Statement fault) why = nothing_done s
+commits_nothing accepts issuer statement facts s (Store fault) why = absurd why
+
+-- ---- what was read was taken
+
+-- the facts that the two texts say are those that were read
+pub facts_said : (accepts : Accepts) (issuer statement : List ℕ) (facts : List Fact) → Says accepts issuer statement facts → genuine_facts accepts issuer statement ≡ facts
+facts_said accepts issuer statement facts says = ap (facts_under accepts statement) says.by_is ∙ ap facts_or_none says.said
+
+pub may_commit : (accepts : Accepts) (issuer statement : List ℕ) (facts : List Fact) (old new : State) → Says accepts issuer statement facts → Survives old new (CommitsWhole old facts)
+    → Survives old new (CommitsWhole old (genuine_facts accepts issuer statement))
+may_commit accepts issuer statement facts old new says survives = subst (λ (said : List Fact). Survives old new (CommitsWhole old said)) (sym (facts_said accepts issuer statement facts says)) survives
