@@ -5,3 +5,4 @@ mod Responding
 mod Signers
 mod Responses
 mod Needs
+mod IssuerLaws

@@ -4,4 +4,5 @@ pub mod CrlFact
 pub mod Responder
 pub mod SignerView
 pub mod OcspFact
+pub mod OneIssuer
 pub mod Seen

@@ -10,7 +10,7 @@ ghost use Rattle.statements.specs.Genuine.{AnswersUnlessFull, OnFull};
 ghost use Rattle.statements.specs.Seen.{IsOfIssuer, of_issuer_seen, slot_of_seen};
 
 use crate::issuing::issuer_of;
-use crate::listed::{listed_by, number_of};
+use crate::listed::{crl_number, listed_by};
 use cert::Certificate;
 use path_verifiers::Verifier;
 use statements_crl::Crl;
@@ -18,9 +18,10 @@ use statements_facts::{CrlFacts, RevokedSerials};
 use statements_parts::StatementFault;
 use std::alloc::{AllocError, Global};
 
-/// Whether the list is one of the issuer: by its name, and by its signature under the issuer's key.
+/// Whether the issuer issued a list that was read: the list names it, and its signature is accepted under the issuer's key. The fault
+/// is that of the name first (`OtherIssuer`), and then that of the signature (`BadSignature`). No memory is taken.
 #[tactic(auto, unfolding(crate::specs::CrlFact::of_issuer))]
-fn check_issuer<V: Verifier>(
+pub fn check_crl_issuer<V: Verifier>(
     verifier: &V,
     issuer: &Certificate<'_>,
     list: &Crl<'_>,
@@ -37,7 +38,7 @@ fn check_issuer<V: Verifier>(
     Ok(())
 }
 
-/// What the list says of the issuer's certificates.
+/// The facts of a list of the issuer. Memory is taken for the entries.
 fn facts_of<'a>(
     alloc: Global,
     issuer: &Certificate<'a>,
@@ -51,15 +52,14 @@ fn facts_of<'a>(
     Ok(CrlFacts {
         issuer: issuer_of(alloc, issuer)?,
         scope: list.scope,
-        number: number_of(list.number),
+        number: crl_number(list.number),
         from: list.this_update,
         until: list.next_update,
         revoked: RevokedSerials::of_entries(listed)?,
     })
 }
 
-/// What a list that was read says, if it is one of the issuer; else why it is none. No memory is taken for a list of another issuer, or
-/// without a signature of the issuer.
+/// The facts of a list that was read, if the issuer issued it; else the fault. Memory is taken only for a list that the issuer issued.
 #[tactic(auto, using(crate::proofs::Genuineness::issuer_refused, crate::proofs::Genuineness::no_memory_for_the_issuer, crate::proofs::Genuineness::list_believed))]
 fn facts_if_genuine<'a, V: Verifier>(
     alloc: Global,
@@ -72,13 +72,13 @@ fn facts_if_genuine<'a, V: Verifier>(
         (list_said (V.accepts verifier.now) (seen_certificate issuer.now) (seen_list list.now)) }
     ensures memory { OnFull result (IsOfIssuer (V.accepts verifier.now) issuer.now list.now) }
 {
-    check_issuer(verifier, issuer, list)?;
+    check_crl_issuer(verifier, issuer, list)?;
     Ok(facts_of(alloc, issuer, list)?)
 }
 
-/// What a list of the issuer says. The fault of a list that is none, then that of one of another issuer, then that of one whose
-/// signature is not accepted under the issuer's key. No moment is looked at. Time is n log n in the octets, and memory is for
-/// the entries.
+/// The facts of a list of the issuer. The first fault is reported: octets that are no list, a list of another issuer, a signature that
+/// is not accepted under the issuer's key. Whether the list is current is not checked. Time is n log n in the octets, and memory is
+/// taken for the entries.
 #[tactic(auto, using(crate::proofs::Genuineness::list_refused, crate::proofs::Genuineness::list_answered))]
 pub fn crl_facts<'a, V: Verifier>(
     alloc: Global,
@@ -93,7 +93,7 @@ pub fn crl_facts<'a, V: Verifier>(
     facts_if_genuine(alloc, verifier, issuer, &list)
 }
 
-/// A list is genuine exactly where it is read, has the issuer's name, and its signature is accepted under the issuer's key.
+/// A list is genuine exactly if it can be read, names the issuer, and its signature is accepted under the issuer's key.
 pub fn crl_fact_laws()
     ensures { GenuineListsAreFacts }
 {}

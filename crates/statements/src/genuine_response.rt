@@ -29,10 +29,11 @@ fn some_of(singles: Vec<Single<'_>>) -> Result<Singles<'_>, StatementFault>
     }
 }
 
-/// What a response that was read says of the issuer's certificates. No memory is taken for a response that the issuer did not sign and
-/// that brings no certificates.
+/// The single responses of a response that was read that speak of the issuer's certificates. The first fault is reported: nobody
+/// signed it who may answer for the issuer (`NoSigner`), it says nothing of the issuer's certificates (`NothingForIssuer`). Memory is
+/// taken for the single responses, at most 256, and to read the certificates that come with a response that the issuer did not sign.
 #[tactic(auto, using(crate::proofs::Answering::signer_refused, crate::proofs::Answering::singles_are, crate::proofs::Answering::same_answer))]
-fn singles_if_genuine<'a, V: Verifier>(
+pub fn response_singles<'a, V: Verifier>(
     alloc: Global,
     verifier: &V,
     issuer: &Certificate<'_>,
@@ -48,7 +49,7 @@ fn singles_if_genuine<'a, V: Verifier>(
     some_of(singles)
 }
 
-/// The same, with the issuer.
+/// The facts of a response that was read.
 fn facts_if_genuine<'a, V: Verifier>(
     alloc: Global,
     verifier: &V,
@@ -61,7 +62,7 @@ fn facts_if_genuine<'a, V: Verifier>(
     ensures issuer { IfOk result (λ facts. IsSubjectOf issuer.now facts.issuer) }
     ensures memory { OnFull result (MayBeSigned (V.accepts verifier.now) issuer.now response.now) }
 {
-    let singles = singles_if_genuine(alloc, verifier, issuer, response)?;
+    let singles = response_singles(alloc, verifier, issuer, response)?;
     Ok(OcspFacts {
         issuer: issuer_of(alloc, issuer)?,
         singles,

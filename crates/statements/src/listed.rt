@@ -11,8 +11,8 @@ use statements_crl::Entries;
 use statements_facts::Listed;
 use std::alloc::{AllocError, Global};
 
-/// The number with these contents, which are those of one.
-pub(crate) fn number_of(contents: &[u8]) -> Number20
+/// The number of a list, of its contents octets, which are those of one if the list was read.
+pub fn crl_number(contents: &[u8]) -> Number20
     requires { IsTrue (is_crl_number contents.now) }
     ensures { result ≡ binary_value contents.now }
 {

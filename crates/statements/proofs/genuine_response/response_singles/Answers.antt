@@ -7,7 +7,7 @@ use Rattle.statements.specs.SignerView.{seen_signer}
 use Rattle.statements.specs.Seen.{MayBeSigned}
 use Rattle.statements.proofs.Needs.{holds_on_full, found_needs_one}
 use Rattle.statements.proofs.Answering.{singles_are, same_answer}
-use Rattle.statements.proofs.genuine_response.singles_if_genuine.Goals as goal
+use Rattle.statements.proofs.genuine_response.response_singles.Goals as goal
 
 pub returns-clause-said : goal.returns-clause-said
 returns-clause-said g c =

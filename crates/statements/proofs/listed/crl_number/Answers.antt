@@ -1,7 +1,7 @@
 use Rattle.std.proofs.Common.{arith}
 use Rattle.statements_crl.proofs.Laws.{test_finds}
 use Rattle.statements.proofs.Listing.{is_some, value_is}
-use Rattle.statements.proofs.listed.number_of.Goals as goal
+use Rattle.statements.proofs.listed.crl_number.Goals as goal
 
 -- src/listed.rt:20:5
 pub unwrap-requires : goal.unwrap-requires

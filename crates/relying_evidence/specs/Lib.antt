@@ -1,0 +1,3 @@
+pub mod View
+pub use Rattle.relying_agreement.specs.Link
+pub use Rattle.relying_agreement.specs.Status

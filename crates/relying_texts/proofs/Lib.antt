@@ -1,0 +1,6 @@
+mod Telling
+mod Folding
+mod Slots
+mod Runs
+mod Deciding
+mod Bearing

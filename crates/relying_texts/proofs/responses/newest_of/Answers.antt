@@ -1,0 +1,18 @@
+use Rattle.std.proofs.Common.{map, option_map, sym, ◌∙◌}
+use Rattle.statements_facts.specs.Single.{seen_single}
+use Rattle.relying_evidence.specs.View.{seen_ocsp}
+use Rattle.relying_texts.specs.View.{identity_seen, ocsp_slot_of}
+use Rattle.relying_texts.proofs.Slots.{came_of_the_issuer, came_of_another}
+use Rattle.relying_texts.proofs.responses.newest_of.Goals as goal
+
+pub returns-then-is_same_issuer : goal.returns-then-is_same_issuer
+returns-then-is_same_issuer c =
+    rw c.in-Singles.is (came_of_the_issuer (option_map seen_ocsp c.args.held) (option_map seen_ocsp c.newest_single.result)
+    (ocsp_slot_of c.args.issuer.now c.args.name_hash.now c.args.serial.now) (identity_seen c.args.statement.now.issuer.now) c.in-Singles.singles (map seen_single c.as_slice.result.now)
+    (sym c.is_same_issuer.ensures ∙ c.if-is_same_issuer.true) c.as_slice.ensures.singles c.newest_single.ensures)
+
+pub returns-else-is_same_issuer : goal.returns-else-is_same_issuer
+returns-else-is_same_issuer c =
+    rw c.in-Singles.is (came_of_another (option_map seen_ocsp c.args.held)
+    (ocsp_slot_of c.args.issuer.now c.args.name_hash.now c.args.serial.now) (identity_seen c.args.statement.now.issuer.now) c.in-Singles.singles
+    (sym c.is_same_issuer.ensures ∙ c.if-is_same_issuer.false))

@@ -1,0 +1,18 @@
+//! Verdicts on paths by statements at hand, without a store (RFC 5280, 6; RFC 6960, 3.2).
+#![tactic(auto)]
+
+mod contents;
+mod deliveries;
+mod gathering;
+mod newest;
+mod numbered;
+mod question;
+mod reading;
+mod responses;
+mod same_issuer;
+mod verdicts;
+
+pub use deliveries::delivery_laws;
+pub use question::Question;
+pub use relying_agreement::Verdict;
+pub use verdicts::verdict;

@@ -1,0 +1,107 @@
+//! The newest list of an issuer and a scope.
+
+ghost use Rattle.std.specs.Prelude.{◌≡◌, None, option_map};
+ghost use Rattle.std.specs.List.{filter_map};
+ghost use Rattle.std.specs.Option.{option_to_list};
+ghost use Rattle.statements_facts.specs.Coming.{crl_for};
+ghost use Rattle.statements_facts.specs.Newest.{held_after, newer_crl};
+ghost use Rattle.statements_facts.specs.Statement.{answer_for};
+ghost use Rattle.relying_evidence.specs.View.{seen_crl};
+ghost use Rattle.relying_texts.specs.View.{crl_slot_of, facts_in, facts_in_all, list_fact, list_fact_at};
+
+use crate::contents::{Contents, GenuineStatement};
+use crate::numbered::{NumberedCrl, number_of};
+use crate::same_issuer::is_same_issuer;
+use cert::Certificate;
+use relying_evidence::CrlAnswer;
+use statements_facts::Scope;
+
+/// The list, if it is one of the issuer and the scope.
+fn list_for<'t, 'a>(
+    statement: &'t GenuineStatement<'_, '_, 'a>,
+    issuer: &Certificate<'_>,
+    scope: Scope,
+) -> Option<&'t NumberedCrl<'a>>
+    ensures { option_to_list (option_map list_fact_at result)
+        ≡ filter_map (crl_for (crl_slot_of issuer.now scope)) (facts_in statement.now) }
+{
+    match &statement.contents {
+        Contents::List(list) => {
+            if is_same_issuer(statement.issuer, issuer) && list.crl.scope == scope {
+                Some(list)
+            } else {
+                None
+            }
+        }
+        Contents::Singles(_) => None,
+    }
+}
+
+/// The newer of two lists, the first of equals.
+fn newer_list<'t, 'a>(
+    held: Option<&'t NumberedCrl<'a>>,
+    next: Option<&'t NumberedCrl<'a>>,
+) -> Option<&'t NumberedCrl<'a>>
+    ensures { option_map list_fact_at result ≡ held_after newer_crl
+        (option_map list_fact_at held.entry)
+        (option_to_list (option_map list_fact_at next.entry)) }
+{
+    match next {
+        None => held,
+        Some(next) => match held {
+            None => Some(next),
+            Some(held) => {
+                if number_of(next).cmp(&number_of(held)).is_gt() {
+                    Some(next)
+                } else {
+                    Some(held)
+                }
+            }
+        },
+    }
+}
+
+/// The newest list of the issuer and the scope, the first of those with its number.
+fn newest_list<'t, 'a>(
+    genuine: &'t [GenuineStatement<'_, '_, 'a>],
+    issuer: &Certificate<'_>,
+    scope: Scope,
+) -> Option<&'t NumberedCrl<'a>>
+    ensures { option_map list_fact_at result ≡ held_after newer_crl None
+        (filter_map (crl_for (crl_slot_of issuer.now scope)) (facts_in_all genuine.now)) }
+{
+    let mut newest = None;
+    for statement in genuine {
+        newest = newer_list(newest, list_for(statement, issuer, scope));
+    }
+    newest
+}
+
+/// What a list says of one serial number.
+fn answer_of(list: &NumberedCrl<'_>, serial: &[u8]) -> CrlAnswer
+    ensures { seen_crl result ≡ answer_for serial.now (list_fact list.now) }
+{
+    CrlAnswer {
+        number: number_of(list),
+        from: list.crl.this_update,
+        until: list.crl.next_update,
+        reason: list.crl.lists(serial),
+    }
+}
+
+/// What the newest list of the issuer and the scope says of one serial number.
+pub(crate) fn list_answer(
+    genuine: &[GenuineStatement<'_, '_, '_>],
+    issuer: &Certificate<'_>,
+    scope: Scope,
+    serial: &[u8],
+) -> Option<CrlAnswer>
+    ensures { option_map seen_crl result ≡ option_map (answer_for serial.now)
+        (held_after newer_crl None
+        (filter_map (crl_for (crl_slot_of issuer.now scope)) (facts_in_all genuine.now))) }
+{
+    match newest_list(genuine, issuer, scope) {
+        None => None,
+        Some(list) => Some(answer_of(list, serial)),
+    }
+}

@@ -1,0 +1,154 @@
+//! The verdict on a path by statements at hand.
+
+ghost use Rattle.path.specs.Validity.{IsValidPath};
+ghost use Rattle.std.specs.Prelude.{◌≡◌, IfOk, OnErr, None, Some, if◌then◌else◌, map};
+ghost use Rattle.std.specs.Option.{option_or};
+ghost use Rattle.relying_agreement.specs.Status.{deciding_reason, evidence_of, is_covered_by};
+ghost use Rattle.relying_agreement.specs.Verdict.{verdict_by};
+ghost use Rattle.relying_evidence.specs.View.{seen_evidence, seen_link};
+ghost use Rattle.relying_texts.specs.Texts.{IsVerdictByTexts, evidence_told};
+ghost use Rattle.relying_texts.specs.View.{CarriesNoSubtrees, facts_in_all, held_of, seen_question, texts_of};
+
+use crate::contents::GenuineStatement;
+use crate::gathering::genuine_statements;
+use crate::newest::list_answer;
+use crate::question::Question;
+use crate::responses::response_answer;
+use path::{Outcome, validate};
+use path_verifiers::Verifier;
+use relying_agreement::Verdict;
+use relying_evidence::{Answers, Evidence, Link, links_of, may_sign_crls, own_scope};
+use sha1::Sha1;
+use statements_facts::Scope;
+use std::alloc::{AllocError, Global};
+
+/// What bears on the certificate by the newest statements.
+fn evidence_of(link: &Link<'_, '_>, genuine: &[GenuineStatement<'_, '_, '_>]) -> Evidence
+    ensures { seen_evidence result
+        ≡ evidence_of (held_of (facts_in_all genuine.now)) (seen_link link.now) }
+{
+    let (issuer, certificate) = (link.issuer, link.certificate);
+    let serial = certificate.serial.body;
+    let name_hash = Sha1::digest(certificate.issuer.raw());
+    let all = list_answer(genuine, issuer, Scope::All, serial);
+    let own = list_answer(genuine, issuer, own_scope(certificate), serial);
+    let ocsp = response_answer(genuine, issuer, &name_hash, serial);
+    Evidence {
+        number: link.number,
+        may_sign_crls: may_sign_crls(link),
+        answers: Answers { all, own, ocsp },
+    }
+}
+
+/// Why the certificate is revoked, if it is, and whether a statement speaks of it.
+fn status_of(
+    link: &Link<'_, '_>,
+    genuine: &[GenuineStatement<'_, '_, '_>],
+    moment: i64,
+) -> (Option<u8>, bool)
+    ensures reason { result.0 ≡ deciding_reason moment
+        (evidence_of (held_of (facts_in_all genuine.now)) (seen_link link.now)) }
+    ensures covered { result.1 ≡ is_covered_by moment
+        (evidence_of (held_of (facts_in_all genuine.now)) (seen_link link.now)) }
+{
+    let evidence = evidence_of(link, genuine);
+    (evidence.reason(moment), evidence.is_covered(moment))
+}
+
+/// The first certificate of which no statement speaks, with one more.
+fn first_uncovered(earlier: Option<usize>, number: usize, is_covered: bool) -> Option<usize>
+    ensures { result ≡ option_or earlier (if is_covered then None else Some number) }
+{
+    match earlier {
+        Some(earlier) => Some(earlier),
+        None => { if is_covered { None } else { Some(number) } }
+    }
+}
+
+/// The verdict on the certificates of a path that meets all conditions: the first that is revoked; if none is, the first of which no
+/// statement speaks; else that the path is valid.
+fn verdict_on(
+    links: &[Link<'_, '_>],
+    genuine: &[GenuineStatement<'_, '_, '_>],
+    moment: i64,
+) -> Verdict
+    ensures { result ≡ verdict_by moment
+        (map (evidence_of (held_of (facts_in_all genuine.now))) (map seen_link links.now)) }
+{
+    let mut uncovered = None;
+    for link in links {
+        let (revoked, is_covered) = status_of(link, genuine, moment);
+        if let Some(reason) = revoked {
+            return Verdict::Revoked(link.number, reason);
+        }
+        uncovered = first_uncovered(uncovered, link.number, is_covered);
+    }
+    match uncovered {
+        Some(number) => Verdict::Unknown(number),
+        None => Verdict::Valid,
+    }
+}
+
+/// The same at the moment that is asked for.
+fn verdict_at(
+    question: &Question<'_, '_>,
+    links: &[Link<'_, '_>],
+    genuine: &[GenuineStatement<'_, '_, '_>],
+) -> Verdict
+    ensures { result ≡ verdict_by question.now.moment
+        (map (evidence_of (held_of (facts_in_all genuine.now))) (map seen_link links.now)) }
+{
+    let moment = question.moment;
+    verdict_on(links, genuine, moment)
+}
+
+/// The verdict on a path that meets all conditions.
+fn verdict_by_statements<V: Verifier>(
+    alloc: Global,
+    verifier: &V,
+    question: &Question<'_, '_>,
+    statements: &[&[u8]],
+) -> Result<Verdict, AllocError>
+    ensures { IfOk result (λ verdict. verdict ≡ verdict_by question.now.moment
+        (evidence_told (V.accepts verifier.now) (seen_question question.now)
+        (texts_of statements.now))) }
+{
+    let links = links_of(alloc, question.anchor, question.path)?;
+    let genuine = genuine_statements(alloc, verifier, links.as_slice(), statements)?;
+    Ok(verdict_at(question, links.as_slice(), genuine.as_slice()))
+}
+
+/// The verdict on a path by statements, which are the octets of lists and responses in any order: that of a relying party that began
+/// with nothing and to which each statement was delivered with the certificate of each issuer of the path. A statement that cannot be
+/// read, or is genuine for none of the issuers, changes nothing. The path is validated first, and the statements are read only if it is
+/// valid.
+///
+/// Each statement is read once, and its signature is asked for once for each issuer that it names. Memory is taken for the certificates
+/// of the path and the statements that are genuine, and not for the entries of lists: of each certificate the newest list is gone
+/// through once.
+pub fn verdict<V: Verifier>(
+    alloc: Global,
+    verifier: &V,
+    question: &Question<'_, '_>,
+    statements: &[&[u8]],
+) -> Result<Verdict, AllocError>
+    ensures verdict { IfOk result (IsVerdictByTexts (V.accepts verifier.now)
+        (seen_question question.now) (texts_of statements.now)) }
+    // If no certificate of the path carries a subtree of a processed form, memory is asked for only if the path is valid.
+    ensures memory { OnErr result (CarriesNoSubtrees question.now
+        → IsValidPath (V.accepts verifier.now) (seen_question question.now)) }
+{
+    let moment = question.moment;
+    let purpose = question.purpose;
+    match validate(
+        alloc,
+        verifier,
+        question.anchor,
+        question.path,
+        moment,
+        purpose,
+    )? {
+        Outcome::Bad(number, reason) => Ok(Verdict::Invalid(number, reason)),
+        Outcome::Good => verdict_by_statements(alloc, verifier, question, statements),
+    }
+}

@@ -1,0 +1,24 @@
+-- Certificates of one issuer, and the statements that are genuine for it (RFC 5280, 6.3.3 (f); RFC 6960, 4.2.2.2).
+use Rattle.std.specs.Prelude.{◌≡◌, ℕ, List, Ok}
+use Rattle.asn.specs.DerLaws.{AreOctets}
+use Rattle.names.specs.DistinguishedName.{NamesMatch}
+use Rattle.cert.specs.Certificate.{Certificate, certificate}
+use Rattle.statements.specs.Genuine.{Accepts}
+use Rattle.statements.specs.OcspFact.{genuine_statement}
+
+-- the certificate was read
+pub record WasRead (certificate_read : Certificate) : Type 0 where
+  pub octets : List ℕ
+  pub are_octets : AreOctets octets
+  pub reads : certificate octets ≡ Ok certificate_read
+
+-- two certificates are of one issuer: their subjects match, and their subjectPublicKeyInfo has the same octets
+pub record AreOfOneIssuer (one other : Certificate) : Type 0 where
+  pub subject : NamesMatch one.subject.rdns other.subject.rdns
+  pub key_info : one.key_info.value.octets ≡ other.key_info.value.octets
+
+-- What is genuine, and which facts it tells, depends on the issuer alone, and not on which of its certificates is at hand.
+abbrev pub IssuerDecides : Type 0
+IssuerDecides =
+    (accepts : Accepts) (one other : Certificate) → WasRead one → WasRead other → AreOfOneIssuer one other →
+    (statement : List ℕ) → genuine_statement accepts one statement ≡ genuine_statement accepts other statement
