@@ -138,14 +138,7 @@ fn deliver_under<'a, S: Source + Stores>(
         Ok(octets) => octets,
         Err(failure) => return Err(failure),
     };
-    take_statement(
-        source,
-        alloc,
-        verifier,
-        issuer,
-        statement.as_slice(),
-        words,
-    )
+    take_statement(source, alloc, verifier, issuer, statement.as_slice(), words)
 }
 
 // Delivers the statement in the file, under the issuer whose certificate is in the other.
