@@ -6,6 +6,6 @@ mod events;
 #[cfg(test)]
 mod migrations;
 #[cfg(test)]
-mod statements;
+mod putting;
 #[cfg(test)]
 mod stores;

@@ -82,7 +82,7 @@ pub mod values {
 }
 
 /// Names (RFC 5280, 4.1.2.4, 4.2.1.6 and 4.2.1.10): distinguished names, general names, and the subtrees that constrain them.
-pub mod names {
+pub mod naming {
     pub use names::{
         Attribute, Domain, Form, General, IpFault, IpRange, Name, NameRule, Refusal, Subtree,
         coverage_laws, domain_laws, general_laws, is_dns_name, is_ip_address, is_text, key_laws,
@@ -102,7 +102,7 @@ pub mod certificates {
 }
 
 /// The parts of lists and responses (RFC 5280, 5; RFC 6960, 4.2), and what they say.
-pub mod statements {
+pub mod revocation {
     pub use statements::{crl_fact_laws, crl_facts, ocsp_fact_laws, ocsp_facts};
     pub use statements_crl::{Entries, Entry, list_laws, number_laws};
     pub use statements_facts::{
