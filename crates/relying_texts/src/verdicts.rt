@@ -123,9 +123,10 @@ fn verdict_by_statements<V: Verifier>(
 /// read, or is genuine for none of the issuers, changes nothing. The path is validated first, and the statements are read only if it is
 /// valid.
 ///
-/// Each statement is read once, and its signature is asked for once for each issuer that it names. Memory is taken for the certificates
-/// of the path and the statements that are genuine, and not for the entries of lists: of each certificate the newest list is gone
-/// through once.
+/// Each statement is read once. The signature of a list is asked for once for each issuer whose name it has, that of a response once for
+/// each issuer and for each certificate that comes with it. For each certificate of the path at most two lists are gone through once more,
+/// the newest of either scope. Memory is taken for the certificates of the path, for the statements that are genuine and for what reading
+/// takes, and not for the entries of lists.
 pub fn verdict<V: Verifier>(
     alloc: Global,
     verifier: &V,

@@ -28,6 +28,12 @@
 //!        let query = Query::read(alloc, anchor_octets, &path_octets, moment, purpose)?;
 //!        let verdict = node.verdict(alloc, &query)?;
 //!
+//!    A program that keeps no store hands over its statements each time: `at_hand::verdict` answers what a party would that began with
+//!    nothing and was delivered all of them.
+//!
+//!        let question = at_hand::Question { anchor: &anchor, path: &path, moment, purpose };
+//!        let verdict = at_hand::verdict(alloc, &verifier, &question, &statements)?;
+//!
 //! 6. **Compare two parties** ([`compare`]). If both judge signatures alike and hold the same newest statements for the path, their
 //!    verdicts are equal, however the statements came: [`node_laws`] says so of the calls above.
 //!
@@ -62,8 +68,8 @@ pub use store_sql::StoreFault;
 // ---- relying parties
 
 pub use relying::{
-    Answer, Comparison, DeliverFault, Event, Fault, Node, Query, QueryFault, RunFault, Verdict,
-    compare, node_laws, run_laws,
+    Answer, Comparison, DeliverFault, Event, Fault, Node, Query, QueryFault, ReopenFault, RunFault,
+    Verdict, compare, node_laws, read_statement, run_laws,
 };
 pub use relying_agreement::{
     agreement_examples, agreement_laws, comparison_laws, taking_laws, verdict_laws,
@@ -103,7 +109,10 @@ pub mod certificates {
 
 /// The parts of lists and responses (RFC 5280, 5; RFC 6960, 4.2), and what they say.
 pub mod revocation {
-    pub use statements::{crl_fact_laws, crl_facts, ocsp_fact_laws, ocsp_facts};
+    pub use statements::{
+        check_crl_issuer, crl_fact_laws, crl_facts, crl_number, identity_laws, ocsp_fact_laws,
+        ocsp_facts, response_singles,
+    };
     pub use statements_crl::{Entries, Entry, list_laws, number_laws};
     pub use statements_facts::{
         CrlFacts, Listed, OcspFacts, RevokedSerials, Single, Singles, Status, TakenAs, coming_laws,
@@ -114,6 +123,11 @@ pub mod revocation {
         is_response, response_laws,
     };
     pub use statements_parts::Refusal;
+}
+
+/// Verdicts by statements at hand, without a store.
+pub mod at_hand {
+    pub use relying_texts::{Question, delivery_laws, verdict};
 }
 
 /// What a store holds, and how it is moved, taken over and looked up.
