@@ -1,0 +1,5 @@
+use Rattle.cli_requests.proofs.Words.{stripped}
+use Rattle.cli_requests.proofs.request.purpose_in.Goals as goal
+
+pub returns : goal.returns
+returns c = stripped c.args.word.now c.strip_prefix.result c.strip_prefix.ensures.cases

@@ -1,0 +1,157 @@
+-- The requests of a session, each of them a line.
+use Rattle.std.specs.Prelude.{◌≡◌, ◌&&◌, ◌||◌, ◌==◌, ℕ, Bool, true, false, List, [], ◌∷◌, Option, Some, None, codes, length, slice_index, take, drop, map, option_map, is_some, if◌then◌else◌}
+use Rattle.std.specs.Borrow.{Bor}
+use Rattle.std.specs.List.{slice_split}
+use Rattle.std.specs.Str.{bytes_eq, is_utf8}
+use Rattle.std.specs.Result.{result_ok}
+use Rattle.hex.specs.Hex.{decode_sized}
+use Rattle.cli_words.specs.declared.line.Kind.{Kind}
+use Rattle.cli_words.specs.declared.line.Kind.TheVariants.{Certificate, RevocationList, Response}
+use Rattle.cli_requests.specs.Operands.{operand_in}
+use Rattle.cli_requests.specs.declared.request.Request.{Request as Owned}
+use Rattle.cli_requests.specs.declared.request.Request.TheVariants.{Nothing, Believe, Deliver, Check, Prints, Forget, Quit}
+use Rattle.cli_requests.specs.declared.request.PathRequest.{PathRequest}
+use Rattle.cli_requests.specs.declared.request.RequestFault.{RequestFault}
+use Rattle.cli_requests.specs.declared.request.RequestFault.TheVariants.{Malformed, Memory}
+
+-- what is asked of a path, in the words of the line
+pub record Path : Type 0 where
+  pub moment : List ℕ
+  pub purpose : Option (List ℕ)
+  pub anchor : List ℕ
+  pub files : List (List ℕ)
+
+-- what a line asks for
+pub data Request : Type 0 where
+  nothing : Request
+  believe : List ℕ → Request
+  deliver : List ℕ → List ℕ → Request
+  check : Path → Request
+  prints : Kind → List ℕ → List ℕ → Request
+  forget : Request
+  quit : Request
+
+-- ---- words
+
+-- what stands between the spaces of a line
+abbrev pub words_of : List ℕ → List (List ℕ)
+words_of line = slice_split (λ octet. octet == 32) line
+
+-- each word is an operand
+abbrev pub are_operands : List (List ℕ) → Bool
+are_operands [] = true
+are_operands (word ∷ words) = is_some (operand_in word) && are_operands words
+
+-- the fingerprint of 64 hexadecimal digits, of either case
+abbrev pub print_in : List ℕ → Option (List ℕ)
+print_in digits = result_ok (decode_sized digits 32)
+
+abbrev pub kind_named : List ℕ → Option Kind
+kind_named name =
+    if bytes_eq name (codes "cert") then Some Certificate
+    else (if bytes_eq name (codes "crl") then Some RevocationList
+    else (if bytes_eq name (codes "ocsp") then Some Response else None))
+
+-- ---- requests, behind their first word
+
+-- `believe HEX`
+abbrev pub believe_in : List (List ℕ) → Option Request
+believe_in (digits ∷ []) = option_map believe (print_in digits)
+believe_in _ = None
+
+-- `deliver ISSUER FILE`
+abbrev pub deliver_in : List (List ℕ) → Option Request
+deliver_in (issuer ∷ file ∷ []) =
+    if are_operands (issuer ∷ file ∷ []) then Some (deliver issuer file) else None
+deliver_in _ = None
+
+-- `ANCHOR FILE ..`, with at least one file
+abbrev pub path_in : List ℕ → Option (List ℕ) → List (List ℕ) → Option Request
+path_in moment purpose (anchor ∷ file ∷ files) =
+    if are_operands (anchor ∷ file ∷ files)
+    then Some (check (record { moment = moment; purpose = purpose; anchor = anchor; files = file ∷ files }))
+    else None
+path_in moment purpose _ = None
+
+-- `purpose=OID`
+abbrev pub purpose_in : List ℕ → Option (List ℕ)
+purpose_in word = if bytes_eq (take 8 word) (codes "purpose=") then Some (drop 8 word) else None
+
+-- the path that stands behind a purpose, or begins with the word that names none
+abbrev pub path_behind : List ℕ → Option (List ℕ) → List ℕ → List (List ℕ) → Option Request
+path_behind moment (Some purpose) first words = path_in moment (Some purpose) words
+path_behind moment None first words = path_in moment None (first ∷ words)
+
+-- `check TIME ANCHOR FILE ..`, or `check TIME purpose=OID ANCHOR FILE ..`
+abbrev pub check_in : List (List ℕ) → Option Request
+check_in (moment ∷ first ∷ words) = path_behind moment (purpose_in first) first words
+check_in _ = None
+
+-- `prints KIND ISSUER FILE`
+abbrev pub prints_in : List (List ℕ) → Option Request
+prints_in (kind ∷ issuer ∷ file ∷ []) =
+    if are_operands (issuer ∷ file ∷ [])
+    then option_map (λ named. prints named issuer file) (kind_named kind) else None
+prints_in _ = None
+
+-- `forget` and `quit`
+abbrev pub alone : Request → List (List ℕ) → Option Request
+alone request [] = Some request
+alone request _ = None
+
+-- ---- lines
+
+abbrev pub request_named : List ℕ → List (List ℕ) → Option Request
+request_named name words =
+    if bytes_eq name (codes "believe") then believe_in words
+    else (if bytes_eq name (codes "deliver") then deliver_in words
+    else (if bytes_eq name (codes "check") then check_in words
+    else (if bytes_eq name (codes "prints") then prints_in words
+    else (if bytes_eq name (codes "forget") then alone forget words
+    else (if bytes_eq name (codes "quit") then alone quit words else None)))))
+
+abbrev pub request_in : List (List ℕ) → Option Request
+request_in [] = None
+request_in (name ∷ words) = request_named name words
+
+-- a line that is empty or begins with `#` asks for nothing
+abbrev pub is_passed_over : List ℕ → Bool
+is_passed_over line = (length line == 0) || (slice_index line 0 == 35)
+
+-- What a line asks for: a request in UTF-8, its words parted by single spaces.
+abbrev pub request_on : List ℕ → Option Request
+request_on line =
+    if is_passed_over line then Some nothing
+    else (if is_utf8 line then request_in (words_of line) else None)
+
+-- ---- what the code holds
+
+abbrev pub texts_of : List (Bor (List ℕ)) → List (List ℕ)
+texts_of words = map (λ word. word.now) words
+
+abbrev pub seen_path : PathRequest → Path
+seen_path path = record {
+  moment = path.moment.now;
+  purpose = option_map (λ purpose. purpose.now) path.purpose;
+  anchor = path.anchor.now;
+  files = texts_of path.files.items;
+}
+
+abbrev pub seen_request : Owned → Request
+seen_request Nothing = nothing
+seen_request (Believe print) = believe print
+seen_request (Deliver issuer file) = deliver issuer.now file.now
+seen_request (Check path) = check (seen_path path)
+seen_request (Prints kind issuer file) = prints kind issuer.now file.now
+seen_request Forget = forget
+seen_request Quit = quit
+
+-- there is no request, or memory ran out
+abbrev pub IsNone : {A : Type 0} → Option A → RequestFault → Type 0
+IsNone found Malformed = found ≡ None
+IsNone found Memory = Unit {0}
+
+-- the same of a test that fails
+abbrev pub IsFalse : Bool → RequestFault → Type 0
+IsFalse test Malformed = test ≡ false
+IsFalse test Memory = Unit {0}

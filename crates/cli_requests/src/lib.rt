@@ -1,0 +1,8 @@
+//! The lines of a session: what each asks for, and what its operands are.
+#![tactic(auto)]
+
+mod operand;
+mod request;
+
+pub use operand::{Operand, operand_of};
+pub use request::{PathRequest, Request, RequestFault, request_of};

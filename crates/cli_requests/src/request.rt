@@ -1,0 +1,288 @@
+//! What a line of a session asks for.
+ghost use Rattle.std.specs.Prelude.{◌≡◌, IfErr, IfOk, OnOk, Some, map, option_map, true};
+ghost use Rattle.cli_requests.specs.Requests.{IsFalse, IsNone, alone, are_operands, believe_in, check_in, deliver_in, is_passed_over, kind_named, path_in, print_in, prints_in, purpose_in, request_in, request_named, request_on, seen_request, texts_of, words_of};
+
+use crate::operand::operand_of;
+use cli_words::Kind;
+use std::alloc::{AllocError, Global};
+use std::str;
+use thiserror::Error;
+
+/// What is asked of a path of certificates. Operands are as they stand in the line.
+#[derive(Debug, Drop, PartialEq, Eq)]
+pub struct PathRequest<'a> {
+    /// The moment.
+    pub moment: &'a str,
+    /// The purpose, if there is one.
+    pub purpose: Option<&'a str>,
+    /// The operand that holds the anchor's certificate.
+    pub anchor: &'a str,
+    /// The operands that hold the certificates, at least one.
+    pub files: Vec<&'a str>,
+}
+
+/// What a line asks for. Operands are as they stand in the line: `operand_of` reads them.
+#[derive(Debug, Drop, PartialEq, Eq)]
+pub enum Request<'a> {
+    /// Nothing: the line is empty or a comment.
+    Nothing,
+    /// Believe a fingerprint more: a signature is good if its fingerprint is believed.
+    Believe([u8; 32]),
+    /// Deliver a statement, under the certificate of its issuer.
+    Deliver {
+        issuer: &'a str,
+        file: &'a str,
+    },
+    /// Tell the verdict on a path.
+    Check(PathRequest<'a>),
+    /// Tell the fingerprints of what a verifier is asked about a value of that kind, under the issuer's key.
+    Prints {
+        kind: Kind,
+        issuer: &'a str,
+        file: &'a str,
+    },
+    /// Forget what `Believe` brought.
+    Forget,
+    /// End the session.
+    Quit,
+}
+
+/// Why a line is no request.
+#[derive(Clone, Copy, Debug, PartialEq, Eq, Error)]
+pub enum RequestFault {
+    #[error("bad line")]
+    Malformed,
+    #[error("no memory")]
+    Memory,
+}
+
+impl From<AllocError> for RequestFault {
+    ghost use Rattle.cli_requests.specs.declared.request.RequestFault.TheVariants.{Memory};
+
+    ghost from_gives = { λ _ fault. fault ≡ Memory };
+
+    fn from(_: AllocError) -> RequestFault {
+        RequestFault::Memory
+    }
+}
+
+// Whether the line asks for nothing.
+fn is_passed_over(line: &[u8]) -> bool
+    ensures { result ≡ is_passed_over line.now }
+{
+    line.is_empty() || line[0] == b'#'
+}
+
+// The words of a line.
+fn words_of<'a>(alloc: Global, line: &'a str) -> Result<Vec<&'a str>, AllocError>
+    ensures { IfOk result (λ words. texts_of words.items ≡ words_of line.now) }
+{
+    let mut words = Vec::new(alloc);
+    for word in line.split(' ') {
+        words.push(word)?;
+    }
+    Ok(words)
+}
+
+// The fingerprint of 64 hexadecimal digits.
+fn print_in(digits: &str) -> Option<[u8; 32]>
+    ensures { result ≡ print_in digits.now }
+{
+    let mut print = [0; 32];
+    match hex::decode_to_slice(digits.as_bytes(), &mut print) {
+        Ok(()) => Some(print),
+        Err(_) => None,
+    }
+}
+
+// The kind that has the name.
+fn kind_named(name: &str) -> Option<Kind>
+    ensures { result ≡ kind_named name.now }
+{
+    match name {
+        "cert" => Some(Kind::Certificate),
+        "crl" => Some(Kind::RevocationList),
+        "ocsp" => Some(Kind::Response),
+        _ => None,
+    }
+}
+
+// Whether the words are operands.
+fn check_operands(alloc: Global, words: &[&str]) -> Result<(), RequestFault>
+    ensures reads { OnOk result (are_operands (texts_of words.now) ≡ true) }
+    ensures refuses { IfErr result (IsFalse (are_operands (texts_of words.now))) }
+{
+    for word in words {
+        if operand_of(alloc, word.as_bytes())?.is_none() {
+            return Err(RequestFault::Malformed);
+        }
+    }
+    Ok(())
+}
+
+fn believe_in<'a>(words: &[&'a str]) -> Result<Request<'a>, RequestFault>
+    ensures reads { IfOk result (λ request.
+        believe_in (texts_of words.now) ≡ Some (seen_request request)) }
+    ensures refuses { IfErr result (IsNone (believe_in (texts_of words.now))) }
+{
+    let [digits] = words else {
+        return Err(RequestFault::Malformed);
+    };
+    match print_in(digits) {
+        Some(print) => Ok(Request::Believe(print)),
+        None => Err(RequestFault::Malformed),
+    }
+}
+
+fn deliver_in<'a>(alloc: Global, words: &[&'a str]) -> Result<Request<'a>, RequestFault>
+    ensures reads { IfOk result (λ request.
+        deliver_in (texts_of words.now) ≡ Some (seen_request request)) }
+    ensures refuses { IfErr result (IsNone (deliver_in (texts_of words.now))) }
+{
+    let [issuer, file] = words else {
+        return Err(RequestFault::Malformed);
+    };
+    check_operands(alloc, words)?;
+    Ok(Request::Deliver { issuer, file })
+}
+
+fn path_in<'a>(
+    alloc: Global,
+    moment: &'a str,
+    purpose: Option<&'a str>,
+    words: &[&'a str],
+) -> Result<Request<'a>, RequestFault>
+    ensures reads { IfOk result (λ request.
+        path_in moment.entry.now (option_map (λ text. text.now) purpose.entry) (texts_of words.now)
+        ≡ Some (seen_request request)) }
+    ensures refuses { IfErr result (IsNone
+        (path_in moment.entry.now (option_map (λ text. text.now) purpose.entry)
+        (texts_of words.now))) }
+{
+    let [anchor, files @ ..] = words else {
+        return Err(RequestFault::Malformed);
+    };
+    if files.is_empty() {
+        return Err(RequestFault::Malformed);
+    }
+    check_operands(alloc, words)?;
+    Ok(Request::Check(PathRequest {
+        moment,
+        purpose,
+        anchor,
+        files: Vec::from_slice(alloc, files)?,
+    }))
+}
+
+// The purpose that the word names.
+fn purpose_in(word: &str) -> Option<&str>
+    ensures { option_map (λ text. text.now) result ≡ purpose_in word.now }
+{
+    word.strip_prefix("purpose=")
+}
+
+fn check_in<'a>(alloc: Global, words: &[&'a str]) -> Result<Request<'a>, RequestFault>
+    ensures reads { IfOk result (λ request.
+        check_in (texts_of words.now) ≡ Some (seen_request request)) }
+    ensures refuses { IfErr result (IsNone (check_in (texts_of words.now))) }
+{
+    let [moment, behind @ ..] = words else {
+        return Err(RequestFault::Malformed);
+    };
+    let [first, others @ ..] = behind else {
+        return Err(RequestFault::Malformed);
+    };
+    match purpose_in(first) {
+        Some(purpose) => path_in(alloc, moment, Some(purpose), others),
+        None => path_in(alloc, moment, None, behind),
+    }
+}
+
+fn prints_in<'a>(alloc: Global, words: &[&'a str]) -> Result<Request<'a>, RequestFault>
+    ensures reads { IfOk result (λ request.
+        prints_in (texts_of words.now) ≡ Some (seen_request request)) }
+    ensures refuses { IfErr result (IsNone (prints_in (texts_of words.now))) }
+{
+    let [kind, behind @ ..] = words else {
+        return Err(RequestFault::Malformed);
+    };
+    let [issuer, file] = behind else {
+        return Err(RequestFault::Malformed);
+    };
+    check_operands(alloc, behind)?;
+    match kind_named(kind) {
+        Some(kind) => Ok(Request::Prints { kind, issuer, file }),
+        None => Err(RequestFault::Malformed),
+    }
+}
+
+// A request that is one word.
+fn alone<'a>(request: Request<'a>, words: &[&str]) -> Result<Request<'a>, RequestFault>
+    ensures reads { IfOk result (λ read.
+        alone (seen_request request.entry) (texts_of words.now) ≡ Some (seen_request read)) }
+    ensures refuses { IfErr result
+        (IsNone (alone (seen_request request.entry) (texts_of words.now))) }
+{
+    if words.is_empty() {
+        Ok(request)
+    } else {
+        Err(RequestFault::Malformed)
+    }
+}
+
+fn request_named<'a>(
+    alloc: Global,
+    name: &str,
+    words: &[&'a str],
+) -> Result<Request<'a>, RequestFault>
+    ensures reads { IfOk result (λ request.
+        request_named name.now (texts_of words.now) ≡ Some (seen_request request)) }
+    ensures refuses { IfErr result (IsNone (request_named name.now (texts_of words.now))) }
+{
+    match name {
+        "believe" => believe_in(words),
+        "deliver" => deliver_in(alloc, words),
+        "check" => check_in(alloc, words),
+        "prints" => prints_in(alloc, words),
+        "forget" => alone(Request::Forget, words),
+        "quit" => alone(Request::Quit, words),
+        _ => Err(RequestFault::Malformed),
+    }
+}
+
+fn request_in<'a>(alloc: Global, words: &[&'a str]) -> Result<Request<'a>, RequestFault>
+    ensures reads { IfOk result (λ request.
+        request_in (texts_of words.now) ≡ Some (seen_request request)) }
+    ensures refuses { IfErr result (IsNone (request_in (texts_of words.now))) }
+{
+    let [name, behind @ ..] = words else {
+        return Err(RequestFault::Malformed);
+    };
+    request_named(alloc, name, behind)
+}
+
+// The request that the text is.
+fn request_of_text<'a>(alloc: Global, text: &'a str) -> Result<Request<'a>, RequestFault>
+    ensures reads { IfOk result (λ request.
+        request_in (words_of text.now) ≡ Some (seen_request request)) }
+    ensures refuses { IfErr result (IsNone (request_in (words_of text.now))) }
+{
+    let words = words_of(alloc, text)?;
+    request_in(alloc, words.as_slice())
+}
+
+/// What the line asks for, which stands there without its line feed: words parted by single spaces, in UTF-8. An empty line, and one that
+/// begins with `#`, asks for nothing. `Malformed` is answered exactly where the line is no request. Time is linear in the line, and memory
+/// is 16 octets a word and what an operand holds.
+pub fn request_of<'a>(alloc: Global, line: &'a [u8]) -> Result<Request<'a>, RequestFault>
+    ensures reads { IfOk result (λ request. request_on line.now ≡ Some (seen_request request)) }
+    ensures refuses { IfErr result (IsNone (request_on line.now)) }
+{
+    if is_passed_over(line) {
+        return Ok(Request::Nothing);
+    }
+    match str::from_utf8(line) {
+        Ok(text) => request_of_text(alloc, text),
+        Err(_) => Err(RequestFault::Malformed),
+    }
+}

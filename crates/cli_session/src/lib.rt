@@ -1,0 +1,8 @@
+//! A session's party: the fingerprints that it believes, and the operands of its lines as files.
+#![tactic(auto)]
+
+mod believed;
+mod operands;
+
+pub use believed::{Believed, Judge};
+pub use operands::Operands;

@@ -1,0 +1,141 @@
+//! What lines ask for.
+
+use cli_requests::{Operand, PathRequest, Request, RequestFault, operand_of, request_of};
+use cli_words::Kind;
+use std::alloc::Global;
+use std::process::Abort;
+use std::test::Fail;
+
+/// Lines that ask for nothing.
+const PASSED_OVER: &[&str] = &["", "#", "# believe", "#\u{e9}"];
+
+/// Lines that are no request.
+const BAD: &[&str] = &[
+    " ",
+    "quit ",
+    " quit",
+    "Quit",
+    "quit\r",
+    "forget all",
+    "deliver",
+    "deliver a",
+    "deliver a b c",
+    "deliver a  b",
+    "deliver a \\",
+    "deliver a \\4",
+    "deliver a \\4g",
+    "deliver a \\ff",
+    "deliver a hex:0",
+    "deliver a hex:0g",
+    "deliver a \u{e9}",
+    "check 20250615000000Z",
+    "check 20250615000000Z a",
+    "check 20250615000000Z purpose=1.2 a",
+    "prints cert a",
+    "prints crt a b",
+    "believe",
+    "believe 00",
+];
+
+/// Words, and the names of the files that they write.
+const NAMES: &[(&str, &str)] = &[
+    ("a.der", "a.der"),
+    ("a\\20b", "a b"),
+    ("\\5c\\5C", "\\\\"),
+    ("\\c3\\A9", "\u{e9}"),
+    ("\\68ex:00", "hex:00"),
+    ("/tmp/~!", "/tmp/~!"),
+];
+
+fn is_refused(rt: &impl Abort, alloc: Global, line: &str) {
+    let fault = request_of(alloc, line.as_bytes()).err();
+    assert!(rt; fault == Some(RequestFault::Malformed), "{line}");
+}
+
+#[test]
+fn refuses_bad_lines(rt: HostRuntime) {
+    for line in BAD {
+        is_refused(&rt, rt.alloc(), line);
+    }
+}
+
+#[test]
+fn passes_over_comments(rt: HostRuntime) -> Result<(), Fail> {
+    for line in PASSED_OVER {
+        let request = request_of(rt.alloc(), line.as_bytes())?;
+        assert!(rt; request == Request::Nothing, "{line}");
+    }
+    Ok(())
+}
+
+#[test]
+fn reads_requests(rt: HostRuntime) -> Result<(), Fail> {
+    let alloc = rt.alloc();
+    let delivery = request_of(alloc, b"deliver root.der hex:3000")?;
+    assert!(rt;
+        delivery
+            == Request::Deliver {
+                issuer: "root.der",
+                file: "hex:3000"
+            }
+    );
+    let prints = request_of(alloc, b"prints ocsp a b")?;
+    assert!(rt;
+        prints
+            == Request::Prints {
+                kind: Kind::Response,
+                issuer: "a",
+                file: "b"
+            }
+    );
+    assert!(rt; request_of(alloc, b"forget")? == Request::Forget);
+    assert!(rt; request_of(alloc, b"quit")? == Request::Quit);
+    Ok(())
+}
+
+#[test]
+fn reads_questions(rt: HostRuntime) -> Result<(), Fail> {
+    let alloc = rt.alloc();
+    let mut files = Vec::new(alloc);
+    files.push("b")?;
+    files.push("c")?;
+    let expected = Request::Check(PathRequest {
+        moment: "20250615000000Z",
+        purpose: Some("1.2.3"),
+        anchor: "a",
+        files,
+    });
+    let request = request_of(alloc, b"check 20250615000000Z purpose=1.2.3 a b c")?;
+    assert!(rt; request == expected);
+    Ok(())
+}
+
+#[test]
+fn reads_fingerprints(rt: HostRuntime) -> Result<(), Fail> {
+    let line = b"believe 000102030405060708090a0b0c0d0e0f101112131415161718191A1B1C1D1E1F";
+    let Request::Believe(print) = request_of(rt.alloc(), line)? else {
+        return Err(Fail::from("no fingerprint"));
+    };
+    assert!(rt; print[0] == 0 && print[17] == 17 && print[31] == 31);
+    Ok(())
+}
+
+#[test]
+fn reads_names_of_files(rt: HostRuntime) -> Result<(), Fail> {
+    for (word, name) in NAMES.iter() {
+        let Some(Operand::File(read)) = operand_of(rt.alloc(), word.as_bytes())? else {
+            return Err(Fail::from("no file"));
+        };
+        assert!(rt; read.as_str() == *name, "{word}");
+    }
+    Ok(())
+}
+
+#[test]
+fn reads_octets(rt: HostRuntime) -> Result<(), Fail> {
+    let Some(Operand::Octets(octets)) = operand_of(rt.alloc(), b"hex:30fF")? else {
+        return Err(Fail::from("no octets"));
+    };
+    assert!(rt; octets.as_slice() == [0x30, 0xFF].as_slice());
+    Ok(())
+}
