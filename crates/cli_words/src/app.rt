@@ -24,7 +24,6 @@ fn tree<'a>(alloc: Global) -> Result<Command<'a>, AllocError>
 {
     Command::new(alloc, "tree")
         .about("Prints a DER value, a line for each value in it")
-        .after_help("Example:\n  x509check tree leaf.der")
         .arg(file(alloc))
 }
 
@@ -44,7 +43,6 @@ fn show<'a>(alloc: Global) -> Result<Command<'a>, AllocError>
 {
     Command::new(alloc, "show")
         .about("Prints what a certificate, a revocation list or an OCSP response says")
-        .after_help("Example:\n  x509check show --as crl root.crl")
         .arg(kind(alloc))?
         .arg(file(alloc))
 }
@@ -69,7 +67,6 @@ fn prints<'a>(alloc: Global) -> Result<Command<'a>, AllocError>
         .about(
             "Prints the fingerprints of what a verifier is asked about a certificate, a revocation list or an OCSP response",
         )
-        .after_help("Example:\n  x509check prints --issuer root.der middle.der")
         .arg(issuer(alloc))?
         .arg(kind(alloc))?
         .arg(file(alloc))
@@ -112,13 +109,9 @@ fn deliver<'a>(alloc: Global) -> Result<Command<'a>, AllocError>
     ensures app { IfOk result (λ c. app_of c ≡ deliver_app) }
     ensures local { IfOk result (λ c. (fields_of c).has_globals ≡ false) }
 {
-    let command = Command::new(alloc, "deliver")
-        .about(
-            "Puts a revocation list or an OCSP response into a store, which is made where there is none",
-        )
-        .after_help(
-            "Example:\n  x509check deliver --store store --verdicts good --issuer root.der root.crl",
-        );
+    let command = Command::new(alloc, "deliver").about(
+        "Puts a revocation list or an OCSP response into a store, which is made where there is none",
+    );
     storing(alloc, command)?
         .arg(issuer(alloc))?
         .arg(file(alloc))
@@ -199,13 +192,9 @@ fn check<'a>(alloc: Global) -> Result<Command<'a>, AllocError>
     ensures app { IfOk result (λ c. app_of c ≡ check_app) }
     ensures local { IfOk result (λ c. (fields_of c).has_globals ≡ false) }
 {
-    let command = Command::new(alloc, "check")
-        .about(
-            "Validates a path of certificates at a moment, with what a store holds of their revocation",
-        )
-        .after_help(
-            "Example:\n  x509check check --store store --verdicts good --at 20261201000000Z --anchor root.der middle.der leaf.der",
-        );
+    let command = Command::new(alloc, "check").about(
+        "Validates a path of certificates at a moment, with what a store holds of their revocation",
+    );
     asking(alloc, command)
 }
 
@@ -225,11 +214,9 @@ fn compare<'a>(alloc: Global) -> Result<Command<'a>, AllocError>
     ensures app { IfOk result (λ c. app_of c ≡ compare_app) }
     ensures local { IfOk result (λ c. (fields_of c).has_globals ≡ false) }
 {
-    let command = Command::new(alloc, "compare")
-        .about("Compares the verdicts on a path by what two stores hold")
-        .after_help(
-            "Example:\n  x509check compare --store store --other other --verdicts good --at 20261201000000Z --anchor root.der middle.der leaf.der",
-        );
+    let command = Command::new(alloc, "compare").about(
+        "Compares the verdicts on a path by what two stores hold",
+    );
     asking(alloc, command)?.arg(other(alloc))
 }
 
