@@ -88,15 +88,25 @@ pub trait Question {
     fn is_stopped(&self, done: usize, fault: Fault) -> bool;
 }
 
+/// The answer of a run that stopped; `None` where there was no memory for it.
+fn stopped<D: Disk + Drop, Q: Question>(
+    fault: &RunFault<ToyVerifier, D>,
+    question: &Q,
+) -> Option<bool> {
+    match fault {
+        RunFault::NoRoom(_) => None,
+        RunFault::Restart(done, fault) => {
+            Some(question.is_stopped(*done, Fault::Store(fault.fault())))
+        }
+    }
+}
+
 /// The answer of a party to which all of it was told; `None` where there was no memory for that.
 pub fn asked<Q: Question>(alloc: Global, told: &[Told], question: &Q) -> Option<bool> {
     let pairs = pairs_of(alloc, told)?;
     let events = events_of(alloc, &pairs)?;
     match party(alloc)?.run(alloc, &events) {
         Ok((mut party, answers)) => Some(question.is_answered(alloc, &mut party, &answers)),
-        Err(RunFault::NoRoom(_)) => None,
-        Err(RunFault::Restart(done, fault)) => {
-            Some(question.is_stopped(done, Fault::Store(fault.fault())))
-        }
+        Err(fault) => stopped(&fault, question),
     }
 }

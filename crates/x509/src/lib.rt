@@ -2,7 +2,7 @@
 //!
 //! It passes on the whole public surface of the library, and has nothing of its own.
 //!
-//! A verdict on the certificate of a mail server, from octets, in six steps. `example_library` is this page as a program.
+//! A verdict on the certificate of a mail server, from octets, in six steps.
 //!
 //! 1. **Judge signatures.** The library has no cryptography of its own. Implement [`Verifier`] over a library that has: its `judge` is
 //!    asked whether a signature of a message is good under a key. [`ListVerifier`] is one that believes a list of fingerprints.
