@@ -4,7 +4,7 @@ use crate::asking::{MIDDLE, verdict_on};
 use crate::telling::{Question, Told, asked};
 use relying::DeliverFault::Statement;
 use relying::Verdict::{Revoked, Unknown, Valid};
-use relying::{Answer, Fault, Node, Verdict};
+use relying::{Answer, Node, Verdict};
 use sqlite_disk::Disk;
 use statements_facts::Counts;
 use statements_parts::StatementFault::BadSignature;
@@ -271,10 +271,6 @@ impl Question for Says {
             }
         }
         answers == self.0
-    }
-
-    fn is_stopped(&self, _done: usize, _fault: Fault) -> bool {
-        false
     }
 }
 

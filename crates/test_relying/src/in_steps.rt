@@ -5,7 +5,7 @@ use crate::asking::{MIDDLE, octets_of};
 use crate::telling::{Question, asked, pair_of};
 use cert::Certificate;
 use relying::Verdict::Revoked;
-use relying::{Answer, DeliverFault, Fault, Node, Query, Verdict, read_statement};
+use relying::{Answer, DeliverFault, Node, Query, Verdict, read_statement};
 use sqlite_disk::Disk;
 use std::alloc::Global;
 use vectors::ToyVerifier;
@@ -42,10 +42,6 @@ impl Question for InSteps {
             return false;
         }
         verdict_of_read(alloc, party, &self.0, &self.2) == Some(Revoked(1, 1))
-    }
-
-    fn is_stopped(&self, _done: usize, _fault: Fault) -> bool {
-        false
     }
 }
 

@@ -72,10 +72,6 @@ impl Question for Taken {
         let wanted = if second.is_ok() { Revoked(1, 1) } else { Valid };
         is_stored_or_want(first) && is_stored_or_want(second) && says(alloc, party, wanted)
     }
-
-    fn is_stopped(&self, done: usize, fault: Fault) -> bool {
-        done == 1 && is_want(fault)
-    }
 }
 
 #[test]
@@ -101,10 +97,6 @@ impl Question for Delivered {
         let answer = party.deliver(alloc, &self.0, &self.1);
         let wanted = if answer.is_ok() { Revoked(1, 1) } else { Valid };
         is_stored_or_want(&answer) && says(alloc, party, wanted)
-    }
-
-    fn is_stopped(&self, _done: usize, _fault: Fault) -> bool {
-        false
     }
 }
 

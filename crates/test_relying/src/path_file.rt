@@ -4,7 +4,7 @@ use crate::asking::{MIDDLE, octets_of, slices_of, verdict_below};
 use crate::telling::{Question, Told, asked};
 use der_stream::path_octets;
 use relying::Verdict::Valid;
-use relying::{Answer, Fault, Node};
+use relying::{Answer, Node};
 use sqlite_disk::Disk;
 use std::alloc::Global;
 use vectors::ToyVerifier;
@@ -35,10 +35,6 @@ impl Question for IsValid {
             Some(slices) => verdict_below(alloc, party, &slices, MIDDLE) == Some(Ok(Valid)),
             None => false,
         }
-    }
-
-    fn is_stopped(&self, _done: usize, _fault: Fault) -> bool {
-        false
     }
 }
 

@@ -1,6 +1,6 @@
 //! Relying parties, and what reaches them. `None` is answered where there is no memory.
 
-use relying::{Answer, Event, Fault, Node, RunFault};
+use relying::{Answer, Event, Node};
 use sqlite::{Connection, Files, Options};
 use sqlite_disk::{Disk, Memory};
 use std::alloc::Global;
@@ -83,30 +83,12 @@ pub trait Question {
         party: &mut Node<ToyVerifier, D>,
         answers: &[Answer],
     ) -> bool;
-
-    /// The same of a run that stopped at the restart behind so many events.
-    fn is_stopped(&self, done: usize, fault: Fault) -> bool;
 }
 
-/// The answer of a run that stopped; `None` where there was no memory for it.
-fn stopped<D: Disk + Drop, Q: Question>(
-    fault: &RunFault<ToyVerifier, D>,
-    question: &Q,
-) -> Option<bool> {
-    match fault {
-        RunFault::NoRoom(_) => None,
-        RunFault::Restart(done, fault) => {
-            Some(question.is_stopped(*done, Fault::Store(fault.fault())))
-        }
-    }
-}
-
-/// The answer of a party to which all of it was told; `None` where there was no memory for that.
+/// The answer of a party to which all of it was told; `None` where there was no memory for that, or the run stopped.
 pub fn asked<Q: Question>(alloc: Global, told: &[Told], question: &Q) -> Option<bool> {
     let pairs = pairs_of(alloc, told)?;
     let events = events_of(alloc, &pairs)?;
-    match party(alloc)?.run(alloc, &events) {
-        Ok((mut party, answers)) => Some(question.is_answered(alloc, &mut party, &answers)),
-        Err(fault) => stopped(&fault, question),
-    }
+    let (mut party, answers) = party(alloc)?.run(alloc, &events).ok()?;
+    Some(question.is_answered(alloc, &mut party, &answers))
 }
