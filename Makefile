@@ -8,12 +8,13 @@ bin = $(DESTDIR)$(PREFIX)/bin
 lib = $(DESTDIR)$(PREFIX)/lib
 include = $(DESTDIR)$(PREFIX)/include
 libexec = $(DESTDIR)$(PREFIX)/libexec/x509check
+share = $(DESTDIR)$(PREFIX)/share/x509check
 program = crates/x509check/out/x509check
 library = crates/capi/out/libcapi.a
 # These serve a user; the others in examples/ try this repository.
 scripts = verdicts validate to_der
 
-.PHONY: all program library install uninstall check help
+.PHONY: all program library bindings install uninstall check help
 
 all: program library
 
@@ -23,14 +24,23 @@ program:
 library:
 	.ci/build capi
 
+# Links the shared object that the module for Python loads.
+bindings: $(library)
+	.ci/bindings --link
+
 # Installs what is built, and builds what is not there: `make install` as root after `make` as a user runs no rt.
 install: $(program) $(library)
-	install -d $(bin) $(lib) $(include) $(libexec)
+	.ci/bindings --link
+	install -d $(bin) $(lib) $(include) $(libexec) $(share)/python/x509check $(share)/rust/src
 	install -m 755 $(program) $(bin)/x509check
 	install -m 644 $(library) $(lib)/libx509check.a
 	install -m 644 "$(KIT)/c/liblibc_c.a" $(lib)/libx509check_memory.a
 	install -m 644 crates/capi/x509check.h $(include)/x509check.h
 	cd examples && install -m 755 $(scripts) $(libexec)
+	[ ! -f bindings/out/libx509check.so ] || install -m 755 bindings/out/libx509check.so $(lib)/libx509check.so
+	install -m 644 bindings/python/x509check/*.py bindings/python/x509check/py.typed $(share)/python/x509check
+	install -m 644 bindings/rust/Cargo.toml bindings/rust/build.rs $(share)/rust
+	install -m 644 bindings/rust/src/*.rs $(share)/rust/src
 
 $(program):
 	./x509check --build
@@ -41,7 +51,9 @@ $(library):
 uninstall:
 	rm -f $(bin)/x509check $(lib)/libx509check.a $(lib)/libx509check_memory.a $(include)/x509check.h
 	rm -f $(scripts:%=$(libexec)/%)
-	-rmdir $(libexec)
+	rm -f $(lib)/libx509check.so
+	rm -rf $(share)/python $(share)/rust
+	-rmdir $(libexec) $(share)
 
 check:
 	.ci/run
@@ -49,8 +61,10 @@ check:
 help:
 	@echo 'make                      proves and builds the program and the library for C'
 	@echo 'make program              the program alone; make library: the library for C alone'
+	@echo 'make bindings             the shared object for bindings/python'
 	@echo 'make install PREFIX=/usr/local DESTDIR='
 	@echo '                          bin/x509check, lib/libx509check.a, lib/libx509check_memory.a, include/x509check.h,'
-	@echo '                          libexec/x509check/verdicts, validate and to_der'
+	@echo '                          lib/libx509check.so, libexec/x509check/verdicts, validate and to_der,'
+	@echo '                          share/x509check/python and share/x509check/rust'
 	@echo 'make uninstall            removes what install put there'
 	@echo 'make check                the gate: pages, proofs, edits, tests; from nothing some 240 minutes of a processor'

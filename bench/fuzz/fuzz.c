@@ -4,8 +4,9 @@
  *
  * FILE has the texts that damaged ones are made of, each behind its length in 4 octets, the lowest first. Text N of a seed is the same in
  * each run, whatever COUNT and FIRST, the number of the first (0): so one text alone is tried again by `fuzz FILE SEED 1 N`. Of each text it
- * is asked whether it is DER and what certificate it is, twice: with a page behind it, and then before it, that may not be touched. The
- * status is 1 where a promise is broken; its line names the text, and its octets follow.
+ * is asked whether it is DER and what certificate it is, twice: with a page behind it, and then before it, that may not be touched; and
+ * what the verdict is on it as certificates, and as statements. The status is 1 where a promise is broken; its line names the text, and its
+ * octets follow.
  */
 #include <inttypes.h>
 #include <stdio.h>
@@ -33,6 +34,7 @@ struct run {
     struct guarded fingerprint; /* ends with the octets of a fingerprint */
     uint64_t checks[FAULTS];    /* how many texts have this fault */
     uint64_t reads[FAULTS];
+    uint64_t verdicts[X509CHECK_REFUSED + 1];
     uint64_t refused;   /* reads that were refused memory, */
     uint64_t told_so;   /* and how many of them said so */
     uint64_t requested; /* requests for memory, by reads that were not refused any */
@@ -136,6 +138,29 @@ static const char *broken_by_fingerprint(const uint8_t *at, const struct x509che
     return broken_of_fingerprint(at, fields, fingerprint);
 }
 
+/* The text as certificates, and as statements beside an anchor; memory is there. */
+static const char *broken_by_validating(const uint8_t *at, size_t length, const struct x509check_certificate *read)
+{
+    const struct text *anchor = &run.texts.items[0];
+    struct x509check_verdict answer;
+    const char *broken;
+
+    watch(0);
+    answer = x509check_validate(at, length, NULL, 0, NULL, 0, 0, NULL, 0);
+    if (memory.held != 0)
+        return "memory is given back before a call returns";
+    if (answer.verdict > X509CHECK_REFUSED)
+        return "a verdict is 0 to 4";
+    run.verdicts[answer.verdict]++;
+    if ((broken = broken_of_certificates(length, read, &answer)) != NULL)
+        return broken;
+    watch(0);
+    answer = x509check_validate(anchor->octets, anchor->length, at, length, NULL, 0, 0, NULL, 0);
+    if (memory.held != 0)
+        return "memory is given back before a call returns";
+    return broken_of_statements(length, &answer);
+}
+
 static const char *broken_by_reading(struct numbers *numbers, const struct text *text)
 {
     const uint8_t *at = at_the_end(&run.text, text->octets, text->length);
@@ -158,6 +183,8 @@ static const char *broken_by_reading(struct numbers *numbers, const struct text 
     if (!is_same_certificate(&answer, &again))
         return "reading answers the same wherever the text stands";
     run.reads[answer.fault]++;
+    if ((broken = broken_by_validating(at, text->length, &answer)) != NULL)
+        return broken;
     return requests == 0 ? NULL : broken_by_refusing(numbers, at, text->length, requests, &answer);
 }
 
@@ -185,10 +212,10 @@ static void try_text(struct text *text)
     exit(1);
 }
 
-static void print_faults(const char *title, const uint64_t *counts)
+static void print_faults(const char *title, const uint64_t *counts, int faults)
 {
     printf("  %-12s", title);
-    for (int fault = 0; fault < FAULTS; fault++)
+    for (int fault = 0; fault < faults; fault++)
         if (counts[fault] != 0)
             printf(" %d:%" PRIu64, fault, counts[fault]);
     putchar('\n');
@@ -222,8 +249,9 @@ int main(int argc, char **argv)
         try_text(&text);
     printf("%" PRIu64 " texts of seed %" PRIu64 " from %zu, in %ld s: no promise is broken\n", run.count, run.seed, run.texts.count,
            (long)(time(NULL) - begun));
-    print_faults("check", run.checks);
-    print_faults("certificate", run.reads);
+    print_faults("check", run.checks, FAULTS);
+    print_faults("certificate", run.reads, FAULTS);
+    print_faults("verdict", run.verdicts, X509CHECK_REFUSED + 1);
     printf("  %" PRIu64 " requests for memory; %" PRIu64 " reads were refused one, %" PRIu64 " of them said so\n", run.requested,
            run.refused, run.told_so);
     free(run.texts.items);

@@ -69,6 +69,53 @@ const char *broken_of_check(const uint8_t *octets, size_t length, const struct x
     return NULL;
 }
 
+/* What holds of any refusal in a text of so many octets. */
+static const char *broken_of_refused(size_t length, uint32_t text, uint32_t der, const struct x509check_verdict *answer)
+{
+    PROMISE(answer->reason == 0 && answer->certificate == 0, "a refusal has no reason and no certificate");
+    PROMISE(answer->text == text, "the text is the one that is refused");
+    PROMISE(answer->offset <= length, "the offset lies within the text");
+    PROMISE((answer->fault == der) == (answer->der_fault != 0), "the rule of DER is told where the fault is one of DER");
+    return NULL;
+}
+
+static bool is_empty_path(const struct x509check_verdict *answer)
+{
+    return answer->verdict == X509CHECK_INVALID && answer->certificate == 0 && answer->reason == 15 && answer->text == 0
+        && answer->fault == 0 && answer->der_fault == 0 && answer->offset == 0;
+}
+
+const char *broken_of_certificates(size_t length, const struct x509check_certificate *read, const struct x509check_verdict *answer)
+{
+    const char *broken;
+
+    if (read->fault == 0) {
+        PROMISE(is_empty_path(answer), "an anchor alone is an empty path");
+        return NULL;
+    }
+    if (answer->verdict != X509CHECK_REFUSED) {
+        PROMISE(read->fault == X509CHECK_FAULT_DER && read->der_fault == 7, "only certificates get a verdict");
+        PROMISE(answer->verdict == X509CHECK_INVALID, "no path is valid without a fingerprint");
+        return NULL;
+    }
+    if ((broken = broken_of_refused(length, X509CHECK_CERTIFICATES, X509CHECK_FAULT_DER, answer)) != NULL)
+        return broken;
+    if (read->fault == X509CHECK_FAULT_DER && read->der_fault == 7)
+        return NULL;
+    PROMISE(answer->fault == read->fault && answer->der_fault == read->der_fault && answer->offset == read->offset,
+            "the fault of one certificate is the one that reading it answers");
+    return NULL;
+}
+
+const char *broken_of_statements(size_t length, const struct x509check_verdict *answer)
+{
+    if (answer->verdict != X509CHECK_REFUSED) {
+        PROMISE(is_empty_path(answer), "an anchor alone is an empty path");
+        return NULL;
+    }
+    return broken_of_refused(length, X509CHECK_STATEMENTS, X509CHECK_FAULT_STATEMENT_DER, answer);
+}
+
 static bool is_fault(uint32_t fault)
 {
     return fault == 0 || (fault >= 11 && fault <= 17) || (fault >= 21 && fault <= 32);

@@ -16,6 +16,10 @@ const char *broken_of_check(const uint8_t *octets, size_t length, const struct x
 /* Of a certificate, where memory was there. */
 const char *broken_of_certificate(const uint8_t *octets, size_t length, const struct x509check_certificate *answer);
 
+/* Of the verdict on a text as certificates alone, and as statements beside an anchor; of the first, what reading the text answers is known. */
+const char *broken_of_certificates(size_t length, const struct x509check_certificate *read, const struct x509check_verdict *answer);
+const char *broken_of_statements(size_t length, const struct x509check_verdict *answer);
+
 /* Of the fingerprint of a certificate that was read. */
 const char *broken_of_fingerprint(const uint8_t *octets, const struct x509check_fields *fields,
                                   const uint8_t fingerprint[X509CHECK_FINGERPRINT_LENGTH]);

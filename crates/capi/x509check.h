@@ -1,11 +1,12 @@
-/* x509check: DER and certificates (X.690; RFC 5280, 4), read by code that is proved. docs/PROMISES.md says what the calls promise.
+/* x509check: DER, certificates (X.690; RFC 5280, 4) and verdicts on paths (RFC 5280, 6; RFC 6960, 3.2), by code that is proved.
+ * docs/PROMISES.md says what the calls promise.
  *
  * Texts are octets of the caller: a pointer and a length in octets. They are only read, only during the call, and nothing keeps
  * them. The pointer may be null where the length is 0. Results are numbers and parts of the caller's text: offsets and lengths in
  * octets, counted from its first octet. There is nothing to free. All calls may run on several threads at a time.
  *
- * Faults are numbers, 0 for none: 1 to 7 of DER, 11 to 17 of names, 21 to 33 of certificates (docs/REFERENCE.md). The fault is the
- * first in the text, and its offset that of the value at fault.
+ * Faults are numbers, 0 for none: 1 to 7 of DER, 11 to 17 of names, 21 to 33 of certificates, 41 to 59 of statements
+ * (docs/REFERENCE.md). The fault is the first in the text, and its offset that of the value at fault.
  *
  * Link with libcapi.a (crates/capi/out, made by `rt lib`) and with c/liblibc_c.a of the Rattle kit, through which memory is taken
  * from the program's malloc.
@@ -26,8 +27,25 @@ extern "C" {
 /* The fault of a call that was refused memory; its offset is 0. */
 #define X509CHECK_FAULT_MEMORY 33
 
+/* The fault of a list or a response that is not DER. */
+#define X509CHECK_FAULT_STATEMENT_DER 41
+/* The fault of fingerprints of which the last has fewer than 32 octets. */
+#define X509CHECK_FAULT_CUT_SHORT 4
+
 /* The octets of a fingerprint. */
 #define X509CHECK_FINGERPRINT_LENGTH 32
+
+/* What is said of a path. */
+#define X509CHECK_VALID 0
+#define X509CHECK_INVALID 1
+#define X509CHECK_REVOKED 2
+#define X509CHECK_UNKNOWN 3
+#define X509CHECK_REFUSED 4
+
+/* The texts of a question that can be refused. */
+#define X509CHECK_CERTIFICATES 1
+#define X509CHECK_STATEMENTS 2
+#define X509CHECK_FINGERPRINTS 3
 
 /* The bits of key_usage (RFC 5280, 4.2.1.3). */
 #define X509CHECK_DIGITAL_SIGNATURE (1u << 0)
@@ -93,6 +111,18 @@ struct x509check_certificate {
     struct x509check_fields fields; /* all 0 where there is a fault */
 };
 
+/* The verdict on a path, or why the question is refused. What has no number there is 0. */
+struct x509check_verdict {
+    uint32_t verdict;   /* X509CHECK_VALID to X509CHECK_REFUSED */
+    uint32_t reason;    /* invalid: the rank of the reason (docs/REFERENCE.md); revoked: the reason (RFC 5280, 5.3.1) */
+    size_t certificate; /* which certificate decides: 1 is the first behind the anchor; 0 stands for the path itself */
+    uint32_t text;      /* refused: X509CHECK_CERTIFICATES to X509CHECK_FINGERPRINTS; 0 where memory was refused */
+    uint32_t fault;     /* refused: of certificates 11 to 17, 21 to 32, of statements 11 to 14, 41 to 52, 55, 56, 59, of
+                           fingerprints X509CHECK_FAULT_CUT_SHORT, and X509CHECK_FAULT_MEMORY */
+    uint32_t der_fault; /* 1 to 7 where fault is X509CHECK_FAULT_DER or X509CHECK_FAULT_STATEMENT_DER, else 0 */
+    size_t offset;      /* refused: of the value at fault, in the whole text */
+};
+
 /* The layout that the calls answer with, on x86-64: what this header says of it is what the library was built with. */
 #ifdef __cplusplus
 #define X509CHECK_STANDS_AT(type, field, at) static_assert(offsetof(struct type, field) == (at), #field)
@@ -134,6 +164,13 @@ X509CHECK_STANDS_AT(x509check_certificate, der_fault, 4);
 X509CHECK_STANDS_AT(x509check_certificate, offset, 8);
 X509CHECK_STANDS_AT(x509check_certificate, fields, 16);
 X509CHECK_HAS_SIZE(x509check_certificate, 224);
+X509CHECK_STANDS_AT(x509check_verdict, reason, 4);
+X509CHECK_STANDS_AT(x509check_verdict, certificate, 8);
+X509CHECK_STANDS_AT(x509check_verdict, text, 16);
+X509CHECK_STANDS_AT(x509check_verdict, fault, 20);
+X509CHECK_STANDS_AT(x509check_verdict, der_fault, 24);
+X509CHECK_STANDS_AT(x509check_verdict, offset, 32);
+X509CHECK_HAS_SIZE(x509check_verdict, 40);
 #undef X509CHECK_STANDS_AT
 #undef X509CHECK_HAS_SIZE
 
@@ -151,6 +188,20 @@ struct x509check_certificate x509check_read_certificate(const uint8_t *octets, s
 void x509check_fingerprint(const uint8_t *algorithm, size_t algorithm_length, const uint8_t *key_info, size_t key_info_length,
                            const uint8_t *message, size_t message_length, const uint8_t *signature, size_t signature_length,
                            uint8_t fingerprint[X509CHECK_FINGERPRINT_LENGTH]);
+
+/* The verdict on a path at a moment, by statements at hand, without a store.
+ *
+ * `certificates` are DER values one behind the other: the anchor, of which the name and the key alone are used, and then the path.
+ * `statements` are lists (CRLs) and OCSP responses one behind the other, in any order. `fingerprints` are those of the signatures that
+ * the caller found good, 32 octets each, as x509check_fingerprint writes them: no other signature is accepted. `moment` is in seconds
+ * from 1970-01-01T00:00:00Z. `purpose` is the contents of an OBJECT IDENTIFIER; no purpose is asked for where its length is 0.
+ *
+ * A text that cannot be read is refused with its first fault, the certificates before the statements and these before the fingerprints,
+ * and there is no verdict then. A statement that no issuer of the path signed changes nothing. Memory is taken for lists during the
+ * call, and is given back before it returns; where it is refused, the fault is X509CHECK_FAULT_MEMORY. */
+struct x509check_verdict x509check_validate(const uint8_t *certificates, size_t certificates_length, const uint8_t *statements,
+                                            size_t statements_length, const uint8_t *fingerprints, size_t fingerprints_length,
+                                            int64_t moment, const uint8_t *purpose, size_t purpose_length);
 
 #ifdef __cplusplus
 }

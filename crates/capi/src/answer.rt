@@ -20,3 +20,21 @@ pub struct CertificateAnswer {
     pub offset: usize,
     pub fields: Fields,
 }
+
+/// What is said of a path, or why the question is refused. What has no number there is 0.
+#[derive(Clone, Copy, Debug, PartialEq, Eq, Default)]
+#[repr(C)]
+pub struct VerdictAnswer {
+    /// 0 valid, 1 invalid, 2 revoked, 3 unknown, 4 refused.
+    pub verdict: u32,
+    /// The rank of the reason of an invalid path, or the reason of a revocation (RFC 5280, 5.3.1).
+    pub reason: u32,
+    /// The number of the certificate that decides; the first behind the anchor has 1.
+    pub certificate: usize,
+    /// Which text is refused: 1 the certificates, 2 the statements, 3 the fingerprints.
+    pub text: u32,
+    pub fault: u32,
+    /// Where `fault` is that of DER, the number of the rule of DER that is broken; else 0.
+    pub der_fault: u32,
+    pub offset: usize,
+}

@@ -6,12 +6,16 @@ mod checking;
 mod fields;
 mod fingerprint_call;
 mod reading;
+mod validating;
 
-pub use answer::{Answer, CertificateAnswer};
+pub use answer::{Answer, CertificateAnswer, VerdictAnswer};
 pub use checking::x509check_check;
 pub use fields::{ExtensionFields, Fields, Part};
 pub use fingerprint_call::x509check_fingerprint;
 pub use reading::x509check_read_certificate;
+pub use validating::x509check_validate;
 
+#[cfg(test)]
+mod authority;
 #[cfg(test)]
 mod tests;

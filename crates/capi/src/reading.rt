@@ -10,7 +10,7 @@ use cert::{CertFault, CertRule, Certificate};
 use std::alloc::Global;
 
 /// The number of the rule of DER that is broken, or 0.
-fn der_fault(rule: CertRule) -> u32
+pub(crate) fn der_fault(rule: CertRule) -> u32
     ensures { result ≡ der_number rule }
 {
     match rule {

@@ -1,4 +1,6 @@
 use super::*;
+use crate::authority::{GOOD, LISTS, PATH, REVOKING};
+use std::alloc::Global;
 
 /// A certificate that OpenSSL made.
 const CERTIFICATE: &[u8] = b"\
@@ -103,14 +105,15 @@ fn reads_extensions(rt: HostRuntime) {
 /// As in the header; in structs of `repr(C)` the fields stand in the order of the source.
 #[test]
 fn structs_have_their_sizes(rt: HostRuntime) {
-    const SIZES: [usize; 5] = [
+    const SIZES: [usize; 6] = [
         size_of::<Part>(),
         size_of::<Answer>(),
         size_of::<ExtensionFields>(),
         size_of::<Fields>(),
         size_of::<CertificateAnswer>(),
+        size_of::<VerdictAnswer>(),
     ];
-    assert!(rt; SIZES == [16, 16, 56, 208, 224]);
+    assert!(rt; SIZES == [16, 16, 56, 208, 224, 40]);
 }
 
 #[test]
@@ -124,4 +127,71 @@ fn prints(rt: HostRuntime) {
 fn wants_memory_or_answers(rt: HostRuntime) {
     let fault = x509check_read_certificate(rt.alloc(), CERTIFICATE).fault;
     assert!(rt; fault == 0 || fault == 33);
+}
+
+/// 2026-12-01T00:00:00Z
+const DECEMBER: i64 = 1_796_083_200;
+
+/// The answer to a question about the path without a purpose.
+fn asked(alloc: Global, statements: &[u8], fingerprints: &[u8], moment: i64) -> VerdictAnswer {
+    x509check_validate(alloc, PATH, statements, fingerprints, moment, b"")
+}
+
+fn verdict(verdict: u32, certificate: usize, reason: u32) -> VerdictAnswer {
+    VerdictAnswer {
+        verdict,
+        certificate,
+        reason,
+        ..VerdictAnswer::default()
+    }
+}
+
+fn refused(text: u32, fault: u32, der_fault: u32, offset: usize) -> VerdictAnswer {
+    VerdictAnswer {
+        verdict: 4,
+        text,
+        fault,
+        der_fault,
+        offset,
+        ..VerdictAnswer::default()
+    }
+}
+
+#[test]
+fn validates(rt: HostRuntime) {
+    let alloc = rt.alloc();
+    assert!(rt; asked(alloc, LISTS, GOOD, DECEMBER) == verdict(0, 0, 0));
+    assert!(rt; asked(alloc, LISTS, GOOD, 0) == verdict(1, 1, 3));
+    assert!(rt; asked(alloc, LISTS, b"", DECEMBER) == verdict(1, 1, 2));
+    assert!(rt; asked(alloc, REVOKING, GOOD, DECEMBER) == verdict(2, 2, 1));
+    assert!(rt; asked(alloc, b"", GOOD, DECEMBER) == verdict(3, 1, 0));
+}
+
+/// A purpose that the leaf's extKeyUsage does not have (id-kp-clientAuth).
+#[test]
+fn validates_for_a_purpose(rt: HostRuntime) {
+    let purpose = b"\x2B\x06\x01\x05\x05\x07\x03\x02";
+    let answer = x509check_validate(rt.alloc(), PATH, LISTS, GOOD, DECEMBER, purpose);
+    assert!(rt; answer == verdict(1, 2, 14));
+}
+
+/// The places count from the first octet of the row.
+#[test]
+fn refuses_questions(rt: HostRuntime) {
+    let alloc = rt.alloc();
+    let short = x509check_validate(alloc, b"", LISTS, GOOD, DECEMBER, b"");
+    assert!(rt; short == refused(1, 21, 4, 0));
+    let other = x509check_validate(alloc, LISTS, LISTS, GOOD, DECEMBER, b"");
+    // The UTCTime of thisUpdate stands where a certificate has its validity.
+    assert!(rt; other == refused(1, 22, 0, 55));
+    // The [0] of the version stands where a list has its version.
+    assert!(rt; asked(alloc, PATH, GOOD, DECEMBER) == refused(2, 43, 0, 8));
+    assert!(rt; asked(alloc, &LISTS[..376 - 1], GOOD, DECEMBER) == refused(2, 41, 4, 187));
+    assert!(rt; asked(alloc, LISTS, &GOOD[..159], DECEMBER) == refused(3, 4, 0, 128));
+}
+
+#[test]
+fn validation_wants_memory_or_answers(rt: HostRuntime) {
+    let answer = asked(rt.alloc(), LISTS, GOOD, DECEMBER);
+    assert!(rt; answer == verdict(0, 0, 0) || answer == refused(0, 33, 0, 0));
 }

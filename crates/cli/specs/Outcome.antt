@@ -1,5 +1,5 @@
 -- What a run has done, by the status that it answers.
-use Rattle.std.specs.Prelude.{◌≡◌, ◌≢◌, ◌⊎◌, ℕ, List, Option}
+use Rattle.std.specs.Prelude.{◌≡◌, ◌≢◌, ◌⊎◌, ℕ, List, Option, IsTrue, false, map}
 use Rattle.std.specs.Io.KnownBytes.{Appends}
 use Rattle.clap.specs.Words.{Text}
 use Rattle.clap.specs.declared.error.kind.ErrorKind.{ErrorKind}
@@ -9,10 +9,11 @@ use Rattle.relying_agreement.specs.declared.verdict.Verdict.{Verdict}
 use Rattle.cli_answers.specs.AnswerText.{comparison_line, verdict_line}
 use Rattle.cli_words.specs.CommandLine.{AreRefusedWith, Reads}
 use Rattle.cli_words.specs.declared.line.Line.{Line}
-use Rattle.cli_words.specs.declared.line.Line.TheVariants.{Tree, Show, Prints, Deliver, Check, Compare}
+use Rattle.cli_words.specs.declared.line.Line.TheVariants.{Tree, Show, Prints, Deliver, Check, Compare, Explain}
+use Rattle.cli_explaining.specs.Topics.{explanation, is_known}
 use Rattle.cli_failures.specs.Failures.{Holding, IsNoValue, OrUnwritable}
 use Rattle.cli_failures.specs.declared.failure.Failure.{Failure}
-use Rattle.cli_failures.specs.declared.failure.Failure.TheVariants.{NoMemory, Unwritable}
+use Rattle.cli_failures.specs.declared.failure.Failure.TheVariants.{BadTopic, NoMemory, Unwritable}
 use Rattle.cli.specs.Delivered.{IsDeliveredText, IsFailureOfDelivery, WasDelivered}
 use Rattle.cli.specs.Checked.{IsCompared, IsFailureOfCheck, IsFailureOfComparison, IsChecked, WasChecked, WereCompared}
 use Rattle.cli.specs.Standing.{Leaving, Standing}
@@ -32,6 +33,15 @@ IsComparisonText Is status text =
     (comparison : Comparison) × Is comparison × (status ≡ comparison_status comparison)
     × (text ≡ comparison_line comparison)
 
+-- what the program's table of entries says of the topic, which it knows
+abbrev pub IsExplanation : List (List ℕ) → List ℕ → Type 0
+IsExplanation words text =
+    (entries : List ℕ) × IsTrue (is_known entries words) × (text ≡ explanation entries words)
+
+-- the table has nothing on the topic
+abbrev pub IsNoTopic : List (List ℕ) → Failure → Type 0
+IsNoTopic words failure = (failure ≡ BadTopic) × ((entries : List ℕ) × (is_known entries words ≡ false))
+
 -- The text that the line asks for, and the status that comes with it. Files hold so, and stores stand and are left so.
 abbrev pub IsAnswer : Holding → Standing → Leaving → Line → ℕ → List ℕ → Type 0
 IsAnswer holds stands leaves (Tree file) status text =
@@ -48,6 +58,8 @@ IsAnswer holds stands leaves (Check question) status text =
     IsVerdictText (IsChecked holds stands leaves question) status text
 IsAnswer holds stands leaves (Compare question other) status text =
     IsComparisonText (IsCompared holds stands leaves question other.now) status text
+IsAnswer holds stands leaves (Explain words) status text =
+    (status ≡ 0) × IsExplanation (map (λ w. w.now) words.items) text
 
 -- that text was written, and nothing else
 abbrev pub IsDone : Holding → Standing → Leaving → Line → Option (List ℕ) → Option (List ℕ) → ℕ → Type 0
@@ -75,6 +87,9 @@ IsFailureOf holds stands leaves (Check question) =
 IsFailureOf holds stands leaves (Compare question other) =
     OrUnwritable (IsFailureOfComparison holds stands leaves question other.now)
     (WereCompared holds stands leaves question other.now)
+IsFailureOf holds stands leaves (Explain words) =
+    OrUnwritable (IsNoTopic (map (λ w. w.now) words.items))
+    ((text : List ℕ) × IsExplanation (map (λ w. w.now) words.items) text)
 
 -- ---- words
 

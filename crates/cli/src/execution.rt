@@ -6,7 +6,9 @@ ghost use Rattle.cli_failures.specs.Report.{UnlessLate, report_line, status_of};
 ghost use Rattle.cli.specs.Ended.{HasEnded, HasEndedSo, IsAnswering, IsFailing, IsUnexplained};
 ghost use Rattle.cli.specs.Outcome.{HasAnswered, IsDone, IsFailureOf, IsHelp};
 
-use crate::{Delivery, Stores, check, compare, comparison_status, deliver, verdict_status};
+use crate::{
+    Delivery, Stores, check, compare, comparison_status, deliver, explain, verdict_status,
+};
 use clap::error::ErrorKind;
 use cli_failures::{Failure, Source};
 use cli_showing::{prints, show, tree};
@@ -71,7 +73,7 @@ pub fn executed<S: Source + Stores, O: Write, E: Write>(
 {
     match command_of(alloc, words) {
         Ok(line) => finish(run(source, alloc, &line, out), err),
-        Err(error) => explain(&error, out, err),
+        Err(error) => answer_of_clap(&error, out, err),
     }
 }
 
@@ -151,12 +153,13 @@ fn answer<'a, S: Source + Stores, O: Write>(
         Line::Compare { question, other } => {
             return Ok(comparison_status(compare(source, alloc, question, other, out)?));
         }
+        Line::Explain { words } => explain(words.as_slice(), out)?,
     }
     Ok(DONE)
 }
 
 // What clap answers in place of a line: help goes to standard output, what is wrong with the words to standard error.
-fn explain<O: Write, E: Write>(error: &clap::Error, out: &mut O, err: &mut E) -> Ended
+fn answer_of_clap<O: Write, E: Write>(error: &clap::Error, out: &mut O, err: &mut E) -> Ended
     ensures help { (result.status ≡ 0) → IsHelp (kind_of error.now) × (err.new ≡ err.old) }
     ensures status { (result.status ≡ 0) ⊎ IsFailing result.status }
     ensures failed { IsFailing result.status → IsUnexplained (kind_of error.now) (out.new ≡ out.old)

@@ -12,7 +12,7 @@ use Rattle.statements_parts.specs.declared.fault.StatementRule.TheVariants.{Der 
 use Rattle.statements_parts.specs.declared.fault.StatementFault.{StatementFault}
 use Rattle.statements_parts.specs.declared.fault.StatementFault.TheVariants.{Refused as Breaks}
 use Rattle.cli_failures.specs.declared.failure.Failure.{Failure}
-use Rattle.cli_failures.specs.declared.failure.Failure.TheVariants.{Refused, NoCertificate, NoRevocationList, NoResponse, NotGenuine, BadLine, BadTime, BadPurpose, Unreadable, Unwritable, StoreFailed, NoMemory}
+use Rattle.cli_failures.specs.declared.failure.Failure.TheVariants.{Refused, NoCertificate, NoRevocationList, NoResponse, NotGenuine, BadLine, BadTime, BadPurpose, BadTopic, Unreadable, Unwritable, StoreFailed, NoMemory}
 
 -- ` at PLACE`, where there is one
 abbrev pub place_text : Option ℕ → List ℕ
@@ -87,6 +87,7 @@ report_line (NotGenuine file fault) = statement_line file.now fault
 report_line (BadLine file line) = bad_line file.now line
 report_line BadTime = codes "x509check: bad time\n"
 report_line BadPurpose = codes "x509check: bad purpose\n"
+report_line BadTopic = codes "x509check: bad topic\n"
 report_line (Unreadable file) = unreadable_line file.now
 report_line Unwritable = codes "x509check: cannot write\n"
 report_line (StoreFailed number) = store_fault_line number
@@ -102,6 +103,7 @@ status_of (NotGenuine file fault) = 4
 status_of (BadLine file line) = 4
 status_of BadTime = 5
 status_of BadPurpose = 5
+status_of BadTopic = 5
 status_of (Unreadable file) = 6
 status_of Unwritable = 6
 status_of (StoreFailed number) = 6

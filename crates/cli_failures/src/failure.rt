@@ -49,6 +49,8 @@ pub enum Failure<'a> {
     BadTime,
     /// The purpose is no OBJECT IDENTIFIER in dotted decimal.
     BadPurpose,
+    /// There is no fault, reason or status of these words to explain.
+    BadTopic,
     /// The file cannot be read.
     Unreadable {
         file: &'a str,
@@ -225,7 +227,7 @@ impl<'a> Failure<'a> {
             | Failure::NoResponse { .. }
             | Failure::NotGenuine { .. }
             | Failure::BadLine { .. } => 4,
-            Failure::BadTime | Failure::BadPurpose => 5,
+            Failure::BadTime | Failure::BadPurpose | Failure::BadTopic => 5,
             Failure::Unreadable { .. }
             | Failure::Unwritable
             | Failure::StoreFailed { .. }
@@ -261,6 +263,7 @@ impl<'a> Failure<'a> {
             Failure::BadLine { file, line } => write_bad_line(file, *line, writer),
             Failure::BadTime => write_text("x509check: bad time\n", writer),
             Failure::BadPurpose => write_text("x509check: bad purpose\n", writer),
+            Failure::BadTopic => write_text("x509check: bad topic\n", writer),
             Failure::Unreadable { file } => write_unreadable(file, writer),
             Failure::Unwritable => write_text("x509check: cannot write\n", writer),
             Failure::StoreFailed { number } => write_store_failed(*number, writer),

@@ -5,6 +5,7 @@ pub mod PrintsWords
 pub mod DeliverWords
 pub mod CheckWords
 pub mod CompareWords
+pub mod ExplainWords
 pub mod Values
 pub mod Outcomes
 pub mod Building

@@ -5,10 +5,10 @@ use Rattle.cli_words.specs.App.{program}
 use Rattle.clap.specs.Kinds.{Kinds, HasKind, IsAmong}
 use Rattle.clap.specs.declared.error.Error.{Error}
 use Rattle.clap.specs.declared.error.kind.ErrorKind.TheVariants.{OutOfMemory}
-use Rattle.cli_words.specs.CommandLine.{Ask, AreRefusedWith, HasNoLine, HasOtherKind, IsCheck, IsCompare, IsDeliver, IsQuestion, IsLine, IsLineOf, IsPlainWord, IsPrints, IsShow, IsTree, LacksOneOf, Reads, TakesKind, kind_in, kind_named, of_check, of_compare, of_deliver, of_file, of_prints}
+use Rattle.cli_words.specs.CommandLine.{Ask, AreRefusedWith, HasNoLine, HasOtherKind, IsCheck, IsCompare, IsDeliver, IsExplain, IsQuestion, IsLine, IsLineOf, IsPlainWord, IsPrints, IsShow, IsTree, LacksOneOf, Reads, TakesKind, kind_in, kind_named, of_check, of_compare, of_deliver, of_file, of_prints, words_in}
 use Rattle.cli_words.specs.declared.line.Kind.TheVariants.{Certificate}
 use Rattle.cli_words.specs.declared.line.Line.{Line}
-use Rattle.cli_words.specs.declared.line.Line.TheVariants.{Tree, Show, Prints, Deliver, Check, Compare}
+use Rattle.cli_words.specs.declared.line.Line.TheVariants.{Tree, Show, Prints, Deliver, Check, Compare, Explain}
 use Rattle.cli_words.proofs.Turns.{Finds}
 use Rattle.cli_words.proofs.TreeWords.{entered as entered_tree, no_fault as no_fault_of_tree}
 use Rattle.cli_words.proofs.ShowWords.{entered as entered_show, no_fault as no_fault_of_show}
@@ -16,6 +16,7 @@ use Rattle.cli_words.proofs.PrintsWords.{entered as entered_prints, no_fault as 
 use Rattle.cli_words.proofs.DeliverWords.{deliver_words, entered as entered_deliver, no_fault as no_fault_of_deliver}
 use Rattle.cli_words.proofs.CheckWords.{check_words, entered as entered_check, no_fault as no_fault_of_check}
 use Rattle.cli_words.proofs.CompareWords.{compare_words, entered as entered_compare, no_fault as no_fault_of_compare}
+use Rattle.cli_words.proofs.ExplainWords.{entered as entered_explain, no_fault as no_fault_of_explain, rows as rows_of_explain, topic_found}
 use Rattle.cli_words.specs.declared.question.Question.{Question}
 use Rattle.clap.specs.Lexer.{usize_max}
 use Rattle.std.specs.List.{All}
@@ -111,6 +112,9 @@ tree_means entered rows file found (Tree given) is line =
 tree_means entered rows file found (Show kind given) is line =
     let letter : 116 ≡ 115 = ap (λ (text : Text). slice_index text 0) (line_in entered (codes "tree") rows (Show kind given) is line).0 in
     absurd (omega (arith, letter))
+tree_means entered rows file found (Explain words) is line =
+    let letter : 116 ≡ 101 = ap (λ (text : Text). slice_index text 0) (line_in entered (codes "tree") rows (Explain words) is line).0 in
+    absurd (omega (arith, letter))
 tree_means entered rows file found (Prints signer kind given) is line =
     let letter : 116 ≡ 112 = ap (λ (text : Text). slice_index text 0) (line_in entered (codes "tree") rows (Prints signer kind given) is line).0 in
     absurd (omega (arith, letter))
@@ -141,6 +145,9 @@ show_means entered rows file none found (Show kind given) is line =
     (cc, same_text (first_of (codes "file") rows) file given.now found says.2)
 show_means entered rows file none found (Tree given) is line =
     let letter : 115 ≡ 116 = ap (λ (text : Text). slice_index text 0) (line_in entered (codes "show") rows (Tree given) is line).0 in
+    absurd (omega (arith, letter))
+show_means entered rows file none found (Explain words) is line =
+    let letter : 115 ≡ 101 = ap (λ (text : Text). slice_index text 0) (line_in entered (codes "show") rows (Explain words) is line).0 in
     absurd (omega (arith, letter))
 show_means entered rows file none found (Prints signer kind given) is line =
     let letter : 115 ≡ 112 = ap (λ (text : Text). slice_index text 0) (line_in entered (codes "show") rows (Prints signer kind given) is line).0 in
@@ -173,6 +180,9 @@ prints_means entered rows issuer file finds (Prints signer kind given) is line =
     (same_text (first_of (codes "issuer") rows) issuer signer.now finds.1.0 says.1, cc, same_text (first_of (codes "file") rows) file given.now finds.1.1.0 says.3)
 prints_means entered rows issuer file finds (Tree given) is line =
     let letter : 112 ≡ 116 = ap (λ (text : Text). slice_index text 0) (line_in entered (codes "prints") rows (Tree given) is line).0 in
+    absurd (omega (arith, letter))
+prints_means entered rows issuer file finds (Explain words) is line =
+    let letter : 112 ≡ 101 = ap (λ (text : Text). slice_index text 0) (line_in entered (codes "prints") rows (Explain words) is line).0 in
     absurd (omega (arith, letter))
 prints_means entered rows issuer file finds (Show kind given) is line =
     let letter : 112 ≡ 115 = ap (λ (text : Text). slice_index text 0) (line_in entered (codes "prints") rows (Show kind given) is line).0 in
@@ -209,6 +219,9 @@ deliver_means entered rows store verdicts issuer file finds (Deliver path prints
     )
 deliver_means entered rows store verdicts issuer file finds (Tree given) is line =
     let letter : 100 ≡ 116 = ap (λ (text : Text). slice_index text 0) (line_in entered (codes "deliver") rows (Tree given) is line).0 in
+    absurd (omega (arith, letter))
+deliver_means entered rows store verdicts issuer file finds (Explain words) is line =
+    let letter : 100 ≡ 101 = ap (λ (text : Text). slice_index text 0) (line_in entered (codes "deliver") rows (Explain words) is line).0 in
     absurd (omega (arith, letter))
 deliver_means entered rows store verdicts issuer file finds (Show kind given) is line =
     let letter : 100 ≡ 115 = ap (λ (text : Text). slice_index text 0) (line_in entered (codes "deliver") rows (Show kind given) is line).0 in
@@ -276,6 +289,9 @@ check_means entered rows store verdicts moment anchor files found (Check asked) 
 check_means entered rows store verdicts moment anchor files found (Tree given) is line =
     let letter : 99 ≡ 116 = ap (λ (text : Text). slice_index text 0) (line_in entered (codes "check") rows (Tree given) is line).0 in
     absurd (omega (arith, letter))
+check_means entered rows store verdicts moment anchor files found (Explain words) is line =
+    let letter : 99 ≡ 101 = ap (λ (text : Text). slice_index text 0) (line_in entered (codes "check") rows (Explain words) is line).0 in
+    absurd (omega (arith, letter))
 check_means entered rows store verdicts moment anchor files found (Show kind given) is line =
     let letter : 99 ≡ 115 = ap (λ (text : Text). slice_index text 0) (line_in entered (codes "check") rows (Show kind given) is line).0 in
     absurd (omega (arith, letter))
@@ -316,6 +332,9 @@ compare_means entered rows store verdicts moment anchor other files found there 
 compare_means entered rows store verdicts moment anchor other files found there (Tree given) is line =
     let letter : 99 ≡ 116 = ap (λ (text : Text). slice_index text 0) (line_in entered (codes "compare") rows (Tree given) is line).0 in
     absurd (omega (arith, letter))
+compare_means entered rows store verdicts moment anchor other files found there (Explain words) is line =
+    let letter : 99 ≡ 101 = ap (λ (text : Text). slice_index text 0) (line_in entered (codes "compare") rows (Explain words) is line).0 in
+    absurd (omega (arith, letter))
 compare_means entered rows store verdicts moment anchor other files found there (Show kind given) is line =
     let letter : 99 ≡ 115 = ap (λ (text : Text). slice_index text 0) (line_in entered (codes "compare") rows (Show kind given) is line).0 in
     absurd (omega (arith, letter))
@@ -345,3 +364,42 @@ compare_known name store verdicts moment anchor other file more r s v t a o f fe
     (λ line. compare_means _ enters.rows store verdicts moment anchor other (file ∷ more)
     (λ question. asks enters.rows store verdicts moment anchor (file ∷ more) question finds.0 finds.1.0 finds.1.1.0 finds.1.1.1.0 finds.1.1.1.1.0 enters.files) finds.1.1.1.1.1.0 line enters.is)
     is.reads is.refuses
+
+-- `explain`
+explain_takes_no_kind : TakesKind (codes "explain") → ⊥
+explain_takes_no_kind takes =
+    elim takes [
+      | inl show ↦ let letter : 101 ≡ 115 = ap (λ (text : Text). slice_index text 0) show in absurd (omega (arith, letter))
+      | inr prints ↦ let letter : 101 ≡ 112 = ap (λ (text : Text). slice_index text 0) prints in absurd (omega (arith, letter))
+    ]
+
+explain_means : (entered : Option (Text × List Row)) (rows : List Row) (word : Text) → all_of (codes "topic") rows ≡ Some (word ∷ [])
+    → (line : Line) → entered ≡ Some (codes "explain", rows) → IsLineOf entered line → IsExplain word line
+explain_means entered rows word found (Explain words) is line =
+    (line_in entered (codes "explain") rows (Explain words) is line).1 ∙ ap words_in found
+explain_means entered rows word found (Tree given) is line =
+    let letter : 101 ≡ 116 = ap (λ (text : Text). slice_index text 0) (line_in entered (codes "explain") rows (Tree given) is line).0 in
+    absurd (omega (arith, letter))
+explain_means entered rows word found (Show kind given) is line =
+    let letter : 101 ≡ 115 = ap (λ (text : Text). slice_index text 0) (line_in entered (codes "explain") rows (Show kind given) is line).0 in
+    absurd (omega (arith, letter))
+explain_means entered rows word found (Prints signer kind given) is line =
+    let letter : 101 ≡ 112 = ap (λ (text : Text). slice_index text 0) (line_in entered (codes "explain") rows (Prints signer kind given) is line).0 in
+    absurd (omega (arith, letter))
+explain_means entered rows word found (Deliver path prints signer given) is line =
+    let letter : 101 ≡ 100 = ap (λ (text : Text). slice_index text 0) (line_in entered (codes "explain") rows (Deliver path prints signer given) is line).0 in
+    absurd (omega (arith, letter))
+explain_means entered rows word found (Check asked) is line =
+    let letter : 101 ≡ 99 = ap (λ (text : Text). slice_index text 0) (line_in entered (codes "explain") rows (Check asked) is line).0 in
+    absurd (omega (arith, letter))
+explain_means entered rows word found (Compare asked beside) is line =
+    let letter : 101 ≡ 99 = ap (λ (text : Text). slice_index text 0) (line_in entered (codes "explain") rows (Compare asked beside) is line).0 in
+    absurd (omega (arith, letter))
+
+pub explain_known : (name word : Text) (r : Result Line Error) → IsPlainWord word → IsReadAs (name ∷ codes "explain" ∷ word ∷ []) r → MatchResult r (IsExplain word) (λ e. kind_of e ≡ OutOfMemory)
+explain_known name word r plain is =
+    let enters = entered_explain name word in
+    known (IsExplain word) (name ∷ codes "explain" ∷ word ∷ []) r (no_fault_of_explain name word plain)
+    (λ none. none.explain (rows_of_explain word) enters)
+    (no_kind _ (codes "explain") (rows_of_explain word) enters explain_takes_no_kind)
+    (λ line. explain_means _ (rows_of_explain word) word (topic_found word plain) line enters) is.reads is.refuses

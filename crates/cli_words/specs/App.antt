@@ -107,6 +107,17 @@ other = record (new_rule (codes "other")) {
 abbrev pub compare : App
 compare = with_rule (asking (new_app (codes "compare"))) other
 
+-- `WORD...`, which may be left out
+abbrev pub topic : Rule
+topic = record (new_rule (codes "topic")) {
+  range = Some (record { start_inclusive = 1; end_inclusive = usize_max });
+  value_names = 1;
+}
+
+-- `explain WORD...`
+abbrev pub explain : App
+explain = with_rule (new_app (codes "explain")) topic
+
 -- a command that wants one of its subcommands
 abbrev pub wanting_subcommand : App → App
 wanting_subcommand a = record a { top = record a.top { subcommand_required = true } }
@@ -121,6 +132,10 @@ looking =
 abbrev pub delivering : App
 delivering = with_subcommand (with_subcommand looking prints.top) deliver.top
 
+-- and with those that ask for verdicts
+abbrev pub validating : App
+validating = with_subcommand (with_subcommand delivering check.top) compare.top
+
 -- the program
 abbrev pub program : App
-program = with_subcommand (with_subcommand delivering check.top) compare.top
+program = with_subcommand validating explain.top

@@ -7,7 +7,7 @@ use Rattle.clap.specs.declared.error.kind.ErrorKind.{ErrorKind}
 use Rattle.clap.specs.declared.error.kind.ErrorKind.TheVariants.{InvalidValue, MissingRequiredArgument}
 use Rattle.cli_words.specs.App.{program}
 use Rattle.cli_words.specs.declared.line.Line.{Line}
-use Rattle.cli_words.specs.declared.line.Line.TheVariants.{Tree, Show, Prints, Deliver, Check, Compare}
+use Rattle.cli_words.specs.declared.line.Line.TheVariants.{Tree, Show, Prints, Deliver, Check, Compare, Explain}
 use Rattle.cli_words.specs.declared.question.Question.{Question}
 use Rattle.cli_words.specs.declared.line.Kind.{Kind}
 use Rattle.cli_words.specs.declared.line.Kind.TheVariants.{Certificate, RevocationList, Response}
@@ -39,6 +39,11 @@ pub record Ask (rows : List Row) (question : Question) : Type 0 where
   pub purpose : first_of (codes "purpose") rows ≡ option_map (λ s. s.now) question.purpose
   pub files : all_of (codes "file") rows ≡ Some (map (λ s. s.now) question.files.items)
 
+-- the words of an argument that may be left out
+abbrev pub words_in : Option (List Text) → List Text
+words_in (Some words) = words
+words_in None = []
+
 -- the line of a subcommand with these rows
 abbrev pub IsLine : Text × List Row → Line → Type 0
 IsLine (name, rows) (Tree file) = (name ≡ codes "tree") × Gives rows (codes "file") file
@@ -54,6 +59,9 @@ IsLine (name, rows) (Deliver store verdicts issuer file) =
 IsLine (name, rows) (Check question) = (name ≡ codes "check") × Ask rows question
 IsLine (name, rows) (Compare question other) =
     (name ≡ codes "compare") × Ask rows question × Gives rows (codes "other") other
+IsLine (name, rows) (Explain words) =
+    (name ≡ codes "explain")
+    × (map (λ s. s.now) words.items ≡ words_in (all_of (codes "topic") rows))
 
 -- the line of the subcommand that was entered
 abbrev pub IsLineOf : Option (Text × List Row) → Line → Type 0
@@ -93,6 +101,7 @@ pub record HasNoLine (entered : Option (Text × List Row)) : Type 0 where
   pub deliver : EnteredWithout entered (codes "deliver") of_deliver
   pub check : EnteredWithout entered (codes "check") of_check
   pub compare : EnteredWithout entered (codes "compare") of_compare
+  pub explain : EnteredWithout entered (codes "explain") []
 
 -- the subcommands that take the name of a kind
 abbrev pub TakesKind : Text → Type 0
@@ -179,3 +188,8 @@ abbrev pub IsCompare : Text → Text → Text → Text → Text → List Text �
 IsCompare store verdicts moment anchor beside files (Compare question other) =
     IsQuestion store verdicts moment anchor files question × (other.now ≡ beside)
 IsCompare store verdicts moment anchor beside files _ = ⊥
+
+-- `explain WORD`
+abbrev pub IsExplain : Text → Line → Type 0
+IsExplain word (Explain words) = map (λ s. s.now) words.items ≡ word ∷ []
+IsExplain word _ = ⊥

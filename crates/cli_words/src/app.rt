@@ -1,11 +1,19 @@
 //! The program and its subcommands, as clap is told of them. Each subcommand is built in a function of its own.
 ghost use Rattle.std.specs.Prelude.{◌≡◌, IfOk, false};
-ghost use Rattle.clap.specs.Words.{app_of, rule_of};
+ghost use Rattle.clap.specs.Words.{app_of, new_app, rule_of};
 ghost use Rattle.clap.specs.declared.builder.command.Command.TheViews.{out-Command as fields_of};
-ghost use Rattle.cli_words.specs.App.{anchor as anchor_rule, anchored as anchored_app, asking as asking_app, certificates as certificates_rule, file as file_rule, issuer as issuer_rule, kind as kind_rule, moment as moment_rule, other as other_rule, purpose as purpose_rule, store as store_rule, storing as storing_app, verdicts as verdicts_rule, check as check_app, compare as compare_app, deliver as deliver_app, delivering as delivering_app, looking as looking_app, program as program_app, prints as prints_app, show as show_app, tree as tree_app};
+ghost use Rattle.cli_words.specs.App.{anchor as anchor_rule, anchored as anchored_app, asking as asking_app, certificates as certificates_rule, file as file_rule, issuer as issuer_rule, kind as kind_rule, moment as moment_rule, other as other_rule, purpose as purpose_rule, store as store_rule, storing as storing_app, verdicts as verdicts_rule, check as check_app, compare as compare_app, deliver as deliver_app, delivering as delivering_app, looking as looking_app, program as program_app, prints as prints_app, show as show_app, tree as tree_app, topic as topic_rule, explain as explain_app, validating as validating_app};
 
 use clap::{Arg, Command};
 use std::alloc::{AllocError, Global};
+
+// A subcommand with this name, with what it does and an example of a call in its help.
+fn described<'a>(alloc: Global, name: &'a str, about: &'a str, example: &'a str) -> Command<'a>
+    ensures app { app_of result ≡ new_app name.entry.now }
+    ensures local { (fields_of result).has_globals ≡ false }
+{
+    Command::new(alloc, name).about(about).after_help(example)
+}
 
 // FILE: it has to be there.
 fn file<'a>(alloc: Global) -> Arg<'a>
@@ -22,9 +30,13 @@ fn tree<'a>(alloc: Global) -> Result<Command<'a>, AllocError>
     ensures app { IfOk result (λ c. app_of c ≡ tree_app) }
     ensures local { IfOk result (λ c. (fields_of c).has_globals ≡ false) }
 {
-    Command::new(alloc, "tree")
-        .about("Prints a DER value, a line for each value in it")
-        .arg(file(alloc))
+    described(
+        alloc,
+        "tree",
+        "Prints a DER value, a line for each value in it",
+        "Example: x509check tree root.der",
+    )
+    .arg(file(alloc))
 }
 
 // --as KIND: it may be left out.
@@ -41,10 +53,14 @@ fn show<'a>(alloc: Global) -> Result<Command<'a>, AllocError>
     ensures app { IfOk result (λ c. app_of c ≡ show_app) }
     ensures local { IfOk result (λ c. (fields_of c).has_globals ≡ false) }
 {
-    Command::new(alloc, "show")
-        .about("Prints what a certificate, a revocation list or an OCSP response says")
-        .arg(kind(alloc))?
-        .arg(file(alloc))
+    described(
+        alloc,
+        "show",
+        "Prints what a certificate, a revocation list or an OCSP response says",
+        "Example: x509check show --as crl root.crl",
+    )
+    .arg(kind(alloc))?
+    .arg(file(alloc))
 }
 
 // --issuer ISSUER: it has to be there.
@@ -63,13 +79,15 @@ fn prints<'a>(alloc: Global) -> Result<Command<'a>, AllocError>
     ensures app { IfOk result (λ c. app_of c ≡ prints_app) }
     ensures local { IfOk result (λ c. (fields_of c).has_globals ≡ false) }
 {
-    Command::new(alloc, "prints")
-        .about(
-            "Prints the fingerprints of what a verifier is asked about a certificate, a revocation list or an OCSP response",
-        )
-        .arg(issuer(alloc))?
-        .arg(kind(alloc))?
-        .arg(file(alloc))
+    described(
+        alloc,
+        "prints",
+        "Prints the fingerprints of what a verifier is asked about a certificate, a revocation list or an OCSP response",
+        "Example: x509check prints --issuer root.der middle.der",
+    )
+    .arg(issuer(alloc))?
+    .arg(kind(alloc))?
+    .arg(file(alloc))
 }
 
 // --store STORE: it has to be there.
@@ -109,8 +127,11 @@ fn deliver<'a>(alloc: Global) -> Result<Command<'a>, AllocError>
     ensures app { IfOk result (λ c. app_of c ≡ deliver_app) }
     ensures local { IfOk result (λ c. (fields_of c).has_globals ≡ false) }
 {
-    let command = Command::new(alloc, "deliver").about(
+    let command = described(
+        alloc,
+        "deliver",
         "Puts a revocation list or an OCSP response into a store, which is made where there is none",
+        "Example: x509check deliver --store store --verdicts good --issuer root.der root.crl",
     );
     storing(alloc, command)?
         .arg(issuer(alloc))?
@@ -192,8 +213,11 @@ fn check<'a>(alloc: Global) -> Result<Command<'a>, AllocError>
     ensures app { IfOk result (λ c. app_of c ≡ check_app) }
     ensures local { IfOk result (λ c. (fields_of c).has_globals ≡ false) }
 {
-    let command = Command::new(alloc, "check").about(
+    let command = described(
+        alloc,
+        "check",
         "Validates a path of certificates at a moment, with what a store holds of their revocation",
+        "Example: x509check check --store store --verdicts good --at 20261201000000Z --anchor root.der middle.der leaf.der",
     );
     asking(alloc, command)
 }
@@ -214,8 +238,11 @@ fn compare<'a>(alloc: Global) -> Result<Command<'a>, AllocError>
     ensures app { IfOk result (λ c. app_of c ≡ compare_app) }
     ensures local { IfOk result (λ c. (fields_of c).has_globals ≡ false) }
 {
-    let command = Command::new(alloc, "compare").about(
+    let command = described(
+        alloc,
+        "compare",
         "Compares the verdicts on a path by what two stores hold",
+        "Example: x509check compare --store store --other other --verdicts good --at 20261201000000Z --anchor root.der middle.der leaf.der",
     );
     asking(alloc, command)?.arg(other(alloc))
 }
@@ -244,11 +271,45 @@ fn delivering<'a>(alloc: Global) -> Result<Command<'a>, AllocError>
         .subcommand(deliver(alloc)?)
 }
 
-/// The program's command, with all of its subcommands.
-pub fn program<'a>(alloc: Global) -> Result<Command<'a>, AllocError>
-    ensures { IfOk result (λ c. app_of c ≡ program_app) }
+// WORD...: it may be left out.
+fn topic<'a>(alloc: Global) -> Arg<'a>
+    ensures rule { rule_of result ≡ topic_rule }
+    ensures local { result.global ≡ false }
+{
+    Arg::new(alloc, "topic")
+        .num_args(1..)
+        .value_name("WORD")
+        .help(
+            "The number or the name of a fault or of a reason, as refusals and verdicts print them, or 'status N', 'rank N' or 'reason N'; all are explained if there is none",
+        )
+}
+
+fn explain<'a>(alloc: Global) -> Result<Command<'a>, AllocError>
+    ensures app { IfOk result (λ c. app_of c ≡ explain_app) }
+    ensures local { IfOk result (λ c. (fields_of c).has_globals ≡ false) }
+{
+    described(
+        alloc,
+        "explain",
+        "Says what a fault, a reason or an exit status means, and what to do about it",
+        "Example: x509check explain status 3",
+    )
+    .arg(topic(alloc))
+}
+
+// The same, with those that ask for verdicts.
+fn validating<'a>(alloc: Global) -> Result<Command<'a>, AllocError>
+    ensures app { IfOk result (λ c. app_of c ≡ validating_app) }
+    ensures local { IfOk result (λ c. (fields_of c).has_globals ≡ false) }
 {
     delivering(alloc)?
         .subcommand(check(alloc)?)?
         .subcommand(compare(alloc)?)
+}
+
+/// The program's command, with all of its subcommands.
+pub fn program<'a>(alloc: Global) -> Result<Command<'a>, AllocError>
+    ensures { IfOk result (λ c. app_of c ≡ program_app) }
+{
+    validating(alloc)?.subcommand(explain(alloc)?)
 }

@@ -4,6 +4,7 @@
 mod app;
 mod line;
 mod question;
+mod topic;
 
 pub use line::{Kind, Line, command_of};
 pub use question::Question;

@@ -3,11 +3,12 @@ ghost use Rattle.std.specs.Prelude.{◌≡◌, ◌<◌, ◌^◌, ◌⊎◌, [], 
 ghost use Rattle.std.specs.List.{All};
 ghost use Rattle.clap.specs.Words.{Text, first_of, found_of, kind_of, rows_of, subcommand_rows_of};
 ghost use Rattle.clap.specs.declared.error.kind.ErrorKind.TheVariants.{OutOfMemory};
-ghost use Rattle.cli_words.specs.declared.line.Flaw.TheVariants.{OtherKind};
-ghost use Rattle.cli_words.specs.CommandLine.{AreRefusedWith, HasFlaw, IsCheck, IsCompare, IsDeliver, IsFlaw, IsFlawOfQuestion, IsLine, IsLineOf, IsPlainWord, IsPrints, IsShow, IsTree, LacksOneOf, Reads, kind_in, kind_named, of_check, of_compare, of_deliver, of_file, of_prints};
+ghost use Rattle.cli_words.specs.declared.line.Flaw.TheVariants.{NoMemory, OtherKind};
+ghost use Rattle.cli_words.specs.CommandLine.{AreRefusedWith, HasFlaw, IsCheck, IsCompare, IsDeliver, IsExplain, IsFlaw, IsFlawOfQuestion, IsLine, IsLineOf, IsPlainWord, IsPrints, IsShow, IsTree, LacksOneOf, Reads, kind_in, kind_named, of_check, of_compare, of_deliver, of_file, of_prints};
 
 use crate::app::program;
 use crate::question::{Question, asked};
+use crate::topic::topic_words;
 use clap::error::ErrorKind;
 use clap::{ArgMatches, Error};
 use std::alloc::{AllocError, Global};
@@ -56,6 +57,10 @@ pub enum Line<'a> {
     Compare {
         question: Question<'a>,
         other: &'a str,
+    },
+    /// Print what the fault, reason or status of these words means; all of them if there is no word.
+    Explain {
+        words: Vec<&'a str>,
     },
 }
 
@@ -164,6 +169,16 @@ fn compare_line<'a>(alloc: Global, matches: &ArgMatches<'a>) -> Result<Line<'a>,
     }
 }
 
+fn explain_line<'a>(alloc: Global, matches: &ArgMatches<'a>) -> Result<Line<'a>, Flaw>
+    ensures line { IfOk result (IsLine (codes "explain", rows_of (found_of matches.now))) }
+    ensures flaw { IfErr result (λ flaw. flaw ≡ NoMemory) }
+{
+    match topic_words(alloc, matches) {
+        Ok(words) => Ok(Line::Explain { words }),
+        Err(_) => Err(Flaw::NoMemory),
+    }
+}
+
 // The line of the subcommand that was entered.
 fn line_of<'a>(alloc: Global, matches: &ArgMatches<'a>) -> Result<Line<'a>, Flaw>
     ensures line { IfOk result (IsLineOf (subcommand_rows_of matches.now)) }
@@ -179,6 +194,7 @@ fn line_of<'a>(alloc: Global, matches: &ArgMatches<'a>) -> Result<Line<'a>, Flaw
         "deliver" => deliver_line(inner).ok_or(Flaw::ArgumentMissing),
         "check" => check_line(alloc, inner),
         "compare" => compare_line(alloc, inner),
+        "explain" => explain_line(alloc, inner),
         _ => Err(Flaw::ArgumentMissing),
     }
 }
@@ -252,6 +268,9 @@ pub fn command_of<'a>(alloc: Global, words: &'a [&'a str]) -> Result<Line<'a>, E
         → IsPlainWord other → All IsPlainWord (file ∷ more)
         → MatchResult result (IsCompare store verdicts moment anchor other (file ∷ more))
         (λ e. kind_of e ≡ OutOfMemory) }
+    ensures explain { (name word : Text)
+        → map (λ w. w.now) words.entry.now ≡ name ∷ codes "explain" ∷ word ∷ []
+        → IsPlainWord word → MatchResult result (IsExplain word) (λ e. kind_of e ≡ OutOfMemory) }
     ensures refuses { IfErr result (λ e. (kind_of e ≡ OutOfMemory)
         ⊎ AreRefusedWith (map (λ w. w.now) words.entry.now) (kind_of e)) }
 {

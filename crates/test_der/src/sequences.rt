@@ -1,6 +1,7 @@
 //! Values one after the other, at the front of a source.
 
 use crate::source::Cut;
+use asn::Fault;
 use der_stream::{ReadFault, path_octets};
 use std::alloc::Global;
 
@@ -67,5 +68,24 @@ fn sources_begin_with_values(rt: HostRuntime) {
             assert!(rt; holds_for(rt.alloc(), row, &mut cut), "{row:?} {most}");
             assert_eq!(rt; cut.octets.len(), row.4, "{row:?} {most}");
         }
+    }
+}
+
+/// Without memory the value is refused for which there is none, and none behind it is read.
+#[test]
+fn a_path_wants_memory_or_answers(rt: HostRuntime) {
+    let mut source: &[u8] = &[0x30, 0x00, 0x05, 0x00];
+    let read = path_octets(rt.alloc(), &mut source, 5);
+    match read.stopped {
+        None => assert_eq!(rt; read.values.len(), 2),
+        Some((0, fault)) => {
+            assert_eq!(rt; fault, ReadFault::Fault(Fault::Memory));
+            assert!(rt; read.values.is_empty() && source.len() >= 2);
+        }
+        Some((2, fault)) => {
+            assert_eq!(rt; fault, ReadFault::Fault(Fault::Memory));
+            assert_eq!(rt; read.values.len(), 1);
+        }
+        Some(_) => assert!(rt; false),
     }
 }

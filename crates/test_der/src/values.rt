@@ -108,17 +108,37 @@ fn answers_errors_of_the_source(rt: HostRuntime) {
             Ok(None) => assert!(rt; false, "{call}"),
             Err(fault) => assert!(rt; call < 101 && fault == ReadFault::Io, "{call}"),
         }
+        // No call is made again, and none behind an error.
+        assert_eq!(rt; source.calls, call.min(100));
     }
 }
 
+/// Without memory the first octet is read, or the header, and nothing behind it.
 #[test]
 fn wants_memory_or_answers(rt: HostRuntime) {
     let mut source = CERTIFICATE;
     match read_one(rt.alloc(), &mut source, LONGEST) {
         Ok(Some(octets)) => assert!(rt; octets.as_slice() == CERTIFICATE),
         Ok(None) => assert!(rt; false),
-        Err(fault) => assert_eq!(rt; fault, ReadFault::Fault(Fault::Memory)),
+        Err(fault) => {
+            assert_eq!(rt; fault, ReadFault::Fault(Fault::Memory));
+            assert!(rt; source.len() == 99 || source.len() == 98);
+        }
     }
+}
+
+/// Without memory a value past the limit is still told as that, and the end as the end.
+#[test]
+fn the_limit_wants_memory_or_answers(rt: HostRuntime) {
+    let mut source: &[u8] = &[0x02, 0x02, 0x00, 0x80];
+    match read_one(rt.alloc(), &mut source, 3) {
+        Ok(_) => assert!(rt; false),
+        Err(fault) => {
+            assert!(rt; fault == ReadFault::Limit || fault == ReadFault::Fault(Fault::Memory));
+        }
+    }
+    let mut source: &[u8] = &[];
+    assert!(rt; read_one(rt.alloc(), &mut source, 3).is_ok());
 }
 
 #[test]

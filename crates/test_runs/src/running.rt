@@ -163,6 +163,26 @@ fn a_missing_file_cannot_be_read(rt: HostRuntime) -> Result<(), Fail> {
     walk(&rt, MISSING)
 }
 
+const EXPLAINED: &str = "
+$ explain Expired
+rank 4 Expired: The moment is after the certificate's notAfter. The certificate has to be renewed. (RFC 5280, 6.1.3 (a) (2))
+$ explain 17
+fault 17 MaskForm: A mask that is not ones and then zeros. Ask the issuer for a new certificate. (RFC 5280, 4.2.1.10)
+$ explain reason 5
+reason 5 cessationOfOperation: The certificate is no longer needed; the key is not known to be in other hands. (RFC 5280, 5.3.1)
+$ explain fault 99
+x509check: bad topic
+status 5
+$ explain fault 17 LengthForm
+x509check: bad topic
+status 5
+";
+
+#[test]
+fn faults_and_reasons_are_explained(rt: HostRuntime) -> Result<(), Fail> {
+    walk(&rt, EXPLAINED)
+}
+
 // Statuses, and the words behind the program's name. Help is printed on standard output, what is wrong on standard error.
 const WORDS: &str = "\
 5
@@ -179,10 +199,13 @@ const WORDS: &str = "\
 5 prints --issuer a b c
 5 prints --issuer a --as csr b
 5 prints --as cert b
+5 explain --deep
 0 --help
 0 show --help
 0 prints --help
 0 tree --help
+0 explain --help
+0 explain
 0 help
 ";
 
@@ -251,6 +274,7 @@ const FULL: &str = "\
 tree execution_full.der
 show execution_full.der
 prints --issuer execution_full.der execution_full.der
+explain 17
 --help
 ";
 

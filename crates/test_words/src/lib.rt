@@ -5,6 +5,8 @@
 #[cfg(test)]
 mod answers;
 #[cfg(test)]
+mod explaining;
+#[cfg(test)]
 mod looking;
 #[cfg(test)]
 mod moments;

@@ -1,4 +1,21 @@
 //! OCSP responses for tests, from texts in a small notation, under signatures that need no secret.
+//!
+//! # The notation of responses
+//!
+//!     ocsp(R,05 good,06 revoked 1){by D}{signed D}
+//!
+//! `ocsp(I,SERIAL STATUS,..)` is a response named and signed by I, with a single response for each, of an id with the SHA-1 of name I and of
+//! key I; STATUS is `good`, `unknown`, `revoked` or `revoked REASON`; both times are 2025-06-01T00:00:00Z, nextUpdate is
+//! 2025-07-01T00:00:00Z. The certificates of `certs` are texts of their own. Names, keys, algorithms and signatures are those of certificates.
+//!
+//! | Option | Says |
+//! |---|---|
+//! | `{signed X}` | the key that signs |
+//! | `{from T}`, `{until T}` | thisUpdate, and producedAt with it; nextUpdate: 14 digits and `Z` |
+//! | `{produced T}` | producedAt |
+//! | `{open}` | no nextUpdate |
+//! | `{by X}`, `{bykey X}` | the responder: name X, or the SHA-1 of key X |
+//! | `{key X}` | the key whose hash the ids have |
 #![tactic(auto)]
 
 mod options;

@@ -24,16 +24,16 @@ returns-in-Ok-clause-failed g c =
     c.in-Ok.ensures.reads c.run.ensures.status c.run.ensures.fails c.run.ensures.quiet c.finish.ensures.done c.finish.ensures.failed
 
 pub returns-in-Err-clause-status : goal.returns-in-Err-clause-status
-returns-in-Err-clause-status g c = explained c.explain.result.status c.explain.ensures.status
+returns-in-Err-clause-status g c = explained c.answer_of_clap.result.status c.answer_of_clap.ensures.status
 
 pub returns-in-Err-clause-answered : goal.returns-in-Err-clause-answered
 returns-in-Err-clause-answered g c =
     helped (g.S.Source.holds c.args.source.now) (g.S.Stores.stands c.args.source.now) (g.S.Stores.leaves c.args.source.now) (map (λ w. w.now) c.args.words.now) (kind_of c.in-Err.error)
-    (g.O.Write.contents c.args.out.now) (g.O.Write.contents c.explain.new.out) c.explain.result.status (c.explain.new.err ≡ c.args.err.now)
-    c.in-Err.ensures.refuses c.explain.ensures.status c.explain.ensures.help
+    (g.O.Write.contents c.args.out.now) (g.O.Write.contents c.answer_of_clap.new.out) c.answer_of_clap.result.status (c.answer_of_clap.new.err ≡ c.args.err.now)
+    c.in-Err.ensures.refuses c.answer_of_clap.ensures.status c.answer_of_clap.ensures.help
 
 pub returns-in-Err-clause-failed : goal.returns-in-Err-clause-failed
 returns-in-Err-clause-failed g c = λ failing.
-    unexplained (g.S.Source.holds c.args.source.now) (g.S.Stores.stands c.args.source.now) (g.S.Stores.leaves c.args.source.now) (map (λ w. w.now) c.args.words.now) (kind_of c.in-Err.error) c.explain.result.status (c.explain.new.out ≡ c.args.out.now)
-    (λ line. OnOk c.explain.result.told (Appends (g.E.Write.contents c.args.err.now) (g.E.Write.contents c.explain.new.err) line))
-    c.in-Err.ensures.refuses (c.explain.ensures.failed failing)
+    unexplained (g.S.Source.holds c.args.source.now) (g.S.Stores.stands c.args.source.now) (g.S.Stores.leaves c.args.source.now) (map (λ w. w.now) c.args.words.now) (kind_of c.in-Err.error) c.answer_of_clap.result.status (c.answer_of_clap.new.out ≡ c.args.out.now)
+    (λ line. OnOk c.answer_of_clap.result.told (Appends (g.E.Write.contents c.args.err.now) (g.E.Write.contents c.answer_of_clap.new.err) line))
+    c.in-Err.ensures.refuses (c.answer_of_clap.ensures.failed failing)

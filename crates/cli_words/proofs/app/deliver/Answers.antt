@@ -1,5 +1,4 @@
 use Rattle.std.proofs.Common.{◌∙◌, ap}
-use Rattle.clap.specs.Simple.{app_of_fields}
 use Rattle.cli_words.specs.App.{storing}
 use Rattle.cli_words.proofs.Building.{ends_local, ends_with, still_local, with_one_more}
 use Rattle.cli_words.proofs.app.deliver.Goals as goal
@@ -9,7 +8,7 @@ returns-clause-app c =
     ends_with _ _ _ _ _ c.arg-2.ensures
     (with_one_more _ _ _ _ _ c.in_ok-arg.ensures
     (c.in_ok-storing.ensures.app
-    ∙ ap storing (ap app_of_fields c.about-command.ensures ∙ c.new.ensures.app))
+    ∙ ap storing c.described-command.ensures.app)
     c.issuer.ensures.rule c.issuer.ensures.local)
     c.file.ensures.rule c.file.ensures.local
 

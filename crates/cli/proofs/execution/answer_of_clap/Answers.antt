@@ -3,7 +3,7 @@ use Rattle.std.specs.Io.KnownBytes.{Appends}
 use Rattle.clap.specs.Words.{kind_of}
 use Rattle.cli.specs.Outcome.{IsHelp}
 use Rattle.cli.proofs.Explaining.{full, late}
-use Rattle.cli.proofs.execution.explain.Goals as goal
+use Rattle.cli.proofs.execution.answer_of_clap.Goals as goal
 
 pub returns-in-Err-clause-failed : goal.returns-in-Err-clause-failed
 returns-in-Err-clause-failed g c = λ failing.

@@ -1,0 +1,189 @@
+"""Tests over examples/authority, whose signatures OpenSSL found good (testdata/good.txt holds what examples/verdicts printed)."""
+
+import base64
+import datetime
+import os
+import re
+import threading
+import unittest
+
+import x509check
+from x509check import Certificate, Fault, Reason, Result, RevocationReason, Text, Verdict
+
+HERE = os.path.dirname(os.path.realpath(__file__))
+AUTHORITY = os.path.join(HERE, "..", "..", "..", "examples", "authority")
+GOOD = os.path.join(HERE, "..", "..", "testdata", "good.txt")
+SERVER_AUTH, CLIENT_AUTH = "1.3.6.1.5.5.7.3.1", "1.3.6.1.5.5.7.3.2"
+# 2026-12-01T00:00:00Z
+DECEMBER = datetime.datetime(2026, 12, 1, tzinfo=datetime.timezone.utc)
+
+
+def octets_of(name):
+    """The DER in a file of the authority."""
+    with open(os.path.join(AUTHORITY, name), "rb") as file:
+        octets = file.read()
+    pem = re.search(rb"-----BEGIN [^\n]*-----(.*?)-----END", octets, re.S)
+    return base64.b64decode(pem[1]) if pem else octets
+
+
+def prints_of():
+    with open(GOOD, encoding="ascii") as file:
+        return {name: bytes.fromhex(print) for print, name in (line.rstrip().split(" ", 1) for line in file)}
+
+
+ROOT, MIDDLE, LEAF = (octets_of(f"{name}.pem") for name in ("root", "middle", "leaf"))
+ROOT_LIST, MIDDLE_LIST, REVOKING_LIST = (octets_of(f"{name}.crl") for name in ("root", "middle", "middle2"))
+RESPONSE = octets_of("leaf.ocsp")
+GOOD_PRINTS = prints_of()
+
+
+def verdict_on(statements, at=DECEMBER, chain=(MIDDLE, LEAF), **words):
+    return x509check.validate(ROOT, chain, statements, at, fingerprints=GOOD_PRINTS.values(), **words)
+
+
+class Certificates(unittest.TestCase):
+    def test_fields_are_those_that_openssl_prints(self):
+        leaf = Certificate.from_der(LEAF)
+        self.assertEqual(leaf.version, 3)
+        self.assertEqual(leaf.serial, b"\x03")
+        self.assertEqual(leaf.begins, datetime.datetime(2026, 11, 23, 18, 27, 8, tzinfo=datetime.timezone.utc))
+        self.assertEqual(leaf.ends, datetime.datetime(2027, 11, 23, 18, 27, 8, tzinfo=datetime.timezone.utc))
+        self.assertEqual(leaf.extensions.alternative_names, 1)
+        self.assertEqual(leaf.extensions.purposes, 1)
+        self.assertEqual(leaf.issuer, Certificate.from_der(MIDDLE).subject)
+
+    def test_extensions_of_an_authority(self):
+        extensions = Certificate.from_der(MIDDLE).extensions
+        self.assertIs(extensions.is_authority, True)
+        self.assertEqual(extensions.path_length, 0)
+        self.assertEqual(extensions.key_usage, ("keyCertSign", "cRLSign"))
+        self.assertIsNone(Certificate.from_der(ROOT).extensions.path_length)
+
+    def test_parts_are_of_the_octets(self):
+        leaf = Certificate.from_der(bytearray(LEAF))
+        for part in (leaf.tbs, leaf.algorithm, leaf.issuer, leaf.subject, leaf.subject_public_key_info, leaf.key, leaf.signature):
+            self.assertIn(part, LEAF)
+
+    def test_fingerprints_are_those_of_the_verdicts_file(self):
+        root, middle, leaf = (Certificate.from_der(it) for it in (ROOT, MIDDLE, LEAF))
+        self.assertEqual(middle.fingerprint_under(root), GOOD_PRINTS["middle.pem"])
+        self.assertEqual(leaf.fingerprint_under(middle), GOOD_PRINTS["leaf.pem"])
+
+    def test_refusals(self):
+        rows = (
+            (b"", 21, 0, 4, "21 Der (4 Truncated) at 0"),
+            (b"\x30\x04\x05\x00\x03\x00", 21, 4, 6, "21 Der (6 Content) at 4"),
+            (b"\x30\x02\x05\x00", 22, 2, None, "22 Layout at 2"),
+            (LEAF + b"\x00", 21, len(LEAF), 7, f"21 Der (7 Trailing) at {len(LEAF)}"),
+        )
+        for octets, number, offset, der, line in rows:
+            with self.subTest(line), self.assertRaises(Fault) as caught:
+                Certificate.from_der(octets)
+            self.assertEqual((caught.exception.number, caught.exception.offset, caught.exception.der), (number, offset, der))
+            self.assertEqual(str(caught.exception), line)
+
+    def test_check(self):
+        x509check.check(b"\x30\x03\x02\x01\x05")
+        with self.assertRaises(Fault) as caught:
+            x509check.check(b"\x05\x00\x00")
+        self.assertEqual((caught.exception.number, caught.exception.name, caught.exception.offset), (7, "Trailing", 2))
+
+
+class Verdicts(unittest.TestCase):
+    def test_a_path_is_valid_where_both_lists_speak(self):
+        self.assertEqual(verdict_on([ROOT_LIST, MIDDLE_LIST]), Result(Verdict.VALID))
+        self.assertEqual(verdict_on([MIDDLE_LIST, ROOT_LIST], at=int(DECEMBER.timestamp())), Result(Verdict.VALID))
+
+    def test_a_response_speaks_too(self):
+        self.assertEqual(verdict_on([ROOT_LIST, RESPONSE]), Result(Verdict.REVOKED, 2, RevocationReason.KEY_COMPROMISE))
+
+    def test_the_next_list_revokes_the_leaf(self):
+        revoked = Result(Verdict.REVOKED, 2, RevocationReason.KEY_COMPROMISE)
+        self.assertEqual(verdict_on([ROOT_LIST, MIDDLE_LIST, REVOKING_LIST]), revoked)
+
+    def test_unknown_without_a_list(self):
+        self.assertEqual(verdict_on([]), Result(Verdict.UNKNOWN, 1))
+        self.assertEqual(verdict_on([ROOT_LIST]), Result(Verdict.UNKNOWN, 2))
+
+    def test_invalid_paths(self):
+        later = datetime.datetime(2030, 1, 1, tzinfo=datetime.timezone.utc)
+        rows = (
+            (dict(at=0), 1, Reason.NOT_YET),
+            (dict(at=later), 2, Reason.EXPIRED),
+            (dict(chain=[LEAF]), 1, Reason.SIGNATURE),
+            (dict(chain=[]), 0, Reason.EMPTY),
+            (dict(purpose=CLIENT_AUTH), 2, Reason.PURPOSE),
+        )
+        for words, certificate, reason in rows:
+            with self.subTest(reason.name):
+                self.assertEqual(verdict_on([ROOT_LIST, MIDDLE_LIST], **words), Result(Verdict.INVALID, certificate, reason))
+        self.assertEqual(verdict_on([ROOT_LIST, MIDDLE_LIST], purpose=SERVER_AUTH), Result(Verdict.VALID))
+
+    def test_no_signature_is_believed_without_its_fingerprint(self):
+        for left_out, expected in (
+            ("middle.pem", Result(Verdict.INVALID, 1, Reason.SIGNATURE)),
+            ("leaf.pem", Result(Verdict.INVALID, 2, Reason.SIGNATURE)),
+            ("root.crl", Result(Verdict.UNKNOWN, 1)),
+            ("middle.crl", Result(Verdict.UNKNOWN, 2)),
+        ):
+            prints = [print for name, print in GOOD_PRINTS.items() if name != left_out]
+            with self.subTest(left_out):
+                result = x509check.validate(ROOT, [MIDDLE, LEAF], [ROOT_LIST, MIDDLE_LIST], DECEMBER, fingerprints=prints)
+                self.assertEqual(result, expected)
+
+    def test_certificates_that_were_read_are_taken(self):
+        chain = [Certificate.from_der(MIDDLE), Certificate.from_der(LEAF)]
+        self.assertEqual(verdict_on([ROOT_LIST, MIDDLE_LIST], chain=chain), Result(Verdict.VALID))
+
+    def test_threads(self):
+        results = []
+        threads = [threading.Thread(target=lambda: results.append(verdict_on([ROOT_LIST, MIDDLE_LIST]))) for _ in range(8)]
+        for thread in threads:
+            thread.start()
+        for thread in threads:
+            thread.join()
+        self.assertEqual(results, [Result(Verdict.VALID)] * 8)
+
+
+class Refusals(unittest.TestCase):
+    def refused(self, expected, *arguments, **words):
+        with self.assertRaises(Fault) as caught:
+            x509check.validate(*arguments, at=DECEMBER, fingerprints=GOOD_PRINTS.values(), **words)
+        fault = caught.exception
+        self.assertEqual((fault.text, fault.index, fault.number, fault.der, fault.offset), expected)
+
+    def test_certificates(self):
+        self.refused((Text.CERTIFICATES, 0, 21, 4, 0), b"", [], [])
+        self.refused((Text.CERTIFICATES, 2, 21, 4, 0), ROOT, [MIDDLE, LEAF[:-1]], [])
+        self.refused((Text.CERTIFICATES, 1, 21, 7, len(MIDDLE)), ROOT, [MIDDLE + LEAF], [])
+        self.refused((Text.CERTIFICATES, 1, 22, None, 2), ROOT, [b"\x30\x00", LEAF], [])
+        self.refused((Text.CERTIFICATES, 2, 22, None, 0), ROOT, [MIDDLE, b"\x05\x00"], [])
+        # A fault at the end of a value is told of that value, though the next begins there.
+        short = b"\x30" + bytes([len(b"\x05\x00")]) + b"\x30\x00"
+        self.refused((Text.CERTIFICATES, 1, 22, None, 4), ROOT, [short, LEAF], [])
+
+    def test_statements(self):
+        chain = [MIDDLE, LEAF]
+        self.refused((Text.STATEMENTS, 0, 41, 4, 0), ROOT, chain, [b""])
+        self.refused((Text.STATEMENTS, 1, 41, 4, 0), ROOT, chain, [ROOT_LIST, MIDDLE_LIST[:-1]])
+        self.refused((Text.STATEMENTS, 1, 42, None, 0), ROOT, chain, [ROOT_LIST, b"\x05\x00", MIDDLE_LIST])
+        self.refused((Text.STATEMENTS, 1, 55, None, 2), ROOT, chain, [ROOT_LIST, b"\x30\x03\x0A\x01\x06"])
+
+    def test_a_statement_that_is_none_is_refused_though_the_path_is_invalid(self):
+        self.refused((Text.STATEMENTS, 0, 42, None, 0), ROOT, [LEAF], [b"\x05\x00"])
+
+    def test_other_arguments(self):
+        for words in (
+            dict(at=datetime.datetime(2026, 12, 1)),
+            dict(at=2**63),
+            dict(at=DECEMBER, purpose="1"),
+            dict(at=DECEMBER, purpose="1.40.3"),
+            dict(at=DECEMBER, purpose="server"),
+            dict(at=DECEMBER, fingerprints=[b"\x00" * 31]),
+        ):
+            with self.subTest(words), self.assertRaises(ValueError):
+                x509check.validate(ROOT, [MIDDLE, LEAF], [], **words)
+
+
+if __name__ == "__main__":
+    unittest.main()

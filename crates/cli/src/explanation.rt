@@ -1,0 +1,25 @@
+//! Explanations of faults, reasons and statuses.
+ghost use Rattle.std.specs.Prelude.{◌≡◌, IfErr, OnOk, map};
+ghost use Rattle.cli_failures.specs.Failures.{OrUnwritable};
+ghost use Rattle.cli_failures.specs.Report.{UnlessLate, Writes};
+ghost use Rattle.cli.specs.Outcome.{IsExplanation, IsNoTopic};
+ghost use Rattle.std.specs.Prelude.{List, ℕ};
+
+use cli_explaining::{entries, explain_to, is_known};
+use cli_failures::Failure;
+use std::io::Write;
+
+/// Writes what the fault, reason or status of these words means, an entry a line; all entries if there are no words.
+pub fn explain<'a, O: Write>(words: &[&'a str], out: &mut O) -> Result<(), Failure<'a>>
+    ensures done { OnOk result (Writes (IsExplanation (map (λ w. w.now) words.now))
+        (O.contents out.old) (O.contents out.new)) }
+    ensures fails { IfErr result (OrUnwritable (IsNoTopic (map (λ w. w.now) words.now))
+        ((text : List ℕ) × IsExplanation (map (λ w. w.now) words.now) text)) }
+    ensures quiet { IfErr result (λ failure. UnlessLate failure (out.new ≡ out.old)) }
+{
+    let entries = entries();
+    if !is_known(entries, words) {
+        return Err(Failure::BadTopic);
+    }
+    explain_to(entries, words, out).map_err(|_| Failure::Unwritable)
+}

@@ -1,0 +1,95 @@
+//! What each fault, reason and status means.
+
+const ENTRIES: &str =
+    "fault 1 TagForm: An identifier octet that is not served. If the file begins with `-----BEGIN`, it is PEM: convert it by examples/to_der. Tags above 30 and private encodings are not served. (X.690, 8.1.2)
+fault 2 LengthForm: Length octets that are indefinite, reserved or not the shortest. The file was made by software that does not write DER. Ask whoever made the file for its DER. (X.690, 8.1.3 and 10.1)
+fault 3 TooLong: 2^28 contents octets or more. No certificate, list or response is that long: the file is damaged or something else. (a limit of this program)
+fault 4 Truncated: A header or contents that pass the end of the enclosing value, or of the input. The file is cut short, or empty. Fetch it again. (X.690, 8.1.3)
+fault 5 TooDeep: A value at depth 33. Values are served 32 levels deep. (a limit of this program)
+fault 6 Content: Contents that the type does not allow. The file was made by software that does not write DER. Ask whoever made the file for its DER. (X.690, 8 and 11)
+fault 7 Trailing: Octets behind the outermost value. Cut what follows the value. `check` and `compare` take several certificates in one file; the other commands take one value. (X.690, 8.1)
+fault 8 Memory: No memory. Free memory, or raise the limit of the process, and try again. (not of the standard)
+fault 9 NotSpellable: A tree of which no octets are the encoding. The caller of the library built this tree: its lengths or numbers have no encoding. (X.690, 8.1)
+fault 10 Limit: A value of a source that has more octets than the caller allows. Allow longer values, or refuse the source. (a limit that the caller sets)
+fault 11 NameLayout: An identifier octet that the layout of a name does not have there, a value that is missing or left over, an RDN without attributes. Ask the issuer of the certificate or the statement for a new one. (RFC 5280, 4.1.2.4 and 4.2.1.6)
+fault 12 RdnRepeat: An attribute of a type that an earlier one of its RDN has. Ask the issuer for a new one. (X.501, 9.3)
+fault 13 SetOrder: An attribute whose octets are less than those of the one before it in its RDN. The software of the issuer does not sort sets as DER demands. Ask the issuer for a new one. (X.690, 11.6)
+fault 14 Text: A string with octets that its type does not hold. Ask the issuer for a new one. (X.690, 8.23; RFC 5280, appendix A)
+fault 15 DnsForm: No DNS name, or no base of a constraint on them. Wildcards and names that are not of ASCII letters are served as they stand; a name of more than 253 octets, or with an empty label, is not one. (RFC 5280, 4.2.1.6 and 4.2.1.10; RFC 1034, 3.5)
+fault 16 IpForm: An address, or an address with its mask, of another number of octets. An address has 4 or 16 octets, one with a mask 8 or 32. (RFC 5280, 4.2.1.6 and 4.2.1.10)
+fault 17 MaskForm: A mask that is not ones and then zeros. Ask the issuer for a new certificate. (RFC 5280, 4.2.1.10)
+fault 21 Der: The input, or the contents of an OCTET STRING that holds a value, are not DER; the inner fault is one of 1 to 7, and the program says its number and name. The message has the inner fault, 1 to 7: look that up. (X.690)
+fault 22 Layout: An identifier octet that the layout does not have there, a value that is missing or left over, a DEFAULT FALSE that is spelled out. If the file begins with `-----BEGIN`, it is PEM: convert it by examples/to_der. Or the file holds something else than a certificate. (RFC 5280, 4.1)
+fault 23 Version: A version other than v2 and v3 that is spelled out; a unique identifier in v1; extensions before v3. Ask the issuer for a new certificate. (RFC 5280, 4.1.2.1 and 4.1.2.8)
+fault 24 AlgorithmsDiffer: A signatureAlgorithm other than the one in the signed part. The certificate was changed, or made wrongly. Do not use it. (RFC 5280, 4.1.1.2)
+fault 25 Serial: A serial number of more than 32 octets. The standard allows 20 octets; here 32 are taken. (RFC 5280, 4.1.2.2)
+fault 26 Time: A time that is none. Ask the issuer for a new certificate. (RFC 5280, 4.1.2.5)
+fault 27 EmptyIssuer: An issuer without an RDN. Ask the issuer for a new certificate. (RFC 5280, 4.1.2.4)
+fault 28 ExtensionRepeated: An extension of the type of an earlier one. Ask the issuer for a new certificate. (RFC 5280, 4.2)
+fault 29 ExtensionValue: A value of an extension that has not the layout of its type. Ask the issuer for a new certificate. (RFC 5280, 4.2.1)
+fault 30 SubtreeBounds: A subtree with a minimum or a maximum. The standard allows no minimum but 0, and no maximum. Ask the issuer for a new certificate. (RFC 5280, 4.2.1.10)
+fault 31 SignatureBits: A signature with unused bits. Ask the issuer for a new certificate. (RFC 5280, 4.1.1.3)
+fault 32 Limit: The 4,097th alternative name, or subtree of both lists. Certificates with more than 4,096 of them are not served. (a limit of this program)
+fault 33 Memory: No memory. Free memory, or raise the limit of the process, and try again. (not of the standard)
+fault 41 Der: The input, or the contents of the OCTET STRING that holds a response, are not DER; the inner fault is one of 1 to 7. The message has the inner fault, 1 to 7: look that up. (X.690)
+fault 42 Layout: An identifier octet that the layout does not have there, a value that is missing or left over, a time that is none, a serial number of more than 32 octets, an extension of the type of an earlier one, unused bits in the signature; of a list an empty issuer, algorithm identifiers that differ; of a response a status of two octets or more, octets in good or unknown. If the file begins with `-----BEGIN`, it is PEM: convert it by examples/to_der. Or the file holds something else than a list or a response. (RFC 5280, 5.1; RFC 6960, 4.2.1)
+fault 43 NotV2: A list of another version, or without one. Ask the issuer for a list of version 2. (RFC 5280, 5.1.2.1)
+fault 44 NoNumber: A list without a CRL number. Without a number no list can be told to be the newest. Ask the issuer for a list with one. (RFC 5280, 5.2.3)
+fault 45 NumberRange: A CRL number that is not one INTEGER from 0 to 2^160 - 1. Ask the issuer for a new list. (RFC 5280, 5.2.3)
+fault 46 NoNextUpdate: A list without nextUpdate. Without it nobody can tell how long the list speaks. Ask the issuer for a list with one. (RFC 5280, 5.1.2.5)
+fault 47 Delta: A delta list. Deliver the complete list instead. (RFC 5280, 5.2.4)
+fault 48 Scope: An issuingDistributionPoint other than the two that are served. Served are complete lists, and those for the certificates of users alone or of authorities alone. (RFC 5280, 5.2.5)
+fault 49 Indirect: An entry with a certificateIssuer. Deliver the list of the certificate's own issuer instead. (RFC 5280, 5.3.3)
+fault 50 CriticalUnknown: A critical extension that is not known where it stands; of a response any that is critical. The statement demands something that is not served, so it cannot be believed. Ask its issuer for another. (RFC 5280, 5.2 and 5.3; RFC 6960, 4.4)
+fault 51 BadReason: A reasonCode that is not one ENUMERATED of 0 to 6 or 8 to 10; a revocationReason of a response that is not one of 0 to 6, 9 or 10. Ask the issuer for a new statement. (RFC 5280, 5.3.1)
+fault 52 RemoveInComplete: The reason removeFromCRL. That reason stands in delta lists alone. Ask the issuer for a new list. (RFC 5280, 5.3.1)
+fault 53 OtherIssuer: A list whose issuer does not match the subject of the issuer's certificate. Deliver the list with the certificate of its own issuer. (RFC 5280, 6.3.3)
+fault 54 BadSignature: A list of the issuer's name whose signature is not accepted under the issuer's key. Add the fingerprint that `prints` tells to the file of verdicts, if the signature is good. If it is bad, the list is forged or damaged. (RFC 5280, 6.3.3)
+fault 55 NotSuccessful: A response that says by a code, which is not 0, that the request was not answered; the code is reported with it. Ask the responder again later. (RFC 6960, 4.2.1)
+fault 56 ResponseType: A response of another type than id-pkix-ocsp-basic. Ask the responder for a basic response. (RFC 6960, 4.2.1)
+fault 57 NoSigner: A response that neither the issuer nor a delegate among its certs signed. Add the fingerprints that `prints` tells to the file of verdicts, if the signatures are good. A delegate needs the purpose id-kp-OCSPSigning and the extension id-pkix-ocsp-nocheck. (RFC 6960, 4.2.2.2)
+fault 58 NothingForIssuer: A response that was signed so, none of whose single responses speaks of a certificate of the issuer. Deliver the response with the certificate of the issuer whose certificates it speaks of. (RFC 6960, 3.2)
+fault 59 TooManySingles: The 257th single response. Ask for fewer certificates in one request. (a limit of this program)
+fault 60 Memory: No memory; a delegate that cannot be read for lack of it is never passed over. Free memory, or raise the limit of the process, and try again. (not of the standard)
+fault 71 Store: The database refused, for another reason than memory; or the connection is in a transaction, the ids of issuers are used up, or a list has more entries than it has places. Look at the disk: is it full, is it writable, does another process use the store? The store holds what it held. (not of the standard)
+fault 72 Schema: The tables are not those of a store, or a row that is read is not of the form that a store writes. The file is the database of another program, or it was changed. Take a copy from before, or deliver the statements to a new store. (not of the standard)
+fault 73 Memory: No memory. Free memory, or raise the limit of the process, and try again. (not of the standard)
+rank 1 Repeated: A certificate appears twice in the path. Leave one out. (RFC 5280, 6.1)
+rank 2 Signature: The verifier does not accept the signature of the certificate under the key of the one before it. Add the fingerprint that `prints` tells to the file of verdicts, if the signature is good. Or the path is in the wrong order, or the anchor another one. (RFC 5280, 6.1.3 (a) (1))
+rank 3 NotYet: The moment is before the certificate's notBefore. Look at the clock, and at TIME, which is in Greenwich Mean Time. (RFC 5280, 6.1.3 (a) (2))
+rank 4 Expired: The moment is after the certificate's notAfter. The certificate has to be renewed. (RFC 5280, 6.1.3 (a) (2))
+rank 5 Issuer: The certificate names another issuer than the one before it in the path. Put the path in order: the certificate that the anchor issued comes first. (RFC 5280, 6.1.3 (a) (4))
+rank 6 NotPermitted: A name of the certificate lies outside what an authority above it is permitted. The authority may not issue for that name. (RFC 5280, 6.1.3 (b))
+rank 7 Excluded: A name of the certificate lies in what an authority above it excludes. The authority may not issue for that name. (RFC 5280, 6.1.3 (c))
+rank 8 ConstraintForm: An authority above constrains names of a form that is not processed, and the certificate has such a name. Directory names, DNS names and IP addresses are processed. (RFC 5280, 6.1.4 (g))
+rank 9 NotCa: A certificate that is used as an authority's is none: it is not of version 3, or has no cA. Put the path in order, or leave the certificate out. (RFC 5280, 6.1.4 (k))
+rank 10 PathLength: More authorities follow than the path length of one above allows. The authority may not have that many below it. (RFC 5280, 6.1.4 (l) and (m))
+rank 11 KeyCertSign: An authority's key may not sign certificates: its keyUsage lacks keyCertSign. Ask the authority for a new certificate. (RFC 5280, 6.1.4 (n))
+rank 12 Policy: The certificate wants policies to be processed, which is not served. Use another path. (RFC 5280, 6.1.3 (d) to (f))
+rank 13 CriticalUnknown: The certificate has a critical extension that is not recognised. Such a certificate has to be refused. `show` lists the extension. (RFC 5280, 6.1.4 (o) and 6.1.5 (f))
+rank 14 Purpose: The key of the last certificate is not for the purpose that was asked for. Look at --purpose, and at the purposes that `show` lists. (RFC 5280, 4.2.1.12)
+rank 15 Empty: The path has no certificate. Name the files of the certificates below the anchor. (RFC 5280, 6.1)
+rank 16 TooLong: The path has more than 128 certificates. Leave out what is not needed. (a limit of this program)
+status 0 done: What was asked for was done: the path is valid, or both verdicts of a comparison are.
+status 1 invalid: The path does not meet the conditions of validity; the line names the certificate, the rank and the name of the reason. See `explain rank`.
+status 2 revoked: The path is valid by itself, and a current statement revokes a certificate of it; the line names the certificate and the reason. See `explain reason`.
+status 3 unknown: The path is valid by itself, and of one of its certificates no current statement speaks. Deliver a list or a response of its issuer that is current at that moment.
+status 4 refused: A file was refused; standard error names the file, the fault and its place. See `explain fault`.
+status 5 mistaken: The words are no command, or a moment or a purpose is malformed, or nothing is known of the topic. See `--help`.
+status 6 failed: A file, the store or standard output failed, or memory ran out; standard error says which. Nothing was taken in part.
+status 7 differ: The two stores give different verdicts; the line names the first certificate about which they hold something different.
+reason 0 unspecified: The issuer gives no reason. (RFC 5280, 5.3.1)
+reason 1 keyCompromise: The private key of the certificate is in other hands. (RFC 5280, 5.3.1)
+reason 2 cACompromise: The private key of an authority is in other hands. (RFC 5280, 5.3.1)
+reason 3 affiliationChanged: The subject's name or other facts in the certificate have changed; the key is not known to be in other hands. (RFC 5280, 5.3.1)
+reason 4 superseded: The certificate was replaced by another; the key is not known to be in other hands. (RFC 5280, 5.3.1)
+reason 5 cessationOfOperation: The certificate is no longer needed; the key is not known to be in other hands. (RFC 5280, 5.3.1)
+reason 6 certificateHold: The certificate is suspended, and may be good again later. (RFC 5280, 5.3.1)
+reason 9 privilegeWithdrawn: A right that the certificate attests was withdrawn. (RFC 5280, 5.3.1)
+reason 10 aACompromise: The private key of an attribute authority is in other hands. (RFC 5280, 5.3.1)";
+
+/// What each fault, reason and status means: entries, a line each. A head (its kind, its number and its name) ends at a colon; behind it
+/// stands what is wrong or meant, what to do about it, and the section of the standard. `.ci/check_pages` holds them against docs/REFERENCE.md.
+pub fn entries() -> &'static str {
+    ENTRIES
+}

@@ -1,0 +1,88 @@
+//! Entries about a topic.
+ghost use Rattle.std.specs.Prelude.{◌≡◌, OnOk, map};
+ghost use Rattle.std.specs.List.{list_any, position};
+ghost use Rattle.std.specs.Str.{bytes_eq};
+ghost use Rattle.std.specs.Io.KnownBytes.{Appends};
+ghost use Rattle.cli_explaining.specs.Topics.{about_all, explanation, head_of, is_about, is_colon, is_known, line_if_about, words_of};
+
+use std::io;
+use std::io::Write;
+
+/// The place of the first colon.
+fn first_colon(entry: &[u8]) -> Option<usize>
+    ensures { result ≡ position is_colon entry.now }
+{
+    entry.iter().position(|octet| *octet == b':')
+}
+
+/// What stands before the colon of an entry.
+fn head_of(entry: &[u8]) -> &[u8]
+    ensures { result.now ≡ head_of entry.now }
+{
+    match first_colon(entry) {
+        Some(at) => entry.split_at(at).0,
+        None => entry,
+    }
+}
+
+/// Whether the head has the word.
+fn has_word(head: &[u8], word: &[u8]) -> bool
+    ensures { result ≡ list_any (λ piece. bytes_eq piece word.now) (words_of head.now) }
+{
+    head.split(|octet| *octet == b' ')
+        .any(|piece| piece == word)
+}
+
+/// Whether the head has all of the words.
+fn is_about(head: &[u8], words: &[&str]) -> bool
+    ensures { result ≡ about_all head.now (map (λ w. w.now) words.now) }
+{
+    words.iter().all(|word| has_word(head, word.as_bytes()))
+}
+
+/// Whether the entry is about the topic.
+fn entry_is_about(entry: &[u8], words: &[&str]) -> bool
+    ensures { result ≡ is_about (map (λ w. w.now) words.now) entry.now }
+{
+    is_about(head_of(entry), words)
+}
+
+/// Whether one of the entries is about the topic.
+fn has_entry(entries: &[u8], words: &[&str]) -> bool
+    ensures { result ≡ is_known entries.now (map (λ w. w.now) words.now) }
+{
+    entries
+        .split(|octet| *octet == b'\n')
+        .any(|entry| entry_is_about(entry, words))
+}
+
+/// Whether one of the entries is about the topic. Entries are lines; a topic is words, and an entry is about it if its head, which ends at
+/// a colon, has all of them: every entry is about no words.
+pub fn is_known(entries: &str, words: &[&str]) -> bool
+    ensures { result ≡ is_known entries.now (map (λ w. w.now) words.now) }
+{
+    has_entry(entries.as_bytes(), words)
+}
+
+/// Writes the entry, if it is about the topic.
+fn write_if_about<W: Write>(entry: &[u8], words: &[&str], writer: &mut W) -> io::Result<()>
+    ensures { OnOk result (Appends (W.contents writer.old) (W.contents writer.new)
+        (line_if_about (map (λ w. w.now) words.now) entry.now)) }
+{
+    if entry_is_about(entry, words) {
+        writer.write_all(entry)?;
+        writer.write_all(b"\n")?;
+    }
+    Ok(())
+}
+
+/// Writes the entries that are about the topic, a line each, in their order. It takes no memory.
+pub fn explain_to<W: Write>(entries: &str, words: &[&str], writer: &mut W) -> io::Result<()>
+    ensures { OnOk result (Appends (W.contents writer.old) (W.contents writer.new)
+        (explanation entries.now (map (λ w. w.now) words.now))) }
+{
+    for entry in entries.split('\n') {
+        write_if_about(entry.as_bytes(), words, writer)?;
+    }
+    Ok(())
+}

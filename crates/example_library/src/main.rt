@@ -1,0 +1,109 @@
+//! The first page of `x509` as a program: from octets to a verdict, a restart and a comparison, over stores in memory.
+#![tactic(auto)]
+
+mod digests;
+mod failure;
+mod files;
+
+use digests::Digests;
+use failure::Failure;
+use files::Octets;
+use std::alloc::Global;
+use std::io::Write;
+use std::process::ExitCode;
+use x509::{
+    Certificate, Connection, Files, Memory, Node, Options, Query, Store, compare, validate,
+};
+
+type Party = Node<Digests, Memory>;
+
+/// The moment that is asked about: 2025-06-01T00:00:00Z.
+const MOMENT: i64 = 1_748_736_000;
+
+/// A party that holds nothing, over a store in memory.
+fn new_party(alloc: Global) -> Result<Party, Failure> {
+    let files = Files {
+        log: Memory::new(alloc),
+        db: Memory::new(alloc),
+    };
+    let made = match Connection::open_files(alloc, files, Options::new(0)) {
+        Ok(conn) => Store::create(conn).ok(),
+        Err(_) => None,
+    };
+    match made {
+        Some(store) => Ok(Node::new(Digests, store)),
+        None => Err(Failure::NoStore),
+    }
+}
+
+/// Reads the certificates and validates the path alone: no statement is asked.
+fn validate_path<W: Write>(alloc: Global, octets: &Octets, out: &mut W) -> Result<(), Failure> {
+    let anchor = Certificate::read(alloc, &octets.root)?;
+    let path = [
+        Certificate::read(alloc, &octets.ca)?,
+        Certificate::read(alloc, &octets.mail)?,
+    ];
+    let outcome = validate(alloc, &Digests, &anchor, &path, MOMENT, None)?;
+    writeln!(out, "path {outcome:?}")?;
+    Ok(())
+}
+
+fn deliver<W: Write>(
+    alloc: Global,
+    party: &mut Party,
+    issuer: &[u8],
+    statement: &[u8],
+    out: &mut W,
+) -> Result<(), Failure> {
+    let counts = party.deliver(alloc, issuer, statement)?;
+    writeln!(out, "stored {} kept {}", counts.stored, counts.kept)?;
+    Ok(())
+}
+
+fn run<W: Write>(alloc: Global, octets: &Octets, out: &mut W) -> Result<(), Failure> {
+    validate_path(alloc, octets, out)?;
+
+    // The path is fine, but nothing is known yet of its certificates.
+    let path = [octets.ca.as_slice(), octets.mail.as_slice()];
+    let query = Query::read(alloc, &octets.root, &path, MOMENT, None)?;
+    let mut party = new_party(alloc)?;
+    writeln!(out, "at first {:?}", party.verdict(alloc, &query)?)?;
+
+    // The root's list speaks of the CA, the CA's response of the mail server.
+    deliver(alloc, &mut party, &octets.root, &octets.root_list, out)?;
+    deliver(alloc, &mut party, &octets.ca, &octets.response, out)?;
+    writeln!(out, "then {:?}", party.verdict(alloc, &query)?)?;
+
+    // What is held survives a restart.
+    let mut party = party.restart(alloc).ok().ok_or(Failure::NoStore)?;
+    writeln!(out, "restarted {:?}", party.verdict(alloc, &query)?)?;
+
+    // A second party was handed the CA's list, which revokes, and what the first has, in another order.
+    let mut other = new_party(alloc)?;
+    deliver(alloc, &mut other, &octets.ca, &octets.response, out)?;
+    deliver(alloc, &mut other, &octets.ca, &octets.ca_list, out)?;
+    deliver(alloc, &mut other, &octets.root, &octets.root_list, out)?;
+    deliver(alloc, &mut other, &octets.root, &octets.root_list, out)?;
+    let comparison = compare(alloc, &mut party, &mut other, &query)?;
+    writeln!(out, "compared {comparison:?}")?;
+
+    // Now both hold the same, and agree.
+    deliver(alloc, &mut party, &octets.ca, &octets.ca_list, out)?;
+    let comparison = compare(alloc, &mut party, &mut other, &query)?;
+    writeln!(out, "compared {comparison:?}")?;
+    Ok(())
+}
+
+fn main(rt: HostRuntime) -> ExitCode {
+    let done = match Octets::read(&rt) {
+        Ok(octets) => run(rt.alloc(), &octets, &mut rt.stdout()),
+        Err(failure) => Err(failure),
+    };
+    match done {
+        Ok(()) => ExitCode::SUCCESS,
+        Err(failure) => {
+            let _ = writeln!(rt.stderr(), "example_library: {failure}");
+            ExitCode::FAILURE
+        }
+    }
+}

@@ -1,0 +1,9 @@
+mod Alike
+mod PathAlike
+mod StatementsAlike
+mod SameVerdicts
+mod Purposes
+mod Adding
+mod Standing
+mod Kept
+mod StatementStanding

@@ -1,0 +1,88 @@
+-- What the code has at hand, as the definitions see it.
+use Rattle.std.specs.Prelude.{◌≡◌, ◌++◌, ℕ, List, [], map, Option, Some, None}
+use Rattle.asn.specs.Integer.{binary_value}
+use Rattle.cert.specs.Certificate.{Certificate, seen_certificate}
+use Rattle.path_verifiers.specs.Fingerprint.{fingerprint_of}
+use Rattle.statements_crl.specs.CertificateList.{seen_list}
+use Rattle.statements_crl.specs.declared.list.Crl as list
+use Rattle.statements_ocsp.specs.Certificates.{certificate_in}
+use Rattle.statements_ocsp.specs.OcspResponse.{OcspResponse, seen_response}
+use Rattle.statements_ocsp.specs.declared.response.Response as response
+use Rattle.relying_evidence.specs.declared.link.Link as linked
+use Rattle.relying_texts.specs.Reading.{Statement, of_list, of_response}
+use Rattle.relying_questions.specs.Places.{seen_placed}
+use Rattle.relying_questions.specs.Questions.{Judgement, of_certificate, asked_of_issuer, asked_of_list, asked_of_delegate, asked_of_response, asked_under}
+use Rattle.relying_questions.specs.declared.asked.Asked as code
+use Rattle.relying_questions.specs.declared.placed.Placed as placed
+use Rattle.relying_questions.specs.declared.reading.Statement.{Statement as read}
+use Rattle.relying_questions.specs.declared.reading.Statement.TheVariants as kind
+
+abbrev pub seen_asked : code.Asked → Judgement
+seen_asked asked = record {
+  algorithm = asked.algorithm.octets.now;
+  key_info = asked.key_info.octets.now;
+  message = asked.message.octets.now;
+  signature = asked.signature.octets.now;
+}
+
+-- the fingerprint of a question
+abbrev pub print_of : Judgement → List ℕ
+print_of asked = fingerprint_of asked.algorithm asked.key_info asked.message asked.signature
+
+-- what the questions are
+abbrev pub seen_all : List code.Asked → List Judgement
+seen_all asked = map seen_asked asked
+
+-- these are behind those that were there
+abbrev pub Adds : List code.Asked → List code.Asked → List Judgement → Type 0
+Adds old new more = seen_all new ≡ seen_all old ++ more
+
+abbrev pub seen_statement : read → Statement
+seen_statement (kind.List list at) = of_list (binary_value list.number.now) (seen_list list)
+seen_statement (kind.Response response at) = of_response (seen_response response)
+
+-- ---- links
+
+abbrev pub issuer_of : linked.Link → Certificate
+issuer_of link = seen_certificate link.issuer.now
+
+abbrev pub certificate_of : linked.Link → Certificate
+certificate_of link = seen_certificate link.certificate.now
+
+abbrev pub issuers_in : List linked.Link → List Certificate
+issuers_in links = map issuer_of links
+
+-- the questions of the certificates, in order
+abbrev pub asked_of_link : linked.Link → Judgement
+asked_of_link link = of_certificate (issuer_of link) (certificate_of link)
+
+abbrev pub asked_of_links : List linked.Link → List Judgement
+asked_of_links links = map asked_of_link links
+
+-- ---- the questions of what was read
+
+abbrev pub asked_of_list_seen : placed.Placed → list.Crl → List Judgement
+asked_of_list_seen issuer list = asked_of_list (seen_placed issuer) (seen_list list)
+
+abbrev pub asked_of_issuer_seen : placed.Placed → response.Response → List Judgement
+asked_of_issuer_seen issuer response = asked_of_issuer (seen_placed issuer) (seen_response response)
+
+abbrev pub asked_of_delegate_seen : placed.Placed → response.Response → placed.Placed → List Judgement
+asked_of_delegate_seen issuer response delegate = asked_of_delegate (seen_placed issuer) (seen_response response) (seen_placed delegate)
+
+-- of a value that comes with the response, if it is a certificate
+abbrev pub asked_of_option : Certificate → OcspResponse → Option Certificate → List Judgement
+asked_of_option issuer response None = []
+asked_of_option issuer response (Some c) = asked_of_delegate issuer response c
+
+abbrev pub asked_of_value : Certificate → OcspResponse → List ℕ → List Judgement
+asked_of_value issuer response octets = asked_of_option issuer response (certificate_in octets)
+
+abbrev pub asked_of_value_seen : placed.Placed → response.Response → List ℕ → List Judgement
+asked_of_value_seen issuer response = asked_of_value (seen_placed issuer) (seen_response response)
+
+abbrev pub asked_of_response_seen : placed.Placed → response.Response → List Judgement
+asked_of_response_seen issuer response = asked_of_response (seen_placed issuer) (seen_response response)
+
+abbrev pub asked_under_seen : placed.Placed → read → List Judgement
+asked_under_seen issuer statement = asked_under (seen_statement statement) (seen_placed issuer)

@@ -1,0 +1,41 @@
+//! Questions to a verifier.
+
+ghost use Rattle.std.specs.Prelude.{◌≡◌};
+ghost use Rattle.relying_questions.specs.Questions.{answer};
+ghost use Rattle.relying_questions.specs.Seen.{print_of, seen_asked};
+
+use crate::part::Part;
+use path_verifiers::{Verifier, fingerprint};
+
+/// A question to a verifier: whether the signature of the message is accepted under the key, by the algorithm. The parts are the whole
+/// DER of the algorithm identifier and of the subjectPublicKeyInfo, the message that was signed, and the octets of the signature.
+#[derive(Clone, Copy, Debug, PartialEq, Eq)]
+pub struct Asked<'a> {
+    pub algorithm: Part<'a>,
+    pub key_info: Part<'a>,
+    pub message: Part<'a>,
+    pub signature: Part<'a>,
+}
+
+impl<'a> Asked<'a> {
+    /// The fingerprint of the question, by which a `ListVerifier` knows it. No memory is taken.
+    pub fn fingerprint(&self) -> [u8; 32]
+        ensures { result ≡ print_of (seen_asked self.now) }
+    {
+        let (algorithm, key_info) = (self.algorithm.octets, self.key_info.octets);
+        let (message, signature) = (self.message.octets, self.signature.octets);
+        fingerprint(algorithm, key_info, message, signature)
+    }
+
+    /// How the verifier answers it.
+    pub fn answer<V: Verifier>(&self, verifier: &V) -> bool
+        ensures { result ≡ answer (V.accepts verifier.now) (seen_asked self.now) }
+    {
+        verifier.judge(
+            self.algorithm.octets,
+            self.key_info.octets,
+            self.message.octets,
+            self.signature.octets,
+        )
+    }
+}

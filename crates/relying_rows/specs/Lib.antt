@@ -1,0 +1,10 @@
+pub mod Row
+pub mod Statement
+pub mod Fingerprints
+pub mod Contents
+pub mod Rows
+pub mod Reading
+pub mod Steps
+pub mod Laws
+pub use Rattle.relying_texts.specs.Texts
+pub use Rattle.relying_texts.specs.View
