@@ -11,7 +11,7 @@ pub use Rattle.asn.proofs.PartLemmas.{contents_part, members_are_parts}
 pub use Rattle.asn.proofs.EncodedParts.{IsEncodedPart, AllParts, members_stand, contents_stand}
 pub use Rattle.asn.proofs.PlaceSizes.{values_count, values_short, members_count, members_short, body_short}
 pub use Rattle.asn.proofs.PlaceOrder.{values_before, members_before}
-pub use Rattle.asn.proofs.SameOctets.{members_same}
+pub use Rattle.asn.proofs.SameOctets.{values_same, members_same}
 pub use Rattle.asn.proofs.ListWalks.{as_each, of_each, as_list, of_list, octets_are}
 pub use Rattle.asn.proofs.OctetParts.{members_octets, body_octets, inside_octets}
 pub use Rattle.asn.proofs.IntegerLemmas.{value_of_positive, binary_value-zero_first, first_of_positive, long_magnitude}

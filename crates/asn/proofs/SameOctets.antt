@@ -20,6 +20,11 @@ parts_same (suc most) octets a b = by (is_empty octets) (parts_same most (drop (
     by true rest = refl
     by false rest = ap (λ others. take (end_of octets) octets ∷ others) rest
 
+pub values_same : (one other : Place) → one.octets ≡ other.octets → octets_of_each (values one) ≡ octets_of_each (values other)
+unfolding values
+values_same one other same =
+    ap (λ octets. parts_at (length octets) octets one.at) same ∙ parts_same (length other.octets) other.octets one.at other.at
+
 pub members_same : (one other : Place) → one.octets ≡ other.octets → octets_of_each (members one).values ≡ octets_of_each (members other).values
 unfolding members_at body_place values
 members_same one other same =

@@ -117,6 +117,13 @@ impl<'a> Cursor<'a> {
         self.at
     }
 
+    /// The octets of the values that are left.
+    pub fn octets(&self) -> &'a [u8]
+        ensures { result.now ≡ (remaining self.now).octets }
+    {
+        self.octets
+    }
+
     /// Whether no value is left.
     #[tactic(auto, unfolding(crate::specs::Place::ends))]
     pub fn end(&self) -> bool

@@ -14,43 +14,43 @@ use thiserror::Error;
 #[derive(Clone, Copy, Debug, PartialEq, Eq, Error)]
 pub enum CertRule {
     /// The input, or the contents of an OCTET STRING that holds a value, are not DER.
-    #[error("not DER: {0}")]
+    #[error("fault 21: not DER: {0}")]
     Der(Rule),
     /// A name, a general name or the base of a subtree is none.
     #[error("{0}")]
     Name(NameRule),
     /// A value with an identifier that the layout does not have there, a value that is missing, or one left over.
-    #[error("value that the layout does not have there")]
+    #[error("fault 22: value that the layout does not have there")]
     Layout,
     /// A version that is not served, or a component that the version does not have (RFC 5280, 4.1.2.1, 4.1.2.8, 4.1.2.9).
-    #[error("version")]
+    #[error("fault 23: version that is not served, or a component that it does not have")]
     Version,
     /// A signatureAlgorithm other than that of the signed part (4.1.1.2).
-    #[error("algorithms that differ")]
+    #[error("fault 24: signature algorithms that differ")]
     AlgorithmsDiffer,
     /// A serial number of no octets, or of more than 32.
-    #[error("serial number")]
+    #[error("fault 25: serial number of no octets or of more than 32")]
     Serial,
     /// A time that is none (4.1.2.5).
-    #[error("time")]
+    #[error("fault 26: time that is none")]
     Time,
     /// An issuer with an empty name (4.1.2.4).
-    #[error("issuer without a name")]
+    #[error("fault 27: issuer without a name")]
     EmptyIssuer,
     /// An extension of the type of an earlier one (4.2).
-    #[error("extension repeated")]
+    #[error("fault 28: extension repeated")]
     ExtensionRepeated,
     /// A value of an extension that has not the layout of its type (4.2.1).
-    #[error("value of an extension")]
+    #[error("fault 29: value of an extension that has not the layout of its type")]
     ExtensionValue,
     /// A subtree with a minimum or a maximum (4.2.1.10).
-    #[error("bounds of a subtree")]
+    #[error("fault 30: subtree with a minimum or a maximum")]
     SubtreeBounds,
     /// A signature whose BIT STRING has unused bits.
-    #[error("unused bits in a signature")]
+    #[error("fault 31: signature with unused bits")]
     SignatureBits,
     /// More names or subtrees than are served.
-    #[error("past a limit")]
+    #[error("fault 32: more names or subtrees than are served")]
     Limit,
 }
 
@@ -69,9 +69,9 @@ pub(crate) fn name_refusal(refusal: (NameRule, usize)) -> Refusal
 /// want of memory.
 #[derive(Clone, Copy, Debug, PartialEq, Eq, Error)]
 pub enum CertFault {
-    #[error("{0} at offset {1}")]
+    #[error("{0}, at offset {1}")]
     Refused(CertRule, usize),
-    #[error("no memory")]
+    #[error("fault 33: no memory")]
     Memory,
 }
 

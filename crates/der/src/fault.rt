@@ -10,25 +10,25 @@ use thiserror::Error;
 pub enum Rule {
     /// An identifier octet that is not served: a high tag number, universal 0, or a universal type in the wrong form
     /// (X.690, 8.1.2).
-    #[error("identifier octet that is not served")]
+    #[error("fault 1: identifier octet that is not served")]
     TagForm,
     /// Length octets that are indefinite, reserved, or more than the length needs (8.1.3, 10.1).
-    #[error("length octets that are not the shortest")]
+    #[error("fault 2: length octets that are not the shortest")]
     LengthForm,
     /// Contents of 2^28 octets or more.
-    #[error("contents past the limit")]
+    #[error("fault 3: contents past the limit")]
     TooLong,
     /// A header or contents that pass the end of the enclosing value, or of the input.
-    #[error("value cut short")]
+    #[error("fault 4: value cut short")]
     Truncated,
     /// A value at depth 33.
-    #[error("value nested too deep")]
+    #[error("fault 5: value nested too deep")]
     TooDeep,
     /// Contents that the type does not allow (8.2 to 8.8, 8.19, 11.1, 11.2).
-    #[error("contents that the type does not allow")]
+    #[error("fault 6: contents that the type does not allow")]
     Content,
     /// Octets behind the outermost value.
-    #[error("octets behind the value")]
+    #[error("fault 7: octets behind the value")]
     Trailing,
 }
 
@@ -36,9 +36,9 @@ pub enum Rule {
 /// identifier octet; for `Trailing`, that of the first octet behind the value), or want of memory.
 #[derive(Clone, Copy, Debug, PartialEq, Eq, Error)]
 pub enum Fault {
-    #[error("{0} at offset {1}")]
+    #[error("{0}, at offset {1}")]
     Refused(Rule, usize),
-    #[error("no memory")]
+    #[error("fault 8: no memory")]
     Memory,
 }
 

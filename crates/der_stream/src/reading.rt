@@ -19,7 +19,7 @@ pub enum ReadFault {
     #[error("{0}")]
     Fault(Fault),
     /// The next value has more octets than the caller allows.
-    #[error("value past the limit")]
+    #[error("fault 10: value past the limit")]
     Limit,
     /// The source answered an error.
     #[error("source that cannot be read")]

@@ -7,6 +7,7 @@ mod NameLaws
 mod NameValues
 mod NameEntries
 mod Matching
+mod SameNames
 mod Ordered
 mod Keys
 mod Fits

@@ -205,10 +205,9 @@ impl Attribute<'_> {
     pub fn same_value(&self, other: &Attribute<'_>) -> bool
         ensures { IsTrue result ↔ (compared_value self.now ≡ compared_value other.now) }
     {
-        match (is_text(self.tag), is_text(other.tag)) {
-            (true, true) => same_prepared(self.contents, other.contents),
-            (false, false) => self.tag == other.tag && self.contents == other.contents,
-            _ => false,
+        if self.tag == other.tag && self.contents == other.contents {
+            return true;
         }
+        is_text(self.tag) && is_text(other.tag) && same_prepared(self.contents, other.contents)
     }
 }

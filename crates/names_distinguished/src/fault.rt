@@ -9,25 +9,25 @@ use thiserror::Error;
 #[derive(Clone, Copy, Debug, PartialEq, Eq, Error)]
 pub enum NameRule {
     /// A value with another identifier octet, a value that is missing, or one that is left over.
-    #[error("not the layout of a name")]
+    #[error("fault 11: not the layout of a name")]
     NameLayout,
     /// An attribute of a type that an earlier one of its RDN has (X.501, 9.3).
-    #[error("attribute type repeated in one RDN")]
+    #[error("fault 12: attribute type repeated in one RDN")]
     RdnRepeat,
     /// An attribute whose octets are less than those of the one before it (X.690, 11.6).
-    #[error("attributes of an RDN out of order")]
+    #[error("fault 13: attributes of an RDN out of order")]
     SetOrder,
     /// A string with octets that its type does not hold.
-    #[error("not a string of its type")]
+    #[error("fault 14: not a string of its type")]
     Text,
     /// No dNSName, or no base of one (RFC 5280, 4.2.1.6 and 4.2.1.10).
-    #[error("not a DNS name")]
+    #[error("fault 15: not a DNS name")]
     DnsForm,
     /// An address, or an address with its mask, of another number of octets (RFC 5280, 4.2.1.6 and 4.2.1.10).
-    #[error("not an IP address")]
+    #[error("fault 16: not an IP address")]
     IpForm,
     /// A mask that is not ones and then zeros (RFC 4632, 3.1).
-    #[error("not a mask of ones and then zeros")]
+    #[error("fault 17: not a mask of ones and then zeros")]
     MaskForm,
 }
 

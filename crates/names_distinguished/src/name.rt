@@ -159,13 +159,14 @@ impl<'a> Name<'a> {
         self.rdns.is_empty()
     }
 
-    /// Whether the names match (RFC 5280, 7.1): they have as many RDNs, which match in order.
+    /// Whether the names match (RFC 5280, 7.1): they have as many RDNs, which match in order. Names with the same octets match, and
+    /// are not looked into.
     #[tactic(auto, unfolding(crate::specs::NameOctets::rdns_of))]
     pub fn matches(&self, other: &Name<'_>) -> bool
         ensures decides { IsTrue result ↔ NamesMatch (rdns_of self.now) (rdns_of other.now) }
         ensures test { result ≡ matching (rdns_of self.now) (rdns_of other.now) }
     {
-        self.rdns.matches(&other.rdns)
+        self.raw == other.raw || self.rdns.matches(&other.rdns)
     }
 
     /// Whether the name lies within the other (RFC 5280, 4.2.1.10): it begins with all RDNs of the other.

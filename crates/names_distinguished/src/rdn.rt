@@ -190,11 +190,14 @@ impl<'a> Rdn<'a> {
         }
     }
 
-    /// Whether the sets are one map from types to values as they are compared. Where their types are in one order, this takes
-    /// one walk over both; else one over this set for each long run and each batch of the other.
+    /// Whether the sets are one map from types to values as they are compared. Sets with the same octets are not looked into. Where their
+    /// types are in one order, this takes one walk over both; else one over this set for each long run and each batch of the other.
     pub(crate) fn matches(&self, other: &Rdn<'_>) -> bool
         ensures { IsTrue result ↔ (map_of self.now ≡ map_of other.now) }
     {
+        if self.attributes.octets() == other.attributes.octets() {
+            return true;
+        }
         match self.matches_in_order(other) {
             Some(same) => same,
             None => self.count() == other.count() && self.agrees_on_its_own(other),

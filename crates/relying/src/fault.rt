@@ -5,6 +5,7 @@ use cert::CertFault;
 use path_verifiers::Verifier;
 use sqlite_disk::Disk;
 use statements_parts::StatementFault;
+use std::fmt;
 use store::ReopenFault;
 use store_sql::StoreFault;
 use thiserror::Error;
@@ -12,11 +13,11 @@ use thiserror::Error;
 /// Why a delivery takes nothing: the issuer's certificate is refused, else the statement is, else the store does not take it.
 #[derive(Clone, Copy, Debug, PartialEq, Eq, Error)]
 pub enum DeliverFault {
-    #[error("the issuer's certificate is refused")]
+    #[error("the issuer's certificate is refused: {0}")]
     Issuer(CertFault),
-    #[error("the statement is refused")]
+    #[error("the statement is refused: {0}")]
     Statement(StatementFault),
-    #[error("the store does not take it")]
+    #[error("the store does not take it: {0}")]
     Store(StoreFault),
 }
 
@@ -27,4 +28,13 @@ pub enum RunFault<V: Verifier, D: Disk> {
     NoRoom(Node<V, D>),
     /// A restart fails, behind so many events that were done. What is left of the store holds what the last delivery left.
     Restart(usize, ReopenFault<D>),
+}
+
+impl<V: Verifier, D: Disk> fmt::Display for RunFault<V, D> {
+    fn fmt(&self, f: &mut fmt::Formatter<'_>) -> fmt::Result {
+        match self {
+            RunFault::NoRoom(_) => write!(f, "no memory for the answers"),
+            RunFault::Restart(done, fault) => write!(f, "restart behind {done} events: {fault}"),
+        }
+    }
 }

@@ -24,10 +24,10 @@ pub struct Rows<'a> {
 #[derive(Clone, Copy, Debug, PartialEq, Eq, Error)]
 pub enum RowFault {
     /// A value of the certificates is none, or there is no anchor.
-    #[error("certificates: {0} at offset {1}")]
+    #[error("certificates: {0}, at offset {1}")]
     Certificates(CertRule, usize),
     /// A value of the statements is neither a list nor a response.
-    #[error("statements: {0} at offset {1}")]
+    #[error("statements: {0}, at offset {1}")]
     Statements(StatementRule, usize),
     /// Fewer than 32 octets are left, from this place on.
     #[error("fingerprint cut short at offset {0}")]

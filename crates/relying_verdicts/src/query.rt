@@ -8,6 +8,7 @@ ghost use Rattle.relying_verdicts.specs.View.{seen_query, texts_of};
 
 use cert::{CertFault, Certificate};
 use std::alloc::Global;
+use thiserror::Error;
 
 /// A question about a path: an anchor, of which the name and the key alone are used, the certificates 1 to n below it, a moment
 /// and a purpose.
@@ -20,7 +21,8 @@ pub struct Query<'a> {
 }
 
 /// Which certificate of a question is refused, 0 being the anchor, and why.
-#[derive(Clone, Copy, Debug, PartialEq, Eq)]
+#[derive(Clone, Copy, Debug, PartialEq, Eq, Error)]
+#[error("certificate {certificate} of the path is refused: {fault}")]
 pub struct QueryFault {
     pub certificate: usize,
     pub fault: CertFault,

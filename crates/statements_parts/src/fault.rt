@@ -14,52 +14,52 @@ use thiserror::Error;
 #[derive(Clone, Copy, Debug, PartialEq, Eq, Error)]
 pub enum StatementRule {
     /// The input is not DER.
-    #[error("not DER: {0}")]
+    #[error("fault 41: not DER: {0}")]
     Der(Rule),
     /// The issuer's name is none.
     #[error("{0}")]
     Name(NameRule),
     /// A value with an identifier that the layout does not have there, a value that is missing, or one left over.
-    #[error("value that the layout does not have there")]
+    #[error("fault 42: value that the layout does not have there")]
     Layout,
     /// A list of another version than v2 (RFC 5280, 5.1.2.1).
-    #[error("version other than 2")]
+    #[error("fault 43: version other than 2")]
     NotV2,
     /// A list without a CRL number (5.2.3).
-    #[error("no CRL number")]
+    #[error("fault 44: no CRL number")]
     NoNumber,
     /// A CRL number that is none from 0 to 2^160 - 1 (5.2.3).
-    #[error("CRL number out of range")]
+    #[error("fault 45: CRL number out of range")]
     NumberRange,
     /// A list that does not say until when it holds (5.1.2.5).
-    #[error("no next update")]
+    #[error("fault 46: no next update")]
     NoNextUpdate,
     /// A list of changes to another (5.2.4), which is not served.
-    #[error("delta list")]
+    #[error("fault 47: delta list")]
     Delta,
     /// A list for a part of its issuer's certificates that is not served (5.2.5).
-    #[error("scope that is not served")]
+    #[error("fault 48: scope that is not served")]
     Scope,
     /// An entry for a certificate of another issuer (5.3.3), which is not served.
-    #[error("entry of another issuer")]
+    #[error("fault 49: entry of another issuer")]
     Indirect,
     /// A critical extension that is not known (5.2, 5.3; of a response, RFC 6960, 4.4).
-    #[error("critical extension that is not known")]
+    #[error("fault 50: critical extension that is not known")]
     CriticalUnknown,
     /// A reason that is none (5.3.1; of a response also removeFromCRL).
-    #[error("reason that is none")]
+    #[error("fault 51: reason that is none")]
     BadReason,
     /// removeFromCRL in a list that is no delta list (5.3.1).
-    #[error("removal in a complete list")]
+    #[error("fault 52: removal in a complete list")]
     RemoveInComplete,
     /// A response that says, by this code, that the request was not answered (RFC 6960, 4.2.1).
-    #[error("response that is not successful, of status {0}")]
+    #[error("fault 55: response that is not successful, of status {0}")]
     NotSuccessful(u8),
     /// A response of another type than id-pkix-ocsp-basic (RFC 6960, 4.2.1).
-    #[error("response of another type")]
+    #[error("fault 56: response of another type")]
     ResponseType,
     /// A response with more single responses than are served.
-    #[error("too many single responses")]
+    #[error("fault 59: too many single responses")]
     TooManySingles,
 }
 
@@ -78,21 +78,21 @@ pub(crate) fn name_refusal(refusal: (NameRule, usize)) -> Refusal
 /// statement it is not; or want of memory.
 #[derive(Clone, Copy, Debug, PartialEq, Eq, Error)]
 pub enum StatementFault {
-    #[error("{0} at offset {1}")]
+    #[error("{0}, at offset {1}")]
     Refused(StatementRule, usize),
     /// A list of an issuer with another name.
-    #[error("list of another issuer")]
+    #[error("fault 53: list of another issuer")]
     OtherIssuer,
     /// A list whose signature is not accepted under the issuer's key.
-    #[error("signature that is not accepted")]
+    #[error("fault 54: signature that is not accepted")]
     BadSignature,
     /// A response that nobody signed who may answer for the issuer (RFC 6960, 4.2.2.2).
-    #[error("response without a signer")]
+    #[error("fault 57: response without a signer")]
     NoSigner,
     /// A response that says nothing of a certificate of the issuer.
-    #[error("response that says nothing for the issuer")]
+    #[error("fault 58: response that says nothing for the issuer")]
     NothingForIssuer,
-    #[error("no memory")]
+    #[error("fault 60: no memory")]
     Memory,
 }
 

@@ -5,6 +5,7 @@ ghost use Rattle.std.specs.Prelude.{◌≡◌, false};
 use sqlite::{Connection, FileStore, Leftover};
 use sqlite_disk::Disk;
 use sqlite_std_file::File;
+use std::fmt;
 use store_sql::StoreFault;
 
 /// A connection that is not taken for a store, as it was, and why.
@@ -13,6 +14,12 @@ pub struct Refused<D: Disk> {
     pub fault: StoreFault,
     pub conn: Connection<FileStore<D>>,
     pub ghost idle: { conn.in_transaction ≡ false },
+}
+
+impl<D: Disk> fmt::Display for Refused<D> {
+    fn fmt(&self, f: &mut fmt::Formatter<'_>) -> fmt::Result {
+        write!(f, "the database is not taken for a store: {}", self.fault)
+    }
 }
 
 /// Why a store is not taken for one again behind a restart, and what is left of it.
@@ -26,6 +33,16 @@ pub enum ReopenFault<D: Disk> {
     Adopt(Refused<D>),
 }
 
+impl<D: Disk> fmt::Display for ReopenFault<D> {
+    fn fmt(&self, f: &mut fmt::Formatter<'_>) -> fmt::Result {
+        match self {
+            ReopenFault::Close(fault, _) => write!(f, "the store cannot be closed: {fault}"),
+            ReopenFault::Open(fault, _) => write!(f, "the store cannot be opened again: {fault}"),
+            ReopenFault::Adopt(refused) => write!(f, "{refused}"),
+        }
+    }
+}
+
 /// Why no store is opened or made at a path.
 #[derive(Drop)]
 pub enum OpenFault {
@@ -33,4 +50,13 @@ pub enum OpenFault {
     Unconnected(StoreFault),
     /// The connection that was opened, which is not taken for a store.
     Refused(Refused<File>),
+}
+
+impl fmt::Display for OpenFault {
+    fn fmt(&self, f: &mut fmt::Formatter<'_>) -> fmt::Result {
+        match self {
+            OpenFault::Unconnected(fault) => write!(f, "there is no database at the path: {fault}"),
+            OpenFault::Refused(refused) => write!(f, "{refused}"),
+        }
+    }
 }

@@ -10,12 +10,12 @@ use thiserror::Error;
 #[derive(Clone, Copy, Debug, PartialEq, Eq, Error)]
 pub enum StoreFault {
     /// The database refused, for another cause than memory.
-    #[error("the database refused")]
+    #[error("fault 71: the database refused")]
     Store,
     /// The tables are not those of a store, or a row is not of the form that a store writes.
-    #[error("no tables of a store")]
+    #[error("fault 72: the tables are not those of a store")]
     Schema,
-    #[error("no memory")]
+    #[error("fault 73: no memory")]
     Memory,
 }
 

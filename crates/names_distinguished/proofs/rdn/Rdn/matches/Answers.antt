@@ -1,10 +1,18 @@
-use Rattle.std.proofs.Common.{◌∙◌, sym, eq-eqb}
+use Rattle.std.proofs.Common.{◌≡◌, ◌∙◌, sym, eq-eqb, rules}
 use Rattle.std.proofs.lemmas.Bool.{eqb-true}
 use Rattle.names_distinguished.specs.NameView.{entries_of}
 use Rattle.names_distinguished.proofs.Matching.{sets_agree}
 use Rattle.names_distinguished.proofs.Counting.{same_by_one_side, same_size}
 use Rattle.names_distinguished.proofs.RunParts.{is_distinct}
+use Rattle.names_distinguished.proofs.SameNames.{same_sets}
 use Rattle.names_distinguished.proofs.rdn.Rdn.matches.Goals as goal
+
+pub returns-then-eq : goal.returns-then-eq
+returns-then-eq c =
+    let same : c.octets.result.now ≡ c.octets-2.result.now = search rules in (
+      λ t. same_sets c.args.self.now c.args.other.now (sym c.octets.ensures ∙ (same ∙ c.octets-2.ensures)),
+      λ s. search rules,
+    )
 
 pub returns-then-count : goal.returns-then-count
 returns-then-count c =
