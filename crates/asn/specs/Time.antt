@@ -1,6 +1,6 @@
 -- UTCTime (X.680 47) and GeneralizedTime (X.680 46) in the forms that DER leaves (X.690 11.7, 11.8)
 -- and RFC 5280 narrows (4.1.2.5): Greenwich Mean Time to the second, with no fraction.
-use Rattle.std.specs.Prelude.{◌≡◌, ◌↔◌, ◌⊎◌, ◌<◌, ◌≤◌, ◌+◌, ◌-◌, ◌*◌, ◌/◌, ◌%◌, ℕ, List, [], ◌∷◌, ◌++◌, ℤ, pos, ◌+ℤ◌, ◌*ℤ◌, codes, slice_index, Bool, ◌&&◌, ◌==◌, nat_lt, nat_le, bytes_eq, if◌then◌else◌, Option, Some, None}
+use Rattle.std.specs.Prelude.{◌≡◌, ◌↔◌, ◌⊎◌, ◌<◌, ◌≤◌, ◌+◌, ◌-◌, ◌*◌, ◌/◌, ◌%◌, ℕ, List, [], ◌∷◌, ◌++◌, ℤ, pos, ◌+ℤ◌, ◌*ℤ◌, ◌<ℤ◌, codes, slice_index, Bool, ◌&&◌, ◌==◌, nat_lt, nat_le, bytes_eq, if◌then◌else◌, Option, Some, None}
 use Rattle.jiff_core.specs.Calendar.{IsCivilDate, days_from_civil, days_in_month}
 
 -- a number below 100 in two decimal digits
@@ -52,6 +52,10 @@ abbrev pub time_value : CivilTime → ℤ
 time_value time =
     days_from_civil (pos time.year) time.month time.day *ℤ pos 86_400
     +ℤ pos (time.hour * 3600 + time.minute * 60 + time.second)
+
+-- seconds of a time before the year 10000, as all are that can be spelled
+abbrev pub IsBeforeYear10000 : ℤ → Type 0
+IsBeforeYear10000 seconds = seconds <ℤ pos 253_402_300_800
 
 -- the content under that tag is the time of that many seconds from 1970-01-01T00:00:00Z
 pub record IsTime (tag : ℕ) (text : List ℕ) (seconds : ℤ) : Type 0 where

@@ -1,7 +1,7 @@
 //! UTCTime and GeneralizedTime, as certificates and revocation statements write them.
 
 ghost use Rattle.std.specs.Prelude.{◌≡◌, ◌<◌, ◌+◌, ◌*◌, ◌/◌, ◌%◌, ℕ, ℤ, length, slice_index, pos, ◌+ℤ◌, ◌*ℤ◌, IfSome, IfNone};
-ghost use Rattle.asn.specs.Time.{IsTwoDigits, IsTimeInYear, IsTime, seconds_in, TimesAreUnique, TimeIsExact};
+ghost use Rattle.asn.specs.Time.{IsTwoDigits, IsTimeInYear, IsTime, IsBeforeYear10000, seconds_in, TimesAreUnique, TimeIsExact};
 ghost use Rattle.jiff_core.specs.Calendar.{IsCivilDate, IsEpochDay, days_from_civil};
 
 use crate::identifier::{GENERALIZED_TIME, UTC_TIME};
@@ -40,8 +40,10 @@ fn day_number(year: u16, month: u8, day: u8) -> Option<i32>
 
 /// The seconds of whole days and of a time of day.
 fn seconds_from(days: i32, second_of_day: u32) -> i64
-    requires { IsEpochDay days }
-    ensures { result ≡ days *ℤ pos 86_400 +ℤ pos second_of_day }
+    requires day { IsEpochDay days }
+    requires clock { second_of_day < 86_400 }
+    ensures value { result ≡ days *ℤ pos 86_400 +ℤ pos second_of_day }
+    ensures early { IsBeforeYear10000 result }
 {
     days as i64 * 86_400 + second_of_day as i64
 }
@@ -51,6 +53,7 @@ fn seconds_in_year(year: u16, text: &[u8]) -> Option<i64>
     requires year { year < 10000 }
     requires length { length text.now ≡ 11 }
     ensures some { IfSome result (IsTimeInYear year text.now) }
+    ensures early { IfSome result IsBeforeYear10000 }
     ensures none { IfNone result ((seconds : ℤ) → IsTimeInYear year text.now seconds → ⊥) }
 {
     let month = two_digit_number(text, 0)?;
@@ -69,6 +72,7 @@ fn seconds_in_year(year: u16, text: &[u8]) -> Option<i64>
 /// The seconds of YYMMDDHHMMSSZ. YY from 50 on is 19YY, and else 20YY (RFC 5280 4.1.2.5.1).
 fn seconds_of_utc_time(text: &[u8]) -> Option<i64>
     ensures some { IfSome result (IsTime 23 text.now) }
+    ensures early { IfSome result IsBeforeYear10000 }
     ensures none { IfNone result ((seconds : ℤ) → IsTime 23 text.now seconds → ⊥) }
 {
     if text.len() != 13 {
@@ -82,6 +86,7 @@ fn seconds_of_utc_time(text: &[u8]) -> Option<i64>
 /// The seconds of YYYYMMDDHHMMSSZ (RFC 5280 4.1.2.5.2).
 fn seconds_of_generalized_time(text: &[u8]) -> Option<i64>
     ensures some { IfSome result (IsTime 24 text.now) }
+    ensures early { IfSome result IsBeforeYear10000 }
     ensures none { IfNone result ((seconds : ℤ) → IsTime 24 text.now seconds → ⊥) }
 {
     if text.len() != 15 {
@@ -100,6 +105,7 @@ pub fn seconds_of_time(tag: u8, octets: &[u8]) -> Option<i64>
     ensures some { IfSome result (IsTime tag octets.now) }
     ensures none { IfNone result ((seconds : ℤ) → IsTime tag octets.now seconds → ⊥) }
     ensures value { result ≡ seconds_in tag octets.now }
+    ensures early { IfSome result IsBeforeYear10000 }
 {
     match tag {
         UTC_TIME => seconds_of_utc_time(octets),

@@ -5,6 +5,7 @@ ghost use Rattle.der.specs.Identifier.{is_constructed};
 ghost use Rattle.der.specs.Length.{contents_limit};
 ghost use Rattle.asn.specs.Place.{seen_tlv, octets_left};
 ghost use Rattle.asn.specs.Members.{left, members, begins};
+ghost use Rattle.asn.specs.Time.{IsBeforeYear10000};
 ghost use Rattle.asn.specs.Walk.{Gives, StepGives, seen, is_a, required, choice, optional, any, next_or, ended, some, seconds, time, default_false};
 
 use crate::identifier::{BOOLEAN, GENERALIZED_TIME, UTC_TIME};
@@ -150,7 +151,8 @@ impl<'a> Tlv<'a> {
     /// The seconds of the time that this value is (as `seconds_of_time`); the fault, at this value, where it is none.
     #[tactic(auto, unfolding(crate::specs::Walk::seconds))]
     pub fn seconds<F: Copy>(&self, fault: F) -> Result<i64, (F, usize)>
-        ensures { Gives (λ moment. moment) result (seconds fault (seen_tlv self.now)) }
+        ensures walk { Gives (λ moment. moment) result (seconds fault (seen_tlv self.now)) }
+        ensures early { IfOk result IsBeforeYear10000 }
     {
         match seconds_of_time(self.tag, self.body) {
             Some(moment) => Ok(moment),

@@ -1,7 +1,7 @@
 -- What a response says of the issuer's certificates (RFC 6960, 4.2.1 and 4.2.2).
 use Rattle.std.specs.Prelude.{◌≡◌, ◌≢◌, ◌↔◌, ◌&&◌, ◌==◌, ◌+ℤ◌, ℕ, ℤ, pos, Bool, List, [], ◌∷◌, length, filter, map, Option, Some, None, Result, Ok, Err, if◌then◌else◌}
 use Rattle.std.specs.Str.{bytes_eq}
-use Rattle.std.specs.Int.{int_max, int_min, saturate_signed, w64}
+use Rattle.std.specs.Int.{int_max, int_min}
 use Rattle.cert.specs.Certificate.{Certificate}
 use Rattle.statements_ocsp.specs.OcspResponse.{OcspResponse, ocsp_response}
 use Rattle.statements_ocsp.specs.Single.{SingleResponse}
@@ -36,12 +36,11 @@ speaks_for issuer = speaks_with (key_hash issuer)
 abbrev pub day : ℤ
 day = pos 86400
 
--- A single response without nextUpdate counts for a day from thisUpdate on, which is a choice of the profile. Seconds are counted in
--- 64 bits, in which every time before the year 10000 is far from the last.
+-- A single response without nextUpdate counts for a day from thisUpdate on, which is a choice of the profile.
 abbrev pub end_of : SingleResponse → ℤ
 end_of single = end_in single.this_update single.next_update where
   end_in : ℤ → Option ℤ → ℤ
-  end_in this_update None = saturate_signed w64 (this_update +ℤ day)
+  end_in this_update None = this_update +ℤ day
   end_in this_update (Some next_update) = next_update
 
 -- It counts while both the statement and the delegate's certificate do.

@@ -37,7 +37,7 @@ fn end(single: &SingleResponse<'_>) -> i64
 {
     match single.next_update {
         Some(next_update) => next_update,
-        None => single.this_update.saturating_add(DAY),
+        None => single.this_update + DAY,
     }
 }
 

@@ -13,6 +13,7 @@ mod response;
 mod response_extensions;
 mod single;
 mod single_list;
+mod single_reading;
 
 pub use cert_id::CertId;
 pub use cert_status::CertStatus;

@@ -1,7 +1,8 @@
 //! The parts of a certificate that are read alone: algorithm identifiers, validities, extensions; the numbers of rules.
 
 use asn::{Rule, whole};
-use cert::{AlgorithmIdentifier, CertRule, Extension, Validity, layout_laws};
+use cert::{AlgorithmIdentifier, CertFault, CertRule, Extension, Validity, layout_laws};
+use names::NameRule;
 use std::test::Fail;
 
 /// Algorithm identifiers of the type 1.2.3.
@@ -268,25 +269,98 @@ fn other_extensions_are_refused(rt: HostRuntime) -> Result<(), Fail> {
     Ok(())
 }
 
-const RULES: &[(CertRule, u8, &str)] = &[
-    (CertRule::Der(Rule::Truncated), 21, "Der"),
-    (CertRule::Layout, 22, "Layout"),
-    (CertRule::Version, 23, "Version"),
-    (CertRule::AlgorithmsDiffer, 24, "AlgorithmsDiffer"),
-    (CertRule::Serial, 25, "Serial"),
-    (CertRule::Time, 26, "Time"),
-    (CertRule::EmptyIssuer, 27, "EmptyIssuer"),
-    (CertRule::ExtensionRepeated, 28, "ExtensionRepeated"),
-    (CertRule::ExtensionValue, 29, "ExtensionValue"),
-    (CertRule::SubtreeBounds, 30, "SubtreeBounds"),
-    (CertRule::SignatureBits, 31, "SignatureBits"),
-    (CertRule::Limit, 32, "Limit"),
+/// Rules, their numbers and names, and what they say.
+const RULES: &[(CertRule, u8, &str, &str)] = &[
+    (
+        CertRule::Der(Rule::Truncated),
+        21,
+        "Der",
+        "fault 21: not DER: fault 4: value cut short",
+    ),
+    (
+        CertRule::Layout,
+        22,
+        "Layout",
+        "fault 22: value that the layout does not have there",
+    ),
+    (
+        CertRule::Version,
+        23,
+        "Version",
+        "fault 23: version that is not served, or a component that it does not have",
+    ),
+    (
+        CertRule::AlgorithmsDiffer,
+        24,
+        "AlgorithmsDiffer",
+        "fault 24: signature algorithms that differ",
+    ),
+    (
+        CertRule::Serial,
+        25,
+        "Serial",
+        "fault 25: serial number of no octets or of more than 32",
+    ),
+    (CertRule::Time, 26, "Time", "fault 26: time that is none"),
+    (
+        CertRule::EmptyIssuer,
+        27,
+        "EmptyIssuer",
+        "fault 27: issuer without a name",
+    ),
+    (
+        CertRule::ExtensionRepeated,
+        28,
+        "ExtensionRepeated",
+        "fault 28: extension repeated",
+    ),
+    (
+        CertRule::ExtensionValue,
+        29,
+        "ExtensionValue",
+        "fault 29: value of an extension that has not the layout of its type",
+    ),
+    (
+        CertRule::SubtreeBounds,
+        30,
+        "SubtreeBounds",
+        "fault 30: subtree with a minimum or a maximum",
+    ),
+    (
+        CertRule::SignatureBits,
+        31,
+        "SignatureBits",
+        "fault 31: signature with unused bits",
+    ),
+    (
+        CertRule::Limit,
+        32,
+        "Limit",
+        "fault 32: more names or subtrees than are served",
+    ),
 ];
 
 #[test]
-fn rules_have_numbers_and_names(rt: HostRuntime) {
-    for (rule, number, name) in RULES.iter() {
+fn rules_have_numbers_and_names(rt: HostRuntime) -> Result<(), Fail> {
+    for (rule, number, name, sentence) in RULES.iter() {
         let is_so = rule.number() == *number && rule.name() == *name;
         assert!(rt; is_so, "{name}");
+        let printed = format!(in rt.alloc(); "{rule}")?;
+        assert!(rt; printed.as_str() == *sentence, "{name}: {printed}");
     }
+    Ok(())
+}
+
+#[test]
+fn faults_are_printed_with_their_place(rt: HostRuntime) -> Result<(), Fail> {
+    let refused = CertFault::Refused(CertRule::Name(NameRule::Text), 90);
+    let printed = format!(in rt.alloc(); "{refused}")?;
+    assert!(rt;
+        printed.as_str() == "fault 14: not a string of its type, at offset 90",
+        "{printed}"
+    );
+    let memory = CertFault::Memory;
+    let printed = format!(in rt.alloc(); "{memory}")?;
+    assert!(rt; printed.as_str() == "fault 33: no memory", "{printed}");
+    Ok(())
 }

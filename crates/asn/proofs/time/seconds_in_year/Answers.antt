@@ -29,5 +29,5 @@ returns-clause-some c =
       };
       in_year = refl;
       spelled = spelled;
-      value = to_z-of_z w64 c.seconds_from.result seconds_fit ∙ c.seconds_from.ensures ∙ ap (λ (days : ℤ). days *ℤ pos 86_400 +ℤ pos second_of_day) (to_z-of_z w32 c.in_ok-days.days days_fit ∙ c.in_ok-days.ensures.some);
+      value = to_z-of_z w64 c.seconds_from.result seconds_fit ∙ c.seconds_from.ensures.value ∙ ap (λ (days : ℤ). days *ℤ pos 86_400 +ℤ pos second_of_day) (to_z-of_z w32 c.in_ok-days.days days_fit ∙ c.in_ok-days.ensures.some);
     }
