@@ -21,5 +21,8 @@ pub fn explain<'a, O: Write>(words: &[&'a str], out: &mut O) -> Result<(), Failu
     if !is_known(entries, words) {
         return Err(Failure::BadTopic);
     }
-    explain_to(entries, words, out).map_err(|_| Failure::Unwritable)
+    match explain_to(entries, words, out) {
+        Ok(()) => Ok(()),
+        Err(_) => Err(Failure::Unwritable),
+    }
 }
