@@ -2,7 +2,7 @@
  * docs/PROMISES.md says what the calls promise.
  *
  * Texts are octets of the caller: a pointer and a length in octets. They are only read, only during the call, and nothing keeps
- * them. The pointer may be null where the length is 0. Results are numbers and parts of the caller's text: offsets and lengths in
+ * them. The pointer may be null if the length is 0. Results are numbers and parts of the caller's text: offsets and lengths in
  * octets, counted from its first octet. There is nothing to free. All calls may run on several threads at a time.
  *
  * Faults are numbers, 0 for none: 1 to 7 of DER, 11 to 17 of names, 21 to 33 of certificates, 41 to 59 of statements
@@ -29,13 +29,13 @@ extern "C" {
 
 /* The fault of a list or a response that is not DER. */
 #define X509CHECK_FAULT_STATEMENT_DER 41
-/* The fault of fingerprints of which the last has fewer than 32 octets. */
+/* The fault of fingerprints if the last has fewer than 32 octets. */
 #define X509CHECK_FAULT_CUT_SHORT 4
 
 /* The octets of a fingerprint. */
 #define X509CHECK_FINGERPRINT_LENGTH 32
 
-/* What is said of a path. */
+/* The verdict on a path. */
 #define X509CHECK_VALID 0
 #define X509CHECK_INVALID 1
 #define X509CHECK_REVOKED 2
@@ -67,10 +67,10 @@ struct x509check_part {
 /* Whether a text is DER. */
 struct x509check_answer {
     uint32_t fault; /* 0, or 1 to 7 */
-    size_t offset;  /* of the value at fault; 0 where there is no fault */
+    size_t offset;  /* of the value at fault; 0 if there is no fault */
 };
 
-/* What the extensions of a certificate say. Where one is not there, its numbers are 0. */
+/* What the extensions of a certificate say. If one is not there, its numbers are 0. */
 struct x509check_extensions {
     bool has_basic_constraints;
     bool is_authority; /* cA */
@@ -78,7 +78,7 @@ struct x509check_extensions {
     bool has_key_usage;
     bool needs_policy_processing; /* policyMappings, policyConstraints or inhibitAnyPolicy is there */
     bool no_check;                /* id-pkix-ocsp-nocheck is there */
-    uint32_t path_length;         /* 4294967295 where it is that or more */
+    uint32_t path_length;         /* 4294967295 if it is that or more */
     uint32_t key_usage;           /* the bits above; others are left out */
     size_t alternative_names;     /* how many names subjectAltName has */
     size_t permitted_subtrees;    /* how many subtrees nameConstraints permits, */
@@ -106,9 +106,9 @@ struct x509check_fields {
 /* A certificate, or why a text is none. */
 struct x509check_certificate {
     uint32_t fault;     /* 0, 11 to 17, or 21 to 33 */
-    uint32_t der_fault; /* 1 to 7 where fault is X509CHECK_FAULT_DER, else 0 */
-    size_t offset;      /* of the value at fault; 0 where there is no fault */
-    struct x509check_fields fields; /* all 0 where there is a fault */
+    uint32_t der_fault; /* 1 to 7 if fault is X509CHECK_FAULT_DER, else 0 */
+    size_t offset;      /* of the value at fault; 0 if there is no fault */
+    struct x509check_fields fields; /* all 0 if there is a fault */
 };
 
 /* The verdict on a path, or why the question is refused. What has no number there is 0. */
@@ -116,14 +116,14 @@ struct x509check_verdict {
     uint32_t verdict;   /* X509CHECK_VALID to X509CHECK_REFUSED */
     uint32_t reason;    /* invalid: the rank of the reason (docs/REFERENCE.md); revoked: the reason (RFC 5280, 5.3.1) */
     size_t certificate; /* which certificate decides: 1 is the first behind the anchor; 0 stands for the path itself */
-    uint32_t text;      /* refused: X509CHECK_CERTIFICATES to X509CHECK_FINGERPRINTS; 0 where memory was refused */
+    uint32_t text;      /* refused: X509CHECK_CERTIFICATES to X509CHECK_FINGERPRINTS; 0 if memory was refused */
     uint32_t fault;     /* refused: of certificates 11 to 17, 21 to 32, of statements 11 to 14, 41 to 52, 55, 56, 59, of
                            fingerprints X509CHECK_FAULT_CUT_SHORT, and X509CHECK_FAULT_MEMORY */
-    uint32_t der_fault; /* 1 to 7 where fault is X509CHECK_FAULT_DER or X509CHECK_FAULT_STATEMENT_DER, else 0 */
+    uint32_t der_fault; /* 1 to 7 if fault is X509CHECK_FAULT_DER or X509CHECK_FAULT_STATEMENT_DER, else 0 */
     size_t offset;      /* refused: of the value at fault, in the whole text */
 };
 
-/* The layout that the calls answer with, on x86-64: what this header says of it is what the library was built with. */
+/* The layout of the answers on x86-64, as the library was built with it. */
 #ifdef __cplusplus
 #define X509CHECK_STANDS_AT(type, field, at) static_assert(offsetof(struct type, field) == (at), #field)
 #define X509CHECK_HAS_SIZE(type, size) static_assert(sizeof(struct type) == (size), #type)
@@ -177,13 +177,13 @@ X509CHECK_HAS_SIZE(x509check_verdict, 40);
 /* Whether the text is the DER encoding of one value, all of it, or the first fault. Takes no memory. */
 struct x509check_answer x509check_check(const uint8_t *octets, size_t length);
 
-/* The certificate that the text is, or the first fault. No signature is judged, and no validity: a certificate that is read is
- * not one to be trusted. Memory is taken for lists during the call, and is given back before it returns; where it is refused,
- * the fault is X509CHECK_FAULT_MEMORY. */
+/* The certificate that the text is, or the first fault. Neither its signature nor its validity is judged: that a certificate
+ * can be read does not mean that it can be trusted. Memory is taken for lists during the call, and freed before it returns; if it
+ * is refused, the fault is X509CHECK_FAULT_MEMORY. */
 struct x509check_certificate x509check_read_certificate(const uint8_t *octets, size_t length);
 
 /* Writes 32 octets to `fingerprint`: the SHA-256 of four texts, each behind its length in 8 octets, the highest first. The texts
- * are what a judge of signatures is asked: the algorithm identifier and the subjectPublicKeyInfo, each the whole encoding, the
+ * are what a verifier of signatures is asked: the algorithm identifier and the subjectPublicKeyInfo, each the whole encoding, the
  * message that was signed, and the octets of the signature. They may not overlap with `fingerprint`. Takes no memory. */
 void x509check_fingerprint(const uint8_t *algorithm, size_t algorithm_length, const uint8_t *key_info, size_t key_info_length,
                            const uint8_t *message, size_t message_length, const uint8_t *signature, size_t signature_length,
@@ -191,14 +191,14 @@ void x509check_fingerprint(const uint8_t *algorithm, size_t algorithm_length, co
 
 /* The verdict on a path at a moment, by statements at hand, without a store.
  *
- * `certificates` are DER values one behind the other: the anchor, of which the name and the key alone are used, and then the path.
+ * `certificates` are DER values one behind the other: the anchor, of which only the name and the key are used, and then the path.
  * `statements` are lists (CRLs) and OCSP responses one behind the other, in any order. `fingerprints` are those of the signatures that
  * the caller found good, 32 octets each, as x509check_fingerprint writes them: no other signature is accepted. `moment` is in seconds
- * from 1970-01-01T00:00:00Z. `purpose` is the contents of an OBJECT IDENTIFIER; no purpose is asked for where its length is 0.
+ * from 1970-01-01T00:00:00Z. `purpose` is the contents of an OBJECT IDENTIFIER; no purpose is asked for if its length is 0.
  *
  * A text that cannot be read is refused with its first fault, the certificates before the statements and these before the fingerprints,
  * and there is no verdict then. A statement that no issuer of the path signed changes nothing. Memory is taken for lists during the
- * call, and is given back before it returns; where it is refused, the fault is X509CHECK_FAULT_MEMORY. */
+ * call, and freed before it returns; if it is refused, the fault is X509CHECK_FAULT_MEMORY. */
 struct x509check_verdict x509check_validate(const uint8_t *certificates, size_t certificates_length, const uint8_t *statements,
                                             size_t statements_length, const uint8_t *fingerprints, size_t fingerprints_length,
                                             int64_t moment, const uint8_t *purpose, size_t purpose_length);

@@ -39,7 +39,7 @@ pub(crate) fn front_of<'a>(octets: &'a [u8], at: usize) -> (Tlv<'a>, &'a [u8])
     )
 }
 
-/// The value that the octets are the encoding of, all of them.
+/// The one value that the octets encode.
 pub(crate) fn whole_at(octets: &[u8], at: usize) -> Tlv<'_>
     requires encoded { ∥ IsWhole octets.now ∥₁ }
     requires fits { at + length octets.now < 2 ^ 64 }
@@ -50,8 +50,8 @@ pub(crate) fn whole_at(octets: &[u8], at: usize) -> Tlv<'_>
     tlv
 }
 
-/// The one value that the octets are the encoding of, or the first fault, as `check` answers it (never
-/// `Fault::Memory`). Time is linear in the octets; no memory is taken.
+/// The one value that the octets encode, or the first fault, as `check` answers it (never `Fault::Memory`). Time is linear in the octets;
+/// no memory is taken.
 pub fn whole(octets: &[u8]) -> Result<Tlv<'_>, Fault>
     ensures accepts { IsOk result ↔ ((value : Value) × Encodes octets.now value) }
     ensures refuses { IfErr result (λ fault. IsFirstFault octets.now fault) }
@@ -86,7 +86,7 @@ impl<'a> Tlv<'a> {
         header + self.at
     }
 
-    /// The values inside this one, in order; `None` where it is primitive.
+    /// The values inside this one, in order; `None` if it is primitive.
     pub fn inside(&self) -> Option<Cursor<'a>>
         ensures constructed { IsSome result ↔ (is_constructed self.now.tag ≡ true) }
         ensures place { IfSome result (λ c. remaining c ≡ body_place (seen_tlv self.now)) }
@@ -108,8 +108,7 @@ impl<'a> Tlv<'a> {
 }
 
 impl<'a> Cursor<'a> {
-    /// The offset of the next value in the text handed to `whole`, or of the end of the enclosing value where none is
-    /// left.
+    /// The offset of the next value in the text handed to `whole`, or of the end of the enclosing value if none is left.
     pub fn at(&self) -> usize
         ensures next { result ≡ next_at (left self.now) }
         ensures place { result ≡ (remaining self.now).at }
@@ -133,7 +132,7 @@ impl<'a> Cursor<'a> {
         self.octets.is_empty()
     }
 
-    /// The next value; `None`, and the cursor as it was, where none is left.
+    /// Takes the next value; `None` if none is left, and the cursor stays.
     pub fn next(&mut self) -> Option<Tlv<'a>>
         ensures step { TakesFirst self.old result self.new }
         ensures none { IfNone result (self.new ≡ self.old) }

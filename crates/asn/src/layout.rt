@@ -11,8 +11,8 @@ pub fn member_laws()
     ensures contents { ContentsArePart }
 {}
 
-/// An encoding has as many octets as its value asks for, and is the one that the value asks for. So, in the crate `der_tree`,
-/// `parse_tree` of what `encode` answers is the value encoded, and `encode` of what `parse_tree` answers are the octets parsed.
+/// An encoding has as many octets as its value asks for, and is the only one. So, in the crate `der_tree`, `parse_tree` of what `encode`
+/// answers is the value encoded, and `encode` of what `parse_tree` answers are the octets parsed.
 pub fn size_laws()
     ensures value { EncodingHasSize }
     ensures values { EncodingsHaveSize }

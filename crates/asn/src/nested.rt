@@ -1,4 +1,4 @@
-//! Whole texts of DER, and contents that are DER of their own, as those of an OCTET STRING often are, as steps of a walk.
+//! Whole texts of DER, and contents that are DER of their own, such as those of many OCTET STRINGs, as steps of a walk.
 
 ghost use Rattle.std.specs.Prelude.{◌≤◌, length, IfErr, OnOk};
 ghost use Rattle.asn.specs.Part.{IsWhole};
@@ -24,8 +24,7 @@ fn judge(octets: &[u8]) -> Result<(), (Rule, usize)>
 }
 
 impl<'a> Tlv<'a> {
-    /// The one value that the octets are the encoding of, or the first fault in them, as a step of a walk: the rule and its
-    /// place. See `whole`.
+    /// The one value that the octets encode, or the first fault in them, as a step of a walk: the rule and its place. See `whole`.
     #[tactic(auto, unfolding(crate::specs::Judgement::outermost))]
     pub fn outermost(octets: &'a [u8]) -> Result<Tlv<'a>, (Rule, usize)>
         ensures { Gives seen_tlv result (outermost octets.now) }
@@ -34,8 +33,8 @@ impl<'a> Tlv<'a> {
         Ok(whole_at(octets, 0))
     }
 
-    /// The one value that the contents are the encoding of, or the first fault in them, with its offset in the text handed
-    /// to `whole`. Depth is counted anew, from 1. Time is linear in the contents; no memory is taken.
+    /// The one value that the contents encode, or the first fault in them, with its offset in the text handed to `whole`. Depth is counted
+    /// anew, from 1. Time is linear in the contents; no memory is taken.
     #[tactic(auto, unfolding(crate::specs::Judgement::nested))]
     pub fn nested(&self) -> Result<Tlv<'a>, (Rule, usize)>
         ensures { Gives seen_tlv result (nested (seen_tlv self.now)) }

@@ -59,8 +59,7 @@ fn padded(magnitude: &[u8]) -> [u8; 20]
 }
 
 impl Number20 {
-    /// The number of an INTEGER's content: none where the octets are no such content, and where
-    /// the number is negative or from 2^160 on.
+    /// The number in an INTEGER's contents; `None` if the octets are no such contents, or the number is negative or 2^160 or more.
     pub fn from_content(content: &[u8]) -> Option<Number20>
         ensures some { IfSome result (IsNumber20 content.now) }
         ensures none { IfNone result ((number : ℕ) → IsNumber20 content.now number → ⊥) }

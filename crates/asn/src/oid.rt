@@ -3,15 +3,15 @@
 ghost use Rattle.std.specs.Prelude.{◌≡◌, ◌↔◌, IsTrue};
 ghost use Rattle.asn.specs.Oid.{oid_contents};
 
-/// An OBJECT IDENTIFIER by its contents octets (X.690 8.19). As DER has one spelling for each, two
-/// are equal exactly where these are. The order is that of the octets.
+/// An OBJECT IDENTIFIER by its contents octets (X.690, 8.19). DER has one spelling for each, so two are equal exactly if these are. The
+/// order is that of the octets.
 #[derive(Clone, Copy, Debug, PartialEq, Eq, PartialOrd, Ord, Hash)]
 pub struct Oid<'a> {
     contents: &'a [u8],
 }
 
 impl<'a> Oid<'a> {
-    /// The OBJECT IDENTIFIER of contents octets that meet X.690 8.19, which is not looked at here.
+    /// The OBJECT IDENTIFIER with contents octets that meet X.690, 8.19, which is not checked here.
     pub fn new(contents: &'a [u8]) -> Oid<'a>
         ensures { oid_contents result ≡ contents.now }
     {

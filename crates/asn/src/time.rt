@@ -22,7 +22,7 @@ fn two_digit_number(text: &[u8], at: usize) -> Option<u8>
     }
 }
 
-/// The day number of a date, counted from 1970-01-01, where the calendar has the date.
+/// The day number of a date, counted from 1970-01-01, if the calendar has the date.
 fn day_number(year: u16, month: u8, day: u8) -> Option<i32>
     requires year { year < 10000 }
     requires month { month < 100 }
@@ -97,8 +97,8 @@ fn seconds_of_generalized_time(text: &[u8]) -> Option<i64>
     seconds_in_year(century * 100 + year_of_century, &text[4..])
 }
 
-/// The seconds from 1970-01-01T00:00:00Z of the content of a UTCTime (X.680 47) or a GeneralizedTime (X.680 46), which `tag`
-/// tells apart by its identifier octet.
+/// The seconds from 1970-01-01T00:00:00Z of the contents of a UTCTime (`tag` 0x17; X.680, 47) or a GeneralizedTime (`tag` 0x18; X.680,
+/// 46), in the forms of RFC 5280, 4.1.2.5; `None` for other octets.
 ///
 /// Each year from 0000 to 9999 of the Gregorian calendar is served. There is no second 60.
 pub fn seconds_of_time(tag: u8, octets: &[u8]) -> Option<i64>
@@ -114,7 +114,7 @@ pub fn seconds_of_time(tag: u8, octets: &[u8]) -> Option<i64>
     }
 }
 
-/// Laws of the definitions: a content under a tag has at most one count of seconds, and `seconds_in` gives it.
+/// The contents under a tag have at most one count of seconds, and `seconds_in` gives it.
 pub fn time_laws()
     ensures unique { TimesAreUnique }
     ensures exact { TimeIsExact }

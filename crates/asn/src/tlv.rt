@@ -3,7 +3,7 @@
 ghost use Rattle.std.specs.Prelude.{◌≡◌, ◌+◌, ◌<◌, ◌^◌, length, slice_index};
 ghost use Rattle.asn.specs.Part.{IsEncoded, AreEncoded, contents};
 
-/// One value of a text that was handed to `whole`. All parts are borrowed from that text.
+/// One value of a text that was handed to `whole`. All parts borrow that text.
 #[derive(Clone, Copy)]
 pub struct Tlv<'a> {
     /// The identifier octet.
@@ -20,7 +20,7 @@ pub struct Tlv<'a> {
     pub ghost fits: { at + length whole.now < 2 ^ 64 },
 }
 
-/// The values of a constructed value that have not been taken yet, in order.
+/// The values inside a constructed value that have not been taken yet, in order.
 #[derive(Clone, Copy)]
 pub struct Cursor<'a> {
     pub(crate) octets: &'a [u8],

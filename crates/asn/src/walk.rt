@@ -12,7 +12,7 @@ use crate::identifier::{BOOLEAN, GENERALIZED_TIME, UTC_TIME};
 use crate::time::seconds_of_time;
 use crate::tlv::{Cursor, Tlv};
 
-// A step that looks at the next value stands behind it, where there is one, whether it takes the value or refuses it.
+// A step that looks at the next value stands behind it, if there is one, whether it takes the value or refuses it.
 impl<'a> Cursor<'a> {
     /// Whether the next value is there and has this identifier octet.
     pub fn begins(&self, tag: u8) -> bool
@@ -24,8 +24,8 @@ impl<'a> Cursor<'a> {
         }
     }
 
-    /// Takes the next value, which must have this identifier octet; else the fault, at the next value, or at the end of
-    /// the enclosing value where none is left.
+    /// Takes the next value, which must have this identifier octet; else the fault, at the next value, or at the end of the enclosing
+    /// value if none is left.
     #[tactic(auto, unfolding(crate::specs::Walk::required, crate::specs::Members::next_at, crate::specs::Walk::any))]
     pub fn required<F: Copy>(&mut self, tag: u8, fault: F) -> Result<Tlv<'a>, (F, usize)>
         ensures walk { StepGives seen_tlv result self.old self.new (required tag fault) }
@@ -39,8 +39,8 @@ impl<'a> Cursor<'a> {
         }
     }
 
-    /// Takes the next value, which must have one of these identifier octets; else the fault, at the next value, or at the
-    /// end of the enclosing value where none is left.
+    /// Takes the next value, which must have one of these identifier octets; else the fault, at the next value, or at the end of the
+    /// enclosing value if none is left.
     #[tactic(auto, unfolding(crate::specs::Walk::choice, crate::specs::Walk::check_that))]
     pub fn choice<F: Copy>(&mut self, tags: &[u8], fault: F) -> Result<Tlv<'a>, (F, usize)>
         ensures walk { StepGives seen_tlv result self.old self.new (choice tags.now fault) }
@@ -54,8 +54,8 @@ impl<'a> Cursor<'a> {
         }
     }
 
-    /// Takes the next value, which must be a UTCTime or a GeneralizedTime, and gives its seconds (as `seconds_of_time`):
-    /// the fault `layout`, as of `choice`, where it is neither; else `fault`, at the value, where it is no time.
+    /// Takes the next value, which must be a UTCTime or a GeneralizedTime, and gives its seconds (as `seconds_of_time`): the fault
+    /// `layout`, as of `choice`, if it is neither; else `fault`, at the value, if that time does not exist.
     #[tactic(auto, unfolding(crate::specs::Walk::time))]
     pub fn time<F: Copy>(&mut self, layout: F, fault: F) -> Result<i64, (F, usize)>
         ensures walk { StepGives (λ moment. moment) result self.old self.new (time layout fault) }
@@ -65,7 +65,7 @@ impl<'a> Cursor<'a> {
         value.seconds(fault)
     }
 
-    /// Takes the next value where it has this identifier octet; else the cursor stays as it was.
+    /// Takes the next value if it has this identifier octet; else the cursor stays as it was.
     #[tactic(auto, unfolding(crate::specs::Walk::optional, crate::specs::Members::begins))]
     pub fn optional(&mut self, tag: u8) -> Option<Tlv<'a>>
         ensures walk { optional tag (left self.old) ≡ (seen seen_tlv result, left self.new) }
@@ -74,7 +74,7 @@ impl<'a> Cursor<'a> {
         if self.begins(tag) { self.next() } else { None }
     }
 
-    /// Takes a BOOLEAN DEFAULT FALSE, which is TRUE where it is there (X.690, 11.5); else the fault, at the BOOLEAN.
+    /// Takes a BOOLEAN DEFAULT FALSE, which is TRUE if it is there (X.690, 11.5); else the fault, at the BOOLEAN.
     #[tactic(auto, unfolding(crate::specs::Walk::default_false, crate::specs::Walk::any, crate::specs::Walk::optional))]
     pub fn default_false<F: Copy>(&mut self, fault: F) -> Result<bool, (F, usize)>
         ensures walk { StepGives (λ flag. flag) result self.old self.new (default_false fault) }
@@ -89,7 +89,7 @@ impl<'a> Cursor<'a> {
         }
     }
 
-    /// Takes the next value, of any kind, where there is one.
+    /// Takes the next value, of any kind, if there is one.
     #[tactic(auto, unfolding(crate::specs::Walk::any))]
     pub fn any(&mut self) -> Option<Tlv<'a>>
         ensures { any (left self.old) ≡ (seen seen_tlv result, left self.new) }
@@ -97,7 +97,7 @@ impl<'a> Cursor<'a> {
         self.next()
     }
 
-    /// Takes the next value, of any kind; the fault, at the end of the enclosing value, where none is left.
+    /// Takes the next value, of any kind; the fault, at the end of the enclosing value, if none is left.
     #[tactic(auto, unfolding(crate::specs::Walk::next_or, crate::specs::Members::next_at, crate::specs::Walk::any))]
     pub fn next_or<F: Copy>(&mut self, fault: F) -> Result<Tlv<'a>, (F, usize)>
         ensures walk { StepGives seen_tlv result self.old self.new (next_or fault) }
@@ -110,7 +110,7 @@ impl<'a> Cursor<'a> {
         }
     }
 
-    /// The fault, at the end of the enclosing value, where no value is left.
+    /// The fault, at the end of the enclosing value, if no value is left.
     #[tactic(auto, unfolding(crate::specs::Walk::some))]
     pub fn some<F: Copy>(&self, fault: F) -> Result<(), (F, usize)>
         ensures { Gives (λ _. tt) result (some fault (left self.now)) }
@@ -121,7 +121,7 @@ impl<'a> Cursor<'a> {
         Ok(())
     }
 
-    /// The fault, at the next value, where one is left.
+    /// The fault, at the next value, if one is left.
     #[tactic(auto, unfolding(crate::specs::Walk::ended))]
     pub fn ended<F: Copy>(&self, fault: F) -> Result<(), (F, usize)>
         ensures { Gives (λ _. tt) result (ended fault (left self.now)) }
@@ -135,7 +135,7 @@ impl<'a> Cursor<'a> {
 }
 
 impl<'a> Tlv<'a> {
-    /// The fault, at this value, where it has another identifier octet.
+    /// The fault, at this value, if it has another identifier octet.
     #[tactic(auto, unfolding(crate::specs::Walk::is_a))]
     pub fn is_a<F: Copy>(&self, tag: u8, fault: F) -> Result<(), (F, usize)>
         ensures walk { Gives (λ _. tt) result (is_a tag fault (seen_tlv self.now)) }
@@ -148,7 +148,7 @@ impl<'a> Tlv<'a> {
         }
     }
 
-    /// The seconds of the time that this value is (as `seconds_of_time`); the fault, at this value, where it is none.
+    /// The seconds of this time (as `seconds_of_time`); the fault, at this value, if it is none.
     #[tactic(auto, unfolding(crate::specs::Walk::seconds))]
     pub fn seconds<F: Copy>(&self, fault: F) -> Result<i64, (F, usize)>
         ensures walk { Gives (λ moment. moment) result (seconds fault (seen_tlv self.now)) }

@@ -10,18 +10,18 @@ pub struct Answer {
     pub offset: usize,
 }
 
-/// A certificate, where `fault` is 0; else why the octets are none.
+/// A certificate if `fault` is 0; else why the octets are none.
 #[derive(Clone, Copy, Debug, PartialEq, Eq, Default)]
 #[repr(C)]
 pub struct CertificateAnswer {
     pub fault: u32,
-    /// Where `fault` is that of DER, the number of the rule of DER that is broken; else 0.
+    /// The number of the rule of DER that is broken, if `fault` is 21; else 0.
     pub der_fault: u32,
     pub offset: usize,
     pub fields: Fields,
 }
 
-/// What is said of a path, or why the question is refused. What has no number there is 0.
+/// The verdict on a path, or why the question is refused. What has no number there is 0.
 #[derive(Clone, Copy, Debug, PartialEq, Eq, Default)]
 #[repr(C)]
 pub struct VerdictAnswer {
@@ -34,7 +34,7 @@ pub struct VerdictAnswer {
     /// Which text is refused: 1 the certificates, 2 the statements, 3 the fingerprints.
     pub text: u32,
     pub fault: u32,
-    /// Where `fault` is that of DER, the number of the rule of DER that is broken; else 0.
+    /// The number of the rule of DER that is broken, if `fault` is 21 or 41; else 0.
     pub der_fault: u32,
     pub offset: usize,
 }

@@ -12,7 +12,7 @@ pub struct Part {
     pub length: usize,
 }
 
-/// What the extensions of a certificate say, as numbers. Lists are told by how many items they have.
+/// What the extensions of a certificate say, as numbers. Of lists it has the numbers of items.
 #[derive(Clone, Copy, Debug, PartialEq, Eq, Default)]
 #[repr(C)]
 pub struct ExtensionFields {
@@ -91,7 +91,7 @@ impl Part {
         Part::at(value.body_at(), value.body)
     }
 
-    /// The contents of the BIT STRING, behind the count of unused bits.
+    /// The contents of the BIT STRING, without the count of unused bits.
     fn bits(value: Tlv<'_>) -> Part
         ensures part { IsBitsOf value.entry result }
         ensures place { result.offset ≡ bits_at (seen_tlv value.entry) }

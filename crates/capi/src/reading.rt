@@ -19,7 +19,7 @@ pub(crate) fn der_fault(rule: CertRule) -> u32
     }
 }
 
-/// What is answered where the octets are refused.
+/// What is answered if the octets are refused.
 fn refusal(fault: CertFault) -> CertificateAnswer
     ensures { IsRefusalOf result fault }
 {
@@ -37,7 +37,7 @@ fn refusal(fault: CertFault) -> CertificateAnswer
     }
 }
 
-/// The certificate that the octets are, as `Certificate::read` says, or the first fault.
+/// Reads a certificate, as `Certificate::read`, or answers the first fault.
 #[unsafe(no_mangle)]
 pub extern "C" fn x509check_read_certificate(alloc: Global, octets: &[u8]) -> CertificateAnswer
     ensures { Tells octets.now result (certificate octets.now) }

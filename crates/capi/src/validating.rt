@@ -98,8 +98,8 @@ fn purpose_in(octets: &[u8]) -> Option<&[u8]>
     }
 }
 
-/// The verdict on the path behind the anchor, as `relying_rows::verdict_in_rows` gives it, or why the question is refused. No purpose is
-/// asked for if it has no octets.
+/// The verdict on the path behind the anchor, as `relying_rows::verdict_in_rows`, or why the question is refused. If `purpose` has no
+/// octets, no purpose is asked for.
 #[unsafe(no_mangle)]
 pub extern "C" fn x509check_validate(
     alloc: Global,

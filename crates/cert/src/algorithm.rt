@@ -8,14 +8,14 @@ use asn::{OBJECT_IDENTIFIER, Oid, SEQUENCE, Tlv};
 /// AlgorithmIdentifier ::= SEQUENCE { algorithm OBJECT IDENTIFIER, parameters ANY DEFINED BY algorithm OPTIONAL }
 #[derive(Clone, Copy)]
 pub struct AlgorithmIdentifier<'a> {
-    /// The whole value, parameters and all.
+    /// The whole value, with its parameters.
     pub value: Tlv<'a>,
     pub oid: Oid<'a>,
 }
 
 impl<'a> AlgorithmIdentifier<'a> {
-    /// The algorithm identifier that the value is; else the fault `layout`, at the value with a wrong identifier or left
-    /// over, or at the end of this one where the OBJECT IDENTIFIER is missing. The parameters are not looked at.
+    /// Reads an algorithm identifier (RFC 5280, 4.1.1.2); else the fault `layout`, at a value with a wrong identifier or left over, or at
+    /// the end of this one if the OBJECT IDENTIFIER is missing. The parameters are not looked at.
     #[tactic(auto, unfolding(crate::specs::AlgorithmIdentifier::algorithm_identifier))]
     pub fn read<F: Copy>(value: Tlv<'a>, layout: F) -> Result<AlgorithmIdentifier<'a>, (F, usize)>
         ensures { Gives seen_algorithm result (algorithm_identifier layout (seen_tlv value.entry)) }

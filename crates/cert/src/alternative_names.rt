@@ -12,7 +12,7 @@ use asn::{Cursor, SEQUENCE, Tlv};
 use names::{General, NameRule, form_of_tag};
 use std::alloc::Global;
 
-/// The fault `NameLayout`, at the value, where it has the identifier of no general name.
+/// The fault `NameLayout`, at the value, if it has the identifier of no general name.
 #[tactic(auto, unfolding(crate::specs::AlternativeNames::has_form, asn::specs::Walk::check_that))]
 fn check_form(value: Tlv<'_>) -> Result<(), Refusal>
     ensures { Gives (λ _. tt) result (has_form (seen_tlv value.entry)) }

@@ -12,7 +12,7 @@ use asn::{Cursor, INTEGER, SEQUENCE, Tlv};
 #[derive(Clone, Copy, Debug, PartialEq, Eq)]
 pub struct BasicConstraints {
     pub ca: bool,
-    /// The number, or the greatest `u32` where it is greater.
+    /// The path length: the number, or the greatest `u32` if it is greater.
     pub path_length: Option<u32>,
 }
 
@@ -26,7 +26,7 @@ fn is_negative_number(contents: &[u8]) -> bool
     }
 }
 
-/// The number that the octets spell in binary, or the greatest `u32` where it is greater.
+/// The number that the octets spell in binary, or the greatest `u32` if it is greater.
 fn saturated_number(octets: &[u8]) -> u32
     ensures { result ≡ saturated octets.now }
 {
@@ -37,7 +37,7 @@ fn saturated_number(octets: &[u8]) -> u32
     number
 }
 
-/// The path length, where it is there; else the fault, at it, where it is negative.
+/// The path length, if it is there; else the fault, at it, if it is negative.
 #[tactic(auto, unfolding(crate::specs::BasicConstraints::path_length))]
 fn take_path_length(members: &mut Cursor<'_>) -> Result<Option<u32>, Refusal>
     ensures { StepGives (λ number. number) result members.old members.new path_length }
@@ -55,9 +55,8 @@ fn take_path_length(members: &mut Cursor<'_>) -> Result<Option<u32>, Refusal>
 }
 
 impl BasicConstraints {
-    /// The basic constraints that the OCTET STRING holds; else the first fault: `Der` in its contents, or `ExtensionValue` at
-    /// a value with a wrong identifier or left over, at a BOOLEAN that is not TRUE, or at a negative path length. A path
-    /// length without `ca` is accepted.
+    /// Reads the basic constraints in the OCTET STRING; else the first fault: `Der` in its contents, or `ExtensionValue` at a value with a
+    /// wrong identifier or left over, at a BOOLEAN that is not TRUE, or at a negative path length. A path length without `ca` is accepted.
     #[tactic(auto, unfolding(crate::specs::BasicConstraints::basic_constraints))]
     pub fn read(octet_string: Tlv<'_>) -> Result<BasicConstraints, Refusal>
         ensures { ReadsAs seen_basic_constraints result octet_string.entry basic_constraints }

@@ -5,7 +5,7 @@ ghost use Rattle.cert.specs.BitString.{bits_in, has_no_unused_bits};
 
 use asn::Tlv;
 
-/// The octets of the bits, behind the count of unused bits with which the contents begin.
+/// The octets of the bits, without the count of unused bits at the front.
 pub fn bits_of(contents: &[u8]) -> &[u8]
     ensures { result.now ≡ bits_in contents.now }
 {

@@ -19,7 +19,7 @@ use asn::{BIT_STRING, Cursor, SEQUENCE, Tlv};
 use names::Name;
 use std::alloc::Global;
 
-/// A certificate, read. Its parts are borrowed from the octets that were read; the lists in `extensions` take memory.
+/// A certificate that was read. Its parts borrow the octets; the lists in `extensions` take memory.
 #[derive(Drop)]
 pub struct Certificate<'a> {
     /// The whole certificate.
@@ -29,14 +29,14 @@ pub struct Certificate<'a> {
     pub version: Version,
     /// serialNumber: an INTEGER whose contents are 1 to 32 octets, of any sign.
     pub serial: Tlv<'a>,
-    /// The algorithm of the signature, where the signed part names it. The same octets stand behind that part.
+    /// The algorithm of the signature, from the signed part. The same octets stand behind that part.
     pub algorithm: AlgorithmIdentifier<'a>,
     /// A name that is not empty.
     pub issuer: Name<'a>,
     pub validity: Validity,
     pub subject: Name<'a>,
     pub subject_public_key_info: SubjectPublicKeyInfo<'a>,
-    /// What the extensions say; where there are none, what no extensions say.
+    /// What the extensions say; without extensions, what none say.
     pub extensions: Extensions<'a>,
     /// signatureValue, in which no bit is unused.
     pub signature: BitString<'a>,
@@ -139,10 +139,10 @@ fn outermost(octets: &[u8]) -> Result<Tlv<'_>, Refusal>
 }
 
 impl<'a> Certificate<'a> {
-    /// The certificate that the octets are, or the first fault in them.
+    /// Reads a certificate from DER (RFC 5280, 4.1), or answers the first fault.
     ///
-    /// Time is that of n log n for n octets. Memory is taken for the lists in `extensions`, and, while it reads, for the
-    /// types of the extensions past the sixteenth; `CertFault::Memory` is answered only where that was refused.
+    /// Time is n log n in the octets, except for names with many attributes in one RDN. Memory is taken for the lists in `extensions`,
+    /// and, while reading, for the types of the extensions past the sixteenth; `CertFault::Memory` is answered only if that was refused.
     #[inline(always)]
     #[tactic(auto, unfolding(crate::specs::Certificate::certificate))]
     pub fn read(alloc: Global, octets: &'a [u8]) -> Result<Certificate<'a>, CertFault>
@@ -154,7 +154,7 @@ impl<'a> Certificate<'a> {
 
     /// Certificate ::= SEQUENCE { tbsCertificate TBSCertificate, signatureAlgorithm AlgorithmIdentifier, signatureValue BIT STRING }
     ///
-    /// As `read`, of a value in the text handed to `asn::whole`, with faults at their offsets in that text.
+    /// As `read`, of a value in the text handed to `asn::whole`, with offsets in that text.
     #[inline(always)]
     #[tactic(auto, unfolding(crate::specs::Certificate::certificate_at))]
     pub fn at(alloc: Global, value: Tlv<'a>) -> Result<Certificate<'a>, CertFault>

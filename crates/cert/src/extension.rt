@@ -17,9 +17,8 @@ pub struct Extension<'a> {
 }
 
 impl<'a> Extension<'a> {
-    /// The extension that the value is; else the fault `layout`, at a value with a wrong identifier or left over, at a
-    /// BOOLEAN that is not TRUE, or at the end of this one where a value is missing. The contents of the OCTET STRING are
-    /// not looked at.
+    /// Reads an extension (RFC 5280, 4.2); else the fault `layout`, at a value with a wrong identifier or left over, at a BOOLEAN that is
+    /// not TRUE, or at the end of this one if a value is missing. The contents of the OCTET STRING are not looked at.
     #[tactic(auto, unfolding(crate::specs::Extension::extension))]
     pub fn read<F: Copy>(value: Tlv<'a>, layout: F) -> Result<Extension<'a>, (F, usize)>
         ensures { Gives seen_extension result (extension layout (seen_tlv value.entry)) }

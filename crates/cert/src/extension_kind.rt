@@ -18,7 +18,7 @@ pub enum ExtensionKind {
     Purposes,
     /// certificatePolicies (4.2.1.4), whose value decides nothing here.
     Policies,
-    /// policyMappings, policyConstraints or inhibitAnyPolicy (4.2.1.5, 4.2.1.11, 4.2.1.14), which want a policy tree.
+    /// policyMappings, policyConstraints or inhibitAnyPolicy (4.2.1.5, 4.2.1.11, 4.2.1.14), which need a policy tree.
     PolicyProcessing,
     /// id-pkix-ocsp-nocheck (RFC 6960, 4.2.2.2.1).
     NoCheck,
@@ -29,7 +29,7 @@ pub enum ExtensionKind {
 /// id-pkix-ocsp-nocheck: 1.3.6.1.5.5.7.48.1.5
 const NO_CHECK: &[u8] = &[0x2B, 0x06, 0x01, 0x05, 0x05, 0x07, 0x30, 0x01, 0x05];
 
-/// The number behind id-ce, which is 2.5.29 (RFC 5280, 4.2.1); `None` for the contents of another OBJECT IDENTIFIER.
+/// The last number of an OBJECT IDENTIFIER under id-ce, 2.5.29 (RFC 5280, 4.2.1), from its contents; `None` for any other.
 #[tactic(auto, unfolding(crate::specs::Extensions::certificate_extension))]
 pub fn certificate_extension_number(oid: &[u8]) -> Option<u8>
     ensures { result ≡ certificate_extension oid.now }
@@ -41,7 +41,7 @@ pub fn certificate_extension_number(oid: &[u8]) -> Option<u8>
 }
 
 impl ExtensionKind {
-    /// The kind of the extensions whose type has these contents.
+    /// The kind of the extensions of the type with these contents.
     #[tactic(auto, unfolding(crate::specs::Extensions::kind_of_extension))]
     pub fn of(oid: &[u8]) -> ExtensionKind
         ensures { result ≡ kind_of_extension oid.now }
@@ -60,7 +60,7 @@ impl ExtensionKind {
         }
     }
 
-    /// Whether a path is validated by such extensions; others are refused on a path where they are critical.
+    /// Whether validation of a path handles such extensions; a certificate of a path with another critical one is refused.
     pub fn is_recognised(self) -> bool
         ensures { result ≡ is_recognised self }
     {

@@ -20,7 +20,7 @@ use asn::{Cursor, Oid, SEQUENCE, Tlv};
 use names::General;
 use std::alloc::Global;
 
-/// What the extensions of a certificate say. Lists are empty where the extension is not there.
+/// What the extensions of a certificate say. A list is empty if its extension is not there.
 #[derive(Drop)]
 pub struct Extensions<'a> {
     pub key_usage: Option<KeyUsage<'a>>,
@@ -143,7 +143,7 @@ impl<'a> Extensions<'a> {
     ///
     /// What the extensions say; else the first fault: `Layout` at a value that is no SEQUENCE, or at the end of one that is
     /// empty, or the fault of an extension. Time is that of n log n for n octets; memory is taken for the lists, and while
-    /// they are read for the types, where there are more than 16.
+    /// they are read for the types, if there are more than 16.
     #[tactic(auto, unfolding(crate::specs::Extensions::extensions))]
     pub(crate) fn read(alloc: Global, value: Tlv<'a>) -> Result<Extensions<'a>, CertFault>
         ensures { GivesUnlessFull seen_extensions result (extensions (seen_tlv value.entry)) }

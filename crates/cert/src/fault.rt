@@ -1,4 +1,4 @@
-//! Why octets are no certificate.
+//! Why octets are not a certificate.
 
 ghost use Rattle.std.specs.Prelude.{◌≡◌};
 ghost use Rattle.cert.specs.Fault.{cert_rule_number, cert_rule_name, cert_fault_number, cert_fault_name, cert_fault_place};
@@ -10,16 +10,16 @@ use names::NameRule;
 use std::alloc::{AllocError, AllocFailed};
 use thiserror::Error;
 
-/// What a certificate breaks.
+/// The rule that a certificate breaks.
 #[derive(Clone, Copy, Debug, PartialEq, Eq, Error)]
 pub enum CertRule {
     /// The input, or the contents of an OCTET STRING that holds a value, are not DER.
     #[error("fault 21: not DER: {0}")]
     Der(Rule),
-    /// A name, a general name or the base of a subtree is none.
+    /// A name, a general name or the base of a subtree is malformed.
     #[error("{0}")]
     Name(NameRule),
-    /// A value with an identifier that the layout does not have there, a value that is missing, or one left over.
+    /// A value has an identifier that the layout does not have there, is missing, or is left over (4.1, 4.2).
     #[error("fault 22: value that the layout does not have there")]
     Layout,
     /// A version that is not served, or a component that the version does not have (RFC 5280, 4.1.2.1, 4.1.2.8, 4.1.2.9).
@@ -31,8 +31,8 @@ pub enum CertRule {
     /// A serial number of no octets, or of more than 32.
     #[error("fault 25: serial number of no octets or of more than 32")]
     Serial,
-    /// A time that is none (4.1.2.5).
-    #[error("fault 26: time that is none")]
+    /// A time that does not exist (4.1.2.5).
+    #[error("fault 26: time that does not exist")]
     Time,
     /// An issuer with an empty name (4.1.2.4).
     #[error("fault 27: issuer without a name")]
@@ -40,21 +40,21 @@ pub enum CertRule {
     /// An extension of the type of an earlier one (4.2).
     #[error("fault 28: extension repeated")]
     ExtensionRepeated,
-    /// A value of an extension that has not the layout of its type (4.2.1).
+    /// The value of an extension does not have the layout of its type (4.2.1).
     #[error("fault 29: value of an extension that has not the layout of its type")]
     ExtensionValue,
     /// A subtree with a minimum or a maximum (4.2.1.10).
     #[error("fault 30: subtree with a minimum or a maximum")]
     SubtreeBounds,
-    /// A signature whose BIT STRING has unused bits.
+    /// A signature whose BIT STRING has unused bits (4.1.1.3).
     #[error("fault 31: signature with unused bits")]
     SignatureBits,
-    /// More names or subtrees than are served.
+    /// More than 4,096 names or subtrees.
     #[error("fault 32: more names or subtrees than are served")]
     Limit,
 }
 
-/// What is broken, with the offset of the value that breaks it in the text handed to `asn::whole`.
+/// The rule that is broken, with the offset of the value that breaks it in the text handed to `asn::whole`.
 pub type Refusal = (CertRule, usize);
 
 /// A fault in a name, as one of a certificate.
@@ -65,8 +65,8 @@ pub(crate) fn name_refusal(refusal: (NameRule, usize)) -> Refusal
     (CertRule::Name(fault), at)
 }
 
-/// Why octets were not read as a certificate: the first rule that is broken, with the offset of the value that breaks it, or
-/// want of memory.
+/// Why octets were not read as a certificate: the first rule that is broken, with the offset of the value that breaks it, or lack of
+/// memory.
 #[derive(Clone, Copy, Debug, PartialEq, Eq, Error)]
 pub enum CertFault {
     #[error("{0}, at offset {1}")]
@@ -76,7 +76,7 @@ pub enum CertFault {
 }
 
 impl CertRule {
-    /// The number by which the product names the rule, from 21 to 32, or from 11 to 17 for what is wrong in a name.
+    /// The number of the rule, from 21 to 32, or from 11 to 17 for a fault in a name.
     pub fn number(self) -> u8
         ensures { result ≡ cert_rule_number self }
     {
@@ -97,7 +97,7 @@ impl CertRule {
         }
     }
 
-    /// The word that stands beside the number.
+    /// The name of the rule, printed beside the number.
     pub fn name(self) -> &'static str
         ensures { result.now ≡ cert_rule_name self }
     {
@@ -120,7 +120,7 @@ impl CertRule {
 }
 
 impl CertFault {
-    /// The number by which the product names the fault: that of the rule, or 33 for want of memory.
+    /// The number of the fault: that of the rule, or 33 for lack of memory.
     pub fn number(self) -> u8
         ensures { result ≡ cert_fault_number self }
     {
@@ -130,7 +130,7 @@ impl CertFault {
         }
     }
 
-    /// The word that stands beside the number.
+    /// The name of the fault, printed beside the number.
     pub fn name(self) -> &'static str
         ensures { result.now ≡ cert_fault_name self }
     {
@@ -140,7 +140,7 @@ impl CertFault {
         }
     }
 
-    /// The offset of the value that is refused; `None` for want of memory.
+    /// The offset of the value that is refused; `None` for lack of memory.
     pub fn place(self) -> Option<usize>
         ensures { result ≡ cert_fault_place self }
     {

@@ -14,15 +14,15 @@ use asn::{BIT_STRING, SEQUENCE, Tlv};
 pub struct SubjectPublicKeyInfo<'a> {
     /// The whole value.
     pub value: Tlv<'a>,
-    /// The algorithm that the key is of.
+    /// The algorithm of the key.
     pub algorithm: AlgorithmIdentifier<'a>,
     /// subjectPublicKey.
     pub key: BitString<'a>,
 }
 
 impl<'a> SubjectPublicKeyInfo<'a> {
-    /// The key that the value is; else the fault `Layout`, at a value with a wrong identifier or left over, or at the end of
-    /// the value where one is missing. How many bits are unused is not looked at.
+    /// Reads a public key (RFC 5280, 4.1.2.7); else the fault `Layout`, at a value with a wrong identifier or left over, or at the end of
+    /// the value if one is missing. How many bits are unused is not looked at.
     #[tactic(auto, unfolding(crate::specs::SubjectPublicKeyInfo::key_info))]
     pub fn read(value: Tlv<'a>) -> Result<SubjectPublicKeyInfo<'a>, Refusal>
         ensures { Gives seen_key_info result (key_info (seen_tlv value.entry)) }

@@ -13,13 +13,13 @@ use asn::{BIT_STRING, Tlv};
 /// keyAgreement (4), keyCertSign (5), cRLSign (6), encipherOnly (7), decipherOnly (8) }
 #[derive(Clone, Copy)]
 pub struct KeyUsage<'a> {
-    /// The octets of the bits, without the count of those that are unused.
+    /// The octets of the bits, without the count of unused bits.
     pub bits: &'a [u8],
 }
 
 impl<'a> KeyUsage<'a> {
-    /// The key usage that the OCTET STRING holds; else the first fault: `Der` in its contents, or `ExtensionValue` at a value
-    /// that is no BIT STRING. Bits may be zero to the last one, and there may be none.
+    /// Reads the key usage in the OCTET STRING; else the first fault: `Der` in its contents, or `ExtensionValue` at a value that is no BIT
+    /// STRING. Bits may be zero to the last one, and there may be none.
     #[tactic(auto, unfolding(crate::specs::KeyUsage::key_usage))]
     pub fn read(octet_string: Tlv<'a>) -> Result<KeyUsage<'a>, Refusal>
         ensures { Gives seen_key_usage result (key_usage (seen_tlv octet_string.entry)) }
@@ -31,7 +31,7 @@ impl<'a> KeyUsage<'a> {
         })
     }
 
-    /// Whether the bit is set. One that is not there is not.
+    /// Whether the bit is set; a bit past the end is not.
     pub fn has(&self, bit: u8) -> bool
         ensures { result ≡ has_bit (seen_key_usage self.now) bit }
     {

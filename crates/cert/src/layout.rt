@@ -12,9 +12,9 @@ ghost use Rattle.cert.specs.SubjectPublicKeyInfo.{SubjectPublicKeyInfoIsExact};
 ghost use Rattle.cert.specs.CertificateForms.{CertificateIsExact, CertificateIsUnique};
 ghost use Rattle.cert.specs.ExtensionFields.{ExtensionsAreByField};
 
-/// A place is read as a part of a certificate exactly where it is one, and the encoding of a value exactly where the value
-/// has the layout; the fields are the parts of these octets that the layout names. What an OCTET STRING holds is read as the
-/// value of an extension exactly where it is one.
+/// A place is read as a part of a certificate exactly if it is one, and the encoding of a value exactly if the value has the layout; the
+/// fields are the parts of these octets that the layout names. The contents of an OCTET STRING are read as the value of an extension
+/// exactly if they are one.
 pub fn layout_laws()
     ensures algorithm { AlgorithmIdentifierIsExact }
     ensures algorithm_value { AlgorithmIdentifierHasLayout }
@@ -30,8 +30,8 @@ pub fn layout_laws()
     ensures key_info { SubjectPublicKeyInfoIsExact }
 {}
 
-/// Octets are read as a certificate exactly where they are one: DER with the layout of RFC 5280, 4.1, and these fields, which
-/// are the only ones. Each field of its extensions is what the extension of its type says, by the types of RFC 5280, 4.2.1.
+/// Octets are read as a certificate exactly if they are one: DER with the layout of RFC 5280, 4.1, and these fields, which are the only
+/// ones. Each field of its extensions is what the extension of its type says, by the types of RFC 5280, 4.2.1.
 pub fn certificate_laws()
     ensures exact { CertificateIsExact }
     ensures unique { CertificateIsUnique }

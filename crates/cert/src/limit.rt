@@ -6,10 +6,10 @@ ghost use Rattle.cert.specs.Limit.{has_room};
 
 use crate::fault::{CertRule, Refusal};
 
-/// How many general names a subjectAltName may hold, and how many subtrees a nameConstraints.
+/// The most general names of a subjectAltName, and the most subtrees of a nameConstraints.
 pub const MOST_NAMES: usize = 4096;
 
-/// The fault `Limit`, at this offset, where there are as many as may be.
+/// The fault `Limit`, at this offset, if there are as many as may be.
 #[tactic(auto, unfolding(crate::specs::Limit::has_room, asn::specs::Walk::check_that))]
 pub(crate) fn check_room(most: usize, count: usize, at: usize) -> Result<(), Refusal>
     ensures walk { Gives (λ _. tt) result (has_room most count at) }

@@ -31,7 +31,7 @@ fn is_among(oid: &[u8], others: &[&[u8]]) -> bool
     false
 }
 
-/// Contents of OBJECT IDENTIFIERs, each once. The first ones take no memory, and those that find no room are in a tree.
+/// Contents of OBJECT IDENTIFIERs, each once. The first 16 take no memory; further ones stand in a tree.
 #[derive(Drop)]
 pub struct OidSet<'a> {
     few: ArrayVec<&'a [u8], FEW>,
@@ -49,7 +49,7 @@ impl<'a> OidSet<'a> {
         }
     }
 
-    /// Puts one more into the set, and answers whether it is new. Time is logarithmic in the size of the set.
+    /// Adds one, and answers whether it is new. Time is logarithmic in the size of the set.
     pub fn insert(&mut self, oid: &'a [u8]) -> Result<bool, AllocError>
         ensures new { IfOk result (λ new. new ≡ not (contains (oids_in self.old) oid.now)) }
         ensures added { OnOk result (oids_in self.new ≡ insert (oids_in self.old) oid.now) }

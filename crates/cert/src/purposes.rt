@@ -36,7 +36,7 @@ fn purpose_list<'a>(alloc: Global, members: Cursor<'a>) -> Result<Vec<Oid<'a>>, 
 /// KeyPurposeId ::= OBJECT IDENTIFIER
 ///
 /// The purposes that the OCTET STRING holds, in order; else the first fault: `Der` in its contents, or `ExtensionValue` at a
-/// value with a wrong identifier, or at the end of the SEQUENCE where it is empty.
+/// value with a wrong identifier, or at the end of the SEQUENCE if it is empty.
 #[tactic(auto, unfolding(crate::specs::Purposes::purposes))]
 pub(crate) fn read_purposes<'a>(
     alloc: Global,

@@ -13,7 +13,7 @@ use asn::{Cursor, SEQUENCE, Tlv};
 use names::Subtree;
 use std::alloc::Global;
 
-/// The fault, at the next value, where a minimum or a maximum comes, or another value is left over.
+/// The fault, at the next value, if a minimum or a maximum comes, or another value is left over.
 #[tactic(auto, unfolding(crate::specs::NameConstraints::no_bounds, asn::specs::Walk::check_that))]
 fn check_no_bounds(members: Cursor<'_>) -> Result<(), Refusal>
     ensures { Gives (λ _. tt) result (no_bounds (left members.entry)) }
@@ -38,7 +38,7 @@ fn read_subtree<'a>(members: Cursor<'a>) -> Result<Subtree<'a>, Refusal>
     Ok(base)
 }
 
-/// Adds the base of the subtree that the value is, where there are fewer than `most`.
+/// Adds the base of the subtree that the value is, if there are fewer than `most`.
 #[tactic(auto, unfolding(crate::specs::NameConstraints::one_more_subtree))]
 fn push_subtree<'a>(
     all: &mut Vec<Subtree<'a>>,

@@ -33,7 +33,7 @@ pub(crate) struct Subject<'a> {
     pub(crate) key_info: SubjectPublicKeyInfo<'a>,
 }
 
-/// Whether the contents of an INTEGER are a serial number that is served: 1 to 32 octets, of any sign.
+/// Whether the contents of an INTEGER are a serial number of 1 to 32 octets, of any sign (RFC 5280, 4.1.2.2).
 pub fn is_serial_number(contents: &[u8]) -> bool
     ensures { result ≡ is_serial contents.now }
 {

@@ -1,4 +1,4 @@
-//! The times from which and until which a certificate holds (RFC 5280, 4.1.2.5).
+//! The times between which a certificate holds (RFC 5280, 4.1.2.5).
 
 ghost use Rattle.asn.specs.Reading.{seen_tlv, Gives};
 ghost use Rattle.cert.specs.Validity.{validity, seen_validity};
@@ -14,9 +14,8 @@ pub struct Validity {
 }
 
 impl Validity {
-    /// The two times that the value is; else the first fault: `Layout` at a value with a wrong identifier or left over, or
-    /// at the end of this one where a time is missing, and `Time` at a value that is no time. Which of the two is the later
-    /// is not looked at.
+    /// Reads the two times; else the first fault: `Layout` at a value with a wrong identifier or left over, or at the end of this one if a
+    /// time is missing, and `Time` at a value that is no time. That the first is not after the second is not looked at.
     #[tactic(auto, unfolding(crate::specs::Validity::validity))]
     pub fn read(value: Tlv<'_>) -> Result<Validity, Refusal>
         ensures { Gives seen_validity result (validity (seen_tlv value.entry)) }

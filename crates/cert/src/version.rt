@@ -27,7 +27,7 @@ fn version_of_contents(contents: &[u8]) -> Option<Version>
 }
 
 impl Version {
-    /// The version as people number it, from 1 to 3.
+    /// The version, from 1 to 3.
     pub fn number(self) -> u8
         ensures { result ≡ version_number self }
     {
@@ -50,7 +50,7 @@ impl Version {
         matches!(self, Version::V3)
     }
 
-    /// Takes [0] EXPLICIT Version DEFAULT v1, where it is there.
+    /// Takes [0] EXPLICIT Version DEFAULT v1, if it is there.
     #[tactic(auto, unfolding(crate::specs::Version::version))]
     pub(crate) fn take(members: &mut Cursor<'_>) -> Result<Version, Refusal>
         ensures { Gives (λ read. (read, left members.new)) result (version (left members.old)) }

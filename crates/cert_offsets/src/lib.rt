@@ -1,10 +1,10 @@
-//! Where octets that are refused are at fault: at one of them, or at their end.
+//! The offset of a fault lies at one of the octets, or at their end.
 #![tactic(auto)]
 
 ghost use Rattle.cert_offsets.specs.Offsets.{NameFaultIsWithin, GeneralNameFaultIsWithin, SubtreeFaultIsWithin, CertificateFaultIsWithin};
 
-/// The offset of the fault of a certificate is at most the length of its octets. That of a name, of a general name and of the base
-/// of a subtree, which stand in some text, is at most the length of the text.
+/// The offset of a certificate's fault is at most the length of its octets. That of a name, of a general name or of the base of a subtree
+/// inside some text is at most the length of the text.
 pub fn offset_laws()
     ensures name { NameFaultIsWithin }
     ensures general { GeneralNameFaultIsWithin }

@@ -30,10 +30,9 @@ pub struct Ended {
     pub told: io::Result<()>,
 }
 
-/// Does what the words ask for, of which the first is the program's name, and answers the exit status: 0 for what was done, for a
-/// valid path and for help; 1, 2 and 3 for a path that is invalid, revoked or unknown; 7 for two verdicts that differ; 4 for input that was
-/// refused, 5 for mistaken words, 6 for a file, a store or a writer that failed and for want of memory. Each of 4, 5 and 6 comes with
-/// a text on `err`.
+/// Does what the words ask for, of which the first is the program's name, and answers the exit status: 0 if it was done, for a valid path
+/// and for help; 1, 2 and 3 for a path that is invalid, revoked or unknown; 7 for two verdicts that differ; 4 for refused input, 5 for
+/// mistaken words, 6 if a file, a store or a writer failed or there is no memory. Each of 4, 5 and 6 comes with a text on `err`.
 pub fn execute<S: Source + Stores, O: Write, E: Write>(
     source: &S,
     alloc: Global,

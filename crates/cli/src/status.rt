@@ -16,7 +16,7 @@ pub fn verdict_status(verdict: Verdict) -> u8
     }
 }
 
-/// That of the one verdict of a comparison; 7 where there are two.
+/// That of the one verdict of a comparison; 7 if there are two.
 pub fn comparison_status(comparison: Comparison) -> u8
     ensures { result ≡ comparison_status comparison }
 {

@@ -13,20 +13,20 @@ use store_sql::StoreFault;
 
 /// Where stores stand.
 ///
-/// What stands at a path is the system's own matter: no contract can look at a disk. All that is known is that what is opened is what
-/// stands there, that what is closed is left there, and that no store is opened only for what is met there in its place.
+/// What stands at a path is the system's own matter: no contract can look at a disk. The contracts only know that what is opened is what
+/// stands there, that what is closed is left there, and that opening fails only because of what is found at the path.
 pub trait Stores {
     ghost use Rattle.std.specs.Prelude.{ℕ, List};
     ghost use Rattle.cli.specs.Standing.{Met, Seen, database};
 
-    /// Whether this was met where the store of the path was looked for: its database, as it was seen when it was opened; no file that can
-    /// be read; or a fault of the store.
+    /// Whether this was found at the path of a store: its database, as it was seen when it was opened; no file that can be read; or a
+    /// fault of the store.
     ghost stands: { Self → List ℕ → Met → Type 0 };
 
     /// Whether this was seen of the database of the path when it was closed.
     ghost leaves: { Self → List ℕ → Seen → Type 0 };
 
-    /// The store that stands at the path; `Unreadable` where there is no file that can be read.
+    /// The store that stands at the path; `Unreadable` if there is no file that can be read.
     fn open_store<'a>(&self, path: &'a str) -> Result<Store<File>, Failure<'a>>
         ensures stands { IfOk result (λ store.
             stands self.now path.entry.now (database (seen_in store))) }
@@ -34,7 +34,7 @@ pub trait Stores {
             HasCleanDisk (file_state store.conn) → IsStore (file_state store.conn).now) }
         ensures fails { IfErr result (IsNotFound (stands self.now) path.entry.now) };
 
-    /// The same; where no file is there, a store is made that holds nothing.
+    /// The same; if no file is there, a store is made that holds nothing.
     fn open_or_make_store<'a>(&self, path: &'a str) -> Result<Store<File>, Failure<'a>>
         ensures stands { IfOk result (λ store.
             stands self.now path.entry.now (database (seen_in store))) }

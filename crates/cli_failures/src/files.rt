@@ -16,8 +16,8 @@ use std::{fs, io};
 
 /// Where files come from.
 ///
-/// What a file holds, and whether it can be read, is the source's own matter: no contract can look at a disk. All that is known of a
-/// source is that it answers what the file of that name holds, and says that a file cannot be read only where it cannot.
+/// What a file holds, and whether it can be read, is the source's own matter: no contract can look at a disk. The contracts only know that
+/// a source answers what the file of that name holds, and says that a file cannot be read only if it cannot.
 pub trait Source {
     ghost use Rattle.std.specs.Prelude.{ℕ, List, Option, Some};
 

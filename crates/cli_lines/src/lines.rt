@@ -45,7 +45,7 @@ fn pass_line<R: Read>(source: &mut R) -> io::Result<()>
     Err(io::Error::from(io::ErrorKind::Other))
 }
 
-// What was read where a buffer of the longest line is full.
+// What was read if a buffer of the longest line is full.
 fn pass_long_line<R: Read>(source: &mut R) -> io::Result<LineRead>
     ensures { IfOk result (EndsFull (R.remaining source.old) (R.remaining source.new)) }
 {
@@ -59,7 +59,7 @@ fn pass_long_line<R: Read>(source: &mut R) -> io::Result<LineRead>
     Ok(LineRead::TooLong)
 }
 
-// What was read where the source ends behind these octets.
+// What was read if the source ends behind these octets.
 fn last_line(line: &[u8]) -> LineRead
     ensures empty { length line.now ≡ 0 → result ≡ LineRead.End }
     ensures some { 0 < length line.now → result ≡ LineRead.Line }

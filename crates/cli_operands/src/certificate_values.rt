@@ -11,8 +11,7 @@ use std::alloc::Global;
 
 /// The certificate that the value is, which starts at this place of the file.
 ///
-/// A certificate is refused at an octet of its text or at its end, so that a place in the file is never past the greatest; where it
-/// were, no memory would hold the file.
+/// A certificate is refused at an octet of its text or at its end, so the offset in the file cannot overflow.
 fn read_certificate<'q, 'a>(
     alloc: Global,
     file: &'a str,

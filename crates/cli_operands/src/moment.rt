@@ -7,7 +7,7 @@ use asn::seconds_of_time;
 // The universal tag of GeneralizedTime, whose form in certificates moments have too (RFC 5280, 4.1.2.5.2).
 const GENERALIZED_TIME: u8 = 24;
 
-/// The moment that is spelled YYYYMMDDHHMMSSZ, in seconds from 1970-01-01T00:00:00Z; `None` where the text is no moment of the
+/// The moment that is spelled YYYYMMDDHHMMSSZ, in seconds from 1970-01-01T00:00:00Z; `None` if the text is no moment of the
 /// calendar, from 00000101000000Z to 99991231235959Z.
 pub fn moment_of(text: &str) -> Option<i64>
     ensures moment { IfSome result (IsMoment text.now) }

@@ -28,7 +28,7 @@ pub struct Operands<'a> {
     path: PathFiles<'a>,
 }
 
-/// The contents of the purpose that is asked for, where one is.
+/// The contents of the purpose that is asked for, if one is.
 fn read_purpose<'a>(alloc: Global, text: Option<&'a str>) -> Result<Option<Vec<u8>>, Failure<'a>>
     ensures reads { IfOk result (λ purpose. IsPurposeOf (option_map (λ s. s.now) text.entry)
         (option_map (λ contents. contents.items) purpose)) }
@@ -44,9 +44,9 @@ fn read_purpose<'a>(alloc: Global, text: Option<&'a str>) -> Result<Option<Vec<u
     }
 }
 
-/// Reads the operands: the moment, the purpose, the fingerprints, the anchor's file and the files of the path, looked at in this order.
-/// The first of these that is wrong is told; but a file of the path that cannot be read is told by `Operands::certificates`, since a
-/// certificate before it may be refused.
+/// Reads the operands in this order: the moment, the purpose, the fingerprints, the anchor's file and the files of the path. The first
+/// that is wrong is reported, except that `Operands::certificates` reports a file of the path that cannot be read, since a certificate
+/// before it may be refused.
 pub fn read_operands<'a, S: Source>(
     source: &S,
     alloc: Global,
@@ -73,8 +73,8 @@ pub fn read_operands<'a, S: Source>(
 }
 
 impl<'a> Operands<'a> {
-    /// The certificates of the anchor and of the path, each read once. The first that is refused is told, the anchor first, and a file
-    /// that was not read behind those before it.
+    /// The certificates of the anchor and of the path, each read once. The first that is refused is reported, the anchor first, and a file
+    /// that could not be read after those before it.
     pub fn certificates<'q>(
         &'q self,
         alloc: Global,

@@ -13,7 +13,7 @@ use der::{Fault, Rule};
 use der_stream::{PathOctets, ReadFault, path_octets};
 use std::alloc::Global;
 
-// One more than a path may have, so that a path that is too long is told as such.
+// One more than a path may have, so that a path that is too long is reported as such.
 const MOST: u32 = 129;
 
 /// The values with which the octets begin, and why no more were read.
@@ -83,8 +83,8 @@ pub(crate) fn read_files<'a, S: Source>(
     }
 }
 
-/// Why the file is refused, where the value that starts at this place is. Octets in memory are read without fail, and no memory holds a
-/// file in which the place is past the greatest, so that nothing but memory is wanted where no rule is broken.
+/// Why the file is refused, if the value that starts at this place is. Reading octets in memory cannot fail, and the offset cannot
+/// overflow, since no memory holds such a file; so if no rule is broken, only memory was lacking.
 fn failure_of<'a>(file: &'a str, place: u64, fault: ReadFault) -> Failure<'a>
     ensures { IsToldOf file.entry.now place fault result }
 {
@@ -124,7 +124,7 @@ fn certificates_in<'q, 'a>(
     Ok(certificates)
 }
 
-/// The certificates of the path, one file after the other. The first file is told that is refused, else the one that was not read.
+/// The certificates of the path, one file after the other. The first refused file is reported, else the one that could not be read.
 pub(crate) fn certificates_of<'q, 'a>(
     alloc: Global,
     path: &'q PathFiles<'a>,

@@ -110,7 +110,7 @@ fn purpose_in(alloc: Global, arcs: &[u64]) -> Result<Option<Vec<u8>>, AllocError
     Ok(Some(octets_of(alloc, number, &arcs[2..])?))
 }
 
-/// The contents octets of the OBJECT IDENTIFIER that is the text in dotted decimal; `None` where it is none of those that the
+/// The contents octets of the OBJECT IDENTIFIER that is the text in dotted decimal; `None` if it is none of those that the
 /// program prints so: at least two numbers, none with a zero in front, each below 2^63, and those with which one may begin.
 pub fn purpose_of(alloc: Global, text: &str) -> Result<Option<Vec<u8>>, AllocError>
     ensures purpose { IfOk result (λ purpose. IfSome purpose (λ contents.

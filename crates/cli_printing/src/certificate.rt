@@ -25,7 +25,7 @@ use names::{General, Name, Subtree};
 use std::io;
 use std::io::Write;
 
-// A word, and the octets where there are any.
+// A word, and the octets if there are any.
 pub(crate) fn write_octets<W: Write>(word: &str, octets: &[u8], writer: &mut W) -> io::Result<()>
     ensures { Writes W.contents writer.old writer.new result (octets_line word.now octets.now) }
 {
@@ -165,7 +165,7 @@ fn write_identifiers<W: Write>(word: &str, oids: &[Oid<'_>], writer: &mut W) -> 
     Ok(())
 }
 
-// A line, where that is so.
+// A line, if that is so.
 fn write_where<W: Write>(is_so: bool, line: &str, writer: &mut W) -> io::Result<()>
     ensures { Writes W.contents writer.old writer.new result (word_line line.now is_so) }
 {

@@ -80,7 +80,7 @@ fn write_rdns<W: Write>(rdns: Cursor<'_>, writer: &mut W) -> io::Result<()>
     Ok(())
 }
 
-// The RDNs; where there are none, a hyphen.
+// The RDNs; if there are none, a hyphen.
 #[tactic(auto, unfolding(asn::specs::Members::none_left))]
 fn write_sequence<W: Write>(rdns: Cursor<'_>, writer: &mut W) -> io::Result<()>
     ensures { Writes W.contents writer.old writer.new result (rdns_text (left rdns.entry).values) }

@@ -92,7 +92,7 @@ fn write_numbers<W: Write>(contents: &[u8], writer: &mut W) -> io::Result<()>
     Ok(())
 }
 
-/// Writes the OBJECT IDENTIFIER of these contents in dotted decimal; where one of its numbers has more than nine octets, a `#`
+/// Writes the OBJECT IDENTIFIER of these contents in dotted decimal; if one of its numbers has more than nine octets, a `#`
 /// and the contents in hexadecimal.
 #[tactic(auto, unfolding(crate::specs::OidText::oid_text))]
 pub(crate) fn write_oid<W: Write>(contents: &[u8], writer: &mut W) -> io::Result<()>

@@ -35,7 +35,7 @@ pub(crate) fn write_hex<W: Write>(octets: &[u8], writer: &mut W) -> io::Result<(
     Ok(())
 }
 
-// A space and the contents, where there are any.
+// A space and the contents, if there are any.
 pub(crate) fn write_contents<W: Write>(contents: &[u8], writer: &mut W) -> io::Result<()>
     ensures { Writes W.contents writer.old writer.new result (shown_contents contents.now) }
 {
@@ -63,7 +63,7 @@ fn write_octet<W: Write>(octet: u8, writer: &mut W) -> io::Result<()>
     write_digits(&[octet], writer)
 }
 
-/// Writes the octets as text: those that print as they are, but for separators, others as a backslash and two digits.
+/// Writes the octets as text: printable ones as they are, separators and others as a backslash and two digits.
 pub(crate) fn write_escaped<W: Write>(octets: &[u8], writer: &mut W) -> io::Result<()>
     ensures { Writes W.contents writer.old writer.new result (escaped octets.now) }
 {
@@ -73,7 +73,7 @@ pub(crate) fn write_escaped<W: Write>(octets: &[u8], writer: &mut W) -> io::Resu
     Ok(())
 }
 
-// A space and the text, where there is any.
+// A space and the text, if there is any.
 pub(crate) fn write_spaced_text<W: Write>(octets: &[u8], writer: &mut W) -> io::Result<()>
     ensures { Writes W.contents writer.old writer.new result (spaced_text octets.now) }
 {

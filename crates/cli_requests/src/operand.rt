@@ -37,7 +37,7 @@ fn escaped(high: u8, low: u8) -> Option<u8>
     }
 }
 
-// The octet that a word begins with, and the rest of the word; `None` where it begins with none.
+// The octet that a word begins with, and the rest of the word; `None` if it begins with none.
 fn first_octet(word: &[u8]) -> Option<(u8, &[u8])>
     ensures reads { IfSome result (λ read.
         name_in word.now ≡ with_octet (Some read.0) (name_in read.1.now)) }
@@ -117,7 +117,7 @@ fn octets_in(alloc: Global, digits: &[u8]) -> Result<Option<Operand>, AllocError
     }
 }
 
-/// The operand that the word writes; `None` where it writes none. Octets are `hex:` and two hexadecimal digits each; in the name of a file,
+/// The operand that the word writes; `None` if it writes none. Octets are `hex:` and two hexadecimal digits each; in the name of a file,
 /// a backslash and two hexadecimal digits are an octet. Time and memory are linear in the word.
 pub fn operand_of(alloc: Global, word: &[u8]) -> Result<Option<Operand>, AllocError>
     ensures { IfOk result (λ found. option_map seen_operand found ≡ operand_in word.now) }

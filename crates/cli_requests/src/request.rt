@@ -272,7 +272,7 @@ fn request_of_text<'a>(alloc: Global, text: &'a str) -> Result<Request<'a>, Requ
 }
 
 /// What the line asks for, which stands there without its line feed: words parted by single spaces, in UTF-8. An empty line, and one that
-/// begins with `#`, asks for nothing. `Malformed` is answered exactly where the line is no request. Time is linear in the line, and memory
+/// begins with `#`, asks for nothing. `Malformed` is answered exactly if the line is no request. Time is linear in the line, and memory
 /// is 16 octets a word and what an operand holds.
 pub fn request_of<'a>(alloc: Global, line: &'a [u8]) -> Result<Request<'a>, RequestFault>
     ensures reads { IfOk result (λ request. request_on line.now ≡ Some (seen_request request)) }

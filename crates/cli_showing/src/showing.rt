@@ -114,7 +114,7 @@ fn show_response<'a, O: Write>(
 }
 
 /// Writes the fingerprints of what a verifier is asked about the file under the key of its issuer. The issuer's file comes first: the
-/// other is looked at only where it holds a certificate.
+/// other is looked at only if it holds a certificate.
 pub fn prints<'a, S: Source, O: Write>(
     source: &S,
     alloc: Global,

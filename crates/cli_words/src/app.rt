@@ -1,4 +1,4 @@
-//! The program and its subcommands, as clap is told of them. Each subcommand is built in a function of its own.
+//! The program and its subcommands, as clap sees them. Each subcommand is built in a function of its own.
 ghost use Rattle.std.specs.Prelude.{◌≡◌, IfOk, false};
 ghost use Rattle.clap.specs.Words.{app_of, new_app, rule_of};
 ghost use Rattle.clap.specs.declared.builder.command.Command.TheViews.{out-Command as fields_of};

@@ -43,8 +43,8 @@ pub enum Line<'a> {
         kind: Kind,
         file: &'a str,
     },
-    /// Put the statement in the file into the store, where the key in the certificate in the issuer's file signed it, and a
-    /// signature is good where its fingerprint is among the verdicts.
+    /// Put the statement in the file into the store, if the key in the certificate in the issuer's file signed it, and a
+    /// signature is good if its fingerprint is among the verdicts.
     Deliver {
         store: &'a str,
         verdicts: &'a str,

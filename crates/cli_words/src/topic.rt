@@ -6,7 +6,7 @@ ghost use Rattle.cli_words.specs.CommandLine.{words_in};
 use clap::ArgMatches;
 use std::alloc::{AllocError, Global};
 
-/// The words of the topic; none where it was left out.
+/// The words of the topic; none if it was left out.
 pub(crate) fn topic_words<'a>(
     alloc: Global,
     matches: &ArgMatches<'a>,

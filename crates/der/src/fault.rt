@@ -5,7 +5,7 @@ ghost use Rattle.der.specs.Fault.{rule_number, rule_name, fault_number, fault_na
 
 use thiserror::Error;
 
-/// A rule of DER, in the order in which the rules are named where one value breaks several.
+/// A rule of DER. If one value breaks several, the first in this order is reported.
 #[derive(Clone, Copy, Debug, PartialEq, Eq, Error)]
 pub enum Rule {
     /// An identifier octet that is not served: a high tag number, universal 0, or a universal type in the wrong form
@@ -32,8 +32,8 @@ pub enum Rule {
     Trailing,
 }
 
-/// Why octets were refused: the first rule that is broken, with the offset of the value that breaks it (the offset of its
-/// identifier octet; for `Trailing`, that of the first octet behind the value), or want of memory.
+/// Why octets were refused: the first rule that is broken, with the offset of the value that breaks it (of its identifier octet; for
+/// `Trailing`, of the first octet behind the value), or lack of memory.
 #[derive(Clone, Copy, Debug, PartialEq, Eq, Error)]
 pub enum Fault {
     #[error("{0}, at offset {1}")]
@@ -43,7 +43,7 @@ pub enum Fault {
 }
 
 impl Rule {
-    /// The number by which the product names the rule, from 1 to 7.
+    /// The number of the rule, from 1 to 7.
     pub fn number(self) -> u8
         ensures { result ≡ rule_number self }
     {
@@ -58,7 +58,7 @@ impl Rule {
         }
     }
 
-    /// The word that stands beside the number.
+    /// The name of the rule, printed beside the number.
     pub fn name(self) -> &'static str
         ensures { result.now ≡ rule_name self }
     {
@@ -75,7 +75,7 @@ impl Rule {
 }
 
 impl Fault {
-    /// The number by which the product names the fault, from 1 to 8.
+    /// The number of the fault, from 1 to 8.
     pub fn number(self) -> u8
         ensures { result ≡ fault_number self }
     {
@@ -85,7 +85,7 @@ impl Fault {
         }
     }
 
-    /// The word that stands beside the number.
+    /// The name of the fault, printed beside the number.
     pub fn name(self) -> &'static str
         ensures { result.now ≡ fault_name self }
     {
@@ -95,7 +95,7 @@ impl Fault {
         }
     }
 
-    /// The offset of the value at fault; want of memory has none.
+    /// The offset of the value at fault; `None` for lack of memory.
     pub fn place(self) -> Option<usize>
         ensures { result ≡ fault_place self }
     {

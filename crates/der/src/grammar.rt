@@ -1,4 +1,4 @@
-//! Whether octets are the encoding of one value.
+//! Whether octets encode one value.
 
 ghost use Rattle.std.specs.Prelude.{◌≡◌, ◌↔◌, ◌+◌, ◌<◌, ◌≤◌, ℕ, length, take, IfOk, IfErr, OnOk, IsOk, false};
 ghost use Rattle.der.specs.Value.{Value, Values};
@@ -13,7 +13,7 @@ use crate::header::Header;
 use crate::identifier::is_constructed_form;
 use crate::quick::is_known;
 
-/// The depth of the deepest values, where the outermost is at depth 1.
+/// The greatest depth that is served; the outermost value has depth 1.
 pub const MAX_DEPTH: u32 = 32;
 
 /// The value at the front of a text that goes to the end of the enclosing value: how many octets it has, or the first rule
@@ -69,12 +69,12 @@ fn check_values(text: &[u8], depth: u32) -> Result<(), (Rule, usize)>
     Ok(())
 }
 
-/// Whether the octets are the DER encoding of one value, all of them, and if not, the first rule that is broken and the
-/// place of the value that breaks it. Values are looked at in the order of their first octets; at one value the rules are
-/// looked at in the order of their numbers. Never `Fault::Memory`.
+/// Whether the octets are the DER encoding of one value, all of them (X.690, 10); if not, the first rule that is broken and the place of
+/// the value that breaks it. Values are looked at in the order of their first octets, at one value the rules in the order of their
+/// numbers. Never `Fault::Memory`.
 ///
-/// Time is linear in the octets, and no memory is taken. Octets that are an encoding are looked at once, and others twice at most:
-/// it is the second look that names the fault. The stack holds at most 33 frames of a small function.
+/// Time is linear in the octets, and no memory is taken. Octets that are an encoding are looked at once, others twice at most, or three
+/// times if they are fewer than 128: a later look finds the fault. The stack holds at most 33 frames of a small function.
 pub fn check(octets: &[u8]) -> Result<(), Fault>
     ensures accepts { IsOk result ↔ ((value : Value) × Encodes octets.now value) }
     ensures refuses { IfErr result (λ fault. IsFirstFault octets.now fault) }

@@ -18,8 +18,8 @@ pub struct Header {
 }
 
 impl Header {
-    /// The header at the front of a text that goes to the end of the enclosing value, or of the input; else the first
-    /// rule that it breaks.
+    /// The header at the front of a text that goes to the end of the enclosing value, or of the input (X.690, 8.1.2, 8.1.3); else the
+    /// first rule that it breaks.
     #[inline(always)]
     pub fn read(text: &[u8]) -> Result<Header, Rule>
         ensures ok { IfOk result (λ header. IsHeaderOf text.now header) }
@@ -46,8 +46,8 @@ impl Header {
         })
     }
 
-    /// The header of a value of which these are the first octets, whatever follows them; `None` where it goes on behind them;
-    /// else the first rule that it breaks. An identifier octet or a first length octet that breaks one is told by itself.
+    /// The header of a value that begins with these octets, whatever follows; `None` if the header goes on behind them; else the first
+    /// rule that it breaks. An identifier octet, or a first length octet, that breaks a rule is refused at once.
     pub fn begun(front: &[u8]) -> Result<Option<Header>, Rule>
         ensures whole { IfOk result (λ found. IfSome found (λ header. HasHeader front.now header)) }
         ensures goes_on { IfOk result (λ found. IfNone found (GoesOn front.now)) }
@@ -74,7 +74,7 @@ impl Header {
         }
     }
 
-    /// The header at the front of a text that is known to begin with the encoding of a value: no rule is looked at again.
+    /// The header at the front of a text that is known to begin with the encoding of a value: no rule is checked again.
     #[inline(always)]
     pub fn known(text: &[u8]) -> Header
         requires { HasServedLength text.now }

@@ -1,5 +1,4 @@
-//! The Distinguished Encoding Rules (X.690) in a stated profile: which octets are the encoding of one value, and what is
-//! wrong with all others.
+//! The Distinguished Encoding Rules (X.690) in a stated profile: which octets encode one value, and what is wrong with all others.
 #![tactic(auto)]
 
 mod contents;

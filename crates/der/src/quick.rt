@@ -1,5 +1,5 @@
-//! A look at octets that goes from value to value without a call for those inside. What it accepts is an encoding; it leaves
-//! the octets of which it isn't sure to `grammar`, which finds the first fault.
+//! A look at octets that goes from value to value without a call for those inside. What it accepts is an encoding; other octets it leaves
+//! to `grammar`, which finds the first fault.
 
 ghost use Rattle.std.specs.Prelude.{IsTrue, IfSome};
 ghost use Rattle.der.specs.Value.{Value};
@@ -21,7 +21,7 @@ struct Front<'a> {
     others: &'a [u8],
 }
 
-/// The value at the front of the text, if its header breaks no rule, nor its contents where it is primitive.
+/// The value at the front of the text, if its header breaks no rule, nor its contents if it is primitive.
 #[inline(always)]
 fn front_of(text: &[u8]) -> Option<Front<'_>>
     ensures { IfSome result (λ f. BeginsWith text.now f.constructed f.contents.now f.others.now) }

@@ -15,7 +15,7 @@ use thiserror::Error;
 /// Why no value was taken from a source.
 #[derive(Clone, Copy, Debug, PartialEq, Eq, Error)]
 pub enum ReadFault {
-    /// The octets that the source has left begin with no value, or want of memory.
+    /// The octets that the source has left do not begin with a value, or there is no memory.
     #[error("{0}")]
     Fault(Fault),
     /// The next value has more octets than the caller allows.
@@ -27,7 +27,7 @@ pub enum ReadFault {
 }
 
 impl ReadFault {
-    /// The number by which the product names the fault, from 1 to 8 or 10; an error of the source has none.
+    /// The number of the fault, from 1 to 8 or 10; `None` for an error of the source.
     pub fn number(self) -> Option<u8>
         ensures { result ≡ read_fault_number self }
     {
@@ -38,7 +38,7 @@ impl ReadFault {
         }
     }
 
-    /// The word that stands beside the number.
+    /// The name of the fault, printed beside the number.
     pub fn name(self) -> &'static str
         ensures { result.now ≡ read_fault_name self }
     {
@@ -49,7 +49,7 @@ impl ReadFault {
         }
     }
 
-    /// The offset in the value that was being read; want of memory and errors of the source have none.
+    /// The offset in the value that was being read; `None` for lack of memory and errors of the source.
     pub fn place(self) -> Option<usize>
         ensures { result ≡ read_fault_place self }
     {
@@ -143,7 +143,7 @@ fn read_behind<R: Read>(
     }
 }
 
-/// The same, with room made where there is none.
+/// The same, with room made if there is none.
 fn read_more<R: Read>(
     source: &mut R,
     octets: &mut Vec<u8>,
@@ -184,14 +184,13 @@ fn read_contents<R: Read>(source: &mut R, octets: &mut Vec<u8>, len: usize) -> R
     Ok(())
 }
 
-/// The next value of the source, and no octet behind it; `None` where the source ends before its first octet.
+/// Reads the next value of the source, and no octet behind it; `None` if the source ends before its first octet.
 ///
-/// The header is read octet by octet, and refused as soon as the octet at fault was read. `Limit` is answered before anything of the
-/// contents is read, where the value has more than `limit` octets, its header counted. Other faults are those of `der::check`, with
-/// their place in the value. `Io` is answered where the source answers an error, an interruption too; then, as where memory is
-/// wanted, what was read is lost.
+/// The header is read octet by octet, and refused as soon as the octet at fault was read. `Limit` is answered before any of the contents
+/// is read, if the value has more than `limit` octets with its header. Other faults are those of `der::check`, with their place in the
+/// value. `Io` is answered if the source answers an error, an interruption too; then, as after lack of memory, what was read is lost.
 ///
-/// Room is made as octets come, for at most as many again. Time is linear in the octets read, beside that of the source.
+/// Room is made as octets come, for at most as many again. Time is linear in the octets read, plus that of the source.
 pub fn read_one<R: Read>(
     alloc: Global,
     source: &mut R,
@@ -215,8 +214,8 @@ pub fn read_one<R: Read>(
     }
 }
 
-/// What a source has left, and the limit, leave `read_one` one answer, however the source is cut, and one place behind what was
-/// read: so a value that the source begins with is answered, and nothing else is refused or past the limit.
+/// What a source has left, and the limit, leave `read_one` one answer, however the source is cut, and one place behind what was read. So a
+/// value that the source begins with is answered, and nothing else is refused or past the limit.
 pub fn stream_laws()
     ensures { OneAnswer }
 {}

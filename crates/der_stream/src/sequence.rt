@@ -10,19 +10,19 @@ use std::io::Read;
 /// The most octets that a value can have: a header of 6, and contents of 2^28 - 1.
 const LONGEST: usize = 268_435_461;
 
-/// The values that were read, and why no more.
+/// The values that were read, and why no more were.
 #[derive(Drop)]
 pub struct PathOctets {
     /// The values with which the source begins, in order.
     pub values: Vec<Vec<u8>>,
-    /// `None` where the source ended behind the last value, or as many were read as were asked for; else the place in the source
-    /// where the value starts that is refused, and its fault.
+    /// `None` if the source ended behind the last value, or as many were read as were asked for; else the place in the source where the
+    /// refused value starts, and its fault.
     pub stopped: Option<(u64, ReadFault)>,
 }
 
-/// At most so many values, with which the source begins, until it ends. Nothing is read behind the last of them. Where there is no room
-/// for the list of them, the value that was read is refused with want of memory. No value is past the limit, since none can have more
-/// octets; a source that does not tell what it has left promises nothing of that.
+/// Reads at most `most` values from the source, until it ends. Nothing is read behind the last of them. If there is no room for the list
+/// of them, the value that was read is refused with lack of memory. No value is past the limit, since none can have more octets; of a
+/// source that does not report its remaining length nothing is promised about that.
 pub fn path_octets<R: Read>(alloc: Global, source: &mut R, most: u32) -> PathOctets
     ensures values { ReadsAtMost most R.remaining source.old source.new result }
     ensures longest { NoneIsPast (R.remaining source.old) result.stopped }

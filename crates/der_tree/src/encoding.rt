@@ -18,14 +18,14 @@ use thiserror::Error;
 pub enum EncodeFault {
     #[error("no memory")]
     Memory,
-    /// No octets are the encoding of the tree: an identifier octet that is not served or has the wrong form, contents that
-    /// the type does not allow, 2^28 contents octets or more, or a value at depth 33.
+    /// No octets encode the tree: it has an identifier octet that is not served or has the wrong form, contents that the type does not
+    /// allow, 2^28 contents octets or more, or a value at depth 33.
     #[error("no octets encode the tree")]
     NotSpellable,
 }
 
 impl EncodeFault {
-    /// The number by which the product names the fault: 8 or 9.
+    /// The number of the fault: 8 or 9.
     pub fn number(self) -> u8
         ensures { result ≡ encode_fault_number self }
     {
@@ -35,7 +35,7 @@ impl EncodeFault {
         }
     }
 
-    /// The word that stands beside the number.
+    /// The name of the fault, printed beside the number.
     pub fn name(self) -> &'static str
         ensures { result.now ≡ encode_fault_name self }
     {
@@ -63,7 +63,7 @@ fn with_header(contents: usize) -> usize
     }
 }
 
-/// How many octets the encoding of a primitive value has; `None` where it has none at this depth.
+/// How many octets the encoding of a primitive value has; `None` if it has none at this depth.
 fn primitive_size(identifier: u8, contents: &[u8], depth: u32) -> Option<usize>
     ensures some { IfSome result (HasSizeAt depth (primitive identifier contents.now)) }
     ensures none { IfNone result (IsEncodableAt depth (primitive identifier contents.now) → ⊥) }
@@ -86,7 +86,7 @@ fn may_hold_values(identifier: u8, depth: u32) -> bool
     depth <= MAX_DEPTH && !is_refused_identifier(identifier) && is_constructed_form(identifier)
 }
 
-/// How many octets the encoding of the tree has; `None` where it has none at this depth.
+/// How many octets the encoding of the tree has; `None` if it has none at this depth.
 #[cycle(size)]
 fn size_at(tree: &Tree, depth: u32) -> Option<usize>
     requires { depth ≤ 33 }
@@ -106,7 +106,7 @@ fn size_at(tree: &Tree, depth: u32) -> Option<usize>
     }
 }
 
-/// How many octets the encodings of the trees have, one after the other; `None` where one has none at this depth, or where
+/// How many octets the encodings of the trees have, one after the other; `None` if one has none at this depth, or if
 /// they are too many for one value.
 #[cycle(size)]
 fn sizes_at(trees: &[Tree], depth: u32) -> Option<usize>
@@ -183,9 +183,9 @@ fn octets_of_tree(alloc: Global, tree: &Tree, size: usize) -> Result<Vec<u8>, Al
     Ok(octets)
 }
 
-/// The one encoding of the tree (X.690, 10.1). Whether there is one is looked at before memory is taken, so that
-/// `NotSpellable` is exact, and `Memory` comes only where a growth was refused. Time is linear in the octets and in the
-/// nodes times their depth, which is at most 32; the octets are allocated once.
+/// The one encoding of the tree (X.690, 10.1). Whether there is one is checked before memory is taken, so `NotSpellable` is exact, and
+/// `Memory` comes only if a growth was refused. Time is linear in the octets and in the nodes times their depth, which is at most 32; the
+/// octets are allocated once.
 pub fn encode(alloc: Global, tree: &Tree) -> Result<Vec<u8>, EncodeFault>
     ensures found { IfOk result (λ octets. Encodes octets.items (value_of tree.now)) }
     ensures only { GivesEncoding (value_of tree.now) result }

@@ -38,9 +38,8 @@ fn trees_of(alloc: Global, members: Cursor<'_>) -> Result<Vec<Tree>, AllocError>
     Ok(trees)
 }
 
-/// The tree of the octets, which are the encoding of one value, or the first fault, as `check` answers it;
-/// `Fault::Memory` only where a growth was refused. Time is linear in the octets; the memory is that of the contents and of
-/// a node for each value.
+/// The tree of the one value that the octets encode, or the first fault, as `check` answers it; `Fault::Memory` only if a growth was
+/// refused. Time is linear in the octets; the memory is that of the contents and of a node for each value.
 pub fn parse_tree(alloc: Global, octets: &[u8]) -> Result<Tree, Fault>
     ensures found { IfOk result (λ tree. Encodes octets.now (value_of tree)) }
     ensures only { GivesTree octets.now result }

@@ -10,14 +10,14 @@ ghost use Rattle.names.specs.Laws.{DomainTestIsExact, DomainInsideIsSound, Share
 /// The most octets of a DNS name.
 const MAX_NAME_LEN: usize = 253;
 
-/// The base of a DNS constraint, read.
+/// The base of a DNS constraint that was read (RFC 5280, 4.2.1.10).
 #[derive(Clone, Copy)]
 pub enum Domain<'a> {
     /// Every DNS name.
     Every,
-    /// The names that end in these labels.
+    /// The names that end in these labels, and the name of just these.
     Within(&'a [u8]),
-    /// Those with at least one label more.
+    /// The names with at least one label before these.
     Below(&'a [u8]),
 }
 
@@ -46,7 +46,7 @@ fn has_labels(name: &[u8]) -> bool
         .all(|label| is_label(label))
 }
 
-/// Whether the octets are one label or more, joined by dots, and 253 octets at most.
+/// Whether the octets are a DNS name: labels of 1 to 63 octets, joined by dots, 253 octets at most. Time is linear.
 #[tactic(auto, unfolding(crate::specs::Bases::is_dns_name))]
 pub fn is_dns_name(name: &[u8]) -> bool
     ensures decides { IsTrue result ↔ IsDnsName name.now }
@@ -80,7 +80,7 @@ fn ends_in_more(name: &[u8], base: &[u8]) -> bool
 }
 
 impl<'a> Domain<'a> {
-    /// Reads the base of a constraint: nothing, a DNS name, or a dot and a DNS name.
+    /// Reads the base of a constraint: nothing, a DNS name, or a dot and a DNS name; `None` for other octets.
     #[tactic(auto, unfolding(crate::specs::Bases::names_of_base))]
     pub fn of_base(base: &'a [u8]) -> Option<Domain<'a>>
         ensures reads { IfSome result (IsBaseOf base.now) }
@@ -96,7 +96,7 @@ impl<'a> Domain<'a> {
 }
 
 impl Domain<'_> {
-    /// Whether the name lies in the domain.
+    /// Whether the name lies in the domain, without regard to ASCII case.
     #[tactic(auto, unfolding(crate::specs::Dns::is_in_domain))]
     pub fn covers(&self, name: &[u8]) -> bool
         ensures decides { IsTrue result ↔ IsInDomain name.now self.now }
@@ -109,7 +109,7 @@ impl Domain<'_> {
         }
     }
 
-    /// Whether the domain is a part of the other.
+    /// Whether the domain lies in the other.
     #[tactic(auto, unfolding(crate::specs::Dns::is_domain_inside))]
     pub fn inside(&self, other: &Domain<'_>) -> bool
         ensures { result ≡ is_domain_inside self.now other.now }
@@ -125,7 +125,7 @@ impl Domain<'_> {
     }
 }
 
-/// The test of `covers` decides the relation on labels; `inside` is sound; and two domains that share a name are nested.
+/// The test `covers` decides the relation on labels; `inside` is sound; and two domains that share a name are nested.
 pub fn domain_laws()
     ensures test { DomainTestIsExact }
     ensures sound { DomainInsideIsSound }

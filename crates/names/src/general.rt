@@ -18,7 +18,7 @@ pub enum Form {
     Other(u8),
 }
 
-/// A general name, read.
+/// A general name that was read.
 #[derive(Clone, Copy)]
 pub enum General<'a> {
     /// directoryName.

@@ -18,8 +18,8 @@ use names_distinguished::{Name, NameRule, Refusal};
 
 const DIRECTORY_NAME: u8 = 0xA4;
 
-/// The form of general names that have the identifier octet: a tag of the context, and the constructed flag in the forms 0, 3,
-/// 4 and 5.
+/// The form of general names with this identifier octet: a context tag, with the constructed flag in the forms 0, 3, 4 and 5; `None` for
+/// others.
 #[tactic(auto, unfolding(crate::specs::GeneralLayout::form_of_identifier))]
 pub fn form_of_tag(tag: u8) -> Option<Form>
     ensures form { result ≡ form_of_identifier tag }
@@ -39,7 +39,7 @@ pub fn form_of_tag(tag: u8) -> Option<Form>
     }
 }
 
-/// directoryName [4] Name, where the tag is explicit since Name is a CHOICE (X.680, 31.2.7).
+/// directoryName [4] Name, whose tag is explicit since Name is a CHOICE (X.680, 31.2.7).
 #[tactic(auto, unfolding(crate::specs::GeneralLayout::explicit_name))]
 fn read_explicit_name(value: Tlv<'_>) -> Result<Name<'_>, Refusal>
     requires { value.tag ≡ DIRECTORY_NAME }
@@ -77,7 +77,7 @@ fn read_ip_address(value: Tlv<'_>) -> Result<General<'_>, Refusal>
 }
 
 impl<'a> General<'a> {
-    /// As `read`, with faults at their offsets in the text handed to `asn::whole`.
+    /// As `read`, with offsets in the text handed to `asn::whole`.
     #[tactic(auto, unfolding(crate::specs::GeneralLayout::general))]
     pub fn at(value: Tlv<'a>) -> Result<General<'a>, Refusal>
         ensures { Gives general_name result (general (seen_tlv value.entry)) }
@@ -91,7 +91,7 @@ impl<'a> General<'a> {
         }
     }
 
-    /// The general name that the value is, or the first fault in it, with its offset in the value. The contents of forms other
+    /// Reads a general name (RFC 5280, 4.2.1.6), or answers the first fault, with its offset in the value. The contents of forms other
     /// than directoryName, dNSName and iPAddress are free. No memory is taken.
     pub fn read(value: Tlv<'a>) -> Result<General<'a>, Refusal>
         ensures { Gives general_name result (general (text_at value.entry.whole.now 0)) }
@@ -124,7 +124,7 @@ fn read_ip_base(value: Tlv<'_>) -> Result<Subtree<'_>, Refusal>
 }
 
 impl<'a> Subtree<'a> {
-    /// As `read_base`, with faults at their offsets in the text handed to `asn::whole`.
+    /// As `read_base`, with offsets in the text handed to `asn::whole`.
     #[tactic(auto, unfolding(crate::specs::GeneralLayout::base))]
     pub fn base_at(value: Tlv<'a>) -> Result<Subtree<'a>, Refusal>
         ensures { Gives subtree_base result (base (seen_tlv value.entry)) }
@@ -138,7 +138,7 @@ impl<'a> Subtree<'a> {
         }
     }
 
-    /// The base of a subtree that the value is, or the first fault in it, with its offset in the value. The contents of forms
+    /// Reads the base of a subtree (RFC 5280, 4.2.1.10), or answers the first fault, with its offset in the value. The contents of forms
     /// other than directoryName, dNSName and iPAddress are free. No memory is taken.
     pub fn read_base(value: Tlv<'a>) -> Result<Subtree<'a>, Refusal>
         ensures { Gives subtree_base result (base (text_at value.entry.whole.now 0)) }
@@ -147,8 +147,7 @@ impl<'a> Subtree<'a> {
     }
 }
 
-/// What is read are the general names and bases of RFC 5280, and each is read; the tests of DNS names, addresses and bases
-/// decide the relations.
+/// Exactly the general names and bases of RFC 5280 are read; the tests of DNS names, addresses and bases decide the relations.
 pub fn general_laws()
     ensures general { GeneralNamesAreRead }
     ensures base { SubtreeBasesAreRead }
@@ -159,8 +158,8 @@ pub fn general_laws()
     ensures refused { RefusedBaseIsExact }
 {}
 
-/// Whether a name lies in a subtree, and a subtree in another, is decided by what they say, wherever that lies in memory. The
-/// tests on what they say decide the relations, and the laws of `subtree_laws` hold of them.
+/// Whether a name lies in a subtree, or a subtree in another, depends on what they say, not on where they lie in memory. The tests on what
+/// they say decide the relations, and the laws of `subtree_laws` hold of them.
 pub fn coverage_laws()
     ensures test { CoverageTestIsExact }
     ensures covers { CoverageIsOfContents }

@@ -9,22 +9,22 @@ ghost use Rattle.names.specs.Laws.{RangeTestIsExact, RangeInsideIsSound, SharedR
 /// The addresses that begin with the first `prefix` bits of `address`.
 #[derive(Clone, Copy)]
 pub struct IpRange<'a> {
-    /// 4 or 16 octets, as those of a range that was read.
+    /// 4 or 16 octets in a range that was read.
     pub address: &'a [u8],
     /// The number of ones in the mask.
     pub prefix: u16,
 }
 
-/// Why octets are no base of a constraint.
+/// Why octets are not the base of a constraint on addresses.
 #[derive(Clone, Copy, PartialEq, Eq, Debug)]
 pub enum IpFault {
-    /// They are not as many as an address and its mask.
+    /// They are not 8 or 32 octets: an address and its mask.
     Length,
     /// The mask has a one after a zero.
     Mask,
 }
 
-/// Whether the octets are as many as those of an address, of version 4 or 6.
+/// Whether the octets are as many as an address has: 4 or 16.
 #[tactic(auto, unfolding(crate::specs::Bases::is_ip_address))]
 pub fn is_ip_address(octets: &[u8]) -> bool
     ensures decides { IsTrue result ↔ IsIpAddress octets.now }
@@ -82,7 +82,7 @@ fn one_from(mask: &[u8], start: u16) -> Option<u16>
     None
 }
 
-/// How many ones the mask begins with, where zeros follow.
+/// How many ones the mask begins with, if zeros follow.
 fn prefix_of(mask: &[u8]) -> Option<u16>
     requires { length mask.now ≤ 16 }
     ensures { MatchOption result (HasHole mask.now) (IsMaskOf mask.now) }
@@ -95,7 +95,7 @@ fn prefix_of(mask: &[u8]) -> Option<u16>
 }
 
 impl<'a> IpRange<'a> {
-    /// Reads the base of a constraint: an address, and a mask of ones and then zeros.
+    /// Reads the base of a constraint: an address, and a mask of ones and then zeros (RFC 4632, 3.1).
     pub fn of_base(base: &'a [u8]) -> Result<IpRange<'a>, IpFault>
         ensures reads { IfOk result (IsRangeOf base.now) }
         ensures accepts { (range : IpRange) → IsRangeOf base.now range → IsOk result }
@@ -123,7 +123,7 @@ impl IpRange<'_> {
         address.len() == self.address.len() && bits_agree(self.address, address, self.prefix)
     }
 
-    /// Whether the range is a part of the other.
+    /// Whether the range lies in the other.
     #[tactic(auto, unfolding(crate::specs::Ip::is_range_inside))]
     pub fn inside(&self, other: &IpRange<'_>) -> bool
         ensures { result ≡ is_range_inside self.now other.now }
@@ -134,7 +134,7 @@ impl IpRange<'_> {
     }
 }
 
-/// The test of `covers` decides the relation on bits; `inside` is sound; and two ranges that share an address are nested.
+/// The test `covers` decides the relation on bits; `inside` is sound; and two ranges that share an address are nested.
 pub fn range_laws()
     ensures test { RangeTestIsExact }
     ensures sound { RangeInsideIsSound }

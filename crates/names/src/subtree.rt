@@ -8,7 +8,7 @@ use crate::general::{Form, General};
 use crate::ip::IpRange;
 use names_distinguished::Name;
 
-/// The base of a subtree, read.
+/// The base of a subtree that was read.
 #[derive(Clone, Copy)]
 pub enum Subtree<'a> {
     /// The names within this one.
@@ -49,7 +49,7 @@ impl Subtree<'_> {
         }
     }
 
-    /// Whether the name lies in the subtree. None does in one of a form that is not processed.
+    /// Whether the name lies in the subtree. None lies in a subtree of a form that is not processed.
     #[tactic(auto, unfolding(crate::specs::GeneralSubtree::is_in_subtree))]
     pub fn covers(&self, name: &General<'_>) -> bool
         ensures decides { IsTrue result ↔ IsInSubtree name.now self.now }
@@ -63,8 +63,7 @@ impl Subtree<'_> {
         }
     }
 
-    /// Whether the subtree is a part of the other. Of two subtrees of one processed form that share a name, one is inside
-    /// the other.
+    /// Whether the subtree lies in the other. Of two subtrees of one processed form that share a name, one is inside the other.
     #[tactic(auto, unfolding(crate::specs::GeneralSubtree::is_subtree_inside))]
     pub fn inside(&self, other: &Subtree<'_>) -> bool
         ensures { result ≡ is_subtree_inside self.now other.now }
@@ -78,8 +77,8 @@ impl Subtree<'_> {
     }
 }
 
-/// The tests decide the relations; `inside` is sound; two subtrees that share a name are nested; and a name lies in
-/// subtrees of its own form alone, which is a processed one.
+/// The tests decide the relations; `inside` is sound; two subtrees that share a name are nested; and a name lies only in subtrees of its
+/// own form, which is a processed one.
 pub fn subtree_laws()
     ensures test { SubtreeTestIsExact }
     ensures sound { InsideIsSound }

@@ -91,7 +91,7 @@ fn repeats_kind(all: Cursor<'_>, at: usize, kind: &[u8]) -> bool
     false
 }
 
-/// The same, where attributes before `clear` are known to have new types.
+/// The same, if attributes before `clear` are known to have new types.
 fn repeats_unless_clear(all: Cursor<'_>, clear: usize, at: usize, kind: &[u8]) -> bool
     requires { at < clear → has_kind_before kind.now at (left all).values ≡ false }
     ensures { result ≡ has_kind_before kind.now at (left all.entry).values }
@@ -180,7 +180,7 @@ pub(crate) fn read_attribute<'a>(
     }
 }
 
-/// Whether values of the type are compared as texts.
+/// Whether values with this identifier octet are compared as texts: PrintableString, UTF8String and IA5String.
 pub fn is_text(tag: u8) -> bool
     ensures { result ≡ is_text tag }
 {
@@ -201,7 +201,7 @@ impl<'a> Attribute<'a> {
 }
 
 impl Attribute<'_> {
-    /// Whether the values are equal as they are compared.
+    /// Whether the values are equal after preparation (RFC 5280, 7.1).
     pub fn same_value(&self, other: &Attribute<'_>) -> bool
         ensures { IsTrue result ↔ (compared_value self.now ≡ compared_value other.now) }
     {

@@ -1,14 +1,14 @@
-//! Why octets are no name.
+//! Why octets are not a name.
 
 ghost use Rattle.std.specs.Prelude.{◌≡◌};
 ghost use Rattle.names_distinguished.specs.Fault.{fault_number, fault_name};
 
 use thiserror::Error;
 
-/// What is wrong with a name, a general name or the base of a subtree.
+/// The rule that a name, a general name or the base of a subtree breaks.
 #[derive(Clone, Copy, Debug, PartialEq, Eq, Error)]
 pub enum NameRule {
-    /// A value with another identifier octet, a value that is missing, or one that is left over.
+    /// A value has another identifier octet, is missing, or is left over.
     #[error("fault 11: not the layout of a name")]
     NameLayout,
     /// An attribute of a type that an earlier one of its RDN has (X.501, 9.3).
@@ -20,7 +20,7 @@ pub enum NameRule {
     /// A string with octets that its type does not hold.
     #[error("fault 14: not a string of its type")]
     Text,
-    /// No dNSName, or no base of one (RFC 5280, 4.2.1.6 and 4.2.1.10).
+    /// Not a dNSName, or not the base of a constraint on them (RFC 5280, 4.2.1.6 and 4.2.1.10).
     #[error("fault 15: not a DNS name")]
     DnsForm,
     /// An address, or an address with its mask, of another number of octets (RFC 5280, 4.2.1.6 and 4.2.1.10).
@@ -31,11 +31,11 @@ pub enum NameRule {
     MaskForm,
 }
 
-/// What was refused, and the offset of the value, counted from the first octet of the value that was handed in.
+/// The rule that is broken, and the offset of the value, from the first octet of the value that was handed in.
 pub type Refusal = (NameRule, usize);
 
 impl NameRule {
-    /// The number by which the product names the fault, from 11 to 17.
+    /// The number of the fault, from 11 to 17.
     pub fn number(self) -> u8
         ensures { result ≡ fault_number self }
     {
@@ -50,7 +50,7 @@ impl NameRule {
         }
     }
 
-    /// The word that stands beside the number.
+    /// The name of the fault, printed beside the number.
     pub fn name(self) -> &'static str
         ensures { result.now ≡ fault_name self }
     {

@@ -1,4 +1,4 @@
-//! Distinguished names (X.501, 9.2; RFC 5280, 4.1.2.4 and 7.1): read, compared and turned into keys; and why octets are no name.
+//! Distinguished names (X.501, 9.2; RFC 5280, 4.1.2.4 and 7.1): read, compared and turned into keys; and why octets are not a name.
 #![tactic(auto)]
 
 mod attribute;

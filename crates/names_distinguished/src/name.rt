@@ -100,7 +100,7 @@ fn read_name(tlv: Tlv<'_>) -> Result<Cursor<'_>, Refusal>
 impl<'a> Name<'a> {
     ghost use Rattle.names_distinguished.specs.NameOctets.{raw_of, offset_of, rdns_of};
 
-    /// As `read`, with faults at their offsets in the text handed to `asn::whole`.
+    /// As `read`, with offsets in the text handed to `asn::whole`.
     pub fn at(tlv: Tlv<'a>) -> Result<Name<'a>, Refusal>
         ensures walk { Gives (λ _. tt) result (name (seen_tlv tlv.entry)) }
         ensures raw { IfOk result (λ found. raw_of found ≡ tlv.entry.whole.now) }
@@ -115,9 +115,9 @@ impl<'a> Name<'a> {
         })
     }
 
-    /// The name that the value is, or the first fault in it, with its offset in the value. No memory is taken. Time is linear
-    /// in the octets where the attributes of an RDN have one size or are few; else each size of 256 attributes or more, and each
-    /// 256 attributes of other sizes, cost a walk over those before.
+    /// Reads a name (RFC 5280, 4.1.2.4), or answers the first fault, with its offset in the value. No memory is taken. Time is linear in
+    /// the octets if the attributes of an RDN have one size or are few; else each size of 256 attributes or more, and each 256 attributes
+    /// of other sizes, cost a walk over those before.
     pub fn read(value: Tlv<'a>) -> Result<Name<'a>, Refusal>
         ensures walk { Gives (λ _. tt) result (name (text_at value.entry.whole.now 0)) }
         ensures raw { IfOk result (λ found. raw_of found ≡ value.entry.whole.now) }
@@ -135,7 +135,7 @@ impl<'a> Name<'a> {
         self.raw
     }
 
-    /// The offset of the name in the text handed to `asn::whole`; 0 where it was read by itself, by `read`.
+    /// The offset of the name in the text handed to `asn::whole`; 0 if `read` read it by itself.
     #[tactic(auto, unfolding(crate::specs::NameOctets::offset_of))]
     pub fn offset(&self) -> usize
         ensures { result ≡ offset_of self.now }
@@ -159,8 +159,8 @@ impl<'a> Name<'a> {
         self.rdns.is_empty()
     }
 
-    /// Whether the names match (RFC 5280, 7.1): they have as many RDNs, which match in order. Names with the same octets match, and
-    /// are not looked into.
+    /// Whether the names match (RFC 5280, 7.1): they have as many RDNs, which match in order. Names with the same octets match, and are
+    /// not looked into. No memory is taken. Time is as for `read`.
     #[tactic(auto, unfolding(crate::specs::NameOctets::rdns_of))]
     pub fn matches(&self, other: &Name<'_>) -> bool
         ensures decides { IsTrue result ↔ NamesMatch (rdns_of self.now) (rdns_of other.now) }
@@ -186,7 +186,7 @@ impl<'a> Name<'a> {
         self.rdns.has(kind.contents())
     }
 
-    /// The key of the name: octets that two names share exactly where they match.
+    /// The key of the name: octets that two names share exactly if they match. Time is n log n in the octets.
     #[tactic(auto, unfolding(crate::specs::NameOctets::rdns_of))]
     pub fn key(&self, alloc: Global) -> Result<Vec<u8>, AllocError>
         ensures { IfOk result (λ key. key.items ≡ name_key (rdns_of self.now)) }
@@ -195,8 +195,8 @@ impl<'a> Name<'a> {
     }
 }
 
-/// The tests of `matches` and `within` decide the relations. A place is read as a name exactly where it is one, and the
-/// encoding of a value exactly where the value has the layout of one. It is compared as the sets of the attributes that the layout has.
+/// The tests `matches` and `within` decide the relations. A place is read as a name exactly if it is one, and the encoding of a value
+/// exactly if the value has the layout of one. It is compared as the sets of the attributes that the layout has.
 pub fn name_laws()
     ensures matching { MatchingIsExact }
     ensures within { WithinIsExact }

@@ -1,4 +1,4 @@
-//! The key of a name: octets that two names share exactly where they match.
+//! The key of a name: octets that two names share exactly if they match.
 
 ghost use Rattle.std.specs.Prelude.{◌≡◌, ◌↔◌, ◌<◌, ◌^◌, ◌++◌, ◌∷◌, IsTrue, OnOk, IfOk, map, length};
 ghost use Rattle.std.specs.FinMap.{entries};
@@ -161,8 +161,7 @@ impl RdnSequence<'_> {
     }
 }
 
-/// Two names have one key exactly where they match: any two that were read, and all lists of sets whose numbers fit in four
-/// octets.
+/// Two names have one key exactly if they match: any two that were read, and all lists of sets whose numbers fit in four octets.
 pub fn key_laws()
     ensures names { KeysDecideMatching }
     ensures lists { KeyIsExact }

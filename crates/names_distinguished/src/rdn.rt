@@ -105,7 +105,7 @@ impl<'a> Rdn<'a> {
     }
 
     /// How many attributes of the other set have a type of the run that this set begins with, and what is behind the run; `None`
-    /// where one has another value.
+    /// if one has another value.
     fn count_run(&self, other: &Rdn<'_>) -> Option<(usize, Rdn<'a>)>
         requires { ¬ (entries_of self.now ≡ []) }
         ensures { CountsFront self.now other.now result }
@@ -133,7 +133,7 @@ impl<'a> Rdn<'a> {
         }
     }
 
-    /// The same of a run, where it is long or the sets have few attributes, and else of a batch.
+    /// The same of a run, if it is long or the sets have few attributes, and else of a batch.
     fn count_front(&self, other: &Rdn<'_>, few: bool) -> Option<(usize, Rdn<'a>)>
         requires { ¬ (entries_of self.now ≡ []) }
         ensures { CountsFront self.now other.now result }
@@ -165,7 +165,7 @@ impl<'a> Rdn<'a> {
         found == count
     }
 
-    /// Whether the sets are one map, where one walk over both at once tells; `None` where it meets different types.
+    /// Whether the sets are one map, if one walk over both at once can tell; `None` if it meets different types.
     fn matches_in_order(&self, other: &Rdn<'_>) -> Option<bool>
         ensures { IfSome result (λ same. IsTrue same ↔ (map_of self.now ≡ map_of other.now)) }
     {

@@ -39,7 +39,7 @@ impl<'a> RdnSequence<'a> {
         self.split_first().is_none()
     }
 
-    /// What follows the first relative names, where these match all those of the other, in order.
+    /// What follows the first relative names, if these match all those of the other, in order.
     fn after(&self, other: &RdnSequence<'_>) -> Option<RdnSequence<'a>>
         ensures { LeavesBehind self.now other.now result }
     {

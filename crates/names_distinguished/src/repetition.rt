@@ -34,7 +34,7 @@ impl<'a> Pointer<'a> {
         Pointer { next, others }
     }
 
-    /// This place where the type does not come before the last that was looked for, else the first of the run.
+    /// This place if the type does not come before the last that was looked for, else the first of the run.
     fn going_on(self, run: Kinds<'a>, last: &[u8], kind: &[u8]) -> Pointer<'a>
         ensures { GoesOnFrom last.now kind.now run.entry self.entry result }
     {
@@ -62,7 +62,7 @@ impl<'a> Pointer<'a> {
         pointer
     }
 
-    /// The limit, or this place where it has the type.
+    /// The limit, or this place if it has the type.
     fn limit_before(self, kind: &[u8], limit: usize) -> usize
         ensures { IsLimitBefore kind.now limit (pointed self.entry) result }
     {
@@ -154,7 +154,7 @@ fn new_in_batch(all: Kinds<'_>, rest: Kinds<'_>, start: usize) -> usize
     0
 }
 
-/// Whether the types from here ascend as far as a batch goes.
+/// Whether the types from here on ascend for a whole batch.
 fn is_long_run(kinds: Kinds<'_>) -> bool {
     let mut rest = kinds;
     let mut last: &[u8] = &[];

@@ -36,7 +36,7 @@ impl<'a> Source<'a> {
     }
 }
 
-/// A run, or what is left of it: the next attribute, and those behind it. It ends where the types ascend no more.
+/// A run, or what is left of it: the next attribute, and those behind it. It ends when the types ascend no more.
 #[derive(Clone, Copy)]
 pub(crate) struct Run<'a> {
     pub(crate) next: Option<Attribute<'a>>,
@@ -84,7 +84,7 @@ impl<'a> Run<'a> {
         }
     }
 
-    /// This where the type does not come before the last that was looked for, else the whole run.
+    /// This one if the type does not come before the last that was looked for, else the whole run.
     pub(crate) fn going_on(self, whole: Run<'a>, last: &[u8], kind: &[u8]) -> Run<'a>
         requires { SearchesOn last.now (run_left whole) (run_left self) }
         ensures { SearchesOn kind.now (run_left whole.entry) (run_left result) }
@@ -121,7 +121,7 @@ impl<'a> Run<'a> {
         if next.kind == kind { Some(next) } else { None }
     }
 
-    /// 1 where the next has the type and the value of this attribute, 0 where it has another type; `None` where it has another
+    /// 1 if the next has the type and the value of this attribute, 0 if it has another type; `None` if it has another
     /// value of that type.
     fn finds(&self, attribute: &Attribute<'_>) -> Option<usize>
         requires { StopsAt attribute.now.kind.now (run_left self.now) }
@@ -139,7 +139,7 @@ impl<'a> Run<'a> {
         }
     }
 
-    /// How many attributes of the set have a type of this run; `None` where one has another value than the run's. It is one
+    /// How many attributes of the set have a type of this run; `None` if one has another value than the run's. It is one
     /// walk over the set, in which the run is looked through once for each run of the set.
     pub(crate) fn count_in(&self, set: &Rdn<'_>) -> Option<usize>
         ensures { FindsAll self.now set.now result }

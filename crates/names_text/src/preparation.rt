@@ -53,7 +53,7 @@ fn next_word(text: &[u8]) -> Option<(&[u8], &[u8])>
     Some(rest.split_at(word_len(rest)))
 }
 
-/// Whether two texts are prepared to one. It walks both once, in place.
+/// Whether two texts are equal after preparation (RFC 5280, 7.1). It walks both once, in place.
 pub fn same_prepared(left: &[u8], right: &[u8]) -> bool
     ensures { IsTrue result ↔ (prepared left.now ≡ prepared right.now) }
 {
@@ -74,7 +74,7 @@ pub fn same_prepared(left: &[u8], right: &[u8]) -> bool
     }
 }
 
-/// The text without insignificant spaces and in small letters.
+/// The text in lower case, without spaces at its ends and with each run of spaces as one. Time is linear.
 pub fn prepared_text(alloc: Global, text: &[u8]) -> Result<Vec<u8>, AllocError>
     ensures { IfOk result (λ out. out.items ≡ prepared text.now) }
 {

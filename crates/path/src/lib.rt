@@ -1,4 +1,4 @@
-//! Paths of certificates (RFC 5280, 6): whether they are valid.
+//! Whether paths of certificates are valid (RFC 5280, 6).
 #![tactic(auto)]
 
 mod reason;

@@ -5,8 +5,8 @@ ghost use Rattle.path.specs.Reason.{reason_rank, reason_name};
 
 use thiserror::Error;
 
-/// Why a certificate of a path, or the path itself, is refused. Of the reasons at one certificate the one of the least rank is
-/// told.
+/// Why a certificate of a path, or the path itself, is refused. Of several reasons at one certificate the one of the least rank is
+/// reported.
 #[derive(Clone, Copy, Debug, PartialEq, Eq, Error)]
 pub enum Reason {
     /// An earlier certificate of the path has the same octets.
@@ -30,7 +30,7 @@ pub enum Reason {
     /// A name lies in an excluded subtree (6.1.3 (c)).
     #[error("name excluded")]
     Excluded,
-    /// A name has a form that is constrained and whose constraints are not processed (4.2.1.10).
+    /// A name has a form that is constrained but not processed (4.2.1.10).
     #[error("constraint of a form that is not processed")]
     ConstraintForm,
     /// An issuer is not of version 3 with cA (6.1.4 (k)).
@@ -42,7 +42,7 @@ pub enum Reason {
     /// An issuer's keyUsage lacks keyCertSign (6.1.4 (n)).
     #[error("key may not sign certificates")]
     KeyCertSign,
-    /// An extension wants a policy tree, which is not built.
+    /// An extension needs a policy tree, which is not built (6.1.3 (d) to (f)).
     #[error("policy processing wanted")]
     Policy,
     /// A critical extension is not recognised (6.1.4 (o), 6.1.5 (f)).
@@ -54,7 +54,7 @@ pub enum Reason {
     /// The path has no certificate.
     #[error("no certificate")]
     Empty,
-    /// The path has more certificates than are served.
+    /// The path has more than 128 certificates.
     #[error("too many certificates")]
     TooLong,
 }
@@ -84,7 +84,7 @@ impl Reason {
         }
     }
 
-    /// The word that stands beside the number.
+    /// The name of the reason, printed beside the number.
     pub fn name(self) -> &'static str
         ensures { result.now ≡ reason_name self }
     {
@@ -109,7 +109,7 @@ impl Reason {
     }
 }
 
-/// What the validation of a path answers.
+/// The outcome of a validation.
 #[derive(Clone, Copy, Debug, PartialEq, Eq)]
 pub enum Outcome {
     /// The path is valid.
@@ -118,7 +118,7 @@ pub enum Outcome {
     Bad(usize, Reason),
 }
 
-/// What a step over the next certificate of a path answers.
+/// The outcome of one step of a validation.
 #[derive(Clone, Copy, Debug, PartialEq, Eq)]
 pub enum Step {
     /// The certificate meets all conditions.

@@ -47,10 +47,9 @@ const REASONS: [Reason; 14] = [
 
 /// A validation of a path under way.
 ///
-/// It holds what the certificates that have passed leave behind, so that the next one is looked at with no look back: the name
-/// and the key of the issuer, how many more certificates the path lengths allow, the subtrees that name constraints leave, and
-/// which forms of names were constrained that are not processed. Only whether a certificate is repeated is asked of those that
-/// have passed.
+/// It holds what the certificates that have passed leave behind: the name and the key of the issuer, how many more certificates the path
+/// lengths allow, the subtrees that name constraints leave, and which forms of names are constrained but not processed. It looks back at
+/// earlier certificates only to see whether one is repeated.
 #[derive(Drop)]
 pub struct State<'p, 'c, V> {
     alloc: Global,
@@ -128,8 +127,8 @@ fn repeats(earlier: &[Certificate<'_>], later: &Certificate<'_>) -> bool
 }
 
 impl<'p, 'c, V: Verifier> State<'p, 'c, V> {
-    /// The validation before the first certificate. `moment` is in seconds from 1970-01-01T00:00:00Z, and the purpose the
-    /// contents of an OBJECT IDENTIFIER. No memory is taken.
+    /// The validation before the first certificate. `moment` is in seconds from 1970-01-01T00:00:00Z, `purpose` the contents of an OBJECT
+    /// IDENTIFIER, if one is asked for. No memory is taken.
     pub fn start(
         alloc: Global,
         verifier: &'p V,
@@ -158,7 +157,7 @@ impl<'p, 'c, V: Verifier> State<'p, 'c, V> {
         }
     }
 
-    /// How many certificates have passed. The names that may follow are just those that their constraints admit.
+    /// How many certificates have passed. Their constraints admit exactly the names that may follow.
     pub fn done(&self) -> usize
         ensures done { result ≡ self.now.done }
         ensures within { result ≤ count self.now.query }
@@ -200,8 +199,7 @@ impl<'p, 'c, V: Verifier> State<'p, 'c, V> {
         self.is_last() || !self.certificate().self_issued()
     }
 
-    /// Whether no earlier certificate has its octets. Time is that of comparing them with those of each earlier certificate,
-    /// as far as they are the same.
+    /// Whether no earlier certificate has the same octets. It is compared with each as long as the octets are the same.
     fn is_not_repeated(&self) -> bool
         requires { self.now.done < count self.now.query }
         ensures { IsTrue result ↔ NextMeets V.accepts self.now reason.Repeated }
@@ -319,16 +317,16 @@ impl<'p, 'c, V: Verifier> State<'p, 'c, V> {
         Ok(())
     }
 
-    /// Looks at the next certificate, and lets it pass where it meets all conditions. After `Failed` and `Ended` each further
-    /// call answers the same; after want of memory nothing has changed.
+    /// Looks at the next certificate, which passes if it meets all conditions. After `Failed` and `Ended` each further call answers the
+    /// same; after lack of memory nothing has changed.
     ///
-    /// Time is linear in the names of the certificate and the subtrees held for each of them, and in the subtrees held for
-    /// each that it carries; and what looking for a repeated certificate costs. Memory is taken only where the certificate
-    /// passes and carries a subtree of a processed form.
+    /// Time is linear in the names of the certificate times the subtrees held, and in the subtrees that it carries times those held for
+    /// their form, plus the search for a repeated certificate. Memory is taken only if the certificate passes and carries a subtree of a
+    /// processed form.
     pub fn next(&mut self) -> Result<Step, AllocError>
         ensures step { IfOk result (TakesStep V.accepts self.old self.new) }
         ensures err { OnErr result (self.new ≡ self.old) }
-        // Memory is asked for only where the certificate passes, and carries a subtree of a processed form.
+        // Memory is asked for only if the certificate passes, and carries a subtree of a processed form.
         ensures passing { OnErr result (NextPasses V.accepts self.old) }
         ensures calm { CarriesNoSubtree self.old.query (self.old.done + 1) → IsOk result }
     {

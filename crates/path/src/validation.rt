@@ -10,7 +10,7 @@ use cert::Certificate;
 use path_verifiers::Verifier;
 use std::alloc::{AllocError, Global};
 
-/// The number of the certificate that fails behind so many, or 0 where it is the path itself that is not served.
+/// The number of the certificate that fails behind so many, or 0 if the path itself is not served.
 fn failed_at(count: usize, done: usize) -> usize
     requires { done ≤ count }
     ensures none { count ≡ 0 → result ≡ 0 }
@@ -24,14 +24,13 @@ fn failed_at(count: usize, done: usize) -> usize
     }
 }
 
-/// Whether the path is valid under the anchor, at the moment (in seconds from 1970-01-01T00:00:00Z) and for the purpose (the
-/// contents of an OBJECT IDENTIFIER); else the first certificate that is refused, and of its reasons the one of the least
-/// rank. Of the anchor the subject and the key alone are used.
+/// Validates the path under the anchor, at a moment (in seconds from 1970-01-01T00:00:00Z) and for a purpose (the contents of an OBJECT
+/// IDENTIFIER), if one is asked for (RFC 5280, 6.1). If it is not valid, the first certificate that is refused is answered, with its
+/// reason of the least rank. Only the subject and the key of the anchor are used.
 ///
-/// Time is linear in the certificates, but for the subtrees of name constraints: each that a certificate carries is looked at
-/// with each that is held, and each name with each that is held; and each certificate is compared with those before it, as far
-/// as the octets are the same. Memory is taken only where a certificate that is not refused carries a subtree of a directory
-/// name, a DNS name or an IP address.
+/// Time is linear in the certificates, except that each subtree that one carries is compared with each one held, each name with each one
+/// held, and each certificate with those before it, as long as the octets are the same. Memory is taken only if a certificate that passes
+/// carries a subtree of a directory name, a DNS name or an IP address.
 pub fn validate<V: Verifier>(
     alloc: Global,
     verifier: &V,
@@ -41,7 +40,7 @@ pub fn validate<V: Verifier>(
     purpose: Option<&[u8]>,
 ) -> Result<Outcome, AllocError>
     ensures ok { HasOutcome V.accepts verifier.now anchor.now path.now moment purpose.entry result }
-    // Memory is asked for only where a certificate that is not refused carries a subtree of a processed form.
+    // Memory is asked for only if a certificate that is not refused carries a subtree of a processed form.
     ensures err { NeedsRoom V.accepts verifier.now anchor.now path.now moment purpose.entry result }
     ensures calm { CarryNoSubtrees anchor.now path.now moment purpose.entry → IsOk result }
 {

@@ -1,4 +1,4 @@
-//! The name constraints that hold behind the certificates of a path that have passed.
+//! The name constraints of the certificates of a path that have passed.
 
 ghost use Rattle.std.specs.Prelude.{◌≡◌, ◌≤◌, ◌++◌, map, false, OnOk, OnErr, IfOk, IsOk};
 ghost use Rattle.names.specs.GeneralView.{general_name, name_contents};
@@ -13,7 +13,8 @@ use cert::{Certificate, NameConstraints};
 use names::{Form, General, Name, Subtree};
 use std::alloc::{AllocError, Global};
 
-/// For each processed form the permitted subtrees, where some certificate had any; the excluded subtrees of processed forms.
+/// For each processed form the permitted subtrees, if some certificate had any; and the excluded subtrees of processed forms (RFC 5280,
+/// 6.1.2 (b), (c)).
 #[derive(Drop)]
 pub struct Constraints<'a> {
     directory: Option<Vec<Subtree<'a>>>,
@@ -22,7 +23,7 @@ pub struct Constraints<'a> {
     excluded: Vec<Subtree<'a>>,
 }
 
-/// Puts a new list in place, where there is one.
+/// Puts a new list in place, if there is one.
 fn replace<'a>(list: &mut Option<Vec<Subtree<'a>>>, change: Option<Vec<Subtree<'a>>>)
     ensures { IsReplacedBy change.entry list.old list.new }
 {
@@ -72,7 +73,7 @@ fn len_of(list: &Option<Vec<Subtree<'_>>>) -> usize
     }
 }
 
-/// Whether the list, where there is one, holds the name.
+/// Whether the list, if there is one, holds the name.
 fn is_permitted_by(list: &Option<Vec<Subtree<'_>>>, name: &General<'_>) -> bool
     ensures { result ≡ permits_in (seen_subtrees list.now) (general_name name.now) }
 {
@@ -83,7 +84,7 @@ fn is_permitted_by(list: &Option<Vec<Subtree<'_>>>, name: &General<'_>) -> bool
 }
 
 impl<'a> Constraints<'a> {
-    /// Those before the first certificate, which admit every name.
+    /// The constraints before the first certificate, which admit every name.
     pub fn none(alloc: Global) -> Constraints<'a>
         ensures { seen_constraints result ≡ no_constraints }
     {
@@ -95,7 +96,8 @@ impl<'a> Constraints<'a> {
         }
     }
 
-    /// Narrows the permitted subtrees, and adds the excluded ones. New lists are built before old ones are replaced.
+    /// Narrows the permitted subtrees, and adds the excluded ones (RFC 5280, 6.1.4 (g)). New lists are built before old ones are replaced,
+    /// so lack of memory changes nothing. Each subtree carried is compared with each one held for its form, at most three times.
     pub fn narrow(&mut self, alloc: Global, carried: &NameConstraints<'a>) -> Result<(), AllocError>
         ensures ok { OnOk result (IsNarrowedBy carried.now self.old self.new) }
         ensures err { OnErr result (seen_constraints self.new ≡ seen_constraints self.old) }
@@ -131,7 +133,7 @@ impl<'a> Constraints<'a> {
         }
     }
 
-    /// Whether the subject, where it is not empty, is permitted.
+    /// Whether the subject is empty or permitted.
     fn permits_subject(&self, subject: Name<'_>) -> bool
         ensures { result ≡ permits_each self.now (names_in_subject (name_contents subject.entry)) }
     {
@@ -145,7 +147,7 @@ impl<'a> Constraints<'a> {
         names.iter().all(|name| self.permits(name))
     }
 
-    /// Whether all names of the certificate are permitted.
+    /// Whether all names of the certificate are permitted (RFC 5280, 6.1.3 (b)). Each is compared with each permitted subtree of its form.
     pub fn permits_names_of(&self, certificate: &Certificate<'_>) -> bool
         ensures { result ≡ permits_each self.now (names_of (seen_certificate certificate.now)) }
     {
@@ -153,7 +155,7 @@ impl<'a> Constraints<'a> {
             && self.permits_all(&certificate.extensions.alternative_names)
     }
 
-    /// Whether the subject, where it is not empty, is excluded.
+    /// Whether the subject is not empty and is excluded.
     fn excludes_subject(&self, subject: Name<'_>) -> bool
         ensures { result ≡ excludes_one self.now (names_in_subject (name_contents subject.entry)) }
     {
@@ -167,7 +169,7 @@ impl<'a> Constraints<'a> {
         names.iter().any(|name| lies_in_one(&self.excluded, name))
     }
 
-    /// Whether a name of the certificate is excluded.
+    /// Whether a name of the certificate is excluded (RFC 5280, 6.1.3 (c)). Each is compared with each excluded subtree.
     pub fn excludes_name_of(&self, certificate: &Certificate<'_>) -> bool
         ensures { result ≡ excludes_one self.now (names_of (seen_certificate certificate.now)) }
     {

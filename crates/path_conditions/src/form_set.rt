@@ -60,7 +60,7 @@ impl FormSet {
         }
     }
 
-    /// Puts the form of the subtree into the set, where it is not processed.
+    /// Puts the form of the subtree into the set, if it is not processed.
     fn insert_form(&mut self, base: &Subtree<'_>)
         ensures { AddsForm (subtree_base base.now) self.old self.new }
     {
@@ -79,8 +79,7 @@ impl FormSet {
         }
     }
 
-    /// Puts the forms of the subtrees that a certificate carries, permitted and excluded, into the set, where they are not
-    /// processed.
+    /// Puts the forms of the subtrees that a certificate carries, permitted and excluded, into the set, if they are not processed.
     pub fn insert_forms_of(&mut self, carried: &NameConstraints<'_>)
         ensures { AddsFormsOf (seen_name_constraints carried.now) self.old self.new }
     {

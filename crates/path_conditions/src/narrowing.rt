@@ -61,9 +61,9 @@ fn select_entering<'a>(
         .collect(alloc)
 }
 
-/// Of each list the subtrees of the form that are parts of one of the other, save those that are parts of one that is kept. Since two subtrees
-/// that share a name are nested, these hold just the names that both lists hold; equal lists narrow to the same list. Each is looked at with each of the other list at
-/// most three times.
+/// Intersects two lists of subtrees of one form: of each list those inside one of the other, except those inside one that is kept. Two
+/// subtrees that share a name are nested, so these hold just the names that both lists hold; equal lists narrow to the same list. Each
+/// subtree is compared with each of the other list at most three times.
 fn narrow<'a>(
     alloc: Global,
     form: Form,
@@ -78,7 +78,7 @@ fn narrow<'a>(
     Ok(list)
 }
 
-/// The list of the form behind a certificate that carries these permitted subtrees, where it changes.
+/// The list of the form behind a certificate that carries these permitted subtrees, if it changes.
 pub(crate) fn narrowed_list<'a>(
     alloc: Global,
     form: Form,

@@ -28,7 +28,7 @@ pub fn fingerprint(algorithm: &[u8], key_info: &[u8], message: &[u8], signature:
     hasher.finalize()
 }
 
-/// What is hashed tells the four texts apart, so that only SHA-256 could give two questions one fingerprint.
+/// The octets that are hashed tell the four texts apart, so that only SHA-256 could give two questions one fingerprint.
 pub fn framing_laws()
     ensures { JudgementsAreDistinct }
 {}

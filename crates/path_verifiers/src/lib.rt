@@ -1,4 +1,4 @@
-//! Who judges signatures: a trait, a verifier that believes a list of fingerprints, and the fingerprints.
+//! Who judges signatures: a trait, fingerprints, and a verifier that believes a list of them.
 #![tactic(auto)]
 
 mod fingerprinting;

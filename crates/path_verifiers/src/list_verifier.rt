@@ -9,7 +9,7 @@ ghost use Rattle.path_verifiers.specs.Fingerprint.{fingerprint_of};
 use crate::fingerprinting::fingerprint;
 use crate::verifier::Verifier;
 
-/// Accepts what was judged elsewhere: a signature is accepted where the fingerprint of the question is in the list.
+/// Accepts what was judged elsewhere: a signature is accepted exactly if the fingerprint of the question is in the list.
 #[derive(Drop)]
 pub struct ListVerifier {
     prints: Vec<[u8; 32]>,
@@ -19,7 +19,7 @@ pub struct ListVerifier {
 impl ListVerifier {
     ghost use Rattle.path_verifiers.specs.ListVerifier.{Believes, is_listed};
 
-    /// The verifier that believes these fingerprints. It sorts them in place: n log n comparisons, and no memory.
+    /// The verifier that believes these fingerprints. It sorts them in place, in n log n comparisons, and takes no memory.
     pub fn new(prints: Vec<[u8; 32]>) -> ListVerifier
         ensures { Believes result prints.items }
     {

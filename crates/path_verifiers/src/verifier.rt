@@ -4,16 +4,15 @@ ghost use Rattle.std.specs.Prelude.{◌≡◌};
 
 /// A judge of signatures: a fixed relation of four texts.
 ///
-/// What a verifier accepts is its own matter. All that is known of it is that two questions with the same texts get the same
-/// answer.
+/// What a verifier accepts is its own matter. All that the library knows is that two questions with the same texts get the same answer.
 pub trait Verifier {
     ghost use Rattle.std.specs.Prelude.{ℕ, List, Bool};
 
     /// Whether the signature of the message under the key, by the algorithm, is accepted.
     ghost accepts: { Self → List ℕ → List ℕ → List ℕ → List ℕ → Bool };
 
-    /// Whether the signature is accepted. The texts are the whole DER of the algorithm identifier and of the
-    /// subjectPublicKeyInfo, the message that was signed, and the octets of the signature.
+    /// Whether the signature is accepted (RFC 5280, 6.1.3 (a) (1)). `algorithm` and `key_info` are the whole DER of the algorithm
+    /// identifier and of the subjectPublicKeyInfo, `message` is what was signed, and `signature` the octets of the signature.
     fn judge(&self, algorithm: &[u8], key_info: &[u8], message: &[u8], signature: &[u8]) -> bool
         ensures { result ≡ accepts self.now algorithm.now key_info.now message.now signature.now };
 }

@@ -108,9 +108,10 @@ fn compare_with_files<V: Verifier, S: Alter, D: Disk + Drop>(
     compare_stores(alloc, verifier, one, other, query)
 }
 
-/// The comparison of the verdicts of two parties on a path. Both judge signatures by one relation, which the caller has to know of
-/// their verifiers. Where the path does not meet the conditions on it, neither store is asked. That the two differ is never
-/// answered where what they hold of the path is consistent and they hold the same newest.
+/// Compares the verdicts of two parties on a path. Both have to judge signatures by one relation, which the caller has to know. If the
+/// path does not meet the conditions of RFC 5280, 6.1, neither store is asked. `Differ` is never answered if both hold the same newest for
+/// the path and what they hold is consistent. Nothing changes. `Fault::Store` means that a store does not answer, `Fault::Memory` that
+/// there is no memory.
 pub fn compare<V: Verifier + Drop, D: Disk + Drop>(
     alloc: Global,
     one: &mut Node<V, D>,

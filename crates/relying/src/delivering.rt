@@ -11,9 +11,9 @@ use statements::genuine;
 use statements_facts::Facts;
 use std::alloc::Global;
 
-/// Reads a statement, a list or a response, under the issuer of a certificate: the first step of a delivery, which needs no store.
-/// `Node::take` is the second. The fault of the issuer's certificate comes first, then that of the statement; it is never the
-/// store's. The facts borrow both texts. Time is n log n in the octets.
+/// Reads a statement, a list or a response, under the issuer whose certificate is `issuer`, both in DER: the first step of a delivery,
+/// which needs no store; `Node::take` is the second. The first fault is answered: that of the issuer's certificate, else that of the
+/// statement, never the store's. The facts borrow both texts. Time is n log n in the octets.
 pub fn read_statement<'a, V: Verifier>(
     alloc: Global,
     verifier: &V,

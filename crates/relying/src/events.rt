@@ -15,16 +15,16 @@ use statements_facts::Counts;
 use std::alloc::Global;
 use store::ReopenFault;
 
-/// What reaches a relying party.
+/// An event that reaches a relying party.
 #[derive(Clone, Copy, Debug, PartialEq, Eq)]
 pub enum Event<'a> {
-    /// A statement, with the certificate of the issuer that it is about: `Deliver(issuer, statement)`.
+    /// A statement is delivered, with the certificate of the issuer that it is about, both in DER: `Deliver(issuer, statement)`.
     Deliver(&'a [u8], &'a [u8]),
     /// The store's files are closed and opened again.
     Restart,
 }
 
-/// How a delivery is answered.
+/// The answer to a delivery: how its facts were counted, or why none was taken.
 pub type Answer = Result<Counts, DeliverFault>;
 
 /// A delivery. Its answer is added to the answers, for which there is room.

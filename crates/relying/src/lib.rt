@@ -1,5 +1,5 @@
-//! Relying parties: whom they believe and what they hold of statements, what reaches them, and their verdicts on paths
-//! (RFC 5280, 6; RFC 6960, 3.2).
+//! Relying parties: a verifier with a store of statements, the events that reach it, and its verdicts on paths (RFC 5280, 6; RFC 6960,
+//! 3.2).
 #![tactic(auto)]
 
 mod agreement;

@@ -22,7 +22,7 @@ use std::alloc::Global;
 use store::{ReopenFault, Store};
 use store_sql::StoreFault;
 
-/// A relying party: by what it judges signatures, and the newest statements that it has seen.
+/// A relying party: a verifier of signatures, and a store of the newest statements.
 pub struct Node<V: Verifier, D: Disk> {
     pub(crate) verifier: V,
     pub(crate) store: Store<D>,
@@ -38,7 +38,7 @@ impl<V: Verifier + Drop, D: Disk + Drop> Drop for Node<V, D> {
 }
 
 impl<V: Verifier + Drop, D: Disk + Drop> Node<V, D> {
-    /// A party that judges so, and holds what the store holds.
+    /// A party that judges by this verifier, and holds what the store holds.
     pub fn new(verifier: V, store: Store<D>) -> Node<V, D>
         ensures verifier { result.verifier ≡ verifier }
         ensures store { result.store ≡ store }
@@ -46,7 +46,7 @@ impl<V: Verifier + Drop, D: Disk + Drop> Node<V, D> {
         Node { verifier, store }
     }
 
-    /// The store, which holds what the party held.
+    /// Gives the store back; it holds what the party held.
     pub fn into_store(self) -> Store<D>
         ensures { result ≡ self.store }
     {
@@ -54,9 +54,9 @@ impl<V: Verifier + Drop, D: Disk + Drop> Node<V, D> {
         store
     }
 
-    /// Takes a statement, a list or a response, under the issuer of a certificate: of each slot the newest is held then. It is
-    /// `read_statement` and then `take`: the fault of the issuer's certificate comes first, then that of the statement, then that
-    /// of the store. Where a fault is answered, what is held is as it was. Time is n log n in the octets, but for the store's.
+    /// Takes a statement, a list or a response, under the issuer whose certificate is `issuer`, both in DER, and counts its facts; then
+    /// each slot holds the newest. It is `read_statement` and then `take`. The first fault is answered: that of the issuer's certificate,
+    /// else of the statement, else of the store; then what is held is as it was. Time is n log n in the octets, plus that of the store.
     pub fn deliver(
         &mut self,
         alloc: Global,
@@ -80,9 +80,9 @@ impl<V: Verifier + Drop, D: Disk + Drop> Node<V, D> {
         }
     }
 
-    /// Takes what a statement says, in one transaction: the second step of a delivery. The facts are those of a statement that was
-    /// found genuine, by `read_statement` or `statements::genuine`, for the verifier of this party; who takes others believes them.
-    /// Where a fault is answered, what is held is as it was.
+    /// Takes facts in one transaction: the second step of a delivery. They should be those of a statement that `read_statement` or
+    /// `statements::genuine` found genuine for the verifier of this party, since `take` does not check them. After a fault what is held is
+    /// as it was.
     pub fn take(&mut self, facts: &Facts<'_>) -> Result<Counts, StoreFault>
         ensures verifier { self.new.verifier ≡ self.old.verifier }
         ensures takes { PutsFacts (stored self.old) (stored self.new) facts.now result }
@@ -91,7 +91,9 @@ impl<V: Verifier + Drop, D: Disk + Drop> Node<V, D> {
         self.store.put(facts)
     }
 
-    /// The verdict on a path by what is held. Where the path does not meet the conditions on it, the store is not asked.
+    /// The verdict on a path by what is held, which does not change. The path is validated first; the store is asked only if it meets the
+    /// conditions of RFC 5280, 6.1: two lists and a response for each certificate, in one transaction. `Fault::Store` means that the store
+    /// does not answer, `Fault::Memory` that there is no memory.
     pub fn verdict(&mut self, alloc: Global, query: &Query<'_>) -> Result<Verdict, Fault>
         ensures verifier { self.new.verifier ≡ self.old.verifier }
         ensures looks { Looks (stored self.old) (stored self.new)
@@ -104,7 +106,8 @@ impl<V: Verifier + Drop, D: Disk + Drop> Node<V, D> {
         verdict_of(alloc, &self.verifier, &mut self.store.conn, query)
     }
 
-    /// Closes the store's files and takes them for a store again. Where that fails, what is left of the store comes back.
+    /// Closes the store's files and takes them for a store again, which reads each row once. If that fails, what is left of the store
+    /// comes back.
     pub fn restart(self, alloc: Global) -> Result<Node<V, D>, ReopenFault<D>>
         ensures verifier { IfOk result (λ node. node.verifier ≡ self.verifier) }
         ensures restarts { IfOk result (HasRestarted self) }

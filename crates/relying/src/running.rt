@@ -44,9 +44,9 @@ fn run_all<V: Verifier + Drop, D: Disk + Drop>(
 }
 
 impl<V: Verifier + Drop, D: Disk + Drop> Node<V, D> {
-    /// Takes the events in order, and tells the answers to the deliveries in order. Room for as many answers as there are events is
-    /// taken first: where there is none, nothing is done and the party comes back. A restart that fails ends the
-    /// run, and what is left of the store comes back.
+    /// Takes the events in order, and answers the deliveries in order. Room for one answer an event is taken first; if there is none,
+    /// nothing is done and the party comes back (`RunFault::NoRoom`). A restart that fails ends the run, and what is left of the store
+    /// comes back.
     pub fn run(
         self,
         alloc: Global,

@@ -10,8 +10,8 @@ ghost use Rattle.relying_agreement.specs.Verdict.{InvalidExactlyWhere, RevokedEx
 
 use path::outcome_laws;
 
-/// A question has one verdict, and each verdict is given exactly where its words hold: a path is valid exactly where it meets all
-/// conditions, and of each certificate a statement that is current speaks, and none revokes it.
+/// A question has one verdict. Each verdict is given exactly if its words hold: a path is valid exactly if it meets all conditions, and of
+/// each certificate a current statement speaks, and none revokes it.
 pub fn verdict_laws()
     ensures one { VerdictIsOne }
     ensures invalid { InvalidExactlyWhere }
@@ -29,12 +29,13 @@ pub fn run_laws()
     ensures steps { StepsMakeARun }
 {}
 
-/// What becomes of each fact that is taken follows from those before it in its slot: it is stored if it is newer than each of them.
+/// A fact is counted as stored exactly if it is newer than each before it in its slot, as contradicted if it contradicts the newest of
+/// them, and else as kept.
 pub fn taking_laws()
     ensures { OutcomesArePlaces }
 {}
 
-/// Whatever reaches two relying parties, where both hold the same newest statements for a path their verdicts on it are equal.
+/// Whatever reaches two relying parties, their verdicts on a path are equal if both hold the same newest statements for it.
 pub fn agreement_laws()
     ensures agree { PartiesAgree }
     ensures runs_agree { RunsAgree }
@@ -48,7 +49,7 @@ pub fn agreement_laws()
     outcome_laws();
 }
 
-/// A comparison has one answer, and where both hold the same newest it is never that they differ.
+/// A comparison has one answer, and never that the two differ if both hold the same newest.
 pub fn comparison_laws()
     ensures exists { ComparisonExists }
     ensures one { ComparisonIsOne }
@@ -57,7 +58,7 @@ pub fn comparison_laws()
     outcome_laws();
 }
 
-/// The premises can all hold, each is needed, and the verdicts of a table are those that are known.
+/// The premises can all hold, each is needed, and computing gives the known verdicts of a table.
 pub fn agreement_examples()
     ensures all_hold { AllPremisesHold }
     ensures consistency { NeedsConsistency }

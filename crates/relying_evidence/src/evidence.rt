@@ -34,7 +34,7 @@ fn has_list(crl: Option<CrlAnswer>, may_sign: bool, moment: i64) -> bool
     }
 }
 
-/// The number of the reason that a list gives, where it counts and lists the certificate.
+/// The number of the reason that a list gives, if it counts and lists the certificate.
 fn crl_reason(crl: Option<CrlAnswer>, may_sign: bool, moment: i64) -> Option<u8>
     ensures { result ≡ crl_reason moment may_sign (option_map seen_crl crl) }
 {
@@ -67,7 +67,7 @@ fn reason_of(status: Status) -> Option<u8>
     }
 }
 
-/// The number of the reason that a response gives, where it counts and says that the certificate is revoked.
+/// The number of the reason that a response gives, if it counts and says that the certificate is revoked.
 fn ocsp_reason(said: Option<OcspAnswer>, moment: i64) -> Option<u8>
     ensures { result ≡ ocsp_reason moment (option_map seen_ocsp said) }
 {
@@ -104,8 +104,8 @@ fn has_good_response(said: Option<OcspAnswer>, moment: i64) -> bool
 }
 
 impl Evidence {
-    /// Why the certificate is revoked, where it is: the reason of the list of all certificates, else of the list of its kind, else
-    /// of the response.
+    /// Why the certificate is revoked at the moment, if it is: the reason of the list of all certificates, else of the list of its kind,
+    /// else of the response.
     pub fn reason(&self, moment: i64) -> Option<u8>
         ensures { result ≡ deciding_reason moment (seen_evidence self.now) }
     {

@@ -38,7 +38,7 @@ pub fn own_scope(certificate: &Certificate<'_>) -> Scope
     }
 }
 
-/// Whether lists of the issuer count: it is the anchor, or has no keyUsage, or one with cRLSign (RFC 5280, 6.3.3 (f)).
+/// Whether lists of the issuer count: it is the anchor, has no keyUsage, or has one with cRLSign (RFC 5280, 6.3.3 (f)).
 pub fn may_sign_crls(link: &Link<'_, '_>) -> bool
     ensures { result ≡ may_sign_crls (seen_link link.now) }
 {

@@ -7,8 +7,9 @@ ghost use Rattle.relying_questions.specs.Seen.{print_of, seen_asked};
 use crate::part::Part;
 use path_verifiers::{Verifier, fingerprint};
 
-/// A question to a verifier: whether the signature of the message is accepted under the key, by the algorithm. The parts are the whole
-/// DER of the algorithm identifier and of the subjectPublicKeyInfo, the message that was signed, and the octets of the signature.
+/// A question to a verifier: is the signature of the message accepted under the key, by the algorithm? `algorithm` and `key_info` are the
+/// whole DER of the algorithm identifier and of the subjectPublicKeyInfo, `message` is what was signed, and `signature` the octets of the
+/// signature.
 #[derive(Clone, Copy, Debug, PartialEq, Eq)]
 pub struct Asked<'a> {
     pub algorithm: Part<'a>,
@@ -18,7 +19,7 @@ pub struct Asked<'a> {
 }
 
 impl<'a> Asked<'a> {
-    /// The fingerprint of the question, by which a `ListVerifier` knows it. No memory is taken.
+    /// The fingerprint of the question, which a `ListVerifier` looks for. No memory is taken.
     pub fn fingerprint(&self) -> [u8; 32]
         ensures { result ≡ print_of (seen_asked self.now) }
     {
@@ -27,7 +28,7 @@ impl<'a> Asked<'a> {
         fingerprint(algorithm, key_info, message, signature)
     }
 
-    /// How the verifier answers it.
+    /// The verifier's answer.
     pub fn answer<V: Verifier>(&self, verifier: &V) -> bool
         ensures { result ≡ answer (V.accepts verifier.now) (seen_asked self.now) }
     {

@@ -109,17 +109,17 @@ fn ask_statements<'a>(
 }
 
 /// What a verifier may be asked for the verdict on a path by these statements (`relying_texts::verdict`): about the certificates of the
-/// path, in order, and then about each statement, under each issuer of the path in order. How a verifier answers these questions decides
-/// the verdict (`question_laws`).
+/// path, in order, and then about each statement, under each issuer of the path in order. The answers to these questions decide the
+/// verdict (`question_laws`).
 ///
-/// For n certificates these are n questions about the path; at most n about a list, since only an issuer is asked about that the list
-/// names; and at most n (1 + 2 m) about a response that m certificates come with: whether each issuer signed it, and for each certificate
-/// whether the issuer issued it and whether it signed the response. Only certificates count that the responder id names and whose issuer
-/// has the name. `verdict` asks some of them alone: none about what stands behind a certificate that is refused, and none about
-/// statements if the path is invalid. An issuer that stands on a path twice is asked about twice.
+/// For n certificates these are n questions about the path; at most n about a list, one for each issuer that the list names; and at most n
+/// (1 + 2 m) about a response that m certificates come with: whether each issuer signed it, and for each certificate whether the issuer
+/// issued it and whether it signed the response. Only certificates count that the responder id names and whose issuer has the name.
+/// `verdict` asks only some of them: none about what stands behind a certificate that is refused, and none about statements if the path is
+/// invalid. An issuer that stands on a path twice is asked about twice.
 ///
-/// Each statement is read once, and then gone over for the offsets of its parts; the certificates that come with a response are read
-/// once for each issuer. Memory is taken for the questions, for the certificates of the path and for what reading takes.
+/// Each statement is read once, and then walked over for the offsets of its parts; the certificates that come with a response are read
+/// once for each issuer. Memory is taken for the questions, for the certificates of the path and for reading.
 pub fn questions<'a>(
     alloc: Global,
     question: &Question<'_, 'a>,

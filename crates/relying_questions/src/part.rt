@@ -1,6 +1,6 @@
-//! Octets with the place that they stand at.
+//! Octets with their place.
 
-/// A text that a question has a part of.
+/// A text that holds a part of a question.
 #[derive(Clone, Copy, Debug, PartialEq, Eq)]
 pub enum Source {
     /// A certificate, by its number: 0 is the anchor, and the path begins with 1.

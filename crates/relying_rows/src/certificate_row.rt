@@ -13,8 +13,7 @@ use std::alloc::Global;
 
 /// The certificate that the value is, which stands at this place of the row.
 ///
-/// A certificate is refused at one of its octets or at its end, so that the place is never past the greatest; where it were, no memory
-/// would hold the row.
+/// A certificate is refused at one of its octets or at its end, so the offset in the row cannot overflow.
 fn read_certificate(alloc: Global, value: &[u8], start: usize) -> Result<Certificate<'_>, RowFault>
     ensures reads { IfOk result (λ read. certificate value.now ≡ Ok (seen_certificate read)) }
     ensures refuses { IfErr result (IsCertificateFaultOf value.now start) }

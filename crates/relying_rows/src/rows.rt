@@ -8,7 +8,7 @@ use thiserror::Error;
 /// A question about a path.
 #[derive(Clone, Copy)]
 pub struct Rows<'a> {
-    /// The anchor, of which the name and the key alone are used, and the certificates of the path, one behind the other.
+    /// The anchor, of which only the name and the key are used, and the certificates of the path, one behind the other.
     pub certificates: &'a [u8],
     /// Lists and responses, one behind the other, in any order.
     pub statements: &'a [u8],
@@ -23,13 +23,13 @@ pub struct Rows<'a> {
 /// Why a question is refused. Places count from the first octet of the row.
 #[derive(Clone, Copy, Debug, PartialEq, Eq, Error)]
 pub enum RowFault {
-    /// A value of the certificates is none, or there is no anchor.
+    /// A value of the certificates is not a certificate, or there is no anchor.
     #[error("certificates: {0}, at offset {1}")]
     Certificates(CertRule, usize),
     /// A value of the statements is neither a list nor a response.
     #[error("statements: {0}, at offset {1}")]
     Statements(StatementRule, usize),
-    /// Fewer than 32 octets are left, from this place on.
+    /// Fewer than 32 octets are left from this place on.
     #[error("fingerprint cut short at offset {0}")]
     Fingerprints(usize),
     #[error("no memory")]

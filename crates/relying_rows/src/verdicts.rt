@@ -85,12 +85,12 @@ fn verdict_by_statements(
     verdict_by_prints(alloc, rows, certificates, statements.as_slice())
 }
 
-/// The verdict on a path by statements, as `relying_texts::verdict` gives it, where certificates, statements and fingerprints stand in
-/// rows. Of what is refused the first fault is answered: certificates are looked at first, then statements, then fingerprints, and in each
-/// row the values in order. A statement that is genuine for no issuer of the path changes nothing, but it has to be one.
+/// The verdict on a path by statements, as `relying_texts::verdict` gives it, with certificates, statements and fingerprints in rows. The
+/// first fault is answered: of the certificates, then of the statements, then of the fingerprints, in each row in order. A statement that
+/// is genuine for no issuer of the path changes nothing, but it has to be a statement.
 ///
-/// An anchor has to be there; if nothing stands behind it the path is `Invalid(0, Reason::Empty)`. Each certificate is read once, each
-/// statement once before and, if the path is valid, once more. Memory is taken for lists of certificates, statements and fingerprints, and
+/// There has to be an anchor; if nothing stands behind it the path is `Invalid(0, Reason::Empty)`. Each certificate is read once, each
+/// statement once before and, if the path is valid, once more. Memory is taken for lists of certificates, statements and fingerprints, but
 /// not for entries of lists.
 pub fn verdict_in_rows(alloc: Global, rows: &Rows<'_>) -> Result<Verdict, RowFault>
     ensures verdict { IfOk result (IsVerdictInRows (seen_rows rows.now)) }

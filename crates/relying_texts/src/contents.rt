@@ -1,4 +1,4 @@
-//! What genuine statements tell.
+//! What genuine statements say.
 
 ghost use Rattle.std.specs.Prelude.{◌≡◌, IfOk};
 ghost use Rattle.asn.specs.Integer.{binary_value};
@@ -17,14 +17,14 @@ use statements_facts::Singles;
 use statements_ocsp::Response;
 use std::alloc::{AllocError, Global};
 
-/// What a genuine statement tells of its issuer's certificates. The entries of a list stay where they are.
+/// What a genuine statement says of its issuer's certificates. The entries of a list stay where they are.
 #[derive(Drop)]
 pub(crate) enum Contents<'a> {
     List(NumberedCrl<'a>),
     Singles(Singles<'a>),
 }
 
-/// What a statement tells that is genuine for an issuer.
+/// What a statement says that is genuine for an issuer.
 #[derive(Drop)]
 pub(crate) struct GenuineStatement<'p, 'c, 'a> {
     pub(crate) issuer: &'p Certificate<'c>,
@@ -67,7 +67,7 @@ fn singles_under<'a, V: Verifier>(
     }
 }
 
-/// What a statement tells, if it is genuine for the issuer.
+/// What a statement says, if it is genuine for the issuer.
 pub(crate) fn contents_under<'a, V: Verifier>(
     alloc: Global,
     verifier: &V,

@@ -2,7 +2,7 @@
 
 ghost use Rattle.relying_texts.specs.Deliveries.{TextsMakeARun};
 
-/// A verdict on statements at hand is that of a relying party that has run: it began with nothing, each statement was delivered with the
+/// A verdict by statements at hand is that of a relying party that has run: it began with nothing, each statement was delivered with the
 /// certificate of each issuer of the path, and the genuine ones were taken.
 pub fn delivery_laws()
     ensures run { TextsMakeARun }

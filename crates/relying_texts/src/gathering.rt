@@ -30,7 +30,7 @@ fn add<'p, 'c, 'a>(
     Ok(())
 }
 
-/// Adds what the statement tells under each issuer for which it is genuine.
+/// Adds what the statement says under each issuer for which it is genuine.
 fn add_under_each<'p, 'c, 'a, V: Verifier>(
     alloc: Global,
     verifier: &V,
@@ -49,7 +49,7 @@ fn add_under_each<'p, 'c, 'a, V: Verifier>(
     Ok(())
 }
 
-/// Adds what the octets tell under each issuer, if they are a statement.
+/// Adds what the octets say under each issuer, if they are a statement.
 fn add_statement<'p, 'c, 'a, V: Verifier>(
     alloc: Global,
     verifier: &V,

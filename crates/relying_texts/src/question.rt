@@ -2,8 +2,8 @@
 
 use cert::Certificate;
 
-/// A question about a path: an anchor, of which the name and the key alone are used, the certificates below it, a moment in seconds from
-/// 1970-01-01T00:00:00Z, and a purpose (the contents of an OBJECT IDENTIFIER) if one is asked for.
+/// A question about a path: an anchor, of which only the name and the key are used, the certificates from below it down, a moment in
+/// seconds from 1970-01-01T00:00:00Z, and a purpose (the contents of an OBJECT IDENTIFIER), if one is asked for.
 #[derive(Clone, Copy)]
 pub struct Question<'p, 'c> {
     pub anchor: &'p Certificate<'c>,

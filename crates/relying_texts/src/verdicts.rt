@@ -118,15 +118,15 @@ fn verdict_by_statements<V: Verifier>(
     Ok(verdict_at(question, links.as_slice(), genuine.as_slice()))
 }
 
-/// The verdict on a path by statements, which are the octets of lists and responses in any order: that of a relying party that began
-/// with nothing and to which each statement was delivered with the certificate of each issuer of the path. A statement that cannot be
-/// read, or is genuine for none of the issuers, changes nothing. The path is validated first, and the statements are read only if it is
-/// valid.
+/// The verdict on a path by statements, the octets of lists and responses in any order: that of a relying party that began with nothing
+/// and was delivered each statement with the certificate of each issuer of the path. A statement that cannot be read, or is genuine for
+/// none of the issuers, changes nothing. The path is validated first, and statements are read only if it is valid. The only error is lack
+/// of memory.
 ///
-/// Each statement is read once. The signature of a list is asked for once for each issuer whose name it has, that of a response once for
-/// each issuer and for each certificate that comes with it. For each certificate of the path at most two lists are gone through once more,
-/// the newest of either scope. Memory is taken for the certificates of the path, for the statements that are genuine and for what reading
-/// takes, and not for the entries of lists.
+/// Each statement is read once. The verifier is asked about a list once for each issuer whose name it has, about a response once for each
+/// issuer and for each certificate that comes with it. For each certificate of the path at most two lists are walked over once more, the
+/// newest of either scope. Memory is taken for the certificates of the path, for genuine statements and for reading, but not for the
+/// entries of lists.
 pub fn verdict<V: Verifier>(
     alloc: Global,
     verifier: &V,

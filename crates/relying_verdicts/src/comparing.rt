@@ -150,8 +150,8 @@ fn compare_held<S: Alter, D: Alter>(
     }
 }
 
-/// The comparison of the verdicts on a path by what two stores hold, under one relation of signatures. The conditions on the path come
-/// first, and the stores are asked only where it meets them.
+/// Compares the verdicts on a path by what two stores hold, under one relation of signatures. The path is validated first; the stores are
+/// asked only if it meets the conditions.
 pub fn compare<V: Verifier, S: Alter, D: Alter>(
     alloc: Global,
     verifier: &V,

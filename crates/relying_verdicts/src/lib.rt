@@ -1,5 +1,4 @@
-//! Relying parties: the verdict on a path of certificates by the statements that a store holds (RFC 5280, 6; RFC 6960, 3.2), and
-//! the comparison of two.
+//! The verdict on a path of certificates by the statements that a store holds (RFC 5280, 6; RFC 6960, 3.2), and the comparison of two.
 #![tactic(auto)]
 
 mod comparing;

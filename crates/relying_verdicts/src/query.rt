@@ -10,8 +10,8 @@ use cert::{CertFault, Certificate};
 use std::alloc::Global;
 use thiserror::Error;
 
-/// A question about a path: an anchor, of which the name and the key alone are used, the certificates 1 to n below it, a moment
-/// and a purpose.
+/// A question about a path: an anchor, of which only the name and the key are used, the certificates 1 to n below it, a moment and a
+/// purpose.
 #[derive(Drop)]
 pub struct Query<'a> {
     pub(crate) anchor: Certificate<'a>,
@@ -52,8 +52,8 @@ fn read_path<'a>(
 }
 
 impl<'a> Query<'a> {
-    /// The question about certificates that were read, at this moment (in seconds from 1970-01-01T00:00:00Z) and for this purpose (the
-    /// contents of an OBJECT IDENTIFIER).
+    /// The question about certificates that were read, from below the anchor down, at a moment (in seconds from 1970-01-01T00:00:00Z) and
+    /// for a purpose (the contents of an OBJECT IDENTIFIER), if one is asked for.
     pub fn new(
         anchor: Certificate<'a>,
         path: Vec<Certificate<'a>>,
@@ -73,8 +73,8 @@ impl<'a> Query<'a> {
         }
     }
 
-    /// The same about the certificates that these texts are, which are read first. The first that is refused is told, the anchor first;
-    /// where there is no room for the list of certificates it is the one being read, with `CertFault::Memory`.
+    /// Reads the certificates from DER, and asks the same about them. The first text that is refused is reported, the anchor being 0. If
+    /// there is no room for the list of certificates, the one being read is, with `CertFault::Memory`.
     pub fn read(
         alloc: Global,
         anchor: &'a [u8],

@@ -39,7 +39,7 @@ fn verdict_at(query: &Query<'_>, evidence: &[Evidence]) -> Verdict
     verdict_by(evidence, moment)
 }
 
-/// The verdict on a path by what the store holds. The conditions on the path come first, and the store is asked only where it meets them:
+/// The verdict on a path by what the store holds. The path is validated first; the store is asked only if the path meets the conditions:
 /// for the lists of both scopes and the response that speak of each certificate, once each.
 pub fn verdict<V: Verifier, S: Alter>(
     alloc: Global,

@@ -18,8 +18,8 @@ use statements_facts::{CrlFacts, RevokedSerials};
 use statements_parts::StatementFault;
 use std::alloc::{AllocError, Global};
 
-/// Whether the issuer issued a list that was read: the list names it, and its signature is accepted under the issuer's key. The fault
-/// is that of the name first (`OtherIssuer`), and then that of the signature (`BadSignature`). No memory is taken.
+/// Whether the issuer issued a list that was read (RFC 5280, 6.3.3 (f), (g)): the list names it, else `OtherIssuer`, and its signature is
+/// accepted under the issuer's key, else `BadSignature`. No memory is taken.
 #[tactic(auto, unfolding(crate::specs::CrlFact::of_issuer))]
 pub fn check_crl_issuer<V: Verifier>(
     verifier: &V,
@@ -76,9 +76,9 @@ fn facts_if_genuine<'a, V: Verifier>(
     Ok(facts_of(alloc, issuer, list)?)
 }
 
-/// The facts of a list of the issuer. The first fault is reported: octets that are no list, a list of another issuer, a signature that
-/// is not accepted under the issuer's key. Whether the list is current is not checked. Time is n log n in the octets, and memory is
-/// taken for the entries.
+/// The facts of a list of the issuer (RFC 5280, 6.3.3 (f), (g)). The first fault is reported: octets that are no list, a list of another
+/// issuer, a signature that is not accepted under the issuer's key. Whether the list is current is not checked. Time is n log n in the
+/// octets, and memory is taken for the entries.
 #[tactic(auto, using(crate::proofs::Genuineness::list_refused, crate::proofs::Genuineness::list_answered))]
 pub fn crl_facts<'a, V: Verifier>(
     alloc: Global,

@@ -19,7 +19,7 @@ use statements_ocsp::Response;
 use statements_parts::StatementFault;
 use std::alloc::Global;
 
-/// These, or the fault where there is none.
+/// These, or the fault if there is none.
 fn some_of(singles: Vec<Single<'_>>) -> Result<Singles<'_>, StatementFault>
     ensures { result ≡ or_nothing (some_singles (map seen_single singles.entry.items)) }
 {
@@ -29,7 +29,7 @@ fn some_of(singles: Vec<Single<'_>>) -> Result<Singles<'_>, StatementFault>
     }
 }
 
-/// The single responses of a response that was read that speak of the issuer's certificates. The first fault is reported: nobody
+/// The single responses about the issuer's certificates in a response that was read (RFC 6960, 3.2). The first fault is reported: nobody
 /// signed it who may answer for the issuer (`NoSigner`), it says nothing of the issuer's certificates (`NothingForIssuer`). Memory is
 /// taken for the single responses, at most 256, and to read the certificates that come with a response that the issuer did not sign.
 #[tactic(auto, using(crate::proofs::Answering::signer_refused, crate::proofs::Answering::singles_are, crate::proofs::Answering::same_answer))]
@@ -69,10 +69,10 @@ fn facts_if_genuine<'a, V: Verifier>(
     })
 }
 
-/// What a response of the issuer or of one of its delegates says of the issuer's certificates. The fault of a response that is none,
-/// then that of one that nobody signed who may answer for the issuer, then that of one that says nothing of its certificates. No
-/// moment is looked at. Each certificate that comes with the response is read once, and its signature is asked for only where the
-/// responder id names it and the issuer's name is its issuer's.
+/// What a response of the issuer or of one of its delegates says of the issuer's certificates (RFC 6960, 3.2). The first fault is
+/// reported: octets that are no response, then as of `response_singles`. Whether the response is current is not checked. Each certificate
+/// that comes with the response is read once, and the verifier is asked about it only if the responder id names it and the issuer's name
+/// is its issuer's.
 #[tactic(auto, using(crate::proofs::Answering::response_refused, crate::proofs::Answering::response_answered))]
 pub fn ocsp_facts<'a, V: Verifier>(
     alloc: Global,
@@ -88,8 +88,8 @@ pub fn ocsp_facts<'a, V: Verifier>(
     facts_if_genuine(alloc, verifier, issuer, &response)
 }
 
-/// The signer of a response is found exactly where there is one, and a response is genuine exactly where it is read, has a signer, and
-/// says something of the issuer's certificates.
+/// A response has a signer exactly if one is found, and is genuine exactly if it is read, has a signer, and says something of the issuer's
+/// certificates.
 pub fn ocsp_fact_laws()
     ensures signers { SignersAreFound }
     ensures responses { GenuineResponsesAreSigned }

@@ -1,9 +1,9 @@
-//! What depends on the issuer alone.
+//! What the issuer alone decides.
 
 ghost use Rattle.statements.specs.OneIssuer.{IssuerDecides};
 
-/// Certificates of one issuer (their subjects match, and their subjectPublicKeyInfo has the same octets) believe the same statements, and
-/// find the same facts in them.
+/// Two certificates of one issuer (their subjects match, and their subjectPublicKeyInfo has the same octets) believe the same statements,
+/// and find the same facts in them.
 pub fn identity_laws()
     ensures { IssuerDecides }
 {}

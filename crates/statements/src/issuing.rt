@@ -1,4 +1,4 @@
-//! The issuer that a certificate is of.
+//! The issuer that a certificate belongs to.
 
 ghost use Rattle.std.specs.Prelude.{IfOk};
 ghost use Rattle.statements.specs.Seen.{IsSubjectOf};
@@ -7,7 +7,7 @@ use cert::Certificate;
 use statements_facts::{Issuer, NameKey};
 use std::alloc::{AllocError, Global};
 
-/// Whom a certificate is of: the key of its subject's name, and its subjectPublicKeyInfo.
+/// The issuer that a certificate belongs to: the key of its subject's name, and its subjectPublicKeyInfo. Memory is taken for the key.
 pub fn issuer_of<'a>(alloc: Global, certificate: &Certificate<'a>) -> Result<Issuer<'a>, AllocError>
     ensures { IfOk result (IsSubjectOf certificate.now) }
 {

@@ -11,7 +11,7 @@ use statements_crl::Entries;
 use statements_facts::Listed;
 use std::alloc::{AllocError, Global};
 
-/// The number of a list, of its contents octets, which are those of one if the list was read.
+/// The number of a list, from the contents octets in one that was read (RFC 5280, 5.2.3).
 pub fn crl_number(contents: &[u8]) -> Number20
     requires { IsTrue (is_crl_number contents.now) }
     ensures { result ≡ binary_value contents.now }

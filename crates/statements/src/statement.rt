@@ -14,8 +14,8 @@ use statements_ocsp::is_response;
 use statements_parts::StatementFault;
 use std::alloc::Global;
 
-/// The facts of a statement of the issuer. The octets are taken for a response if the first value inside the outermost is an
-/// ENUMERATED, and for a list otherwise. Whether the statement is current is not checked.
+/// The facts of a statement of the issuer. Octets are read as a response if the first value inside the outermost is an ENUMERATED, else as
+/// a list. Whether the statement is current is not checked. Time is n log n in the octets.
 #[tactic(auto, using(crate::proofs::Answering::response_fails, crate::proofs::Answering::list_fails, crate::proofs::Answering::response_is, crate::proofs::Answering::list_is))]
 pub fn genuine<'a, V: Verifier>(
     alloc: Global,

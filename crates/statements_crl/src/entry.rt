@@ -16,7 +16,7 @@ pub struct Entry<'a> {
     pub serial: &'a [u8],
     /// In seconds from 1970-01-01T00:00:00Z.
     pub revocation_date: i64,
-    /// The number of the reason: 0 (unspecified) to 6, 9 or 10, and 0 where none is given.
+    /// The number of the reason (5.3.1): 0 to 6, 9 or 10; 0 (unspecified) if none is given.
     pub reason: u8,
 }
 

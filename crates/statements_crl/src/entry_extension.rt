@@ -122,8 +122,8 @@ fn take_all<'a>(alloc: Global, members: Cursor<'a>) -> Result<TakenOfEntry<'a>, 
     Ok(taken)
 }
 
-/// Takes crlEntryExtensions Extensions OPTIONAL, and gives the number of the reason in them: 0 where there is none. Memory is
-/// taken for the types of the extensions where there are more than 16.
+/// Takes crlEntryExtensions Extensions OPTIONAL, and gives the number of the reason in them: 0 if there is none. Memory is
+/// taken for the types of the extensions if there are more than 16.
 #[tactic(auto, unfolding(crate::specs::EntryExtension::optional_reason))]
 pub(crate) fn take_reason(alloc: Global, members: &mut Cursor<'_>) -> Result<u8, StatementFault>
     ensures { StepGivesUnlessFull (λ code. code) result members.old members.new optional_reason }

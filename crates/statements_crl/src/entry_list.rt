@@ -11,15 +11,15 @@ use asn::{Cursor, SEQUENCE};
 use statements_parts::StatementFault;
 use std::alloc::Global;
 
-/// The entries of a list that was read, in order, each read anew from its octets. No memory is taken.
+/// The entries of a list that was read, in order. Each is read again from its octets, without memory.
 #[derive(Clone, Copy)]
 pub struct Entries<'a> {
-    /// `None` where revokedCertificates is not there.
+    /// `None` if revokedCertificates is not there.
     members: Option<Cursor<'a>>,
 }
 
 impl<'a> Entries<'a> {
-    /// The next entry; `None` where none is left.
+    /// Takes the next entry; `None` if none is left.
     pub fn next(&mut self) -> Option<Entry<'a>>
         ensures { HandsOutFirst seen_entry (entries_left self.old) (entries_left self.new) result }
     {

@@ -19,12 +19,12 @@ use statements_parts::{
 };
 use std::alloc::Global;
 
-/// A revocation list, read. Its parts are borrowed from the octets that were read.
+/// A revocation list that was read. Its parts borrow the octets.
 #[derive(Clone, Copy)]
 pub struct Crl<'a> {
     /// tbsCertList: the whole encoding of the signed part.
     pub tbs: &'a [u8],
-    /// The whole algorithm identifier of the signature, which stands in the signed part and behind it.
+    /// The whole algorithm identifier of the signature, which stands in the signed part and again behind it.
     pub algorithm: &'a [u8],
     /// A name that is not empty.
     pub issuer: Name<'a>,
@@ -138,9 +138,9 @@ fn read_list<'a>(alloc: Global, value: Tlv<'a>) -> Result<Crl<'a>, StatementFaul
 }
 
 impl<'a> Crl<'a> {
-    /// The list that the octets are, or the first fault: the rule that is broken, and the offset of the value that breaks it.
-    /// Fields are parts of the octets. Time is linear in the octets, but for entries of more than 16 extensions, where it is
-    /// n log n and takes memory, as it does for the list's own extensions where these are more than 16.
+    /// Reads a list from DER (RFC 5280, 5.1), or answers the first fault: the rule that is broken, and the offset of the value that breaks
+    /// it. Fields are parts of the octets. Time is linear in the octets; an entry, or the list, with more than 16 extensions takes memory
+    /// for their types, and n log n time.
     #[tactic(auto, unfolding(crate::specs::CertificateList::certificate_list))]
     pub fn read(alloc: Global, octets: &'a [u8]) -> Result<Crl<'a>, StatementFault>
         ensures { GivesUnlessFull seen_list result (certificate_list octets.now) }
@@ -148,8 +148,8 @@ impl<'a> Crl<'a> {
         read_list(alloc, outermost(octets)?)
     }
 
-    /// The number of the reason of the first entry with this serial number, by its contents octets; `None` where no entry has
-    /// it. Time is linear in the list; no memory is taken.
+    /// The number of the reason of the first entry with this serial number (its contents octets); `None` if no entry has it. Time is
+    /// linear in the list; no memory is taken.
     pub fn lists(&self, serial: &[u8]) -> Option<u8>
         ensures { result ≡ reason_listed (seen_list self.now).entries serial.now }
     {

@@ -119,7 +119,7 @@ fn take_all<'a>(alloc: Global, members: Cursor<'a>) -> Result<TakenOfList<'a>, S
     Ok(taken)
 }
 
-/// What a list is told by its extensions.
+/// What its extensions say of a list.
 #[derive(Clone, Copy)]
 pub(crate) struct NumberAndScope<'a> {
     /// The contents of the CRL number.

@@ -20,7 +20,7 @@ fn is_number(contents: &[u8]) -> bool
     }
 }
 
-/// The contents of the INTEGER from 0 to 2^160 - 1 that the octets are; `None` where they are none.
+/// The contents of the INTEGER from 0 to 2^160 - 1 that the octets are; `None` if they are none.
 #[tactic(auto, unfolding(crate::specs::CrlNumber::number_in))]
 pub(crate) fn number_of(octets: &[u8]) -> Option<&[u8]>
     ensures { seen (λ contents. contents.now) result ≡ number_in octets.now }

@@ -62,7 +62,7 @@ pub(crate) fn sorted_by_prefix(all: Vec<Prefixed<'_>>) -> Result<Vec<Prefixed<'_
     Ok(all)
 }
 
-/// Whether the serial number of the one is less. That takes no look at it where its prefix is.
+/// Whether the serial number of the one is less. It is not looked at if its prefix is less.
 fn precedes(one: &Prefixed<'_>, other: &Prefixed<'_>) -> bool
     ensures { IsTrue result → HasLessSerial (seen_prefixed one.now) (seen_prefixed other.now) }
 {
@@ -74,7 +74,7 @@ fn precedes(one: &Prefixed<'_>, other: &Prefixed<'_>) -> bool
     one.prefix == other.prefix && serial.cmp(next).is_lt()
 }
 
-/// Whether the serial numbers ascend, told by their prefixes where these differ.
+/// Whether the serial numbers ascend, by their prefixes if these differ.
 pub(crate) fn prefixes_ascend(all: &[Prefixed<'_>]) -> bool
     ensures { IsTrue result → IsAscending (map seen_prefixed all.now) }
 {

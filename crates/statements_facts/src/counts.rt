@@ -14,7 +14,7 @@ pub enum TakenAs {
     Contradicted,
 }
 
-/// How many facts of a delivery were stored, kept out, and kept out since they contradict what is held.
+/// How many facts of a delivery were stored, kept out, and kept out because they contradict what is held.
 #[derive(Clone, Copy, Debug, PartialEq, Eq)]
 pub struct Counts {
     pub stored: usize,
@@ -23,7 +23,7 @@ pub struct Counts {
 }
 
 impl Counts {
-    /// Of no facts.
+    /// The counts of no facts.
     pub fn none() -> Counts
         ensures counted { (outcome : _) → number_of outcome result ≡ 0 }
         ensures total { total_of result ≡ 0 }
@@ -35,7 +35,7 @@ impl Counts {
         }
     }
 
-    /// Of one fact more.
+    /// The counts with one fact more.
     pub fn and(self, outcome: TakenAs) -> Counts
         requires { total_of self < usize.MAX }
         ensures counted { HaveOneMore outcome self result }

@@ -12,7 +12,7 @@ pub struct CrlFacts<'a> {
     pub issuer: Issuer<'a>,
     /// Which certificates of the issuer it is about.
     pub scope: Scope,
-    /// Lists of one issuer and scope are newer by this.
+    /// The CRL number: of two lists of one issuer and scope the one with the greater is newer.
     pub number: Number20,
     /// thisUpdate: from when the list counts.
     pub from: i64,

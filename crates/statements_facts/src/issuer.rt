@@ -2,7 +2,7 @@
 
 use std::marker::Model;
 
-/// The key of a name: equal for two names exactly where they match (RFC 5280, 7.1).
+/// The key of a name: two names have one key exactly if they match (RFC 5280, 7.1).
 #[derive(Drop)]
 pub struct NameKey {
     octets: Vec<u8>,
@@ -19,7 +19,7 @@ impl Model for NameKey {
 impl NameKey {
     ghost use Rattle.std.specs.Prelude.{◌≡◌};
 
-    /// The key that these octets are.
+    /// The key with these octets.
     pub fn from_octets(octets: Vec<u8>) -> NameKey
         ensures { result ≡ octets.items }
     {

@@ -1,5 +1,5 @@
-//! What signed statements say of certificates (RFC 5280, 5; RFC 6960, 4.2): for whom they speak, from when until when, and what;
-//! and which of the facts that come for one slot is the newest.
+//! What signed statements say of certificates (RFC 5280, 5; RFC 6960, 4.2): for whom they speak, from when until when, and what; and which
+//! fact of a slot is the newest.
 #![tactic(auto)]
 
 mod by_prefix;

@@ -3,14 +3,14 @@
 ghost use Rattle.statements_facts.specs.Newest.{CrlsKeepNewest, ResponsesKeepNewest};
 ghost use Rattle.statements_facts.specs.Coming.{ComesAsOne, TakingHoldsNewest, TakesBoth, KeptLeaveAll};
 
-/// What is kept of a list of facts, one after the other, is its newest, and the first among equals.
+/// What is kept of facts in turn is the newest, the first among equals.
 pub fn newest_laws()
     ensures crls { CrlsKeepNewest }
     ensures responses { ResponsesKeepNewest }
 {}
 
-/// A fact is counted as one thing; what facts leave that are taken one after the other is the newest in each slot; what two
-/// deliveries leave is what their facts together leave; and where nothing is counted as stored, nothing has changed.
+/// A fact is counted as one thing. Facts in turn leave the newest in each slot. Two deliveries leave what their facts together leave. If
+/// nothing is counted as stored, nothing has changed.
 pub fn coming_laws()
     ensures once { ComesAsOne }
     ensures newest { TakingHoldsNewest }

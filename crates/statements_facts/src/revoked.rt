@@ -92,9 +92,9 @@ fn each_once(listed: Vec<Listed<'_>>) -> Result<Vec<Listed<'_>>, AllocError>
 }
 
 impl<'a> RevokedSerials<'a> {
-    /// Of entries as they stand in a list: a serial number that is listed more than once has its first reason. Time is
-    /// n log n, and linear where they ascend as they stand. While they are sorted there is memory for twice as many, and where
-    /// their prefixes do not tell them apart for three times as many.
+    /// Sorts entries as they stand in a list; a serial number that is listed more than once has its first reason. Time is n log n, and
+    /// linear if they ascend already. Sorting takes memory for twice as many entries, and for three times as many if their prefixes do not
+    /// tell them apart.
     pub fn of_entries(listed: Vec<Listed<'a>>) -> Result<RevokedSerials<'a>, AllocError>
         ensures ascend { IfOk result (λ revoked. IsAscending revoked) }
         ensures reasons { IfOk result (λ revoked. (serial : List ℕ) →
@@ -105,7 +105,7 @@ impl<'a> RevokedSerials<'a> {
         Ok(RevokedSerials { listed })
     }
 
-    /// The entries.
+    /// The entries, ascending by serial number.
     pub fn as_slice(&self) -> &[Listed<'a>]
         ensures entries { map seen_listed result.now ≡ self.now }
         ensures ascend { IsAscending self.now }

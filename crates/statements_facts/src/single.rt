@@ -9,7 +9,7 @@ use std::marker::Model;
 #[derive(Clone, Copy, Debug, PartialEq, Eq)]
 pub enum Status {
     Good,
-    /// With the number of the reason (RFC 5280, 5.3.1).
+    /// The number of the reason (RFC 5280, 5.3.1).
     Revoked(u8),
     Unknown,
 }
@@ -30,7 +30,7 @@ pub struct Single<'a> {
     pub status: Status,
 }
 
-/// What a response says, certificate by certificate: of one at least.
+/// What a response says, certificate by certificate: at least of one.
 #[derive(Drop)]
 pub struct Singles<'a> {
     singles: Vec<Single<'a>>,
@@ -48,7 +48,7 @@ impl<'a> Model for Singles<'a> {
 }
 
 impl<'a> Singles<'a> {
-    /// These; `None` where there is none.
+    /// These single responses; `None` if there is none.
     pub fn from_list(singles: Vec<Single<'a>>) -> Option<Singles<'a>>
         ensures { result ≡ some_singles (map seen_single singles.entry.items) }
     {
@@ -59,7 +59,7 @@ impl<'a> Singles<'a> {
         }
     }
 
-    /// One after the other.
+    /// The single responses, in order.
     pub fn as_slice(&self) -> &[Single<'a>]
         ensures singles { map seen_single result.now ≡ self.now }
         ensures some { result.now ≢ [] }

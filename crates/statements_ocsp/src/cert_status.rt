@@ -14,7 +14,7 @@ use statements_parts::{Refusal, StatementRule, is_reason};
 #[derive(Clone, Copy, Debug, PartialEq, Eq)]
 pub enum CertStatus {
     Good,
-    /// With the number of the reason: 0 (unspecified) to 6, 9 or 10, and 0 where none is given.
+    /// The number of the reason: 0 to 6, 9 or 10; 0 (unspecified) if none is given.
     Revoked(u8),
     Unknown,
 }

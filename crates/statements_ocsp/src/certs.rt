@@ -11,15 +11,15 @@ use cert::{CertFault, Certificate};
 use statements_parts::{Refusal, StatementRule};
 use std::alloc::{AllocError, Global};
 
-/// The values in certs, in order. They are not signed, and may be no certificates. No memory is taken.
+/// The values in certs, in order. They are not signed, and need not be certificates.
 #[derive(Clone, Copy)]
 pub struct Certs<'a> {
-    /// `None` where certs is not there.
+    /// `None` if certs is not there.
     members: Option<Cursor<'a>>,
 }
 
 impl<'a> Certs<'a> {
-    /// The whole encoding of the next value; `None` where none is left.
+    /// Takes the whole encoding of the next value; `None` if none is left. No memory is taken.
     pub fn next(&mut self) -> Option<&'a [u8]>
         ensures { HandsOutFirst (λ x. x.now) (certs_left self.old) (certs_left self.new) result }
     {
@@ -27,8 +27,8 @@ impl<'a> Certs<'a> {
         Some(value.whole)
     }
 
-    /// The next value that is a certificate; `None` where none is left. Values that are no certificates are passed over. If there is
-    /// no memory to read a value, it is the next one of a later call.
+    /// Takes the next value that is a certificate, and passes over others; `None` if none is left. If there is no memory to read a value,
+    /// a later call begins with it again.
     pub fn next_certificate(&mut self, alloc: Global) -> Result<Option<Certificate<'a>>, AllocError>
         ensures found { IfOk result (HandsOut self.old self.new) }
         ensures passed { IfOk result (PassesTo (certs_left self.old) (certs_left self.new)) }

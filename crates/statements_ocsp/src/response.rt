@@ -18,7 +18,7 @@ use statements_parts::{
 };
 use std::alloc::Global;
 
-/// A successful response of the type id-pkix-ocsp-basic, read. Its parts are borrowed from the octets that were read.
+/// A successful response of the type id-pkix-ocsp-basic that was read. Its parts borrow the octets.
 #[derive(Clone, Copy)]
 pub struct Response<'a> {
     /// tbsResponseData: the whole encoding of the signed part.
@@ -32,7 +32,7 @@ pub struct Response<'a> {
     pub produced_at: i64,
     /// The single responses, in order: at most 256.
     pub responses: Singles<'a>,
-    /// The values in certs, in order; none where it is not there.
+    /// The values in certs, in order; none if it is not there.
     pub certs: Certs<'a>,
 }
 
@@ -208,9 +208,9 @@ fn read_response<'a>(alloc: Global, value: Tlv<'a>) -> Result<Response<'a>, Stat
 }
 
 impl<'a> Response<'a> {
-    /// The response that the octets are, or the first fault: the rule that is broken, and the offset of the value that breaks it.
-    /// Fields are parts of the octets. Time is linear in the octets, but for extensions of more than 16 in a list, where it is
-    /// n log n and takes memory.
+    /// Reads a response from DER (RFC 6960, 4.2.1), or answers the first fault: the rule that is broken, and the offset of the value that
+    /// breaks it. Fields are parts of the octets. Time is linear in the octets; a list of more than 16 extensions takes memory for their
+    /// types, and n log n time.
     #[tactic(auto, unfolding(crate::specs::OcspResponse::ocsp_response))]
     pub fn read(alloc: Global, octets: &'a [u8]) -> Result<Response<'a>, StatementFault>
         ensures { GivesUnlessFull seen_response result (ocsp_response octets.now) }

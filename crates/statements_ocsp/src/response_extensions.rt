@@ -48,7 +48,7 @@ fn check_list(alloc: Global, list: Tlv<'_>) -> Result<(), StatementFault>
     Ok(())
 }
 
-/// Passes over extensions [1] EXPLICIT Extensions OPTIONAL, once they are checked. Memory is taken for their types where there are
+/// Passes over extensions [1] EXPLICIT Extensions OPTIONAL, once they are checked. Memory is taken for their types if there are
 /// more than 16.
 #[tactic(auto, unfolding(crate::specs::ResponseExtensions::optional_extensions))]
 pub(crate) fn skip_extensions(alloc: Global, members: &mut Cursor<'_>) -> Result<(), StatementFault>

@@ -14,7 +14,7 @@ pub struct SingleResponse<'a> {
     pub status: CertStatus,
     /// In seconds from 1970-01-01T00:00:00Z.
     pub this_update: i64,
-    /// In seconds from 1970-01-01T00:00:00Z; `None` where it is not there.
+    /// In seconds from 1970-01-01T00:00:00Z; `None` if it is not there.
     pub next_update: Option<i64>,
     pub ghost early: { IsBeforeYear10000 this_update },
 }

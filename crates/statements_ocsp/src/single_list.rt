@@ -14,17 +14,17 @@ use asn::{Cursor, SEQUENCE, Tlv};
 use statements_parts::{Refusal, StatementFault, StatementRule};
 use std::alloc::Global;
 
-/// How many single responses a response may have.
+/// The most single responses of a response.
 pub const MOST_SINGLES: usize = 256;
 
-/// The single responses of a response that was read, in order, each read anew from its octets. No memory is taken.
+/// The single responses of a response that was read, in order. Each is read again from its octets, without memory.
 #[derive(Clone, Copy)]
 pub struct Singles<'a> {
     members: Cursor<'a>,
 }
 
 impl<'a> Singles<'a> {
-    /// The next single response; `None` where none is left.
+    /// Takes the next single response; `None` if none is left.
     pub fn next(&mut self) -> Option<SingleResponse<'a>>
         ensures { HandsOutFirst seen_single (singles_left self.old) (singles_left self.new) result }
     {
@@ -36,7 +36,7 @@ impl<'a> Singles<'a> {
     }
 }
 
-/// The fault `TooManySingles`, at this offset, where there are as many as may be.
+/// The fault `TooManySingles`, at this offset, if there are as many as may be.
 #[tactic(auto, unfolding(asn::specs::Walk::check_that))]
 fn check_room(before: usize, at: usize) -> Result<(), Refusal>
     ensures walk { Gives (λ _. tt) result (check_that (nat_lt before 256) TooManySingles at) }

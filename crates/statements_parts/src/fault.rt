@@ -1,4 +1,4 @@
-//! Why octets are no statement about revocation.
+//! Why octets are not a statement about revocation.
 
 ghost use Rattle.std.specs.Prelude.{◌≡◌};
 ghost use Rattle.statements_parts.specs.Fault.{rule_number, rule_name, statement_fault_number, statement_fault_name, statement_fault_place};
@@ -10,16 +10,16 @@ use names::NameRule;
 use std::alloc::{AllocError, AllocFailed};
 use thiserror::Error;
 
-/// What a statement breaks.
+/// The rule that a statement breaks.
 #[derive(Clone, Copy, Debug, PartialEq, Eq, Error)]
 pub enum StatementRule {
     /// The input is not DER.
     #[error("fault 41: not DER: {0}")]
     Der(Rule),
-    /// The issuer's name is none.
+    /// The name of the issuer or responder is malformed.
     #[error("{0}")]
     Name(NameRule),
-    /// A value with an identifier that the layout does not have there, a value that is missing, or one left over.
+    /// A value has an identifier that the layout does not have there, is missing, or is left over.
     #[error("fault 42: value that the layout does not have there")]
     Layout,
     /// A list of another version than v2 (RFC 5280, 5.1.2.1).
@@ -28,13 +28,13 @@ pub enum StatementRule {
     /// A list without a CRL number (5.2.3).
     #[error("fault 44: no CRL number")]
     NoNumber,
-    /// A CRL number that is none from 0 to 2^160 - 1 (5.2.3).
+    /// A CRL number that is not from 0 to 2^160 - 1 (5.2.3).
     #[error("fault 45: CRL number out of range")]
     NumberRange,
-    /// A list that does not say until when it holds (5.1.2.5).
+    /// A list without nextUpdate (5.1.2.5).
     #[error("fault 46: no next update")]
     NoNextUpdate,
-    /// A list of changes to another (5.2.4), which is not served.
+    /// A delta list (5.2.4), which is not served.
     #[error("fault 47: delta list")]
     Delta,
     /// A list for a part of its issuer's certificates that is not served (5.2.5).
@@ -46,8 +46,8 @@ pub enum StatementRule {
     /// A critical extension that is not known (5.2, 5.3; of a response, RFC 6960, 4.4).
     #[error("fault 50: critical extension that is not known")]
     CriticalUnknown,
-    /// A reason that is none (5.3.1; of a response also removeFromCRL).
-    #[error("fault 51: reason that is none")]
+    /// A reason that does not exist (5.3.1; of a response also removeFromCRL).
+    #[error("fault 51: reason that does not exist")]
     BadReason,
     /// removeFromCRL in a list that is no delta list (5.3.1).
     #[error("fault 52: removal in a complete list")]
@@ -58,12 +58,12 @@ pub enum StatementRule {
     /// A response of another type than id-pkix-ocsp-basic (RFC 6960, 4.2.1).
     #[error("fault 56: response of another type")]
     ResponseType,
-    /// A response with more single responses than are served.
+    /// A response with more than 256 single responses.
     #[error("fault 59: too many single responses")]
     TooManySingles,
 }
 
-/// What is broken, with the offset of the value that breaks it in the whole input.
+/// The rule that is broken, with the offset of the value that breaks it in the whole input.
 pub type Refusal = (StatementRule, usize);
 
 /// A fault in a name, as one of a statement.
@@ -74,8 +74,8 @@ pub(crate) fn name_refusal(refusal: (NameRule, usize)) -> Refusal
     (StatementRule::Name(fault), at)
 }
 
-/// Why octets were not taken as a statement: the first rule that is broken, with the offset of the value that breaks it; whose
-/// statement it is not; or want of memory.
+/// Why octets were not taken as a statement: the first rule that is broken, with the offset of the value that breaks it; that the
+/// statement is not the issuer's; or lack of memory.
 #[derive(Clone, Copy, Debug, PartialEq, Eq, Error)]
 pub enum StatementFault {
     #[error("{0}, at offset {1}")]
@@ -97,8 +97,7 @@ pub enum StatementFault {
 }
 
 impl StatementRule {
-    /// The number by which the product names the rule, from 41 to 52, 55, 56 or 59, or from 11 to 14 for what is wrong in a
-    /// name.
+    /// The number of the rule, from 41 to 52, 55, 56 or 59, or from 11 to 14 for a fault in a name.
     pub fn number(self) -> u8
         ensures { result ≡ rule_number self }
     {
@@ -122,7 +121,7 @@ impl StatementRule {
         }
     }
 
-    /// The word that stands beside the number.
+    /// The name of the rule, printed beside the number.
     pub fn name(self) -> &'static str
         ensures { result.now ≡ rule_name self }
     {
@@ -148,8 +147,8 @@ impl StatementRule {
 }
 
 impl StatementFault {
-    /// The number by which the product names the fault: that of the rule, 53 or 54 for a list that is not the issuer's, 57 or 58
-    /// for a response that is not, or 60 for want of memory.
+    /// The number of the fault: that of the rule, 53 or 54 for a list that is not the issuer's, 57 or 58 for a response that is not, or 60
+    /// for lack of memory.
     pub fn number(self) -> u8
         ensures { result ≡ statement_fault_number self }
     {
@@ -163,7 +162,7 @@ impl StatementFault {
         }
     }
 
-    /// The word that stands beside the number.
+    /// The name of the fault, printed beside the number.
     pub fn name(self) -> &'static str
         ensures { result.now ≡ statement_fault_name self }
     {
@@ -177,7 +176,7 @@ impl StatementFault {
         }
     }
 
-    /// The offset of the value that is refused; `None` where the fault is of no place in the octets.
+    /// The offset of the value that is refused; `None` if the fault has no place in the octets.
     pub fn place(self) -> Option<usize>
         ensures { result ≡ statement_fault_place self }
     {

@@ -1,4 +1,4 @@
-//! What statements about revocation share, lists and responses: why they are refused, and the parts that both are made of.
+//! What lists and responses share: why they are refused, and the parts that both are made of.
 #![tactic(auto)]
 
 mod fault;

@@ -16,7 +16,7 @@ use asn::{BIT_STRING, Cursor, INTEGER, Tlv};
 use cert::{AlgorithmIdentifier, Extension, OidSet, bits_of, is_of_whole_octets, is_serial_number};
 use names::Name;
 
-/// The value that the octets are; else the fault `Der`. Time is linear in the octets; no memory is taken.
+/// The one value that the octets encode; else the fault `Der`. Time is linear in the octets; no memory is taken.
 pub fn outermost(octets: &[u8]) -> Result<Tlv<'_>, Refusal>
     ensures { Gives seen_tlv result (as_der (asn_outermost octets.now)) }
 {
@@ -88,8 +88,8 @@ pub fn take_signature<'a>(members: &mut Cursor<'a>) -> Result<&'a [u8], Refusal>
     signature_at(members.required(BIT_STRING, StatementRule::Layout)?)
 }
 
-/// The extension that the value is, of a type that is not among these, and which is put to them; else the fault `Layout`, as of
-/// `Extension::read`, or at the extension where its type is not new. Memory is taken where there are more than 16 types.
+/// Reads an extension and adds its type to the set; else the fault `Layout`, as of `Extension::read`, or at the extension if its type is
+/// in the set already. Memory is taken for more than 16 types.
 #[tactic(auto, unfolding(crate::specs::Parts::new_extension, asn::specs::Walk::check_that))]
 pub fn new_extension<'a>(
     types: &mut OidSet<'a>,

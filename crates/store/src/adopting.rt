@@ -32,8 +32,8 @@ fn inspect_live<S: Alter>(conn: &mut Connection<S>) -> Result<(), StoreFault>
     inspect(conn)
 }
 
-/// Takes a database for a store: `StoreFault::Schema` where it has other tables than those of version 2, another version, or a row
-/// that no store writes there. It reads each row once, and changes nothing.
+/// Takes a database for a store: `StoreFault::Schema` if it has other tables than those of version 2, another version, or a row that no
+/// store writes there. Reads each row once, and changes nothing.
 pub fn adopt<D: Disk + Drop>(conn: &mut Connection<FileStore<D>>) -> Result<(), StoreFault>
     requires idle { conn.old.in_transaction ≡ false }
     ensures idle { conn.new.in_transaction ≡ false }
@@ -71,8 +71,8 @@ fn migrate_or_inspect<S: Alter>(alloc: Global, conn: &mut Connection<S>) -> Resu
     }
 }
 
-/// Takes a database for a store, and migrates it first where it is of version 1: `StoreFault::Schema` where it has the tables of
-/// neither version, or a row that neither writes there. After a fault it is as it was.
+/// Takes a database for a store, after migrating it if it is of version 1: `StoreFault::Schema` if it has the tables of neither version,
+/// or a row that neither writes there. After a fault it is as it was.
 pub fn take_over<D: Disk + Drop>(
     alloc: Global,
     conn: &mut Connection<FileStore<D>>,

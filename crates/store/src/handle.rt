@@ -24,7 +24,7 @@ use store_rows::HeldStatus;
 use store_sql::StoreFault;
 use store_taking::put;
 
-/// A database that is a store, between transactions.
+/// A store over files, between transactions.
 pub struct Store<D: Disk> {
     pub conn: Connection<FileStore<D>>,
     pub ghost idle: { conn.in_transaction ≡ false },
@@ -37,7 +37,7 @@ impl<D: Disk + Drop> Drop for Store<D> {
 }
 
 impl<D: Disk> ReopenFault<D> {
-    /// The fault alone.
+    /// The fault, without what is left.
     pub fn fault(&self) -> StoreFault
         ensures { result ≡ reopen_fault self.now }
     {
@@ -49,8 +49,8 @@ impl<D: Disk> ReopenFault<D> {
 }
 
 impl<D: Disk + Drop> Store<D> {
-    /// Makes a store in an empty database. It holds nothing. Where a table stands there already, that is `StoreFault::Store`. After a
-    /// fault no table was made, and the connection comes back.
+    /// Makes a store that holds nothing in an empty database. `StoreFault::Store` if a table is there already. After a fault no table was
+    /// made, and the connection comes back.
     pub fn create(mut conn: Connection<FileStore<D>>) -> Result<Store<D>, Refused<D>>
         requires idle { conn.in_transaction ≡ false }
         ensures created { IfOk result (λ store. IsCreatedOn conn store.conn) }
@@ -68,8 +68,8 @@ impl<D: Disk + Drop> Store<D> {
         }
     }
 
-    /// Takes a database for a store, and migrates it first where it is of version 1: `StoreFault::Schema` where it is neither. After a
-    /// fault the database is as it was, and the connection comes back.
+    /// Takes a database for a store, after migrating it if it is of version 1; `StoreFault::Schema` if it is neither. Each row is read
+    /// once; a migration takes memory for all entries, twice. After a fault the database is as it was, and the connection comes back.
     pub fn adopt(alloc: Global, mut conn: Connection<FileStore<D>>) -> Result<Store<D>, Refused<D>>
         requires idle { conn.in_transaction ≡ false }
         ensures was { IfOk result (λ store. WasStoreOn conn store.conn) }
@@ -91,8 +91,9 @@ impl<D: Disk + Drop> Store<D> {
         }
     }
 
-    /// Puts all facts of a statement into the store, in order and in one transaction: in each slot the newest is held then. The
-    /// facts are counted: stored, kept out, or contradicting what is held. Where a fault is answered, what is held is as it was.
+    /// Puts all facts of a statement into the store, in order and in one transaction; then each slot holds the newest. The facts are
+    /// counted as stored, kept out, or contradicting what is held. After a fault what is held is as it was. A list of n entries is stored
+    /// in n log n; one of the same number as the held list is compared by a look-up for each entry.
     pub fn put(&mut self, facts: &Facts<'_>) -> Result<Counts, StoreFault>
         ensures puts { PutsOn self.old.conn self.new.conn facts.now result }
         ensures survives { AllOrNothingOn self.old.conn self.new.conn facts.now }
@@ -100,7 +101,9 @@ impl<D: Disk + Drop> Store<D> {
         put(&mut self.conn, facts)
     }
 
-    /// What is held in the slot of an issuer and a scope: the list's number and window, and its reason for one serial number.
+    /// The list held of an issuer and a scope: its number, its window in seconds from 1970-01-01T00:00:00Z, and its reason for one serial
+    /// number (the contents octets); `None` if none is held. The serial number is found by halving, in at most 33 statements of SQL. No
+    /// fault is `Schema` if the rows have the form that a store writes.
     pub fn crl(
         &mut self,
         issuer: &Issuer<'_>,
@@ -115,8 +118,8 @@ impl<D: Disk + Drop> Store<D> {
         look_up_crl(&mut self.conn, issuer, scope, serial)
     }
 
-    /// What is held of one certificate of an issuer: the hash of the issuer's name, as the certificate spells it, and the contents
-    /// octets of its serial number.
+    /// What is held of one certificate of an issuer, by the SHA-1 hash of the issuer's name, as the certificate spells it, and the
+    /// contents octets of its serial number; `None` if nothing is held.
     pub fn ocsp<'x>(
         &mut self,
         issuer: &Issuer<'_>,
@@ -131,8 +134,8 @@ impl<D: Disk + Drop> Store<D> {
         look_up_ocsp(&mut self.conn, issuer, name_hash, serial)
     }
 
-    /// Closes the store: the database file then has all that is held, and a connection that is opened on the files is the same store.
-    /// Where that fails, what SQLite keeps of the files comes back; what was committed is safe.
+    /// Closes the store: then the database file has all that is held, and a connection opened on the files is the same store. If that
+    /// fails, what SQLite keeps of the files comes back; what was committed is safe.
     pub fn into_files(self) -> Result<Files<D>, (StoreFault, FileStore<D>)>
         ensures usable { IfOk result (AreUsable D.Disk) }
         ensures copied { IfOk result (CopiesTo self.conn) }
@@ -148,7 +151,7 @@ impl<D: Disk + Drop> Store<D> {
         }
     }
 
-    /// Closes the store's files and takes them for a store again.
+    /// Closes the store's files and takes them for a store again, which reads each row once. If that fails, what is left comes back.
     pub fn reopen(self, alloc: Global) -> Result<Store<D>, ReopenFault<D>>
         ensures restarts { IfOk result (λ store. RestartsOn self.conn store.conn) }
         ensures durable { IfOk result (λ store. IsDurable (file_state store.conn)) }

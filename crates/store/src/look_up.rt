@@ -34,7 +34,8 @@ fn crl_in_transaction<S: Alter>(
     }
 }
 
-/// What is held in the slot of an issuer and a scope: the list's number and window, and its reason for one serial number.
+/// The list held of an issuer and a scope: its number and window, and its reason for one serial number; as `Store::crl`, over a
+/// connection.
 pub fn look_up_crl<S: Alter>(
     conn: &mut Connection<S>,
     issuer: &Issuer<'_>,
@@ -74,8 +75,7 @@ fn ocsp_in_transaction<'x, S: Alter>(
     }
 }
 
-/// What is held of one certificate of an issuer: the hash of the issuer's name, as the certificate spells it, and the contents
-/// octets of its serial number.
+/// What is held of one certificate of an issuer; as `Store::ocsp`, over a connection.
 pub fn look_up_ocsp<'x, S: Alter>(
     conn: &mut Connection<S>,
     issuer: &Issuer<'_>,

@@ -15,7 +15,7 @@ use std::rt::HostRuntime;
 use store_sql::StoreFault;
 
 impl OpenFault {
-    /// The fault alone.
+    /// The fault, without what is left.
     pub fn fault(&self) -> StoreFault
         ensures { result ≡ fault_of self.now }
     {
@@ -27,8 +27,8 @@ impl OpenFault {
 }
 
 impl Store<File> {
-    /// Takes the file at a path for a store, and migrates it first where it is of version 1: `StoreFault::Store` where there is none or it
-    /// is no database, `StoreFault::Schema` where it is no store. A connection that is not taken for a store comes back.
+    /// Takes the file at a path for a store, after migrating it if it is of version 1: `StoreFault::Store` if there is no file or it is no
+    /// database, `StoreFault::Schema` if it is no store. A connection that is not taken for a store comes back. Each row is read once.
     pub fn open(rt: &HostRuntime, path: &str) -> Result<Store<File>, OpenFault>
         ensures store { IfOk result (λ store. IsStoreOn store.conn) }
         ensures is_open { IfOk result (λ store. IsOpenOn store.conn) }
@@ -47,8 +47,8 @@ impl Store<File> {
         }
     }
 
-    /// Makes a store at a path, which holds nothing: `StoreFault::Store` where a file is there. A connection in which no store could be
-    /// made comes back.
+    /// Makes a store that holds nothing at a path: `StoreFault::Store` if a file is there. A connection in which no store could be made
+    /// comes back.
     pub fn make(rt: &HostRuntime, path: &str) -> Result<Store<File>, OpenFault>
         ensures store { IfOk result (λ store. IsEmptyStoreOn store.conn) }
         ensures is_open { IfOk result (λ store. IsOpenOn store.conn) }

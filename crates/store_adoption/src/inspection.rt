@@ -187,7 +187,7 @@ fn inspect_all<S: Alter>(conn: &mut Connection<S>) -> Result<(), StoreFault>
     }
 }
 
-/// Reads all rows once: `StoreFault::Schema` where they are not those of a store.
+/// Reads all rows once: `StoreFault::Schema` if they are not those of a store.
 pub fn inspect<S: Alter>(conn: &mut Connection<S>) -> Result<(), StoreFault>
     requires idle { conn.old.in_transaction ≡ false }
     ensures idle { conn.new.in_transaction ≡ false }

@@ -22,7 +22,7 @@ pub(crate) trait RowTest {
     // These are all rows of a table of a store.
     ghost are_formed: { Self → List Cells → Type 0 };
 
-    /// Takes the next row; `StoreFault::Schema` where no store has it there.
+    /// Takes the next row; `StoreFault::Schema` if no store has it there.
     fn take(&mut self, row: &Row) -> Result<(), StoreFault>
         ensures passed { OnOk result (PassesOneMore (passed self.old) (passed self.new) row.now) }
         ensures same { OnOk result (HoldsAlike (are_formed self.old) (are_formed self.new)) }

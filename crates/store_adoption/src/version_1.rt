@@ -202,7 +202,7 @@ fn read_all<S: Alter>(alloc: Global, conn: &mut Connection<S>) -> Result<Unscope
     }
 }
 
-/// Reads all rows of a database of version 1 once, and answers its lists: `StoreFault::Schema` where it is none, or has a row that
+/// Reads all rows of a database of version 1 once, and answers its lists: `StoreFault::Schema` if it is none, or has a row that
 /// version 1 does not write.
 pub fn read_version_1<S: Alter>(
     alloc: Global,

@@ -14,8 +14,7 @@ use statements_facts::{Issuer, Scope};
 use store_rows::{Head, ListKey, find_crl, find_entry, find_issuer};
 use store_sql::StoreFault;
 
-/// The list that is held of an issuer and a scope, and what it says of one serial number. Times are in seconds from
-/// 1970-01-01T00:00:00Z.
+/// The list held of an issuer and a scope, and what it says of one serial number. Times are in seconds from 1970-01-01T00:00:00Z.
 #[derive(Clone, Copy)]
 pub struct HeldCrl {
     pub number: Number20,
@@ -23,7 +22,7 @@ pub struct HeldCrl {
     pub from: i64,
     /// Until when it counts.
     pub until: i64,
-    /// The number of the reason, where the serial number is listed.
+    /// The number of the reason, if the serial number is listed.
     pub reason: Option<u8>,
 }
 
@@ -60,7 +59,7 @@ fn look_under<S: Alter>(
     }
 }
 
-/// What is held in the slot of an issuer and a scope: the list's number and window, and its reason for one serial number.
+/// The list held of an issuer and a scope: its number and window, and its reason for one serial number.
 pub fn crl<S: Alter>(
     tx: &mut Transaction<'_, S>,
     issuer: &Issuer<'_>,

@@ -7,12 +7,12 @@ pub fn issuer_laws()
     ensures { NewIssuerChangesNoMap }
 {}
 
-/// A list in the place of another is held in its slot, and changes no other.
+/// A list that replaces another is held in its slot, and no other slot changes.
 pub fn list_laws()
     ensures { ReplacedListIsHeld }
 {}
 
-/// What is said of a certificate in the place of what was said of it is held in its slot, and changes no other.
+/// What is said of a certificate replaces what was said of it in its slot, and no other slot changes.
 pub fn single_laws()
     ensures { ReplacedSingleIsHeld }
 {}

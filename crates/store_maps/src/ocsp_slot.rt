@@ -11,8 +11,8 @@ use statements_facts::Issuer;
 use store_rows::{HeldStatus, find_issuer, find_single};
 use store_sql::StoreFault;
 
-/// What is held of one certificate of an issuer: the hash of the issuer's name, as the certificate spells it, and the contents
-/// octets of its serial number.
+/// What is held of one certificate of an issuer, by the hash of the issuer's name, as the certificate spells it, and the contents octets
+/// of its serial number.
 pub fn ocsp<'x, S: Alter>(
     tx: &mut Transaction<'_, S>,
     issuer: &Issuer<'_>,

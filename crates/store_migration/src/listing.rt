@@ -73,7 +73,7 @@ fn put_revoked<S: Alter>(
     }
 }
 
-/// Puts a list in its place, with those of the entries that are its.
+/// Puts a list in its place, with its entries.
 fn put_list<S: Alter>(
     alloc: Global,
     tx: &mut Transaction<'_, S>,

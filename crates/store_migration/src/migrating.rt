@@ -72,7 +72,7 @@ fn migrate_idle<S: Alter>(alloc: Global, conn: &mut Connection<S>) -> Result<(),
 }
 
 /// Makes a store of version 2 of one of version 1, in one transaction: each list of version 1 is then one for all certificates, and
-/// what is held is the same. `StoreFault::Schema` where the tables are not those of version 1, or hold what version 1 does not write.
+/// what is held is the same. `StoreFault::Schema` if the tables are not those of version 1, or hold what version 1 does not write.
 pub fn migrate<S: Alter>(alloc: Global, conn: &mut Connection<S>) -> Result<(), StoreFault>
     requires idle { conn.old.in_transaction ≡ false }
     ensures idle { conn.new.in_transaction ≡ false }

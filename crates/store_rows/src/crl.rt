@@ -38,7 +38,7 @@ pub fn scope_number(scope: Scope) -> u8
     }
 }
 
-/// The number that twenty octets spell; `None` where there are not twenty.
+/// The number that twenty octets spell; `None` if there are not twenty.
 pub fn number_of(octets: &[u8]) -> Option<Number20>
     ensures some { IfSome result (SpellsNumber octets.now) }
     ensures none { IfNone result ((number : ℕ) → octets.now ≢ number_octets 20 number) }
@@ -77,7 +77,7 @@ fn read_heads(rows: &[Row]) -> Result<Option<Head>, StoreFault>
     }
 }
 
-/// The list of an issuer and a scope, where one is held.
+/// The list of an issuer and a scope, if one is held.
 pub fn find_crl<S: Alter>(
     tx: &mut Transaction<'_, S>,
     issuer: u32,

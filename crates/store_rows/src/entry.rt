@@ -93,7 +93,7 @@ pub(crate) fn stands_at<S: Alter>(
     read_entries(rows.as_slice(), serial)
 }
 
-/// The reason of a serial number, where the list has it: by halving, with at most 33 look-ups.
+/// The reason of a serial number, if the list has it: by halving, with at most 33 look-ups.
 pub fn find_entry<S: Alter>(
     tx: &mut Transaction<'_, S>,
     list: &ListKey,

@@ -30,7 +30,7 @@ fn read_ids(rows: &[Row]) -> Result<Option<u32>, StoreFault>
     }
 }
 
-/// The id of an issuer, where it has one.
+/// The id of an issuer, if it has one.
 pub fn find_issuer<S: Alter>(
     tx: &mut Transaction<'_, S>,
     issuer: &Issuer<'_>,

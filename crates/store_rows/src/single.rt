@@ -40,7 +40,7 @@ fn status_number(status: Status) -> u8
     }
 }
 
-/// The number of the reason, which is 0 where the certificate is not revoked.
+/// The number of the reason, which is 0 if the certificate is not revoked.
 fn reason_number(status: Status) -> u8
     ensures { result ≡ reason_number status }
 {
@@ -115,7 +115,7 @@ fn key_of<'x>(issuer: u32, name_hash: &'x [u8], serial: &'x [u8]) -> SingleKey<'
     }
 }
 
-/// What is held of a certificate, where something is.
+/// What is held of a certificate, if something is.
 pub fn find_single<'x, S: Alter>(
     tx: &mut Transaction<'_, S>,
     issuer: u32,

@@ -9,7 +9,7 @@ use thiserror::Error;
 /// Why a store does not answer.
 #[derive(Clone, Copy, Debug, PartialEq, Eq, Error)]
 pub enum StoreFault {
-    /// The database refused, for another cause than memory.
+    /// The database refused, for another reason than memory; or ids or places are used up.
     #[error("fault 71: the database refused")]
     Store,
     /// The tables are not those of a store, or a row is not of the form that a store writes.
@@ -20,7 +20,7 @@ pub enum StoreFault {
 }
 
 impl StoreFault {
-    /// The number by which the product names the fault.
+    /// The number of the fault, from 71 to 73.
     pub fn number(self) -> u8
         ensures { result ≡ store_fault_number self }
     {
@@ -31,7 +31,7 @@ impl StoreFault {
         }
     }
 
-    /// The word that stands beside the number.
+    /// The name of the fault, printed beside the number.
     pub fn name(self) -> &'static str
         ensures { result.now ≡ store_fault_name self }
     {

@@ -315,7 +315,7 @@ pub fn is_empty(schema: &Schema) -> bool
     schema.tables.is_empty() && schema.indexes.is_empty() && schema.views.is_empty()
 }
 
-/// How the tables came to be those of version 2; `None` where they are not.
+/// How the tables came to be those of version 2; `None` if they are not.
 pub fn origin_of(schema: &Schema) -> Option<Origin>
     ensures some { IfSome result (λ origin. schema.now ≡ store_schema origin) }
     ensures none { IfNone result ((origin : Origin) → schema.now ≢ store_schema origin) }

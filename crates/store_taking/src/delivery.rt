@@ -71,8 +71,8 @@ fn deliver<S: Alter>(conn: &mut Connection<S>, facts: &Facts<'_>) -> Result<Coun
     }
 }
 
-/// Puts all facts of a statement into a store, in order and in one transaction: in each slot the newest is held then. Where a
-/// fault is answered, what is held is as it was. The connection is in no transaction; else it is refused.
+/// Puts all facts of a statement into a store, in order and in one transaction; then each slot holds the newest. After a fault what is
+/// held is as it was. A connection in a transaction is refused.
 pub fn put<S: Alter>(conn: &mut Connection<S>, facts: &Facts<'_>) -> Result<Counts, StoreFault>
     ensures idle { conn.old.in_transaction ≡ false → conn.new.in_transaction ≡ false }
     ensures puts { PutsFacts (state S.Store conn.old) (state S.Store conn.new) facts.now result }

@@ -12,7 +12,7 @@ use statements_facts::Issuer;
 use store_rows::{add_issuer, find_issuer};
 use store_sql::StoreFault;
 
-/// The id of an issuer that was just added: none where it is at the limit.
+/// The id of an issuer that was just added: none if it is at the limit.
 fn id_of_added<S: Alter>(
     tx: &mut Transaction<'_, S>,
     issuer: &Issuer<'_>,
@@ -46,7 +46,7 @@ fn new_issuer<S: Alter>(tx: &mut Transaction<'_, S>, issuer: &Issuer<'_>) -> Res
     }
 }
 
-/// The id of an issuer, who is added where it is new: that changes nothing that is held.
+/// The id of an issuer, who is added if it is new: that changes nothing that is held.
 pub(crate) fn issuer_id<S: Alter>(
     tx: &mut Transaction<'_, S>,
     issuer: &Issuer<'_>,

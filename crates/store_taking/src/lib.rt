@@ -1,4 +1,4 @@
-//! Statements that are put into a store: in each slot the newest is held.
+//! Statements put into a store: each slot holds the newest.
 #![tactic(auto)]
 
 mod delivery;

@@ -37,8 +37,7 @@ fn head_of(list: &CrlFacts<'_>) -> Head
     }
 }
 
-/// What becomes of a list beside the one that is held, as far as its number and window tell: nothing is told where they are
-/// the same.
+/// What becomes of a list beside the one that is held, by number and window alone; `None` if these are the same.
 fn outcome_by_head(held: &Head, list: &CrlFacts<'_>) -> Option<TakenAs>
     ensures some { IfSome result (HeadDecides held.now list.now) }
     ensures none { IfNone result (seen_head held.now ≡ crl_head list.now) }
@@ -152,8 +151,8 @@ fn take_under<S: Alter>(
     }
 }
 
-/// Takes a list: it is held where it is newer than the one of its issuer and scope, or the first. Inside a transaction, which
-/// a fault leaves with what was written so far, to be rolled back.
+/// Takes a list, inside a transaction: it is held if it is the first of its issuer and scope, or newer. A fault leaves what was written so
+/// far, to be rolled back.
 pub fn take_list<S: Alter>(
     tx: &mut Transaction<'_, S>,
     list: &CrlFacts<'_>,

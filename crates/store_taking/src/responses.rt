@@ -94,8 +94,8 @@ fn take_under<S: Alter>(
     }
 }
 
-/// Takes what a response says of one certificate: it is held where it is newer than what is held of that, or the first. Inside
-/// a transaction, which a fault leaves with what was written so far, to be rolled back.
+/// Takes what a response says of one certificate, inside a transaction: it is held if it is the first, or newer. A fault leaves what was
+/// written so far, to be rolled back.
 pub fn take_single<S: Alter>(
     tx: &mut Transaction<'_, S>,
     issuer: &Issuer<'_>,

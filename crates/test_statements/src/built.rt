@@ -1,4 +1,4 @@
-//! What `vectors` builds of texts in the notation of docs/REFERENCE.md.
+//! What `vectors` builds of texts in its notation.
 
 use crate::rows::{FULL, ROWS};
 use crate::{holds, read_certificate};

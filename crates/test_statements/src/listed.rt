@@ -1,4 +1,4 @@
-//! The revocation lists that `vectors` builds of texts in the notation of docs/REFERENCE.md.
+//! The revocation lists that `vectors` builds of texts in its notation.
 
 use crate::holds;
 use crate::rows::LISTS;

@@ -31,7 +31,7 @@ fn validity(alloc: Global, notation: &Notation<'_>) -> Result<Tree, NotationFaul
     Ok(Tree::Constructed(0x30, vec![in alloc; not_before, not_after]?))
 }
 
-/// extensions [3] EXPLICIT: nothing where there are none
+/// extensions [3] EXPLICIT: nothing if there are none
 fn push_extensions(
     alloc: Global,
     members: &mut Vec<Tree>,
@@ -75,7 +75,7 @@ pub fn tree(alloc: Global, text: &str) -> Result<Tree, NotationFault> {
     sign(alloc, signed, notation.signer)
 }
 
-/// The DER of the certificate that the text asks for. `docs/REFERENCE.md` has the notation.
+/// The DER of the certificate that the text asks for, in the notation at the head of this crate.
 pub fn certificate(alloc: Global, text: &str) -> Result<Vec<u8>, NotationFault> {
     let tree = tree(alloc, text)?;
     Ok(encode(alloc, &tree)?)

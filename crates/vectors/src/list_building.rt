@@ -35,7 +35,7 @@ fn entry(alloc: Global, entry: &ListEntry) -> Result<Tree, NotationFault> {
     Ok(Tree::Constructed(0x30, members))
 }
 
-/// revokedCertificates SEQUENCE OF .. OPTIONAL: nothing where there are none
+/// revokedCertificates SEQUENCE OF .. OPTIONAL: nothing if there are none
 fn push_entries(
     alloc: Global,
     members: &mut Vec<Tree>,
@@ -61,7 +61,7 @@ fn scope_tree(alloc: Global, scope: ListScope) -> Result<Tree, NotationFault> {
     Ok(Tree::Constructed(0x30, vec![in alloc; flag]?))
 }
 
-/// crlExtensions [0] EXPLICIT: the number, and the critical issuingDistributionPoint where there is a scope
+/// crlExtensions [0] EXPLICIT: the number, and the critical issuingDistributionPoint if there is a scope
 fn list_extensions(alloc: Global, notation: &ListNotation<'_>) -> Result<Tree, NotationFault> {
     let mut all = Vec::new(alloc);
     let number = primitive(alloc, 0x02, &notation.number)?;
@@ -94,7 +94,7 @@ pub fn revocation_list_tree(alloc: Global, text: &str) -> Result<Tree, NotationF
     sign(alloc, signed, notation.signer)
 }
 
-/// The DER of the revocation list that the text asks for. `docs/REFERENCE.md` has the notation.
+/// The DER of the revocation list that the text asks for, in the notation at the head of this crate.
 pub fn revocation_list(alloc: Global, text: &str) -> Result<Vec<u8>, NotationFault> {
     let tree = revocation_list_tree(alloc, text)?;
     Ok(encode(alloc, &tree)?)

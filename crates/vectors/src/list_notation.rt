@@ -5,7 +5,7 @@ use crate::part::Part;
 use crate::parts::integer_contents;
 use std::alloc::Global;
 
-/// Which certificates of its issuer a list is about, where it isn't about all.
+/// Which certificates of its issuer a list is about, if it isn't about all.
 #[derive(Clone, Copy)]
 pub(crate) enum ListScope {
     User,
@@ -17,12 +17,12 @@ pub(crate) enum ListScope {
 pub(crate) struct ListEntry {
     /// The contents of userCertificate.
     pub serial: Vec<u8>,
-    /// The number in reasonCode, which stands where there is one.
+    /// The number in reasonCode, which stands if there is one.
     pub reason: Option<u32>,
 }
 
 impl ListEntry {
-    /// A serial number in hexadecimal, and behind a space a reason in decimal, where there is one.
+    /// A serial number in hexadecimal, and behind a space a reason in decimal, if there is one.
     fn read(alloc: Global, text: Part<'_>) -> Result<ListEntry, NotationFault> {
         match text.split_at_first(' ') {
             None => Ok(ListEntry {

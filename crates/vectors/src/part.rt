@@ -33,13 +33,13 @@ impl<'a> Part<'a> {
         Some((self.behind(0, before), self.behind(skipped, after)))
     }
 
-    /// The same, where there has to be one.
+    /// The same, if there has to be one.
     pub fn split_at_mark(self, mark: char) -> Result<(Part<'a>, Part<'a>), NotationFault> {
         self.split_at_first(mark)
             .ok_or(self.behind(self.text.len(), "").fault())
     }
 
-    /// What stands between each pair of such marks, where the text is nothing but such pairs, one after the other.
+    /// What stands between each pair of such marks, if the text is nothing but such pairs, one after the other.
     pub fn enclosed(
         self,
         alloc: Global,

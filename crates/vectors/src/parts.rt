@@ -49,7 +49,7 @@ fn rdn(alloc: Global, common_name: &str) -> Result<Tree, NotationFault> {
     Ok(Tree::Constructed(0x31, vec![in alloc; attribute]?))
 }
 
-/// The name with one RDN, or with none where the common name has no characters.
+/// The name with one RDN, or with none if the common name has no characters.
 pub fn name_tree(alloc: Global, common_name: &str) -> Result<Tree, NotationFault> {
     let mut rdns = Vec::new(alloc);
     if !common_name.is_empty() {
@@ -71,7 +71,7 @@ pub(crate) fn key_info_tree(alloc: Global, key: &str) -> Result<Tree, NotationFa
     Ok(Tree::Constructed(0x30, vec![in alloc; algorithm, bits]?))
 }
 
-/// The DER of the name that `name` stands for in a text: one RDN with one common name, or no RDN where the text is empty.
+/// The DER of the name that `name` stands for in a text: one RDN with one common name, or no RDN if the text is empty.
 pub fn name(alloc: Global, common_name: &str) -> Result<Vec<u8>, NotationFault> {
     let tree = name_tree(alloc, common_name)?;
     Ok(encode(alloc, &tree)?)

@@ -11,7 +11,7 @@ pub(crate) fn option_in<'a>(place: Part<'a>, braced: &'a str) -> Result<Part<'a>
     Ok(place.behind(1, inside))
 }
 
-/// The word of an option, and its value, which is empty where there is none.
+/// The word of an option, and its value, which is empty if there is none.
 pub(crate) fn word_and_value<'a>(option: Part<'a>) -> (Part<'a>, Part<'a>) {
     match option.split_at_first(' ') {
         None => (option, option.behind(option.text.len(), "")),

@@ -98,7 +98,7 @@ fn signed_part(alloc: Global, notation: &ResponseNotation<'_>) -> Result<Tree, N
     Ok(Tree::Constructed(0x30, vec![in alloc; responder, produced_at, responses]?))
 }
 
-/// certs [0] EXPLICIT SEQUENCE OF Certificate: nothing where there are none
+/// certs [0] EXPLICIT SEQUENCE OF Certificate: nothing if there are none
 fn push_certificates(
     alloc: Global,
     members: &mut Vec<Tree>,
@@ -134,8 +134,8 @@ fn basic_response(
     Ok(Tree::Constructed(0x30, members))
 }
 
-/// The DER of the response that the text asks for, with the certificates that these texts ask for in `certs`.
-/// `docs/REFERENCE.md` has the notation.
+/// The DER of the response that the text asks for, in the notation at the head of this crate, with the certificates that these texts ask
+/// for in `certs`.
 pub fn ocsp_response(
     alloc: Global,
     text: &str,

@@ -8,7 +8,7 @@ use vectors::{NotationFault, Part};
 #[derive(Clone, Copy)]
 pub(crate) enum Status {
     Good,
-    /// With the reason's number where one is given.
+    /// With the reason's number if one is given.
     Revoked(Option<u32>),
     Unknown,
 }

@@ -6,29 +6,29 @@
 //!
 //! 1. **Judge signatures.** The library has no cryptography of its own. Implement [`Verifier`] over a library that has: its `judge` is
 //!    asked whether a signature of a message is good under a key. [`ListVerifier`] is one that believes a list of fingerprints.
-//! 2. **Read.** Octets are DER. What is read borrows them; a refusal has a number, and an offset where one octet is at fault.
+//! 2. **Read.** Octets are DER. What is read borrows them. A refusal has a number, and an offset if a value in the octets is at fault.
 //!
 //!        let anchor = Certificate::read(alloc, anchor_octets)?;
 //!
-//! 3. **Validate a path** (RFC 5280, 6.1), if nothing else is wanted: from below the anchor down to the certificate that is asked about,
-//!    at a moment in seconds from 1970-01-01T00:00:00Z. The answer is [`Outcome::Good`], or the first certificate that fails and why.
+//! 3. **Validate a path** (RFC 5280, 6.1), if you need nothing else: from below the anchor down to the certificate in question, at a
+//!    moment in seconds from 1970-01-01T00:00:00Z. The answer is [`Outcome::Good`], or the first certificate that fails and why.
 //!
 //!        let outcome = validate(alloc, &verifier, &anchor, &path, moment, None)?;
 //!
 //! 4. **Hold statements.** A [`Store`] is a database, over files of the system ([`Store::open`], [`Store::make`]) or over a disk in memory.
 //!    It keeps the newest list of each issuer and scope, and the newest response for each certificate. A [`Node`] is a store with a
-//!    verifier: it takes what it is handed, in any order and however often, and believes what the issuer or its delegate signed.
+//!    verifier: it takes statements in any order and however often, and believes what the issuer or its delegate signed.
 //!
 //!        let mut node = Node::new(verifier, store);
 //!        let counts = node.deliver(alloc, issuer_octets, list_octets)?;
 //!
-//! 5. **Ask for a verdict** ([`Verdict`]): the path's first, then whether a current statement speaks of each certificate, and whether
-//!    one revokes it. The store survives a restart, and a crash leaves each delivery whole or absent.
+//! 5. **Ask for a verdict** ([`Verdict`]): is the path valid, does a current statement speak of each certificate, and does one revoke
+//!    it? The store survives a restart, and a crash leaves each delivery whole or absent.
 //!
 //!        let query = Query::read(alloc, anchor_octets, &path_octets, moment, purpose)?;
 //!        let verdict = node.verdict(alloc, &query)?;
 //!
-//!    A program that keeps no store hands over its statements each time: `at_hand::verdict` answers what a party would that began with
+//!    A program that keeps no store hands over its statements each time. `at_hand::verdict` answers what a party would that began with
 //!    nothing and was delivered all of them.
 //!
 //!        let question = at_hand::Question { anchor: &anchor, path: &path, moment, purpose };
@@ -37,7 +37,7 @@
 //! 6. **Compare two parties** ([`compare`]). If both judge signatures alike and hold the same newest statements for the path, their
 //!    verdicts are equal, however the statements came: [`node_laws`] says so of the calls above.
 //!
-//! Calls that take memory say so in their errors, and no call stops the process. What else a part has to say stands in the modules.
+//! Calls that take memory say so in their errors, and no call stops the process. The modules have the parts.
 #![tactic(auto)]
 
 // ---- reading (RFC 5280, 4)
@@ -130,7 +130,7 @@ pub mod at_hand {
     pub use relying_texts::{Question, delivery_laws, verdict};
 }
 
-/// What a store holds, and how it is moved, taken over and looked up.
+/// What a store holds, and how a connection is taken for a store and looked up.
 pub mod stores {
     pub use store::{adopt, look_up_crl, look_up_ocsp, take_over};
     pub use store_maps::HeldCrl;

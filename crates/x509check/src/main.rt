@@ -6,7 +6,7 @@ use std::io::Write;
 use std::process::ExitCode;
 use std::{env, io};
 
-// The exit status where no run could begin.
+// The exit status if no run could begin.
 const NO_RUN: u8 = 6;
 
 fn main(rt: HostRuntime) -> ExitCode {

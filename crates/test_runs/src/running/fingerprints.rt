@@ -4,7 +4,7 @@ use super::*;
 use cert::Certificate;
 use path_verifiers::{ListVerifier, Verifier};
 
-/// `ca(R,R)`, in the notation of docs/REFERENCE.md.
+/// `ca(R,R)`, in the notation of `vectors`.
 pub(crate) const ROOT: &str = "\
 308196306ba003020102020105300406022a03300c310a30080603550403130152301e170d323530313031303030303030\
 5a170d3236303130313030303030305a300c310a30080603550403130152300a300406022a0303020052a3133011300f06\
