@@ -301,7 +301,12 @@ const RULES: &[(CertRule, u8, &str, &str)] = &[
         "Serial",
         "fault 25: serial number of no octets or of more than 32",
     ),
-    (CertRule::Time, 26, "Time", "fault 26: time that does not exist"),
+    (
+        CertRule::Time,
+        26,
+        "Time",
+        "fault 26: time that does not exist",
+    ),
     (
         CertRule::EmptyIssuer,
         27,
