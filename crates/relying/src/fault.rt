@@ -31,7 +31,7 @@ pub enum RunFault<V: Verifier, D: Disk> {
 }
 
 impl<V: Verifier, D: Disk> fmt::Display for RunFault<V, D> {
-    fn fmt(&self, f: &mut fmt::Formatter<'_>) -> fmt::Result {
+    fn fmt<W: fmt::Write>(&self, f: &mut fmt::Formatter<W>) -> fmt::Result {
         match self {
             RunFault::NoRoom(_) => write!(f, "no memory for the answers"),
             RunFault::Restart(done, fault) => write!(f, "restart behind {done} events: {fault}"),

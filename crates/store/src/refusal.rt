@@ -17,7 +17,7 @@ pub struct Refused<D: Disk> {
 }
 
 impl<D: Disk> fmt::Display for Refused<D> {
-    fn fmt(&self, f: &mut fmt::Formatter<'_>) -> fmt::Result {
+    fn fmt<W: fmt::Write>(&self, f: &mut fmt::Formatter<W>) -> fmt::Result {
         write!(f, "the database is not taken for a store: {}", self.fault)
     }
 }
@@ -34,7 +34,7 @@ pub enum ReopenFault<D: Disk> {
 }
 
 impl<D: Disk> fmt::Display for ReopenFault<D> {
-    fn fmt(&self, f: &mut fmt::Formatter<'_>) -> fmt::Result {
+    fn fmt<W: fmt::Write>(&self, f: &mut fmt::Formatter<W>) -> fmt::Result {
         match self {
             ReopenFault::Close(fault, _) => write!(f, "the store cannot be closed: {fault}"),
             ReopenFault::Open(fault, _) => write!(f, "the store cannot be opened again: {fault}"),
@@ -53,7 +53,7 @@ pub enum OpenFault {
 }
 
 impl fmt::Display for OpenFault {
-    fn fmt(&self, f: &mut fmt::Formatter<'_>) -> fmt::Result {
+    fn fmt<W: fmt::Write>(&self, f: &mut fmt::Formatter<W>) -> fmt::Result {
         match self {
             OpenFault::Unconnected(fault) => write!(f, "there is no database at the path: {fault}"),
             OpenFault::Refused(refused) => write!(f, "{refused}"),
