@@ -1,5 +1,5 @@
 -- What a delivery to the store at a path answers, and why it fails.
-use Rattle.std.specs.Prelude.{◌≡◌, ◌⊎◌, ℕ, List, Some, Result, Ok, Err}
+use Rattle.std.specs.Prelude.{◌≡◌, ◌⊎◌, ℕ, List, Some, Result, Ok}
 use Rattle.cert.specs.Certificate.{Certificate}
 use Rattle.statements_facts.specs.Coming.{after_all, AreCounts}
 use Rattle.statements_facts.specs.Fact.{Fact}
@@ -10,9 +10,8 @@ use Rattle.cli_answers.specs.AnswerText.{counts_line}
 use Rattle.path.specs.Query.{Accepts}
 use Rattle.statements_parts.specs.declared.fault.StatementFault.{StatementFault}
 use Rattle.statements.specs.OcspFact.{genuine_statement}
-use Rattle.cli_failures.specs.Failures.{Holding, HoldsCertificate, IsNoCertificate, IsUnread}
+use Rattle.cli_failures.specs.Failures.{Holding, HoldsCertificate, IsDenied, IsNoCertificate, IsUnread}
 use Rattle.cli_failures.specs.declared.failure.Failure.{Failure}
-use Rattle.cli_failures.specs.declared.failure.Failure.TheVariants.{NotGenuine, NoMemory}
 use Rattle.cli_operands.specs.InOrder.{FailsFirst}
 use Rattle.cli_operands.specs.Question.{AcceptsJust, HoldsFingerprints, IsFailureOnFingerprints}
 use Rattle.cli.specs.Standing.{IsFound, IsIntact, IsNotMade, IsUnanswered, Leaving, Seen, Standing}
@@ -65,11 +64,6 @@ IsDeliveredText holds stands leaves words text =
     (counts : Counts) × IsDelivered holds stands leaves words counts × (text ≡ counts_line counts)
 
 -- ---- what is refused
-
--- what is said is that the statement is refused for this fault
-abbrev pub IsDenied : Result (List Fact) StatementFault → List ℕ → Failure → Type 0
-IsDenied said file (NotGenuine named fault) = (named.now ≡ file) × (said ≡ Err fault)
-IsDenied said file failure = failure ≡ NoMemory
 
 -- no store was opened or made, or it did not answer
 abbrev pub IsNotTaken : Standing → Leaving → List ℕ → Failure → Type 0

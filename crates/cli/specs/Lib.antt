@@ -3,9 +3,9 @@ pub mod Believed
 pub mod Asked
 pub mod Delivered
 pub mod Checked
-pub mod Status
 pub mod Outcome
 pub mod Ended
+pub use Rattle.cli_answers.specs.Status
 pub use Rattle.cli_failures.specs.Report
 pub use Rattle.cli_failures.specs.Failures
 pub use Rattle.cli_showing.specs.Shown

@@ -17,7 +17,7 @@ use Rattle.cli_failures.specs.declared.failure.Failure.TheVariants.{BadTopic, No
 use Rattle.cli.specs.Delivered.{IsDeliveredText, IsFailureOfDelivery, WasDelivered}
 use Rattle.cli.specs.Checked.{IsCompared, IsFailureOfCheck, IsFailureOfComparison, IsChecked, WasChecked, WereCompared}
 use Rattle.cli.specs.Standing.{Leaving, Standing}
-use Rattle.cli.specs.Status.{comparison_status, verdict_status}
+use Rattle.cli_answers.specs.Status.{comparison_status, verdict_status}
 use Rattle.cli_showing.specs.Shown.{ArePrintsUnder, HoldUnder, HoldsKind, HoldsValue, IsFailureOfPrints, IsNotShown, IsShownText, IsTreeText}
 
 -- ---- answers

@@ -1,5 +1,5 @@
 //! Deliveries.
-ghost use Rattle.std.specs.Prelude.{◌≡◌, IfErr, IfOk, Ok, OnOk};
+ghost use Rattle.std.specs.Prelude.{◌≡◌, IfErr, IfOk, OnOk};
 ghost use Rattle.relying.specs.View.{stored};
 ghost use Rattle.cert.specs.Certificate.{seen_certificate};
 ghost use Rattle.statements.specs.OcspFact.{genuine_statement};
@@ -7,21 +7,19 @@ ghost use Rattle.statements_facts.specs.Fact.{facts_in};
 ghost use Rattle.cli_failures.specs.Failures.{OrUnwritable};
 ghost use Rattle.cli_failures.specs.Report.{UnlessLate, Writes};
 ghost use Rattle.cli.specs.Believed.{accepted_by};
-ghost use Rattle.cli.specs.Delivered.{HasTaken, IsDelivered, IsDeliveredFor, IsDeliveredText, IsDeliveredUnder, IsDenied, IsFailureFor, IsFailureOfDelivery, IsFailureUnder, IsNotTaken, IsNotTakenOf, IsTakenAt, IsTakenOf, WasDelivered};
+ghost use Rattle.cli.specs.Delivered.{HasTaken, IsDelivered, IsDeliveredFor, IsDeliveredText, IsDeliveredUnder, IsFailureFor, IsFailureOfDelivery, IsFailureUnder, IsNotTaken, IsNotTakenOf, IsTakenAt, IsTakenOf, WasDelivered};
 ghost use Rattle.cli.specs.Standing.{IsNoAnswer, seen_of};
 
 use crate::sharing::Shared;
 use crate::stores::{Stores, failed};
 use cert::Certificate;
 use cli_answers::counts_to;
-use cli_failures::{Failure, Source, read_certificate};
+use cli_failures::{Failure, Source, read_certificate, read_facts};
 use cli_operands::read_fingerprints;
 use path_verifiers::{ListVerifier, Verifier};
 use relying::Node;
 use sqlite_std_file::File;
-use statements::genuine;
 use statements_facts::{Counts, Facts};
-use statements_parts::StatementFault;
 use std::alloc::Global;
 use std::io::Write;
 
@@ -36,26 +34,6 @@ pub struct Delivery<'a> {
     pub issuer: &'a str,
     /// The file of the statement.
     pub file: &'a str,
-}
-
-// What the statement in the file says, if it is one of the issuer.
-fn read_facts<'a, 'x, V: Verifier>(
-    alloc: Global,
-    verifier: &V,
-    issuer: &Certificate<'x>,
-    file: &'a str,
-    statement: &'x [u8],
-) -> Result<Facts<'x>, Failure<'a>>
-    ensures says { IfOk result (λ facts. genuine_statement (V.accepts verifier.now)
-        (seen_certificate issuer.now) statement.now ≡ Ok (facts_in facts)) }
-    ensures denied { IfErr result (IsDenied (genuine_statement (V.accepts verifier.now)
-        (seen_certificate issuer.now) statement.now) file.entry.now) }
-{
-    match genuine(alloc, verifier, issuer, statement) {
-        Ok(facts) => Ok(facts),
-        Err(StatementFault::Memory) => Err(Failure::NoMemory),
-        Err(fault) => Err(Failure::NotGenuine { file, fault }),
-    }
 }
 
 // The party takes the facts, and its store is closed.

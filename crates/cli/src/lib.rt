@@ -9,14 +9,13 @@ mod delivering;
 mod execution;
 mod explanation;
 mod sharing;
-mod status;
 mod stores;
 
 pub use checking::check;
+pub use cli_answers::{comparison_status, verdict_status};
 pub use cli_failures::{Failure, Source};
 pub use comparing::compare;
 pub use delivering::{Delivery, deliver};
 pub use execution::{Ended, execute, executed};
 pub use explanation::explain;
-pub use status::{comparison_status, verdict_status};
 pub use stores::Stores;

@@ -1,8 +1,10 @@
-//! Answers as lines: what became of a delivery, a verdict, and a comparison of two.
+//! Answers as lines: what became of a delivery, a verdict, and a comparison of two; and the statuses of verdicts.
 #![tactic(auto)]
 
 mod counted;
+mod status;
 mod verdict_lines;
 
 pub use counted::counts_to;
+pub use status::{comparison_status, verdict_status};
 pub use verdict_lines::{comparison_to, verdict_to};

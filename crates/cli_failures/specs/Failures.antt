@@ -1,11 +1,13 @@
 -- What is found in files, and what a failure says of the file that it is about.
-use Rattle.std.specs.Prelude.{◌≡◌, ◌⊎◌, ℕ, List, Option, Some, None, Ok, Err}
+use Rattle.std.specs.Prelude.{◌≡◌, ◌⊎◌, ℕ, List, Option, Some, None, Result, Ok, Err}
 use Rattle.asn.specs.FirstFault.{IsFirstFault}
 use Rattle.cert.specs.Certificate.{Certificate, certificate}
+use Rattle.statements_facts.specs.Fact.{Fact}
+use Rattle.statements_parts.specs.declared.fault.StatementFault.{StatementFault}
 use Rattle.statements_crl.specs.CertificateList.{CertificateList, certificate_list}
 use Rattle.statements_ocsp.specs.OcspResponse.{OcspResponse, ocsp_response}
 use Rattle.cli_failures.specs.declared.failure.Failure.{Failure}
-use Rattle.cli_failures.specs.declared.failure.Failure.TheVariants.{Refused, NoCertificate, NoRevocationList, NoResponse, Unreadable, Unwritable, NoMemory}
+use Rattle.cli_failures.specs.declared.failure.Failure.TheVariants.{Refused, NoCertificate, NoRevocationList, NoResponse, NotGenuine, Unreadable, Unwritable, NoMemory}
 
 -- What is found where files are read: a relation of their names and of what is there, the octets that the file holds, or none where it
 -- cannot be read.
@@ -63,6 +65,11 @@ IsNoResponse holds file (NoResponse named rule at) =
     (named.now ≡ file)
     × ((octets : List ℕ) × holds file (Some octets) × (ocsp_response octets ≡ Err (rule, at)))
 IsNoResponse holds file failure = IsUnread holds file failure
+
+-- what is said is that the statement is refused for this fault
+abbrev pub IsDenied : Result (List Fact) StatementFault → List ℕ → Failure → Type 0
+IsDenied said file (NotGenuine named fault) = (named.now ≡ file) × (said ≡ Err fault)
+IsDenied said file failure = failure ≡ NoMemory
 
 -- or what is asked for was found, and standard output failed
 abbrev pub OrUnwritable : (Failure → Type 0) → Type 0 → Failure → Type 0

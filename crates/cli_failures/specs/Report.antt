@@ -19,10 +19,10 @@ abbrev pub place_text : Option ℕ → List ℕ
 place_text (Some at) = codes " at " ++ decimal at
 place_text None = []
 
--- `x509check: FILE: refused N NAME at PLACE`
+-- `FILE: refused N NAME at PLACE`
 abbrev pub refusal_line : List ℕ → ℕ → List ℕ → Option ℕ → List ℕ
 refusal_line file number name place =
-    codes "x509check: " ++ file ++ codes ": refused " ++ decimal number ++ codes " " ++ name
+    file ++ codes ": refused " ++ decimal number ++ codes " " ++ name
     ++ place_text place ++ codes "\n"
 
 -- the number and the name of a rule of certificates; where octets are not DER, those of the rule of DER
@@ -47,7 +47,7 @@ unfoldable pub unsuccessful_words : ℕ → List ℕ
 unsuccessful_words code = codes ": refused 55 NotSuccessful " ++ decimal code ++ codes "\n"
 
 abbrev pub unsuccessful_line : List ℕ → ℕ → List ℕ
-unsuccessful_line file code = (codes "x509check: " ++ file) ++ unsuccessful_words code
+unsuccessful_line file code = file ++ unsuccessful_words code
 
 -- of a response that is not successful its status, with no place; else the refusal's line
 abbrev pub response_line : List ℕ → StatementRule → ℕ → List ℕ
@@ -62,36 +62,41 @@ statement_line file fault =
     refusal_line file (statement_fault_number fault) (statement_fault_name fault)
     (statement_fault_place fault)
 
--- `x509check: FILE: line N`
+-- `FILE: line N`
 unfoldable pub line_words : ℕ → List ℕ
 line_words line = codes ": line " ++ decimal line ++ codes "\n"
 
 abbrev pub bad_line : List ℕ → ℕ → List ℕ
-bad_line file line = (codes "x509check: " ++ file) ++ line_words line
+bad_line file line = file ++ line_words line
 
 abbrev pub unreadable_line : List ℕ → List ℕ
-unreadable_line file = codes "x509check: cannot read " ++ file ++ codes "\n"
+unreadable_line file = codes "cannot read " ++ file ++ codes "\n"
 
 abbrev pub store_fault_line : ℕ → List ℕ
-store_fault_line number = codes "x509check: store fault " ++ decimal number ++ codes "\n"
+store_fault_line number = codes "store fault " ++ decimal number ++ codes "\n"
 
-abbrev pub report_line : Failure → List ℕ
-report_line (Refused file fault) =
+-- what failed, in a line
+abbrev pub told_line : Failure → List ℕ
+told_line (Refused file fault) =
     refusal_line file.now (fault_number fault) (fault_name fault) (fault_place fault)
-report_line (NoCertificate file rule at) =
+told_line (NoCertificate file rule at) =
     refusal_line file.now (printed_number rule) (printed_name rule) (Some at)
-report_line (NoRevocationList file rule at) =
+told_line (NoRevocationList file rule at) =
     refusal_line file.now (printed_statement_number rule) (printed_statement_name rule) (Some at)
-report_line (NoResponse file rule at) = response_line file.now rule at
-report_line (NotGenuine file fault) = statement_line file.now fault
-report_line (BadLine file line) = bad_line file.now line
-report_line BadTime = codes "x509check: bad time\n"
-report_line BadPurpose = codes "x509check: bad purpose\n"
-report_line BadTopic = codes "x509check: bad topic\n"
-report_line (Unreadable file) = unreadable_line file.now
-report_line Unwritable = codes "x509check: cannot write\n"
-report_line (StoreFailed number) = store_fault_line number
-report_line NoMemory = codes "x509check: no memory\n"
+told_line (NoResponse file rule at) = response_line file.now rule at
+told_line (NotGenuine file fault) = statement_line file.now fault
+told_line (BadLine file line) = bad_line file.now line
+told_line BadTime = codes "bad time\n"
+told_line BadPurpose = codes "bad purpose\n"
+told_line BadTopic = codes "bad topic\n"
+told_line (Unreadable file) = unreadable_line file.now
+told_line Unwritable = codes "cannot write\n"
+told_line (StoreFailed number) = store_fault_line number
+told_line NoMemory = codes "no memory\n"
+
+-- the same behind the name of the program
+abbrev pub report_line : Failure → List ℕ
+report_line failure = codes "x509check: " ++ told_line failure
 
 -- 4 for input that is refused, 5 for words, 6 for a file, a store or a writer that failed and for want of memory
 abbrev pub status_of : Failure → ℕ

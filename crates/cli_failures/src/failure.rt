@@ -1,7 +1,7 @@
 //! Why a run failed: the line on standard error and the exit status.
 ghost use Rattle.std.specs.Prelude.{◌≡◌, OnOk};
 ghost use Rattle.std.specs.Io.KnownBytes.{Appends};
-ghost use Rattle.cli_failures.specs.Report.{bad_line, line_words, place_text, printed_name, printed_number, printed_statement_name, printed_statement_number, refusal_line, report_line, response_line, statement_line, status_of, store_fault_line, unreadable_line, unsuccessful_line, unsuccessful_words};
+ghost use Rattle.cli_failures.specs.Report.{bad_line, line_words, place_text, printed_name, printed_number, printed_statement_name, printed_statement_number, refusal_line, report_line, response_line, statement_line, status_of, store_fault_line, told_line, unreadable_line, unsuccessful_line, unsuccessful_words};
 
 use asn::Fault;
 use cert::CertRule;
@@ -86,7 +86,7 @@ fn write_refusal<W: Write>(
     ensures { OnOk result (Appends (W.contents writer.old) (W.contents writer.new)
         (refusal_line file.now number name.now place)) }
 {
-    write!(writer, "x509check: {file}: refused {number} {name}")?;
+    write!(writer, "{file}: refused {number} {name}")?;
     write_place(place, writer)?;
     writer.write_all(b"\n")
 }
@@ -142,7 +142,7 @@ fn write_unsuccessful<W: Write>(file: &str, code: u8, writer: &mut W) -> io::Res
     ensures { OnOk result (Appends (W.contents writer.old) (W.contents writer.new)
         (unsuccessful_line file.now code)) }
 {
-    write!(writer, "x509check: {file}")?;
+    write!(writer, "{file}")?;
     write_unsuccessful_words(code, writer)
 }
 
@@ -191,7 +191,7 @@ fn write_bad_line<W: Write>(file: &str, line: usize, writer: &mut W) -> io::Resu
     ensures { OnOk result (Appends (W.contents writer.old) (W.contents writer.new)
         (bad_line file.now line)) }
 {
-    write!(writer, "x509check: {file}")?;
+    write!(writer, "{file}")?;
     write_line_number(line, writer)
 }
 
@@ -199,14 +199,14 @@ fn write_unreadable<W: Write>(file: &str, writer: &mut W) -> io::Result<()>
     ensures { OnOk result (Appends (W.contents writer.old) (W.contents writer.new)
         (unreadable_line file.now)) }
 {
-    writeln!(writer, "x509check: cannot read {file}")
+    writeln!(writer, "cannot read {file}")
 }
 
 fn write_store_failed<W: Write>(number: u8, writer: &mut W) -> io::Result<()>
     ensures { OnOk result (Appends (W.contents writer.old) (W.contents writer.new)
         (store_fault_line number)) }
 {
-    writeln!(writer, "x509check: store fault {number}")
+    writeln!(writer, "store fault {number}")
 }
 
 fn write_text<W: Write>(text: &str, writer: &mut W) -> io::Result<()>
@@ -235,10 +235,19 @@ impl<'a> Failure<'a> {
         }
     }
 
-    /// Writes the line that says so.
+    /// Writes the line that says so, behind the program's name.
     pub fn report<W: Write>(&self, writer: &mut W) -> io::Result<()>
         ensures { OnOk result (Appends (W.contents writer.old) (W.contents writer.new)
             (report_line self.now)) }
+    {
+        write_text("x509check: ", writer)?;
+        self.tell(writer)
+    }
+
+    /// Writes the line that says so. It takes no memory.
+    pub fn tell<W: Write>(&self, writer: &mut W) -> io::Result<()>
+        ensures { OnOk result (Appends (W.contents writer.old) (W.contents writer.new)
+            (told_line self.now)) }
     {
         match self {
             Failure::Refused { file, fault } => {
@@ -261,13 +270,13 @@ impl<'a> Failure<'a> {
             Failure::NoResponse { file, rule, at } => write_no_response(file, *rule, *at, writer),
             Failure::NotGenuine { file, fault } => write_not_genuine(file, *fault, writer),
             Failure::BadLine { file, line } => write_bad_line(file, *line, writer),
-            Failure::BadTime => write_text("x509check: bad time\n", writer),
-            Failure::BadPurpose => write_text("x509check: bad purpose\n", writer),
-            Failure::BadTopic => write_text("x509check: bad topic\n", writer),
+            Failure::BadTime => write_text("bad time\n", writer),
+            Failure::BadPurpose => write_text("bad purpose\n", writer),
+            Failure::BadTopic => write_text("bad topic\n", writer),
             Failure::Unreadable { file } => write_unreadable(file, writer),
-            Failure::Unwritable => write_text("x509check: cannot write\n", writer),
+            Failure::Unwritable => write_text("cannot write\n", writer),
             Failure::StoreFailed { number } => write_store_failed(*number, writer),
-            Failure::NoMemory => write_text("x509check: no memory\n", writer),
+            Failure::NoMemory => write_text("no memory\n", writer),
         }
     }
 }

@@ -3,11 +3,16 @@ ghost use Rattle.std.specs.Prelude.{◌≡◌, Ok, IfErr, IfOk};
 ghost use Rattle.cert.specs.Certificate.{certificate, seen_certificate};
 ghost use Rattle.statements_crl.specs.CertificateList.{certificate_list, seen_list};
 ghost use Rattle.statements_ocsp.specs.OcspResponse.{ocsp_response, seen_response};
-ghost use Rattle.cli_failures.specs.Failures.{IsJust, IsNoCertificate, IsNoList, IsNoResponse, IsUnread};
+ghost use Rattle.statements.specs.OcspFact.{genuine_statement};
+ghost use Rattle.statements_facts.specs.Fact.{facts_in};
+ghost use Rattle.cli_failures.specs.Failures.{IsDenied, IsJust, IsNoCertificate, IsNoList, IsNoResponse, IsUnread};
 
 use crate::failure::Failure;
 use cert::{CertFault, Certificate};
+use path_verifiers::Verifier;
+use statements::genuine;
 use statements_crl::Crl;
+use statements_facts::Facts;
 use statements_ocsp::Response;
 use statements_parts::StatementFault;
 use std::alloc::Global;
@@ -101,5 +106,25 @@ pub fn read_response<'a, 'o>(
             | StatementFault::NoSigner
             | StatementFault::NothingForIssuer,
         ) => unreachable!(),
+    }
+}
+
+/// What the statement in the file says, if it is one of the issuer.
+pub fn read_facts<'a, 'x, V: Verifier>(
+    alloc: Global,
+    verifier: &V,
+    issuer: &Certificate<'x>,
+    file: &'a str,
+    statement: &'x [u8],
+) -> Result<Facts<'x>, Failure<'a>>
+    ensures says { IfOk result (λ facts. genuine_statement (V.accepts verifier.now)
+        (seen_certificate issuer.now) statement.now ≡ Ok (facts_in facts)) }
+    ensures denied { IfErr result (IsDenied (genuine_statement (V.accepts verifier.now)
+        (seen_certificate issuer.now) statement.now) file.entry.now) }
+{
+    match genuine(alloc, verifier, issuer, statement) {
+        Ok(facts) => Ok(facts),
+        Err(StatementFault::Memory) => Err(Failure::NoMemory),
+        Err(fault) => Err(Failure::NotGenuine { file, fault }),
     }
 }

@@ -5,4 +5,4 @@ mod failure;
 mod files;
 
 pub use failure::Failure;
-pub use files::{Source, read_certificate, read_list, read_response};
+pub use files::{Source, read_certificate, read_facts, read_list, read_response};

@@ -1,6 +1,6 @@
 //! Exit statuses of verdicts.
 ghost use Rattle.std.specs.Prelude.{◌≡◌};
-ghost use Rattle.cli.specs.Status.{comparison_status, verdict_status};
+ghost use Rattle.cli_answers.specs.Status.{comparison_status, verdict_status};
 
 use relying_agreement::{Comparison, Verdict};
 

@@ -1,0 +1,54 @@
+-- What a call makes of what a keeper holds.
+use Rattle.std.specs.Prelude.{◌≢◌, List, [], ◌∷◌, Result, Ok, Err}
+use Rattle.std.specs.Option.{option_copied}
+use Rattle.path.specs.Query.{Accepts, Query}
+use Rattle.path.specs.State.{query_of}
+use Rattle.relying_agreement.specs.Verdict.{IsVerdict}
+use Rattle.relying_agreement.specs.declared.verdict.Verdict.{Verdict}
+use Rattle.statements_facts.specs.Coming.{AreCounts, after_all}
+use Rattle.statements_facts.specs.Fact.{Fact}
+use Rattle.statements_facts.specs.Statement.{Holdings}
+use Rattle.statements_facts.specs.declared.counts.Counts.{Counts}
+use Rattle.cli_keeping.specs.declared.asked.Asked.{Asked}
+use Rattle.cli_keeping.specs.declared.fault.KeeperFault.{KeeperFault}
+use Rattle.cli_keeping.specs.declared.fault.KeeperFault.TheVariants.{NoKeeper}
+
+-- the question that is asked
+abbrev pub seen_asked : Asked → Query
+seen_asked asked = query_of asked.anchor asked.path.items asked.moment (option_copied asked.purpose)
+
+-- What is kept: what is held, and what may be found behind a crash at this moment, which is one of these.
+pub record Kept : Type 0 where
+  pub held : Holdings
+  pub left : List Holdings
+
+-- what a keeper keeps: a relation
+abbrev pub Keeping : Type 1
+Keeping = Kept → Type 0
+
+-- the facts were taken in order, and are there behind a crash
+abbrev pub taking : List Fact → Kept → Kept
+taking facts kept =
+    record { held = after_all kept.held facts; left = after_all kept.held facts ∷ [] }
+
+-- they were not taken; a crash may leave them all the same
+abbrev pub trying : List Fact → Kept → Kept
+trying facts kept = record { held = kept.held; left = after_all kept.held facts ∷ kept.left }
+
+-- what was kept is kept
+abbrev pub Keeps : Keeping → Keeping → Type 0
+Keeps old new = (kept : Kept) → old kept → new kept
+
+-- all facts were taken, and counted so; or none was, and the fault is not that there is no keeper
+abbrev pub Takes : Keeping → Keeping → List Fact → Result Counts KeeperFault → Type 0
+Takes old new facts (Ok counts) =
+    (kept : Kept) → old kept → new (taking facts kept) × AreCounts kept.held facts counts
+Takes old new facts (Err fault) =
+    (kept : Kept) → old kept → new (trying facts kept) × (fault ≢ NoKeeper)
+
+-- the verdict by what is held, and nothing changed
+abbrev pub Finds : Keeping → Keeping → Accepts → Query → Result Verdict KeeperFault → Type 0
+Finds old new accepts query (Ok verdict) =
+    (kept : Kept) → old kept → new kept × IsVerdict accepts query kept.held verdict
+Finds old new accepts query (Err fault) =
+    (kept : Kept) → old kept → new kept × (fault ≢ NoKeeper)

@@ -1,0 +1,16 @@
+//! Why a keeper does not answer.
+
+use thiserror::Error;
+
+/// Why a keeper does not answer.
+#[derive(Clone, Copy, Debug, PartialEq, Eq, Error)]
+pub enum KeeperFault {
+    /// It refused, for another cause than memory.
+    #[error("the store refused")]
+    Refused,
+    /// It is none: what is there has not the form of what a keeper keeps.
+    #[error("no store")]
+    NoKeeper,
+    #[error("no memory")]
+    Memory,
+}

@@ -1,0 +1,2 @@
+mod Composing
+mod Lines

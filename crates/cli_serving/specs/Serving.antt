@@ -1,0 +1,183 @@
+-- What a session reads and writes, and what becomes of its party.
+use Rattle.std.specs.Prelude.{◌≡◌, ◌⊎◌, ◌<◌, ◌≤◌, ◌^◌, ◌==◌, ℕ, Bool, true, false, List, [], ◌∷◌, ◌++◌, length, Option, Some, None}
+use Rattle.std.specs.List.{AllByRecursion, flat_map}
+use Rattle.std.specs.Io.KnownBytes.{Appends, Consumes, IsAtEnd}
+use Rattle.cli_failures.specs.Failures.{Holding}
+use Rattle.cli_failures.specs.declared.failure.Failure.TheVariants.{NoMemory, StoreFailed}
+use Rattle.cli_lines.specs.Lines.{GivesLine}
+use Rattle.cli_requests.specs.Requests.{Request, request_on}
+use Rattle.cli_steps.specs.AnswerText.{answer_text, failed_text}
+use Rattle.cli_steps.specs.State.{State}
+use Rattle.cli_steps.specs.Steps.{IsStep}
+use Rattle.cli_steps.specs.declared.answer.Answer.{Answer}
+use Rattle.cli_steps.specs.declared.answer.Answer.TheVariants.{BadLine, Ends, Failed, LongLine}
+use Rattle.cli_serving.specs.declared.ending.End.{End}
+use Rattle.cli_serving.specs.declared.ending.End.TheVariants as ended
+
+-- ---- one line
+
+-- a request does its step; a line that is none changes nothing
+abbrev pub IsAnswerOf : Holding → Option Request → State → State → Answer → Type 0
+IsAnswerOf holds (Some request) old new answer = IsStep holds request old new answer
+IsAnswerOf holds None old new answer = (answer ≡ BadLine) × (new ≡ old)
+
+-- memory ran out, and nothing changed
+abbrev pub RunsOut : State → State → Answer → Type 0
+RunsOut old new answer = (answer ≡ Failed NoMemory) × (new ≡ old)
+
+-- a line of at most 2^20 octets
+abbrev pub IsAnswerWithin : Holding → List ℕ → State → State → Answer → Type 0
+IsAnswerWithin holds line old new answer =
+    IsAnswerOf holds (request_on line) old new answer ⊎ RunsOut old new answer
+
+-- What a line, without its line feed, makes of the party, and its answer.
+abbrev pub IsAnswerTo : Holding → List ℕ → State → State → Answer → Type 0
+IsAnswerTo holds line old new answer =
+    ((length line ≤ 2 ^ 20) × IsAnswerWithin holds line old new answer)
+    ⊎ ((2 ^ 20 < length line) × (answer ≡ LongLine) × (new ≡ old))
+
+-- ---- lines, one after the other
+
+-- the source gave these lines
+abbrev pub GivesLines : Option (List ℕ) → Option (List ℕ) → List (List ℕ) → Type 0
+GivesLines old new [] = new ≡ old
+GivesLines old new (line ∷ lines) =
+    (middle : Option (List ℕ)) × GivesLine old middle line × GivesLines middle new lines
+
+-- each line has its answer, in order, and what one leaves the next finds
+abbrev pub AreAnswersTo : Holding → List (List ℕ) → List Answer → State → State → Type 0
+AreAnswersTo holds [] [] start now = now ≡ start
+AreAnswersTo holds [] (answer ∷ answers) start now = ⊥
+AreAnswersTo holds (line ∷ lines) [] start now = ⊥
+AreAnswersTo holds (line ∷ lines) (answer ∷ answers) start now =
+    (next : State) × IsAnswerTo holds line start next answer × AreAnswersTo holds lines answers next now
+
+-- how they are written
+abbrev pub text_of : List Answer → List ℕ
+text_of answers = flat_map answer_text answers
+
+-- ---- what comes behind an answer
+
+-- whether a session ends with the answer
+abbrev pub is_end : Answer → Bool
+is_end Ends = true
+is_end answer = false
+
+-- whether the keeper of the statements refused
+abbrev pub is_refusal : Answer → Bool
+is_refusal (Failed (StoreFailed number)) = number == 71
+is_refusal answer = false
+
+-- the session goes on after these answers
+abbrev pub GoOn : List Answer → Type 0
+GoOn answers = AllByRecursion (λ answer. is_end answer ≡ false) answers
+
+-- What is known of a party: that relations hold between what it believed and held before, and what it believes and holds now.
+abbrev pub Known : Type 1
+Known = (State → State → Type 0) → Type 0
+
+-- nothing changed
+abbrev pub IsSame : State → State → Type 0
+IsSame old new = new ≡ old
+
+-- ---- sessions
+
+-- Lines were read and answered, and the session goes on.
+pub record HasServed (holds : Holding) (input source output written : Option (List ℕ)) (Knows : Known) : Type 0 where
+  pub lines : List (List ℕ)
+  pub answers : List Answer
+  pub read : GivesLines input source lines
+  pub said : Appends output written (text_of answers)
+  pub go_on : GoOn answers
+  pub known : Knows (λ old new. AreAnswersTo holds lines answers old new)
+
+-- The same, with a last line and its answer, of which this is so.
+pub record HasServedLast (holds : Holding) (input source : Option (List ℕ)) (Knows : Known) (Is : List Answer → Answer → Type 0) : Type 0 where
+  pub lines : List (List ℕ)
+  pub line : List ℕ
+  pub answers : List Answer
+  pub answer : Answer
+  pub read : GivesLines input source (lines ++ line ∷ [])
+  pub go_on : GoOn answers
+  pub last : Is answers answer
+  pub known : Knows (λ old new. AreAnswersTo holds (lines ++ line ∷ []) (answers ++ answer ∷ []) old new)
+
+-- all answers were written, and the last ends the session
+abbrev pub SaysEnd : Option (List ℕ) → Option (List ℕ) → List Answer → Answer → Type 0
+SaysEnd output written answers answer =
+    (is_end answer ≡ true) × Appends output written (text_of (answers ++ answer ∷ []))
+
+-- all but the last were written
+abbrev pub SaysAllButLast : Option (List ℕ) → List Answer → Answer → Type 0
+SaysAllButLast output answers answer =
+    (written : Option (List ℕ)) × Appends output written (text_of answers)
+
+-- Lines were read and answered; the answer to the next was that the keeper refused.
+pub record HasShut (holds : Holding) (input source output written : Option (List ℕ)) (Before : Known) : Type 0 where
+  pub middle : Option (List ℕ)
+  pub said : Option (List ℕ)
+  pub served : HasServed holds input middle output said Before
+  pub line : List ℕ
+  pub read : GivesLine middle source line
+  pub refused : Appends said written (failed_text (StoreFailed 71))
+
+-- How a session ended. What is known of its party in the end, and what was known at a moment before.
+abbrev pub HasEnded : Holding → Option (List ℕ) → Option (List ℕ) → Option (List ℕ) → Option (List ℕ) → Known → Known → End → Type 0
+HasEnded holds input source output written Knows Before ended.Quit =
+    HasServedLast holds input source Knows (SaysEnd output written)
+HasEnded holds input source output written Knows Before ended.Finished =
+    (middle : Option (List ℕ)) × HasServed holds input middle output written Knows
+    × Consumes middle source [] × IsAtEnd source
+HasEnded holds input source output written Knows Before ended.Shut =
+    HasShut holds input source output written Before
+HasEnded holds input source output written Knows Before ended.Unwritable =
+    HasServedLast holds input source Knows (SaysAllButLast output)
+HasEnded holds input source output written Knows Before ended.Unreadable =
+    (middle : Option (List ℕ)) × HasServed holds input middle output written Knows
+HasEnded holds input source output written Knows Before ended.NoMemory =
+    (source ≡ input) × (written ≡ output) × Knows IsSame
+
+-- ---- on the way
+
+-- An answer of which this is so was written, and the session goes on or ends so; or it could not be written.
+abbrev pub Says : Option (List ℕ) → Option (List ℕ) → Known → (State → State → Answer → Type 0) → Option End → Type 0
+Says output written Knows Is None =
+    (answer : Answer) × Appends output written (answer_text answer) × Knows (λ old new. Is old new answer)
+    × (is_end answer ≡ false)
+Says output written Knows Is (Some ended.Quit) =
+    (answer : Answer) × Appends output written (answer_text answer) × Knows (λ old new. Is old new answer)
+    × (is_end answer ≡ true)
+Says output written Knows Is (Some ended.Shut) =
+    (answer : Answer) × Appends output written (answer_text answer) × Knows (λ old new. Is old new answer)
+    × (is_refusal answer ≡ true)
+Says output written Knows Is (Some ended.Unwritable) =
+    (answer : Answer) × Knows (λ old new. Is old new answer)
+Says output written Knows Is (Some ended.Finished) = ⊥
+Says output written Knows Is (Some ended.Unreadable) = ⊥
+Says output written Knows Is (Some ended.NoMemory) = ⊥
+
+-- the answer to a line that is too long was written, or could not be
+abbrev pub SaysLong : Option (List ℕ) → Option (List ℕ) → Option End → Type 0
+SaysLong output written None = Appends output written (answer_text LongLine)
+SaysLong output written (Some end) = end ≡ ended.Unwritable
+
+-- the answer to a line that was read
+abbrev pub AnswersRead : Holding → Option (List ℕ) → Option (List ℕ) → Option (List ℕ) → Option (List ℕ) → Known → Option End → Type 0
+AnswersRead holds input source output written Knows end =
+    (line : List ℕ) × GivesLine input source line × Says output written Knows (IsAnswerTo holds line) end
+
+-- One line was read and answered; or none was, and nothing changed.
+abbrev pub ServesLine : Holding → Option (List ℕ) → Option (List ℕ) → Option (List ℕ) → Option (List ℕ) → Known → Option End → Type 0
+ServesLine holds input source output written Knows (Some ended.Finished) =
+    (written ≡ output) × Knows IsSame × Consumes input source [] × IsAtEnd source
+ServesLine holds input source output written Knows (Some ended.Unreadable) =
+    (written ≡ output) × Knows IsSame
+ServesLine holds input source output written Knows end =
+    AnswersRead holds input source output written Knows end
+
+-- what comes behind an answer
+abbrev pub Follows : Answer → Option End → Type 0
+Follows answer None = is_end answer ≡ false
+Follows answer (Some ended.Quit) = is_end answer ≡ true
+Follows answer (Some ended.Shut) = is_refusal answer ≡ true
+Follows answer (Some end) = ⊥

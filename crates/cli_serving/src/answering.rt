@@ -1,0 +1,105 @@
+//! One line, and its answer.
+ghost use Rattle.std.specs.Prelude.{◌≡◌, OnOk};
+ghost use Rattle.std.specs.Io.KnownBytes.{Appends};
+ghost use Rattle.cli_keeping.specs.Keeping.{Keeps};
+ghost use Rattle.cli_session.specs.Held.{holding_of};
+ghost use Rattle.cli_steps.specs.AnswerText.{answer_text};
+ghost use Rattle.cli_steps.specs.Ways.{Steps};
+ghost use Rattle.cli_serving.specs.Serving.{Follows, IsAnswerWithin, Says, is_end, is_refusal};
+
+use crate::ending::End;
+use cli_failures::{Failure, Source};
+use cli_keeping::Keeper;
+use cli_requests::{RequestFault, request_of};
+use cli_steps::{Answer, Party, step};
+use std::alloc::Global;
+use std::io;
+use std::io::Write;
+
+const REFUSED: u8 = 71;
+
+// Whether the session ends with the answer.
+fn is_end(answer: &Answer<'_>) -> bool
+    ensures { result ≡ is_end answer.now }
+{
+    match answer {
+        Answer::Ends => true,
+        _ => false,
+    }
+}
+
+// Whether the keeper refused.
+fn is_refusal(answer: &Answer<'_>) -> bool
+    ensures { result ≡ is_refusal answer.now }
+{
+    match answer {
+        Answer::Failed(Failure::StoreFailed { number }) => *number == REFUSED,
+        _ => false,
+    }
+}
+
+// Does what the line asks for, which stands there without its line feed, and answers it.
+fn answer_line<'a, K: Keeper, S: Source>(
+    party: &mut Party<K>,
+    source: &S,
+    alloc: Global,
+    line: &'a [u8],
+) -> Answer<'a>
+    ensures sound { K.is_sound party.new.keeper → K.is_sound party.old.keeper }
+    ensures steps { K.is_sound party.new.keeper
+        → Steps party.old.believed (K.keeps party.old.keeper)
+        party.new.believed (K.keeps party.new.keeper)
+        (λ old new. IsAnswerWithin (holding_of (S.holds source.now)) line.entry.now
+        old new result) }
+{
+    match request_of(alloc, line) {
+        Ok(request) => step(party, source, alloc, request),
+        Err(RequestFault::Malformed) => Answer::BadLine,
+        Err(RequestFault::Memory) => Answer::Failed(Failure::NoMemory),
+    }
+}
+
+/// Writes the answer, and what the writer may keep back.
+pub(crate) fn write_answer<W: Write>(answer: &Answer<'_>, out: &mut W) -> io::Result<()>
+    ensures { OnOk result (Appends (W.contents out.old) (W.contents out.new)
+        (answer_text answer.now)) }
+{
+    answer.tell(out)?;
+    out.flush()
+}
+
+// How the session ends behind the answer, if it does.
+fn end_behind<K: Keeper>(keeper: &mut K, answer: &Answer<'_>) -> Option<End>
+    ensures sound { K.is_sound keeper.new → K.is_sound keeper.old }
+    ensures keeps { K.is_sound keeper.new → Keeps (K.keeps keeper.old) (K.keeps keeper.new) }
+    ensures follows { Follows answer.now result }
+{
+    if is_end(answer) {
+        return Some(End::Quit);
+    }
+    if is_refusal(answer) && !keeper.may_answer() {
+        return Some(End::Shut);
+    }
+    None
+}
+
+/// Answers a line that was read, and tells how the session ends behind it, if it does.
+pub(crate) fn answer_read<K: Keeper, S: Source, W: Write>(
+    party: &mut Party<K>,
+    source: &S,
+    alloc: Global,
+    line: &[u8],
+    out: &mut W,
+) -> Option<End>
+    ensures sound { K.is_sound party.new.keeper → K.is_sound party.old.keeper }
+    ensures says { Says (W.contents out.old) (W.contents out.new)
+        (λ Are. K.is_sound party.new.keeper → Steps party.old.believed (K.keeps party.old.keeper)
+        party.new.believed (K.keeps party.new.keeper) Are)
+        (IsAnswerWithin (holding_of (S.holds source.now)) line.now) result }
+{
+    let answer = answer_line(party, source, alloc, line);
+    if write_answer(&answer, out).is_err() {
+        return Some(End::Unwritable);
+    }
+    end_behind(&mut party.keeper, &answer)
+}

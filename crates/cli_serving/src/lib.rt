@@ -1,0 +1,9 @@
+//! The loop of a session: lines are read from a source, and each is answered on a writer before the next is read.
+#![tactic(auto)]
+
+mod answering;
+mod ending;
+mod serving;
+
+pub use ending::End;
+pub use serving::serve;

@@ -1,0 +1,106 @@
+//! The loop of a session.
+ghost use Rattle.std.specs.Prelude.{◌≡◌, ◌≤◌, ◌^◌, vec_capacity};
+ghost use Rattle.cli_session.specs.Held.{holding_of};
+ghost use Rattle.cli_session.specs.declared.believed.Believed.{Believed as WasBelieved};
+ghost use Rattle.cli_steps.specs.Ways.{Steps};
+ghost use Rattle.cli_serving.specs.Serving.{HasEnded, SaysLong, ServesLine};
+
+use crate::answering::{answer_read, write_answer};
+use crate::ending::End;
+use cli_failures::Source;
+use cli_keeping::Keeper;
+use cli_lines::{LINE_MOST, LineRead, read_line};
+use cli_steps::{Answer, Party};
+use std::alloc::Global;
+use std::io::{Read, Write};
+
+// Answers a line that is too long.
+fn refuse_line<W: Write>(out: &mut W) -> Option<End>
+    ensures { SaysLong (W.contents out.old) (W.contents out.new) result }
+{
+    match write_answer(&Answer::LongLine, out) {
+        Ok(()) => None,
+        Err(_) => Some(End::Unwritable),
+    }
+}
+
+// Reads a line and answers it, and tells how the session ends behind it, if it does.
+fn serve_line<R: Read, K: Keeper, S: Source, W: Write>(
+    input: &mut R,
+    party: &mut Party<K>,
+    source: &S,
+    alloc: Global,
+    line: &mut Vec<u8>,
+    out: &mut W,
+) -> Option<End>
+    requires room { 2 ^ 20 ≤ vec_capacity line.old }
+    ensures room { vec_capacity line.old ≤ vec_capacity line.new }
+    ensures sound { K.is_sound party.new.keeper → K.is_sound party.old.keeper }
+    ensures serves { ServesLine (holding_of (S.holds source.now))
+        (R.remaining input.old) (R.remaining input.new) (W.contents out.old) (W.contents out.new)
+        (λ Are. K.is_sound party.new.keeper → Steps party.old.believed (K.keeps party.old.keeper)
+        party.new.believed (K.keeps party.new.keeper) Are) result }
+{
+    match read_line(input, line) {
+        Ok(LineRead::Line) => answer_read(party, source, alloc, line.as_slice(), out),
+        Ok(LineRead::TooLong) => refuse_line(out),
+        Ok(LineRead::End) => Some(End::Finished),
+        Err(_) => Some(End::Unreadable),
+    }
+}
+
+// The same of line after line, into a buffer that has room for the longest.
+fn serve_lines<R: Read, K: Keeper, S: Source, W: Write>(
+    input: &mut R,
+    party: &mut Party<K>,
+    source: &S,
+    alloc: Global,
+    line: &mut Vec<u8>,
+    out: &mut W,
+) -> End
+    requires room { 2 ^ 20 ≤ vec_capacity line.old }
+    ensures sound { K.is_sound party.new.keeper → K.is_sound party.old.keeper }
+    ensures ended { HasEnded (holding_of (S.holds source.now))
+        (R.remaining input.old) (R.remaining input.new) (W.contents out.old) (W.contents out.new)
+        (λ Are. K.is_sound party.new.keeper → Steps party.old.believed (K.keeps party.old.keeper)
+        party.new.believed (K.keeps party.new.keeper) Are)
+        (λ Are. (keeper : K) × (believed : WasBelieved) × (K.is_sound keeper
+        → Steps party.old.believed (K.keeps party.old.keeper) believed (K.keeps keeper) Are))
+        result }
+{
+    for _ in 0..u64::MAX {
+        match serve_line(input, party, source, alloc, line, out) {
+            Some(end) => return end,
+            None => {}
+        }
+    }
+    End::Unreadable
+}
+
+/// Reads lines and answers each before the next is read, until a line asks for the end or the source is at its end; or the keeper's
+/// connection was shut, an answer could not be written, or the source could not be read. Memory is 2^20 octets, and what the answer to one
+/// line takes; and the fingerprints that come.
+pub fn serve<R: Read, K: Keeper, S: Source, W: Write>(
+    input: &mut R,
+    party: &mut Party<K>,
+    source: &S,
+    alloc: Global,
+    out: &mut W,
+) -> End
+    ensures sound { K.is_sound party.new.keeper → K.is_sound party.old.keeper }
+    ensures ended { HasEnded (holding_of (S.holds source.now))
+        (R.remaining input.old) (R.remaining input.new) (W.contents out.old) (W.contents out.new)
+        (λ Are. K.is_sound party.new.keeper → Steps party.old.believed (K.keeps party.old.keeper)
+        party.new.believed (K.keeps party.new.keeper) Are)
+        (λ Are. (keeper : K) × (believed : WasBelieved) × (K.is_sound keeper
+        → Steps party.old.believed (K.keeps party.old.keeper) believed (K.keeps keeper) Are))
+        result }
+{
+    match Vec::with_capacity(alloc, LINE_MOST) {
+        Ok(line) => {
+            let mut line = line;
+            serve_lines(input, party, source, alloc, &mut line, out)
+        }
+        Err(_) => End::NoMemory,
+    }
+}

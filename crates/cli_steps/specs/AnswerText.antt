@@ -1,0 +1,44 @@
+-- How answers are written.
+use Rattle.std.specs.Prelude.{◌==◌, ℕ, List, [], ◌++◌, codes, length}
+use Rattle.std.specs.Fmt.{decimal}
+use Rattle.std.specs.List.{filter}
+use Rattle.relying_agreement.specs.declared.verdict.Verdict.{Verdict}
+use Rattle.statements_facts.specs.declared.counts.Counts.{Counts}
+use Rattle.cli_answers.specs.AnswerText.{counts_line, verdict_line}
+use Rattle.cli_answers.specs.Status.{verdict_status}
+use Rattle.cli_failures.specs.Report.{status_of, told_line}
+use Rattle.cli_failures.specs.declared.failure.Failure.{Failure}
+use Rattle.cli_steps.specs.declared.answer.Answer.{Answer}
+use Rattle.cli_steps.specs.declared.answer.Answer.TheVariants.{Nothing, Believes, Forgets, Ends, Delivered, Told, Prints, Failed, BadLine, LongLine}
+
+-- how many lines a text has
+abbrev pub feeds_in : List ℕ → ℕ
+feeds_in text = length (filter (λ octet. octet == 10) text)
+
+-- `0 N`, and N lines
+abbrev pub prints_text : List ℕ → List ℕ
+prints_text text = codes "0 " ++ decimal (feeds_in text) ++ codes "\n" ++ text
+
+-- `0 stored A kept B contradicted C`
+abbrev pub delivered_text : Counts → List ℕ
+delivered_text counts = codes "0 " ++ counts_line counts
+
+-- the status of the verdict, and its line
+abbrev pub verdict_answer : Verdict → List ℕ
+verdict_answer verdict = decimal (verdict_status verdict) ++ codes " " ++ verdict_line verdict
+
+-- the status of the failure, and its line
+abbrev pub failed_text : Failure → List ℕ
+failed_text failure = decimal (status_of failure) ++ codes " " ++ told_line failure
+
+abbrev pub answer_text : Answer → List ℕ
+answer_text Nothing = []
+answer_text Believes = codes "0 believed\n"
+answer_text Forgets = codes "0 forgotten\n"
+answer_text Ends = codes "0 ended\n"
+answer_text (Delivered counts) = delivered_text counts
+answer_text (Told verdict) = verdict_answer verdict
+answer_text (Prints text) = prints_text text.items
+answer_text (Failed failure) = failed_text failure
+answer_text BadLine = codes "5 bad line\n"
+answer_text LongLine = codes "5 line too long\n"

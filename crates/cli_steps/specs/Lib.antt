@@ -1,0 +1,4 @@
+pub mod AnswerText
+pub mod State
+pub mod Steps
+pub mod Ways

@@ -1,0 +1,30 @@
+-- What a session's party believes and keeps.
+use Rattle.std.specs.Prelude.{ℕ, List, ◌∷◌}
+use Rattle.path_verifiers.specs.ListVerifier.{Believes}
+use Rattle.cli_keeping.specs.Keeping.{Keeping, Kept}
+use Rattle.cli_session.specs.Believed.{BelievesJust}
+use Rattle.cli_session.specs.declared.believed.Believed.{Believed}
+
+-- The fingerprints that it believed when the session began and those that it believes now, and the statements that are kept.
+pub record State : Type 0 where
+  pub listed : List (List ℕ)
+  pub prints : List (List ℕ)
+  pub kept : Kept
+
+-- what a party believes and keeps is this
+pub record IsState (believed : Believed) (Keep : Keeping) (state : State) : Type 0 where
+  pub listed : Believes believed.listed state.listed
+  pub believes : BelievesJust believed state.prints
+  pub keeps : Keep state.kept
+
+-- one fingerprint more is believed
+abbrev pub believing : List ℕ → State → State
+believing print state = record state { prints = print ∷ state.prints }
+
+-- those of the beginning are believed
+abbrev pub forgetting : State → State
+forgetting state = record state { prints = state.listed }
+
+-- something else is kept
+abbrev pub keeping : Kept → State → State
+keeping kept state = record state { kept = kept }

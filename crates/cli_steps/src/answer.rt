@@ -1,0 +1,97 @@
+//! Answers, and the lines that say them.
+ghost use Rattle.std.specs.Prelude.{◌≡◌, OnOk};
+ghost use Rattle.std.specs.Io.KnownBytes.{Appends};
+ghost use Rattle.cli_steps.specs.AnswerText.{answer_text, delivered_text, failed_text, feeds_in, prints_text, verdict_answer};
+
+use cli_answers::{counts_to, verdict_status, verdict_to};
+use cli_failures::Failure;
+use relying_agreement::Verdict;
+use statements_facts::Counts;
+use std::io;
+use std::io::Write;
+
+/// The answer to a line of a session.
+#[derive(Debug, Drop, PartialEq, Eq)]
+pub enum Answer<'a> {
+    /// None: the line asks for nothing.
+    Nothing,
+    /// A fingerprint more is believed.
+    Believes,
+    /// What was believed since the session began is forgotten.
+    Forgets,
+    /// The session ends.
+    Ends,
+    /// A statement was taken: how its facts were counted.
+    Delivered(Counts),
+    /// The verdict on a path.
+    Told(Verdict),
+    /// The lines of what a verifier is asked.
+    Prints(Vec<u8>),
+    /// What failed.
+    Failed(Failure<'a>),
+    /// The line is no request.
+    BadLine,
+    /// The line is too long.
+    LongLine,
+}
+
+// How many lines the text has.
+fn feeds_in(text: &[u8]) -> usize
+    ensures { result ≡ feeds_in text.now }
+{
+    text.iter().filter(|octet| **octet == b'\n').count()
+}
+
+fn write_prints<W: Write>(text: &[u8], out: &mut W) -> io::Result<()>
+    ensures { OnOk result (Appends (W.contents out.old) (W.contents out.new)
+        (prints_text text.now)) }
+{
+    writeln!(out, "0 {}", feeds_in(text))?;
+    out.write_all(text)
+}
+
+fn write_counts<W: Write>(counts: &Counts, out: &mut W) -> io::Result<()>
+    ensures { OnOk result (Appends (W.contents out.old) (W.contents out.new)
+        (delivered_text counts.now)) }
+{
+    out.write_all(b"0 ")?;
+    counts_to(counts, out)
+}
+
+fn write_verdict<W: Write>(verdict: Verdict, out: &mut W) -> io::Result<()>
+    ensures { OnOk result (Appends (W.contents out.old) (W.contents out.new)
+        (verdict_answer verdict)) }
+{
+    write!(out, "{} ", verdict_status(verdict))?;
+    verdict_to(verdict, out)
+}
+
+fn write_failure<W: Write>(failure: &Failure<'_>, out: &mut W) -> io::Result<()>
+    ensures { OnOk result (Appends (W.contents out.old) (W.contents out.new)
+        (failed_text failure.now)) }
+{
+    write!(out, "{} ", failure.status())?;
+    failure.tell(out)
+}
+
+impl Answer<'_> {
+    /// Writes the answer: the status that the command would have ended with, a space, and the line that it would have written. It takes
+    /// no memory.
+    pub fn tell<W: Write>(&self, out: &mut W) -> io::Result<()>
+        ensures { OnOk result (Appends (W.contents out.old) (W.contents out.new)
+            (answer_text self.now)) }
+    {
+        match self {
+            Answer::Nothing => Ok(()),
+            Answer::Believes => out.write_all(b"0 believed\n"),
+            Answer::Forgets => out.write_all(b"0 forgotten\n"),
+            Answer::Ends => out.write_all(b"0 ended\n"),
+            Answer::Delivered(counts) => write_counts(counts, out),
+            Answer::Told(verdict) => write_verdict(*verdict, out),
+            Answer::Prints(text) => write_prints(text.as_slice(), out),
+            Answer::Failed(failure) => write_failure(failure, out),
+            Answer::BadLine => out.write_all(b"5 bad line\n"),
+            Answer::LongLine => out.write_all(b"5 line too long\n"),
+        }
+    }
+}

@@ -1,0 +1,107 @@
+//! Deliveries.
+ghost use Rattle.std.specs.Prelude.{◌≡◌};
+ghost use Rattle.cert.specs.Certificate.{seen_certificate};
+ghost use Rattle.statements.specs.OcspFact.{genuine_statement};
+ghost use Rattle.cli_steps.specs.Steps.{Delivers};
+ghost use Rattle.cli_steps.specs.Ways.{Steps, TakesFrom, TakesSaid, TakesUnder};
+
+use crate::answer::Answer;
+use crate::kept::take_facts;
+use crate::party::Party;
+use cert::Certificate;
+use cli_failures::{Failure, Source, read_certificate, read_facts};
+use cli_keeping::Keeper;
+use cli_session::Judge;
+use path_verifiers::Verifier;
+use statements_facts::Counts;
+use std::alloc::Global;
+
+// The keeper takes what these octets of the operand say, under the issuer of the certificate.
+fn take_statement<'a, K: Keeper, V: Verifier>(
+    keeper: &mut K,
+    alloc: Global,
+    verifier: &V,
+    issuer: &Certificate<'_>,
+    statement: &[u8],
+    file: &'a str,
+) -> Result<Counts, Failure<'a>>
+    ensures sound { K.is_sound keeper.new → K.is_sound keeper.old }
+    ensures takes { K.is_sound keeper.new → TakesSaid (K.keeps keeper.old) (K.keeps keeper.new)
+        (genuine_statement (V.accepts verifier.now) (seen_certificate issuer.now) statement.now)
+        file.entry.now result }
+{
+    let facts = match read_facts(alloc, verifier, issuer, file, statement) {
+        Ok(facts) => facts,
+        Err(failure) => return Err(failure),
+    };
+    take_facts(keeper, &facts)
+}
+
+// The keeper takes what the statement in the operand says, under the issuer of the certificate.
+fn take_under<'a, K: Keeper, V: Verifier, S: Source>(
+    keeper: &mut K,
+    source: &S,
+    alloc: Global,
+    verifier: &V,
+    issuer: &Certificate<'_>,
+    file: &'a str,
+) -> Result<Counts, Failure<'a>>
+    ensures sound { K.is_sound keeper.new → K.is_sound keeper.old }
+    ensures takes { K.is_sound keeper.new → TakesUnder (S.holds source.now)
+        (K.keeps keeper.old) (K.keeps keeper.new) (V.accepts verifier.now)
+        (seen_certificate issuer.now) file.entry.now result }
+{
+    let statement = match source.octets_of(file) {
+        Ok(octets) => octets,
+        Err(failure) => return Err(failure),
+    };
+    take_statement(keeper, alloc, verifier, issuer, statement.as_slice(), file)
+}
+
+// The same, under the issuer whose certificate the other operand holds.
+fn take_from<'a, K: Keeper, V: Verifier, S: Source>(
+    keeper: &mut K,
+    source: &S,
+    alloc: Global,
+    verifier: &V,
+    issuer: &'a str,
+    file: &'a str,
+) -> Result<Counts, Failure<'a>>
+    ensures sound { K.is_sound keeper.new → K.is_sound keeper.old }
+    ensures takes { K.is_sound keeper.new → TakesFrom (S.holds source.now)
+        (K.keeps keeper.old) (K.keeps keeper.new) (V.accepts verifier.now)
+        issuer.entry.now file.entry.now result }
+{
+    let octets = match source.octets_of(issuer) {
+        Ok(octets) => octets,
+        Err(failure) => return Err(failure),
+    };
+    let certificate = match read_certificate(alloc, issuer, octets.as_slice()) {
+        Ok(certificate) => certificate,
+        Err(failure) => return Err(failure),
+    };
+    take_under(keeper, source, alloc, verifier, &certificate, file)
+}
+
+/// Delivers the statement in the operand, under the issuer whose certificate the other operand holds.
+pub(crate) fn deliver<'a, K: Keeper, S: Source>(
+    party: &mut Party<K>,
+    source: &S,
+    alloc: Global,
+    issuer: &'a str,
+    file: &'a str,
+) -> Answer<'a>
+    ensures sound { K.is_sound party.new.keeper → K.is_sound party.old.keeper }
+    ensures steps { K.is_sound party.new.keeper
+        → Steps party.old.believed (K.keeps party.old.keeper)
+        party.new.believed (K.keeps party.new.keeper)
+        (λ old new. Delivers (S.holds source.now) issuer.entry.now file.entry.now old new result) }
+{
+    let judge = Judge {
+        believed: &party.believed,
+    };
+    match take_from(&mut party.keeper, source, alloc, &judge, issuer, file) {
+        Ok(counts) => Answer::Delivered(counts),
+        Err(failure) => Answer::Failed(failure),
+    }
+}

@@ -1,0 +1,12 @@
+//! The party of a session.
+
+use cli_session::Believed;
+
+/// The party of a session: whom it believes, and who keeps its statements.
+#[derive(Drop)]
+pub struct Party<K> {
+    /// The fingerprints of good signatures.
+    pub believed: Believed,
+    /// Who keeps the newest statements.
+    pub keeper: K,
+}

@@ -1,0 +1,50 @@
+//! Requests, one at a time.
+ghost use Rattle.std.specs.Prelude.{◌≡◌};
+ghost use Rattle.cli_requests.specs.Requests.{seen_request};
+ghost use Rattle.cli_session.specs.Held.{holding_of};
+ghost use Rattle.cli_steps.specs.Steps.{IsStep};
+ghost use Rattle.cli_steps.specs.Ways.{Steps};
+
+use crate::answer::Answer;
+use crate::believing::{believe, forget};
+use crate::checking::check;
+use crate::delivering::deliver;
+use crate::party::Party;
+use crate::printing::show_prints;
+use cli_failures::Source;
+use cli_keeping::Keeper;
+use cli_requests::Request;
+use cli_session::Operands;
+use std::alloc::Global;
+
+/// Does what the request asks for, and answers it. Where a failure is answered, nothing changes. Operands that name files are read from
+/// the source, in the order of the request.
+pub fn step<'a, K: Keeper, S: Source>(
+    party: &mut Party<K>,
+    source: &S,
+    alloc: Global,
+    request: Request<'a>,
+) -> Answer<'a>
+    ensures sound { K.is_sound party.new.keeper → K.is_sound party.old.keeper }
+    ensures steps { K.is_sound party.new.keeper
+        → Steps party.old.believed (K.keeps party.old.keeper)
+        party.new.believed (K.keeps party.new.keeper)
+        (λ old new. IsStep (holding_of (S.holds source.now)) (seen_request request.entry)
+        old new result) }
+{
+    let operands = Operands { source, alloc };
+    match request {
+        Request::Nothing => Answer::Nothing,
+        Request::Believe(print) => believe(party, print),
+        Request::Deliver { issuer, file } => deliver(party, &operands, alloc, issuer, file),
+        Request::Check(path) => check(party, &operands, alloc, path),
+        Request::Prints { kind, issuer, file } => {
+            show_prints(&operands, alloc, kind, issuer, file)
+        }
+        Request::Forget => {
+            forget(party);
+            Answer::Forgets
+        }
+        Request::Quit => Answer::Ends,
+    }
+}

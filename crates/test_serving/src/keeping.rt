@@ -1,0 +1,90 @@
+//! A keeper that answers as it was told, files that are not there, and sessions over both.
+
+use cli_failures::{Failure, Source};
+use cli_keeping::{Asked, Keeper, KeeperFault};
+use cli_serving::{End, serve};
+use cli_session::Believed;
+use cli_steps::Party;
+use path_verifiers::{ListVerifier, Verifier};
+use relying_agreement::Verdict;
+use statements_facts::{Counts, Facts};
+use std::alloc::Global;
+use std::io::{Read, Write};
+
+/// A keeper that answers so.
+#[derive(Clone, Copy)]
+pub struct Told {
+    pub taken: Result<Counts, KeeperFault>,
+    pub verdict: Result<Verdict, KeeperFault>,
+    pub may_answer: bool,
+}
+
+impl Keeper for Told {
+    ghost use Rattle.std.specs.Prelude.{⊤};
+
+    ghost keeps = { λ _ _. ⊤ };
+
+    ghost is_sound = { λ _. ⊥ };
+
+    fn take(&mut self, _facts: &Facts<'_>) -> Result<Counts, KeeperFault> {
+        self.taken
+    }
+
+    fn verdict<V: Verifier>(
+        &mut self,
+        _alloc: Global,
+        _verifier: &V,
+        _asked: Asked<'_>,
+    ) -> Result<Verdict, KeeperFault> {
+        self.verdict
+    }
+
+    fn may_answer(&mut self) -> bool {
+        self.may_answer
+    }
+}
+
+/// No file is there.
+#[derive(Clone, Copy)]
+struct Nowhere;
+
+impl Source for Nowhere {
+    ghost use Rattle.std.specs.Prelude.{⊤};
+
+    ghost holds = { λ _ _ _. ⊤ };
+
+    fn octets_of<'a>(&self, file: &'a str) -> Result<Vec<u8>, Failure<'a>> {
+        Err(Failure::Unreadable { file })
+    }
+}
+
+/// How a session over the keeper ends, which reads these lines and believes nothing at first.
+pub fn ends<R: Read, W: Write>(alloc: Global, keeper: Told, input: &mut R, out: &mut W) -> End {
+    let mut party = Party {
+        believed: Believed::new(alloc, ListVerifier::new(Vec::new(alloc))),
+        keeper,
+    };
+    serve(input, &mut party, &Nowhere, alloc, out)
+}
+
+/// A keeper that stores one fact, and knows nothing.
+pub fn obliging() -> Told {
+    Told {
+        taken: Ok(Counts {
+            stored: 1,
+            kept: 0,
+            contradicted: 0,
+        }),
+        verdict: Ok(Verdict::Unknown(1)),
+        may_answer: true,
+    }
+}
+
+/// A keeper that refuses.
+pub fn refusing(may_answer: bool) -> Told {
+    Told {
+        taken: Err(KeeperFault::Refused),
+        verdict: Err(KeeperFault::Refused),
+        may_answer,
+    }
+}
