@@ -1,4 +1,4 @@
-# make builds the program and the library for C; make help says what else there is.
+# make builds the program, the library for C and the shared object for Python; make help says what else there is.
 PREFIX = /usr/local
 DESTDIR =
 # The Rattle kit, two folders above rt: programs in C link with its c/liblibc_c.a.
@@ -16,13 +16,15 @@ scripts = verdicts validate to_der
 
 .PHONY: all program library bindings install uninstall check help
 
-all: program library
+all: program library bindings
 
 program:
 	./x509check --build
 
+# (rt leaves a library as it is whose code is the same; its time says that it was looked at)
 library:
 	.ci/build capi
+	touch $(library)
 
 # Links the shared object that the module for Python loads.
 bindings: $(library)
@@ -59,7 +61,7 @@ check:
 	.ci/run
 
 help:
-	@echo 'make                      proves and builds the program and the library for C'
+	@echo 'make                      proves and builds the program, the library for C and the shared object for Python'
 	@echo 'make program              the program alone; make library: the library for C alone'
 	@echo 'make bindings             the shared object for bindings/python'
 	@echo 'make install PREFIX=/usr/local DESTDIR='

@@ -5,8 +5,8 @@
  * FILE has the texts that damaged ones are made of, each behind its length in 4 octets, the lowest first. Text N of a seed is the same in
  * each run, whatever COUNT and FIRST, the number of the first (0): so one text alone is tried again by `fuzz FILE SEED 1 N`. Of each text it
  * is asked whether it is DER and what certificate it is, twice: with a page behind it, and then before it, that may not be touched; and
- * what the verdict is on it as certificates, and as statements. The status is 1 where a promise is broken; its line names the text, and its
- * octets follow.
+ * what the verdict is on it, and what is asked about it, as certificates and as statements. The status is 1 where a promise is broken; its
+ * line names the text, and its octets follow.
  */
 #include <inttypes.h>
 #include <stdio.h>
@@ -23,6 +23,8 @@
 #include "text.h"
 
 #define FAULTS 34
+#define MOST_QUESTIONS 64
+#define PATH 3
 
 /* A run: its words, where texts are put, and what was seen. */
 struct run {
@@ -30,8 +32,12 @@ struct run {
     uint64_t count;
     uint64_t first;
     struct texts texts;
+    struct text path; /* the first texts, one behind the other */
     struct guarded text;
     struct guarded fingerprint; /* ends with the octets of a fingerprint */
+    struct guarded questions;   /* ends with an array of them */
+    uint64_t asked;             /* questions, */
+    uint64_t unasked;           /* and texts that nothing is asked about */
     uint64_t checks[FAULTS];    /* how many texts have this fault */
     uint64_t reads[FAULTS];
     uint64_t verdicts[X509CHECK_REFUSED + 1];
@@ -88,6 +94,19 @@ static struct texts read_texts(const char *path)
     return texts;
 }
 
+/* The path with which the file begins, so that statements are asked about. */
+static void make_path(void)
+{
+    for (size_t i = 0; i < PATH && i < run.texts.count; i++) {
+        const struct text *text = &run.texts.items[i];
+
+        if (text->length > ROOM - run.path.length)
+            stop("the path has no room");
+        memcpy(run.path.octets + run.path.length, text->octets, text->length);
+        run.path.length += text->length;
+    }
+}
+
 /* ---- What is asked of a text. Each answers the promise that is broken, or a null pointer. ---- */
 
 static const char *broken_by_checking(const struct text *text)
@@ -138,10 +157,52 @@ static const char *broken_by_fingerprint(const uint8_t *at, const struct x509che
     return broken_of_fingerprint(at, fields, fingerprint);
 }
 
-/* The text as certificates, and as statements beside an anchor; memory is there. */
-static const char *broken_by_validating(const uint8_t *at, size_t length, const struct x509check_certificate *read)
+/* Two rows: what is asked about them, with room for all questions or fewer, and with some request for memory refused. */
+static const char *broken_by_asking(struct numbers *numbers, const struct row rows[2], uint32_t text, const struct x509check_verdict *verdict)
+{
+    size_t room = number_below(numbers, MOST_QUESTIONS + 1);
+    struct x509check_question *questions =
+        (struct x509check_question *)(void *)(run.questions.writable + run.questions.size) - room;
+    struct x509check_asked asked, again;
+    const char *broken;
+    size_t requests;
+
+    memset(run.questions.writable, 0xA5, run.questions.size);
+    watch(0);
+    asked = x509check_questions(rows[0].octets, rows[0].length, rows[1].octets, rows[1].length, questions, room);
+    requests = memory.asked;
+    if (memory.held != 0)
+        return "memory is given back before a call returns";
+    if ((broken = broken_of_questions(rows, &asked, questions, room)) != NULL)
+        return broken;
+    if ((asked.text == text) != (verdict->verdict == X509CHECK_REFUSED) || asked.fault != verdict->fault
+        || asked.der_fault != verdict->der_fault || asked.offset != verdict->offset)
+        return "the same texts are refused for the same fault, whether a verdict or questions are asked for";
+    run.asked += asked.count;
+    run.unasked += asked.count == 0;
+    if (requests == 0)
+        return NULL;
+    memset(run.questions.writable, 0xA5, run.questions.size);
+    watch(1 + number_below(numbers, requests));
+    again = x509check_questions(rows[0].octets, rows[0].length, rows[1].octets, rows[1].length, questions, room);
+    if (memory.held != 0)
+        return "memory is given back before a call returns that was refused some";
+    run.refused++;
+    run.told_so += again.fault == X509CHECK_FAULT_MEMORY;
+    watch(0);
+    if (again.fault == X509CHECK_FAULT_MEMORY)
+        return again.text == 0 && again.offset == 0 && again.count == 0 && run.questions.writable[run.questions.size - 1] == 0xA5
+            ? NULL
+            : "nothing is told or written where memory was refused";
+    return again.count == asked.count ? broken_of_questions(rows, &again, questions, room)
+                                      : "a call that is refused memory says so, or answers as with ample memory";
+}
+
+/* The text as certificates, and as statements beside an anchor and a path; memory is there. */
+static const char *broken_by_validating(struct numbers *numbers, const uint8_t *at, size_t length, const struct x509check_certificate *read)
 {
     const struct text *anchor = &run.texts.items[0];
+    const struct row alone[2] = {{at, length}, {NULL, 0}}, beside[2] = {{run.path.octets, run.path.length}, {at, length}};
     struct x509check_verdict answer;
     const char *broken;
 
@@ -154,11 +215,15 @@ static const char *broken_by_validating(const uint8_t *at, size_t length, const 
     run.verdicts[answer.verdict]++;
     if ((broken = broken_of_certificates(length, read, &answer)) != NULL)
         return broken;
+    if ((broken = broken_by_asking(numbers, alone, X509CHECK_CERTIFICATES, &answer)) != NULL)
+        return broken;
     watch(0);
     answer = x509check_validate(anchor->octets, anchor->length, at, length, NULL, 0, 0, NULL, 0);
     if (memory.held != 0)
         return "memory is given back before a call returns";
-    return broken_of_statements(length, &answer);
+    if ((broken = broken_of_statements(length, &answer)) != NULL)
+        return broken;
+    return broken_by_asking(numbers, beside, X509CHECK_STATEMENTS, &answer);
 }
 
 static const char *broken_by_reading(struct numbers *numbers, const struct text *text)
@@ -183,7 +248,7 @@ static const char *broken_by_reading(struct numbers *numbers, const struct text 
     if (!is_same_certificate(&answer, &again))
         return "reading answers the same wherever the text stands";
     run.reads[answer.fault]++;
-    if ((broken = broken_by_validating(at, text->length, &answer)) != NULL)
+    if ((broken = broken_by_validating(numbers, at, text->length, &answer)) != NULL)
         return broken;
     return requests == 0 ? NULL : broken_by_refusing(numbers, at, text->length, requests, &answer);
 }
@@ -244,6 +309,8 @@ int main(int argc, char **argv)
     run.texts = read_texts(argv[1]);
     run.text = make_guarded(ROOM);
     run.fingerprint = make_guarded(X509CHECK_FINGERPRINT_LENGTH);
+    run.questions = make_guarded(MOST_QUESTIONS * sizeof(struct x509check_question));
+    make_path();
     __sanitizer_set_death_callback(tell_place);
     for (place = run.first; place - run.first < run.count; place++)
         try_text(&text);
@@ -252,8 +319,9 @@ int main(int argc, char **argv)
     print_faults("check", run.checks, FAULTS);
     print_faults("certificate", run.reads, FAULTS);
     print_faults("verdict", run.verdicts, X509CHECK_REFUSED + 1);
-    printf("  %" PRIu64 " requests for memory; %" PRIu64 " reads were refused one, %" PRIu64 " of them said so\n", run.requested,
+    printf("  %" PRIu64 " requests for memory; %" PRIu64 " calls were refused one, %" PRIu64 " of them said so\n", run.requested,
            run.refused, run.told_so);
+    printf("  %" PRIu64 " questions; nothing asked about %" PRIu64 "\n", run.asked, run.unasked);
     free(run.texts.items);
     return 0;
 }

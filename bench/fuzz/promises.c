@@ -241,14 +241,19 @@ const char *broken_of_certificate(const uint8_t *octets, size_t length, const st
     return broken_of_extensions(&fields->extensions);
 }
 
-static void add_framed(struct sha256 *state, const uint8_t *octets, struct x509check_part part)
+static void add_framed(struct sha256 *state, const uint8_t *octets, size_t length)
 {
-    uint8_t length[8];
+    uint8_t framed[8];
 
     for (int i = 0; i < 8; i++)
-        length[i] = (uint8_t)((uint64_t)part.length >> 8 * (7 - i));
-    sha256_add(state, length, sizeof length);
-    sha256_add(state, octets + part.offset, part.length);
+        framed[i] = (uint8_t)((uint64_t)length >> 8 * (7 - i));
+    sha256_add(state, framed, sizeof framed);
+    sha256_add(state, octets, length);
+}
+
+static void add_part(struct sha256 *state, const uint8_t *octets, struct x509check_part part)
+{
+    add_framed(state, octets + part.offset, part.length);
 }
 
 const char *broken_of_fingerprint(const uint8_t *octets, const struct x509check_fields *fields,
@@ -258,11 +263,46 @@ const char *broken_of_fingerprint(const uint8_t *octets, const struct x509check_
     uint8_t digest[32];
 
     sha256_begin(&state);
-    add_framed(&state, octets, fields->algorithm);
-    add_framed(&state, octets, fields->subject_public_key_info);
-    add_framed(&state, octets, fields->tbs);
-    add_framed(&state, octets, fields->signature);
+    add_part(&state, octets, fields->algorithm);
+    add_part(&state, octets, fields->subject_public_key_info);
+    add_part(&state, octets, fields->tbs);
+    add_part(&state, octets, fields->signature);
     sha256_end(&state, digest);
     PROMISE(memcmp(digest, fingerprint, sizeof digest) == 0, "the fingerprint is the SHA-256 of four texts behind their lengths");
+    return NULL;
+}
+
+static const char *broken_of_question(const struct row rows[2], const struct x509check_question *question)
+{
+    const struct x509check_place places[] = {question->algorithm, question->key_info, question->message, question->signature};
+    struct sha256 state;
+    uint8_t digest[32];
+
+    sha256_begin(&state);
+    for (size_t i = 0; i < 4; i++) {
+        const struct row *row = places[i].text == X509CHECK_STATEMENTS ? &rows[1] : &rows[0];
+
+        PROMISE(places[i].text == X509CHECK_CERTIFICATES || places[i].text == X509CHECK_STATEMENTS, "a place is in one of two texts");
+        PROMISE(places[i].length <= row->length && places[i].offset <= row->length - places[i].length, "a place lies within its text");
+        add_framed(&state, row->octets + places[i].offset, places[i].length);
+    }
+    sha256_end(&state, digest);
+    PROMISE(memcmp(digest, question->fingerprint, sizeof digest) == 0, "the fingerprint of a question is that of the octets at its places");
+    return NULL;
+}
+
+const char *broken_of_questions(const struct row rows[2], const struct x509check_asked *asked, const struct x509check_question *questions,
+                                size_t room)
+{
+    size_t written = asked->count < room ? asked->count : room;
+    const char *broken;
+
+    PROMISE((asked->fault == 0) == (asked->text == 0) && asked->text <= X509CHECK_STATEMENTS, "a text is told where it is refused");
+    PROMISE(asked->fault == 0 || asked->count == 0, "there is no question where a text is refused");
+    for (size_t i = 0; i < written; i++)
+        if ((broken = broken_of_question(rows, &questions[i])) != NULL)
+            return broken;
+    for (const uint8_t *octet = (const uint8_t *)&questions[written]; octet < (const uint8_t *)&questions[room]; octet++)
+        PROMISE(*octet == 0xA5, "only questions are written");
     return NULL;
 }

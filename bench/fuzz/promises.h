@@ -8,6 +8,12 @@
 
 #include "x509check.h"
 
+/* Certificates, or statements, one behind the other. */
+struct row {
+    const uint8_t *octets;
+    size_t length;
+};
+
 /* Each answers the promise that is broken, in words, or a null pointer. */
 
 /* Of whether a text of so many octets is DER. */
@@ -19,6 +25,11 @@ const char *broken_of_certificate(const uint8_t *octets, size_t length, const st
 /* Of the verdict on a text as certificates alone, and as statements beside an anchor; of the first, what reading the text answers is known. */
 const char *broken_of_certificates(size_t length, const struct x509check_certificate *read, const struct x509check_verdict *answer);
 const char *broken_of_statements(size_t length, const struct x509check_verdict *answer);
+
+/* Of what is asked about two rows, where there was room for so many questions. Behind those that were written the array has to be as it was:
+ * filled with 0xA5. */
+const char *broken_of_questions(const struct row rows[2], const struct x509check_asked *asked, const struct x509check_question *questions,
+                                size_t room);
 
 /* Of the fingerprint of a certificate that was read. */
 const char *broken_of_fingerprint(const uint8_t *octets, const struct x509check_fields *fields,

@@ -2,7 +2,8 @@
 """Writes the texts that bench/fuzz/run damages into a file: texts.py FILE
 
 Certificates as bench/data.py makes them, some for each rule of the reader, those of the package ca-certificates where it is there, a
-revocation list and a response. Each stands behind its length in 4 octets, the lowest first.
+revocation list, and the lists and responses of a small authority, whose path stands first. Each stands behind its length in 4 octets, the
+lowest first.
 """
 
 import os
@@ -19,7 +20,7 @@ from data import (  # noqa: E402
 )
 
 MOST = 12000  # octets of a text
-AUTHORITY = os.path.join(HERE, "..", "..", "examples", "authority")
+AUTHORITY = os.path.join(HERE, "..", "..", "bindings", "testdata")
 KEY = sequence(sequence(oid("1.2.840.10045.2.1"), oid("1.2.840.10045.3.1.7")), bits(b"\x04" * 65))
 CA = name(("2.5.4.6", "DE"), ("2.5.4.3", "Some Authority"))
 
@@ -90,15 +91,18 @@ def special():
     yield with_extensions(*(extension("1.2.3.%d" % number, value(0x05), number % 2 == 0) for number in range(20)))
 
 
-def response():
-    with open(os.path.join(AUTHORITY, "leaf.ocsp"), "rb") as file:
-        return file.read()
+def authority(*names):
+    """DER in the small authority."""
+    for name_of_file in names:
+        with open(os.path.join(AUTHORITY, name_of_file), "rb") as file:
+            yield file.read()
 
 
 def main(path):
     rng = random.Random(20261123)
-    texts = [certificate(rng, number) for number in range(64)] + 4 * list(special()) + debian_roots()
-    texts += [revocation_list(rng, 2000)[0], response(), nested(31)]
+    texts = list(authority("root.der", "middle.der", "leaf.der"))
+    texts += [certificate(rng, number) for number in range(64)] + 4 * list(special()) + debian_roots()
+    texts += [revocation_list(rng, 2000)[0], *16 * list(authority("middle.crl", "leaf.ocsp")), nested(31)]
     with open(path, "wb") as out:
         for text in texts:
             if len(text) <= MOST:

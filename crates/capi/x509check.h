@@ -123,6 +123,31 @@ struct x509check_verdict {
     size_t offset;      /* refused: of the value at fault, in the whole text */
 };
 
+/* Octets of one of two texts. */
+struct x509check_place {
+    uint32_t text; /* X509CHECK_CERTIFICATES or X509CHECK_STATEMENTS */
+    size_t offset; /* in the whole text */
+    size_t length;
+};
+
+/* A question to a judge of signatures: is this the signature of the message, under the key, by the algorithm? */
+struct x509check_question {
+    struct x509check_place algorithm; /* the algorithm identifier: the whole encoding */
+    struct x509check_place key_info;  /* the subjectPublicKeyInfo: the whole encoding */
+    struct x509check_place message;   /* what was signed */
+    struct x509check_place signature; /* its octets, without a count of unused bits */
+    uint8_t fingerprint[X509CHECK_FINGERPRINT_LENGTH]; /* as x509check_fingerprint writes it of these four */
+};
+
+/* How many questions there are, or why a text is refused. What has no number there is 0. */
+struct x509check_asked {
+    uint32_t text;      /* refused: X509CHECK_CERTIFICATES or X509CHECK_STATEMENTS; 0 if memory was refused */
+    uint32_t fault;     /* 0, or as in struct x509check_verdict */
+    uint32_t der_fault; /* 1 to 7 if fault is X509CHECK_FAULT_DER or X509CHECK_FAULT_STATEMENT_DER, else 0 */
+    size_t offset;      /* refused: of the value at fault, in the whole text */
+    size_t count;       /* all questions, whether there was room for them or not; 0 if a text is refused */
+};
+
 /* The layout of the answers on x86-64, as the library was built with it. */
 #ifdef __cplusplus
 #define X509CHECK_STANDS_AT(type, field, at) static_assert(offsetof(struct type, field) == (at), #field)
@@ -171,6 +196,19 @@ X509CHECK_STANDS_AT(x509check_verdict, fault, 20);
 X509CHECK_STANDS_AT(x509check_verdict, der_fault, 24);
 X509CHECK_STANDS_AT(x509check_verdict, offset, 32);
 X509CHECK_HAS_SIZE(x509check_verdict, 40);
+X509CHECK_STANDS_AT(x509check_place, offset, 8);
+X509CHECK_STANDS_AT(x509check_place, length, 16);
+X509CHECK_HAS_SIZE(x509check_place, 24);
+X509CHECK_STANDS_AT(x509check_question, key_info, 24);
+X509CHECK_STANDS_AT(x509check_question, message, 48);
+X509CHECK_STANDS_AT(x509check_question, signature, 72);
+X509CHECK_STANDS_AT(x509check_question, fingerprint, 96);
+X509CHECK_HAS_SIZE(x509check_question, 128);
+X509CHECK_STANDS_AT(x509check_asked, fault, 4);
+X509CHECK_STANDS_AT(x509check_asked, der_fault, 8);
+X509CHECK_STANDS_AT(x509check_asked, offset, 16);
+X509CHECK_STANDS_AT(x509check_asked, count, 24);
+X509CHECK_HAS_SIZE(x509check_asked, 32);
 #undef X509CHECK_STANDS_AT
 #undef X509CHECK_HAS_SIZE
 
@@ -188,6 +226,16 @@ struct x509check_certificate x509check_read_certificate(const uint8_t *octets, s
 void x509check_fingerprint(const uint8_t *algorithm, size_t algorithm_length, const uint8_t *key_info, size_t key_info_length,
                            const uint8_t *message, size_t message_length, const uint8_t *signature, size_t signature_length,
                            uint8_t fingerprint[X509CHECK_FINGERPRINT_LENGTH]);
+
+/* The questions that a judge of signatures may be asked for the verdict on a path by statements, at whatever moment and for whatever
+ * purpose. The two texts are those of x509check_validate, to which the fingerprints of the questions that are answered by yes are handed.
+ *
+ * Up to `room` questions are written to `questions`, from the first on, and `count` tells how many there are: with a room of 0, where
+ * `questions` may be null, it only counts. The texts may not overlap with `questions`. Nothing is written where a text is refused.
+ * For a path of n certificates these are n questions, at most n more for a list, and at most n (1 + 2 m) for a response that m
+ * certificates come with. One question may be there twice. Memory is taken as by x509check_validate. */
+struct x509check_asked x509check_questions(const uint8_t *certificates, size_t certificates_length, const uint8_t *statements,
+                                           size_t statements_length, struct x509check_question *questions, size_t room);
 
 /* The verdict on a path at a moment, by statements at hand, without a store.
  *

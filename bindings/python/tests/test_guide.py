@@ -32,12 +32,12 @@ class Guide(unittest.TestCase):
             os.chdir(folder)
         for line in printed.getvalue().splitlines():
             self.assertIn(f"`{line}`", part)
-        self.assertEqual(len(printed.getvalue().splitlines()), 2)
+        self.assertEqual(len(printed.getvalue().splitlines()), 1)
 
     def test_the_code_for_rust_is_that_of_its_test(self):
         with open(os.path.join(TOP, "bindings", "rust", "src", "lib.rs"), encoding="utf-8") as file:
             shown = "\n".join(line[4:] for line in file.read().splitlines() if line.startswith("//! "))
-        self.assertIn(block_with(part_of_guide("From Rust"), "let verdict"), shown)
+        self.assertIn(block_with(part_of_guide("From Rust"), "let question"), shown)
 
 
 if __name__ == "__main__":

@@ -1,9 +1,13 @@
 """Tests over examples/authority, whose signatures OpenSSL found good (testdata/good.txt holds what examples/verdicts printed)."""
 
 import base64
+import dataclasses
 import datetime
+import importlib.util
 import os
 import re
+import subprocess
+import tempfile
 import threading
 import unittest
 
@@ -145,12 +149,114 @@ class Verdicts(unittest.TestCase):
         self.assertEqual(results, [Result(Verdict.VALID)] * 8)
 
 
+class Questions(unittest.TestCase):
+    ASKED = ("middle.pem", "leaf.pem", "root.crl", "middle.crl", "leaf.ocsp certificate", "leaf.ocsp")
+
+    def test_each_signature_is_asked_about_in_order(self):
+        asked = x509check.questions(ROOT, [MIDDLE, LEAF], [ROOT_LIST, MIDDLE_LIST, RESPONSE])
+        self.assertEqual([one.fingerprint for one in asked], [GOOD_PRINTS[name] for name in self.ASKED])
+        for one in asked:
+            self.assertEqual(x509check.fingerprint(one.algorithm, one.key, one.message, one.signature), one.fingerprint)
+
+    def test_the_parts_are_those_of_the_certificates(self):
+        middle, leaf = (Certificate.from_der(it) for it in (MIDDLE, LEAF))
+        asked = x509check.questions(ROOT, [middle, leaf], [])[1]
+        self.assertEqual((asked.algorithm, asked.message, asked.signature), (leaf.algorithm, leaf.tbs, leaf.signature))
+        self.assertEqual(asked.key, middle.subject_public_key_info)
+
+    def test_more_questions_than_there_is_room_for_at_first(self):
+        asked = x509check.questions(ROOT, [MIDDLE, LEAF], [ROOT_LIST] * 100 + [MIDDLE_LIST])
+        self.assertEqual(len(asked), 103)
+        self.assertEqual(asked[-1].fingerprint, GOOD_PRINTS["middle.crl"])
+
+    def test_faults(self):
+        for arguments, text, index in (((ROOT, [b"\x30\x00"], []), Text.CERTIFICATES, 1), ((ROOT, [], [LEAF]), Text.STATEMENTS, 0)):
+            with self.subTest(text.name), self.assertRaises(Fault) as caught:
+                x509check.questions(*arguments)
+            self.assertEqual((caught.exception.text, caught.exception.index), (text, index))
+
+
+class Judges(unittest.TestCase):
+    """Each judge finds the signatures of the authority good, and forged ones not."""
+
+    JUDGES = [x509check.by_openssl] + ([x509check.by_cryptography] if importlib.util.find_spec("cryptography") else [])
+
+    def test_signatures_that_openssl_made(self):
+        asked = x509check.questions(ROOT, [MIDDLE, LEAF], [ROOT_LIST, MIDDLE_LIST, RESPONSE])
+        for judge in self.JUDGES:
+            with self.subTest(judge.__name__):
+                self.assertEqual([judge(one) for one in asked], [True] * 6)
+                self.assertEqual([judge(dataclasses.replace(one, key=asked[1].key)) for one in asked[:2]], [False, True])
+                self.assertFalse(judge(dataclasses.replace(asked[0], message=asked[1].message)))
+                self.assertFalse(judge(dataclasses.replace(asked[0], signature=b"")))
+                self.assertFalse(judge(dataclasses.replace(asked[0], algorithm=b"\x30\x00")))
+
+    def test_algorithms(self):
+        """A self-signed certificate of each kind, by OpenSSL."""
+        rsa, pss = ["rsa", "-pkeyopt", "rsa_keygen_bits:2048"], ["-sigopt", "rsa_padding_mode:pss", "-sigopt", "rsa_pss_saltlen:digest"]
+        rows = [
+            (["ec", "-pkeyopt", "ec_paramgen_curve:P-384"], ["-sha384"]), (["ec", "-pkeyopt", "ec_paramgen_curve:P-521"], ["-sha512"]),
+            (["ed25519"], []), (["ed448"], []), (rsa, ["-sha256"]), (rsa, ["-sha384"]), (rsa, ["-sha512"]), (rsa, ["-sha256", *pss]),
+            (rsa, ["-sha512", *pss]),
+        ]
+        for key, words in rows:
+            with self.subTest(" ".join(key[:1] + words)), tempfile.TemporaryDirectory() as folder:
+                path = os.path.join(folder, "root.pem")
+                subprocess.run(["openssl", "req", "-x509", "-newkey", *key, "-nodes", *words, "-subj", "/CN=Root", "-keyout", os.devnull,
+                                "-out", path], check=True, stderr=subprocess.DEVNULL)
+                root, = x509check.load(path)
+                asked, = x509check.questions(root, [root], [])
+                for judge in self.JUDGES:
+                    self.assertTrue(judge(asked), judge.__name__)
+                    self.assertFalse(judge(dataclasses.replace(asked, message=asked.message + b"\0")), judge.__name__)
+
+    def test_a_verdict_of_each_judge(self):
+        for judge in (None, *self.JUDGES):
+            result = x509check.validate(ROOT, [MIDDLE, LEAF], [ROOT_LIST, MIDDLE_LIST], DECEMBER, SERVER_AUTH, judge)
+            self.assertEqual(result, Result(Verdict.VALID))
+
+    def test_a_judge_of_ones_own_is_asked_each_question_once(self):
+        asked = []
+        refuses = x509check.validate(ROOT, [MIDDLE, LEAF], [ROOT_LIST] * 3, DECEMBER, verify=lambda one: asked.append(one) is not None)
+        self.assertEqual(refuses, Result(Verdict.INVALID, 1, Reason.SIGNATURE))
+        self.assertEqual(len(asked), 3)
+        self.assertEqual(x509check.validate(ROOT, [MIDDLE, LEAF], [], DECEMBER, verify=lambda one: True), Result(Verdict.UNKNOWN, 1))
+        with self.assertRaises(ValueError):
+            x509check.validate(ROOT, [MIDDLE], [], DECEMBER, verify=lambda one: True, fingerprints=[])
+
+
+class Files(unittest.TestCase):
+    def test_pem_and_der_and_several(self):
+        self.assertEqual(x509check.load(os.path.join(AUTHORITY, "leaf.pem")), [LEAF])
+        self.assertEqual(x509check.load(os.path.join(AUTHORITY, "leaf.ocsp")), [RESPONSE])
+        self.assertEqual(x509check.load(MIDDLE + LEAF), [MIDDLE, LEAF])
+        pem = b"".join(b"-----BEGIN X-----\n!!\n-----END X-----\n-----BEGIN CERTIFICATE-----\n" + base64.encodebytes(it)
+                       + b"-----END CERTIFICATE-----\n" for it in (LEAF, MIDDLE))
+        self.assertEqual(x509check.load(pem), [LEAF, MIDDLE])
+        for octets in (b"", LEAF[:-1], b"text"):
+            with self.subTest(octets[:4]), self.assertRaises(Fault):
+                x509check.load(octets)
+        with self.assertRaises(ValueError):
+            x509check.load(b"-----BEGIN CERTIFICATE-----\n!\n-----END CERTIFICATE-----\n")
+
+    def test_a_path_is_put_in_order(self):
+        other = octets_of(os.path.join("..", "issuer.pem"))
+        for chain in ([LEAF, MIDDLE], [LEAF, ROOT, other, MIDDLE]):
+            self.assertEqual([one.octets for one in x509check.path_to(ROOT, chain)], [MIDDLE, LEAF])
+        for chain in ([], [ROOT], [LEAF], [LEAF, other]):
+            with self.subTest(len(chain)), self.assertRaises(x509check.NoPath):
+                x509check.path_to(ROOT, chain)
+
+
 class Refusals(unittest.TestCase):
     def refused(self, expected, *arguments, **words):
         with self.assertRaises(Fault) as caught:
             x509check.validate(*arguments, at=DECEMBER, fingerprints=GOOD_PRINTS.values(), **words)
         fault = caught.exception
         self.assertEqual((fault.text, fault.index, fault.number, fault.der, fault.offset), expected)
+        with self.assertRaises(Fault) as caught:
+            x509check.questions(*arguments)
+        self.assertEqual(str(caught.exception), str(fault))
 
     def test_certificates(self):
         self.refused((Text.CERTIFICATES, 0, 21, 4, 0), b"", [], [])

@@ -6,8 +6,8 @@ import os
 
 _HERE = os.path.dirname(os.path.realpath(__file__))
 _NAME = "libx509check.so"
-# Where `make bindings` puts it in the repository, from this folder.
-_BUILT = os.path.join(_HERE, "..", "..", "out", _NAME)
+# Where `make bindings` puts it in the repository, and `make install` beside share, from this folder.
+_PLACES = (os.path.join(_HERE, "..", "..", "out", _NAME), os.path.join(_HERE, "..", "..", "..", "..", "lib", _NAME))
 
 
 class LibraryMissing(ImportError):
@@ -67,10 +67,28 @@ class VerdictAnswer(ctypes.Structure):
     ]
 
 
+class Place(ctypes.Structure):
+    """Octets of one of two texts: 1 the certificates, 2 the statements."""
+
+    _fields_ = [("text", ctypes.c_uint32), ("offset", ctypes.c_size_t), ("length", ctypes.c_size_t)]
+
+
+class QuestionFields(ctypes.Structure):
+    _fields_ = [*((name, Place) for name in ("algorithm", "key_info", "message", "signature")), ("fingerprint", ctypes.c_uint8 * 32)]
+
+
+class AskedAnswer(ctypes.Structure):
+    _fields_ = [
+        *((name, ctypes.c_uint32) for name in ("text", "fault", "der_fault")),
+        ("offset", ctypes.c_size_t),
+        ("count", ctypes.c_size_t),
+    ]
+
+
 def _opened() -> ctypes.CDLL:
-    """The shared object that X509CHECK_LIBRARY names; else the one beside this file, the repository's, or the system's."""
+    """The shared object that X509CHECK_LIBRARY names; else the one beside this file, the repository's, the installed, or the system's."""
     named = os.environ.get("X509CHECK_LIBRARY")
-    places = [named] if named else [*filter(os.path.exists, (os.path.join(_HERE, _NAME), _BUILT)), _NAME]
+    places = [named] if named else [*filter(os.path.exists, (os.path.join(_HERE, _NAME), *_PLACES)), _NAME]
     try:
         return ctypes.CDLL(places[0])
     except OSError as cause:
@@ -86,6 +104,7 @@ def library() -> ctypes.CDLL:
         ("x509check_check", text, Answer),
         ("x509check_read_certificate", text, CertificateAnswer),
         ("x509check_fingerprint", [*(text * 4), ctypes.c_char_p], None),
+        ("x509check_questions", [*(text * 2), ctypes.POINTER(QuestionFields), ctypes.c_size_t], AskedAnswer),
         ("x509check_validate", [*(text * 3), ctypes.c_int64, *text], VerdictAnswer),
     ):
         call = getattr(opened, name)

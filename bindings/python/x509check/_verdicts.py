@@ -3,19 +3,16 @@
 import dataclasses
 import datetime
 import enum
-from typing import Iterable, List, Optional, Sequence, Union
+from typing import Iterable, List, Optional, Union
 
-from ._certificates import Certificate, check
-from ._faults import Fault, Text, refusal
-from ._library import VerdictAnswer, library
+from ._certificates import Certificate
+from ._library import library
+from ._questions import ask
+from ._rows import Octets, Rows
+from ._signatures import Judge, judge
 
 _REFUSED = 4
 _EPOCH = datetime.datetime(1970, 1, 1, tzinfo=datetime.timezone.utc)
-# The faults of texts of this kind that are not DER.
-_DER = {Text.CERTIFICATES: 21, Text.STATEMENTS: 41}
-
-Octets = Union[bytes, bytearray, memoryview]
-
 
 class Verdict(enum.IntEnum):
     """What is said of a path."""
@@ -97,16 +94,6 @@ def _seconds(at: Union[datetime.datetime, int]) -> int:
     return at
 
 
-def _row(text: Text, values: Sequence[bytes]) -> bytes:
-    """The values one behind the other. Each has to be one value of DER, so that none takes octets of the next."""
-    for index, value in enumerate(values):
-        try:
-            check(value)
-        except Fault as fault:
-            raise Fault(_DER[text], fault.offset, fault.number, text, index) from None
-    return b"".join(values)
-
-
 def _prints(fingerprints: Iterable[Octets]) -> bytes:
     values = [bytes(one) for one in fingerprints]
     for index, value in enumerate(values):
@@ -115,27 +102,10 @@ def _prints(fingerprints: Iterable[Octets]) -> bytes:
     return b"".join(values)
 
 
-def _asked(certificates: List[bytes], statements: List[bytes], prints: bytes, moment: int, purpose: bytes) -> VerdictAnswer:
-    rows = (_row(Text.CERTIFICATES, certificates), _row(Text.STATEMENTS, statements), prints)
-    return library().x509check_validate(*(it for row in rows for it in (row, len(row))), moment, purpose, len(purpose))
-
-
-def _located(answer: VerdictAnswer, certificates: List[bytes], statements: List[bytes]) -> Exception:
-    """The refusal, with its place in the value that is refused."""
-    if not answer.text:
-        return refusal(answer.fault, 0)
-    text = Text(answer.text)
-    values = certificates if text is Text.CERTIFICATES else statements
-    index, offset = 0, answer.offset
-    while index + 1 < len(values) and offset > len(values[index]):
-        offset -= len(values[index])
-        index += 1
-    if index + 1 < len(values) and offset == len(values[index]):
-        # It is the end of this value, or the begin of the next: without the next the first is refused too.
-        alone = (values[:index + 1], []) if text is Text.CERTIFICATES else (certificates, values[:index + 1])
-        if _asked(*alone, b"", 0, b"").text != text:
-            index, offset = index + 1, 0
-    return refusal(answer.fault, offset, answer.der_fault, text, index)
+def _good(rows: Rows, verify: Judge) -> List[bytes]:
+    """The fingerprints of the good signatures. Each question is asked once."""
+    asked = {question.fingerprint: question for question in ask(rows)}
+    return [print for print, question in asked.items() if verify(question)]
 
 
 def validate(
@@ -144,22 +114,31 @@ def validate(
     statements: Iterable[Octets],
     at: Union[datetime.datetime, int],
     purpose: Optional[str] = None,
-    fingerprints: Iterable[Octets] = (),
+    verify: Optional[Judge] = None,
+    *,
+    fingerprints: Optional[Iterable[Octets]] = None,
 ) -> Result:
     """The verdict on a path by statements at hand, without a store.
 
     Of the anchor the name and the key alone are used. The chain goes from the anchor's side to the certificate in question. Statements
     are lists (CRLs) and OCSP responses in any order; one that no issuer of the path signed changes nothing. The purpose is an object
-    identifier in dotted form. The fingerprints are those of the signatures that were found good elsewhere: no other is accepted.
+    identifier in dotted form.
+
+    `verify` is called with each `Question` that counts, and answers whether the signature is good; it has to give one question one
+    answer. Without it the package cryptography judges where it is there, and else OpenSSL's command line. If fingerprints are given,
+    nobody is asked: they are those of the signatures that were found good elsewhere, and no other is accepted.
 
     Raises a Fault if a certificate or a statement cannot be read, and ValueError for a moment, a purpose or a fingerprint that is none.
     """
-    certificates = [one.octets if isinstance(one, Certificate) else bytes(one) for one in (anchor, *chain)]
-    texts = [bytes(one) for one in statements]
-    prints = _prints(fingerprints)
-    answer = _asked(certificates, texts, prints, _seconds(at), b"" if purpose is None else _oid(purpose))
+    if verify is not None and fingerprints is not None:
+        raise ValueError("verify and fingerprints exclude each other")
+    moment, asked_for = _seconds(at), b"" if purpose is None else _oid(purpose)
+    given = None if fingerprints is None else _prints(fingerprints)
+    rows = Rows(anchor, chain, statements)
+    prints = b"".join(_good(rows, verify or judge)) if given is None else given
+    answer = library().x509check_validate(*rows.arguments(), prints, len(prints), moment, asked_for, len(asked_for))
     if answer.verdict == _REFUSED:
-        raise _located(answer, certificates, texts)
+        raise rows.refused(answer)
     verdict = Verdict(answer.verdict)
     if verdict is Verdict.VALID:
         return Result(verdict)

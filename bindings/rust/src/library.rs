@@ -67,6 +67,34 @@ pub(crate) struct VerdictAnswer {
     pub offset: usize,
 }
 
+/// `text` is 1 for the certificates, 2 for the statements.
+#[repr(C)]
+#[derive(Clone, Copy, Default)]
+pub(crate) struct Place {
+    pub text: u32,
+    pub offset: usize,
+    pub length: usize,
+}
+
+#[repr(C)]
+#[derive(Clone, Copy, Default)]
+pub(crate) struct QuestionFields {
+    pub algorithm: Place,
+    pub key_info: Place,
+    pub message: Place,
+    pub signature: Place,
+    pub fingerprint: [u8; 32],
+}
+
+#[repr(C)]
+pub(crate) struct AskedAnswer {
+    pub text: u32,
+    pub fault: u32,
+    pub der_fault: u32,
+    pub offset: usize,
+    pub count: usize,
+}
+
 extern "C" {
     pub(crate) fn x509check_check(octets: *const u8, length: usize) -> Answer;
     pub(crate) fn x509check_read_certificate(octets: *const u8, length: usize)
@@ -82,6 +110,14 @@ extern "C" {
         signature_length: usize,
         fingerprint: *mut u8,
     );
+    pub(crate) fn x509check_questions(
+        certificates: *const u8,
+        certificates_length: usize,
+        statements: *const u8,
+        statements_length: usize,
+        questions: *mut QuestionFields,
+        room: usize,
+    ) -> AskedAnswer;
     pub(crate) fn x509check_validate(
         certificates: *const u8,
         certificates_length: usize,
@@ -108,5 +144,8 @@ mod tests {
         assert_eq!(size_of::<Fields>(), 208);
         assert_eq!(size_of::<CertificateAnswer>(), 224);
         assert_eq!(size_of::<VerdictAnswer>(), 40);
+        assert_eq!(size_of::<Place>(), 24);
+        assert_eq!(size_of::<QuestionFields>(), 128);
+        assert_eq!(size_of::<AskedAnswer>(), 32);
     }
 }

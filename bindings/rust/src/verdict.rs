@@ -1,8 +1,12 @@
 //! Verdicts on paths (RFC 5280, 6; RFC 6960, 3.2).
 
-use crate::certificate::check;
-use crate::fault::{error_of, Error, Text};
-use crate::library::{x509check_validate, VerdictAnswer};
+use std::collections::HashSet;
+use std::fmt;
+
+use crate::fault::Error;
+use crate::judge::{asked_in, Judge, Questions};
+use crate::library::x509check_validate;
+use crate::rows::{Refusal, Rows};
 
 /// A question about a path.
 #[derive(Clone, Copy, Debug)]
@@ -13,8 +17,6 @@ pub struct Question<'a> {
     pub path: &'a [&'a [u8]],
     /// Lists (CRLs) and OCSP responses in any order. One that no issuer of the path signed changes nothing.
     pub statements: &'a [&'a [u8]],
-    /// Those of the signatures that were found good elsewhere: no other is accepted.
-    pub fingerprints: &'a [[u8; 32]],
     /// In seconds from 1970-01-01T00:00:00Z.
     pub moment: i64,
     /// The contents of an OBJECT IDENTIFIER, if a purpose is asked for; empty contents ask for none.
@@ -32,6 +34,24 @@ pub enum Verdict {
     Revoked { certificate: usize, reason: u32 },
     /// The first certificate of which no current statement speaks; none is revoked.
     Unknown { certificate: usize },
+}
+
+/// As the program prints it: a word, the certificate, and the number of the reason.
+impl fmt::Display for Verdict {
+    fn fmt(&self, out: &mut fmt::Formatter<'_>) -> fmt::Result {
+        match self {
+            Verdict::Valid => out.write_str("valid"),
+            Verdict::Invalid {
+                certificate,
+                reason,
+            } => write!(out, "invalid {certificate} {}", *reason as u32),
+            Verdict::Revoked {
+                certificate,
+                reason,
+            } => write!(out, "revoked {certificate} {reason}"),
+            Verdict::Unknown { certificate } => write!(out, "unknown {certificate}"),
+        }
+    }
 }
 
 /// Why a path is invalid, by rank.
@@ -75,80 +95,43 @@ const REASONS: [Reason; 16] = [
     Reason::TooLong,
 ];
 
-/// The values one behind the other. Each has to be one value of DER, so that none takes octets of the next.
-fn row_of(text: Text, values: &[&[u8]]) -> Result<Vec<u8>, Error> {
-    let number = match text {
-        Text::Certificates => 21,
-        Text::Statements => 41,
-    };
-    for (index, value) in values.iter().enumerate() {
-        if let Err(error) = check(value) {
-            return Err(match error {
-                Error::Refused(fault) => {
-                    error_of(number, fault.number, fault.offset, Some((text, index)))
-                }
-                Error::Memory => Error::Memory,
-            });
-        }
-    }
-    Ok(values.concat())
-}
-
 impl Question<'_> {
-    fn ask(&self, certificates: &[&[u8]], statements: &[&[u8]]) -> Result<VerdictAnswer, Error> {
-        let certificates = row_of(Text::Certificates, certificates)?;
-        let statements = row_of(Text::Statements, statements)?;
-        let fingerprints = self.fingerprints.concat();
+    /// What a judge may be asked, at whatever moment and for whatever purpose.
+    pub fn questions(&self) -> Result<Questions, Error> {
+        Questions::of(Rows::of(self.anchor, self.path, self.statements)?)
+    }
+
+    /// The fingerprints of the signatures that the judge finds good. It is asked each question once.
+    fn good(&self, rows: &Rows<'_>, judge: &impl Judge) -> Result<Vec<u8>, Error> {
+        let (mut seen, mut good) = (HashSet::new(), Vec::new());
+        for fields in &rows.questions()? {
+            let asked = asked_in(&rows.certificates, &rows.statements, fields);
+            if seen.insert(asked.fingerprint) && judge.is_good(&asked) {
+                good.extend_from_slice(&asked.fingerprint);
+            }
+        }
+        Ok(good)
+    }
+
+    /// The verdict of who believes the judge, or the first fault of a certificate or a statement that cannot be read.
+    pub fn verdict(&self, judge: &impl Judge) -> Result<Verdict, Error> {
+        let rows = Rows::of(self.anchor, self.path, self.statements)?;
+        let good = self.good(&rows, judge)?;
         let purpose = self.purpose.unwrap_or(&[]);
         // The pointers and the lengths are those of the slices, and the call only reads them.
-        Ok(unsafe {
+        let answer = unsafe {
             x509check_validate(
-                certificates.as_ptr(),
-                certificates.len(),
-                statements.as_ptr(),
-                statements.len(),
-                fingerprints.as_ptr(),
-                fingerprints.len(),
+                rows.certificates.as_ptr(),
+                rows.certificates.len(),
+                rows.statements.as_ptr(),
+                rows.statements.len(),
+                good.as_ptr(),
+                good.len(),
                 self.moment,
                 purpose.as_ptr(),
                 purpose.len(),
             )
-        })
-    }
-
-    /// The refusal, with its place in the value that is refused.
-    fn error(&self, answer: &VerdictAnswer, certificates: &[&[u8]]) -> Error {
-        let (text, values) = match answer.text {
-            1 => (Text::Certificates, certificates),
-            2 => (Text::Statements, self.statements),
-            _ => return error_of(answer.fault, 0, answer.offset, None),
         };
-        let (mut index, mut offset) = (0, answer.offset);
-        while index + 1 < values.len() && offset > values[index].len() {
-            offset -= values[index].len();
-            index += 1;
-        }
-        if index + 1 < values.len() && offset == values[index].len() {
-            // It is the end of this value, or the begin of the next: without the next the first is refused too.
-            let alone = &values[..=index];
-            let asked = match text {
-                Text::Certificates => self.ask(alone, &[]),
-                Text::Statements => self.ask(certificates, alone),
-            };
-            match asked {
-                Ok(first) if first.text == answer.text => {}
-                Ok(_) => (index, offset) = (index + 1, 0),
-                Err(error) => return error,
-            }
-        }
-        error_of(answer.fault, answer.der_fault, offset, Some((text, index)))
-    }
-
-    /// The verdict, or the first fault of a certificate or a statement that cannot be read.
-    pub fn verdict(&self) -> Result<Verdict, Error> {
-        let mut certificates = vec![self.anchor];
-        certificates.extend_from_slice(self.path);
-        let answer = self.ask(&certificates, self.statements)?;
         let certificate = answer.certificate;
         match answer.verdict {
             0 => Ok(Verdict::Valid),
@@ -161,7 +144,12 @@ impl Question<'_> {
                 reason: answer.reason,
             }),
             3 => Ok(Verdict::Unknown { certificate }),
-            _ => Err(self.error(&answer, &certificates)),
+            _ => Err(rows.refused(&Refusal {
+                text: answer.text,
+                fault: answer.fault,
+                der_fault: answer.der_fault,
+                offset: answer.offset,
+            })),
         }
     }
 }

@@ -1,7 +1,10 @@
 //! Tests over the small authority of the repository, whose signatures OpenSSL found good.
 
+use std::cell::RefCell;
 use std::fs;
-use x509check::{fingerprint, Certificate, Error, Fault, Question, Reason, Text, Verdict};
+use x509check::{
+    fingerprint, Asked, Certificate, Error, Fault, Fingerprints, Question, Reason, Text, Verdict,
+};
 
 /// 2026-12-01T00:00:00Z
 const DECEMBER: i64 = 1_796_083_200;
@@ -53,7 +56,6 @@ impl Authority {
             anchor: &self.root,
             path: &path,
             statements: &[],
-            fingerprints: &self.good,
             moment: DECEMBER,
             purpose: None,
         };
@@ -62,7 +64,7 @@ impl Authority {
             statements,
             ..question
         }
-        .verdict()
+        .verdict(&Fingerprints(&self.good))
     }
 
     fn verdict(&self, statements: &[&[u8]]) -> Verdict {
@@ -152,10 +154,6 @@ fn invalid_paths() {
         invalid(2, Reason::Expired)
     );
     assert_eq!(
-        authority.ask(&lists, |it| it.fingerprints = &[]),
-        invalid(1, Reason::Signature)
-    );
-    assert_eq!(
         authority.ask(&lists, |it| it.path = &[]),
         invalid(0, Reason::Empty)
     );
@@ -171,11 +169,63 @@ fn invalid_paths() {
         anchor: &authority.root,
         path: &leaf,
         statements: &lists,
-        fingerprints: &authority.good,
         moment: DECEMBER,
         purpose: None,
     };
-    assert_eq!(alone.verdict(), invalid(1, Reason::Signature));
+    assert_eq!(
+        alone.verdict(&Fingerprints(&authority.good)),
+        invalid(1, Reason::Signature)
+    );
+}
+
+#[test]
+fn a_judge_is_asked_each_question_once() {
+    let authority = Authority::read();
+    let path: [&[u8]; 2] = [&authority.middle, &authority.leaf];
+    let statements: [&[u8]; 4] = [
+        &authority.root_list,
+        &authority.middle_list,
+        &authority.response,
+        &authority.root_list,
+    ];
+    let question = Question {
+        anchor: &authority.root,
+        path: &path,
+        statements: &statements,
+        moment: DECEMBER,
+        purpose: None,
+    };
+    let questions = question.questions().unwrap();
+    // Two about the path, one about each list, two about the delegate's certificate and the response.
+    assert_eq!(questions.len(), 7);
+    assert!(questions
+        .iter()
+        .all(|asked| authority.good.contains(&asked.fingerprint)));
+    let first = questions.iter().next().unwrap();
+    let middle = Certificate::read(&authority.middle).unwrap();
+    assert_eq!(
+        (first.message, first.signature),
+        (middle.tbs(), middle.signature())
+    );
+    let asked = RefCell::new(Vec::new());
+    let judge = |one: &Asked<'_>| {
+        let print = fingerprint(one.algorithm, one.key_info, one.message, one.signature);
+        assert_eq!(print, one.fingerprint);
+        asked.borrow_mut().push(print);
+        true
+    };
+    assert_eq!(
+        question.verdict(&judge),
+        Ok(Verdict::Revoked {
+            certificate: 2,
+            reason: 1
+        })
+    );
+    assert_eq!(asked.borrow().len(), 6);
+    assert_eq!(
+        question.verdict(&|_: &Asked<'_>| false),
+        invalid(1, Reason::Signature)
+    );
 }
 
 fn refused(
@@ -223,11 +273,10 @@ fn refusals_name_the_value_and_the_place_in_it() {
             anchor: &authority.root,
             path: &path,
             statements: &[],
-            fingerprints: &[],
             moment: DECEMBER,
             purpose: None,
         }
-        .verdict()
+        .verdict(&Fingerprints(&[]))
     };
     assert_eq!(
         ask([ends, &authority.leaf]),

@@ -1,3 +1,4 @@
 mod Contents
 mod Usage
 mod Standing
+mod Asking

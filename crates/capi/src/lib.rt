@@ -5,6 +5,7 @@ mod answer;
 mod checking;
 mod fields;
 mod fingerprint_call;
+mod questions;
 mod reading;
 mod validating;
 
@@ -12,6 +13,7 @@ pub use answer::{Answer, CertificateAnswer, VerdictAnswer};
 pub use checking::x509check_check;
 pub use fields::{ExtensionFields, Fields, Part};
 pub use fingerprint_call::x509check_fingerprint;
+pub use questions::{Asked, Place, Question, x509check_questions};
 pub use reading::x509check_read_certificate;
 pub use validating::x509check_validate;
 

@@ -105,15 +105,18 @@ fn reads_extensions(rt: HostRuntime) {
 /// As in the header; in structs of `repr(C)` the fields stand in the order of the source.
 #[test]
 fn structs_have_their_sizes(rt: HostRuntime) {
-    const SIZES: [usize; 6] = [
+    const SIZES: [usize; 9] = [
         size_of::<Part>(),
         size_of::<Answer>(),
         size_of::<ExtensionFields>(),
         size_of::<Fields>(),
         size_of::<CertificateAnswer>(),
         size_of::<VerdictAnswer>(),
+        size_of::<Place>(),
+        size_of::<Question>(),
+        size_of::<Asked>(),
     ];
-    assert!(rt; SIZES == [16, 16, 56, 208, 224, 40]);
+    assert!(rt; SIZES == [16, 16, 56, 208, 224, 40, 24, 128, 32]);
 }
 
 #[test]
@@ -194,4 +197,87 @@ fn refuses_questions(rt: HostRuntime) {
 fn validation_wants_memory_or_answers(rt: HostRuntime) {
     let answer = asked(rt.alloc(), LISTS, GOOD, DECEMBER);
     assert!(rt; answer == verdict(0, 0, 0) || answer == refused(0, 33, 0, 0));
+}
+
+/// The questions about the path and statements, written to an array of five.
+fn questions(alloc: Global, statements: &[u8]) -> (Asked, [Question; 5]) {
+    let mut questions = [Question::default(); 5];
+    let asked = x509check_questions(alloc, PATH, statements, &mut questions);
+    (asked, questions)
+}
+
+fn counted(count: usize) -> Asked {
+    Asked {
+        count,
+        ..Asked::default()
+    }
+}
+
+fn has_print(question: &Question, print: &[u8]) -> bool {
+    question.fingerprint.as_slice() == print
+}
+
+/// The fingerprints are those that `examples/verdicts` printed.
+#[test]
+fn tells_questions(rt: HostRuntime) {
+    let (asked, written) = questions(rt.alloc(), LISTS);
+    assert!(rt; asked == counted(4));
+    assert!(rt; has_print(&written[0], &GOOD[..32]));
+    assert!(rt; has_print(&written[1], &GOOD[32..64]));
+    assert!(rt; has_print(&written[2], &GOOD[64..96]));
+    assert!(rt; has_print(&written[3], &GOOD[96..128]));
+    assert!(rt; written[4] == Question::default());
+}
+
+fn place(text: u32, offset: usize, length: usize) -> Place {
+    Place {
+        text,
+        offset,
+        length,
+    }
+}
+
+/// The offsets are those of `openssl asn1parse`: root has 410 octets, middle 413, and the list of root 187.
+#[test]
+fn tells_places(rt: HostRuntime) {
+    let (_, written) = questions(rt.alloc(), LISTS);
+    let (leaf, list) = (&written[1], &written[3]);
+    assert!(rt; leaf.algorithm == place(1, 410 + 413 + 16, 12));
+    assert!(rt; leaf.key_info == place(1, 410 + 132, 91));
+    assert!(rt; leaf.message == place(1, 410 + 413 + 4, 332));
+    assert!(rt; leaf.signature == place(1, 410 + 413 + 351, 71));
+    assert!(rt; list.algorithm == place(2, 187 + 103, 12));
+    assert!(rt; list.key_info == place(1, 410 + 132, 91));
+    assert!(rt; list.message == place(2, 187 + 3, 100));
+    assert!(rt; list.signature == place(2, 187 + 118, 71));
+}
+
+#[test]
+fn counts_questions_without_room(rt: HostRuntime) {
+    let alloc = rt.alloc();
+    let mut one = [Question::default(); 1];
+    assert!(rt; x509check_questions(alloc, PATH, LISTS, &mut one) == counted(4));
+    assert!(rt; has_print(&one[0], &GOOD[..32]));
+    assert!(rt; x509check_questions(alloc, PATH, b"", &mut []) == counted(2));
+}
+
+#[test]
+fn refuses_texts(rt: HostRuntime) {
+    let (asked, written) = questions(rt.alloc(), PATH);
+    let refused = Asked {
+        text: 2,
+        fault: 43,
+        offset: 8,
+        ..Asked::default()
+    };
+    assert!(rt; asked == refused);
+    assert!(rt; written[0] == Question::default());
+    let none = x509check_questions(rt.alloc(), b"", LISTS, &mut []);
+    assert!(rt; none.text == 1 && none.fault == 21 && none.der_fault == 4);
+}
+
+#[test]
+fn questioning_wants_memory_or_answers(rt: HostRuntime) {
+    let asked = x509check_questions(rt.alloc(), PATH, LISTS, &mut []);
+    assert!(rt; asked == counted(4) || asked.fault == 33);
 }

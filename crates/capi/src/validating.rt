@@ -42,7 +42,7 @@ fn answer_of(verdict: Verdict) -> VerdictAnswer
 }
 
 /// The number of the rule of DER that is broken, or 0.
-fn der_fault_of(rule: StatementRule) -> u32
+pub(crate) fn der_fault_of(rule: StatementRule) -> u32
     ensures { result ≡ der_number_of rule }
 {
     match rule {

@@ -5,3 +5,6 @@ mod Steps
 mod Unique
 mod DerRows
 mod OneAnswer
+mod Standing
+mod Adding
+mod AskedOfRows

@@ -1,7 +1,7 @@
--- A question in rows has one answer.
+-- A question in rows has one answer, which the fingerprints of what was judged give.
 use mathlib.Core.Path.{fun_ext}
 use Rattle.std.proofs.Common.{◌≡◌, ◌↔◌, ◌*◌, ℕ, zero, Bool, true, false, List, [], ◌∷◌, ◌++◌, length, take, drop, refl, sym, ap, subst, ◌∙◌, inl, inr, arith, take_all}
-use Rattle.std.specs.Prelude.{All, IsTrue}
+use Rattle.std.specs.Prelude.{All, Contains, IsTrue}
 use Rattle.std.proofs.lemmas.List.{length-append, take-append-le}
 use Rattle.std.proofs.lemmas.List.Elements.{All-tail}
 use Rattle.cert.specs.Certificate.{Certificate, certificate}
@@ -9,13 +9,16 @@ use Rattle.der.specs.Laws.{AreOctets}
 use Rattle.path.specs.Query.{Accepts}
 use Rattle.relying_agreement.specs.Verdict.{VerdictIsOne}
 use Rattle.relying_agreement.specs.declared.verdict.Verdict.{Verdict}
+use Rattle.relying_questions.specs.Agreement.{QuestionsDecide}
+use Rattle.relying_questions.specs.Questions.{Judgement, answer}
+use Rattle.relying_questions.specs.Seen.{print_of}
 use Rattle.relying_texts.specs.Texts.{IsVerdictByTexts, party_told}
 use Rattle.relying_rows.specs.declared.rows.RowFault.{RowFault}
 use Rattle.relying_rows.specs.declared.rows.RowFault.TheVariants.{Certificates, Statements, Fingerprints, Memory}
 use Rattle.relying_rows.specs.Row.{joined}
 use Rattle.relying_rows.specs.Fingerprints.{AcceptsPrints, ArePrints, IsCutShort, IsFingerprint}
 use Rattle.relying_rows.specs.Rows.{Rows, IsVerdictInRows, IsRowFault, query_in}
-use Rattle.relying_rows.specs.Laws.{AnswersAreOne}
+use Rattle.relying_rows.specs.Laws.{AnswersAreOne, PrintsDecide}
 use Rattle.relying_rows.proofs.Unique.{some_octets}
 use Rattle.relying_rows.proofs.DerRows.{certificates_der, certificates_one_way, statements_one_way}
 
@@ -91,3 +94,14 @@ no_fault rows octets too verdict Memory is fault = refl
 
 pub answers_are_one : VerdictIsOne → AnswersAreOne
 answers_are_one law rows octets too = record { verdict = one_verdict law rows octets too; never_both = no_fault rows octets too }
+
+-- ---- the fingerprints of what a verifier answers by yes
+
+alike : (accepts by_prints : Accepts) (prints : List (List ℕ)) (asked : Judgement) → AcceptsPrints by_prints prints → (IsTrue (answer accepts asked) ↔ Contains prints (print_of asked))
+    → answer accepts asked ≡ answer by_prints asked
+alike accepts by_prints prints asked are good =
+    same_truth (answer accepts asked) (answer by_prints asked) (Contains prints (print_of asked)) good (are asked.algorithm asked.key_info asked.message asked.signature)
+
+pub prints_decide : QuestionsDecide → PrintsDecide
+prints_decide law accepts by_prints query statements prints are good =
+    law query statements accepts by_prints (λ asked within. alike accepts by_prints prints asked are (good asked within))

@@ -24,12 +24,12 @@ ReadsDer {A} read = (octets : List ℕ) (it : A) → AreOctets octets → read o
 
 -- ---- a value at the front of octets
 
-front_octets : (front behind : List ℕ) → AreOctets (front ++ behind) → AreOctets front
+pub front_octets : (front behind : List ℕ) → AreOctets (front ++ behind) → AreOctets front
 front_octets [] behind are k = omega arith
 front_octets (octet ∷ front) behind are zero = are zero
 front_octets (octet ∷ front) behind are (suc k) = front_octets front behind (λ j. are (suc j)) k
 
-behind_octets : (front behind : List ℕ) → AreOctets (front ++ behind) → AreOctets behind
+pub behind_octets : (front behind : List ℕ) → AreOctets (front ++ behind) → AreOctets behind
 behind_octets [] behind are = are
 behind_octets (octet ∷ front) behind are = behind_octets front behind (λ k. are (suc k))
 
@@ -64,11 +64,11 @@ same_first front behind other more (v, is) (w, also) same =
 
 -- ---- a row
 
-head_read : {A F : Type 0} (read : List ℕ → Result A (F × ℕ)) (value : List ℕ) (values : List (List ℕ)) (it : A) (these : List A)
+pub head_read : {A F : Type 0} (read : List ℕ → Result A (F × ℕ)) (value : List ℕ) (values : List (List ℕ)) (it : A) (these : List A)
     → map read (value ∷ values) ≡ map Ok (it ∷ these) → read value ≡ Ok it
 head_read read value values it these each = cc
 
-tail_read : {A F : Type 0} (read : List ℕ → Result A (F × ℕ)) (value : List ℕ) (values : List (List ℕ)) (it : A) (these : List A)
+pub tail_read : {A F : Type 0} (read : List ℕ → Result A (F × ℕ)) (value : List ℕ) (values : List (List ℕ)) (it : A) (these : List A)
     → map read (value ∷ values) ≡ map Ok (it ∷ these) → map read values ≡ map Ok these
 tail_read read value values it these each = cc
 

@@ -1,9 +1,14 @@
 -- A row has one reading: it is refused, or it is read as one list of values.
-use Rattle.std.specs.Prelude.{◌≡◌, ℕ, List, Result}
+use Rattle.std.specs.Prelude.{◌≡◌, ◌↔◌, ℕ, List, Result, Contains, IsTrue}
 use Rattle.asn.specs.DerLaws.{AreOctets}
+use Rattle.path.specs.Query.{Query, Accepts}
 use Rattle.relying_agreement.specs.declared.verdict.Verdict.{Verdict}
+use Rattle.relying_texts.specs.Texts.{IsVerdictByTexts}
+use Rattle.relying_questions.specs.Questions.{Judgement, answer, questions_of}
+use Rattle.relying_questions.specs.Seen.{print_of}
 use Rattle.relying_rows.specs.declared.rows.RowFault.{RowFault}
 use Rattle.relying_rows.specs.declared.rows.RowFault.TheVariants.{Memory}
+use Rattle.relying_rows.specs.Fingerprints.{AcceptsPrints}
 use Rattle.relying_rows.specs.Row.{IsRow, IsRefusedAt}
 use Rattle.relying_rows.specs.Rows.{Rows, IsVerdictInRows, IsRowFault}
 
@@ -25,3 +30,10 @@ pub record HasOneAnswer (rows : Rows) : Type 0 where
 
 abbrev pub AnswersAreOne : Type 0
 AnswersAreOne = (rows : Rows) → AreOctets rows.certificates → AreOctets rows.statements → HasOneAnswer rows
+
+-- Fingerprints of the questions that a verifier answers by yes, and of no other question, give its verdict.
+abbrev pub PrintsDecide : Type 0
+PrintsDecide =
+    (accepts by_prints : Accepts) (query : Query) (statements prints : List (List ℕ)) → AcceptsPrints by_prints prints →
+    ((asked : Judgement) → Contains (questions_of query statements) asked → (IsTrue (answer accepts asked) ↔ Contains prints (print_of asked))) →
+    (verdict : Verdict) → IsVerdictByTexts accepts query statements verdict ↔ IsVerdictByTexts by_prints query statements verdict

@@ -6,5 +6,10 @@ pub mod Rows
 pub mod Reading
 pub mod Steps
 pub mod Laws
+pub mod Places
+pub mod Starts
+pub mod RowQuestions
 pub use Rattle.relying_texts.specs.Texts
 pub use Rattle.relying_texts.specs.View
+pub use Rattle.relying_questions.specs.Questions
+pub use Rattle.relying_questions.specs.Seen

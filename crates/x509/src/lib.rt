@@ -34,6 +34,9 @@
 //!        let question = at_hand::Question { anchor: &anchor, path: &path, moment, purpose };
 //!        let verdict = at_hand::verdict(alloc, &verifier, &question, &statements)?;
 //!
+//!    `at_hand::questions` tells beforehand what the verifier may be asked. `rows` has both calls on texts in which certificates, and
+//!    statements, stand one behind the other.
+//!
 //! 6. **Compare two parties** ([`compare`]). If both judge signatures alike and hold the same newest statements for the path, their
 //!    verdicts are equal, however the statements came: [`node_laws`] says so of the calls above.
 //!
@@ -125,9 +128,18 @@ pub mod revocation {
     pub use statements_parts::Refusal;
 }
 
-/// Verdicts by statements at hand, without a store.
+/// Verdicts by statements at hand, without a store, and what a verifier may be asked for them.
 pub mod at_hand {
+    pub use relying_questions::{Asked, Part, Source, question_laws, questions};
     pub use relying_texts::{Question, delivery_laws, verdict};
+}
+
+/// The same if certificates, statements and fingerprints stand in rows of octets, one behind the other.
+pub mod rows {
+    pub use relying_rows::{
+        Row, RowFault, RowPart, RowQuestion, Rows, answer_laws, print_laws, questions_in_rows,
+        row_laws, verdict_in_rows,
+    };
 }
 
 /// What a store holds, and how a connection is taken for a store and looked up.

@@ -1,0 +1,102 @@
+//! Answers the cases that bindings/compare writes: compare FILE
+//!
+//! A case has certificates, statements, fingerprints, a moment and a purpose. Its answer is a line with the verdict, and behind a tab a line
+//! of each question: the fingerprint and the four lengths.
+
+use std::{env, fs, process};
+use x509check::{Error, Fingerprints, Question, Text};
+
+/// What is left of a file.
+struct Left<'a>(&'a [u8]);
+
+impl<'a> Left<'a> {
+    fn take(&mut self, length: usize) -> &'a [u8] {
+        let (taken, left) = self.0.split_at(length);
+        self.0 = left;
+        taken
+    }
+
+    fn length(&mut self) -> usize {
+        u32::from_be_bytes(self.take(4).try_into().unwrap()) as usize
+    }
+
+    fn values(&mut self) -> Vec<&'a [u8]> {
+        (0..self.length())
+            .map(|_| {
+                let length = self.length();
+                self.take(length)
+            })
+            .collect()
+    }
+}
+
+/// The refusal with its place in the row, as examples/validate_path.c prints it.
+fn refused(error: Error, certificates: &[&[u8]], statements: &[&[u8]]) -> String {
+    let Error::Refused(fault) = error else {
+        return error.to_string();
+    };
+    let (text, values, index) = match fault.value {
+        Some((Text::Certificates, index)) => ("certificates", certificates, index),
+        Some((Text::Statements, index)) => ("statements", statements, index),
+        None => return error.to_string(),
+    };
+    let before: usize = values[..index].iter().map(|value| value.len()).sum();
+    let der = fault
+        .der
+        .map_or(String::new(), |der| format!(" (DER {der})"));
+    format!(
+        "refused {text} {}{der} at {}",
+        fault.number,
+        before + fault.offset
+    )
+}
+
+fn main() {
+    let Some(path) = env::args().nth(1) else {
+        eprintln!("usage: compare FILE");
+        process::exit(2);
+    };
+    let octets = fs::read(path).expect("the file can be read");
+    let mut left = Left(&octets);
+    while !left.0.is_empty() {
+        let (certificates, statements, prints) = (left.values(), left.values(), left.values());
+        let moment = i64::from_be_bytes(left.take(8).try_into().unwrap());
+        let purpose = left.values()[0];
+        let prints: Vec<[u8; 32]> = prints
+            .iter()
+            .map(|print| (*print).try_into().unwrap())
+            .collect();
+        let question = Question {
+            anchor: certificates[0],
+            path: &certificates[1..],
+            statements: &statements,
+            moment,
+            purpose: (!purpose.is_empty()).then_some(purpose),
+        };
+        match question.verdict(&Fingerprints(&prints)) {
+            Ok(verdict) => println!("{verdict}"),
+            Err(error) => println!("{}", refused(error, &certificates, &statements)),
+        }
+        let Ok(questions) = question.questions() else {
+            continue;
+        };
+        for asked in questions.iter() {
+            let print: String = asked
+                .fingerprint
+                .iter()
+                .map(|octet| format!("{octet:02x}"))
+                .collect();
+            let parts = [
+                asked.algorithm,
+                asked.key_info,
+                asked.message,
+                asked.signature,
+            ];
+            let lengths: String = parts
+                .iter()
+                .map(|part| format!(" {}", part.len()))
+                .collect();
+            println!("\t{print}{lengths}");
+        }
+    }
+}

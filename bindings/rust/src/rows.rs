@@ -1,0 +1,129 @@
+//! Certificates and statements one behind the other, as the library for C takes them, and where it refuses them.
+
+use crate::certificate::check;
+use crate::fault::{error_of, Error, Text};
+use crate::library::{x509check_questions, AskedAnswer, QuestionFields};
+
+/// The values one behind the other. Each has to be one value of DER, so that none takes octets of the next.
+fn row_of(text: Text, values: &[&[u8]]) -> Result<Vec<u8>, Error> {
+    let number = match text {
+        Text::Certificates => 21,
+        Text::Statements => 41,
+    };
+    for (index, value) in values.iter().enumerate() {
+        if let Err(error) = check(value) {
+            return Err(match error {
+                Error::Refused(fault) => {
+                    error_of(number, fault.number, fault.offset, Some((text, index)))
+                }
+                Error::Memory => Error::Memory,
+            });
+        }
+    }
+    Ok(values.concat())
+}
+
+/// What the library refuses of two rows.
+pub(crate) struct Refusal {
+    pub text: u32,
+    pub fault: u32,
+    pub der_fault: u32,
+    pub offset: usize,
+}
+
+/// A path and statements, as values and in rows.
+pub(crate) struct Rows<'a> {
+    values: Vec<&'a [u8]>,
+    statement_values: &'a [&'a [u8]],
+    pub certificates: Vec<u8>,
+    pub statements: Vec<u8>,
+}
+
+/// Asks the library; as many questions are written as there is room for.
+fn ask(certificates: &[u8], statements: &[u8], written: &mut [QuestionFields]) -> AskedAnswer {
+    // The pointers and the lengths are those of the slices. The call reads the first two, and writes to the third, which lies apart.
+    unsafe {
+        x509check_questions(
+            certificates.as_ptr(),
+            certificates.len(),
+            statements.as_ptr(),
+            statements.len(),
+            written.as_mut_ptr(),
+            written.len(),
+        )
+    }
+}
+
+impl<'a> Rows<'a> {
+    pub fn of(
+        anchor: &'a [u8],
+        path: &[&'a [u8]],
+        statements: &'a [&'a [u8]],
+    ) -> Result<Rows<'a>, Error> {
+        let mut values = vec![anchor];
+        values.extend_from_slice(path);
+        Ok(Rows {
+            certificates: row_of(Text::Certificates, &values)?,
+            statements: row_of(Text::Statements, statements)?,
+            values,
+            statement_values: statements,
+        })
+    }
+
+    /// The questions about the rows.
+    pub fn questions(&self) -> Result<Vec<QuestionFields>, Error> {
+        let mut written = vec![QuestionFields::default(); 64];
+        loop {
+            let answer = ask(&self.certificates, &self.statements, &mut written);
+            if answer.fault != 0 {
+                return Err(self.refused(&Refusal {
+                    text: answer.text,
+                    fault: answer.fault,
+                    der_fault: answer.der_fault,
+                    offset: answer.offset,
+                }));
+            }
+            let fits = answer.count <= written.len();
+            written.resize(answer.count, QuestionFields::default());
+            if fits {
+                return Ok(written);
+            }
+        }
+    }
+
+    /// Whether the values of the text up to the index are refused without the others.
+    fn refuses(&self, text: Text, index: usize) -> bool {
+        let (number, answer) = match text {
+            Text::Certificates => (1, ask(&self.values[..=index].concat(), &[], &mut [])),
+            Text::Statements => {
+                let statements = self.statement_values[..=index].concat();
+                (2, ask(&self.certificates, &statements, &mut []))
+            }
+        };
+        answer.text == number
+    }
+
+    /// The refusal, with its place in the value that is refused.
+    pub fn refused(&self, refusal: &Refusal) -> Error {
+        let (text, values) = match refusal.text {
+            1 => (Text::Certificates, &self.values[..]),
+            2 => (Text::Statements, self.statement_values),
+            _ => return error_of(refusal.fault, 0, refusal.offset, None),
+        };
+        let (mut index, mut offset) = (0, refusal.offset);
+        while index + 1 < values.len() && offset > values[index].len() {
+            offset -= values[index].len();
+            index += 1;
+        }
+        // It may be the end of this value, or the begin of the next.
+        if index + 1 < values.len() && offset == values[index].len() && !self.refuses(text, index) {
+            (index, offset) = (index + 1, 0);
+        }
+        error_of(
+            refusal.fault,
+            refusal.der_fault,
+            offset,
+            Some((text, index)),
+        )
+    }
+}
