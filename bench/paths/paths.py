@@ -24,8 +24,12 @@ DEPTHS = (3, 10, 64)
 SUBTREES = 8
 
 
-def name(text):
-    return sequence(value(0x31, sequence(oid("2.5.4.3"), value(0x0C, text.encode()))))
+PEOPLE = (("2.5.4.6", "US"), ("2.5.4.10", "Example Corporation"), ("2.5.4.11", "Division of Certificates"))
+
+
+def name(text, people=(), string=0x0C):
+    """A name of one attribute, or as people have them: country, organization, unit and common name, in strings of this type."""
+    return sequence(*(value(0x31, sequence(oid(kind), value(string, words.encode()))) for kind, words in (*people, ("2.5.4.3", text))))
 
 
 def extension(kind, content, critical=False):
@@ -39,6 +43,7 @@ def constraints(count):
 
 
 def certificate(serial, subject, issuer, is_ca, constrained):
+    """Subject and issuer are whole names."""
     extensions = []
     if is_ca:
         extensions.append(extension("2.5.29.19", sequence(TRUE), critical=True))
@@ -48,25 +53,27 @@ def certificate(serial, subject, issuer, is_ca, constrained):
     else:
         extensions.append(extension("2.5.29.17", sequence(value(0x82, b"www.example.com"))))
     signed = sequence(
-        value(0xA0, integer(2)), integer(serial), ECDSA_SHA256, name(issuer), VALIDITY, name(subject), KEY_INFO,
+        value(0xA0, integer(2)), integer(serial), ECDSA_SHA256, issuer, VALIDITY, subject, KEY_INFO,
         value(0xA3, sequence(*extensions)),
     )
     signature = sequence(integer(serial + 1), integer(serial + 2))
     return sequence(signed, ECDSA_SHA256, bits(signature))
 
 
-def path(depth, constrained):
+def path(depth, constrained, people=(), other=0x0C):
+    """A path; issuers have their names in strings of the other type."""
     names = ["Root"] + ["Authority %d" % number for number in range(1, depth)] + ["Target"]
-    yield certificate(1, "Root", "Root", True, False)
+    yield certificate(1, name("Root", people), name("Root", people, other), True, False)
     for number in range(1, depth + 1):
-        yield certificate(number + 1, names[number], names[number - 1], number < depth, constrained)
+        subject, issuer = name(names[number], people), name(names[number - 1], people, other)
+        yield certificate(number + 1, subject, issuer, number < depth, constrained)
 
 
 def main(folder):
     for depth in DEPTHS:
-        for title, constrained in (("plain", False), ("subtrees", True)):
+        for title, words in (("plain", (False,)), ("subtrees", (True,)), ("people", (False, PEOPLE)), ("spelled", (False, PEOPLE, 0x13))):
             with open(os.path.join(folder, "%s%d" % (title, depth)), "wb") as out:
-                for octets in path(depth, constrained):
+                for octets in path(depth, *words):
                     out.write(struct.pack("<I", len(octets)) + octets)
 
 
