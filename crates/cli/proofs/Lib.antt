@@ -6,4 +6,3 @@ mod Unanswered
 mod Statuses
 mod Ending
 mod Explaining
-mod Serving

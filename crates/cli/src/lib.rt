@@ -8,7 +8,6 @@ mod comparing;
 mod delivering;
 mod execution;
 mod explanation;
-mod sessions;
 mod sharing;
 mod stores;
 
@@ -19,5 +18,4 @@ pub use comparing::compare;
 pub use delivering::{Delivery, deliver};
 pub use execution::{Ended, execute, executed};
 pub use explanation::explain;
-pub use sessions::session;
 pub use stores::Stores;

@@ -7,8 +7,6 @@ mod delivering;
 #[cfg(test)]
 mod files;
 #[cfg(test)]
-mod in_session;
-#[cfg(test)]
 mod quick_start;
 #[cfg(test)]
 mod refused;
