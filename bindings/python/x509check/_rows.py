@@ -1,6 +1,6 @@
 """Certificates and statements one behind the other, as the library for C takes them, and where it refuses them."""
 
-from typing import Iterable, List, Sequence, Tuple, Union
+from typing import Iterable, List, Optional, Sequence, Tuple, Union
 
 from ._certificates import Certificate, check
 from ._faults import Fault, Text, refusal
@@ -15,14 +15,14 @@ def octets_of(one: Union[Certificate, Octets]) -> bytes:
     return one.octets if isinstance(one, Certificate) else bytes(one)
 
 
-def row_of(text: Text, values: Sequence[bytes]) -> bytes:
-    """The values one behind the other. Each has to be one value of DER, so that none takes octets of the next."""
+def first_broken(text: Text, values: Sequence[bytes]) -> Optional[Fault]:
+    """The fault of the first value that is not one value of DER: such a value would take octets of the next."""
     for index, value in enumerate(values):
         try:
             check(value)
         except Fault as fault:
-            raise Fault(_DER[text], fault.offset, fault.number, text, index) from None
-    return b"".join(values)
+            return Fault(_DER[text], fault.offset, fault.number, text, index)
+    return None
 
 
 class Rows:
@@ -31,7 +31,17 @@ class Rows:
     def __init__(self, anchor: Union[Certificate, Octets], chain: Iterable[Union[Certificate, Octets]], statements: Iterable[Octets]):
         self.certificates: List[bytes] = [octets_of(one) for one in (anchor, *chain)]
         self.statements: List[bytes] = [bytes(one) for one in statements]
-        self.texts: Tuple[bytes, bytes] = (row_of(Text.CERTIFICATES, self.certificates), row_of(Text.STATEMENTS, self.statements))
+        self.texts: Tuple[bytes, bytes] = (b"".join(self.certificates), b"".join(self.statements))
+        for text, values in ((Text.CERTIFICATES, self.certificates), (Text.STATEMENTS, self.statements)):
+            broken = first_broken(text, values)
+            if broken is None:
+                continue
+            if text is Text.STATEMENTS or broken.index > 0:
+                # What is wrong with the values before it comes first.
+                earlier = self._asked(text, broken.index)
+                if earlier.text:
+                    raise self.refused(earlier)
+            raise broken
 
     def arguments(self) -> Tuple[Union[bytes, int], ...]:
         """The rows as a call takes them: octets and length of each."""
@@ -52,12 +62,15 @@ class Rows:
             index, offset = index + 1, 0
         return refusal(answer.fault, offset, answer.der_fault, text, index)
 
-    def _refuses(self, text: Text, index: int) -> bool:
-        """Whether the values of the text up to the index are refused without the others."""
+    def _asked(self, text: Text, count: int) -> AskedAnswer:
+        """What the library says of the first values of the text, as many as that, without the others."""
         certificates, statements = self.texts
         if text is Text.CERTIFICATES:
-            certificates, statements = b"".join(self.certificates[:index + 1]), b""
+            certificates, statements = b"".join(self.certificates[:count]), b""
         else:
-            statements = b"".join(self.statements[:index + 1])
-        answer = library().x509check_questions(certificates, len(certificates), statements, len(statements), None, 0)
-        return answer.text == text
+            statements = b"".join(self.statements[:count])
+        return library().x509check_questions(certificates, len(certificates), statements, len(statements), None, 0)
+
+    def _refuses(self, text: Text, index: int) -> bool:
+        """Whether the values of the text up to the index are refused without the others."""
+        return self._asked(text, index + 1).text == text

@@ -4,23 +4,21 @@ use crate::certificate::check;
 use crate::fault::{error_of, Error, Text};
 use crate::library::{x509check_questions, AskedAnswer, QuestionFields};
 
-/// The values one behind the other. Each has to be one value of DER, so that none takes octets of the next.
-fn row_of(text: Text, values: &[&[u8]]) -> Result<Vec<u8>, Error> {
+/// The first value that is not one value of DER, and why: such a value would take octets of the next.
+fn first_broken(text: Text, values: &[&[u8]]) -> Option<(usize, Error)> {
     let number = match text {
         Text::Certificates => 21,
         Text::Statements => 41,
     };
-    for (index, value) in values.iter().enumerate() {
-        if let Err(error) = check(value) {
-            return Err(match error {
-                Error::Refused(fault) => {
-                    error_of(number, fault.number, fault.offset, Some((text, index)))
-                }
-                Error::Memory => Error::Memory,
-            });
-        }
-    }
-    Ok(values.concat())
+    values.iter().enumerate().find_map(|(index, value)| {
+        let error = match check(value).err()? {
+            Error::Refused(fault) => {
+                error_of(number, fault.number, fault.offset, Some((text, index)))
+            }
+            Error::Memory => Error::Memory,
+        };
+        Some((index, error))
+    })
 }
 
 /// What the library refuses of two rows.
@@ -62,12 +60,34 @@ impl<'a> Rows<'a> {
     ) -> Result<Rows<'a>, Error> {
         let mut values = vec![anchor];
         values.extend_from_slice(path);
-        Ok(Rows {
-            certificates: row_of(Text::Certificates, &values)?,
-            statements: row_of(Text::Statements, statements)?,
+        let rows = Rows {
+            certificates: values.concat(),
+            statements: statements.concat(),
             values,
             statement_values: statements,
-        })
+        };
+        rows.check_values(Text::Certificates, &rows.values)?;
+        rows.check_values(Text::Statements, rows.statement_values)?;
+        Ok(rows)
+    }
+
+    /// Refuses values of which one is broken; what is wrong with the values before it comes first.
+    fn check_values(&self, text: Text, values: &[&[u8]]) -> Result<(), Error> {
+        let Some((index, error)) = first_broken(text, values) else {
+            return Ok(());
+        };
+        if matches!(text, Text::Statements) || index > 0 {
+            let earlier = self.ask_first(text, index);
+            if earlier.text != 0 {
+                return Err(self.refused(&Refusal {
+                    text: earlier.text,
+                    fault: earlier.fault,
+                    der_fault: earlier.der_fault,
+                    offset: earlier.offset,
+                }));
+            }
+        }
+        Err(error)
     }
 
     /// The questions about the rows.
@@ -91,16 +111,24 @@ impl<'a> Rows<'a> {
         }
     }
 
+    /// What the library says of the first values of the text, as many as that, without the others.
+    fn ask_first(&self, text: Text, count: usize) -> AskedAnswer {
+        match text {
+            Text::Certificates => ask(&self.values[..count].concat(), &[], &mut []),
+            Text::Statements => {
+                let statements = self.statement_values[..count].concat();
+                ask(&self.certificates, &statements, &mut [])
+            }
+        }
+    }
+
     /// Whether the values of the text up to the index are refused without the others.
     fn refuses(&self, text: Text, index: usize) -> bool {
-        let (number, answer) = match text {
-            Text::Certificates => (1, ask(&self.values[..=index].concat(), &[], &mut [])),
-            Text::Statements => {
-                let statements = self.statement_values[..=index].concat();
-                (2, ask(&self.certificates, &statements, &mut []))
-            }
+        let number = match text {
+            Text::Certificates => 1,
+            Text::Statements => 2,
         };
-        answer.text == number
+        self.ask_first(text, index + 1).text == number
     }
 
     /// The refusal, with its place in the value that is refused.

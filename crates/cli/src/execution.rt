@@ -152,7 +152,12 @@ fn answer<'a, S: Source + Stores, O: Write>(
         Line::Compare { question, other } => {
             return Ok(comparison_status(compare(source, alloc, question, other, out)?));
         }
-        Line::Explain { words } => explain(words.as_slice(), out)?,
+        Line::Explain { words } => {
+            return match explain(words.as_slice(), out) {
+                Ok(()) => Ok(DONE),
+                Err(failure) => Err(failure),
+            };
+        }
     }
     Ok(DONE)
 }
