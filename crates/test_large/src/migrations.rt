@@ -1,7 +1,8 @@
 //! A store of version 1 with many lists.
 
 use crate::stores::{Disks, adopted_from, empty};
-use sqlite::{Connection, Files, Options, Transaction, ValueRef};
+use sqlite::types::ValueRef;
+use sqlite::{Connection, Files, Options, Transaction};
 use sqlite_disk::Memory;
 use statements_facts::{Issuer, NameKey, Scope};
 use std::alloc::Global;
