@@ -148,7 +148,7 @@ impl<'a> Tlv<'a> {
         }
     }
 
-    /// The seconds of this time (as `seconds_of_time`); the fault, at this value, if it is none.
+    /// The seconds of this time (as `seconds_of_time`). If the value is not a time, returns the fault at this value.
     #[tactic(auto, unfolding(crate::specs::Walk::seconds))]
     pub fn seconds<F: Copy>(&self, fault: F) -> Result<i64, (F, usize)>
         ensures walk { Gives (λ moment. moment) result (seconds fault (seen_tlv self.now)) }

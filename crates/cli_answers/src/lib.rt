@@ -1,4 +1,4 @@
-//! Answers as lines: what became of a delivery, a verdict, and a comparison of two; and the statuses of verdicts.
+//! Lines that answer: the counts of a delivery, a verdict, a comparison of two verdicts. The exit statuses of verdicts.
 #![tactic(auto)]
 
 mod counted;

@@ -8,7 +8,7 @@ pub enum KeeperFault {
     /// It refused, for another cause than memory.
     #[error("the store refused")]
     Refused,
-    /// It is none: what is there has not the form of what a keeper keeps.
+    /// What is there does not have the form of what a keeper keeps.
     #[error("no store")]
     NoKeeper,
     #[error("no memory")]

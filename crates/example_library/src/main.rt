@@ -69,7 +69,7 @@ fn run<W: Write>(alloc: Global, octets: &Octets, out: &mut W) -> Result<(), Fail
     let mut party = new_party(alloc)?;
     writeln!(out, "at first {:?}", party.verdict(alloc, &query)?)?;
 
-    // The root's list speaks of the CA, the CA's response of the mail server.
+    // The root's list is about the CA, and the CA's response is about the mail server.
     deliver(alloc, &mut party, &octets.root, &octets.root_list, out)?;
     deliver(alloc, &mut party, &octets.ca, &octets.response, out)?;
     writeln!(out, "then {:?}", party.verdict(alloc, &query)?)?;
