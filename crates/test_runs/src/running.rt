@@ -166,10 +166,13 @@ fn a_missing_file_cannot_be_read(rt: HostRuntime) -> Result<(), Fail> {
 const EXPLAINED: &str = "
 $ explain Expired
 rank 4 Expired: The moment is after the certificate's notAfter. The certificate has to be renewed. (RFC 5280, 6.1.3 (a) (2))
+status 0
 $ explain 17
 fault 17 MaskForm: A mask that is not ones and then zeros. Ask the issuer for a new certificate. (RFC 5280, 4.2.1.10)
+status 0
 $ explain reason 5
 reason 5 cessationOfOperation: The certificate is no longer needed; the key is not known to be in other hands. (RFC 5280, 5.3.1)
+status 0
 $ explain fault 99
 x509check: bad topic
 status 5
