@@ -6,7 +6,7 @@ use Rattle.cert.specs.SubjectPublicKeyInfo.{SubjectPublicKeyInfo}
 use Rattle.cli_words.specs.declared.line.Kind.{Kind}
 use Rattle.cli_words.specs.declared.line.Kind.TheVariants.{Certificate, RevocationList, Response}
 use Rattle.cli_words.specs.declared.line.Line.{Line}
-use Rattle.cli_words.specs.declared.line.Line.TheVariants.{Tree, Show, Prints, Deliver, Check, Compare, Explain}
+use Rattle.cli_words.specs.declared.line.Line.TheVariants.{Tree, Show, Prints, Deliver, Check, Compare, Explain, Session}
 use Rattle.cli_failures.specs.Failures.{Holding}
 use Rattle.cli_failures.specs.Report.{UnlessLate, report_line, status_of}
 use Rattle.cli_failures.specs.declared.failure.Failure.{Failure}
@@ -63,3 +63,4 @@ unflushed holds stands leaves (Deliver store verdicts issuer file) old new statu
 unflushed holds stands leaves (Check question) old new status (text, (verdict, is, ends, said), written) = inr ((verdict, is), refl)
 unflushed holds stands leaves (Compare question other) old new status (text, (comparison, is, ends, said), written) = inr ((comparison, is), refl)
 unflushed holds stands leaves (Explain words) old new status (text, (zero, is), written) = inr ((text, is), refl)
+unflushed holds stands leaves (Session store verdicts) old new status (text, (zero, is), written) = inr ((is.prints, is.begins), inr (inl refl))

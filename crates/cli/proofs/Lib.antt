@@ -6,3 +6,4 @@ mod Unanswered
 mod Statuses
 mod Ending
 mod Explaining
+mod Serving

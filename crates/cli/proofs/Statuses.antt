@@ -2,7 +2,7 @@
 use Rattle.std.proofs.Common.{◌≡◌, inl, inr, refl, ℕ, arith}
 use Rattle.cli_failures.specs.Report.{status_of}
 use Rattle.cli_failures.specs.declared.failure.Failure.{Failure}
-use Rattle.cli_failures.specs.declared.failure.Failure.TheVariants.{Refused, NoCertificate, NoRevocationList, NoResponse, NotGenuine, BadLine, BadTime, BadPurpose, BadTopic, Unreadable, Unwritable, StoreFailed, NoMemory}
+use Rattle.cli_failures.specs.declared.failure.Failure.TheVariants.{Refused, NoCertificate, NoRevocationList, NoResponse, NotGenuine, BadLine, BadTime, BadPurpose, BadTopic, Unreadable, Unwritable, StoreFailed, NoMemory, Shut, NoInput}
 use Rattle.cli.specs.Ended.{IsAnswering, IsFailing}
 
 -- a failure has one of three
@@ -16,6 +16,8 @@ is_failing (BadLine file line) = inl refl
 is_failing BadTime = inr (inl refl)
 is_failing BadPurpose = inr (inl refl)
 is_failing BadTopic = inr (inl refl)
+is_failing Shut = inr (inr refl)
+is_failing NoInput = inr (inr refl)
 is_failing (Unreadable file) = inr (inr refl)
 is_failing Unwritable = inr (inr refl)
 is_failing (StoreFailed number) = inr (inr refl)

@@ -3,6 +3,8 @@ pub mod Believed
 pub mod Asked
 pub mod Delivered
 pub mod Checked
+pub mod Session
+pub mod Serves
 pub mod Outcome
 pub mod Ended
 pub use Rattle.cli_answers.specs.Status

@@ -1,5 +1,5 @@
 -- What a run has done, by the status that it answers.
-use Rattle.std.specs.Prelude.{◌≡◌, ◌≢◌, ◌⊎◌, ℕ, List, Option, IsTrue, false, map}
+use Rattle.std.specs.Prelude.{◌≡◌, ◌≢◌, ◌⊎◌, ℕ, List, Option, IsTrue, false, map, option_map}
 use Rattle.std.specs.Io.KnownBytes.{Appends}
 use Rattle.clap.specs.Words.{Text}
 use Rattle.clap.specs.declared.error.kind.ErrorKind.{ErrorKind}
@@ -9,13 +9,14 @@ use Rattle.relying_agreement.specs.declared.verdict.Verdict.{Verdict}
 use Rattle.cli_answers.specs.AnswerText.{comparison_line, verdict_line}
 use Rattle.cli_words.specs.CommandLine.{AreRefusedWith, Reads}
 use Rattle.cli_words.specs.declared.line.Line.{Line}
-use Rattle.cli_words.specs.declared.line.Line.TheVariants.{Tree, Show, Prints, Deliver, Check, Compare, Explain}
+use Rattle.cli_words.specs.declared.line.Line.TheVariants.{Tree, Show, Prints, Deliver, Check, Compare, Explain, Session}
 use Rattle.cli_explaining.specs.Topics.{explanation, is_known}
 use Rattle.cli_failures.specs.Failures.{Holding, IsNoValue, OrUnwritable}
 use Rattle.cli_failures.specs.declared.failure.Failure.{Failure}
 use Rattle.cli_failures.specs.declared.failure.Failure.TheVariants.{BadTopic, NoMemory, Unwritable}
 use Rattle.cli.specs.Delivered.{IsDeliveredText, IsFailureOfDelivery, WasDelivered}
 use Rattle.cli.specs.Checked.{IsCompared, IsFailureOfCheck, IsFailureOfComparison, IsChecked, WasChecked, WereCompared}
+use Rattle.cli.specs.Session.{IsFailureOfSession, IsSessionText}
 use Rattle.cli.specs.Standing.{Leaving, Standing}
 use Rattle.cli_answers.specs.Status.{comparison_status, verdict_status}
 use Rattle.cli_showing.specs.Shown.{ArePrintsUnder, HoldUnder, HoldsKind, HoldsValue, IsFailureOfPrints, IsNotShown, IsShownText, IsTreeText}
@@ -60,6 +61,9 @@ IsAnswer holds stands leaves (Compare question other) status text =
     IsComparisonText (IsCompared holds stands leaves question other.now) status text
 IsAnswer holds stands leaves (Explain words) status text =
     (status ≡ 0) × IsExplanation (map (λ w. w.now) words.items) text
+IsAnswer holds stands leaves (Session store verdicts) status text =
+    (status ≡ 0)
+    × IsSessionText holds stands leaves store.now (option_map (λ w. w.now) verdicts) text
 
 -- that text was written, and nothing else
 abbrev pub IsDone : Holding → Standing → Leaving → Line → Option (List ℕ) → Option (List ℕ) → ℕ → Type 0
@@ -90,6 +94,8 @@ IsFailureOf holds stands leaves (Compare question other) =
 IsFailureOf holds stands leaves (Explain words) =
     OrUnwritable (IsNoTopic (map (λ w. w.now) words.items))
     ((text : List ℕ) × IsExplanation (map (λ w. w.now) words.items) text)
+IsFailureOf holds stands leaves (Session store verdicts) =
+    IsFailureOfSession holds stands store.now (option_map (λ w. w.now) verdicts)
 
 -- ---- words
 

@@ -7,7 +7,7 @@ ghost use Rattle.cli.specs.Ended.{HasEnded, HasEndedSo, IsAnswering, IsFailing, 
 ghost use Rattle.cli.specs.Outcome.{HasAnswered, IsDone, IsFailureOf, IsHelp};
 
 use crate::{
-    Delivery, Stores, check, compare, comparison_status, deliver, explain, verdict_status,
+    Delivery, Stores, check, compare, comparison_status, deliver, explain, session, verdict_status,
 };
 use clap::error::ErrorKind;
 use cli_failures::{Failure, Source};
@@ -15,7 +15,7 @@ use cli_showing::{prints, show, tree};
 use cli_words::{Line, command_of};
 use std::alloc::Global;
 use std::io;
-use std::io::Write;
+use std::io::{Read, Write};
 
 const DONE: u8 = 0;
 
@@ -32,11 +32,13 @@ pub struct Ended {
 
 /// Does what the words ask for, of which the first is the program's name, and answers the exit status: 0 if it was done, for a valid path
 /// and for help; 1, 2 and 3 for a path that is invalid, revoked or unknown; 7 for two verdicts that differ; 4 for refused input, 5 for
-/// mistaken words, 6 if a file, a store or a writer failed or there is no memory. Each of 4, 5 and 6 comes with a text on `err`.
-pub fn execute<S: Source + Stores, O: Write, E: Write>(
+/// mistaken words, 6 if a file, a store or a writer failed or there is no memory. Each of 4, 5 and 6 comes with a text on `err`. Only a
+/// session reads from `input`.
+pub fn execute<S: Source + Stores, I: Read, O: Write, E: Write>(
     source: &S,
     alloc: Global,
     words: &[&str],
+    input: &mut I,
     out: &mut O,
     err: &mut E,
 ) -> u8
@@ -49,14 +51,15 @@ pub fn execute<S: Source + Stores, O: Write, E: Write>(
         (S.stands source.now) (S.leaves source.now) (map (λ w. w.now) words.now)
         (out.new ≡ out.old) result }
 {
-    executed(source, alloc, words, out, err).status
+    executed(source, alloc, words, input, out, err).status
 }
 
 /// The same, with whether standard error took the line of what failed.
-pub fn executed<S: Source + Stores, O: Write, E: Write>(
+pub fn executed<S: Source + Stores, I: Read, O: Write, E: Write>(
     source: &S,
     alloc: Global,
     words: &[&str],
+    input: &mut I,
     out: &mut O,
     err: &mut E,
 ) -> Ended
@@ -71,7 +74,7 @@ pub fn executed<S: Source + Stores, O: Write, E: Write>(
         result.status }
 {
     match command_of(alloc, words) {
-        Ok(line) => finish(run(source, alloc, &line, out), err),
+        Ok(line) => finish(run(source, alloc, &line, input, out), err),
         Err(error) => answer_of_clap(&error, out, err),
     }
 }
@@ -95,10 +98,11 @@ fn finish<E: Write>(outcome: Result<u8, Failure<'_>>, err: &mut E) -> Ended
     }
 }
 
-fn run<'a, S: Source + Stores, O: Write>(
+fn run<'a, S: Source + Stores, I: Read, O: Write>(
     source: &S,
     alloc: Global,
     line: &Line<'a>,
+    input: &mut I,
     out: &mut O,
 ) -> Result<u8, Failure<'a>>
     ensures done { IfOk result (IsDone (S.holds source.now) (S.stands source.now)
@@ -108,17 +112,18 @@ fn run<'a, S: Source + Stores, O: Write>(
         (IsFailureOf (S.holds source.now) (S.stands source.now) (S.leaves source.now) line.now) }
     ensures quiet { IfErr result (λ failure. UnlessLate failure (out.new ≡ out.old)) }
 {
-    let status = answer(source, alloc, line, out)?;
+    let status = answer(source, alloc, line, input, out)?;
     match out.flush() {
         Ok(()) => Ok(status),
         Err(_) => Err(Failure::Unwritable),
     }
 }
 
-fn answer<'a, S: Source + Stores, O: Write>(
+fn answer<'a, S: Source + Stores, I: Read, O: Write>(
     source: &S,
     alloc: Global,
     line: &Line<'a>,
+    input: &mut I,
     out: &mut O,
 ) -> Result<u8, Failure<'a>>
     ensures done { IfOk result (IsDone (S.holds source.now) (S.stands source.now)
@@ -157,6 +162,9 @@ fn answer<'a, S: Source + Stores, O: Write>(
                 Ok(()) => Ok(DONE),
                 Err(failure) => Err(failure),
             };
+        }
+        Line::Session { store, verdicts } => {
+            session(source, alloc, store, *verdicts, input, out)?;
         }
     }
     Ok(DONE)

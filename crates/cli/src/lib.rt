@@ -8,6 +8,7 @@ mod comparing;
 mod delivering;
 mod execution;
 mod explanation;
+mod sessions;
 mod sharing;
 mod stores;
 
@@ -18,4 +19,5 @@ pub use comparing::compare;
 pub use delivering::{Delivery, deliver};
 pub use execution::{Ended, execute, executed};
 pub use explanation::explain;
+pub use sessions::session;
 pub use stores::Stores;

@@ -2,7 +2,9 @@
 ghost use Rattle.std.specs.Prelude.{◌≡◌, IfErr, IfOk};
 ghost use Rattle.sqlite.specs.Files.{file_state};
 ghost use Rattle.sqlite.specs.State.{HasCleanDisk};
+ghost use Rattle.store_adoption.specs.Creates.{IsSettled};
 ghost use Rattle.store_adoption.specs.Inspects.{IsStore};
+ghost use Rattle.store_sql.specs.Statements.{IsDurable};
 ghost use Rattle.cli.specs.Standing.{IsNotFound, IsNotMade, database, seen_in, told_of};
 
 use cli_failures::Failure;
@@ -34,12 +36,14 @@ pub trait Stores {
             HasCleanDisk (file_state store.conn) → IsStore (file_state store.conn).now) }
         ensures fails { IfErr result (IsNotFound (stands self.now) path.entry.now) };
 
-    /// The same; if no file is there, a store is made that holds nothing.
+    /// The same; if no file is there, a store is made that holds nothing. What it holds is committed, and is there behind a crash.
     fn open_or_make_store<'a>(&self, path: &'a str) -> Result<Store<File>, Failure<'a>>
         ensures stands { IfOk result (λ store.
             stands self.now path.entry.now (database (seen_in store))) }
         ensures store { IfOk result (λ store.
             HasCleanDisk (file_state store.conn) → IsStore (file_state store.conn).now) }
+        ensures settled { IfOk result (λ store. IsSettled (file_state store.conn)) }
+        ensures durable { IfOk result (λ store. IsDurable (file_state store.conn)) }
         ensures fails { IfErr result (IsNotMade (stands self.now) path.entry.now) };
 
     /// Closes a store of the path. What was committed to it is safe however that ends.
@@ -63,6 +67,8 @@ pub(crate) fn failed<'a>(fault: StoreFault) -> Failure<'a>
 fn open<'a>(rt: &HostRuntime, path: &str) -> Result<Store<File>, Failure<'a>>
     ensures store { IfOk result (λ store.
         HasCleanDisk (file_state store.conn) → IsStore (file_state store.conn).now) }
+    ensures settled { IfOk result (λ store. IsSettled (file_state store.conn)) }
+    ensures durable { IfOk result (λ store. IsDurable (file_state store.conn)) }
     ensures fails { IfErr result (λ failure. (fault : StoreFault) × (failure ≡ told_of fault)) }
 {
     match Store::open(rt, path) {
@@ -75,10 +81,15 @@ fn open<'a>(rt: &HostRuntime, path: &str) -> Result<Store<File>, Failure<'a>>
 fn make<'a>(rt: &HostRuntime, path: &str) -> Result<Store<File>, Failure<'a>>
     ensures store { IfOk result (λ store.
         HasCleanDisk (file_state store.conn) → IsStore (file_state store.conn).now) }
+    ensures settled { IfOk result (λ store. IsSettled (file_state store.conn)) }
+    ensures durable { IfOk result (λ store. IsDurable (file_state store.conn)) }
     ensures fails { IfErr result (λ failure. (fault : StoreFault) × (failure ≡ told_of fault)) }
 {
     match Store::make(rt, path) {
-        Ok(store) => Ok(store),
+        Ok(store) => {
+            let _settled = store.conn.is_autocommit();
+            Ok(store)
+        }
         Err(refusal) => Err(failed(refusal.fault())),
     }
 }

@@ -12,7 +12,7 @@ use Rattle.statements_parts.specs.declared.fault.StatementRule.TheVariants.{Der 
 use Rattle.statements_parts.specs.declared.fault.StatementFault.{StatementFault}
 use Rattle.statements_parts.specs.declared.fault.StatementFault.TheVariants.{Refused as Breaks}
 use Rattle.cli_failures.specs.declared.failure.Failure.{Failure}
-use Rattle.cli_failures.specs.declared.failure.Failure.TheVariants.{Refused, NoCertificate, NoRevocationList, NoResponse, NotGenuine, BadLine, BadTime, BadPurpose, BadTopic, Unreadable, Unwritable, StoreFailed, NoMemory}
+use Rattle.cli_failures.specs.declared.failure.Failure.TheVariants.{Refused, NoCertificate, NoRevocationList, NoResponse, NotGenuine, BadLine, BadTime, BadPurpose, BadTopic, Unreadable, Unwritable, StoreFailed, NoMemory, Shut, NoInput}
 
 -- ` at PLACE`, where there is one
 abbrev pub place_text : Option ℕ → List ℕ
@@ -93,6 +93,8 @@ told_line (Unreadable file) = unreadable_line file.now
 told_line Unwritable = codes "cannot write\n"
 told_line (StoreFailed number) = store_fault_line number
 told_line NoMemory = codes "no memory\n"
+told_line Shut = codes "store fault 71\n"
+told_line NoInput = codes "cannot read standard input\n"
 
 -- the same behind the name of the program
 abbrev pub report_line : Failure → List ℕ
@@ -113,12 +115,16 @@ status_of (Unreadable file) = 6
 status_of Unwritable = 6
 status_of (StoreFailed number) = 6
 status_of NoMemory = 6
+status_of Shut = 6
+status_of NoInput = 6
 
--- Where a run fails so, this is so: standard output is as it was. What was written before it failed itself, or before memory ran
--- out, is left open.
+-- Where a run fails so, this is so: standard output is as it was. What was written before it failed itself, before memory ran out, or in
+-- a session that was cut short, is left open.
 abbrev pub UnlessLate : Failure → Type 0 → Type 0
 UnlessLate Unwritable unchanged = Unit {0}
 UnlessLate NoMemory unchanged = Unit {0}
+UnlessLate Shut unchanged = Unit {0}
+UnlessLate NoInput unchanged = Unit {0}
 UnlessLate _ unchanged = unchanged
 
 -- a text of which this is so was written

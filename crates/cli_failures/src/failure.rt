@@ -63,6 +63,10 @@ pub enum Failure<'a> {
     },
     /// There is not enough memory.
     NoMemory,
+    /// The connection of a session's store was shut, behind the answers that were written.
+    Shut,
+    /// Standard input cannot be read, behind the answers that were written.
+    NoInput,
 }
 
 fn write_place<W: Write>(place: Option<usize>, writer: &mut W) -> io::Result<()>
@@ -231,7 +235,9 @@ impl<'a> Failure<'a> {
             Failure::Unreadable { .. }
             | Failure::Unwritable
             | Failure::StoreFailed { .. }
-            | Failure::NoMemory => 6,
+            | Failure::NoMemory
+            | Failure::Shut
+            | Failure::NoInput => 6,
         }
     }
 
@@ -277,6 +283,8 @@ impl<'a> Failure<'a> {
             Failure::Unwritable => write_text("cannot write\n", writer),
             Failure::StoreFailed { number } => write_store_failed(*number, writer),
             Failure::NoMemory => write_text("no memory\n", writer),
+            Failure::Shut => write_text("store fault 71\n", writer),
+            Failure::NoInput => write_text("cannot read standard input\n", writer),
         }
     }
 }

@@ -14,7 +14,7 @@ use Rattle.der_stream.specs.declared.reading.ReadFault.TheVariants.{Fault as OfV
 use Rattle.der_stream.specs.Sequence.{IsValueWithin, joined}
 use Rattle.cli_failures.specs.Failures.{Holding}
 use Rattle.cli_failures.specs.declared.failure.Failure.{Failure}
-use Rattle.cli_failures.specs.declared.failure.Failure.TheVariants.{Refused, NoCertificate, NoRevocationList, NoResponse, NotGenuine, BadLine, BadTime, BadPurpose, BadTopic, Unreadable, Unwritable, StoreFailed, NoMemory}
+use Rattle.cli_failures.specs.declared.failure.Failure.TheVariants.{Refused, NoCertificate, NoRevocationList, NoResponse, NotGenuine, BadLine, BadTime, BadPurpose, BadTopic, Unreadable, Unwritable, StoreFailed, NoMemory, Shut, NoInput}
 use Rattle.cli_operands.specs.PathText.{AreTexts, Begins, HoldsNoValue, HoldsOther, IsFailureOnPath, longest, most}
 use Rattle.cli_operands.specs.CertificateValues.{AreRead, IsFailureAmong, IsFailureAt, IsOtherAmong, IsToldOf, WereRead}
 use Rattle.cli_operands.specs.PathFiles.{IsFailureBehind}
@@ -71,6 +71,8 @@ among before value behind file (BadLine named line) read fails = fails
 among before value behind file BadTime read fails = fails
 among before value behind file BadPurpose read fails = fails
 among before value behind file BadTopic read fails = fails
+among before value behind file Shut read fails = fails
+among before value behind file NoInput read fails = fails
 among before value behind file (Unreadable named) read fails = fails
 among before value behind file Unwritable read fails = fails
 among before value behind file (StoreFailed number) read fails = fails
@@ -133,6 +135,8 @@ module _ (holds : Holding) (octets file : List ℕ) (held : holds file (Some oct
   refused_among values stopped BadTime read fails = of_memory BadTime fails
   refused_among values stopped BadPurpose read fails = of_memory BadPurpose fails
   refused_among values stopped BadTopic read fails = of_memory BadTopic fails
+  refused_among values stopped Shut read fails = of_memory Shut fails
+  refused_among values stopped NoInput read fails = of_memory NoInput fails
   refused_among values stopped (Unreadable named) read fails = of_memory (Unreadable named) fails
   refused_among values stopped Unwritable read fails = of_memory Unwritable fails
   refused_among values stopped (StoreFailed number) read fails = of_memory (StoreFailed number) fails
@@ -158,6 +162,8 @@ module _ (holds : Holding) (octets file : List ℕ) (held : holds file (Some oct
   told_behind values place rule at BadTime read are fails = of_memory BadTime fails
   told_behind values place rule at BadPurpose read are fails = of_memory BadPurpose fails
   told_behind values place rule at BadTopic read are fails = of_memory BadTopic fails
+  told_behind values place rule at Shut read are fails = of_memory Shut fails
+  told_behind values place rule at NoInput read are fails = of_memory NoInput fails
   told_behind values place rule at (Unreadable named) read are fails = of_memory (Unreadable named) fails
   told_behind values place rule at Unwritable read are fails = of_memory Unwritable fails
   told_behind values place rule at (StoreFailed number) read are fails = of_memory (StoreFailed number) fails
@@ -194,6 +200,8 @@ module _ (holds : Holding) (octets file : List ℕ) (held : holds file (Some oct
   refused_behind values None BadTime read are fails = absurd fails
   refused_behind values None BadPurpose read are fails = absurd fails
   refused_behind values None BadTopic read are fails = absurd fails
+  refused_behind values None Shut read are fails = absurd fails
+  refused_behind values None NoInput read are fails = absurd fails
   refused_behind values None (Unreadable named) read are fails = absurd fails
   refused_behind values None Unwritable read are fails = absurd fails
   refused_behind values None (StoreFailed number) read are fails = absurd fails

@@ -4,7 +4,7 @@ use Rattle.std.proofs.lemmas.List.{get_or_default, take-append-drop, take_more}
 use Rattle.cert.specs.Certificate.{Certificate, certificate}
 use Rattle.cli_failures.specs.Failures.{Holding, IsJust, IsNoCertificate, IsUnread}
 use Rattle.cli_failures.specs.declared.failure.Failure.{Failure}
-use Rattle.cli_failures.specs.declared.failure.Failure.TheVariants.{Refused, NoCertificate, NoRevocationList, NoResponse, NotGenuine, BadLine, BadTime, BadPurpose, BadTopic, Unreadable, Unwritable, StoreFailed, NoMemory}
+use Rattle.cli_failures.specs.declared.failure.Failure.TheVariants.{Refused, NoCertificate, NoRevocationList, NoResponse, NotGenuine, BadLine, BadTime, BadPurpose, BadTopic, Unreadable, Unwritable, StoreFailed, NoMemory, Shut, NoInput}
 use Rattle.cli_operands.specs.CertificateValues.{EndBehind, IsFailureAmong}
 use Rattle.cli_operands.specs.PathFiles.{AreCertificatesIn, AreCertificatesOf, AreFilesRead, IsFailureBehind, IsFailureIn, IsFailureOf, IsFileRead, values_of}
 use Rattle.cli_operands.specs.PathText.{HoldPath, HoldsCertificates, IsFailureOfPath, IsFailureOnPath}
@@ -85,6 +85,8 @@ unread_on holds file (BadLine named line) fails = absurd fails
 unread_on holds file BadTime fails = absurd fails
 unread_on holds file BadPurpose fails = absurd fails
 unread_on holds file BadTopic fails = absurd fails
+unread_on holds file Shut fails = absurd fails
+unread_on holds file NoInput fails = absurd fails
 unread_on holds file (Unreadable named) fails = fails
 unread_on holds file Unwritable fails = absurd fails
 unread_on holds file (StoreFailed number) fails = absurd fails
@@ -100,6 +102,8 @@ unread_certificate holds file (BadLine named line) fails = absurd fails
 unread_certificate holds file BadTime fails = absurd fails
 unread_certificate holds file BadPurpose fails = absurd fails
 unread_certificate holds file BadTopic fails = absurd fails
+unread_certificate holds file Shut fails = absurd fails
+unread_certificate holds file NoInput fails = absurd fails
 unread_certificate holds file (Unreadable named) fails = fails
 unread_certificate holds file Unwritable fails = absurd fails
 unread_certificate holds file (StoreFailed number) fails = absurd fails
@@ -115,6 +119,8 @@ no_certificate holds octets file (BadLine named line) held fails = absurd fails
 no_certificate holds octets file BadTime held fails = absurd fails
 no_certificate holds octets file BadPurpose held fails = absurd fails
 no_certificate holds octets file BadTopic held fails = absurd fails
+no_certificate holds octets file Shut held fails = absurd fails
+no_certificate holds octets file NoInput held fails = absurd fails
 no_certificate holds octets file (Unreadable named) held (same, none) = absurd (let wrong : ⊥ = cc in wrong)
 no_certificate holds octets file Unwritable held fails = absurd fails
 no_certificate holds octets file (StoreFailed number) held fails = absurd fails

@@ -6,7 +6,7 @@ use Rattle.std.proofs.KnownBytes.{Appends-nil, Appends-trans}
 use Rattle.std.proofs.lemmas.Bool.{eqb-true}
 use Rattle.std.proofs.lemmas.Grind.{flat_map-append}
 use Rattle.cli_failures.specs.Failures.{Holding}
-use Rattle.cli_failures.specs.declared.failure.Failure.TheVariants.{Refused, NoCertificate, NoRevocationList, NoResponse, NotGenuine, BadLine as OtherLine, BadTime, BadPurpose, BadTopic, Unreadable, Unwritable, StoreFailed, NoMemory}
+use Rattle.cli_failures.specs.declared.failure.Failure.TheVariants.{Refused, NoCertificate, NoRevocationList, NoResponse, NotGenuine, BadLine as OtherLine, BadTime, BadPurpose, BadTopic, Unreadable, Unwritable, StoreFailed, NoMemory, Shut, NoInput}
 use Rattle.cli_lines.specs.Lines.{GivesLine, IsLineRead}
 use Rattle.cli_lines.specs.declared.lines.LineRead.TheVariants.{TooLong}
 use Rattle.cli_steps.specs.AnswerText.{answer_text, failed_text}
@@ -54,6 +54,8 @@ refused (Failed (OtherLine file line)) is = absurd (not_so is)
 refused (Failed BadTime) is = absurd (not_so is)
 refused (Failed BadPurpose) is = absurd (not_so is)
 refused (Failed BadTopic) is = absurd (not_so is)
+refused (Failed Shut) is = absurd (not_so is)
+refused (Failed NoInput) is = absurd (not_so is)
 refused (Failed (Unreadable file)) is = absurd (not_so is)
 refused (Failed Unwritable) is = absurd (not_so is)
 refused (Failed NoMemory) is = absurd (not_so is)

@@ -17,7 +17,9 @@ pub struct Believed {
 impl Believed {
     /// What the verifier believes, and nothing else.
     pub fn new(alloc: Global, listed: ListVerifier) -> Believed
-        ensures { (prints : List (List ℕ)) → Believes listed prints → BelievesJust result prints }
+        ensures believes { (prints : List (List ℕ)) → Believes listed prints
+            → BelievesJust result prints }
+        ensures listed { result.listed ≡ listed }
     {
         Believed {
             listed,

@@ -8,7 +8,7 @@ use Rattle.relying_agreement.specs.declared.verdict.Verdict.{Verdict}
 use Rattle.statements_facts.specs.declared.counts.Counts.{Counts}
 use Rattle.cli_failures.specs.Failures.{Holding}
 use Rattle.cli_failures.specs.declared.failure.Failure.{Failure}
-use Rattle.cli_failures.specs.declared.failure.Failure.TheVariants.{Refused, NoCertificate, NoRevocationList, NoResponse, NotGenuine, BadLine, BadTime, BadPurpose, BadTopic, Unreadable, Unwritable, StoreFailed, NoMemory}
+use Rattle.cli_failures.specs.declared.failure.Failure.TheVariants.{Refused, NoCertificate, NoRevocationList, NoResponse, NotGenuine, BadLine, BadTime, BadPurpose, BadTopic, Unreadable, Unwritable, StoreFailed, NoMemory, Shut, NoInput}
 use Rattle.cli_keeping.specs.Keeping.{Keeping, taking, trying}
 use Rattle.cli_operands.specs.Question.{AcceptsJust}
 use Rattle.cli_requests.specs.Requests.{Path}
@@ -100,7 +100,11 @@ of_writer Fails Found BadTime (inr (found, is)) = absurd cc
 of_writer Fails Found BadPurpose (inl fails) = inl fails
 of_writer Fails Found BadPurpose (inr (found, is)) = absurd cc
 of_writer Fails Found BadTopic (inl fails) = inl fails
+of_writer Fails Found Shut (inl fails) = inl fails
+of_writer Fails Found NoInput (inl fails) = inl fails
 of_writer Fails Found BadTopic (inr (found, is)) = absurd cc
+of_writer Fails Found Shut (inr (found, is)) = absurd cc
+of_writer Fails Found NoInput (inr (found, is)) = absurd cc
 of_writer Fails Found (Unreadable file) (inl fails) = inl fails
 of_writer Fails Found (Unreadable file) (inr (found, is)) = absurd cc
 of_writer Fails Found (StoreFailed number) (inl fails) = inl fails

@@ -6,7 +6,7 @@ use Rattle.path.specs.Query.{Accepts, Query}
 use Rattle.relying_agreement.specs.declared.verdict.Verdict.{Verdict}
 use Rattle.cli_failures.specs.Failures.{Holding, HoldsCertificate, IsNoCertificate}
 use Rattle.cli_failures.specs.declared.failure.Failure.{Failure}
-use Rattle.cli_failures.specs.declared.failure.Failure.TheVariants.{Refused, NoCertificate, NoRevocationList, NoResponse, NotGenuine, BadLine, BadTime, BadPurpose, BadTopic, Unreadable, Unwritable, StoreFailed, NoMemory}
+use Rattle.cli_failures.specs.declared.failure.Failure.TheVariants.{Refused, NoCertificate, NoRevocationList, NoResponse, NotGenuine, BadLine, BadTime, BadPurpose, BadTopic, Unreadable, Unwritable, StoreFailed, NoMemory, Shut, NoInput}
 use Rattle.cli_keeping.specs.Keeping.{Keeping}
 use Rattle.cli_operands.proofs.Laws.{ask, refuse}
 use Rattle.cli_operands.specs.InOrder.{FailsFirst}
@@ -61,6 +61,8 @@ no_failure holds file (NotGenuine named fault) is fails = absurd fails
 no_failure holds file BadTime is fails = absurd fails
 no_failure holds file BadPurpose is fails = absurd fails
 no_failure holds file BadTopic is fails = absurd fails
+no_failure holds file Shut is fails = absurd fails
+no_failure holds file NoInput is fails = absurd fails
 no_failure holds file Unwritable is fails = absurd fails
 no_failure holds file (StoreFailed number) is fails = absurd fails
 

@@ -6,6 +6,7 @@ pub mod DeliverWords
 pub mod CheckWords
 pub mod CompareWords
 pub mod ExplainWords
+mod SessionWords
 pub mod Values
 pub mod Outcomes
 pub mod Building

@@ -5,10 +5,10 @@ use Rattle.cli_words.specs.App.{program}
 use Rattle.clap.specs.Kinds.{Kinds, HasKind, IsAmong}
 use Rattle.clap.specs.declared.error.Error.{Error}
 use Rattle.clap.specs.declared.error.kind.ErrorKind.TheVariants.{OutOfMemory}
-use Rattle.cli_words.specs.CommandLine.{Ask, AreRefusedWith, HasNoLine, HasOtherKind, IsCheck, IsCompare, IsDeliver, IsExplain, IsQuestion, IsLine, IsLineOf, IsPlainWord, IsPrints, IsShow, IsTree, LacksOneOf, Reads, TakesKind, kind_in, kind_named, of_check, of_compare, of_deliver, of_file, of_prints, words_in}
+use Rattle.cli_words.specs.CommandLine.{Ask, AreRefusedWith, HasNoLine, HasOtherKind, IsCheck, IsCompare, IsDeliver, IsExplain, IsQuestion, IsLine, IsLineOf, IsPlainWord, IsPrints, IsSession, IsShow, IsTree, LacksOneOf, Reads, TakesKind, kind_in, kind_named, of_check, of_compare, of_deliver, of_file, of_prints, of_session, words_in}
 use Rattle.cli_words.specs.declared.line.Kind.TheVariants.{Certificate}
 use Rattle.cli_words.specs.declared.line.Line.{Line}
-use Rattle.cli_words.specs.declared.line.Line.TheVariants.{Tree, Show, Prints, Deliver, Check, Compare, Explain}
+use Rattle.cli_words.specs.declared.line.Line.TheVariants.{Tree, Show, Prints, Deliver, Check, Compare, Explain, Session}
 use Rattle.cli_words.proofs.Turns.{Finds}
 use Rattle.cli_words.proofs.TreeWords.{entered as entered_tree, no_fault as no_fault_of_tree}
 use Rattle.cli_words.proofs.ShowWords.{entered as entered_show, no_fault as no_fault_of_show}
@@ -17,6 +17,7 @@ use Rattle.cli_words.proofs.DeliverWords.{deliver_words, entered as entered_deli
 use Rattle.cli_words.proofs.CheckWords.{check_words, entered as entered_check, no_fault as no_fault_of_check}
 use Rattle.cli_words.proofs.CompareWords.{compare_words, entered as entered_compare, no_fault as no_fault_of_compare}
 use Rattle.cli_words.proofs.ExplainWords.{entered as entered_explain, no_fault as no_fault_of_explain, rows as rows_of_explain, topic_found}
+use Rattle.cli_words.proofs.SessionWords.{entered as entered_session, no_fault as no_fault_of_session, session_words}
 use Rattle.cli_words.specs.declared.question.Question.{Question}
 use Rattle.clap.specs.Lexer.{usize_max}
 use Rattle.std.specs.List.{All}
@@ -115,6 +116,9 @@ tree_means entered rows file found (Show kind given) is line =
 tree_means entered rows file found (Explain words) is line =
     let letter : 116 ≡ 101 = ap (λ (text : Text). slice_index text 0) (line_in entered (codes "tree") rows (Explain words) is line).0 in
     absurd (omega (arith, letter))
+tree_means entered rows file found (Session path known) is line =
+    let letter : 116 ≡ 115 = ap (λ (text : Text). slice_index text 0) (line_in entered (codes "tree") rows (Session path known) is line).0 in
+    absurd (omega (arith, letter))
 tree_means entered rows file found (Prints signer kind given) is line =
     let letter : 116 ≡ 112 = ap (λ (text : Text). slice_index text 0) (line_in entered (codes "tree") rows (Prints signer kind given) is line).0 in
     absurd (omega (arith, letter))
@@ -148,6 +152,9 @@ show_means entered rows file none found (Tree given) is line =
     absurd (omega (arith, letter))
 show_means entered rows file none found (Explain words) is line =
     let letter : 115 ≡ 101 = ap (λ (text : Text). slice_index text 0) (line_in entered (codes "show") rows (Explain words) is line).0 in
+    absurd (omega (arith, letter))
+show_means entered rows file none found (Session path known) is line =
+    let letter : 104 ≡ 101 = ap (λ (text : Text). slice_index text 1) (line_in entered (codes "show") rows (Session path known) is line).0 in
     absurd (omega (arith, letter))
 show_means entered rows file none found (Prints signer kind given) is line =
     let letter : 115 ≡ 112 = ap (λ (text : Text). slice_index text 0) (line_in entered (codes "show") rows (Prints signer kind given) is line).0 in
@@ -183,6 +190,9 @@ prints_means entered rows issuer file finds (Tree given) is line =
     absurd (omega (arith, letter))
 prints_means entered rows issuer file finds (Explain words) is line =
     let letter : 112 ≡ 101 = ap (λ (text : Text). slice_index text 0) (line_in entered (codes "prints") rows (Explain words) is line).0 in
+    absurd (omega (arith, letter))
+prints_means entered rows issuer file finds (Session path known) is line =
+    let letter : 112 ≡ 115 = ap (λ (text : Text). slice_index text 0) (line_in entered (codes "prints") rows (Session path known) is line).0 in
     absurd (omega (arith, letter))
 prints_means entered rows issuer file finds (Show kind given) is line =
     let letter : 112 ≡ 115 = ap (λ (text : Text). slice_index text 0) (line_in entered (codes "prints") rows (Show kind given) is line).0 in
@@ -222,6 +232,9 @@ deliver_means entered rows store verdicts issuer file finds (Tree given) is line
     absurd (omega (arith, letter))
 deliver_means entered rows store verdicts issuer file finds (Explain words) is line =
     let letter : 100 ≡ 101 = ap (λ (text : Text). slice_index text 0) (line_in entered (codes "deliver") rows (Explain words) is line).0 in
+    absurd (omega (arith, letter))
+deliver_means entered rows store verdicts issuer file finds (Session path known) is line =
+    let letter : 100 ≡ 115 = ap (λ (text : Text). slice_index text 0) (line_in entered (codes "deliver") rows (Session path known) is line).0 in
     absurd (omega (arith, letter))
 deliver_means entered rows store verdicts issuer file finds (Show kind given) is line =
     let letter : 100 ≡ 115 = ap (λ (text : Text). slice_index text 0) (line_in entered (codes "deliver") rows (Show kind given) is line).0 in
@@ -292,6 +305,9 @@ check_means entered rows store verdicts moment anchor files found (Tree given) i
 check_means entered rows store verdicts moment anchor files found (Explain words) is line =
     let letter : 99 ≡ 101 = ap (λ (text : Text). slice_index text 0) (line_in entered (codes "check") rows (Explain words) is line).0 in
     absurd (omega (arith, letter))
+check_means entered rows store verdicts moment anchor files found (Session path known) is line =
+    let letter : 99 ≡ 115 = ap (λ (text : Text). slice_index text 0) (line_in entered (codes "check") rows (Session path known) is line).0 in
+    absurd (omega (arith, letter))
 check_means entered rows store verdicts moment anchor files found (Show kind given) is line =
     let letter : 99 ≡ 115 = ap (λ (text : Text). slice_index text 0) (line_in entered (codes "check") rows (Show kind given) is line).0 in
     absurd (omega (arith, letter))
@@ -334,6 +350,9 @@ compare_means entered rows store verdicts moment anchor other files found there 
     absurd (omega (arith, letter))
 compare_means entered rows store verdicts moment anchor other files found there (Explain words) is line =
     let letter : 99 ≡ 101 = ap (λ (text : Text). slice_index text 0) (line_in entered (codes "compare") rows (Explain words) is line).0 in
+    absurd (omega (arith, letter))
+compare_means entered rows store verdicts moment anchor other files found there (Session path known) is line =
+    let letter : 99 ≡ 115 = ap (λ (text : Text). slice_index text 0) (line_in entered (codes "compare") rows (Session path known) is line).0 in
     absurd (omega (arith, letter))
 compare_means entered rows store verdicts moment anchor other files found there (Show kind given) is line =
     let letter : 99 ≡ 115 = ap (λ (text : Text). slice_index text 0) (line_in entered (codes "compare") rows (Show kind given) is line).0 in
@@ -392,6 +411,9 @@ explain_means entered rows word found (Deliver path prints signer given) is line
 explain_means entered rows word found (Check asked) is line =
     let letter : 101 ≡ 99 = ap (λ (text : Text). slice_index text 0) (line_in entered (codes "explain") rows (Check asked) is line).0 in
     absurd (omega (arith, letter))
+explain_means entered rows word found (Session path known) is line =
+    let letter : 101 ≡ 115 = ap (λ (text : Text). slice_index text 0) (line_in entered (codes "explain") rows (Session path known) is line).0 in
+    absurd (omega (arith, letter))
 explain_means entered rows word found (Compare asked beside) is line =
     let letter : 101 ≡ 99 = ap (λ (text : Text). slice_index text 0) (line_in entered (codes "explain") rows (Compare asked beside) is line).0 in
     absurd (omega (arith, letter))
@@ -403,3 +425,48 @@ explain_known name word r plain is =
     (λ none. none.explain (rows_of_explain word) enters)
     (no_kind _ (codes "explain") (rows_of_explain word) enters explain_takes_no_kind)
     (λ line. explain_means _ (rows_of_explain word) word (topic_found word plain) line enters) is.reads is.refuses
+
+-- `session`
+session_takes_no_kind : TakesKind (codes "session") → ⊥
+session_takes_no_kind takes =
+    elim takes [
+      | inl show ↦ let letter : 101 ≡ 104 = ap (λ (text : Text). slice_index text 1) show in absurd (omega (arith, letter))
+      | inr prints ↦ let letter : 115 ≡ 112 = ap (λ (text : Text). slice_index text 0) prints in absurd (omega (arith, letter))
+    ]
+
+session_means : (entered : Option (Text × List Row)) (rows : List Row) (store : Text)
+    → Finds ((codes "store", Some store) ∷ (codes "verdicts", None) ∷ []) rows
+    → (line : Line) → entered ≡ Some (codes "session", rows) → IsLineOf entered line → IsSession store line
+session_means entered rows store finds (Session path verdicts) is line =
+    let says = line_in entered (codes "session") rows (Session path verdicts) is line in
+    (same_text (first_of (codes "store") rows) store path.now finds.0 says.1, no_purpose verdicts (sym says.2 ∙ finds.1.0))
+session_means entered rows store finds (Tree given) is line =
+    let letter : 115 ≡ 116 = ap (λ (text : Text). slice_index text 0) (line_in entered (codes "session") rows (Tree given) is line).0 in
+    absurd (omega (arith, letter))
+session_means entered rows store finds (Show kind given) is line =
+    let letter : 101 ≡ 104 = ap (λ (text : Text). slice_index text 1) (line_in entered (codes "session") rows (Show kind given) is line).0 in
+    absurd (omega (arith, letter))
+session_means entered rows store finds (Prints signer kind given) is line =
+    let letter : 115 ≡ 112 = ap (λ (text : Text). slice_index text 0) (line_in entered (codes "session") rows (Prints signer kind given) is line).0 in
+    absurd (omega (arith, letter))
+session_means entered rows store finds (Deliver path prints signer given) is line =
+    let letter : 115 ≡ 100 = ap (λ (text : Text). slice_index text 0) (line_in entered (codes "session") rows (Deliver path prints signer given) is line).0 in
+    absurd (omega (arith, letter))
+session_means entered rows store finds (Check asked) is line =
+    let letter : 115 ≡ 99 = ap (λ (text : Text). slice_index text 0) (line_in entered (codes "session") rows (Check asked) is line).0 in
+    absurd (omega (arith, letter))
+session_means entered rows store finds (Compare asked beside) is line =
+    let letter : 115 ≡ 99 = ap (λ (text : Text). slice_index text 0) (line_in entered (codes "session") rows (Compare asked beside) is line).0 in
+    absurd (omega (arith, letter))
+session_means entered rows store finds (Explain words) is line =
+    let letter : 115 ≡ 101 = ap (λ (text : Text). slice_index text 0) (line_in entered (codes "session") rows (Explain words) is line).0 in
+    absurd (omega (arith, letter))
+
+pub session_known : (name store : Text) (r : Result Line Error) → IsPlainWord store → IsReadAs (name ∷ codes "session" ∷ session_words store) r
+    → MatchResult r (IsSession store) (λ e. kind_of e ≡ OutOfMemory)
+session_known name store r plain is =
+    let enters = entered_session name store plain in
+    known (IsSession store) (name ∷ codes "session" ∷ session_words store) r (no_fault_of_session name store plain)
+    (λ none. not_lacking of_session enters.rows ((store, enters.finds.0), tt) (none.session enters.rows enters.is))
+    (no_kind _ (codes "session") enters.rows enters.is session_takes_no_kind)
+    (λ line. session_means _ enters.rows store enters.finds line enters.is) is.reads is.refuses

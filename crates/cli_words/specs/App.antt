@@ -118,6 +118,14 @@ topic = record (new_rule (codes "topic")) {
 abbrev pub explain : App
 explain = with_rule (new_app (codes "explain")) topic
 
+-- `--verdicts VERDICTS`, which may be left out
+abbrev pub known : Rule
+known = record (new_rule (codes "verdicts")) { long = Some (codes "verdicts"); value_names = 1 }
+
+-- `session --store STORE [--verdicts VERDICTS]`
+abbrev pub session : App
+session = with_rule (with_rule (new_app (codes "session")) store) known
+
 -- a command that wants one of its subcommands
 abbrev pub wanting_subcommand : App → App
 wanting_subcommand a = record a { top = record a.top { subcommand_required = true } }
@@ -136,6 +144,10 @@ delivering = with_subcommand (with_subcommand looking prints.top) deliver.top
 abbrev pub validating : App
 validating = with_subcommand (with_subcommand delivering check.top) compare.top
 
+-- with the one that explains
+abbrev pub explaining : App
+explaining = with_subcommand validating explain.top
+
 -- the program
 abbrev pub program : App
-program = with_subcommand validating explain.top
+program = with_subcommand explaining session.top

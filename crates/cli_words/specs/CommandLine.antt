@@ -7,7 +7,7 @@ use Rattle.clap.specs.declared.error.kind.ErrorKind.{ErrorKind}
 use Rattle.clap.specs.declared.error.kind.ErrorKind.TheVariants.{InvalidValue, MissingRequiredArgument}
 use Rattle.cli_words.specs.App.{program}
 use Rattle.cli_words.specs.declared.line.Line.{Line}
-use Rattle.cli_words.specs.declared.line.Line.TheVariants.{Tree, Show, Prints, Deliver, Check, Compare, Explain}
+use Rattle.cli_words.specs.declared.line.Line.TheVariants.{Tree, Show, Prints, Deliver, Check, Compare, Explain, Session}
 use Rattle.cli_words.specs.declared.question.Question.{Question}
 use Rattle.cli_words.specs.declared.line.Kind.{Kind}
 use Rattle.cli_words.specs.declared.line.Kind.TheVariants.{Certificate, RevocationList, Response}
@@ -62,6 +62,9 @@ IsLine (name, rows) (Compare question other) =
 IsLine (name, rows) (Explain words) =
     (name ≡ codes "explain")
     × (map (λ s. s.now) words.items ≡ words_in (all_of (codes "topic") rows))
+IsLine (name, rows) (Session store verdicts) =
+    (name ≡ codes "session") × Gives rows (codes "store") store
+    × (first_of (codes "verdicts") rows ≡ option_map (λ s. s.now) verdicts)
 
 -- the line of the subcommand that was entered
 abbrev pub IsLineOf : Option (Text × List Row) → Line → Type 0
@@ -89,6 +92,9 @@ of_check =
 abbrev pub of_compare : List Text
 of_compare = codes "other" ∷ of_check
 
+abbrev pub of_session : List Text
+of_session = codes "store" ∷ []
+
 -- where the subcommand was entered, one of these is missing
 abbrev pub EnteredWithout : Option (Text × List Row) → Text → List Text → Type 0
 EnteredWithout entered name ids = (rows : List Row) → entered ≡ Some (name, rows) → LacksOneOf ids rows
@@ -102,6 +108,7 @@ pub record HasNoLine (entered : Option (Text × List Row)) : Type 0 where
   pub check : EnteredWithout entered (codes "check") of_check
   pub compare : EnteredWithout entered (codes "compare") of_compare
   pub explain : EnteredWithout entered (codes "explain") []
+  pub session : EnteredWithout entered (codes "session") of_session
 
 -- the subcommands that take the name of a kind
 abbrev pub TakesKind : Text → Type 0
@@ -193,3 +200,8 @@ IsCompare store verdicts moment anchor beside files _ = ⊥
 abbrev pub IsExplain : Text → Line → Type 0
 IsExplain word (Explain words) = map (λ s. s.now) words.items ≡ word ∷ []
 IsExplain word _ = ⊥
+
+-- `session --store STORE`
+abbrev pub IsSession : Text → Line → Type 0
+IsSession path (Session store verdicts) = (store.now ≡ path) × (verdicts ≡ None)
+IsSession path _ = ⊥

@@ -2,7 +2,7 @@
 ghost use Rattle.std.specs.Prelude.{◌≡◌, IfOk, false};
 ghost use Rattle.clap.specs.Words.{app_of, new_app, rule_of};
 ghost use Rattle.clap.specs.declared.builder.command.Command.TheViews.{out-Command as fields_of};
-ghost use Rattle.cli_words.specs.App.{anchor as anchor_rule, anchored as anchored_app, asking as asking_app, certificates as certificates_rule, file as file_rule, issuer as issuer_rule, kind as kind_rule, moment as moment_rule, other as other_rule, purpose as purpose_rule, store as store_rule, storing as storing_app, verdicts as verdicts_rule, check as check_app, compare as compare_app, deliver as deliver_app, delivering as delivering_app, looking as looking_app, program as program_app, prints as prints_app, show as show_app, tree as tree_app, topic as topic_rule, explain as explain_app, validating as validating_app};
+ghost use Rattle.cli_words.specs.App.{anchor as anchor_rule, anchored as anchored_app, asking as asking_app, certificates as certificates_rule, file as file_rule, issuer as issuer_rule, kind as kind_rule, moment as moment_rule, other as other_rule, purpose as purpose_rule, store as store_rule, storing as storing_app, verdicts as verdicts_rule, check as check_app, compare as compare_app, deliver as deliver_app, delivering as delivering_app, looking as looking_app, program as program_app, prints as prints_app, show as show_app, tree as tree_app, topic as topic_rule, explain as explain_app, explaining as explaining_app, known as known_rule, session as session_app, validating as validating_app};
 
 use clap::{Arg, Command};
 use std::alloc::{AllocError, Global};
@@ -307,9 +307,42 @@ fn validating<'a>(alloc: Global) -> Result<Command<'a>, AllocError>
         .subcommand(compare(alloc)?)
 }
 
+// The same, with the one that explains.
+fn explaining<'a>(alloc: Global) -> Result<Command<'a>, AllocError>
+    ensures app { IfOk result (λ c. app_of c ≡ explaining_app) }
+    ensures local { IfOk result (λ c. (fields_of c).has_globals ≡ false) }
+{
+    validating(alloc)?.subcommand(explain(alloc)?)
+}
+
+// --verdicts VERDICTS: it may be left out.
+fn known<'a>(alloc: Global) -> Arg<'a>
+    ensures rule { rule_of result ≡ known_rule }
+    ensures local { result.global ≡ false }
+{
+    Arg::new(alloc, "verdicts")
+        .long("verdicts")
+        .value_name("VERDICTS")
+        .help("A file of the fingerprints of good signatures to begin with, one a line")
+}
+
+fn session<'a>(alloc: Global) -> Result<Command<'a>, AllocError>
+    ensures app { IfOk result (λ c. app_of c ≡ session_app) }
+    ensures local { IfOk result (λ c. (fields_of c).has_globals ≡ false) }
+{
+    described(
+        alloc,
+        "session",
+        "Answers requests on standard input, a line each, over a store that stays open",
+        "Example: echo quit | x509check session --store store",
+    )
+    .arg(store(alloc))?
+    .arg(known(alloc))
+}
+
 /// The program's command, with all of its subcommands.
 pub fn program<'a>(alloc: Global) -> Result<Command<'a>, AllocError>
     ensures { IfOk result (λ c. app_of c ≡ program_app) }
 {
-    validating(alloc)?.subcommand(explain(alloc)?)
+    explaining(alloc)?.subcommand(session(alloc)?)
 }

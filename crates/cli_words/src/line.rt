@@ -4,7 +4,7 @@ ghost use Rattle.std.specs.List.{All};
 ghost use Rattle.clap.specs.Words.{Text, first_of, found_of, kind_of, rows_of, subcommand_rows_of};
 ghost use Rattle.clap.specs.declared.error.kind.ErrorKind.TheVariants.{OutOfMemory};
 ghost use Rattle.cli_words.specs.declared.line.Flaw.TheVariants.{NoMemory, OtherKind};
-ghost use Rattle.cli_words.specs.CommandLine.{AreRefusedWith, HasFlaw, IsCheck, IsCompare, IsDeliver, IsExplain, IsFlaw, IsFlawOfQuestion, IsLine, IsLineOf, IsPlainWord, IsPrints, IsShow, IsTree, LacksOneOf, Reads, kind_in, kind_named, of_check, of_compare, of_deliver, of_file, of_prints};
+ghost use Rattle.cli_words.specs.CommandLine.{AreRefusedWith, HasFlaw, IsCheck, IsCompare, IsDeliver, IsExplain, IsFlaw, IsFlawOfQuestion, IsLine, IsLineOf, IsPlainWord, IsPrints, IsSession, IsShow, IsTree, LacksOneOf, Reads, kind_in, kind_named, of_check, of_compare, of_deliver, of_file, of_prints, of_session};
 
 use crate::app::program;
 use crate::question::{Question, asked};
@@ -61,6 +61,12 @@ pub enum Line<'a> {
     /// Print what the fault, reason or status of these words means; all of them if there is no word.
     Explain {
         words: Vec<&'a str>,
+    },
+    /// Answer requests over the store, which is made if there is none. A signature is good if its fingerprint is among the verdicts, if
+    /// there are any, or came in a request.
+    Session {
+        store: &'a str,
+        verdicts: Option<&'a str>,
     },
 }
 
@@ -179,6 +185,16 @@ fn explain_line<'a>(alloc: Global, matches: &ArgMatches<'a>) -> Result<Line<'a>,
     }
 }
 
+fn session_line<'a>(matches: &ArgMatches<'a>) -> Option<Line<'a>>
+    ensures some { IfSome result (IsLine (codes "session", rows_of (found_of matches.now))) }
+    ensures none { IfNone result (LacksOneOf of_session (rows_of (found_of matches.now))) }
+{
+    Some(Line::Session {
+        store: text(matches, "store")?,
+        verdicts: text(matches, "verdicts"),
+    })
+}
+
 // The line of the subcommand that was entered.
 fn line_of<'a>(alloc: Global, matches: &ArgMatches<'a>) -> Result<Line<'a>, Flaw>
     ensures line { IfOk result (IsLineOf (subcommand_rows_of matches.now)) }
@@ -195,6 +211,7 @@ fn line_of<'a>(alloc: Global, matches: &ArgMatches<'a>) -> Result<Line<'a>, Flaw
         "check" => check_line(alloc, inner),
         "compare" => compare_line(alloc, inner),
         "explain" => explain_line(alloc, inner),
+        "session" => session_line(inner).ok_or(Flaw::ArgumentMissing),
         _ => Err(Flaw::ArgumentMissing),
     }
 }
@@ -271,6 +288,10 @@ pub fn command_of<'a>(alloc: Global, words: &'a [&'a str]) -> Result<Line<'a>, E
     ensures explain { (name word : Text)
         → map (λ w. w.now) words.entry.now ≡ name ∷ codes "explain" ∷ word ∷ []
         → IsPlainWord word → MatchResult result (IsExplain word) (λ e. kind_of e ≡ OutOfMemory) }
+    ensures session { (name store : Text)
+        → map (λ w. w.now) words.entry.now
+        ≡ name ∷ codes "session" ∷ codes "--store" ∷ store ∷ []
+        → IsPlainWord store → MatchResult result (IsSession store) (λ e. kind_of e ≡ OutOfMemory) }
     ensures refuses { IfErr result (λ e. (kind_of e ≡ OutOfMemory)
         ⊎ AreRefusedWith (map (λ w. w.now) words.entry.now) (kind_of e)) }
 {

@@ -20,3 +20,4 @@ pub use node::Node;
 pub use relying_verdicts::{Comparison, Fault, Query, QueryFault, Verdict};
 pub use running::run_laws;
 pub use store::ReopenFault;
+pub use verdicts::verdict_of;

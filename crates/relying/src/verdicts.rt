@@ -33,8 +33,8 @@ fn verdict_in_transaction<V: Verifier, S: Alter>(
     }
 }
 
-/// The verdict on a path by what the store holds.
-pub(crate) fn verdict_of<V: Verifier, S: Alter>(
+/// The verdict on a path by what the store on a connection holds, in a transaction that is dropped.
+pub fn verdict_of<V: Verifier, S: Alter>(
     alloc: Global,
     verifier: &V,
     conn: &mut Connection<S>,

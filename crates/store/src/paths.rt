@@ -4,6 +4,7 @@ ghost use Rattle.std.specs.Prelude.{◌≡◌, IfErr, IfOk};
 ghost use Rattle.sqlite.specs.Files.{file_state};
 ghost use Rattle.store_adoption.specs.Creates.{IsSettled};
 ghost use Rattle.store.specs.Adopts.{IsEmptyStoreOn, IsOpenOn, IsStoreOn};
+ghost use Rattle.store_sql.specs.Statements.{IsDurable};
 ghost use Rattle.store.specs.Opens.{IsNotMade, IsNotOpened, fault_of};
 
 use crate::handle::Store;
@@ -33,6 +34,7 @@ impl Store<File> {
         ensures store { IfOk result (λ store. IsStoreOn store.conn) }
         ensures is_open { IfOk result (λ store. IsOpenOn store.conn) }
         ensures settled { IfOk result (λ store. IsSettled (file_state store.conn)) }
+        ensures durable { IfOk result (λ store. IsDurable (file_state store.conn)) }
         ensures fails { IfErr result IsNotOpened }
     {
         if fs::open(rt, path).is_err() {
@@ -52,6 +54,7 @@ impl Store<File> {
     pub fn make(rt: &HostRuntime, path: &str) -> Result<Store<File>, OpenFault>
         ensures store { IfOk result (λ store. IsEmptyStoreOn store.conn) }
         ensures is_open { IfOk result (λ store. IsOpenOn store.conn) }
+        ensures durable { IfOk result (λ store. IsDurable (file_state store.conn)) }
         ensures fails { IfErr result IsNotMade }
     {
         if fs::open(rt, path).is_ok() {

@@ -48,7 +48,15 @@ pub(crate) fn write_verdicts(rt: &HostRuntime, name: &str, lines: &str) -> Resul
     let mut err = Vec::new(rt.alloc());
     for line in lines.lines().skip(1) {
         let words = words_of(rt.alloc(), line)?;
-        execute(rt, rt.alloc(), words.as_slice(), &mut prints, &mut err);
+        let mut input: &[u8] = &[];
+        execute(
+            rt,
+            rt.alloc(),
+            words.as_slice(),
+            &mut input,
+            &mut prints,
+            &mut err,
+        );
     }
     Ok(fs::write(rt, name, prints.as_slice())?)
 }

@@ -7,6 +7,8 @@ mod delivering;
 #[cfg(test)]
 mod files;
 #[cfg(test)]
+mod in_session;
+#[cfg(test)]
 mod quick_start;
 #[cfg(test)]
 mod refused;

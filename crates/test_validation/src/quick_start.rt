@@ -5,7 +5,7 @@ use crate::walking::walk;
 use std::test::Fail;
 
 // What the files of `examples/authority` hold, in DER.
-const FILES: &str = "
+pub(crate) const FILES: &str = "
 root.der = 308201963082013da0030201020214119ba5ced48036b03d98b1ebac371f04055ec0a9300a06082a8648ce3d040302302131\
 10300e060355040a0c074578616d706c65310d300b06035504030c04526f6f74301e170d3236313132333138323730375a17\
 0d3336313132303138323730375a30213110300e060355040a0c074578616d706c65310d300b06035504030c04526f6f7430\
@@ -49,7 +49,7 @@ e305280f90badca8b19a306a3cb3af5d47ab470996b861da4804
 ";
 
 // Each signature is good: OpenSSL says so.
-const PRINTS: &str = "
+pub(crate) const PRINTS: &str = "
 prints --issuer root.der middle.der
 prints --issuer middle.der leaf.der
 prints --issuer root.der --as crl root.crl

@@ -20,7 +20,8 @@ pub(crate) fn words_of<'a>(alloc: Global, line: &'a str) -> Result<Vec<&'a str>,
 // Whether the run ends with this status and prints this text.
 fn ends_so(rt: &HostRuntime, words: &[&str], status: u8, text: &str) -> bool {
     let (mut out, mut err) = (Vec::new(rt.alloc()), Vec::new(rt.alloc()));
-    let ended = execute(rt, rt.alloc(), words, &mut out, &mut err);
+    let mut input: &[u8] = &[];
+    let ended = execute(rt, rt.alloc(), words, &mut input, &mut out, &mut err);
     let (out_text, err_text) = if text.starts_with("x509check: ") {
         ("", text)
     } else {

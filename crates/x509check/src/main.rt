@@ -31,6 +31,8 @@ fn run(rt: &HostRuntime) -> io::Result<u8> {
     let words: Vec<String> = env::args(rt)?.collect(rt.alloc())?;
     let texts: Vec<&str> = words.iter().map(|word| word.as_str()).collect(rt.alloc())?;
     let mut out = io::BufWriter::new(rt.alloc(), rt.stdout())?;
-    let status = execute(rt, rt.alloc(), texts.as_slice(), &mut out, &mut rt.stderr());
+    let mut input = io::BufReader::new(rt.alloc(), rt.stdin())?;
+    let (words, err) = (texts.as_slice(), &mut rt.stderr());
+    let status = execute(rt, rt.alloc(), words, &mut input, &mut out, err);
     Ok(status)
 }

@@ -36,7 +36,8 @@ pub(crate) fn words_of<'a>(alloc: Global, line: &'a str) -> Result<Vec<&'a str>,
 
 /// Runs the program.
 pub(crate) fn run(rt: &HostRuntime, words: &[&str], out: &mut Output, err: &mut Vec<u8>) -> u8 {
-    execute(rt, rt.alloc(), words, out, err)
+    let mut input: &[u8] = &[];
+    execute(rt, rt.alloc(), words, &mut input, out, err)
 }
 
 // Whether the run ends with this status and prints this text.

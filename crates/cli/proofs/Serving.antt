@@ -1,0 +1,63 @@
+-- What a session came to, by what its loop says.
+use Rattle.std.proofs.Common.{◌≡◌, ◌∙◌, ℕ, List, [], ◌∷◌, ◌++◌, Option, IsTrue, arith, ap, sym, refl}
+use Rattle.std.specs.Io.KnownBytes.{Appends}
+use Rattle.sqlite.specs.Effect.{Database}
+use Rattle.sqlite.specs.State.{State}
+use Rattle.path_verifiers.specs.ListVerifier.{Believes}
+use Rattle.statements_facts.specs.Statement.{Holdings}
+use Rattle.store_adoption.specs.Creates.{IsSettled}
+use Rattle.store_maps.specs.Held.{IsStoreOf}
+use Rattle.store_maps.proofs.HeldLaws.{trees_of}
+use Rattle.store_sql.specs.Statements.{IsDurable}
+use Rattle.cli_failures.specs.Failures.{Holding}
+use Rattle.cli_session.specs.Believed.{BelievesJust}
+use Rattle.cli_session.specs.declared.believed.Believed.{Believed}
+use Rattle.cli_serving.specs.Serving.{AreAnswersTo, HasEnded, Known, text_of}
+use Rattle.cli_serving.specs.declared.ending.End.{End}
+use Rattle.cli_serving.specs.declared.ending.End.TheVariants.{Quit, Finished, Shut, Unwritable, Unreadable, NoMemory}
+use Rattle.cli_steps.specs.State.{IsState, State as PartyState}
+use Rattle.cli_steps.specs.Ways.{Steps}
+use Rattle.cli_steps.specs.declared.answer.Answer.{Answer}
+use Rattle.cli_store.specs.Stored.{IsSoundIn, LeavesOneOf, keeping_in}
+use Rattle.cli.specs.Serves.{IsWhole}
+use Rattle.cli.specs.Session.{HasComeTo, beginning}
+use Rattle.cli.specs.Standing.{seen_of}
+
+-- a store that was opened leaves what it holds
+begins_left : (s : State) (held : Holdings) → IsSettled s → IsDurable s → IsTrue s.is_open → IsStoreOf s.now held → LeavesOneOf s (held ∷ [])
+begins_left s held settled durable is_open is trees may =
+    let left : trees ≡ s.now.trees = durable is_open trees may ∙ ap (λ (db : Database). db.trees) (sym (settled is_open)) in
+    (held, (0, omega arith, refl), trees_of held s.now trees left is)
+
+-- the party of the beginning
+begins : (believed : Believed) (prints : List (List ℕ)) (s : State) (start : Holdings) → Believes believed.listed prints → BelievesJust believed prints
+    → IsSettled s → IsDurable s → IsTrue s.is_open → IsStoreOf s.now start → IsState believed (keeping_in s) (beginning prints start)
+begins believed prints s start listed believes settled durable is_open is =
+    record { listed = listed; believes = believes; keeps = (is, begins_left s start settled durable is_open is) }
+
+-- what is known of the party, in terms of what was seen of its store
+pub has_come : (believed last : Believed) (prints : List (List ℕ)) (old new : State) (Are : PartyState → PartyState → Type 0)
+    → Believes believed.listed prints → BelievesJust believed prints → IsSettled old → IsDurable old → (IsSoundIn new → IsSoundIn old)
+    → (IsSoundIn new → Steps believed (keeping_in old) last (keeping_in new) Are) → HasComeTo (seen_of old) (seen_of new) prints Are
+has_come believed last prints old new Are listed believes settled durable was_sound steps clean is_open start is =
+    let sound = (clean, is_open) in
+    let (now, is_now, are) = steps sound (beginning prints start) (begins believed prints old start listed believes settled durable (was_sound sound).1 is) in
+    (now, is_now.keeps.0, are)
+
+-- the lines of a session that was not cut short, and their answers
+pub record Served (holds : Holding) (output written : Option (List ℕ)) (Knows : Known) : Type 0 where
+  pub lines : List (List ℕ)
+  pub answers : List Answer
+  pub said : Appends output written (text_of answers)
+  pub known : Knows (λ before now. AreAnswersTo holds lines answers before now)
+
+pub whole : (holds : Holding) (input source output written : Option (List ℕ)) (Knows Before : Known) (end : End)
+    → HasEnded holds input source output written Knows Before end → IsWhole end → Served holds output written Knows
+whole holds input source output written Knows Before Quit it is =
+    record { lines = it.lines ++ it.line ∷ []; answers = it.answers ++ it.answer ∷ []; said = it.last.1; known = it.known }
+whole holds input source output written Knows Before Finished (middle, it, ends) is =
+    record { lines = it.lines; answers = it.answers; said = it.said; known = it.known }
+whole holds input source output written Knows Before Shut it is = absurd is
+whole holds input source output written Knows Before Unwritable it is = absurd is
+whole holds input source output written Knows Before Unreadable it is = absurd is
+whole holds input source output written Knows Before NoMemory it is = absurd is

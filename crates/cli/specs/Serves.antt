@@ -1,0 +1,26 @@
+-- On the way of a session: what was served over a store that was opened.
+use Rattle.std.specs.Prelude.{◌≡◌, ℕ, List, Option}
+use Rattle.std.specs.Io.KnownBytes.{Appends}
+use Rattle.cli_failures.specs.Failures.{Holding}
+use Rattle.cli_session.specs.Held.{holding_of}
+use Rattle.cli_serving.specs.Serving.{AreAnswersTo, text_of}
+use Rattle.cli_serving.specs.declared.ending.End.{End}
+use Rattle.cli_serving.specs.declared.ending.End.TheVariants.{Quit, Finished}
+use Rattle.cli_steps.specs.declared.answer.Answer.{Answer}
+use Rattle.cli.specs.Session.{HasComeTo}
+use Rattle.cli.specs.Standing.{Seen}
+
+-- the session was not cut short
+abbrev pub IsWhole : End → Type 0
+IsWhole Quit = Unit {0}
+IsWhole Finished = Unit {0}
+IsWhole _ = ⊥
+
+-- The answers to some lines were written, by who believes those fingerprints in the beginning, over a store that was seen so.
+pub record IsServed (holds : Holding) (leaves : Seen → Type 0) (prints : List (List ℕ)) (old : Seen) (output written : Option (List ℕ)) : Type 0 where
+  pub new : Seen
+  pub left : leaves new
+  pub lines : List (List ℕ)
+  pub answers : List Answer
+  pub said : Appends output written (text_of answers)
+  pub come : HasComeTo old new prints (λ before now. AreAnswersTo (holding_of holds) lines answers before now)

@@ -1,0 +1,64 @@
+-- What a session answers over the store at a path, and why it fails.
+use Rattle.std.specs.Prelude.{◌≡◌, ◌⊎◌, ℕ, List, [], ◌∷◌, Option, Some, None, IsTrue}
+use Rattle.statements_facts.specs.Statement.{Holdings}
+use Rattle.store_maps.specs.Held.{IsStoreOf}
+use Rattle.cli_failures.specs.Failures.{Holding}
+use Rattle.cli_failures.specs.declared.failure.Failure.{Failure}
+use Rattle.cli_failures.specs.declared.failure.Failure.TheVariants.{Unwritable, NoMemory, Shut, NoInput}
+use Rattle.cli_operands.specs.InOrder.{FailsFirst}
+use Rattle.cli_operands.specs.Question.{HoldsFingerprints, IsFailureOnFingerprints}
+use Rattle.cli_session.specs.Held.{holding_of}
+use Rattle.cli_serving.specs.Serving.{AreAnswersTo, text_of}
+use Rattle.cli_steps.specs.State.{State}
+use Rattle.cli_steps.specs.declared.answer.Answer.{Answer}
+use Rattle.cli.specs.Standing.{IsFound, IsIntact, IsNotMade, Leaving, Seen, Standing}
+
+-- the fingerprints that are believed in the beginning: those of the file, or none
+abbrev pub BeginsWith : Holding → Option (List ℕ) → List (List ℕ) → Type 0
+BeginsWith holds None prints = prints ≡ []
+BeginsWith holds (Some file) prints = HoldsFingerprints holds file prints
+
+-- the party of the beginning: these are believed, and this is held, also behind a crash
+abbrev pub beginning : List (List ℕ) → Holdings → State
+beginning prints held =
+    record { listed = prints; prints = prints; kept = record { held = held; left = held ∷ [] } }
+
+-- A party has come so far over a store that was seen so in the beginning and in the end, if its connection is open and its disk has
+-- returned what was written.
+abbrev pub HasComeTo : Seen → Seen → List (List ℕ) → (State → State → Type 0) → Type 0
+HasComeTo old new prints Are =
+    IsIntact new → IsTrue new.is_open → (start : Holdings) → IsStoreOf old.now start →
+    (now : State) × IsStoreOf new.now now.kept.held × Are (beginning prints start) now
+
+-- The answers to some lines, in order, by who believes those fingerprints in the beginning, over the store at the path. What one line
+-- leaves the next finds.
+pub record IsSessionText (holds : Holding) (stands : Standing) (leaves : Leaving) (path : List ℕ) (verdicts : Option (List ℕ)) (text : List ℕ) : Type 0 where
+  pub prints : List (List ℕ)
+  pub begins : BeginsWith holds verdicts prints
+  pub old : Seen
+  pub found : IsFound stands path old
+  pub new : Seen
+  pub left : leaves path new
+  pub lines : List (List ℕ)
+  pub answers : List Answer
+  pub text_is : text ≡ text_of answers
+  pub come : HasComeTo old new prints (λ before now. AreAnswersTo (holding_of holds) lines answers before now)
+
+-- ---- why a session fails
+
+-- the file of verdicts, if there is one
+abbrev pub IsFailureOnVerdicts : Holding → Option (List ℕ) → Failure → Type 0
+IsFailureOnVerdicts holds None failure = failure ≡ NoMemory
+IsFailureOnVerdicts holds (Some file) failure = IsFailureOnFingerprints holds file failure
+
+-- it was cut short
+abbrev pub IsCutShort : Failure → Type 0
+IsCutShort failure =
+    (failure ≡ Unwritable) ⊎ (failure ≡ NoMemory) ⊎ (failure ≡ Shut) ⊎ (failure ≡ NoInput)
+
+-- What is wrong, the first of it: the verdicts, and then the store; or it began, and was cut short.
+abbrev pub IsFailureOfSession : Holding → Standing → List ℕ → Option (List ℕ) → Failure → Type 0
+IsFailureOfSession holds stands path verdicts =
+    FailsFirst (IsFailureOnVerdicts holds verdicts)
+    ((prints : List (List ℕ)) × BeginsWith holds verdicts prints)
+    (λ failure. IsNotMade stands path failure ⊎ IsCutShort failure)

@@ -1,0 +1,111 @@
+//! Sessions over a store at a path.
+ghost use Rattle.std.specs.Prelude.{◌≡◌, IfErr, IfOk, OnOk, option_map};
+ghost use Rattle.cli_failures.specs.Report.{UnlessLate, Writes};
+ghost use Rattle.cli.specs.Session.{BeginsWith, IsCutShort, IsFailureOfSession, IsFailureOnVerdicts, IsSessionText};
+ghost use Rattle.cli.specs.Serves.{IsServed, IsWhole};
+ghost use Rattle.cli.specs.Standing.{seen_in};
+ghost use Rattle.sqlite.specs.Files.{file_state};
+ghost use Rattle.store_adoption.specs.Creates.{IsSettled};
+ghost use Rattle.store_sql.specs.Statements.{IsDurable};
+
+use crate::stores::Stores;
+use cli_failures::{Failure, Source};
+use cli_operands::read_fingerprints;
+use cli_serving::{End, serve};
+use cli_session::Believed;
+use cli_steps::Party;
+use cli_store::StoreKeeper;
+use path_verifiers::ListVerifier;
+use sqlite_std_file::File;
+use std::alloc::Global;
+use std::io::{Read, Write};
+use store::Store;
+
+// The fingerprints that are believed in the beginning.
+fn prints_of<'a, S: Source>(
+    source: &S,
+    alloc: Global,
+    verdicts: Option<&'a str>,
+) -> Result<Vec<[u8; 32]>, Failure<'a>>
+    ensures begins { IfOk result (λ prints. BeginsWith (S.holds source.now)
+        (option_map (λ w. w.now) verdicts.entry) prints.items) }
+    ensures fails { IfErr result (IsFailureOnVerdicts (S.holds source.now)
+        (option_map (λ w. w.now) verdicts.entry)) }
+{
+    match verdicts {
+        Some(file) => read_fingerprints(source, alloc, file),
+        None => Ok(Vec::new(alloc)),
+    }
+}
+
+// Whether a session that ended so was cut short, and by what.
+fn outcome_of<'a>(end: End) -> Result<(), Failure<'a>>
+    ensures whole { OnOk result (IsWhole end) }
+    ensures cut { IfErr result IsCutShort }
+{
+    match end {
+        End::Quit | End::Finished => Ok(()),
+        End::Shut => Err(Failure::Shut),
+        End::Unwritable => Err(Failure::Unwritable),
+        End::Unreadable => Err(Failure::NoInput),
+        End::NoMemory => Err(Failure::NoMemory),
+    }
+}
+
+// Answers the lines over the store, which is closed in the end.
+fn serve_over<S: Source + Stores, R: Read, O: Write>(
+    source: &S,
+    alloc: Global,
+    path: &str,
+    prints: Vec<[u8; 32]>,
+    store: Store<File>,
+    input: &mut R,
+    out: &mut O,
+) -> End
+    requires settled { IsSettled (file_state store.conn) }
+    requires durable { IsDurable (file_state store.conn) }
+    ensures served { IsWhole result → IsServed (S.holds source.now) (S.leaves source.now path.now)
+        prints.items (seen_in store) (O.contents out.old) (O.contents out.new) }
+{
+    let believed = Believed::new(alloc, ListVerifier::new(prints));
+    let mut party = Party {
+        believed,
+        keeper: StoreKeeper { store },
+    };
+    let end = serve(input, &mut party, source, alloc, out);
+    let Party {
+        believed: _,
+        keeper,
+    } = party;
+    let StoreKeeper { store } = keeper;
+    source.close_store(path, store);
+    end
+}
+
+/// Answers the lines of the input, one after the other, each before the next is read (`cli_serving::serve`), over the store at the path,
+/// which is made if no file is there. The fingerprints of the file are believed, and those that come in requests.
+pub fn session<'a, S: Source + Stores, R: Read, O: Write>(
+    source: &S,
+    alloc: Global,
+    path: &'a str,
+    verdicts: Option<&'a str>,
+    input: &mut R,
+    out: &mut O,
+) -> Result<(), Failure<'a>>
+    ensures done { OnOk result (Writes (IsSessionText (S.holds source.now) (S.stands source.now)
+        (S.leaves source.now) path.entry.now (option_map (λ w. w.now) verdicts.entry))
+        (O.contents out.old) (O.contents out.new)) }
+    ensures fails { IfErr result (IsFailureOfSession (S.holds source.now) (S.stands source.now)
+        path.entry.now (option_map (λ w. w.now) verdicts.entry)) }
+    ensures quiet { IfErr result (λ failure. UnlessLate failure (out.new ≡ out.old)) }
+{
+    let prints = match prints_of(source, alloc, verdicts) {
+        Ok(prints) => prints,
+        Err(failure) => return Err(failure),
+    };
+    let store = match source.open_or_make_store(path) {
+        Ok(store) => store,
+        Err(failure) => return Err(failure),
+    };
+    outcome_of(serve_over(source, alloc, path, prints, store, input, out))
+}

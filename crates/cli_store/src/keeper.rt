@@ -1,0 +1,121 @@
+//! A store that keeps a session's statements.
+ghost use Rattle.std.specs.Prelude.{◌≡◌};
+ghost use Rattle.sqlite.specs.Files.{file_state};
+ghost use Rattle.statements_facts.specs.Fact.{facts_in};
+ghost use Rattle.cli_keeping.specs.Keeping.{Finds, Keeps, Takes, seen_asked};
+ghost use Rattle.cli_store.specs.Stored.{IsSoundIn, fault_of, fault_of_party, keeping_in};
+
+use cli_keeping::{Asked, Keeper, KeeperFault};
+use path_verifiers::Verifier;
+use relying::{Fault, Query, Verdict, verdict_of};
+use sqlite::{Error, ErrorCode};
+use sqlite_disk::Disk;
+use statements_facts::{Counts, Facts};
+use std::alloc::Global;
+use store::Store;
+use store_sql::StoreFault;
+
+/// A store that keeps a session's statements.
+pub struct StoreKeeper<D: Disk> {
+    pub store: Store<D>,
+}
+
+impl<D: Disk + Drop> Drop for StoreKeeper<D> {
+    fn drop(self) {
+        let StoreKeeper { store: _ } = self;
+    }
+}
+
+// What a store's fault is for a session.
+fn fault_of(fault: StoreFault) -> KeeperFault
+    ensures { result ≡ fault_of fault }
+{
+    match fault {
+        StoreFault::Store => KeeperFault::Refused,
+        StoreFault::Schema => KeeperFault::NoKeeper,
+        StoreFault::Memory => KeeperFault::Memory,
+    }
+}
+
+// And a party's fault.
+fn fault_of_party(fault: Fault) -> KeeperFault
+    ensures { result ≡ fault_of_party fault }
+{
+    match fault {
+        Fault::Store(fault) => fault_of(fault),
+        Fault::Memory => KeeperFault::Memory,
+    }
+}
+
+fn take_into<D: Disk + Drop>(
+    store: &mut Store<D>,
+    facts: &Facts<'_>,
+) -> Result<Counts, KeeperFault>
+    ensures sound { IsSoundIn (file_state store.new.conn) → IsSoundIn (file_state store.old.conn) }
+    ensures takes { IsSoundIn (file_state store.new.conn)
+        → Takes (keeping_in (file_state store.old.conn)) (keeping_in (file_state store.new.conn))
+        (facts_in facts.now) result }
+{
+    match store.put(facts) {
+        Ok(counts) => Ok(counts),
+        Err(fault) => Err(fault_of(fault)),
+    }
+}
+
+fn find_in<D: Disk + Drop, V: Verifier>(
+    store: &mut Store<D>,
+    alloc: Global,
+    verifier: &V,
+    asked: Asked<'_>,
+) -> Result<Verdict, KeeperFault>
+    ensures sound { IsSoundIn (file_state store.new.conn) → IsSoundIn (file_state store.old.conn) }
+    ensures finds { IsSoundIn (file_state store.new.conn)
+        → Finds (keeping_in (file_state store.old.conn)) (keeping_in (file_state store.new.conn))
+        (V.accepts verifier.now) (seen_asked asked.entry) result }
+{
+    let query = Query::new(asked.anchor, asked.path, asked.moment, asked.purpose);
+    match verdict_of(alloc, verifier, &mut store.conn, &query) {
+        Ok(verdict) => Ok(verdict),
+        Err(fault) => Err(fault_of_party(fault)),
+    }
+}
+
+// Whether the connection is not known to be shut: a statement that asks nothing of the database is prepared.
+fn is_open<D: Disk + Drop>(store: &mut Store<D>) -> bool
+    ensures sound { IsSoundIn (file_state store.new.conn) → IsSoundIn (file_state store.old.conn) }
+    ensures keeps { IsSoundIn (file_state store.new.conn)
+        → Keeps (keeping_in (file_state store.old.conn)) (keeping_in (file_state store.new.conn)) }
+    ensures shut { result ≡ false → IsSoundIn (file_state store.new.conn) → ⊥ }
+{
+    let _before = store.conn.is_autocommit();
+    match store.conn.prepare("SELECT 1") {
+        Err(Error::SqliteFailure(ErrorCode::Closed)) => false,
+        _ => true,
+    }
+}
+
+impl<D: Disk + Drop> Keeper for StoreKeeper<D> {
+    ghost use Rattle.sqlite.specs.Files.{file_state};
+    ghost use Rattle.cli_store.specs.Stored.{IsSoundIn, keeping_in};
+
+    ghost keeps = { λ keeper. keeping_in (file_state keeper.store.conn) };
+
+    ghost is_sound = { λ keeper. IsSoundIn (file_state keeper.store.conn) };
+
+    fn take(&mut self, facts: &Facts<'_>) -> Result<Counts, KeeperFault> {
+        take_into(&mut self.store, facts)
+    }
+
+    fn verdict<V: Verifier>(
+        &mut self,
+        alloc: Global,
+        verifier: &V,
+        asked: Asked<'_>,
+    ) -> Result<Verdict, KeeperFault> {
+        find_in(&mut self.store, alloc, verifier, asked)
+    }
+
+    fn may_answer(&mut self) -> bool {
+        is_open(&mut self.store)
+    }
+}
