@@ -1,9 +1,8 @@
 -- What a party answered, by what was seen of its store.
 use Rattle.std.proofs.Common.{ℕ, List, Ok, Err, Result, IfOk}
-use Rattle.sqlite.specs.State.{State, HasCleanDisk}
+use Rattle.sqlite.specs.State.{State}
 use Rattle.statements_facts.specs.Statement.{Holdings}
 use Rattle.store_maps.specs.Held.{IsStoreOf}
-use Rattle.store_adoption.specs.Inspects.{IsStore}
 use Rattle.statements_facts.specs.Fact.{Fact, facts_in}
 use Rattle.statements_facts.specs.declared.fact.Facts.{Facts}
 use Rattle.store_taking.specs.Delivery.{PutsFacts}
@@ -14,7 +13,7 @@ use Rattle.relying_agreement.specs.declared.verdict.Verdict.{Verdict}
 use Rattle.statements_facts.specs.declared.counts.Counts.{Counts}
 use Rattle.path.specs.Query.{Query, Accepts}
 use Rattle.relying.specs.Asking.{Looks, LooksAtBoth}
-use Rattle.cli.specs.Standing.{Leaving, Seen, Standing, database, seen_of}
+use Rattle.cli.specs.Standing.{IsFound, IsFoundOrMade, Leaving, Seen, Standing, seen_of}
 use Rattle.cli.specs.Delivered.{HasTaken, IsTakenAt}
 use Rattle.cli.specs.Checked.{HasCompared, HasChecked, IsComparedBy, IsCheckedBy}
 
@@ -24,10 +23,10 @@ pub checked : (leaves : Seen → Type 0) (accepts : Accepts) (query : Query) (ol
 checked leaves accepts query old new verdict left looks = (seen_of new, left, λ intact held stands. (looks intact).1 held stands)
 
 pub checked_by : (stands : Standing) (leaves : Leaving) (path : List ℕ) (accepts : Accepts) (query : Query) (old : State) {E : Type 0} (result : Result Verdict E)
-    → stands path (database (seen_of old)) → (HasCleanDisk old → IsStore old.now) → IfOk result (HasChecked (leaves path) accepts query (seen_of old))
+    → IsFound stands path (seen_of old) → IfOk result (HasChecked (leaves path) accepts query (seen_of old))
     → IfOk result (IsCheckedBy stands leaves path accepts query)
-checked_by stands leaves path accepts query old (Ok verdict) stood is checked = (seen_of old, (stood, λ intact. is intact), checked)
-checked_by stands leaves path accepts query old (Err e) stood is checked = tt
+checked_by stands leaves path accepts query old (Ok verdict) found checked = (seen_of old, found, checked)
+checked_by stands leaves path accepts query old (Err e) found checked = tt
 
 -- a comparison
 pub compared : (leaves others_leave : Seen → Type 0) (accepts : Accepts) (query : Query) (old new other_old other_new : State) (comparison : Comparison) → leaves (seen_of new) → others_leave (seen_of other_new)
@@ -37,19 +36,19 @@ compared leaves others_leave accepts query old new other_old other_new compariso
     (seen_of new, seen_of other_new, left, other_left, λ intact other_intact held others one other. (looks intact other_intact).2 held others one other)
 
 pub compared_by : (stands : Standing) (leaves : Leaving) (path beside : List ℕ) (accepts : Accepts) (query : Query) (old other_old : State) {E : Type 0} (result : Result Comparison E)
-    → stands path (database (seen_of old)) → (HasCleanDisk old → IsStore old.now) → stands beside (database (seen_of other_old)) → (HasCleanDisk other_old → IsStore other_old.now)
+    → IsFound stands path (seen_of old) → IsFound stands beside (seen_of other_old)
     → IfOk result (HasCompared (leaves path) (leaves beside) accepts query (seen_of old) (seen_of other_old))
     → IfOk result (IsComparedBy stands leaves path beside accepts query)
-compared_by stands leaves path beside accepts query old other_old (Ok comparison) stood is other_stood other_is compared =
-    (seen_of old, seen_of other_old, (stood, λ intact. is intact), (other_stood, λ intact. other_is intact), compared)
-compared_by stands leaves path beside accepts query old other_old (Err e) stood is other_stood other_is compared = tt
+compared_by stands leaves path beside accepts query old other_old (Ok comparison) found other_found compared =
+    (seen_of old, seen_of other_old, found, other_found, compared)
+compared_by stands leaves path beside accepts query old other_old (Err e) found other_found compared = tt
 
 -- a delivery
 pub taken : (leaves : Seen → Type 0) (old new : State) (facts : Facts) (counts : Counts) → leaves (seen_of new) → PutsFacts old new facts (Ok counts) → HasTaken leaves (facts_in facts) (seen_of old) counts
 taken leaves old new facts counts left puts = (seen_of new, left, λ intact start stands. let it = (puts intact).taken start stands in (it.hold, it.counted))
 
 pub taken_at : {E : Type 0} (stands : Standing) (leaves : Leaving) (path : List ℕ) (facts : List Fact) (old : State) (result : Result Counts E)
-    → stands path (database (seen_of old)) → (HasCleanDisk old → IsStore old.now) → IfOk result (HasTaken (leaves path) facts (seen_of old))
+    → IsFoundOrMade stands path (seen_of old) → IfOk result (HasTaken (leaves path) facts (seen_of old))
     → IfOk result (IsTakenAt stands leaves path facts)
-taken_at stands leaves path facts old (Ok counts) stood is taken = (seen_of old, (stood, λ intact. is intact), taken)
-taken_at stands leaves path facts old (Err e) stood is taken = tt
+taken_at stands leaves path facts old (Ok counts) found taken = (seen_of old, found, taken)
+taken_at stands leaves path facts old (Err e) found taken = tt

@@ -3,7 +3,6 @@ use Rattle.std.proofs.Common.{◌≡◌, ◌≢◌, inl, inr, refl, sym, subst, 
 use Rattle.sqlite.specs.State.{State, HasCleanDisk}
 use Rattle.statements_facts.specs.Statement.{Holdings}
 use Rattle.store_maps.specs.Held.{IsStoreOf}
-use Rattle.store_adoption.specs.Inspects.{IsStore}
 use Rattle.relying.specs.Asking.{IsFormed, IsFormedOfEither}
 use Rattle.store.specs.Adopts.{StaysIfOpen}
 use Rattle.statements_facts.specs.declared.fact.Facts.{Facts}
@@ -13,7 +12,7 @@ use Rattle.store_sql.specs.declared.fault.StoreFault.TheVariants as S
 use Rattle.relying_verdicts.specs.declared.fault.Fault.{Fault}
 use Rattle.relying_verdicts.specs.declared.fault.Fault.TheVariants as F
 use Rattle.cli_failures.specs.declared.failure.Failure.{Failure}
-use Rattle.cli.specs.Standing.{IsNoAnswer, IsUnanswered, Leaving, Seen, Standing, database, seen_of, told_of, told_of_party}
+use Rattle.cli.specs.Standing.{IsFound, IsFoundOrMade, IsNoAnswer, Leaving, Seen, Standing, seen_of, told_of, told_of_party}
 use Rattle.cli.specs.Delivered.{IsNotTaken}
 use Rattle.cli.specs.Checked.{AreUnanswered, IsNoComparison, IsNotCompared, IsNotChecked}
 
@@ -72,24 +71,20 @@ not_taken leaves old new facts S.Memory failure told left puts = inl told
 
 -- ---- stores at paths
 
-unanswered : (stands : Standing) (leaves : Leaving) (path : List ℕ) (old : State) (failure : Failure) → stands path (database (seen_of old)) → (HasCleanDisk old → IsStore old.now)
-    → IsNoAnswer (leaves path) (seen_of old) failure → IsUnanswered stands leaves path failure
-unanswered stands leaves path old failure stood is fails = (seen_of old, (stood, λ intact. is intact), fails)
+pub not_checked_by : {T : Type 0} (stands : Standing) (leaves : Leaving) (path : List ℕ) (old : Seen) (result : Result T Failure) → IsFound stands path old
+    → IfErr result (IsNoAnswer (leaves path) old) → IfErr result (IsNotChecked stands leaves path)
+not_checked_by stands leaves path old (Ok x) found fails = tt
+not_checked_by stands leaves path old (Err failure) found fails = inr (old, found, fails)
 
-pub not_checked_by : {T : Type 0} (stands : Standing) (leaves : Leaving) (path : List ℕ) (old : State) (result : Result T Failure) → stands path (database (seen_of old)) → (HasCleanDisk old → IsStore old.now)
-    → IfErr result (IsNoAnswer (leaves path) (seen_of old)) → IfErr result (IsNotChecked stands leaves path)
-not_checked_by stands leaves path old (Ok x) stood is fails = tt
-not_checked_by stands leaves path old (Err failure) stood is fails = inr (unanswered stands leaves path old failure stood is fails)
+pub not_taken_at : {T : Type 0} (stands : Standing) (leaves : Leaving) (path : List ℕ) (old : Seen) (result : Result T Failure) → IsFoundOrMade stands path old
+    → IfErr result (IsNoAnswer (leaves path) old) → IfErr result (IsNotTaken stands leaves path)
+not_taken_at stands leaves path old (Ok x) found fails = tt
+not_taken_at stands leaves path old (Err failure) found fails = inr (old, found, fails)
 
-pub not_taken_at : {T : Type 0} (stands : Standing) (leaves : Leaving) (path : List ℕ) (old : State) (result : Result T Failure) → stands path (database (seen_of old)) → (HasCleanDisk old → IsStore old.now)
-    → IfErr result (IsNoAnswer (leaves path) (seen_of old)) → IfErr result (IsNotTaken stands leaves path)
-not_taken_at stands leaves path old (Ok x) stood is fails = tt
-not_taken_at stands leaves path old (Err failure) stood is fails = inr (unanswered stands leaves path old failure stood is fails)
-
-pub not_compared_by : {T : Type 0} (stands : Standing) (leaves : Leaving) (path beside : List ℕ) (old other_old : State) (result : Result T Failure)
-    → stands path (database (seen_of old)) → (HasCleanDisk old → IsStore old.now) → stands beside (database (seen_of other_old)) → (HasCleanDisk other_old → IsStore other_old.now)
-    → IfErr result (IsNoComparison (leaves path) (leaves beside) (seen_of old) (seen_of other_old)) → IfErr result (IsNotCompared stands leaves path beside)
-not_compared_by stands leaves path beside old other_old (Ok x) stood is other_stood other_is fails = tt
-not_compared_by stands leaves path beside old other_old (Err failure) stood is other_stood other_is fails =
-    let both : AreUnanswered stands leaves path beside failure = (seen_of old, seen_of other_old, (stood, λ intact. is intact), (other_stood, λ intact. other_is intact), fails) in
+pub not_compared_by : {T : Type 0} (stands : Standing) (leaves : Leaving) (path beside : List ℕ) (old other_old : Seen) (result : Result T Failure)
+    → IsFound stands path old → IsFound stands beside other_old
+    → IfErr result (IsNoComparison (leaves path) (leaves beside) old other_old) → IfErr result (IsNotCompared stands leaves path beside)
+not_compared_by stands leaves path beside old other_old (Ok x) found other_found fails = tt
+not_compared_by stands leaves path beside old other_old (Err failure) found other_found fails =
+    let both : AreUnanswered stands leaves path beside failure = (old, other_old, found, other_found, fails) in
     inr (inr both)

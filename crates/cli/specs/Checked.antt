@@ -85,7 +85,7 @@ WereCompared holds stands leaves question other =
 -- the store is not found, or does not answer
 abbrev pub IsNotChecked : Standing → Leaving → List ℕ → Failure → Type 0
 IsNotChecked stands leaves path failure =
-    IsNotFound stands path failure ⊎ IsUnanswered stands leaves path failure
+    IsNotFound stands path failure ⊎ IsUnanswered (IsFound stands path) (leaves path) failure
 
 -- the same, of operands: a certificate of theirs is refused first
 abbrev pub IsNotCheckedOf : Standing → Leaving → List ℕ → Operands → Failure → Type 0

@@ -14,7 +14,7 @@ use Rattle.cli_failures.specs.Failures.{Holding, HoldsCertificate, IsDenied, IsN
 use Rattle.cli_failures.specs.declared.failure.Failure.{Failure}
 use Rattle.cli_operands.specs.InOrder.{FailsFirst}
 use Rattle.cli_operands.specs.Question.{AcceptsJust, HoldsFingerprints, IsFailureOnFingerprints}
-use Rattle.cli.specs.Standing.{IsFound, IsIntact, IsNotMade, IsUnanswered, Leaving, Seen, Standing}
+use Rattle.cli.specs.Standing.{IsFoundOrMade, IsIntact, IsNotMade, IsUnanswered, Leaving, Seen, Standing}
 use Rattle.cli.specs.declared.delivering.Delivery.{Delivery}
 
 -- A store that was seen so has taken the facts, and was left in a state in which it holds what they make of what it held: all are taken,
@@ -28,7 +28,7 @@ HasTaken leaves facts old counts =
 -- the same of the store at a path
 abbrev pub IsTakenAt : Standing → Leaving → List ℕ → List Fact → Counts → Type 0
 IsTakenAt stands leaves path facts counts =
-    (old : Seen) × IsFound stands path old × HasTaken (leaves path) facts old counts
+    (old : Seen) × IsFoundOrMade stands path old × HasTaken (leaves path) facts old counts
 
 -- what is said is that the statement is genuine, and the store of the words has taken its facts
 abbrev pub IsTakenOf : Standing → Leaving → Result (List Fact) StatementFault → Delivery → Counts → Type 0
@@ -68,7 +68,7 @@ IsDeliveredText holds stands leaves words text =
 -- no store was opened or made, or it did not answer
 abbrev pub IsNotTaken : Standing → Leaving → List ℕ → Failure → Type 0
 IsNotTaken stands leaves path failure =
-    IsNotMade stands path failure ⊎ IsUnanswered stands leaves path failure
+    IsNotMade stands path failure ⊎ IsUnanswered (IsFoundOrMade stands path) (leaves path) failure
 
 -- what is said is that the statement is refused, or that it is genuine, and the store did not take it
 abbrev pub IsNotTakenOf : Standing → Leaving → Result (List Fact) StatementFault → Delivery → Failure → Type 0

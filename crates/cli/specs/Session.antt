@@ -11,7 +11,7 @@ use Rattle.cli_session.specs.Held.{holding_of}
 use Rattle.cli_serving.specs.Serving.{AreAnswersTo, text_of}
 use Rattle.cli_steps.specs.State.{State}
 use Rattle.cli_steps.specs.declared.answer.Answer.{Answer}
-use Rattle.cli.specs.Standing.{IsFound, IsIntact, IsNotMade, Leaving, Seen, Standing}
+use Rattle.cli.specs.Standing.{IsFoundOrMade, IsIntact, IsNotMade, Leaving, Seen, Standing}
 
 -- the fingerprints that are believed in the beginning: those of the file, or none
 abbrev pub BeginsWith : Holding → Option (List ℕ) → List (List ℕ) → Type 0
@@ -36,7 +36,7 @@ pub record IsSessionText (holds : Holding) (stands : Standing) (leaves : Leaving
   pub prints : List (List ℕ)
   pub begins : BeginsWith holds verdicts prints
   pub old : Seen
-  pub found : IsFound stands path old
+  pub found : IsFoundOrMade stands path old
   pub new : Seen
   pub left : leaves path new
   pub lines : List (List ℕ)

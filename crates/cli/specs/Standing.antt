@@ -6,7 +6,7 @@ use Rattle.sqlite.specs.Files.{file_state}
 use Rattle.sqlite.specs.State.{State}
 use Rattle.sqlite_trees.specs.View.{doubt}
 use Rattle.store_adoption.specs.Inspects.{IsStore}
-use Rattle.statements_facts.specs.Statement.{Holdings}
+use Rattle.statements_facts.specs.Statement.{Holdings, empty_holdings}
 use Rattle.store_maps.specs.Held.{IsStoreOf}
 use Rattle.store.specs.declared.handle.Store as handle
 use Rattle.store_sql.specs.declared.fault.StoreFault.{StoreFault}
@@ -53,6 +53,15 @@ Leaving = List ℕ → Seen → Type 0
 abbrev pub IsFound : Standing → List ℕ → Seen → Type 0
 IsFound stands path old = stands path (database old) × (IsIntact old → IsStore old.now)
 
+-- No file was met at the path, and this was seen of a database that was made there: where the disk returned what was written it is a
+-- store that holds nothing.
+abbrev pub IsMade : Standing → List ℕ → Seen → Type 0
+IsMade stands path old = stands path nothing × (IsIntact old → IsStoreOf old.now empty_holdings)
+
+-- one or the other
+abbrev pub IsFoundOrMade : Standing → List ℕ → Seen → Type 0
+IsFoundOrMade stands path old = IsFound stands path old ⊎ IsMade stands path old
+
 -- ---- no store
 
 -- what a fault of a store is for a run
@@ -96,7 +105,6 @@ IsNoAnswer leaves old failure =
     ⊎ ((number : ℕ) × (failure ≡ StoreFailed number) × IsFaultNumber number
     × ((new : Seen) × leaves new × (IsIntact new → HasKept old new number)))
 
--- the store at the path was found, and did not answer
-abbrev pub IsUnanswered : Standing → Leaving → List ℕ → Failure → Type 0
-IsUnanswered stands leaves path failure =
-    (old : Seen) × IsFound stands path old × IsNoAnswer (leaves path) old failure
+-- a store that was found so did not answer
+abbrev pub IsUnanswered : (Seen → Type 0) → (Seen → Type 0) → Failure → Type 0
+IsUnanswered found leaves failure = (old : Seen) × found old × IsNoAnswer leaves old failure

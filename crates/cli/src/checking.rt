@@ -20,7 +20,6 @@ use cli_words::Question;
 use path_verifiers::{ListVerifier, Verifier};
 use relying::{Fault, Node, Query};
 use relying_agreement::Verdict;
-use sqlite_std_file::File;
 use std::alloc::Global;
 use std::io::Write;
 
@@ -39,7 +38,7 @@ fn check_at<'a, S: Stores, V: Verifier + Drop>(
     source: &S,
     alloc: Global,
     path: &str,
-    node: Node<V, File>,
+    node: Node<V, S::Disk>,
     query: &Query<'_>,
 ) -> Result<Verdict, Failure<'a>>
     ensures checked { IfOk result

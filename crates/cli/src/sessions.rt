@@ -16,7 +16,6 @@ use cli_session::Believed;
 use cli_steps::Party;
 use cli_store::StoreKeeper;
 use path_verifiers::ListVerifier;
-use sqlite_std_file::File;
 use std::alloc::Global;
 use std::io::{Read, Write};
 use store::Store;
@@ -58,7 +57,7 @@ fn serve_over<S: Source + Stores, R: Read, O: Write>(
     alloc: Global,
     path: &str,
     prints: Vec<[u8; 32]>,
-    store: Store<File>,
+    store: Store<S::Disk>,
     input: &mut R,
     out: &mut O,
 ) -> End

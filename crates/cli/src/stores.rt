@@ -3,11 +3,13 @@ ghost use Rattle.std.specs.Prelude.{◌≡◌, IfErr, IfOk};
 ghost use Rattle.sqlite.specs.Files.{file_state};
 ghost use Rattle.sqlite.specs.State.{HasCleanDisk};
 ghost use Rattle.store_adoption.specs.Creates.{IsSettled};
+ghost use Rattle.store.specs.Adopts.{IsEmptyStoreOn};
 ghost use Rattle.store_adoption.specs.Inspects.{IsStore};
 ghost use Rattle.store_sql.specs.Statements.{IsDurable};
-ghost use Rattle.cli.specs.Standing.{IsNotFound, IsNotMade, database, seen_in, told_of};
+ghost use Rattle.cli.specs.Standing.{IsFound, IsFoundOrMade, IsNotFound, IsNotMade, seen_in, told_of};
 
 use cli_failures::Failure;
+use sqlite_disk::Disk;
 use sqlite_std_file::File;
 use std::{fs, io};
 use store::Store;
@@ -19,7 +21,10 @@ use store_sql::StoreFault;
 /// stands there, that what is closed is left there, and that opening fails only because of what is found at the path.
 pub trait Stores {
     ghost use Rattle.std.specs.Prelude.{ℕ, List};
-    ghost use Rattle.cli.specs.Standing.{Met, Seen, database};
+    ghost use Rattle.cli.specs.Standing.{Met, Seen};
+
+    /// What stores are kept on.
+    type Disk: Disk + Drop;
 
     /// Whether this was found at the path of a store: its database, as it was seen when it was opened; no file that can be read; or a
     /// fault of the store.
@@ -29,25 +34,21 @@ pub trait Stores {
     ghost leaves: { Self → List ℕ → Seen → Type 0 };
 
     /// The store that stands at the path; `Unreadable` if there is no file that can be read.
-    fn open_store<'a>(&self, path: &'a str) -> Result<Store<File>, Failure<'a>>
-        ensures stands { IfOk result (λ store.
-            stands self.now path.entry.now (database (seen_in store))) }
-        ensures store { IfOk result (λ store.
-            HasCleanDisk (file_state store.conn) → IsStore (file_state store.conn).now) }
+    fn open_store<'a>(&self, path: &'a str) -> Result<Store<Self::Disk>, Failure<'a>>
+        ensures found { IfOk result (λ store.
+            IsFound (stands self.now) path.entry.now (seen_in store)) }
         ensures fails { IfErr result (IsNotFound (stands self.now) path.entry.now) };
 
     /// The same; if no file is there, a store is made that holds nothing. What it holds is committed, and is there behind a crash.
-    fn open_or_make_store<'a>(&self, path: &'a str) -> Result<Store<File>, Failure<'a>>
-        ensures stands { IfOk result (λ store.
-            stands self.now path.entry.now (database (seen_in store))) }
-        ensures store { IfOk result (λ store.
-            HasCleanDisk (file_state store.conn) → IsStore (file_state store.conn).now) }
+    fn open_or_make_store<'a>(&self, path: &'a str) -> Result<Store<Self::Disk>, Failure<'a>>
+        ensures found { IfOk result (λ store.
+            IsFoundOrMade (stands self.now) path.entry.now (seen_in store)) }
         ensures settled { IfOk result (λ store. IsSettled (file_state store.conn)) }
         ensures durable { IfOk result (λ store. IsDurable (file_state store.conn)) }
         ensures fails { IfErr result (IsNotMade (stands self.now) path.entry.now) };
 
     /// Closes a store of the path. What was committed to it is safe however that ends.
-    fn close_store(&self, path: &str, store: Store<File>)
+    fn close_store(&self, path: &str, store: Store<Self::Disk>)
         ensures leaves { leaves self.now path.now (seen_in store) };
 }
 
@@ -79,8 +80,7 @@ fn open<'a>(rt: &HostRuntime, path: &str) -> Result<Store<File>, Failure<'a>>
 
 // A store that is made at the path.
 fn make<'a>(rt: &HostRuntime, path: &str) -> Result<Store<File>, Failure<'a>>
-    ensures store { IfOk result (λ store.
-        HasCleanDisk (file_state store.conn) → IsStore (file_state store.conn).now) }
+    ensures empty { IfOk result (λ store. IsEmptyStoreOn store.conn) }
     ensures settled { IfOk result (λ store. IsSettled (file_state store.conn)) }
     ensures durable { IfOk result (λ store. IsDurable (file_state store.conn)) }
     ensures fails { IfErr result (λ failure. (fault : StoreFault) × (failure ≡ told_of fault)) }
@@ -109,6 +109,8 @@ impl Stores for HostRuntime {
     ghost stands = { λ _ _ _. ⊤ };
 
     ghost leaves = { λ _ _ _. ⊤ };
+
+    type Disk = File;
 
     fn open_store<'a>(&self, path: &'a str) -> Result<Store<File>, Failure<'a>> {
         if fs::open(self, path).is_err() {

@@ -1,6 +1,7 @@
 use Rattle.sqlite.specs.Files.{file_state}
 use Rattle.relying_verdicts.specs.View.{seen_query}
 use Rattle.cli.specs.Believed.{accepted_by}
+use Rattle.cli.specs.Standing.{seen_in}
 use Rattle.cli.proofs.Seeing.{compared_by}
 use Rattle.cli.proofs.Unanswered.{not_compared_by}
 use Rattle.cli.proofs.comparing.compare_by.Goals as goal
@@ -9,10 +10,10 @@ pub returns-clause-compared : goal.returns-clause-compared
 returns-clause-compared g c =
     compared_by (g.S.Stores.stands c.args.source.now) (g.S.Stores.leaves c.args.source.now) c.args.paths.now.path.now c.args.paths.now.other.now (accepted_by c.args.verifier.now) (seen_query c.args.query.now)
     (file_state c.in_ok-store.store.conn) (file_state c.in_ok-beside.beside.conn) c.compare_at.result
-    c.in_ok-store.ensures.stands c.in_ok-store.ensures.store c.in_ok-beside.ensures.stands c.in_ok-beside.ensures.store c.compare_at.ensures.compared
+    c.in_ok-store.ensures.found c.in_ok-beside.ensures.found c.compare_at.ensures.compared
 
 pub returns-clause-fails : goal.returns-clause-fails
 returns-clause-fails g c =
     not_compared_by (g.S.Stores.stands c.args.source.now) (g.S.Stores.leaves c.args.source.now) c.args.paths.now.path.now c.args.paths.now.other.now
-    (file_state c.in_ok-store.store.conn) (file_state c.in_ok-beside.beside.conn) c.compare_at.result
-    c.in_ok-store.ensures.stands c.in_ok-store.ensures.store c.in_ok-beside.ensures.stands c.in_ok-beside.ensures.store c.compare_at.ensures.fails
+    (seen_in c.in_ok-store.store) (seen_in c.in_ok-beside.beside) c.compare_at.result
+    c.in_ok-store.ensures.found c.in_ok-beside.ensures.found c.compare_at.ensures.fails
