@@ -23,13 +23,13 @@ pub either : (result : Result ℕ Failure) (ended : ℕ) (same : Type 0) (Told :
 either (Ok status) ended same Told is done failed = inl (subst IsAnswering (sym done.0) is)
 either (Err failure) ended same Told is done failed = inr (subst IsFailing (sym failed.0) (is_failing failure))
 
-pub answered : (holds : Holding) (stands : Standing) (leaves : Leaving) (words : List Text) (line : Line) (old new : Option (List ℕ)) (result : Result ℕ Failure) (ended : ℕ) (same : Type 0) (Told : List ℕ → Type 0)
-    → Reads words line → IfOk result (IsDone holds stands leaves line old new)
+pub answered : (holds : Holding) (stands : Standing) (leaves : Leaving) (words : List Text) (line : Line) (input source old new : Option (List ℕ)) (result : Result ℕ Failure) (ended : ℕ) (same : Type 0) (Told : List ℕ → Type 0)
+    → Reads words line → IfOk result (IsDone holds stands leaves line input source old new)
     → IfOk result (λ status. (ended ≡ status) × same) → IfErr result (λ failure. (ended ≡ status_of failure) × Told (report_line failure))
-    → IsAnswering ended → HasAnswered holds stands leaves words old new ended × same
-answered holds stands leaves words line old new (Ok status) ended same Told reads did done failed answers =
-    (inl (line, reads, subst (IsDone holds stands leaves line old new) (sym done.0) did), done.1)
-answered holds stands leaves words line old new (Err failure) ended same Told reads did done failed answers =
+    → IsAnswering ended → HasAnswered holds stands leaves words input source old new ended × same
+answered holds stands leaves words line input source old new (Ok status) ended same Told reads did done failed answers =
+    (inl (line, reads, subst (IsDone holds stands leaves line input source old new) (sym done.0) did), done.1)
+answered holds stands leaves words line input source old new (Err failure) ended same Told reads did done failed answers =
     absurd (not_both ended answers (subst IsFailing (sym failed.0) (is_failing failure)))
 
 pub failed : (holds : Holding) (stands : Standing) (leaves : Leaving) (words : List Text) (line : Line) (result : Result ℕ Failure) (ended : ℕ) (same unchanged : Type 0) (Told : List ℕ → Type 0)
@@ -53,14 +53,14 @@ printed holds key_info Certificate file text are = (are.0, are.1)
 printed holds key_info RevocationList file text are = (are.0, are.1)
 printed holds key_info Response file text are = (are.0, are.1)
 
-pub unflushed : (holds : Holding) (stands : Standing) (leaves : Leaving) (line : Line) (old new : Option (List ℕ)) (status : ℕ) → IsDone holds stands leaves line old new status
+pub unflushed : (holds : Holding) (stands : Standing) (leaves : Leaving) (line : Line) (input source old new : Option (List ℕ)) (status : ℕ) → IsDone holds stands leaves line input source old new status
     → IsFailureOf holds stands leaves line Unwritable
-unflushed holds stands leaves (Tree file) old new status (text, (zero, is), written) = inr ((is.0, is.1, is.2, is.3), refl)
-unflushed holds stands leaves (Show kind file) old new status (text, (zero, is), written) = inr (shown holds kind file.now text is, refl)
-unflushed holds stands leaves (Prints issuer kind file) old new status (text, (zero, (signer, held, are)), written) =
+unflushed holds stands leaves (Tree file) input source old new status (text, (zero, is), written) = inr ((is.0, is.1, is.2, is.3), refl)
+unflushed holds stands leaves (Show kind file) input source old new status (text, (zero, is), written) = inr (shown holds kind file.now text is, refl)
+unflushed holds stands leaves (Prints issuer kind file) input source old new status (text, (zero, (signer, held, are)), written) =
     inr (((signer, held), printed holds signer.key_info kind file.now text are), refl)
-unflushed holds stands leaves (Deliver store verdicts issuer file) old new status (text, (zero, (counts, is, line)), written) = inr ((counts, is), refl)
-unflushed holds stands leaves (Check question) old new status (text, (verdict, is, ends, said), written) = inr ((verdict, is), refl)
-unflushed holds stands leaves (Compare question other) old new status (text, (comparison, is, ends, said), written) = inr ((comparison, is), refl)
-unflushed holds stands leaves (Explain words) old new status (text, (zero, is), written) = inr ((text, is), refl)
-unflushed holds stands leaves (Session store verdicts) old new status (text, (zero, is), written) = inr ((is.prints, is.begins), inr (inl refl))
+unflushed holds stands leaves (Deliver store verdicts issuer file) input source old new status (text, (zero, (counts, is, line)), written) = inr ((counts, is), refl)
+unflushed holds stands leaves (Check question) input source old new status (text, (verdict, is, ends, said), written) = inr ((verdict, is), refl)
+unflushed holds stands leaves (Compare question other) input source old new status (text, (comparison, is, ends, said), written) = inr ((comparison, is), refl)
+unflushed holds stands leaves (Explain words) input source old new status (text, (zero, is), written) = inr ((text, is), refl)
+unflushed holds stands leaves (Session store verdicts) input source old new status (text, (zero, is), written) = inr ((is.prints, is.begins), inr (inl refl))

@@ -28,12 +28,12 @@ pub either : (status : ℕ) → (status ≡ 0) ⊎ IsFailing status → IsAnswer
 either status (inl done) = inl (inl done)
 either status (inr fails) = inr fails
 
-pub helped : (holds : Holding) (stands : Standing) (leaves : Leaving) (words : List Text) (kind : ErrorKind) (old new : Option (List ℕ)) (status : ℕ) (same : Type 0)
+pub helped : (holds : Holding) (stands : Standing) (leaves : Leaving) (words : List Text) (kind : ErrorKind) (input source old new : Option (List ℕ)) (status : ℕ) (same : Type 0)
     → (kind ≡ OutOfMemory) ⊎ AreRefusedWith words kind → (status ≡ 0) ⊎ IsFailing status → (status ≡ 0 → IsHelp kind × same)
-    → IsAnswering status → HasAnswered holds stands leaves words old new status × same
-helped holds stands leaves words kind old new status same refused (inl done) help answers =
+    → IsAnswering status → HasAnswered holds stands leaves words input source old new status × same
+helped holds stands leaves words kind input source old new status same refused (inl done) help answers =
     (inr (kind, refused_help words kind refused (help done).0, (help done).0, done), (help done).1)
-helped holds stands leaves words kind old new status same refused (inr fails) help answers = absurd (not_both status answers fails)
+helped holds stands leaves words kind input source old new status same refused (inr fails) help answers = absurd (not_both status answers fails)
 
 pub unexplained : (holds : Holding) (stands : Standing) (leaves : Leaving) (words : List Text) (kind : ErrorKind) (status : ℕ) (unchanged : Type 0) (Told : List ℕ → Type 0)
     → (kind ≡ OutOfMemory) ⊎ AreRefusedWith words kind → IsUnexplained kind unchanged Told status → HasEnded holds stands leaves words unchanged Told status

@@ -1,5 +1,5 @@
 -- What a session came to, by what its loop says.
-use Rattle.std.proofs.Common.{◌≡◌, ◌∙◌, ℕ, List, [], ◌∷◌, ◌++◌, Option, IsTrue, arith, ap, sym, refl}
+use Rattle.std.proofs.Common.{◌≡◌, ◌⊎◌, ◌∙◌, inl, inr, true, ℕ, List, [], ◌∷◌, ◌++◌, Option, IsTrue, arith, ap, sym, refl}
 use Rattle.std.specs.Io.KnownBytes.{Appends}
 use Rattle.sqlite.specs.Effect.{Database}
 use Rattle.sqlite.specs.State.{State}
@@ -12,15 +12,16 @@ use Rattle.store_sql.specs.Statements.{IsDurable}
 use Rattle.cli_failures.specs.Failures.{Holding}
 use Rattle.cli_session.specs.Believed.{BelievesJust}
 use Rattle.cli_session.specs.declared.believed.Believed.{Believed}
-use Rattle.cli_serving.specs.Serving.{AreAnswersTo, HasEnded, Known, text_of}
+use Rattle.cli_serving.specs.Serving.{AreAnswersTo, HasEnded, Known, is_end, text_of}
 use Rattle.cli_serving.specs.declared.ending.End.{End}
 use Rattle.cli_serving.specs.declared.ending.End.TheVariants.{Quit, Finished, Shut, Unwritable, Unreadable, NoMemory}
 use Rattle.cli_steps.specs.State.{IsState, State as PartyState}
 use Rattle.cli_steps.specs.Ways.{Steps}
 use Rattle.cli_steps.specs.declared.answer.Answer.{Answer}
+use Rattle.cli_steps.specs.declared.answer.Answer.TheVariants.{BadLine, Believes, Delivered, Ends, Failed, Forgets, LongLine, Nothing, Prints, Told}
 use Rattle.cli_store.specs.Stored.{IsSoundIn, LeavesOneOf, keeping_in}
 use Rattle.cli.specs.Serves.{IsWhole}
-use Rattle.cli.specs.Session.{HasComeTo, beginning}
+use Rattle.cli.specs.Session.{HasComeTo, IsReadToEnd, IsReadToQuit, beginning}
 use Rattle.cli.specs.Standing.{seen_of}
 
 -- a store that was opened leaves what it holds
@@ -45,18 +46,37 @@ has_come believed last prints old new Are listed believes settled durable was_so
     (now, is_now.keeps.0, are)
 
 -- the lines of a session that was not cut short, and their answers
-pub record Served (holds : Holding) (output written : Option (List ℕ)) (Knows : Known) : Type 0 where
+pub record Served (holds : Holding) (input source output written : Option (List ℕ)) (Knows : Known) : Type 0 where
   pub lines : List (List ℕ)
   pub answers : List Answer
+  pub read : IsReadToQuit input source lines answers ⊎ IsReadToEnd input source lines answers
   pub said : Appends output written (text_of answers)
   pub known : Knows (λ before now. AreAnswersTo holds lines answers before now)
 
+-- an answer that ends a session is the one
+is_ends : (answer : Answer) → is_end answer ≡ true → answer ≡ Ends
+is_ends Ends is = refl
+is_ends Nothing is = absurd cc
+is_ends Believes is = absurd cc
+is_ends Forgets is = absurd cc
+is_ends (Delivered counts) is = absurd cc
+is_ends (Told verdict) is = absurd cc
+is_ends (Prints text) is = absurd cc
+is_ends (Failed failure) is = absurd cc
+is_ends BadLine is = absurd cc
+is_ends LongLine is = absurd cc
+
 pub whole : (holds : Holding) (input source output written : Option (List ℕ)) (Knows Before : Known) (end : End)
-    → HasEnded holds input source output written Knows Before end → IsWhole end → Served holds output written Knows
-whole holds input source output written Knows Before Quit it is =
-    record { lines = it.lines ++ it.line ∷ []; answers = it.answers ++ it.answer ∷ []; said = it.last.1; known = it.known }
-whole holds input source output written Knows Before Finished (middle, it, ends) is =
-    record { lines = it.lines; answers = it.answers; said = it.said; known = it.known }
+    → HasEnded holds input source output written Knows Before end → IsWhole end → Served holds input source output written Knows
+whole holds input source output written Knows Before Quit it is = record {
+  lines = it.lines ++ it.line ∷ [];
+  answers = it.answers ++ it.answer ∷ [];
+  read = inl (it.answers, ap (λ last. it.answers ++ last ∷ []) (is_ends it.answer it.last.0), it.go_on, it.read);
+  said = it.last.1;
+  known = it.known;
+}
+whole holds input source output written Knows Before Finished (middle, it, consumes, ends) is =
+    record { lines = it.lines; answers = it.answers; read = inr (middle, it.read, it.go_on, consumes, ends); said = it.said; known = it.known }
 whole holds input source output written Knows Before Shut it is = absurd is
 whole holds input source output written Knows Before Unwritable it is = absurd is
 whole holds input source output written Knows Before Unreadable it is = absurd is

@@ -43,32 +43,33 @@ IsExplanation words text =
 abbrev pub IsNoTopic : List (List ℕ) → Failure → Type 0
 IsNoTopic words failure = (failure ≡ BadTopic) × ((entries : List ℕ) × (is_known entries words ≡ false))
 
--- The text that the line asks for, and the status that comes with it. Files hold so, and stores stand and are left so.
-abbrev pub IsAnswer : Holding → Standing → Leaving → Line → ℕ → List ℕ → Type 0
-IsAnswer holds stands leaves (Tree file) status text =
+-- The text that the line asks for, and the status that comes with it. Files hold so, stores stand and are left so, and standard input gave
+-- what lies between two states of it.
+abbrev pub IsAnswer : Holding → Standing → Leaving → Line → Option (List ℕ) → Option (List ℕ) → ℕ → List ℕ → Type 0
+IsAnswer holds stands leaves (Tree file) input source status text =
     (status ≡ 0) × IsTreeText holds file.now text
-IsAnswer holds stands leaves (Show kind file) status text =
+IsAnswer holds stands leaves (Show kind file) input source status text =
     (status ≡ 0) × IsShownText holds kind file.now text
-IsAnswer holds stands leaves (Prints issuer kind file) status text =
+IsAnswer holds stands leaves (Prints issuer kind file) input source status text =
     (status ≡ 0) × ArePrintsUnder holds issuer.now kind file.now text
-IsAnswer holds stands leaves (Deliver store verdicts issuer file) status text =
+IsAnswer holds stands leaves (Deliver store verdicts issuer file) input source status text =
     (status ≡ 0)
     × IsDeliveredText holds stands leaves
     (record { store = store; verdicts = verdicts; issuer = issuer; file = file }) text
-IsAnswer holds stands leaves (Check question) status text =
+IsAnswer holds stands leaves (Check question) input source status text =
     IsVerdictText (IsChecked holds stands leaves question) status text
-IsAnswer holds stands leaves (Compare question other) status text =
+IsAnswer holds stands leaves (Compare question other) input source status text =
     IsComparisonText (IsCompared holds stands leaves question other.now) status text
-IsAnswer holds stands leaves (Explain words) status text =
+IsAnswer holds stands leaves (Explain words) input source status text =
     (status ≡ 0) × IsExplanation (map (λ w. w.now) words.items) text
-IsAnswer holds stands leaves (Session store verdicts) status text =
+IsAnswer holds stands leaves (Session store verdicts) input source status text =
     (status ≡ 0)
-    × IsSessionText holds stands leaves store.now (option_map (λ w. w.now) verdicts) text
+    × IsSessionText holds stands leaves store.now (option_map (λ w. w.now) verdicts) input source text
 
 -- that text was written, and nothing else
-abbrev pub IsDone : Holding → Standing → Leaving → Line → Option (List ℕ) → Option (List ℕ) → ℕ → Type 0
-IsDone holds stands leaves line old new status =
-    (text : List ℕ) × IsAnswer holds stands leaves line status text × Appends old new text
+abbrev pub IsDone : Holding → Standing → Leaving → Line → Option (List ℕ) → Option (List ℕ) → Option (List ℕ) → Option (List ℕ) → ℕ → Type 0
+IsDone holds stands leaves line input source old new status =
+    (text : List ℕ) × IsAnswer holds stands leaves line input source status text × Appends old new text
 
 -- ---- failures
 
@@ -109,9 +110,9 @@ IsMistake kind = (kind ≢ OutOfMemory) × (IsHelp kind → ⊥)
 -- ---- a run
 
 -- what the words ask for was written, or they ask for help
-abbrev pub HasAnswered : Holding → Standing → Leaving → List Text → Option (List ℕ) → Option (List ℕ) → ℕ → Type 0
-HasAnswered holds stands leaves words old new status =
-    ((line : Line) × Reads words line × IsDone holds stands leaves line old new status)
+abbrev pub HasAnswered : Holding → Standing → Leaving → List Text → Option (List ℕ) → Option (List ℕ) → Option (List ℕ) → Option (List ℕ) → ℕ → Type 0
+HasAnswered holds stands leaves words input source old new status =
+    ((line : Line) × Reads words line × IsDone holds stands leaves line input source old new status)
     ⊎ ((kind : ErrorKind) × AreRefusedWith words kind × IsHelp kind × (status ≡ 0))
 
 -- The words are a line, and this failed; or memory ran out while they were read, or the text of help could not be written.

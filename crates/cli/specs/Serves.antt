@@ -1,5 +1,5 @@
 -- On the way of a session: what was served over a store that was opened.
-use Rattle.std.specs.Prelude.{◌≡◌, ℕ, List, Option}
+use Rattle.std.specs.Prelude.{◌≡◌, ◌⊎◌, ℕ, List, Option}
 use Rattle.std.specs.Io.KnownBytes.{Appends}
 use Rattle.cli_failures.specs.Failures.{Holding}
 use Rattle.cli_session.specs.Held.{holding_of}
@@ -7,7 +7,7 @@ use Rattle.cli_serving.specs.Serving.{AreAnswersTo, text_of}
 use Rattle.cli_serving.specs.declared.ending.End.{End}
 use Rattle.cli_serving.specs.declared.ending.End.TheVariants.{Quit, Finished}
 use Rattle.cli_steps.specs.declared.answer.Answer.{Answer}
-use Rattle.cli.specs.Session.{HasComeTo}
+use Rattle.cli.specs.Session.{HasComeTo, IsReadToEnd, IsReadToQuit}
 use Rattle.cli.specs.Standing.{Seen}
 
 -- the session was not cut short
@@ -16,11 +16,13 @@ IsWhole Quit = Unit {0}
 IsWhole Finished = Unit {0}
 IsWhole _ = ⊥
 
--- The answers to some lines were written, by who believes those fingerprints in the beginning, over a store that was seen so.
-pub record IsServed (holds : Holding) (leaves : Seen → Type 0) (prints : List (List ℕ)) (old : Seen) (output written : Option (List ℕ)) : Type 0 where
+-- The answers to the lines that the source gave were written, by who believes those fingerprints in the beginning, over a store that was
+-- seen so.
+pub record IsServed (holds : Holding) (leaves : Seen → Type 0) (prints : List (List ℕ)) (old : Seen) (input source output written : Option (List ℕ)) : Type 0 where
   pub new : Seen
   pub left : leaves new
   pub lines : List (List ℕ)
   pub answers : List Answer
+  pub read : IsReadToQuit input source lines answers ⊎ IsReadToEnd input source lines answers
   pub said : Appends output written (text_of answers)
   pub come : HasComeTo old new prints (λ before now. AreAnswersTo (holding_of holds) lines answers before now)

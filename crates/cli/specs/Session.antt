@@ -1,5 +1,5 @@
 -- What a session answers over the store at a path, and why it fails.
-use Rattle.std.specs.Prelude.{◌≡◌, ◌⊎◌, ℕ, List, [], ◌∷◌, Option, Some, None, IsTrue}
+use Rattle.std.specs.Prelude.{◌≡◌, ◌⊎◌, ℕ, List, [], ◌∷◌, ◌++◌, Option, Some, None, IsTrue}
 use Rattle.statements_facts.specs.Statement.{Holdings}
 use Rattle.store_maps.specs.Held.{IsStoreOf}
 use Rattle.cli_failures.specs.Failures.{Holding}
@@ -8,9 +8,11 @@ use Rattle.cli_failures.specs.declared.failure.Failure.TheVariants.{Unwritable, 
 use Rattle.cli_operands.specs.InOrder.{FailsFirst}
 use Rattle.cli_operands.specs.Question.{HoldsFingerprints, IsFailureOnFingerprints}
 use Rattle.cli_session.specs.Held.{holding_of}
-use Rattle.cli_serving.specs.Serving.{AreAnswersTo, text_of}
+use Rattle.std.specs.Io.KnownBytes.{Consumes, IsAtEnd}
+use Rattle.cli_serving.specs.Serving.{AreAnswersTo, GivesLines, GoOn, text_of}
 use Rattle.cli_steps.specs.State.{State}
 use Rattle.cli_steps.specs.declared.answer.Answer.{Answer}
+use Rattle.cli_steps.specs.declared.answer.Answer.TheVariants.{Ends}
 use Rattle.cli.specs.Standing.{IsFoundOrMade, IsIntact, IsNotMade, Leaving, Seen, Standing}
 
 -- the fingerprints that are believed in the beginning: those of the file, or none
@@ -30,9 +32,19 @@ HasComeTo old new prints Are =
     IsIntact new → IsTrue new.is_open → (start : Holdings) → IsStoreOf old.now start →
     (now : State) × IsStoreOf new.now now.kept.held × Are (beginning prints start) now
 
--- The answers to some lines, in order, by who believes those fingerprints in the beginning, over the store at the path. What one line
--- leaves the next finds.
-pub record IsSessionText (holds : Holding) (stands : Standing) (leaves : Leaving) (path : List ℕ) (verdicts : Option (List ℕ)) (text : List ℕ) : Type 0 where
+-- the source gave these lines, of which the last asks for the end, as its answer says
+abbrev pub IsReadToQuit : Option (List ℕ) → Option (List ℕ) → List (List ℕ) → List Answer → Type 0
+IsReadToQuit input source lines answers =
+    (earlier : List Answer) × (answers ≡ earlier ++ Ends ∷ []) × GoOn earlier × GivesLines input source lines
+
+-- or none asks for it, and it is at its end behind them
+abbrev pub IsReadToEnd : Option (List ℕ) → Option (List ℕ) → List (List ℕ) → List Answer → Type 0
+IsReadToEnd input source lines answers =
+    (middle : Option (List ℕ)) × GivesLines input middle lines × GoOn answers × Consumes middle source [] × IsAtEnd source
+
+-- The answers to the lines that the source gave, in order, by who believes those fingerprints in the beginning, over the store at the path.
+-- What one line leaves the next finds.
+pub record IsSessionText (holds : Holding) (stands : Standing) (leaves : Leaving) (path : List ℕ) (verdicts : Option (List ℕ)) (input source : Option (List ℕ)) (text : List ℕ) : Type 0 where
   pub prints : List (List ℕ)
   pub begins : BeginsWith holds verdicts prints
   pub old : Seen
@@ -41,6 +53,7 @@ pub record IsSessionText (holds : Holding) (stands : Standing) (leaves : Leaving
   pub left : leaves path new
   pub lines : List (List ℕ)
   pub answers : List Answer
+  pub read : IsReadToQuit input source lines answers ⊎ IsReadToEnd input source lines answers
   pub text_is : text ≡ text_of answers
   pub come : HasComeTo old new prints (λ before now. AreAnswersTo (holding_of holds) lines answers before now)
 

@@ -45,7 +45,8 @@ pub fn execute<S: Source + Stores, I: Read, O: Write, E: Write>(
     ensures status { IsAnswering result ⊎ IsFailing result }
     ensures answered { IsAnswering result
         → HasAnswered (S.holds source.now) (S.stands source.now) (S.leaves source.now)
-        (map (λ w. w.now) words.now) (O.contents out.old) (O.contents out.new) result
+        (map (λ w. w.now) words.now) (I.remaining input.old) (I.remaining input.new)
+        (O.contents out.old) (O.contents out.new) result
         × (err.new ≡ err.old) }
     ensures failed { IsFailing result → HasEndedSo (S.holds source.now)
         (S.stands source.now) (S.leaves source.now) (map (λ w. w.now) words.now)
@@ -66,7 +67,8 @@ pub fn executed<S: Source + Stores, I: Read, O: Write, E: Write>(
     ensures status { IsAnswering result.status ⊎ IsFailing result.status }
     ensures answered { IsAnswering result.status
         → HasAnswered (S.holds source.now) (S.stands source.now) (S.leaves source.now)
-        (map (λ w. w.now) words.now) (O.contents out.old) (O.contents out.new) result.status
+        (map (λ w. w.now) words.now) (I.remaining input.old) (I.remaining input.new)
+        (O.contents out.old) (O.contents out.new) result.status
         × (err.new ≡ err.old) }
     ensures failed { IsFailing result.status → HasEnded (S.holds source.now)
         (S.stands source.now) (S.leaves source.now) (map (λ w. w.now) words.now) (out.new ≡ out.old)
@@ -106,7 +108,8 @@ fn run<'a, S: Source + Stores, I: Read, O: Write>(
     out: &mut O,
 ) -> Result<u8, Failure<'a>>
     ensures done { IfOk result (IsDone (S.holds source.now) (S.stands source.now)
-        (S.leaves source.now) line.now (O.contents out.old) (O.contents out.new)) }
+        (S.leaves source.now) line.now (I.remaining input.old) (I.remaining input.new)
+        (O.contents out.old) (O.contents out.new)) }
     ensures status { IfOk result IsAnswering }
     ensures fails { IfErr result
         (IsFailureOf (S.holds source.now) (S.stands source.now) (S.leaves source.now) line.now) }
@@ -127,7 +130,8 @@ fn answer<'a, S: Source + Stores, I: Read, O: Write>(
     out: &mut O,
 ) -> Result<u8, Failure<'a>>
     ensures done { IfOk result (IsDone (S.holds source.now) (S.stands source.now)
-        (S.leaves source.now) line.now (O.contents out.old) (O.contents out.new)) }
+        (S.leaves source.now) line.now (I.remaining input.old) (I.remaining input.new)
+        (O.contents out.old) (O.contents out.new)) }
     ensures status { IfOk result IsAnswering }
     ensures fails { IfErr result
         (IsFailureOf (S.holds source.now) (S.stands source.now) (S.leaves source.now) line.now) }

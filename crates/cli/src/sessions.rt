@@ -64,7 +64,8 @@ fn serve_over<S: Source + Stores, R: Read, O: Write>(
     requires settled { IsSettled (file_state store.conn) }
     requires durable { IsDurable (file_state store.conn) }
     ensures served { IsWhole result → IsServed (S.holds source.now) (S.leaves source.now path.now)
-        prints.items (seen_in store) (O.contents out.old) (O.contents out.new) }
+        prints.items (seen_in store) (R.remaining input.old) (R.remaining input.new)
+        (O.contents out.old) (O.contents out.new) }
 {
     let believed = Believed::new(alloc, ListVerifier::new(prints));
     let mut party = Party {
@@ -92,8 +93,8 @@ pub fn session<'a, S: Source + Stores, R: Read, O: Write>(
     out: &mut O,
 ) -> Result<(), Failure<'a>>
     ensures done { OnOk result (Writes (IsSessionText (S.holds source.now) (S.stands source.now)
-        (S.leaves source.now) path.entry.now (option_map (λ w. w.now) verdicts.entry))
-        (O.contents out.old) (O.contents out.new)) }
+        (S.leaves source.now) path.entry.now (option_map (λ w. w.now) verdicts.entry)
+        (R.remaining input.old) (R.remaining input.new)) (O.contents out.old) (O.contents out.new)) }
     ensures fails { IfErr result (IsFailureOfSession (S.holds source.now) (S.stands source.now)
         path.entry.now (option_map (λ w. w.now) verdicts.entry)) }
     ensures quiet { IfErr result (λ failure. UnlessLate failure (out.new ≡ out.old)) }

@@ -13,7 +13,7 @@ returns-in-Ok-clause-status g c =
 pub returns-in-Ok-clause-answered : goal.returns-in-Ok-clause-answered
 returns-in-Ok-clause-answered g c =
     answered (g.S.Source.holds c.args.source.now) (g.S.Stores.stands c.args.source.now) (g.S.Stores.leaves c.args.source.now) (map (λ w. w.now) c.args.words.now) c.in-Ok.line
-    (g.O.Write.contents c.args.out.now) (g.O.Write.contents c.run.new.out) c.run.result c.finish.result.status (c.finish.new.err ≡ c.args.err.now)
+    (g.I.Read.remaining c.args.input.now) (g.I.Read.remaining c.run.new.input) (g.O.Write.contents c.args.out.now) (g.O.Write.contents c.run.new.out) c.run.result c.finish.result.status (c.finish.new.err ≡ c.args.err.now)
     (λ line. OnOk c.finish.result.told (Appends (g.E.Write.contents c.args.err.now) (g.E.Write.contents c.finish.new.err) line))
     c.in-Ok.ensures.reads c.run.ensures.done c.finish.ensures.done c.finish.ensures.failed
 
@@ -29,7 +29,7 @@ returns-in-Err-clause-status g c = explained c.answer_of_clap.result.status c.an
 pub returns-in-Err-clause-answered : goal.returns-in-Err-clause-answered
 returns-in-Err-clause-answered g c =
     helped (g.S.Source.holds c.args.source.now) (g.S.Stores.stands c.args.source.now) (g.S.Stores.leaves c.args.source.now) (map (λ w. w.now) c.args.words.now) (kind_of c.in-Err.error)
-    (g.O.Write.contents c.args.out.now) (g.O.Write.contents c.answer_of_clap.new.out) c.answer_of_clap.result.status (c.answer_of_clap.new.err ≡ c.args.err.now)
+    (g.I.Read.remaining c.args.input.now) (g.I.Read.remaining c.args.input.now) (g.O.Write.contents c.args.out.now) (g.O.Write.contents c.answer_of_clap.new.out) c.answer_of_clap.result.status (c.answer_of_clap.new.err ≡ c.args.err.now)
     c.in-Err.ensures.refuses c.answer_of_clap.ensures.status c.answer_of_clap.ensures.help
 
 pub returns-in-Err-clause-failed : goal.returns-in-Err-clause-failed
