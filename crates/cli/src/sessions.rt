@@ -94,7 +94,8 @@ pub fn session<'a, S: Source + Stores, R: Read, O: Write>(
 ) -> Result<(), Failure<'a>>
     ensures done { OnOk result (Writes (IsSessionText (S.holds source.now) (S.stands source.now)
         (S.leaves source.now) path.entry.now (option_map (λ w. w.now) verdicts.entry)
-        (R.remaining input.old) (R.remaining input.new)) (O.contents out.old) (O.contents out.new)) }
+        (R.remaining input.old) (R.remaining input.new))
+        (O.contents out.old) (O.contents out.new)) }
     ensures fails { IfErr result (IsFailureOfSession (S.holds source.now) (S.stands source.now)
         path.entry.now (option_map (λ w. w.now) verdicts.entry)) }
     ensures quiet { IfErr result (λ failure. UnlessLate failure (out.new ≡ out.old)) }
