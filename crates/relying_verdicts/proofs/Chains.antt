@@ -8,7 +8,7 @@ use Rattle.store_sql.specs.declared.fault.StoreFault.{StoreFault}
 use Rattle.store_sql.specs.Statements.{CommitsNothing}
 use Rattle.store_rows.specs.Steps.{Stays}
 use Rattle.store_maps.specs.Held.{IsStoreOf}
-use Rattle.store_maps.specs.LooksUp.{IsFoundIn, FailsIn}
+use Rattle.store_maps.specs.LooksUp.{FailsIn, IsFoundIn, LooksUp}
 use Rattle.relying_verdicts.specs.declared.fault.Fault.{Fault}
 use Rattle.relying_verdicts.specs.declared.fault.Fault.TheVariants.{Store, Memory}
 use Rattle.relying_verdicts.specs.Asking.{AskFails, IsFoundInBoth, AskOfBothFails, HasAskedBoth}
@@ -32,6 +32,11 @@ found_as old new P a R b is leads = record {
   mode = is.mode;
   held = λ held store. let one = is.held held store in (one.0, leads held one.1);
 }
+
+-- the same of a look-up that may have failed
+pub looks_as : {A : Type 0} (old new : State) (result : Result A StoreFault) (P R : Holdings → A → Type 0) → LooksUp old new P result → ((held : Holdings) (found : A) → P held found → R held found) → LooksUp old new R result
+looks_as old new (Ok found) P R is leads = found_as old new P found R found is (λ held there. leads held found there)
+looks_as old new (Err fault) P R fails leads = fails
 
 pub found_then : {A B C : Type 0} (old mid new : State) (P : Holdings → A → Type 0) (a : A) (Q : Holdings → B → Type 0) (b : B) (R : Holdings → C → Type 0) (c : C)
     → IsFoundIn old mid P a → IsFoundIn mid new Q b → ((held : Holdings) → P held a → Q held b → R held c) → IsFoundIn old new R c

@@ -10,7 +10,7 @@ use Rattle.store_rows.specs.Seen.{seen_held_status}
 use Rattle.relying_agreement.specs.Link.{Link}
 use Rattle.relying_agreement.specs.Status.{Answers, Evidence}
 use Rattle.relying_verdicts.specs.declared.query.Query as asked
-use Rattle.relying_verdicts.specs.declared.evidence.Answers as answered
+use Rattle.store_maps.specs.declared.on_certificate.Answers as answered
 use Rattle.relying_verdicts.specs.declared.evidence.Evidence as known
 use Rattle.relying_verdicts.specs.declared.looking.Link as linked
 

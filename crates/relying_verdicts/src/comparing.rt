@@ -12,7 +12,7 @@ ghost use Rattle.relying_verdicts.specs.Found.{ComparesHeld};
 ghost use Rattle.relying_verdicts.specs.View.{seen_answers, seen_evidence, seen_query};
 ghost use Rattle.store_maps.specs.Held.{seen_crl};
 
-use crate::evidence::{Answers, Evidence, verdict_by};
+use crate::evidence::{Evidence, verdict_by};
 use crate::fault::Fault;
 use crate::looking::evidence_on;
 use crate::query::Query;
@@ -21,7 +21,7 @@ use path::{Outcome, Verifier};
 use relying_agreement::{Comparison, Verdict};
 use sqlite::{Alter, Transaction};
 use std::alloc::Global;
-use store_maps::HeldCrl;
+use store_maps::{Answers, HeldCrl};
 use store_rows::HeldStatus;
 
 /// Whether two lists have the same number, window and entry.

@@ -9,19 +9,8 @@ ghost use Rattle.store_maps.specs.Held.{seen_crl};
 
 use relying_agreement::Verdict;
 use statements_facts::Status;
-use store_maps::HeldCrl;
+use store_maps::{Answers, HeldCrl};
 use store_rows::HeldStatus;
-
-/// What a store holds of a certificate.
-#[derive(Clone, Copy)]
-pub(crate) struct Answers {
-    /// The list of its issuer that is about all certificates, with its entry for this one.
-    pub all: Option<HeldCrl>,
-    /// The list that is about certificates of its kind.
-    pub own: Option<HeldCrl>,
-    /// What a response says of it.
-    pub ocsp: Option<HeldStatus>,
-}
 
 /// What bears on a certificate.
 #[derive(Clone, Copy)]

@@ -11,10 +11,10 @@ ghost use Rattle.relying_agreement.specs.Link.{own_scope};
 ghost use Rattle.relying_agreement.specs.Status.{may_sign_crls, evidence_of};
 ghost use Rattle.relying_agreement.specs.Verdict.{evidence_on};
 ghost use Rattle.relying_verdicts.specs.Asking.{AsksStore};
-ghost use Rattle.relying_verdicts.specs.Found.{AreAnswersHeld, AreListsHeld};
+ghost use Rattle.relying_verdicts.specs.Found.{AreAnswersOn};
 ghost use Rattle.relying_verdicts.specs.View.{seen_evidence, seen_link, seen_query};
 
-use crate::evidence::{Answers, Evidence};
+use crate::evidence::Evidence;
 use crate::fault::Fault;
 use crate::query::Query;
 use cert::Certificate;
@@ -23,7 +23,7 @@ use sqlite::{Alter, Transaction};
 use statements::issuer_of;
 use statements_facts::{Issuer, Scope};
 use std::alloc::Global;
-use store_maps::{HeldCrl, crl, ocsp};
+use store_maps::{Answers, CertificateKey, answers_on};
 use store_sql::StoreFault;
 
 /// The bit of keyUsage that lets a key sign lists.
@@ -66,30 +66,6 @@ fn may_sign_crls(link: &Link<'_, '_>) -> bool
     }
 }
 
-/// The list that is about all certificates of the issuer, and the one that is about those of the kind.
-fn look_up_lists<S: Alter>(
-    tx: &mut Transaction<'_, S>,
-    issuer: &Issuer<'_>,
-    kind: Scope,
-    serial: &[u8],
-) -> Result<(Option<HeldCrl>, Option<HeldCrl>), StoreFault>
-    requires inside { IsInTransaction S.Store tx.old }
-    ensures same_reference { KeepsReference tx.old tx.new }
-    ensures looks_up { LooksUpInside S.Store tx.old tx.new
-        (AreListsHeld (seen_issuer issuer.now) kind serial.now) result }
-    ensures open { SucceedsOnlyIfOpen S.Store tx.old tx.new result }
-    ensures survives { CommitsNothing (inside S.Store tx.old) (inside S.Store tx.new) }
-{
-    let all = match crl(tx, issuer, Scope::All, serial) {
-        Ok(all) => all,
-        Err(fault) => return Err(fault),
-    };
-    match crl(tx, issuer, kind, serial) {
-        Ok(own) => Ok((all, own)),
-        Err(fault) => Err(fault),
-    }
-}
-
 /// What is held of a certificate of the issuer: the hash of its issuer field is that of the field as the certificate spells it.
 fn look_up<S: Alter>(
     tx: &mut Transaction<'_, S>,
@@ -99,20 +75,17 @@ fn look_up<S: Alter>(
     requires inside { IsInTransaction S.Store tx.old }
     ensures same_reference { KeepsReference tx.old tx.new }
     ensures looks_up { LooksUpInside S.Store tx.old tx.new
-        (AreAnswersHeld (seen_issuer issuer.now) (seen_certificate certificate.now)) result }
+        (AreAnswersOn (seen_issuer issuer.now) (seen_certificate certificate.now)) result }
     ensures open { SucceedsOnlyIfOpen S.Store tx.old tx.new result }
     ensures survives { CommitsNothing (inside S.Store tx.old) (inside S.Store tx.new) }
 {
-    let kind = own_scope(certificate);
-    let (all, own) = match look_up_lists(tx, issuer, kind, certificate.serial.body) {
-        Ok(lists) => lists,
-        Err(fault) => return Err(fault),
-    };
     let name_hash = Sha1::digest(certificate.issuer.raw());
-    match ocsp(tx, issuer, &name_hash, certificate.serial.body) {
-        Ok(ocsp) => Ok(Answers { all, own, ocsp }),
-        Err(fault) => Err(fault),
-    }
+    let key = CertificateKey {
+        kind: own_scope(certificate),
+        name_hash: &name_hash,
+        serial: certificate.serial.body,
+    };
+    answers_on(tx, issuer, &key)
 }
 
 /// What bears on a certificate. Memory is taken for the key of the issuer's name.

@@ -11,7 +11,12 @@ use Rattle.store_rows.specs.Places.{entries_under}
 use Rattle.store_rows.specs.Seen.{seen_head}
 use Rattle.store_rows.specs.Steps.{Finds, HasFound}
 use Rattle.store_maps.specs.declared.crl_slot.HeldCrl.{HeldCrl}
-use Rattle.store_maps.specs.Held.{crl_under, seen_crl, held_in}
+use Rattle.store_rows.specs.Seen.{seen_held_status}
+use Rattle.statements_facts.specs.declared.scope.Scope.TheVariants.{All}
+use Rattle.store_maps.specs.declared.on_certificate.Answers.{Answers}
+use Rattle.store_maps.specs.declared.on_certificate.CertificateKey.{CertificateKey}
+use Rattle.store_maps.specs.Answers.{AreAnswersHeld, AreAnswersUnder}
+use Rattle.store_maps.specs.Held.{crl_under, held_in, ocsp_under, seen_crl}
 use Rattle.store_maps.specs.LooksUp.{LooksUp}
 use Rattle.store_maps.proofs.Chains.{finds_then, fails_then, found_in, fails_in}
 
@@ -78,3 +83,40 @@ looks_up old new (Err fault) view want h = fails_in old new fault h
 pub on_ok : {A E : Type 0} {P : Type 0} (result : Result A E) → P → OnOk result P
 on_ok (Ok found) p = p
 on_ok (Err fault) p = tt
+
+-- a look-up under the id of an issuer, of whatever is said of what is held then
+pub looks_through : {A : Type 0} (old mid new : State) (identity : IssuerIdentity) (answer : Option ℕ) (id : ℕ) (result : Result A StoreFault) (Under : Contents → A → Type 0) (Is : Holdings → A → Type 0)
+    → answer ≡ Some id → HasFound old mid (λ it found. found ≡ id_of it.issuers identity) answer → Finds mid new Under result
+    → ((it : Contents) (found : A) → id_of it.issuers identity ≡ Some id → Under it found → Is (held_in it) found) → LooksUp old new Is result
+looks_through old mid new identity answer id (Ok found) Under Is some one two leads =
+    found_in old new Is found
+    (finds_then old mid new (λ it found. found ≡ id_of it.issuers identity) answer Under found (λ it. Is (held_in it)) found one two
+    (λ it is there. leads it found (sym is ∙ some) there))
+looks_through old mid new identity answer id (Err fault) Under Is some one two leads =
+    fails_in old new fault (fails_then old mid new (λ it found. found ≡ id_of it.issuers identity) answer fault one two)
+
+-- what stands under the id of an issuer, where it has one
+under_id : {Fact : Type 0} (id : Option ℕ) (n : ℕ) (under : ℕ → Option Fact) → id ≡ Some n → under n ≡ option_and_then under id
+under_id id n under is = sym (ap (option_and_then under) is)
+
+-- and where it has none
+under_none : {Fact : Type 0} (id : Option ℕ) (under : ℕ → Option Fact) → id ≡ None → None ≡ option_and_then under id
+under_none id under is = sym (ap (option_and_then under) is)
+
+-- under the id of an issuer stands what is held of the issuer
+pub answers_of : (it : Contents) (identity : IssuerIdentity) (key : CertificateKey) (id : ℕ) (answers : Answers) → id_of it.issuers identity ≡ Some id → AreAnswersUnder id key it answers
+    → AreAnswersHeld identity key (held_in it) answers
+answers_of it identity key id answers is there = (
+  there.0.0 ∙ ap (option_map (answer_for key.serial.now)) (under_id (id_of it.issuers identity) id (crl_under it All) is),
+  there.0.1 ∙ ap (option_map (answer_for key.serial.now)) (under_id (id_of it.issuers identity) id (crl_under it key.kind) is),
+  there.1 ∙ under_id (id_of it.issuers identity) id (ocsp_under it key.name_hash.now key.serial.now) is,
+)
+
+-- nothing is held of an issuer that has no id
+pub no_answers : (it : Contents) (identity : IssuerIdentity) (key : CertificateKey) (answers : Answers) → id_of it.issuers identity ≡ None
+    → answers.all ≡ None → answers.own ≡ None → answers.ocsp ≡ None → AreAnswersHeld identity key (held_in it) answers
+no_answers it identity key answers is all own ocsp = (
+  ap (option_map seen_crl) all ∙ ap (option_map (answer_for key.serial.now)) (under_none (id_of it.issuers identity) (crl_under it All) is),
+  ap (option_map seen_crl) own ∙ ap (option_map (answer_for key.serial.now)) (under_none (id_of it.issuers identity) (crl_under it key.kind) is),
+  ap (option_map seen_held_status) ocsp ∙ under_none (id_of it.issuers identity) (ocsp_under it key.name_hash.now key.serial.now) is,
+)

@@ -1,4 +1,5 @@
 pub mod Held
+pub mod Answers
 pub mod LooksUp
 pub mod Creation
 pub mod Laws

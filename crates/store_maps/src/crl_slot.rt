@@ -37,7 +37,7 @@ fn with_reason(head: Head, reason: Option<u8>) -> HeldCrl
     }
 }
 
-fn look_under<S: Alter>(
+pub(crate) fn look_under<S: Alter>(
     tx: &mut Transaction<'_, S>,
     list: &ListKey,
     serial: &[u8],

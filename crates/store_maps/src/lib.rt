@@ -5,8 +5,10 @@ mod creation;
 mod crl_slot;
 mod laws;
 mod ocsp_slot;
+mod on_certificate;
 
 pub use creation::make;
 pub use crl_slot::{HeldCrl, crl};
 pub use laws::{issuer_laws, list_laws, single_laws};
 pub use ocsp_slot::ocsp;
+pub use on_certificate::{Answers, CertificateKey, answers_on};

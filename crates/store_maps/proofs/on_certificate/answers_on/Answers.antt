@@ -1,0 +1,24 @@
+use Rattle.std.proofs.Common.{arith, sym, refl, ◌∙◌}
+use Rattle.statements_facts.specs.Fact.{issuer_of}
+use Rattle.store_maps.specs.Answers.{AreAnswersHeld, AreAnswersUnder}
+use Rattle.store_maps.proofs.Chains.{answered_as, found_in}
+use Rattle.store_maps.proofs.Looking.{answers_of, looks_through, no_answers, on_ok}
+use Rattle.store_maps.proofs.on_certificate.answers_on.Goals as goal
+
+pub returns-in-Ok-None-clause-looks_up : goal.returns-in-Ok-None-clause-looks_up
+returns-in-Ok-None-clause-looks_up g c clean =
+    found_in _ _ _ _ (answered_as _ _ _ c.in-Ok-None.field-0 _ _ (c.in-Ok-None.ensures.finds clean)
+    (λ it is. no_answers it (issuer_of c.args.issuer.now) c.args.key.now _ (sym is ∙ c.in-Ok-None.field-0-is) refl refl refl))
+
+pub returns-clause-looks_up : goal.returns-clause-looks_up
+returns-clause-looks_up g c clean =
+    looks_through _ _ _ (issuer_of c.args.issuer.now) c.in-Ok-Some.field-0 c.in-Ok-Some.id c.answers_under.result
+    (AreAnswersUnder c.in-Ok-Some.id c.args.key.now) (AreAnswersHeld (issuer_of c.args.issuer.now) c.args.key.now) c.in-Ok-Some.field-0-is
+    (c.in-Ok-Some.ensures.finds (omega (arith, clean, c.answers_under.ensures.survives.clean))) (c.answers_under.ensures.finds clean)
+    (λ it found is there. answers_of it (issuer_of c.args.issuer.now) c.args.key.now c.in-Ok-Some.id found is there)
+
+pub returns-in-Ok-None-clause-open : goal.returns-in-Ok-None-clause-open
+returns-in-Ok-None-clause-open g c clean = (c.in-Ok-None.ensures.known clean).was_open
+
+pub returns-clause-open : goal.returns-clause-open
+returns-clause-open g c clean = on_ok c.answers_under.result (c.in-Ok-Some.ensures.known (omega (arith, clean, c.answers_under.ensures.survives.clean))).was_open

@@ -1,0 +1,12 @@
+use Rattle.std.proofs.Common.{arith}
+use Rattle.store_maps.proofs.Chains.{finds_then, fails_then}
+use Rattle.store_maps.proofs.on_certificate.lists_under.Goals as goal
+
+pub returns-in-Ok-look_under-clause-finds : goal.returns-in-Ok-look_under-clause-finds
+returns-in-Ok-look_under-clause-finds g c clean =
+    finds_then _ _ _ _ c.in-Ok.all _ c.in-Ok-look_under.own _ _ (c.in-Ok.ensures.finds (omega (arith, clean, c.look_under-2.ensures.survives.clean))) (c.in-Ok-look_under.ensures.finds clean)
+    (λ it all own. (all, own))
+
+pub returns-in-Err-look_under-clause-finds : goal.returns-in-Err-look_under-clause-finds
+returns-in-Err-look_under-clause-finds g c clean =
+    fails_then _ _ _ _ c.in-Ok.all c.in-Err-look_under.fault (c.in-Ok.ensures.finds (omega (arith, clean, c.look_under-2.ensures.survives.clean))) (c.in-Err-look_under.ensures.finds clean)
