@@ -1,7 +1,13 @@
 -- A store's calls, as those of a keeper.
-use Rattle.std.proofs.Common.{◌≡◌, ◌≢◌, ◌≤◌, ℕ, zero, suc, Bool, true, false, List, [], ◌∷◌, Contains, IsTrue, Result, Ok, Err, arith, inl, inr, refl, sym, subst}
-use Rattle.sqlite.specs.State.{HasCleanDisk, State, Survives}
+use Rattle.std.proofs.Common.{◌≡◌, ◌≢◌, ◌≤◌, ℕ, zero, suc, Bool, true, false, List, [], ◌∷◌, Contains, IsTrue, Result, Ok, Err, IfErr, IfOk, arith, inl, inr, refl, sym, subst, ◌∙◌, true≢false}
+use Rattle.sqlite.specs.Order.{Row}
+use Rattle.sqlite.specs.State.{HasCause, HasCleanDisk, IsNoStatement, IsNotRun, IsUnchanged, State, Survives, store_error}
+use Rattle.sqlite.specs.declared.error.Error.{Error}
+use Rattle.sqlite.specs.declared.error.Error.TheVariants.{SqliteFailure}
+use Rattle.sqlite.specs.declared.error.ErrorCode.TheVariants.{Closed}
 use Rattle.sqlite_trees.specs.Tree.{Trees}
+use Rattle.sqlite_trees.specs.declared.error.StoreError.{StoreError}
+use Rattle.sqlite_trees.specs.declared.error.StoreError.TheVariants.{Broken, Corrupt, Full, Io, OutOfMemory, Unstorable}
 use Rattle.sqlite_trees.specs.View.{doubt}
 use Rattle.path.specs.Query.{Accepts, Query}
 use Rattle.relying.specs.Asking.{Looks}
@@ -21,6 +27,7 @@ use Rattle.store_sql.specs.declared.fault.StoreFault.{StoreFault}
 use Rattle.store_sql.specs.declared.fault.StoreFault.TheVariants.{Store, Schema, Memory}
 use Rattle.store_taking.specs.Delivery.{AllOrNothing, PutsFacts}
 use Rattle.cli_keeping.specs.Keeping.{Finds, Keeps, Kept, Takes}
+use Rattle.cli_keeping.specs.declared.fault.KeeperFault.{KeeperFault}
 use Rattle.cli_keeping.specs.declared.fault.KeeperFault.TheVariants.{Refused, NoKeeper, Memory as NoMemory}
 use Rattle.cli_store.specs.Stored.{IsSoundIn, LeavesOneOf, fault_of, fault_of_party, keeping_in}
 
@@ -33,6 +40,10 @@ behind left first held (k, within, is) = (suc k, omega (arith, within), is)
 -- a disk that is clean was clean
 was_clean : {C : Trees → Type 0} (old new : State) → Survives old new C → HasCleanDisk new → HasCleanDisk old
 was_clean old new survives clean = omega (arith, survives.clean, clean)
+
+-- two errors are one
+pub same_error : (one other : Error) → ◌≡◌ {A = Result (Unit {0}) Error} (Err one) (Err other) → one ≡ other
+same_error one other same = cc
 
 module _ (old new : State) where
   -- nothing was committed
@@ -68,11 +79,16 @@ module _ (old new : State) where
       → Takes (keeping_in old) (keeping_in new) (facts_in facts) (Err (fault_of fault))
   takes_nothing facts fault puts survives (clean, is_open) kept (is, leaves) =
       let it = puts clean in
-      let held : IsStoreOf new.now kept.held = subst (λ db. IsStoreOf db kept.held) (sym (it.same is_open)) is in
-      ((held, λ trees may. elim (survives.crash clean trees may) [
-        | inl before ↦ let (there, contained, are) = leaves trees before in (there, behind kept.left _ there contained, are)
-        | inr whole ↦ (after_all kept.held (facts_in facts), at_head kept.left _, whole.1 kept.held is)
-      ]), other_fault fault (λ schema. it.formed schema kept.held is))
+      let held : IsStoreOf new.now kept.held = subst (λ db. IsStoreOf db kept.held) (sym (it.same is_open)) is in (
+        (
+          held,
+          λ trees may. elim (survives.crash clean trees may) [
+            | inl before ↦ let (there, contained, are) = leaves trees before in (there, behind kept.left _ there contained, are)
+            | inr whole ↦ (after_all kept.held (facts_in facts), at_head kept.left _, whole.1 kept.held is)
+          ],
+        ),
+        other_fault fault (λ schema. it.formed schema kept.held is),
+      )
 
   -- ---- verdicts
 
@@ -84,8 +100,78 @@ module _ (old new : State) where
       → Finds (keeping_in old) (keeping_in new) accepts query (Ok verdict)
   finds accepts query verdict looks survives sound kept (is, leaves) = (kept_same (looks sound.0).0 survives sound kept (is, leaves), (looks sound.0).1 kept.held is)
 
-  pub finds_nothing : (accepts : Accepts) (query : Query) (fault : Fault) → Looks {A = Verdict} old new (IsVerdict accepts query) (Err fault) → CommitsNothing old new → IsSoundIn new
-      → Finds (keeping_in old) (keeping_in new) accepts query (Err (fault_of_party fault))
-  finds_nothing accepts query (OfStore fault) looks survives sound kept (is, leaves) =
+  pub finds_nothing : (accepts : Accepts) (query asked : Query) (fault : Fault) → Looks {A = Verdict} old new (IsVerdict accepts query) (Err fault) → CommitsNothing old new → IsSoundIn new
+      → Finds (keeping_in old) (keeping_in new) accepts asked (Err (fault_of_party fault))
+  finds_nothing accepts query asked (OfStore fault) looks survives sound kept (is, leaves) =
       (kept_same (looks sound.0).0 survives sound kept (is, leaves), other_fault fault (λ schema. (looks sound.0).1 schema kept.held is))
-  finds_nothing accepts query WithoutMemory looks survives sound kept (is, leaves) = (kept_same (looks sound.0).0 survives sound kept (is, leaves), λ is. absurd cc)
+  finds_nothing accepts query asked WithoutMemory looks survives sound kept (is, leaves) = (kept_same (looks sound.0).0 survives sound kept (is, leaves), λ is. absurd cc)
+
+  -- ---- of a question that is asked in other words
+
+  same_query : (query asked : Query) → query.anchor ≡ asked.anchor → query.certificates ≡ asked.certificates → query.moment ≡ asked.moment → query.purpose ≡ asked.purpose → query ≡ asked
+  same_query query asked anchor certificates moment purpose =
+      λ i. record { anchor = anchor i; certificates = certificates i; moment = moment i; purpose = purpose i }
+
+  pub finds_asked : (accepts : Accepts) (query asked : Query) (verdict : Verdict)
+      → query.anchor ≡ asked.anchor → query.certificates ≡ asked.certificates → query.moment ≡ asked.moment → query.purpose ≡ asked.purpose
+      → Looks {A = Verdict} old new (IsVerdict accepts query) (Ok verdict) → CommitsNothing old new → IsSoundIn new → Finds (keeping_in old) (keeping_in new) accepts asked (Ok verdict)
+  finds_asked accepts query asked verdict anchor certificates moment purpose looks survives sound =
+      subst (λ q. Finds (keeping_in old) (keeping_in new) accepts q (Ok verdict)) (same_query query asked anchor certificates moment purpose) (finds accepts query verdict looks survives sound)
+
+  pub finds_no_verdict : (accepts : Accepts) (query asked : Query) (fault : Fault) (told : KeeperFault) → told ≡ fault_of_party fault
+      → Looks {A = Verdict} old new (IsVerdict accepts query) (Err fault) → CommitsNothing old new → IsSoundIn new → Finds (keeping_in old) (keeping_in new) accepts asked (Err told)
+  finds_no_verdict accepts query asked fault told is looks survives sound =
+      subst (λ t. Finds (keeping_in old) (keeping_in new) accepts asked (Err t)) (sym is) (finds_nothing accepts query asked fault looks survives sound)
+
+  pub takes_none : (facts : Facts) (fault : StoreFault) (told : KeeperFault) → told ≡ fault_of fault → PutsFacts old new facts (Err fault) → AllOrNothing old new facts → IsSoundIn new
+      → Takes (keeping_in old) (keeping_in new) (facts_in facts) (Err told)
+  takes_none facts fault told is puts survives sound =
+      subst (λ t. Takes (keeping_in old) (keeping_in new) (facts_in facts) (Err t)) (sym is) (takes_nothing facts fault puts survives sound)
+
+  -- ---- a statement that asks nothing of the database is prepared, or is not run
+
+  unchanged : IsUnchanged old new → StaysIfOpen old new
+  unchanged same = record { was_open = λ is_open. same.0.was_open; now_is = λ is_open. same.0.now_is }
+
+  not_run : (sql : List ℕ) (e : Error) → (IsTrue old.is_open → old.now ≡ old.committed) → ((params : Row) → IsNotRun old new sql params e) → StaysIfOpen old new
+  unfolding IsNotRun
+  not_run sql e settled fails = elim (fails []) [
+    | inl it ↦ unchanged it.1
+    | inr it ↦ record { was_open = it.3.was_open; now_is = λ is_open. (it.3.undone is_open).0 ∙ sym (settled (it.3.was_open is_open)) }
+  ]
+
+  stayed_sound : StaysIfOpen old new → CommitsNothing old new → IsSoundIn new → IsSoundIn old
+  stayed_sound stays survives (clean, is_open) = (was_clean old new survives clean, stays.was_open is_open)
+
+  pub probed : {A : Type 0} (Is : A → Type 0) (sql : List ℕ) (result : Result A Error) → (IsTrue old.is_open → old.now ≡ old.committed) → (HasCleanDisk new → IfOk result (λ it. Is it × IsUnchanged old new))
+      → (HasCleanDisk new → IfErr result (λ e. (params : Row) → IsNotRun old new sql params e)) → HasCleanDisk new → StaysIfOpen old new
+  probed Is sql (Ok it) settled ok err clean = unchanged (ok clean).1
+  probed Is sql (Err e) settled ok err clean = not_run sql e settled (err clean)
+
+  pub stays_kept : (HasCleanDisk new → StaysIfOpen old new) → CommitsNothing old new → IsSoundIn new → Keeps (keeping_in old) (keeping_in new)
+  stays_kept stays survives sound = kept_same (stays sound.0) survives sound
+
+  pub stays_sound : (HasCleanDisk new → StaysIfOpen old new) → CommitsNothing old new → IsSoundIn new → IsSoundIn old
+  stays_sound stays survives sound = stayed_sound (stays sound.0) survives sound
+
+  -- only over a connection that is shut is it refused as that
+  closed_cause : (cause : StoreError) (e : Error) → e ≡ SqliteFailure Closed → e ≡ store_error cause → HasCause old new ⊥ cause → old.is_open ≡ false
+  closed_cause Broken e shut is cause = cause
+  closed_cause OutOfMemory e shut is cause = absurd cc
+  closed_cause Io e shut is cause = absurd cc
+  closed_cause Corrupt e shut is cause = absurd cc
+  closed_cause Full e shut is cause = absurd cc
+  closed_cause Unstorable e shut is cause = absurd cause
+
+  no_statement : (sql : List ℕ) (params : Row) (e : Error) → e ≡ SqliteFailure Closed → IsNoStatement old sql params e → ⊥
+  no_statement sql params e shut (inl (fault, understood, is)) = absurd cc
+  no_statement sql params e shut (inr (c, understood, inl (tail, is))) = absurd cc
+  no_statement sql params e shut (inr (c, understood, inr (inl (given, is)))) = absurd cc
+  no_statement sql params e shut (inr (c, understood, inr (inr (formats, is)))) = absurd cc
+
+  pub shut : (sql : List ℕ) (e : Error) → e ≡ SqliteFailure Closed → (IsTrue old.is_open → old.now ≡ old.committed) → (HasCleanDisk new → (params : Row) → IsNotRun old new sql params e) → IsSoundIn new → ⊥
+  unfolding IsNotRun
+  shut sql e is settled fails (clean, is_open) = elim (fails clean []) [
+    | inl it ↦ no_statement sql [] e is it.0
+    | inr it ↦ true≢false (sym ((not_run sql e settled (fails clean)).was_open is_open) ∙ closed_cause it.0 e is it.1 it.2)
+  ]

@@ -1,5 +1,5 @@
 //! A store that keeps a session's statements.
-ghost use Rattle.std.specs.Prelude.{◌≡◌};
+ghost use Rattle.std.specs.Prelude.{◌≡◌, Err, false};
 ghost use Rattle.sqlite.specs.Files.{file_state};
 ghost use Rattle.statements_facts.specs.Fact.{facts_in};
 ghost use Rattle.cli_keeping.specs.Keeping.{Finds, Keeps, Takes, seen_asked};
@@ -47,10 +47,7 @@ fn fault_of_party(fault: Fault) -> KeeperFault
     }
 }
 
-fn take_into<D: Disk + Drop>(
-    store: &mut Store<D>,
-    facts: &Facts<'_>,
-) -> Result<Counts, KeeperFault>
+fn take_into<D: Disk + Drop>(store: &mut Store<D>, facts: &Facts<'_>) -> Result<Counts, KeeperFault>
     ensures sound { IsSoundIn (file_state store.new.conn) → IsSoundIn (file_state store.old.conn) }
     ensures takes { IsSoundIn (file_state store.new.conn)
         → Takes (keeping_in (file_state store.old.conn)) (keeping_in (file_state store.new.conn))
@@ -80,15 +77,29 @@ fn find_in<D: Disk + Drop, V: Verifier>(
     }
 }
 
-// Whether the connection is not known to be shut: a statement that asks nothing of the database is prepared.
+// Prepares a statement that asks nothing of the database.
+fn probe<D: Disk + Drop>(store: &mut Store<D>) -> Result<(), Error>
+    ensures sound { IsSoundIn (file_state store.new.conn) → IsSoundIn (file_state store.old.conn) }
+    ensures keeps { IsSoundIn (file_state store.new.conn)
+        → Keeps (keeping_in (file_state store.old.conn)) (keeping_in (file_state store.new.conn)) }
+    ensures shut { result ≡ Err (Error.SqliteFailure ErrorCode.Closed)
+        → IsSoundIn (file_state store.new.conn) → ⊥ }
+{
+    let _before = store.conn.is_autocommit();
+    match store.conn.prepare("SELECT 1") {
+        Ok(_) => Ok(()),
+        Err(error) => Err(error),
+    }
+}
+
+// Whether the connection is not known to be shut.
 fn is_open<D: Disk + Drop>(store: &mut Store<D>) -> bool
     ensures sound { IsSoundIn (file_state store.new.conn) → IsSoundIn (file_state store.old.conn) }
     ensures keeps { IsSoundIn (file_state store.new.conn)
         → Keeps (keeping_in (file_state store.old.conn)) (keeping_in (file_state store.new.conn)) }
     ensures shut { result ≡ false → IsSoundIn (file_state store.new.conn) → ⊥ }
 {
-    let _before = store.conn.is_autocommit();
-    match store.conn.prepare("SELECT 1") {
+    match probe(store) {
         Err(Error::SqliteFailure(ErrorCode::Closed)) => false,
         _ => true,
     }
