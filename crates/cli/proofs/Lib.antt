@@ -7,3 +7,4 @@ mod Statuses
 mod Ending
 mod Explaining
 mod Serving
+mod Standing

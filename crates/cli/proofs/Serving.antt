@@ -12,17 +12,18 @@ use Rattle.store_sql.specs.Statements.{IsDurable}
 use Rattle.cli_failures.specs.Failures.{Holding}
 use Rattle.cli_session.specs.Believed.{BelievesJust}
 use Rattle.cli_session.specs.declared.believed.Believed.{Believed}
+use Rattle.cli_session.specs.Held.{holding_of}
 use Rattle.cli_serving.specs.Serving.{AreAnswersTo, HasEnded, Known, is_end, text_of}
 use Rattle.cli_serving.specs.declared.ending.End.{End}
 use Rattle.cli_serving.specs.declared.ending.End.TheVariants.{Quit, Finished, Shut, Unwritable, Unreadable, NoMemory}
 use Rattle.cli_steps.specs.State.{IsState, State as PartyState}
 use Rattle.cli_steps.specs.Ways.{Steps}
 use Rattle.cli_steps.specs.declared.answer.Answer.{Answer}
-use Rattle.cli_steps.specs.declared.answer.Answer.TheVariants.{BadLine, Believes, Delivered, Ends, Failed, Forgets, LongLine, Nothing, Prints, Told}
+use Rattle.cli_steps.specs.declared.answer.Answer.TheVariants as answer
 use Rattle.cli_store.specs.Stored.{IsSoundIn, LeavesOneOf, keeping_in}
-use Rattle.cli.specs.Serves.{IsWhole}
+use Rattle.cli.specs.Serves.{IsServed, IsWhole}
 use Rattle.cli.specs.Session.{HasComeTo, IsReadToEnd, IsReadToQuit, beginning}
-use Rattle.cli.specs.Standing.{seen_of}
+use Rattle.cli.specs.Standing.{Seen, seen_of}
 
 -- a store that was opened leaves what it holds
 begins_left : (s : State) (held : Holdings) → IsSettled s → IsDurable s → IsTrue s.is_open → IsStoreOf s.now held → LeavesOneOf s (held ∷ [])
@@ -41,7 +42,7 @@ pub has_come : (believed last : Believed) (prints : List (List ℕ)) (old new : 
     → Believes believed.listed prints → BelievesJust believed prints → IsSettled old → IsDurable old → (IsSoundIn new → IsSoundIn old)
     → (IsSoundIn new → Steps believed (keeping_in old) last (keeping_in new) Are) → HasComeTo (seen_of old) (seen_of new) prints Are
 has_come believed last prints old new Are listed believes settled durable was_sound steps clean is_open start is =
-    let sound = (clean, is_open) in
+    let sound : IsSoundIn new = (clean, is_open) in
     let (now, is_now, are) = steps sound (beginning prints start) (begins believed prints old start listed believes settled durable (was_sound sound).1 is) in
     (now, is_now.keeps.0, are)
 
@@ -54,17 +55,17 @@ pub record Served (holds : Holding) (input source output written : Option (List 
   pub known : Knows (λ before now. AreAnswersTo holds lines answers before now)
 
 -- an answer that ends a session is the one
-is_ends : (answer : Answer) → is_end answer ≡ true → answer ≡ Ends
-is_ends Ends is = refl
-is_ends Nothing is = absurd cc
-is_ends Believes is = absurd cc
-is_ends Forgets is = absurd cc
-is_ends (Delivered counts) is = absurd cc
-is_ends (Told verdict) is = absurd cc
-is_ends (Prints text) is = absurd cc
-is_ends (Failed failure) is = absurd cc
-is_ends BadLine is = absurd cc
-is_ends LongLine is = absurd cc
+is_ends : (it : Answer) → is_end it ≡ true → it ≡ answer.Ends
+is_ends answer.Ends is = refl
+is_ends answer.Nothing is = absurd cc
+is_ends answer.Believes is = absurd cc
+is_ends answer.Forgets is = absurd cc
+is_ends (answer.Delivered counts) is = absurd cc
+is_ends (answer.Told verdict) is = absurd cc
+is_ends (answer.Prints text) is = absurd cc
+is_ends (answer.Failed failure) is = absurd cc
+is_ends answer.BadLine is = absurd cc
+is_ends answer.LongLine is = absurd cc
 
 pub whole : (holds : Holding) (input source output written : Option (List ℕ)) (Knows Before : Known) (end : End)
     → HasEnded holds input source output written Knows Before end → IsWhole end → Served holds input source output written Knows
@@ -81,3 +82,19 @@ whole holds input source output written Knows Before Shut it is = absurd is
 whole holds input source output written Knows Before Unwritable it is = absurd is
 whole holds input source output written Knows Before Unreadable it is = absurd is
 whole holds input source output written Knows Before NoMemory it is = absurd is
+
+-- what was served over a store that was opened, and is closed then
+pub served : (holds : Holding) (leaves : Seen → Type 0) (prints : List (List ℕ)) (believed last : Believed) (old new : State) (input source output written : Option (List ℕ)) (Before : Known) (end : End)
+    → Believes believed.listed prints → BelievesJust believed prints → IsSettled old → IsDurable old → (IsSoundIn new → IsSoundIn old)
+    → HasEnded (holding_of holds) input source output written (λ Are. IsSoundIn new → Steps believed (keeping_in old) last (keeping_in new) Are) Before end
+    → leaves (seen_of new) → IsWhole end → IsServed holds leaves prints (seen_of old) input source output written
+served holds leaves prints believed last old new input source output written Before end listed believes settled durable was_sound ended left is =
+    let it = whole (holding_of holds) input source output written (λ Are. IsSoundIn new → Steps believed (keeping_in old) last (keeping_in new) Are) Before end ended is in record {
+      new = seen_of new;
+      left = left;
+      lines = it.lines;
+      answers = it.answers;
+      read = it.read;
+      said = it.said;
+      come = has_come believed last prints old new (λ before now. AreAnswersTo (holding_of holds) it.lines it.answers before now) listed believes settled durable was_sound it.known;
+    }

@@ -168,7 +168,10 @@ fn answer<'a, S: Source + Stores, I: Read, O: Write>(
             };
         }
         Line::Session { store, verdicts } => {
-            session(source, alloc, store, *verdicts, input, out)?;
+            return match session(source, alloc, store, *verdicts, input, out) {
+                Ok(()) => Ok(DONE),
+                Err(failure) => Err(failure),
+            };
         }
     }
     Ok(DONE)

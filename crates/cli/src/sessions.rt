@@ -77,8 +77,7 @@ fn serve_over<S: Source + Stores, R: Read, O: Write>(
         believed: _,
         keeper,
     } = party;
-    let StoreKeeper { store } = keeper;
-    source.close_store(path, store);
+    source.close_store(path, keeper.into_store());
     end
 }
 

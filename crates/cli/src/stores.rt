@@ -1,5 +1,5 @@
 //! Stores at paths.
-ghost use Rattle.std.specs.Prelude.{◌≡◌, IfErr, IfOk};
+ghost use Rattle.std.specs.Prelude.{◌≡◌, ⊤, IfErr, IfOk};
 ghost use Rattle.sqlite.specs.Files.{file_state};
 ghost use Rattle.sqlite.specs.State.{HasCleanDisk};
 ghost use Rattle.store_adoption.specs.Creates.{IsSettled};
@@ -127,7 +127,9 @@ impl Stores for HostRuntime {
         }
     }
 
-    fn close_store(&self, _path: &str, store: Store<File>) {
+    fn close_store(&self, _path: &str, store: Store<File>)
+        ensures leaves { ⊤ }
+    {
         let _ = store.into_files();
     }
 }

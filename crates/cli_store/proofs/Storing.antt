@@ -1,5 +1,5 @@
 -- A store's calls, as those of a keeper.
-use Rattle.std.proofs.Common.{◌≡◌, ◌≢◌, ◌≤◌, ℕ, zero, suc, Bool, true, false, List, [], ◌∷◌, Contains, IsTrue, Result, Ok, Err, IfErr, IfOk, arith, inl, inr, refl, sym, subst, ◌∙◌, true≢false}
+use Rattle.std.proofs.Common.{◌≡◌, ◌≢◌, ℕ, suc, false, List, [], ◌∷◌, Contains, IsTrue, Result, Ok, Err, IfErr, IfOk, arith, inl, inr, refl, sym, subst, ◌∙◌, true≢false}
 use Rattle.sqlite.specs.Order.{Row}
 use Rattle.sqlite.specs.State.{HasCause, HasCleanDisk, IsNoStatement, IsNotRun, IsUnchanged, State, Survives, store_error}
 use Rattle.sqlite.specs.declared.error.Error.{Error}
@@ -8,7 +8,6 @@ use Rattle.sqlite.specs.declared.error.ErrorCode.TheVariants.{Closed}
 use Rattle.sqlite_trees.specs.Tree.{Trees}
 use Rattle.sqlite_trees.specs.declared.error.StoreError.{StoreError}
 use Rattle.sqlite_trees.specs.declared.error.StoreError.TheVariants.{Broken, Corrupt, Full, Io, OutOfMemory, Unstorable}
-use Rattle.sqlite_trees.specs.View.{doubt}
 use Rattle.path.specs.Query.{Accepts, Query}
 use Rattle.relying.specs.Asking.{Looks}
 use Rattle.relying_agreement.specs.Verdict.{IsVerdict}
@@ -16,19 +15,19 @@ use Rattle.relying_agreement.specs.declared.verdict.Verdict.{Verdict}
 use Rattle.relying_verdicts.specs.declared.fault.Fault.{Fault}
 use Rattle.relying_verdicts.specs.declared.fault.Fault.TheVariants.{Store as OfStore, Memory as WithoutMemory}
 use Rattle.statements_facts.specs.Coming.{after_all}
-use Rattle.statements_facts.specs.Fact.{Fact, facts_in}
+use Rattle.statements_facts.specs.Fact.{facts_in}
 use Rattle.statements_facts.specs.Statement.{Holdings}
 use Rattle.statements_facts.specs.declared.counts.Counts.{Counts}
 use Rattle.statements_facts.specs.declared.fact.Facts.{Facts}
 use Rattle.store.specs.Adopts.{StaysIfOpen}
-use Rattle.store_maps.specs.Held.{AreTreesOf, IsStoreOf}
+use Rattle.store_maps.specs.Held.{IsStoreOf}
 use Rattle.store_sql.specs.Statements.{CommitsNothing}
 use Rattle.store_sql.specs.declared.fault.StoreFault.{StoreFault}
 use Rattle.store_sql.specs.declared.fault.StoreFault.TheVariants.{Store, Schema, Memory}
 use Rattle.store_taking.specs.Delivery.{AllOrNothing, PutsFacts}
-use Rattle.cli_keeping.specs.Keeping.{Finds, Keeps, Kept, Takes}
+use Rattle.cli_keeping.specs.Keeping.{Finds, Keeps, Takes}
 use Rattle.cli_keeping.specs.declared.fault.KeeperFault.{KeeperFault}
-use Rattle.cli_keeping.specs.declared.fault.KeeperFault.TheVariants.{Refused, NoKeeper, Memory as NoMemory}
+use Rattle.cli_keeping.specs.declared.fault.KeeperFault.TheVariants.{NoKeeper}
 use Rattle.cli_store.specs.Stored.{IsSoundIn, LeavesOneOf, fault_of, fault_of_party, keeping_in}
 
 at_head : (left : List Holdings) (held : Holdings) → Contains (held ∷ left) held

@@ -26,6 +26,16 @@ impl<D: Disk + Drop> Drop for StoreKeeper<D> {
     }
 }
 
+impl<D: Disk + Drop> StoreKeeper<D> {
+    /// Gives the store back.
+    pub fn into_store(self) -> Store<D>
+        ensures { result ≡ self.store }
+    {
+        let StoreKeeper { store } = self;
+        store
+    }
+}
+
 // What a store's fault is for a session.
 fn fault_of(fault: StoreFault) -> KeeperFault
     ensures { result ≡ fault_of fault }
