@@ -20,6 +20,7 @@ use cli_words::Question;
 use path_verifiers::{ListVerifier, Verifier};
 use relying::{Fault, Node, Query};
 use relying_agreement::Verdict;
+use sqlite_std_file::File;
 use std::alloc::Global;
 use std::io::Write;
 
@@ -38,7 +39,7 @@ fn check_at<'a, S: Stores, V: Verifier + Drop>(
     source: &S,
     alloc: Global,
     path: &str,
-    node: Node<V, S::Disk>,
+    node: Node<V, File>,
     query: &Query<'_>,
 ) -> Result<Verdict, Failure<'a>>
     ensures checked { IfOk result

@@ -20,6 +20,7 @@ use cli_words::Question;
 use path_verifiers::{ListVerifier, Verifier};
 use relying::{Node, Query};
 use relying_agreement::Comparison;
+use sqlite_std_file::File;
 use std::alloc::Global;
 use std::io::Write;
 use store::Store;
@@ -37,8 +38,8 @@ fn compare_at<'a, S: Stores>(
     alloc: Global,
     paths: &Pair<'_>,
     verifier: &ListVerifier,
-    store: Store<S::Disk>,
-    beside: Store<S::Disk>,
+    store: Store<File>,
+    beside: Store<File>,
     query: &Query<'_>,
 ) -> Result<Comparison, Failure<'a>>
     ensures compared { IfOk result (HasCompared (S.leaves source.now paths.now.path.now)

@@ -18,6 +18,7 @@ use cli_failures::{Failure, Source, read_certificate, read_facts};
 use cli_operands::read_fingerprints;
 use path_verifiers::{ListVerifier, Verifier};
 use relying::Node;
+use sqlite_std_file::File;
 use statements_facts::{Counts, Facts};
 use std::alloc::Global;
 use std::io::Write;
@@ -39,7 +40,7 @@ pub struct Delivery<'a> {
 fn take_into<'a, S: Stores, V: Verifier + Drop>(
     source: &S,
     path: &str,
-    node: Node<V, S::Disk>,
+    node: Node<V, File>,
     facts: &Facts<'_>,
 ) -> Result<Counts, Failure<'a>>
     ensures taken { IfOk result

@@ -16,6 +16,7 @@ use cli_session::Believed;
 use cli_steps::Party;
 use cli_store::StoreKeeper;
 use path_verifiers::ListVerifier;
+use sqlite_std_file::File;
 use std::alloc::Global;
 use std::io::{Read, Write};
 use store::Store;
@@ -57,7 +58,7 @@ fn serve_over<S: Source + Stores, R: Read, O: Write>(
     alloc: Global,
     path: &str,
     prints: Vec<[u8; 32]>,
-    store: Store<S::Disk>,
+    store: Store<File>,
     input: &mut R,
     out: &mut O,
 ) -> End

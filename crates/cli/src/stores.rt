@@ -1,5 +1,5 @@
 //! Stores at paths.
-ghost use Rattle.std.specs.Prelude.{◌≡◌, ⊤, IfErr, IfOk};
+ghost use Rattle.std.specs.Prelude.{◌≡◌, IfErr, IfOk};
 ghost use Rattle.sqlite.specs.Files.{file_state};
 ghost use Rattle.sqlite.specs.State.{HasCleanDisk};
 ghost use Rattle.store_adoption.specs.Creates.{IsSettled};
@@ -9,7 +9,6 @@ ghost use Rattle.store_sql.specs.Statements.{IsDurable};
 ghost use Rattle.cli.specs.Standing.{IsFound, IsFoundOrMade, IsNotFound, IsNotMade, seen_in, told_of};
 
 use cli_failures::Failure;
-use sqlite_disk::Disk;
 use sqlite_std_file::File;
 use std::{fs, io};
 use store::Store;
@@ -23,9 +22,6 @@ pub trait Stores {
     ghost use Rattle.std.specs.Prelude.{ℕ, List};
     ghost use Rattle.cli.specs.Standing.{Met, Seen};
 
-    /// What stores are kept on.
-    type Disk: Disk + Drop;
-
     /// Whether this was found at the path of a store: its database, as it was seen when it was opened; no file that can be read; or a
     /// fault of the store.
     ghost stands: { Self → List ℕ → Met → Type 0 };
@@ -34,13 +30,13 @@ pub trait Stores {
     ghost leaves: { Self → List ℕ → Seen → Type 0 };
 
     /// The store that stands at the path; `Unreadable` if there is no file that can be read.
-    fn open_store<'a>(&self, path: &'a str) -> Result<Store<Self::Disk>, Failure<'a>>
+    fn open_store<'a>(&self, path: &'a str) -> Result<Store<File>, Failure<'a>>
         ensures found { IfOk result (λ store.
             IsFound (stands self.now) path.entry.now (seen_in store)) }
         ensures fails { IfErr result (IsNotFound (stands self.now) path.entry.now) };
 
     /// The same; if no file is there, a store is made that holds nothing. What it holds is committed, and is there behind a crash.
-    fn open_or_make_store<'a>(&self, path: &'a str) -> Result<Store<Self::Disk>, Failure<'a>>
+    fn open_or_make_store<'a>(&self, path: &'a str) -> Result<Store<File>, Failure<'a>>
         ensures found { IfOk result (λ store.
             IsFoundOrMade (stands self.now) path.entry.now (seen_in store)) }
         ensures settled { IfOk result (λ store. IsSettled (file_state store.conn)) }
@@ -48,7 +44,7 @@ pub trait Stores {
         ensures fails { IfErr result (IsNotMade (stands self.now) path.entry.now) };
 
     /// Closes a store of the path. What was committed to it is safe however that ends.
-    fn close_store(&self, path: &str, store: Store<Self::Disk>)
+    fn close_store(&self, path: &str, store: Store<File>)
         ensures leaves { leaves self.now path.now (seen_in store) };
 }
 
@@ -110,8 +106,6 @@ impl Stores for HostRuntime {
 
     ghost leaves = { λ _ _ _. ⊤ };
 
-    type Disk = File;
-
     fn open_store<'a>(&self, path: &'a str) -> Result<Store<File>, Failure<'a>> {
         if fs::open(self, path).is_err() {
             return Err(Failure::Unreadable { file: path });
@@ -127,9 +121,7 @@ impl Stores for HostRuntime {
         }
     }
 
-    fn close_store(&self, _path: &str, store: Store<File>)
-        ensures leaves { ⊤ }
-    {
+    fn close_store(&self, _path: &str, store: Store<File>) {
         let _ = store.into_files();
     }
 }

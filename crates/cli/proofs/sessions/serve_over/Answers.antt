@@ -7,10 +7,10 @@ use Rattle.cli.proofs.sessions.serve_over.Goals as goal
 pub returns : goal.returns
 returns g c = record {
   served = served (g.S.Source.holds c.args.source.now) (g.S.Stores.leaves c.args.source.now c.args.path.now) c.args.prints.items
-    c.new-believed.result c.serve-end.new.party.believed (file_state c.args.store.conn) (file_state c.serve-end.new.party.keeper.store.conn)
-    (g.R.Read.remaining c.args.input.now) (g.R.Read.remaining c.serve-end.new.input) (g.O.Write.contents c.args.out.now) (g.O.Write.contents c.serve-end.new.out) _ c.serve-end.result
-    (subst (λ listed. Believes listed c.args.prints.items) (sym c.new-believed.ensures.listed) c.new.ensures)
-    (c.new-believed.ensures.believes c.args.prints.items c.new.ensures)
-    c.requires.settled c.requires.durable c.serve-end.ensures.sound c.serve-end.ensures.ended
-    (rw c.into_store.ensures at c.close_store.ensures.leaves)
+      c.new-believed.result c.serve-end.new.party.believed (file_state c.args.store.conn) (file_state c.serve-end.new.party.keeper.store.conn)
+      (g.R.Read.remaining c.args.input.now) (g.R.Read.remaining c.serve-end.new.input) (g.O.Write.contents c.args.out.now) (g.O.Write.contents c.serve-end.new.out) _ c.serve-end.result
+      (subst (λ listed. Believes listed c.args.prints.items) (sym c.new-believed.ensures.listed) c.new.ensures)
+      (c.new-believed.ensures.believes c.args.prints.items c.new.ensures)
+      c.requires.settled c.requires.durable c.serve-end.ensures.sound c.serve-end.ensures.ended
+      (rw c.into_store.ensures at c.close_store.ensures.leaves);
 }
