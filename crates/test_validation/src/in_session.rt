@@ -7,9 +7,8 @@ use cli::execute;
 use std::alloc::{AllocError, Global};
 use std::test::Fail;
 
-// Statements as they come, with checks between them, and what is refused.
+// Statements as they come, with checks between them, and what is refused. The first makes the store.
 const MIXED: &str = "
-check 20261201000000Z root.der middle.der leaf.der
 deliver root.der root.crl
 check 20261201000000Z root.der middle.der leaf.der
 deliver middle.der middle.crl
