@@ -48,7 +48,8 @@ fn compare_texts(left: &[u8], right: &[u8]) -> Ordering
 
 /// Compares a base, whose own name it holds or not, with a domain.
 fn compare_base(one: &[u8], below: bool, right: &Domain<'_>) -> Ordering
-    ensures { result ≡ slice_cmp nat_cmp (text_key (backwards one.now) (end_of below)) (domain_key (domain_names right.now)) }
+    ensures { result ≡ slice_cmp nat_cmp (text_key (backwards one.now) (end_of below))
+        (domain_key (domain_names right.now)) }
 {
     match right {
         Domain::Every => Ordering::Greater,
@@ -59,7 +60,8 @@ fn compare_base(one: &[u8], below: bool, right: &Domain<'_>) -> Ordering
 
 /// Compares domains: one stands before all that it holds.
 fn compare_domains(left: &Domain<'_>, right: &Domain<'_>) -> Ordering
-    ensures { result ≡ slice_cmp nat_cmp (domain_key (domain_names left.now)) (domain_key (domain_names right.now)) }
+    ensures { result ≡ slice_cmp nat_cmp (domain_key (domain_names left.now))
+        (domain_key (domain_names right.now)) }
 {
     match left {
         Domain::Every => match right {
@@ -83,7 +85,8 @@ fn bit_at(octets: &[u8], index: u16) -> u8
 
 /// Compares the bits of the prefixes.
 fn compare_bits(left: &IpRange<'_>, right: &IpRange<'_>) -> Ordering
-    ensures { result ≡ slice_cmp nat_cmp (prefix_bits (address_range left.now)) (prefix_bits (address_range right.now)) }
+    ensures { result ≡ slice_cmp nat_cmp (prefix_bits (address_range left.now))
+        (prefix_bits (address_range right.now)) }
 {
     let count = left.prefix.min(right.prefix);
     for i in 0..count {
@@ -97,7 +100,8 @@ fn compare_bits(left: &IpRange<'_>, right: &IpRange<'_>) -> Ordering
 
 /// Compares ranges: one stands before all that it holds.
 fn compare_ranges(left: &IpRange<'_>, right: &IpRange<'_>) -> Ordering
-    ensures { result ≡ slice_cmp nat_cmp (range_key (address_range left.now)) (range_key (address_range right.now)) }
+    ensures { result ≡ slice_cmp nat_cmp (range_key (address_range left.now))
+        (range_key (address_range right.now)) }
 {
     left.address
         .len()

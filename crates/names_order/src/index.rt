@@ -195,7 +195,8 @@ impl<'a> Index<'a> {
 impl<'a> Index<'a> {
     /// An index of these and of more.
     pub fn with(&self, alloc: Global, more: &[Subtree<'a>]) -> Result<Index<'a>, AllocError>
-        ensures { IfOk result (λ index. HasSameMembers index (self.now ++ map subtree_base more.now)) }
+        ensures { IfOk result (λ index.
+            HasSameMembers index (self.now ++ map subtree_base more.now)) }
     {
         let mut list = Vec::new(alloc);
         list.extend_from_slice(&self.all)?;

@@ -43,7 +43,8 @@ fn extended<'a>(
     index: &Option<Index<'a>>,
     more: &[Subtree<'a>],
 ) -> Result<Index<'a>, AllocError>
-    ensures { IfOk result (λ longer. HasSameMembers longer (all_of index.now ++ bases_of more.now)) }
+    ensures { IfOk result (λ longer.
+        HasSameMembers longer (all_of index.now ++ bases_of more.now)) }
 {
     match index {
         None => index_of(alloc, more),
