@@ -2,7 +2,6 @@ mod Chained
 mod Cells
 mod Ordered
 mod Meaning
-mod Answered
 mod Testing
 mod Following
 mod Stores

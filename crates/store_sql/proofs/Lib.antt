@@ -8,5 +8,4 @@ mod TableSteps
 mod Meaning
 mod Keys
 mod Making
-mod Refusing
 pub mod Laws

@@ -5,4 +5,3 @@ pub mod Queries
 pub mod Statements
 pub mod Inside
 pub mod Bindings
-pub mod Cause

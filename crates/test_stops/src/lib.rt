@@ -9,8 +9,6 @@ mod finding;
 #[cfg(test)]
 mod putting;
 #[cfg(test)]
-mod refusing;
-#[cfg(test)]
 mod stopping;
 #[cfg(test)]
 mod trials;
