@@ -42,16 +42,14 @@ def constraints(count):
     return extension("2.5.29.30", sequence(value(0xA0, *permitted)), critical=True)
 
 
-def certificate(serial, subject, issuer, is_ca, constrained):
-    """Subject and issuer are whole names."""
-    extensions = []
+def certificate(serial, subject, issuer, extensions, is_ca=True):
+    """Subject and issuer are whole names; an authority has two extensions more."""
     if is_ca:
-        extensions.append(extension("2.5.29.19", sequence(TRUE), critical=True))
-        extensions.append(extension("2.5.29.15", value(0x03, b"\x01\x06"), critical=True))
-        if constrained:
-            extensions.append(constraints(SUBTREES))
-    else:
-        extensions.append(extension("2.5.29.17", sequence(value(0x82, b"www.example.com"))))
+        extensions = [
+            extension("2.5.29.19", sequence(TRUE), critical=True),
+            extension("2.5.29.15", value(0x03, b"\x01\x06"), critical=True),
+            *extensions,
+        ]
     signed = sequence(
         value(0xA0, integer(2)), integer(serial), ECDSA_SHA256, issuer, VALIDITY, subject, KEY_INFO,
         value(0xA3, sequence(*extensions)),
@@ -63,10 +61,14 @@ def certificate(serial, subject, issuer, is_ca, constrained):
 def path(depth, constrained, people=(), other=0x0C):
     """A path; issuers have their names in strings of the other type."""
     names = ["Root"] + ["Authority %d" % number for number in range(1, depth)] + ["Target"]
-    yield certificate(1, name("Root", people), name("Root", people, other), True, False)
+    yield certificate(1, name("Root", people), name("Root", people, other), [])
     for number in range(1, depth + 1):
         subject, issuer = name(names[number], people), name(names[number - 1], people, other)
-        yield certificate(number + 1, subject, issuer, number < depth, constrained)
+        if number < depth:
+            yield certificate(number + 1, subject, issuer, [constraints(SUBTREES)] if constrained else [])
+        else:
+            target = extension("2.5.29.17", sequence(value(0x82, b"www.example.com")))
+            yield certificate(number + 1, subject, issuer, [target], is_ca=False)
 
 
 def main(folder):

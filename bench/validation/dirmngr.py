@@ -36,11 +36,15 @@ class Dirmngr:
         self.process.stdin.write(b"END\n")
         self.process.stdin.flush()
 
+    def asked_for(self, word, *_):
+        """What it asks for."""
+        return self.answers.get(word, b"")
+
     def wait(self):
         """Answers what it asks, until it says how a command ended."""
         for line in self.process.stdout:
             if line.startswith(b"INQUIRE"):
-                self.answer(self.answers.get(line.split()[1], b""))
+                self.answer(self.asked_for(*line.split()[1:]))
             elif line.startswith(b"OK"):
                 return
             elif line.startswith(b"ERR"):

@@ -4,7 +4,6 @@ pub mod Conditions
 pub mod Validity
 pub mod State
 pub mod Keeping
-pub mod Codes
 pub use Rattle.path_conditions.specs.NamesOf
 pub use Rattle.path_conditions.specs.CertificateConditions
 pub use Rattle.path_conditions.specs.Narrowing

@@ -73,7 +73,7 @@ impl<'p, 'c, V> Model for State<'p, 'c, V> {
     ghost use Rattle.path_conditions.specs.Constraints.{seen_constraints};
     ghost use Rattle.path.specs.Keeping.{Represents};
     ghost use Rattle.std.specs.Coded.{codes};
-    ghost use Rattle.path.specs.Codes.{rdn_code};
+    ghost use Rattle.path_conditions.specs.Codes.{rdn_code};
 
     ghost Value = { Progress V };
 
@@ -320,9 +320,9 @@ impl<'p, 'c, V: Verifier> State<'p, 'c, V> {
     /// Looks at the next certificate, which passes if it meets all conditions. After `Failed` and `Ended` each further call answers the
     /// same; after lack of memory nothing has changed.
     ///
-    /// Time is linear in the names of the certificate times the subtrees held, and in the subtrees that it carries times those held for
-    /// their form, plus the search for a repeated certificate. Memory is taken only if the certificate passes and carries a subtree of a
-    /// processed form.
+    /// DNS names and addresses, and subtrees of these, are looked for by halving; directory names are compared with each subtree held or
+    /// excluded. A certificate that carries subtrees costs a walk over those held, too. To this comes the search for a repeated
+    /// certificate. Memory is taken only if the certificate passes and carries a subtree of a processed form.
     pub fn next(&mut self) -> Result<Step, AllocError>
         ensures step { IfOk result (TakesStep V.accepts self.old self.new) }
         ensures err { OnErr result (self.new ≡ self.old) }

@@ -1,4 +1,5 @@
 mod Selecting
 mod NarrowedLists
+mod Members
 mod Tests
 pub mod Laws

@@ -1,9 +1,8 @@
 -- A narrowed list holds just the names that both lists hold, and is no longer than the two together.
-use Rattle.std.proofs.Common.{◌≡◌, ◌+◌, ◌≤◌, List, [], ◌∷◌, ◌++◌, Bool, true, false, not, ◌&&◌, ◌||◌, cond, filter, length, arith, refl, ap, ◌∙◌, sym, inl, inr, length-append, ◌↔◌, Option, None, Some}
+use Rattle.std.proofs.Common.{◌≡◌, ◌+◌, ◌≤◌, List, [], ◌∷◌, ◌++◌, Bool, true, false, not, ◌&&◌, ◌||◌, cond, filter, length, arith, refl, ap, ◌∙◌, sym, inl, inr, length-append, ◌↔◌, Option, Some}
 use Rattle.std.specs.List.{list_any}
 use Rattle.std.proofs.lemmas.List.Folds.{list_any-append}
 use Rattle.std.proofs.lemmas.Bool.{or_cases, or_left, or_right, and_parts, and_from}
-use Rattle.std.proofs.lemmas.List.{map-append}
 use Rattle.names.specs.GeneralName.{IsProcessed}
 use Rattle.names.specs.GeneralLayout.{GeneralName, SubtreeBase}
 use Rattle.names.specs.GeneralView.{subtree_base}
@@ -46,32 +45,16 @@ about laws bases form = any_decides (λ base. is_of_form base form) (λ base. fo
 pub bases_of-selected : (p : SubtreeBase → Bool) (list : List Subtree) → bases_of (selected p list) ≡ filter p (bases_of list)
 bases_of-selected p list = map-filter p subtree_base list
 
-pub bases_of-narrowed : (form : Form) (held carried first entering list : List Subtree) → first ≡ selected (λ base. is_inside_one_of (bases_of carried) base) held
-    → entering ≡ selected (λ base. enters form (bases_of held) (bases_of first) base) carried → list ≡ first ++ entering
-    → bases_of list ≡ narrowed form (bases_of held) (bases_of carried)
-bases_of-narrowed form held carried first entering list is_first is_entering is_list =
-    let f : bases_of first ≡ kept (bases_of held) (bases_of carried) = ap bases_of is_first ∙ bases_of-selected (λ base. is_inside_one_of (bases_of carried) base) held in
-    let e : bases_of entering ≡ filter (λ base. enters form (bases_of held) (bases_of first) base) (bases_of carried) = ap bases_of is_entering ∙ bases_of-selected (λ base. enters form (bases_of held) (bases_of first) base) carried in
-    ap bases_of is_list ∙ (map-append subtree_base first entering ∙ (ap (λ (l : List SubtreeBase). bases_of first ++ l) e
-    ∙ ap (λ (l : List SubtreeBase). l ++ filter (λ base. enters form (bases_of held) l base) (bases_of carried)) f))
-
 change_loud : (form : Form) (held : Option (List SubtreeBase)) (carried : List SubtreeBase) → are_about carried form ≡ true → Some (joined form held carried) ≡ change_of form held carried
 change_loud form held carried loud = rw loud refl
 
-pub list_begun : (form : Form) (list carried : List Subtree) (held : Option (List SubtreeBase)) → held ≡ None → are_about (bases_of carried) form ≡ true
-    → list ≡ selected (λ base. is_of_form base form) carried → Some (bases_of list) ≡ change_of form held (bases_of carried)
-list_begun form list carried held none loud made =
-    rw (made, none, bases_of-selected (λ base. is_of_form base form) carried) (change_loud form None (bases_of carried) loud)
+pub list_changed : (form : Form) (list : List SubtreeBase) (held : Option (List SubtreeBase)) (carried : List SubtreeBase) → are_about carried form ≡ true
+    → list ≡ joined form held carried → Some list ≡ change_of form held carried
+list_changed form list held carried loud made = ap (λ (l : List SubtreeBase). Some l) made ∙ change_loud form held carried loud
 
-pub list_narrowed : (form : Form) (list before carried : List Subtree) (held : Option (List SubtreeBase)) → held ≡ Some (bases_of before) → are_about (bases_of carried) form ≡ true
-    → bases_of list ≡ narrowed form (bases_of before) (bases_of carried) → Some (bases_of list) ≡ change_of form held (bases_of carried)
-list_narrowed form list before carried held some loud made = rw (made, some) (change_loud form (Some (bases_of before)) (bases_of carried) loud)
-
-pub excluded_are : (list before carried : List Subtree) → list ≡ before ++ selected (λ base. is_processed_base base) carried
-    → bases_of list ≡ bases_of before ++ filter (λ base. is_processed_base base) (bases_of carried)
-excluded_are list before carried made =
-    ap bases_of made ∙ (map-append subtree_base before (selected (λ base. is_processed_base base) carried)
-    ∙ ap (λ (l : List SubtreeBase). bases_of before ++ l) (bases_of-selected (λ base. is_processed_base base) carried))
+pub excluded_are : (list before : List SubtreeBase) (carried : List Subtree) → list ≡ before ++ bases_of (selected (λ base. is_processed_base base) carried)
+    → list ≡ before ++ filter (λ base. is_processed_base base) (bases_of carried)
+excluded_are list before carried made = made ∙ ap (λ (l : List SubtreeBase). before ++ l) (bases_of-selected (λ base. is_processed_base base) carried)
 
 pub constraints_are : (one other : Constraints) → one.directory ≡ other.directory → one.dns ≡ other.dns → one.ip ≡ other.ip → one.excluded ≡ other.excluded → one ≡ other
 constraints_are one other a b c d = λ i. record { directory = a i; dns = b i; ip = c i; excluded = d i }

@@ -2,7 +2,6 @@
 -- permitted subtrees, where some certificate had any, and the excluded subtrees.
 use Rattle.std.specs.Prelude.{◌≡◌, ◌+◌, ◌++◌, ◌||◌, ℕ, List, [], Bool, true, false, Option, Some, None, length, filter, slice_index_or}
 use Rattle.std.specs.List.{list_all, list_any}
-use Rattle.std.specs.Option.{option_map}
 use Rattle.names.specs.declared.general.Form.{Form}
 use Rattle.names.specs.declared.general.Form.TheVariants as F
 use Rattle.names.specs.GeneralLayout.{NameContents, GeneralName, SubtreeBase, directory_name, dns_name, ip_address, other_name}
@@ -24,10 +23,10 @@ pub record Constraints : Type 0 where
 
 abbrev pub seen_constraints : code.Constraints → Constraints
 seen_constraints held = record {
-  directory = option_map (λ list. bases_of list.items) held.directory;
-  dns = option_map (λ list. bases_of list.items) held.dns;
-  ip = option_map (λ list. bases_of list.items) held.ip;
-  excluded = bases_of held.excluded.items;
+  directory = held.directory;
+  dns = held.dns;
+  ip = held.ip;
+  excluded = held.excluded;
 }
 
 -- those before the first certificate, which admit every name

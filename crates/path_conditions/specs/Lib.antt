@@ -2,6 +2,7 @@ pub mod NamesOf
 pub mod CertificateConditions
 pub mod Narrowing
 pub mod Constraints
+pub use Rattle.names_order.specs.Codes
 pub use Rattle.names.specs.GeneralName
 pub use Rattle.names.specs.GeneralLayout
 pub use Rattle.names.specs.GeneralCoverage

@@ -1,5 +1,5 @@
 -- How lists of subtrees are narrowed from certificate to certificate (RFC 5280, 6.1.4 (g)), without a subtree for each pair.
-use Rattle.std.specs.Prelude.{◌++◌, ◌&&◌, ◌||◌, ◌≡◌, List, Bool, not, filter, map, Option, Some, None, option_map, if◌then◌else◌}
+use Rattle.std.specs.Prelude.{◌++◌, ◌&&◌, ◌||◌, ◌≡◌, List, [], Bool, not, filter, map, Option, Some, None, if◌then◌else◌}
 use Rattle.std.specs.Global.{Vec}
 use Rattle.std.specs.List.{list_any}
 use Rattle.names.specs.declared.general.Form.{Form}
@@ -60,10 +60,6 @@ changed held (Some list) = Some list
 abbrev pub selected : (SubtreeBase → Bool) → List Subtree → List Subtree
 selected test list = filter (λ s. test (subtree_base s)) list
 
--- what the subtrees of a list say, where there is one
-abbrev pub seen_subtrees : Option (Vec Subtree) → Option (List SubtreeBase)
-seen_subtrees list = option_map (λ v. bases_of v.items) list
-
 -- the subtrees of one form, and those of processed forms
 abbrev pub AreOfForm : Form → List Subtree → Vec Subtree → Type 0
 AreOfForm form carried list = list.items ≡ selected (λ base. is_of_form base form) carried
@@ -71,23 +67,27 @@ AreOfForm form carried list = list.items ≡ selected (λ base. is_of_form base 
 abbrev pub processed_in : List Subtree → List Subtree
 processed_in carried = selected (λ base. is_processed_base base) carried
 
--- those of the held list that are inside one that is carried
-abbrev pub AreKept : List Subtree → List Subtree → Vec Subtree → Type 0
-AreKept held carried list = list.items ≡ selected (λ base. is_inside_one_of (bases_of carried) base) held
+-- those of the list that are inside one that is carried
+abbrev pub AreKept : List Subtree → List SubtreeBase → Vec Subtree → Type 0
+AreKept held carried list = list.items ≡ selected (λ base. is_inside_one_of carried base) held
 
 -- those of the form that enter
-abbrev pub AreEntering : Form → List Subtree → List Subtree → List Subtree → Vec Subtree → Type 0
-AreEntering form held kept carried list =
-    list.items ≡ selected (λ base. enters form (bases_of held) (bases_of kept) base) carried
+abbrev pub AreEntering : Form → List SubtreeBase → List SubtreeBase → List Subtree → Vec Subtree → Type 0
+AreEntering form held kept carried list = list.items ≡ selected (λ base. enters form held kept base) carried
 
 -- the narrowed list
-abbrev pub IsNarrowed : Form → List Subtree → List Subtree → Vec Subtree → Type 0
-IsNarrowed form held carried list = bases_of list.items ≡ narrowed form (bases_of held) (bases_of carried)
+abbrev pub IsNarrowed : Form → List SubtreeBase → List Subtree → List SubtreeBase → Type 0
+IsNarrowed form held carried list = list ≡ narrowed form held (bases_of carried)
 
 -- the list of the form behind a certificate that carries these permitted subtrees, where it changes
-abbrev pub IsChangeOf : Form → Option (Vec Subtree) → List Subtree → Option (Vec Subtree) → Type 0
-IsChangeOf form held carried list = seen_subtrees list ≡ change_of form (seen_subtrees held) (bases_of carried)
+abbrev pub IsChangeOf : Form → Option (List SubtreeBase) → List Subtree → Option (List SubtreeBase) → Type 0
+IsChangeOf form held carried list = list ≡ change_of form held (bases_of carried)
 
 -- a new list stands in the place of the old one, where there is one
-abbrev pub IsReplacedBy : Option (Vec Subtree) → Option (Vec Subtree) → Option (Vec Subtree) → Type 0
-IsReplacedBy change old new = seen_subtrees new ≡ changed (seen_subtrees old) (seen_subtrees change)
+abbrev pub IsReplacedBy : Option (List SubtreeBase) → Option (List SubtreeBase) → Option (List SubtreeBase) → Type 0
+IsReplacedBy change old new = new ≡ changed old change
+
+-- the subtrees of a list, where there is one
+abbrev pub all_of : Option (List SubtreeBase) → List SubtreeBase
+all_of None = []
+all_of (Some list) = list

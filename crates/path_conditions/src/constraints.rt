@@ -4,11 +4,13 @@ ghost use Rattle.std.specs.Prelude.{◌≡◌, ◌≤◌, ◌++◌, map, false, 
 ghost use Rattle.names.specs.GeneralView.{general_name, name_contents};
 ghost use Rattle.cert.specs.Certificate.{seen_certificate};
 ghost use Rattle.path_conditions.specs.NamesOf.{names_of};
-ghost use Rattle.path_conditions.specs.Narrowing.{bases_of, has_processed, IsReplacedBy, seen_subtrees, processed_in};
+ghost use Rattle.path_conditions.specs.Narrowing.{bases_of, has_processed, IsReplacedBy, processed_in};
 ghost use Rattle.path_conditions.specs.Constraints.{seen_constraints, no_constraints, IsNarrowedBy, HasNoProcessed, permits_in, permits_name, permits_each, excludes_one, names_in_subject, size_of, subtrees_in};
 
-use crate::coverage::{is_processed, lies_in_one, one_is_processed};
+use crate::coverage::{is_processed, one_is_processed};
+use crate::excluded::Excluded;
 use crate::narrowing::narrowed_list;
+use crate::subtree_list::SubtreeList;
 use cert::{Certificate, NameConstraints};
 use names::{Form, General, Name, Subtree};
 use std::alloc::{AllocError, Global};
@@ -17,14 +19,14 @@ use std::alloc::{AllocError, Global};
 /// 6.1.2 (b), (c)).
 #[derive(Drop)]
 pub struct Constraints<'a> {
-    directory: Option<Vec<Subtree<'a>>>,
-    dns: Option<Vec<Subtree<'a>>>,
-    ip: Option<Vec<Subtree<'a>>>,
-    excluded: Vec<Subtree<'a>>,
+    directory: Option<SubtreeList<'a>>,
+    dns: Option<SubtreeList<'a>>,
+    ip: Option<SubtreeList<'a>>,
+    excluded: Excluded<'a>,
 }
 
 /// Puts a new list in place, if there is one.
-fn replace<'a>(list: &mut Option<Vec<Subtree<'a>>>, change: Option<Vec<Subtree<'a>>>)
+fn replace<'a>(list: &mut Option<SubtreeList<'a>>, change: Option<SubtreeList<'a>>)
     ensures { IsReplacedBy change.entry list.old list.new }
 {
     if let Some(change) = change {
@@ -49,23 +51,23 @@ fn select_processed<'a>(
 /// Adds the subtrees of processed forms.
 fn exclude<'a>(
     alloc: Global,
-    held: &mut Vec<Subtree<'a>>,
+    held: &mut Excluded<'a>,
     carried: &[Subtree<'a>],
 ) -> Result<(), AllocError>
-    ensures ok { OnOk result (held.new.items ≡ held.old.items ++ processed_in carried.now) }
-    ensures err { OnErr result (held.new.items ≡ held.old.items) }
+    ensures ok { OnOk result (held.new ≡ held.old ++ bases_of (processed_in carried.now)) }
+    ensures err { OnErr result (held.new ≡ held.old) }
     ensures calm { has_processed (bases_of carried.now) ≡ false → IsOk result }
 {
     if one_is_processed(carried) {
         let more = select_processed(alloc, carried)?;
-        held.extend_from_slice(&more)?;
+        held.extend(alloc, &more)?;
     }
     Ok(())
 }
 
 /// How many subtrees a list has.
-fn len_of(list: &Option<Vec<Subtree<'_>>>) -> usize
-    ensures { result ≡ size_of (seen_subtrees list.now) }
+fn len_of(list: &Option<SubtreeList<'_>>) -> usize
+    ensures { result ≡ size_of list.now }
 {
     match list {
         None => 0,
@@ -74,12 +76,12 @@ fn len_of(list: &Option<Vec<Subtree<'_>>>) -> usize
 }
 
 /// Whether the list, if there is one, holds the name.
-fn is_permitted_by(list: &Option<Vec<Subtree<'_>>>, name: &General<'_>) -> bool
-    ensures { result ≡ permits_in (seen_subtrees list.now) (general_name name.now) }
+fn is_permitted_by(list: &Option<SubtreeList<'_>>, name: &General<'_>) -> bool
+    ensures { result ≡ permits_in list.now (general_name name.now) }
 {
     match list {
         None => true,
-        Some(list) => lies_in_one(list, name),
+        Some(list) => list.covers(name),
     }
 }
 
@@ -92,12 +94,12 @@ impl<'a> Constraints<'a> {
             directory: None,
             dns: None,
             ip: None,
-            excluded: Vec::new(alloc),
+            excluded: Excluded::none(alloc),
         }
     }
 
     /// Narrows the permitted subtrees, and adds the excluded ones (RFC 5280, 6.1.4 (g)). New lists are built before old ones are replaced,
-    /// so lack of memory changes nothing. Each subtree carried is compared with each one held for its form, at most three times.
+    /// so lack of memory changes nothing.
     pub fn narrow(&mut self, alloc: Global, carried: &NameConstraints<'a>) -> Result<(), AllocError>
         ensures ok { OnOk result (IsNarrowedBy carried.now self.old self.new) }
         ensures err { OnErr result (seen_constraints self.new ≡ seen_constraints self.old) }
@@ -147,7 +149,8 @@ impl<'a> Constraints<'a> {
         names.iter().all(|name| self.permits(name))
     }
 
-    /// Whether all names of the certificate are permitted (RFC 5280, 6.1.3 (b)). Each is compared with each permitted subtree of its form.
+    /// Whether all names of the certificate are permitted (RFC 5280, 6.1.3 (b)). Each is looked for among the permitted subtrees of its
+    /// form.
     pub fn permits_names_of(&self, certificate: &Certificate<'_>) -> bool
         ensures { result ≡ permits_each self.now (names_of (seen_certificate certificate.now)) }
     {
@@ -159,17 +162,17 @@ impl<'a> Constraints<'a> {
     fn excludes_subject(&self, subject: Name<'_>) -> bool
         ensures { result ≡ excludes_one self.now (names_in_subject (name_contents subject.entry)) }
     {
-        !subject.is_empty() && lies_in_one(&self.excluded, &General::Directory(subject))
+        !subject.is_empty() && self.excluded.covers(&General::Directory(subject))
     }
 
     /// Whether one of the names is excluded.
     fn excludes_one(&self, names: &[General<'_>]) -> bool
         ensures { result ≡ excludes_one self.now (map general_name names.now) }
     {
-        names.iter().any(|name| lies_in_one(&self.excluded, name))
+        names.iter().any(|name| self.excluded.covers(name))
     }
 
-    /// Whether a name of the certificate is excluded (RFC 5280, 6.1.3 (c)). Each is compared with each excluded subtree.
+    /// Whether a name of the certificate is excluded (RFC 5280, 6.1.3 (c)). Each is looked for among the excluded subtrees.
     pub fn excludes_name_of(&self, certificate: &Certificate<'_>) -> bool
         ensures { result ≡ excludes_one self.now (names_of (seen_certificate certificate.now)) }
     {

@@ -4,8 +4,10 @@
 mod conditions;
 mod constraints;
 mod coverage;
+mod excluded;
 mod form_set;
 mod narrowing;
+mod subtree_list;
 
 pub use conditions::{
     allows_purpose, are_critical_extensions_known, has_begun, has_not_expired, is_ca,

@@ -2,10 +2,12 @@
 
 ghost use Rattle.std.specs.Prelude.{◌≡◌, IfOk, IsOk, false};
 ghost use Rattle.names.specs.GeneralView.{subtree_base};
-ghost use Rattle.path_conditions.specs.Narrowing.{bases_of, enters, are_about, AreOfForm, AreKept, AreEntering, IsNarrowed, IsChangeOf};
+ghost use Rattle.path_conditions.specs.Narrowing.{bases_of, enters, of_form, are_about, AreOfForm, AreKept, AreEntering, IsNarrowed, IsChangeOf};
 
-use crate::coverage::{is_about, is_part_of_one, one_is_about};
+use crate::coverage::{is_about, one_is_about};
+use crate::subtree_list::{SubtreeList, index_of};
 use names::{Form, Subtree};
+use names_order::Index;
 use std::alloc::{AllocError, Global};
 
 /// The subtrees of the form.
@@ -27,29 +29,29 @@ fn select<'a>(
 fn keep_parts<'a>(
     alloc: Global,
     held: &[Subtree<'a>],
-    carried: &[Subtree<'_>],
+    carried: &Index<'_>,
 ) -> Result<Vec<Subtree<'a>>, AllocError>
     ensures { IfOk result (AreKept held.now carried.now) }
 {
     held.iter()
         .copied()
-        .filter(|base| is_part_of_one(base, carried))
+        .filter(|base| carried.holds(base))
         .collect(alloc)
 }
 
 /// Whether the subtree is of the form, and a part of one that is held but of none that is kept.
-fn enters(base: &Subtree<'_>, form: Form, held: &[Subtree<'_>], kept: &[Subtree<'_>]) -> bool
-    ensures { result ≡ enters form (bases_of held.now) (bases_of kept.now) (subtree_base base.now) }
+fn enters(base: &Subtree<'_>, form: Form, held: &Index<'_>, kept: &Index<'_>) -> bool
+    ensures { result ≡ enters form held.now kept.now (subtree_base base.now) }
 {
-    is_about(base, form) && is_part_of_one(base, held) && !is_part_of_one(base, kept)
+    is_about(base, form) && held.holds(base) && !kept.holds(base)
 }
 
 /// The subtrees of the form that are parts of one that is held but of none that is kept.
 fn select_entering<'a>(
     alloc: Global,
     form: Form,
-    held: &[Subtree<'_>],
-    kept: &[Subtree<'_>],
+    held: &Index<'_>,
+    kept: &Index<'_>,
     carried: &[Subtree<'a>],
 ) -> Result<Vec<Subtree<'a>>, AllocError>
     ensures { IfOk result (AreEntering form held.now kept.now carried.now) }
@@ -63,28 +65,43 @@ fn select_entering<'a>(
 
 /// Intersects two lists of subtrees of one form: of each list those inside one of the other, except those inside one that is kept. Two
 /// subtrees that share a name are nested, so these hold just the names that both lists hold; equal lists narrow to the same list. Each
-/// subtree is compared with each of the other list at most three times.
+/// subtree is looked for at most three times in an index of the other list.
 fn narrow<'a>(
     alloc: Global,
     form: Form,
-    held: &[Subtree<'a>],
+    held: &SubtreeList<'a>,
     carried: &[Subtree<'a>],
-) -> Result<Vec<Subtree<'a>>, AllocError>
+) -> Result<SubtreeList<'a>, AllocError>
     ensures { IfOk result (IsNarrowed form held.now carried.now) }
 {
-    let mut list = keep_parts(alloc, held, carried)?;
-    let entering = select_entering(alloc, form, held, list.as_slice(), carried)?;
-    list.extend_from_slice(entering.as_slice())?;
-    Ok(list)
+    let carried_index = index_of(alloc, carried)?;
+    let kept = keep_parts(alloc, held.items(), &carried_index)?;
+    // these are in order, and so need not be sorted
+    let kept_in_order = keep_parts(alloc, held.index().subtrees(), &carried_index)?;
+    let kept_index = Index::of(alloc, kept_in_order)?;
+    let entering = select_entering(alloc, form, held.index(), &kept_index, carried)?;
+    SubtreeList::joined(alloc, kept, &kept_index, &entering)
+}
+
+/// The list of the subtrees of the form.
+fn begin<'a>(
+    alloc: Global,
+    form: Form,
+    carried: &[Subtree<'a>],
+) -> Result<SubtreeList<'a>, AllocError>
+    ensures { IfOk result (λ list. list ≡ of_form form (bases_of carried.now)) }
+{
+    let selected = select(alloc, form, carried)?;
+    SubtreeList::of(alloc, selected)
 }
 
 /// The list of the form behind a certificate that carries these permitted subtrees, if it changes.
 pub(crate) fn narrowed_list<'a>(
     alloc: Global,
     form: Form,
-    held: &Option<Vec<Subtree<'a>>>,
+    held: &Option<SubtreeList<'a>>,
     carried: &[Subtree<'a>],
-) -> Result<Option<Vec<Subtree<'a>>>, AllocError>
+) -> Result<Option<SubtreeList<'a>>, AllocError>
     ensures value { IfOk result (IsChangeOf form held.now carried.now) }
     ensures calm { are_about (bases_of carried.now) form ≡ false → IsOk result }
 {
@@ -92,7 +109,7 @@ pub(crate) fn narrowed_list<'a>(
         return Ok(None);
     }
     let list = match held {
-        None => select(alloc, form, carried)?,
+        None => begin(alloc, form, carried)?,
         Some(held) => narrow(alloc, form, held, carried)?,
     };
     Ok(Some(list))

@@ -18,6 +18,14 @@ const PATH: &[&str] = &[FIRST, SECOND, LAST];
 /// The anchor, and the path.
 const ANCHORED: &[&str] = &["ca(R,R)", FIRST, SECOND, LAST];
 
+/// The same with lists that are long enough to be put in order.
+const MANY: &[&str] = &[
+    "ca(R,R)",
+    "ca(A,R){permit dns n0.example}{permit dns n1.example}{permit dns n2.example}{permit dns n3.example}{permit dns n4.example}{permit dns n5.example}{permit dns n6.example}{permit dns n7.example}{permit dns n8.example}{permit dns n9.example}{permit dns n10.example}{permit dns n11.example}{permit dns n12.example}{permit dns n13.example}{exclude dns n0.com}{exclude dns n1.com}{exclude dns n2.com}{exclude dns n3.com}{exclude dns n4.com}{exclude dns n5.com}{exclude dns n6.com}{exclude dns n7.com}{exclude dns n8.com}{exclude dns n9.com}{exclude dns n10.com}{exclude dns n11.com}{exclude dns n12.com}{exclude dns n13.com}",
+    "ca(B,A){key B2}{permit dns a.n0.example}{permit dns a.n1.example}{permit dns a.n2.example}{permit dns a.n3.example}{permit dns a.n4.example}{permit dns a.n5.example}{permit dns a.n6.example}{permit dns a.n7.example}{permit dns a.n8.example}{permit dns a.n9.example}{permit dns a.n10.example}{permit dns a.n11.example}{permit dns a.n12.example}{permit dns a.n13.example}{exclude dns n0.org}{exclude dns n1.org}{exclude dns n2.org}{exclude dns n3.org}{exclude dns n4.org}{exclude dns n5.org}{exclude dns n6.org}{exclude dns n7.org}{exclude dns n8.org}{exclude dns n9.org}{exclude dns n10.org}{exclude dns n11.org}{exclude dns n12.org}{exclude dns n13.org}",
+    "ee(T,B){signed B2}{dns b.n14.example}",
+];
+
 /// The validation of the path to its end, behind its anchor: where a step has no memory, nothing has changed, and it is taken
 /// again.
 fn outcome_by_steps(alloc: Global, certificates: &[Certificate<'_>]) -> Result<Outcome, PathFault> {
@@ -43,9 +51,9 @@ fn outcome_by_steps(alloc: Global, certificates: &[Certificate<'_>]) -> Result<O
     Err(PathFault::Text(2))
 }
 
-/// The same of the path of texts.
-fn outcome_of_texts(alloc: Global) -> Result<Outcome, PathFault> {
-    let all = octets_of(alloc, ANCHORED)?;
+/// The same of the texts of the anchor and the path.
+fn outcome_of_texts(alloc: Global, texts: &[&str]) -> Result<Outcome, PathFault> {
+    let all = octets_of(alloc, texts)?;
     let certificates = certificates_of(alloc, &all)?;
     outcome_by_steps(alloc, &certificates)
 }
@@ -56,7 +64,9 @@ fn wants_memory_or_answers(rt: HostRuntime) -> Result<(), Fail> {
     let wanted = Ok(Outcome::Bad(3, Reason::NotPermitted));
     let whole = outcome_of(rt.alloc(), PATH, MIDDLE, None);
     assert!(rt; whole == wanted || whole == Err(PathFault::Memory));
-    let stepped = outcome_of_texts(rt.alloc());
+    let stepped = outcome_of_texts(rt.alloc(), ANCHORED);
     assert!(rt; stepped == wanted || stepped == Err(PathFault::Memory));
+    let many = outcome_of_texts(rt.alloc(), MANY);
+    assert!(rt; many == wanted || many == Err(PathFault::Memory));
     Ok(())
 }

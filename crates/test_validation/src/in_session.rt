@@ -30,7 +30,9 @@ deliver middle.der middle.crl
 check 20261201000000Z root.der middle.der leaf.der
 ";
 
-const MONTHS: &[&str] = &["01", "02", "03", "04", "05", "06", "07", "08", "09", "10", "11", "12"];
+const MONTHS: &[&str] = &[
+    "01", "02", "03", "04", "05", "06", "07", "08", "09", "10", "11", "12",
+];
 
 const YEARS: &[&str] = &["2026", "2027", "2031"];
 
@@ -69,7 +71,14 @@ fn answer_of(rt: &HostRuntime, command: &str) -> Result<String, Fail> {
     let words = words_of(rt.alloc(), command)?;
     let (mut out, mut err) = (Vec::new(rt.alloc()), Vec::new(rt.alloc()));
     let mut input: &[u8] = &[];
-    let status = execute(rt, rt.alloc(), words.as_slice(), &mut input, &mut out, &mut err);
+    let status = execute(
+        rt,
+        rt.alloc(),
+        words.as_slice(),
+        &mut input,
+        &mut out,
+        &mut err,
+    );
     let printed = str::from_utf8(out.as_slice()).map_err(|_| "a text")?;
     let failed = str::from_utf8(err.as_slice()).map_err(|_| "a text")?;
     let alloc = rt.alloc();
@@ -89,7 +98,14 @@ fn session_over(rt: &HostRuntime, store: &str, requests: &str) -> Result<Vec<u8>
     let words = words_of(rt.alloc(), line.as_str())?;
     let (mut out, mut err) = (Vec::new(rt.alloc()), Vec::new(rt.alloc()));
     let mut input = requests.as_bytes();
-    let status = execute(rt, rt.alloc(), words.as_slice(), &mut input, &mut out, &mut err);
+    let status = execute(
+        rt,
+        rt.alloc(),
+        words.as_slice(),
+        &mut input,
+        &mut out,
+        &mut err,
+    );
     if status != 0 || !err.is_empty() {
         return Err("a session that failed".into());
     }
@@ -97,7 +113,12 @@ fn session_over(rt: &HostRuntime, store: &str, requests: &str) -> Result<Vec<u8>
 }
 
 // Whether a session answers the requests as the runs of their commands do.
-fn are_answered_alike(rt: &HostRuntime, requests: &str, session: &str, alone: &str) -> Result<bool, Fail> {
+fn are_answered_alike(
+    rt: &HostRuntime,
+    requests: &str,
+    session: &str,
+    alone: &str,
+) -> Result<bool, Fail> {
     let mut wanted = String::new(rt.alloc());
     for request in requests.lines().filter(|line| !line.is_empty()) {
         let command = command_of(rt.alloc(), alone, request)?;
@@ -125,8 +146,14 @@ fn checks(alloc: Global) -> Result<String, AllocError> {
 fn requests_are_answered_as_commands(rt: HostRuntime) -> Result<(), Fail> {
     write_files(&rt, FILES)?;
     write_verdicts(&rt, "good", PRINTS)?;
-    assert!(rt; are_answered_alike(&rt, MIXED, "in_session", "alone")?, "mixed requests");
+    assert!(rt;
+        are_answered_alike(&rt, MIXED, "in_session", "alone")?,
+        "mixed requests"
+    );
     let checks = checks(rt.alloc())?;
-    assert!(rt; are_answered_alike(&rt, checks.as_str(), "in_session", "alone")?, "checks");
+    assert!(rt;
+        are_answered_alike(&rt, checks.as_str(), "in_session", "alone")?,
+        "checks"
+    );
     Ok(())
 }

@@ -1,8 +1,27 @@
-use Rattle.path_conditions.proofs.NarrowedLists.{bases_of-narrowed}
+use Rattle.std.proofs.Common.{◌∙◌, ap, ◌++◌}
+use Rattle.std.proofs.lemmas.Result.{IfOk-weaker}
+use Rattle.path_conditions.specs.Narrowing.{bases_of, kept}
+use Rattle.path_conditions.proofs.Members.{kept_is, kept_indexed, order_made, of_items, narrowed_is}
 use Rattle.path_conditions.proofs.narrowing.narrow.Goals as goal
+
+pub joined-requires : goal.joined-requires
+joined-requires c =
+    let carried = bases_of c.args.carried.now in
+    let index = c.in_ok-carried_index.carried_index in
+    let front = kept_is c.items.result.now c.in_ok-kept.kept.items index c.args.held.now carried c.items.ensures c.in_ok-carried_index.ensures c.in_ok-kept.ensures in
+    let made = order_made c.in_ok-kept_index.kept_index c.index.result.now index c.subtrees.result.now c.in_ok-kept_in_order.kept_in_order.items c.subtrees.ensures c.in_ok-kept_in_order.ensures c.in_ok-kept_index.ensures in
+    of_items c.in_ok-kept_index.kept_index (kept c.args.held.now carried) c.in_ok-kept.kept.items front
+    (kept_indexed c.in_ok-kept_index.kept_index c.index.result.now c.args.held.now index carried made c.index.ensures c.in_ok-carried_index.ensures)
 
 pub returns : goal.returns
 returns c =
-    bases_of-narrowed c.args.form c.args.held.now c.args.carried.now c.in_ok-list.list.items c.in_ok-entering.entering.items c.extend_from_slice.new.self.items
-    c.in_ok-list.ensures (rw c.as_slice.ensures.value at c.in_ok-entering.ensures)
-    (rw c.as_slice-2.ensures.value at c.in_ok-extend_from_slice.ensures.items)
+    let carried = bases_of c.args.carried.now in
+    let index = c.in_ok-carried_index.carried_index in
+    let front = kept_is c.items.result.now c.in_ok-kept.kept.items index c.args.held.now carried c.items.ensures c.in_ok-carried_index.ensures c.in_ok-kept.ensures in
+    let made = order_made c.in_ok-kept_index.kept_index c.index.result.now index c.subtrees.result.now c.in_ok-kept_in_order.kept_in_order.items c.subtrees.ensures c.in_ok-kept_in_order.ensures c.in_ok-kept_index.ensures in
+    IfOk-weaker c.joined.result _ _
+    (λ list is. is
+    ∙ (ap (λ l. bases_of c.in_ok-kept.kept.items ++ bases_of l) c.deref.ensures.value
+    ∙ narrowed_is c.args.form c.in_ok-kept.kept.items c.in_ok-entering.entering.items c.args.carried.now c.args.held.now c.index-2.result.now c.in_ok-kept_index.kept_index c.index-2.ensures
+    (kept_indexed c.in_ok-kept_index.kept_index c.index.result.now c.args.held.now index carried made c.index.ensures c.in_ok-carried_index.ensures) front c.in_ok-entering.ensures))
+    c.joined.ensures

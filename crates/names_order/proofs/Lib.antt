@@ -1,0 +1,9 @@
+mod KeyLists
+mod TextKeys
+mod DomainTexts
+mod BitKeys
+mod BaseKeys
+mod Halving
+mod Outermost
+mod Members
+pub mod Laws

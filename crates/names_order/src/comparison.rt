@@ -1,0 +1,138 @@
+//! The order of subtrees.
+
+ghost use Rattle.std.specs.Prelude.{◌≡◌, ℕ, reverse};
+ghost use Rattle.std.specs.Cmp.Lexicographic.{slice_cmp};
+ghost use Rattle.std.specs.Ordering.{nat_cmp};
+ghost use Rattle.names.specs.Ip.{bit};
+ghost use Rattle.names.specs.Bases.{domain_names, address_range};
+ghost use Rattle.names.specs.GeneralView.{subtree_base};
+ghost use Rattle.names_order.specs.Order.{InsideBegins, backwards, text_key, end_of, base_order, domain_key, prefix_bits, range_key, octet_order, octet_rank, form_rank};
+
+use names::{Domain, IpRange, Subtree};
+use std::cmp::Ordering;
+
+/// The place of an octet among others: the dot is the least, and ASCII case is folded.
+fn octet_rank(octet: u8) -> u16
+    ensures { result ≡ octet_rank octet }
+{
+    match octet.to_ascii_lowercase() {
+        b'.' => 0,
+        folded => u16::from(folded) + 2,
+    }
+}
+
+/// Compares the texts from their ends on.
+fn compare_texts(left: &[u8], right: &[u8]) -> Ordering
+    ensures { result ≡ slice_cmp octet_order (reverse left.now) (reverse right.now) }
+{
+    let mut left_rest = left;
+    let mut right_rest = right;
+    while let Some((one, left_front)) = left_rest.split_last() {
+        let Some((other, right_front)) = right_rest.split_last() else {
+            return Ordering::Greater;
+        };
+        match octet_rank(*one).cmp(&octet_rank(*other)) {
+            Ordering::Equal => {
+                left_rest = left_front;
+                right_rest = right_front;
+            }
+            order => return order,
+        }
+    }
+    if right_rest.is_empty() {
+        Ordering::Equal
+    } else {
+        Ordering::Less
+    }
+}
+
+/// Compares a base, whose own name it holds or not, with a domain.
+fn compare_base(one: &[u8], below: bool, right: &Domain<'_>) -> Ordering
+    ensures { result ≡ slice_cmp nat_cmp (text_key (backwards one.now) (end_of below))
+        (domain_key (domain_names right.now)) }
+{
+    match right {
+        Domain::Every => Ordering::Greater,
+        Domain::Within(other) => compare_texts(one, other).then(below.cmp(&false)),
+        Domain::Below(other) => compare_texts(one, other).then(below.cmp(&true)),
+    }
+}
+
+/// Compares domains: one stands before all that it holds.
+fn compare_domains(left: &Domain<'_>, right: &Domain<'_>) -> Ordering
+    ensures { result ≡ slice_cmp nat_cmp (domain_key (domain_names left.now))
+        (domain_key (domain_names right.now)) }
+{
+    match left {
+        Domain::Every => match right {
+            Domain::Every => Ordering::Equal,
+            _ => Ordering::Less,
+        },
+        Domain::Within(one) => compare_base(one, false, right),
+        Domain::Below(one) => compare_base(one, true, right),
+    }
+}
+
+/// The bit at `index`, the highest of the first octet being bit 0; 0 past the end.
+fn bit_at(octets: &[u8], index: u16) -> u8
+    ensures { result ≡ bit octets.now index }
+{
+    match octets.get(usize::from(index / 8)) {
+        Some(octet) => *octet >> (7 - index % 8) & 1,
+        None => 0,
+    }
+}
+
+/// Compares the bits of the prefixes.
+fn compare_bits(left: &IpRange<'_>, right: &IpRange<'_>) -> Ordering
+    ensures { result ≡ slice_cmp nat_cmp (prefix_bits (address_range left.now))
+        (prefix_bits (address_range right.now)) }
+{
+    let count = left.prefix.min(right.prefix);
+    for i in 0..count {
+        match bit_at(left.address, i).cmp(&bit_at(right.address, i)) {
+            Ordering::Equal => {}
+            order => return order,
+        }
+    }
+    left.prefix.cmp(&right.prefix)
+}
+
+/// Compares ranges: one stands before all that it holds.
+fn compare_ranges(left: &IpRange<'_>, right: &IpRange<'_>) -> Ordering
+    ensures { result ≡ slice_cmp nat_cmp (range_key (address_range left.now))
+        (range_key (address_range right.now)) }
+{
+    left.address
+        .len()
+        .cmp(&right.address.len())
+        .then(compare_bits(left, right))
+}
+
+/// The place of the form of a subtree among others.
+fn form_rank(subtree: &Subtree<'_>) -> u8
+    ensures { result ≡ form_rank (subtree_base subtree.now) }
+{
+    match subtree {
+        Subtree::Dns(_) => 0,
+        Subtree::Ip(_) => 1,
+        Subtree::Directory(_) | Subtree::Other(_, _) => 2,
+    }
+}
+
+/// Compares subtrees: one of DNS names or of addresses stands before all that lies in it, and what stands between lies in it too. Those of
+/// directory names and of other forms stand behind these, and are equal.
+pub fn order(left: &Subtree<'_>, right: &Subtree<'_>) -> Ordering
+    ensures { result ≡ base_order (subtree_base left.now) (subtree_base right.now) }
+{
+    match (left, right) {
+        (Subtree::Dns(one), Subtree::Dns(other)) => compare_domains(one, other),
+        (Subtree::Ip(one), Subtree::Ip(other)) => compare_ranges(one, other),
+        _ => form_rank(left).cmp(&form_rank(right)),
+    }
+}
+
+/// A subtree of DNS names or of addresses lies in just those whose keys its own key begins with.
+pub fn order_laws()
+    ensures inside { InsideBegins }
+{}

@@ -1,0 +1,253 @@
+//! Lists of subtrees in which names are found by halving.
+
+ghost use Rattle.std.specs.Prelude.{◌≡◌, ◌++◌, ◌<◌, length, map, true, OnOk, None, IfOk};
+ghost use Rattle.std.specs.List.Sorted.{IsPermutation, IsSortedBy};
+ghost use Rattle.names.specs.GeneralView.{general_name, subtree_base};
+ghost use Rattle.names_order.specs.Order.{is_ordered};
+ghost use Rattle.names_order.specs.Index.{HasSameMembers, lies_in_one, holds_name, is_in_one, one_covers, lies_within, stands_before, lies_in, lies_in_last, outermost, unordered, IsApart, HasNoLonger, prefix_in};
+
+use crate::comparison::order;
+use names::{Domain, General, IpRange, Subtree, coverage_laws};
+use std::alloc::{AllocError, Global};
+use std::marker::Model;
+
+/// The most subtrees that are gone over one by one.
+const SHORT: usize = 12;
+
+/// Subtrees in order, if they are many. Whether a name or a subtree of DNS names or of addresses lies in one of them is found by halving; directory names are
+/// compared with each subtree of directory names.
+#[derive(Drop)]
+pub struct Index<'a> {
+    all: Vec<Subtree<'a>>,
+    /// Those that lie in none before them.
+    tops: Vec<Subtree<'a>>,
+    /// Those that have no order.
+    rest: Vec<Subtree<'a>>,
+    /// The most bits of a range.
+    longest: u16,
+}
+
+impl<'a> Model for Index<'a> {
+    ghost use Rattle.std.specs.Prelude.{List, map};
+    ghost use Rattle.std.specs.Coded.{codes};
+    ghost use Rattle.names.specs.GeneralLayout.{SubtreeBase};
+    ghost use Rattle.names.specs.GeneralView.{subtree_base};
+    ghost use Rattle.names_order.specs.Codes.{rdn_code};
+    ghost use Rattle.names_order.specs.Index.{IsIndexedIfLong};
+
+    ghost Value = { List SubtreeBase };
+
+    ghost coded = { Prim.hlevel (codes, rdn_code) };
+
+    ghost view = { λ i. map subtree_base i.all.items };
+
+    ghost invariant = { λ i. IsIndexedIfLong i.all.items i.tops.items i.rest.items i.longest };
+}
+
+/// Whether the first subtree lies in the other.
+fn is_inside(base: &Subtree<'_>, other: &Subtree<'_>) -> bool
+    ensures { result ≡ lies_in (subtree_base base.now) (subtree_base other.now) }
+{
+    coverage_laws();
+    base.inside(other)
+}
+
+/// Whether the subtree lies in the other, if there is one.
+fn is_inside_last(base: &Subtree<'_>, last: &Option<Subtree<'_>>) -> bool
+    ensures { result ≡ lies_in_last (subtree_base base.now) last.now }
+{
+    match last {
+        None => false,
+        Some(last) => is_inside(base, last),
+    }
+}
+
+/// Whether the subtree is of a form that has an order.
+fn has_order(base: &Subtree<'_>) -> bool
+    ensures { result ≡ is_ordered (subtree_base base.now) }
+{
+    match base {
+        Subtree::Dns(_) => true,
+        Subtree::Ip(_) => true,
+        _ => false,
+    }
+}
+
+/// The number of bits of a range; 0 for subtrees of other forms.
+fn prefix_of(base: &Subtree<'_>) -> u16
+    ensures { result ≡ prefix_in (subtree_base base.now) }
+{
+    match base {
+        Subtree::Ip(range) => range.prefix,
+        _ => 0,
+    }
+}
+
+fn sort(list: &mut Vec<Subtree<'_>>) -> Result<(), AllocError>
+    ensures sorted { OnOk result (IsSortedBy stands_before list.new.items) }
+    ensures same { IsPermutation list.old.items list.new.items }
+{
+    list.sort_by(|one, other| order(one, other))
+}
+
+/// Of subtrees in order, those that do not lie in the last one that is taken.
+fn select_outermost<'a>(
+    alloc: Global,
+    sorted: &[Subtree<'a>],
+) -> Result<Vec<Subtree<'a>>, AllocError>
+    ensures { IfOk result (λ tops. tops.items ≡ outermost None sorted.now) }
+{
+    let mut tops = Vec::new(alloc);
+    let mut last = None;
+    for base in sorted {
+        if !is_inside_last(base, &last) {
+            tops.push(*base)?;
+            last = Some(*base);
+        }
+    }
+    Ok(tops)
+}
+
+/// The subtrees that have no order.
+fn select_unordered<'a>(alloc: Global, list: &[Subtree<'a>]) -> Result<Vec<Subtree<'a>>, AllocError>
+    ensures { IfOk result (λ rest. rest.items ≡ unordered list.now) }
+{
+    list.iter()
+        .copied()
+        .filter(|base| !has_order(base))
+        .collect(alloc)
+}
+
+/// The most bits of a range.
+fn longest_prefix(list: &[Subtree<'_>]) -> u16
+    ensures { HasNoLonger result list.now }
+{
+    let mut longest = 0;
+    for base in list {
+        longest = prefix_of(base).max(longest);
+    }
+    longest
+}
+
+/// Whether the subtree lies in one of the others.
+fn is_in_one(list: &[Subtree<'_>], base: &Subtree<'_>) -> bool
+    ensures { result ≡ is_in_one list.now (subtree_base base.now) }
+{
+    list.iter().any(|other| is_inside(base, other))
+}
+
+/// Whether the name lies in the subtree.
+fn covers(base: &Subtree<'_>, name: &General<'_>) -> bool
+    ensures { result ≡ lies_within (general_name name.now) (subtree_base base.now) }
+{
+    coverage_laws();
+    base.covers(name)
+}
+
+/// Whether the name lies in one of the subtrees.
+fn one_covers(list: &[Subtree<'_>], name: &General<'_>) -> bool
+    ensures { result ≡ one_covers list.now (general_name name.now) }
+{
+    list.iter().any(|base| covers(base, name))
+}
+
+/// Whether the subtree lies in one of the others, which are in order, and none in the one before it.
+fn is_in_top(tops: &[Subtree<'_>], base: &Subtree<'_>) -> bool
+    requires ordered { is_ordered (subtree_base base.now) ≡ true }
+    requires sorted { IsSortedBy stands_before tops.now }
+    requires apart { IsApart tops.now }
+    ensures { result ≡ is_in_one tops.now (subtree_base base.now) }
+{
+    let place = tops.partition_point(|top| !order(base, top).is_lt());
+    if place == 0 {
+        return false;
+    }
+    is_inside(base, &tops[place - 1])
+}
+
+impl<'a> Index<'a> {
+    /// An index of the subtrees. Runs of many that are in order are not sorted again.
+    pub fn of(alloc: Global, list: Vec<Subtree<'a>>) -> Result<Index<'a>, AllocError>
+        ensures { IfOk result (λ index. HasSameMembers index (map subtree_base list.entry.items)) }
+    {
+        let mut all = list;
+        if all.len() <= SHORT {
+            return Ok(Index {
+                all,
+                tops: Vec::new(alloc),
+                rest: Vec::new(alloc),
+                longest: 0,
+            });
+        }
+        sort(&mut all)?;
+        let tops = select_outermost(alloc, &all)?;
+        let rest = select_unordered(alloc, &all)?;
+        let longest = longest_prefix(&all);
+        Ok(Index {
+            all,
+            tops,
+            rest,
+            longest,
+        })
+    }
+}
+
+impl<'a> Index<'a> {
+    /// An index of these and of more.
+    pub fn with(&self, alloc: Global, more: &[Subtree<'a>]) -> Result<Index<'a>, AllocError>
+        ensures { IfOk result (λ index.
+            HasSameMembers index (self.now ++ map subtree_base more.now)) }
+    {
+        let mut list = Vec::new(alloc);
+        list.extend_from_slice(&self.all)?;
+        list.extend_from_slice(more)?;
+        Index::of(alloc, list)
+    }
+
+    /// The subtrees, in order if they are many.
+    pub fn subtrees(&self) -> &[Subtree<'a>]
+        ensures { map subtree_base result.now ≡ self.now }
+    {
+        &self.all
+    }
+
+    /// Whether the subtree lies in one of these.
+    pub fn holds(&self, base: &Subtree<'_>) -> bool
+        ensures { result ≡ lies_in_one self.now (subtree_base base.now) }
+    {
+        if self.all.len() <= SHORT {
+            is_in_one(&self.all, base)
+        } else if has_order(base) {
+            is_in_top(&self.tops, base)
+        } else {
+            is_in_one(&self.rest, base)
+        }
+    }
+
+    /// Whether the name lies in one of these, which are many.
+    fn finds(&self, name: &General<'_>) -> bool
+        requires { 12 < length self.now }
+        ensures { result ≡ holds_name self.now (general_name name.now) }
+    {
+        match name {
+            General::Directory(name) => self.holds(&Subtree::Directory(*name)),
+            General::Dns(name) => self.holds(&Subtree::Dns(Domain::Within(name))),
+            General::Ip(address) => {
+                let prefix = self.longest;
+                self.holds(&Subtree::Ip(IpRange { address, prefix }))
+            }
+            General::Other(_, _) => false,
+        }
+    }
+
+    /// Whether the name lies in one of these.
+    pub fn covers(&self, name: &General<'_>) -> bool
+        ensures { result ≡ holds_name self.now (general_name name.now) }
+    {
+        if self.all.len() <= SHORT {
+            one_covers(&self.all, name)
+        } else {
+            self.finds(name)
+        }
+    }
+}
