@@ -52,7 +52,11 @@ fn fill(conn: &mut Connection<Disks>) -> Option<()> {
 
 /// The files of a store of version 1 with these lists.
 fn filled(alloc: Global) -> Files<Memory> {
-    match Connection::open_files(alloc, empty(alloc), Options::new(7)) {
+    let files = empty(alloc);
+    if !files.may_be_used() {
+        return files;
+    }
+    match Connection::open_files(alloc, files, Options::new(7)) {
         Ok(mut conn) => {
             let _is_filled = fill(&mut conn).is_some();
             conn.into_store().close()

@@ -17,7 +17,11 @@ pub fn empty(alloc: Global) -> Files<Memory> {
 
 /// A store that holds nothing.
 pub fn made(alloc: Global) -> Option<Store<Memory>> {
-    match Connection::open_files(alloc, empty(alloc), Options::new(7)) {
+    let files = empty(alloc);
+    if !files.may_be_used() {
+        return None;
+    }
+    match Connection::open_files(alloc, files, Options::new(7)) {
         Ok(conn) => Store::create(conn).ok(),
         Err(_) => None,
     }
