@@ -1,16 +1,17 @@
 -- What was asked inside a transaction that is dropped.
-use Rattle.std.proofs.Common.{◌≡◌, true, subst, inr, Result, Ok, Err}
+use Rattle.std.proofs.Common.{◌≡◌, true, subst, inl, inr, Result, Ok, Err}
 use Rattle.sqlite.specs.Store.{Ghosts}
 use Rattle.sqlite.specs.Held.{Held, state}
-use Rattle.sqlite.specs.State.{State, KeepsCommit, IsRolledBack}
+use Rattle.sqlite.specs.State.{State, KeepsCommit, IsRolledBack, Survives}
 use Rattle.sqlite.proofs.InsideLemmas.{unchanged_keeps, keeps_then}
 use Rattle.statements_facts.specs.Statement.{Holdings}
+use Rattle.store_sql.proofs.Laws.{sooner_refuses}
 use Rattle.path.specs.Query.{Query, Accepts}
 use Rattle.relying_agreement.specs.declared.verdict.Verdict.{Verdict}
 use Rattle.relying_agreement.specs.declared.verdict.Comparison.{Comparison}
 use Rattle.relying_verdicts.specs.declared.fault.Fault.{Fault}
 use Rattle.relying_verdicts.specs.declared.fault.Fault.TheVariants.{Store, Memory}
-use Rattle.relying_verdicts.specs.Asking.{HasAsked, HasAskedBoth, AreInvalidOrOpen, IsInvalidOrOpen}
+use Rattle.relying_verdicts.specs.Asking.{AskIsCaused, AskOfBothIsCaused, HasAsked, HasAskedBoth, AreInvalidOrOpen, IsInvalidOrOpen}
 use Rattle.relying.specs.Asking.{HasLooked, HasLookedAtBoth}
 
 dropped : (old last new : State) → KeepsCommit old last → IsRolledBack last new → KeepsCommit old new
@@ -55,6 +56,23 @@ module _ {S T : Type 0} (g : Ghosts S) (h : Ghosts T) (old begun : Held S) (othe
         dropped (state h other) other_last other_new (record { was_open = it.1.was_open; committed = it.1.committed }) other_undone,
         tt,
       )
+
+-- the cause of a fault inside the transaction is one of the whole
+pub asked_at : {S : Type 0} (g : Ghosts S) (old begun : Held S) (last new : State) (fault : Fault) → begun ≡ record old { in_transaction = true } → AskIsCaused (state g begun) last fault
+    → Survives last new (λ _. ⊥) → AskIsCaused (state g old) new fault
+asked_at g old begun last new (Store fault) is h later = λ e held store.
+    sooner_refuses (state g old) last new (λ _. ⊥) later (subst (λ b. AskIsCaused (state g b) last (Store fault)) is h e held store)
+asked_at g old begun last new Memory is h later = tt
+
+pub asked_both_at : {S T : Type 0} (g : Ghosts S) (h : Ghosts T) (old begun : Held S) (other other_begun : Held T) (last new other_last other_new : State) (fault : Fault)
+    → begun ≡ record old { in_transaction = true } → other_begun ≡ record other { in_transaction = true } → AskOfBothIsCaused (state g begun) last (state h other_begun) other_last fault
+    → Survives last new (λ _. ⊥) → Survives other_last other_new (λ _. ⊥) → AskOfBothIsCaused (state g old) new (state h other) other_new fault
+asked_both_at g h old begun other other_begun last new other_last other_new (Store fault) is other_is it later other_later = λ e one two store stores.
+    elim (both g h old begun other other_begun (λ s t. AskOfBothIsCaused s last t other_last (Store fault)) is other_is it e one two store stores) [
+      | inl first ↦ inl (sooner_refuses (state g old) last new (λ _. ⊥) later first)
+      | inr second ↦ inr (sooner_refuses (state h other) other_last other_new (λ _. ⊥) other_later second)
+    ]
+asked_both_at g h old begun other other_begun last new other_last other_new Memory is other_is it later other_later = tt
 
 -- a transaction has begun on a connection that was open before
 pub opened : {S : Type 0} (accepts : Accepts) (query : Query) (g : Ghosts S) (old begun : Held S) (verdict : Verdict) → begun ≡ record old { in_transaction = true }

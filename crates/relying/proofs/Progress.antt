@@ -1,4 +1,4 @@
--- A run as far as it has come.
+-- A run that is under way.
 use Rattle.std.proofs.Common.{◌≡◌, ℕ, ◌+◌, ◌<◌, ◌≤◌, List, map, length, take, get_or, option_map, Some, Result, sym, ap, subst, ◌∙◌, take_all}
 use Rattle.std.proofs.lemmas.List.{map_more, take-map}
 use Rattle.std.proofs.lemmas.Option.{slice_get-map, slice_get-get_or}

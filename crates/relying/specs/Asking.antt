@@ -1,5 +1,5 @@
 -- What a call does that asks the store and may also want memory.
-use Rattle.std.specs.Prelude.{◌≡◌, Result, Ok, Err, IfOk}
+use Rattle.std.specs.Prelude.{◌≡◌, Result, Ok, Err, IfErr, IfOk}
 use Rattle.sqlite.specs.State.{State, HasCleanDisk, KeepsCommit}
 use Rattle.statements_facts.specs.Statement.{Holdings}
 use Rattle.store_sql.specs.declared.fault.StoreFault.TheVariants.{Schema as NotOurs}
@@ -9,7 +9,7 @@ use Rattle.store.specs.Adopts.{StaysIfOpen}
 use Rattle.path.specs.Query.{Query, Accepts}
 use Rattle.relying_agreement.specs.declared.verdict.Verdict.{Verdict}
 use Rattle.relying_agreement.specs.declared.verdict.Comparison.{Comparison}
-use Rattle.relying_verdicts.specs.Asking.{AreInvalidOrOpen, IsInvalidOrOpen}
+use Rattle.relying_verdicts.specs.Asking.{AreInvalidOrOpen, AskIsCaused, AskOfBothIsCaused, IsInvalidOrOpen}
 use Rattle.relying_verdicts.specs.declared.fault.Fault.{Fault}
 use Rattle.relying_verdicts.specs.declared.fault.Fault.TheVariants.{Store, Memory}
 
@@ -26,6 +26,10 @@ HasLooked Keeps old new Is (Err fault) = Keeps old new × IsFormed old fault
 -- a look-up outside a transaction, if the disk returned what was written: what is held is as it was
 abbrev pub Looks : {A : Type 0} → State → State → (Holdings → A → Type 0) → Result A Fault → Type 0
 Looks old new Is result = HasCleanDisk new → HasLooked StaysIfOpen old new Is result
+
+-- over a store a fault of the database has a cause
+abbrev pub LooksForCause : {A : Type 0} → State → State → Result A Fault → Type 0
+LooksForCause old new result = HasCleanDisk new → IfErr result (AskIsCaused old new)
 
 -- the same before the transaction is dropped: the last commit stays
 abbrev pub LooksInside : {A : Type 0} → State → State → (Holdings → A → Type 0) → Result A Fault → Type 0
@@ -62,3 +66,8 @@ LooksInsideBoth old new other_old other_new Is result =
 abbrev pub BothAnswerOnlyIfOpen : Accepts → Query → State → State → State → State → Result Comparison Fault → Type 0
 BothAnswerOnlyIfOpen accepts query old new other_old other_new result =
     HasCleanDisk new → HasCleanDisk other_new → IfOk result (AreInvalidOrOpen accepts query old.is_open other_old.is_open)
+
+-- over two stores a fault of a database has a cause in one of them
+abbrev pub LooksAtBothForCause : {A : Type 0} → State → State → State → State → Result A Fault → Type 0
+LooksAtBothForCause old new other_old other_new result =
+    HasCleanDisk new → HasCleanDisk other_new → IfErr result (AskOfBothIsCaused old new other_old other_new)

@@ -6,7 +6,7 @@ ghost use Rattle.sqlite.specs.Files.{file_state};
 ghost use Rattle.sqlite.specs.State.{HasCleanDisk};
 ghost use Rattle.store_sql.specs.Statements.{IsDurable, CommitsNothing};
 ghost use Rattle.relying_agreement.specs.Comparison.{IsComparison};
-ghost use Rattle.relying.specs.Asking.{AreSettled, BothAnswerOnlyIfOpen, LooksAtBoth, LooksInsideBoth};
+ghost use Rattle.relying.specs.Asking.{AreSettled, BothAnswerOnlyIfOpen, LooksAtBoth, LooksAtBothForCause, LooksInsideBoth};
 ghost use Rattle.relying.specs.Never.{NeverDiffer};
 ghost use Rattle.relying.specs.View.{stored};
 ghost use Rattle.relying_verdicts.specs.View.{seen_query};
@@ -33,6 +33,8 @@ fn compare_in_transactions<V: Verifier, S: Alter, D: Alter>(
     ensures looks { LooksInsideBoth (state S.Store one.old) (state S.Store one.new)
         (state D.Store other.old) (state D.Store other.new)
         (IsComparison (V.accepts verifier.now) (seen_query query.now)) result }
+    ensures caused { LooksAtBothForCause (state S.Store one.old) (state S.Store one.new)
+        (state D.Store other.old) (state D.Store other.new) result }
     ensures open { BothAnswerOnlyIfOpen (V.accepts verifier.now) (seen_query query.now)
         (state S.Store one.old) (state S.Store one.new)
         (state D.Store other.old) (state D.Store other.new) result }
@@ -62,6 +64,8 @@ fn compare_stores<V: Verifier, S: Alter, D: Alter>(
     ensures looks { LooksAtBoth (state S.Store one.old) (state S.Store one.new)
         (state D.Store other.old) (state D.Store other.new)
         (IsComparison (V.accepts verifier.now) (seen_query query.now)) result }
+    ensures caused { LooksAtBothForCause (state S.Store one.old) (state S.Store one.new)
+        (state D.Store other.old) (state D.Store other.new) result }
     ensures open { BothAnswerOnlyIfOpen (V.accepts verifier.now) (seen_query query.now)
         (state S.Store one.old) (state S.Store one.new)
         (state D.Store other.old) (state D.Store other.new) result }
@@ -95,6 +99,8 @@ fn compare_with_files<V: Verifier, S: Alter, D: Disk + Drop>(
     ensures looks { LooksAtBoth (state S.Store one.old) (state S.Store one.new)
         (file_state other.old) (file_state other.new)
         (IsComparison (V.accepts verifier.now) (seen_query query.now)) result }
+    ensures caused { LooksAtBothForCause (state S.Store one.old) (state S.Store one.new)
+        (file_state other.old) (file_state other.new) result }
     ensures open { BothAnswerOnlyIfOpen (V.accepts verifier.now) (seen_query query.now)
         (state S.Store one.old) (state S.Store one.new)
         (file_state other.old) (file_state other.new) result }
@@ -124,6 +130,8 @@ pub fn compare<V: Verifier + Drop, D: Disk + Drop>(
     ensures looks { LooksAtBoth (stored one.old) (stored one.new)
         (stored other.old) (stored other.new)
         (IsComparison (V.accepts one.old.verifier) (seen_query query.now)) result }
+    ensures caused { LooksAtBothForCause (stored one.old) (stored one.new)
+        (stored other.old) (stored other.new) result }
     ensures open { BothAnswerOnlyIfOpen (V.accepts one.old.verifier) (seen_query query.now)
         (stored one.old) (stored one.new)
         (stored other.old) (stored other.new) result }

@@ -3,12 +3,12 @@
 ghost use Rattle.std.specs.Prelude.{◌≡◌, IfErr, IfOk};
 ghost use Rattle.store_sql.specs.Statements.{IsDurable, CommitsNothing};
 ghost use Rattle.relying_agreement.specs.Verdict.{IsVerdict};
-ghost use Rattle.relying.specs.Asking.{AnswersOnlyIfOpen, Looks};
+ghost use Rattle.relying.specs.Asking.{AnswersOnlyIfOpen, Looks, LooksForCause};
 ghost use Rattle.relying.specs.Delivery.{AnswersDelivery, IsAnswerTo, MayCommitDelivery};
 ghost use Rattle.relying.specs.Restart.{HasRestarted};
 ghost use Rattle.relying.specs.View.{stored};
 ghost use Rattle.relying_verdicts.specs.View.{seen_query};
-ghost use Rattle.store.specs.Opens.{FailsToReopen};
+ghost use Rattle.store.specs.Opens.{FailsToReopen, ReopensForCause};
 ghost use Rattle.store_taking.specs.Delivery.{AllOrNothing, PutsFacts};
 
 use crate::delivering::read_statement;
@@ -98,6 +98,7 @@ impl<V: Verifier + Drop, D: Disk + Drop> Node<V, D> {
         ensures verifier { self.new.verifier ≡ self.old.verifier }
         ensures looks { Looks (stored self.old) (stored self.new)
             (IsVerdict (V.accepts self.old.verifier) (seen_query query.now)) result }
+        ensures caused { LooksForCause (stored self.old) (stored self.new) result }
         ensures open { AnswersOnlyIfOpen (V.accepts self.old.verifier) (seen_query query.now)
             (stored self.old) (stored self.new) result }
         ensures durable { IsDurable (stored self.new) }
@@ -112,6 +113,7 @@ impl<V: Verifier + Drop, D: Disk + Drop> Node<V, D> {
         ensures verifier { IfOk result (λ node. node.verifier ≡ self.verifier) }
         ensures restarts { IfOk result (HasRestarted self) }
         ensures durable { IfOk result (λ node. IsDurable (stored node)) }
+        ensures cause { IfErr result (ReopensForCause self.store.conn) }
         ensures fails { IfErr result (FailsToReopen self.store.conn) }
     {
         let Node { verifier, store } = self;

@@ -4,7 +4,7 @@ ghost use Rattle.std.specs.Prelude.{◌≡◌, false};
 ghost use Rattle.sqlite.specs.Held.{state};
 ghost use Rattle.store_sql.specs.Statements.{IsDurable, CommitsNothing};
 ghost use Rattle.relying_agreement.specs.Verdict.{IsVerdict};
-ghost use Rattle.relying.specs.Asking.{AnswersOnlyIfOpen, AreSettled, Looks, LooksInside};
+ghost use Rattle.relying.specs.Asking.{AnswersOnlyIfOpen, AreSettled, Looks, LooksForCause, LooksInside};
 ghost use Rattle.relying_verdicts.specs.View.{seen_query};
 
 use path_verifiers::Verifier;
@@ -22,6 +22,7 @@ fn verdict_in_transaction<V: Verifier, S: Alter>(
     ensures idle { conn.new.in_transaction ≡ false }
     ensures looks { LooksInside (state S.Store conn.old) (state S.Store conn.new)
         (IsVerdict (V.accepts verifier.now) (seen_query query.now)) result }
+    ensures caused { LooksForCause (state S.Store conn.old) (state S.Store conn.new) result }
     ensures open { AnswersOnlyIfOpen (V.accepts verifier.now) (seen_query query.now)
         (state S.Store conn.old) (state S.Store conn.new) result }
     ensures survives { CommitsNothing (state S.Store conn.old) (state S.Store conn.new) }
@@ -44,6 +45,7 @@ pub fn verdict_of<V: Verifier, S: Alter>(
     ensures idle { conn.new.in_transaction ≡ false }
     ensures looks { Looks (state S.Store conn.old) (state S.Store conn.new)
         (IsVerdict (V.accepts verifier.now) (seen_query query.now)) result }
+    ensures caused { LooksForCause (state S.Store conn.old) (state S.Store conn.new) result }
     ensures settled { AreSettled (state S.Store conn.old) (state S.Store conn.new) }
     ensures durable { IsDurable (state S.Store conn.new) }
     ensures open { AnswersOnlyIfOpen (V.accepts verifier.now) (seen_query query.now)

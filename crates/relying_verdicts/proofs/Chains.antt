@@ -1,17 +1,18 @@
 -- One look-up behind another, in one store or in two.
-use Rattle.std.proofs.Common.{refl, sym, subst, ◌∙◌, Result, Ok, Err}
-use Rattle.sqlite.specs.State.{State, KeepsCommit}
+use Rattle.std.proofs.Common.{refl, sym, subst, ◌∙◌, Result, Ok, Err, inl, inr}
+use Rattle.sqlite.specs.State.{State, HasCleanDisk, KeepsCommit}
 use Rattle.sqlite.proofs.InsideLemmas.{keeps_then}
 use Rattle.sqlite.proofs.StateLemmas.{survives_then}
 use Rattle.statements_facts.specs.Statement.{Holdings}
 use Rattle.store_sql.specs.declared.fault.StoreFault.{StoreFault}
 use Rattle.store_sql.specs.Statements.{CommitsNothing}
+use Rattle.store_sql.proofs.Laws.{later_refuses}
 use Rattle.store_rows.specs.Steps.{Stays}
 use Rattle.store_maps.specs.Held.{IsStoreOf}
-use Rattle.store_maps.specs.LooksUp.{FailsIn, IsFoundIn, LooksUp}
+use Rattle.store_maps.specs.LooksUp.{FailsIn, IsCausedOverStore, IsFoundIn, LooksUp}
 use Rattle.relying_verdicts.specs.declared.fault.Fault.{Fault}
 use Rattle.relying_verdicts.specs.declared.fault.Fault.TheVariants.{Store, Memory}
-use Rattle.relying_verdicts.specs.Asking.{AskFails, IsFoundInBoth, AskOfBothFails, HasAskedBoth}
+use Rattle.relying_verdicts.specs.Asking.{AskIsCaused, AskOfBothIsCaused, AskFails, IsFoundInBoth, AskOfBothFails, HasAskedBoth}
 
 pub keeps_itself : (s : State) → KeepsCommit s s
 keeps_itself s = record { was_open = λ is. is; committed = λ is. refl }
@@ -55,14 +56,33 @@ fails_then old mid new P a fault one two = record {
   formed = λ e held store. two.formed e held (still_store old mid held (one.held held store).0 store);
 }
 
--- ---- with want of memory
+-- its cause is one of both look-ups
+pub caused_then : {A : Type 0} (old mid new : State) (P : Holdings → A → Type 0) (a : A) (fault : StoreFault) → CommitsNothing old mid → CommitsNothing mid new → HasCleanDisk mid
+    → IsFoundIn old mid P a → IsCausedOverStore mid new fault → IsCausedOverStore old new fault
+caused_then old mid new P a fault first second clean one two e held store =
+    later_refuses old mid new (λ _. ⊥) (λ _. ⊥) first second clean (two e held (still_store old mid held (one.held held store).0 store))
+
+-- ---- when memory runs out
 
 -- a fault behind something that was found
 pub gives_up_then : {A : Type 0} (old mid new : State) (P : Holdings → A → Type 0) (a : A) (fault : Fault) → IsFoundIn old mid P a → AskFails mid new fault → AskFails old new fault
 gives_up_then old mid new P a (Store fault) one two = fails_then old mid new P a fault one two
 gives_up_then old mid new P a Memory one two = keeps_then old mid new one.keeps two
 
+pub asked_then : {A : Type 0} (old mid new : State) (P : Holdings → A → Type 0) (a : A) (fault : Fault) → CommitsNothing old mid → CommitsNothing mid new → HasCleanDisk mid
+    → IsFoundIn old mid P a → AskIsCaused mid new fault → AskIsCaused old new fault
+asked_then old mid new P a (Store fault) first second clean one two = caused_then old mid new P a fault first second clean one two
+asked_then old mid new P a Memory first second clean one two = tt
+
 -- ---- two stores
+
+pub first_caused : (old new other_old other_new : State) (fault : Fault) → AskIsCaused old new fault → AskOfBothIsCaused old new other_old other_new fault
+first_caused old new other_old other_new (Store fault) is = λ e one others store stores. inl (is e one store)
+first_caused old new other_old other_new Memory is = tt
+
+pub other_caused : (old new other_old other_new : State) (fault : Fault) → AskIsCaused other_old other_new fault → AskOfBothIsCaused old new other_old other_new fault
+other_caused old new other_old other_new (Store fault) is = λ e one others store stores. inr (is e others stores)
+other_caused old new other_old other_new Memory is = tt
 
 -- the first fails, and the other was not asked
 pub first_fails : (old new other : State) (fault : Fault) → AskFails old new fault → AskOfBothFails old new other other fault

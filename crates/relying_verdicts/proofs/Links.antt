@@ -1,4 +1,4 @@
--- What bears on the certificates of a path, as far as they were looked at.
+-- What bears on the certificates of a path that were looked at.
 use Rattle.std.proofs.Common.{◌≡◌, ℕ, suc, ◌+◌, ◌<◌, ◌≤◌, List, [], ◌∷◌, ◌++◌, map, length, drop, get_or, arith, refl, sym, ap, ◌∙◌, append_assoc}
 use Rattle.std.proofs.lemmas.List.{map-append}
 use Rattle.cert.specs.Certificate.{Certificate, seen_certificate}

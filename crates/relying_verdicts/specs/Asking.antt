@@ -1,15 +1,16 @@
 -- What a call does that looks up in stores, inside their transactions, and may also want memory.
-use Rattle.std.specs.Prelude.{◌≡◌, Bool, Result, Ok, Err, IsTrue}
+use Rattle.std.specs.Prelude.{◌≡◌, ◌⊎◌, ⊤, Bool, Result, Ok, Err, IfErr, IsTrue}
 use Rattle.sqlite.specs.State.{State, HasCleanDisk, KeepsCommit}
 use Rattle.sqlite.specs.declared.transaction.Transaction.{Transaction}
 use Rattle.sqlite_trees.specs.declared.store.Store.{Ghosts}
 use Rattle.statements_facts.specs.Statement.{Holdings}
 use Rattle.store_sql.specs.declared.fault.StoreFault.{StoreFault}
 use Rattle.store_sql.specs.declared.fault.StoreFault.TheVariants as table
+use Rattle.store_sql.specs.Cause.{MayRefuse}
 use Rattle.store_sql.specs.Inside.{inside}
 use Rattle.store_rows.specs.Steps.{Stays}
 use Rattle.store_maps.specs.Held.{IsStoreOf}
-use Rattle.store_maps.specs.LooksUp.{IsFoundIn, FailsIn}
+use Rattle.store_maps.specs.LooksUp.{IsFoundIn, FailsIn, IsCausedOverStore}
 use Rattle.path.specs.Query.{Query, Accepts}
 use Rattle.path.specs.Validity.{IsFirstFailure}
 use Rattle.relying_agreement.specs.declared.verdict.Verdict.{Verdict}
@@ -32,6 +33,14 @@ HasAsked old new Is (Err fault) = AskFails old new fault
 -- the same of a call on a transaction, if the disk returned what was written
 abbrev pub AsksStore : {S A : Type 0} → Ghosts S → Transaction S → Transaction S → (Holdings → A → Type 0) → Result A Fault → Type 0
 AsksStore g old new Is result = HasCleanDisk (inside g new) → HasAsked (inside g old) (inside g new) Is result
+
+-- over a store a fault of the database has a cause
+abbrev pub AskIsCaused : State → State → Fault → Type 0
+AskIsCaused old new (Store fault) = IsCausedOverStore old new fault
+AskIsCaused old new Memory = ⊤
+
+abbrev pub AsksForCause : {S A : Type 0} → Ghosts S → Transaction S → Transaction S → Result A Fault → Type 0
+AsksForCause g old new result = HasCleanDisk (inside g new) → IfErr result (AskIsCaused (inside g old) (inside g new))
 
 -- ---- of two stores
 
@@ -63,6 +72,18 @@ abbrev pub AsksStores : {S D A : Type 0} → Ghosts S → Transaction S → Tran
 AsksStores g old new h other_old other_new Is result =
     HasCleanDisk (inside g new) → HasCleanDisk (inside h other_new) →
     HasAskedBoth (inside g old) (inside g new) (inside h other_old) (inside h other_new) Is result
+
+-- over two stores a fault of a database has a cause in one of them
+abbrev pub AskOfBothIsCaused : State → State → State → State → Fault → Type 0
+AskOfBothIsCaused old new other_old other_new (Store fault) =
+    fault ≡ table.Store → (one other : Holdings) → IsStoreOf old.now one → IsStoreOf other_old.now other →
+    MayRefuse old new ⊎ MayRefuse other_old other_new
+AskOfBothIsCaused old new other_old other_new Memory = ⊤
+
+abbrev pub AsksBothForCause : {S D A : Type 0} → Ghosts S → Transaction S → Transaction S → Ghosts D → Transaction D → Transaction D → Result A Fault → Type 0
+AsksBothForCause g old new h other_old other_new result =
+    HasCleanDisk (inside g new) → HasCleanDisk (inside h other_new) →
+    IfErr result (AskOfBothIsCaused (inside g old) (inside g new) (inside h other_old) (inside h other_new))
 
 -- ---- whether a connection was open
 

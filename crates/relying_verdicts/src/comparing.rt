@@ -6,7 +6,7 @@ ghost use Rattle.store_rows.specs.Seen.{seen_held_status};
 ghost use Rattle.store_sql.specs.Inside.{IsInTransaction, KeepsReference, inside};
 ghost use Rattle.store_sql.specs.Statements.{CommitsNothing};
 ghost use Rattle.relying_agreement.specs.Comparison.{IsComparison};
-ghost use Rattle.relying_verdicts.specs.Asking.{AreAskedOpen, AreInvalidOrOpen, AsksStores};
+ghost use Rattle.relying_verdicts.specs.Asking.{AreAskedOpen, AreInvalidOrOpen, AsksStores, AsksBothForCause};
 ghost use Rattle.relying_verdicts.specs.Difference.{ComparesEvidence, IsFirstApart};
 ghost use Rattle.relying_verdicts.specs.Found.{ComparesHeld};
 ghost use Rattle.relying_verdicts.specs.View.{seen_answers, seen_evidence, seen_query};
@@ -133,6 +133,7 @@ fn compare_held<S: Alter, D: Alter>(
     ensures other_reference { KeepsReference other.old other.new }
     ensures asks { AsksStores S.Store one.old one.new D.Store other.old other.new
         (ComparesHeld (seen_query query.now)) result }
+    ensures caused { AsksBothForCause S.Store one.old one.new D.Store other.old other.new result }
     ensures open { HasCleanDisk (inside S.Store one.new) → HasCleanDisk (inside D.Store other.new)
         → query.now.path.items ≢ []
         → IfOk result (AreAskedOpen (inside S.Store one.old).is_open
@@ -165,6 +166,7 @@ pub fn compare<V: Verifier, S: Alter, D: Alter>(
     ensures other_reference { KeepsReference other.old other.new }
     ensures asks { AsksStores S.Store one.old one.new D.Store other.old other.new
         (IsComparison (V.accepts verifier.now) (seen_query query.now)) result }
+    ensures caused { AsksBothForCause S.Store one.old one.new D.Store other.old other.new result }
     ensures open { HasCleanDisk (inside S.Store one.new) → HasCleanDisk (inside D.Store other.new)
         → IfOk result (AreInvalidOrOpen (V.accepts verifier.now) (seen_query query.now)
         (inside S.Store one.old).is_open (inside D.Store other.old).is_open) }

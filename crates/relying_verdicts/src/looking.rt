@@ -6,11 +6,11 @@ ghost use Rattle.cert.specs.Certificate.{seen_certificate};
 ghost use Rattle.statements_facts.specs.Fact.{issuer_of as seen_issuer};
 ghost use Rattle.store_sql.specs.Inside.{IsInTransaction, KeepsReference, SucceedsOnlyIfOpen, inside};
 ghost use Rattle.store_sql.specs.Statements.{CommitsNothing};
-ghost use Rattle.store_maps.specs.LooksUp.{LooksUpInside};
+ghost use Rattle.store_maps.specs.LooksUp.{LooksUpInside, CausedOverStore};
 ghost use Rattle.relying_agreement.specs.Link.{own_scope};
 ghost use Rattle.relying_agreement.specs.Status.{may_sign_crls, evidence_of};
 ghost use Rattle.relying_agreement.specs.Verdict.{evidence_on};
-ghost use Rattle.relying_verdicts.specs.Asking.{AsksStore};
+ghost use Rattle.relying_verdicts.specs.Asking.{AsksStore, AsksForCause};
 ghost use Rattle.relying_verdicts.specs.Found.{AreAnswersOn};
 ghost use Rattle.relying_verdicts.specs.View.{seen_evidence, seen_link, seen_query};
 
@@ -76,6 +76,7 @@ fn look_up<S: Alter>(
     ensures same_reference { KeepsReference tx.old tx.new }
     ensures looks_up { LooksUpInside S.Store tx.old tx.new
         (AreAnswersOn (seen_issuer issuer.now) (seen_certificate certificate.now)) result }
+    ensures caused { CausedOverStore S.Store tx.old tx.new result }
     ensures open { SucceedsOnlyIfOpen S.Store tx.old tx.new result }
     ensures survives { CommitsNothing (inside S.Store tx.old) (inside S.Store tx.new) }
 {
@@ -98,6 +99,7 @@ fn evidence_of<S: Alter>(
     ensures same_reference { KeepsReference tx.old tx.new }
     ensures asks { AsksStore S.Store tx.old tx.new
         (λ held it. seen_evidence it ≡ evidence_of held (seen_link link.now)) result }
+    ensures caused { AsksForCause S.Store tx.old tx.new result }
     ensures open { SucceedsOnlyIfOpen S.Store tx.old tx.new result }
     ensures survives { CommitsNothing (inside S.Store tx.old) (inside S.Store tx.new) }
 {
@@ -126,6 +128,7 @@ pub(crate) fn evidence_on<S: Alter>(
     ensures count { IfOk result (λ all. vec_len all ≡ vec_len query.now.path) }
     ensures asks { AsksStore S.Store tx.old tx.new
         (λ held all. map seen_evidence all.items ≡ evidence_on held (seen_query query.now)) result }
+    ensures caused { AsksForCause S.Store tx.old tx.new result }
     ensures open { HasCleanDisk (inside S.Store tx.new)
         → IfOk result (λ all. all.items ≢ [] → IsTrue (inside S.Store tx.old).is_open) }
     ensures survives { CommitsNothing (inside S.Store tx.old) (inside S.Store tx.new) }

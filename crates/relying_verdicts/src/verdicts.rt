@@ -6,7 +6,7 @@ ghost use Rattle.store_sql.specs.Statements.{CommitsNothing};
 ghost use Rattle.sqlite.specs.State.{HasCleanDisk};
 ghost use Rattle.path.specs.Validity.{IsOutcome};
 ghost use Rattle.relying_agreement.specs.Verdict.{IsVerdict, verdict_by};
-ghost use Rattle.relying_verdicts.specs.Asking.{AsksStore, IsInvalidOrOpen};
+ghost use Rattle.relying_verdicts.specs.Asking.{AsksStore, AsksForCause, IsInvalidOrOpen};
 ghost use Rattle.relying_verdicts.specs.View.{seen_evidence, seen_query};
 
 use crate::evidence::{Evidence, verdict_by};
@@ -51,6 +51,7 @@ pub fn verdict<V: Verifier, S: Alter>(
     ensures same_reference { KeepsReference tx.old tx.new }
     ensures asks { AsksStore S.Store tx.old tx.new
         (IsVerdict (V.accepts verifier.now) (seen_query query.now)) result }
+    ensures caused { AsksForCause S.Store tx.old tx.new result }
     ensures open { HasCleanDisk (inside S.Store tx.new)
         → IfOk result (IsInvalidOrOpen (V.accepts verifier.now) (seen_query query.now)
         (inside S.Store tx.old).is_open) }

@@ -2,12 +2,13 @@
 use Rattle.std.proofs.Common.{◌≡◌, true, subst, inr}
 use Rattle.sqlite.specs.Store.{Ghosts}
 use Rattle.sqlite.specs.Held.{Held, state}
-use Rattle.sqlite.specs.State.{State, KeepsCommit, IsRolledBack}
+use Rattle.sqlite.specs.State.{State, KeepsCommit, IsRolledBack, Survives}
 use Rattle.sqlite.proofs.InsideLemmas.{unchanged_keeps, keeps_then}
 use Rattle.statements_facts.specs.Statement.{Holdings}
 use Rattle.store_sql.specs.declared.fault.StoreFault.{StoreFault}
+use Rattle.store_sql.proofs.Laws.{sooner_refuses}
 use Rattle.store_maps.specs.Held.{IsStoreOf}
-use Rattle.store_maps.specs.LooksUp.{FailsIn, IsFoundIn}
+use Rattle.store_maps.specs.LooksUp.{FailsIn, IsCausedOverStore, IsFoundIn}
 
 pub fails_at : {S : Type 0} (g : Ghosts S) (old begun : Held S) (last new : State) (fault : StoreFault) → begun ≡ record old { in_transaction = true } → FailsIn (state g begun) last fault → IsRolledBack last new
     → KeepsCommit (state g old) new × (fault ≡ StoreFault.Schema → (held : Holdings) → IsStoreOf (state g old).now held → ⊥)
@@ -21,3 +22,9 @@ pub found_at : {S A : Type 0} (g : Ghosts S) (old begun : Held S) (last new : St
 found_at g old begun last new Is found is looks undone =
     let h = subst (λ b. IsFoundIn (state g b) last Is found) is looks in
     (keeps_then (state g old) last new (record { was_open = h.keeps.was_open; committed = h.keeps.committed }) (unchanged_keeps last new (inr undone)), λ held it. (h.held held it).1)
+
+-- the cause of a fault inside the transaction is one of the whole
+pub caused_at : {S : Type 0} (g : Ghosts S) (old begun : Held S) (last new : State) (fault : StoreFault) → begun ≡ record old { in_transaction = true } → IsCausedOverStore (state g begun) last fault
+    → Survives last new (λ _. ⊥) → IsCausedOverStore (state g old) new fault
+caused_at g old begun last new fault is h later e held store =
+    sooner_refuses (state g old) last new (λ _. ⊥) later (subst (λ b. IsCausedOverStore (state g b) last fault) is h e held store)

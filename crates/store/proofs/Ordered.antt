@@ -1,6 +1,7 @@
 -- The rows of each table of an open connection over files stand in the order of their ids.
-use Rattle.std.proofs.Common.{◌≡◌, List, [], ◌∷◌, IsTrue, sym, ap, subst}
+use Rattle.std.proofs.Common.{◌≡◌, List, [], ◌∷◌, IsTrue, sym, ap, subst, inl, inr}
 use Rattle.std.proofs.Math.Logic.{∥∥₁_elim}
+use Rattle.std.proofs.lemmas.Bool.{cases_Bool}
 use Rattle.std.specs.List.{AllByRecursion}
 use Rattle.sqlite_disk.specs.declared.Disk.{Ghosts}
 use Rattle.sqlite_wal.proofs.StateLemmas.{clean_of}
@@ -19,12 +20,16 @@ use Rattle.sqlite_store.specs.FileStore.{state, view, schema_of}
 use Rattle.sqlite_store.proofs.ListingLemmas.{all_ordered}
 use Rattle.sqlite.specs.Effect.{Database, IsDatabase}
 use Rattle.sqlite.specs.Held.{Held}
+use Rattle.sqlite.specs.State.{State, IsLive}
+use Rattle.store_sql.specs.declared.fault.StoreFault.{StoreFault}
+use Rattle.store_adoption.specs.Creates.{IsSettled}
+use Rattle.store.specs.Adopts.{AdoptIsCaused}
 use Rattle.sqlite.specs.Files.{file_state}
 use Rattle.sqlite.specs.Schema.{Schema}
 use Rattle.store_sql.specs.declared.origin.Origin.{Origin}
 use Rattle.store_sql.specs.declared.origin.Origin.TheVariants.{Made, Migrated}
 use Rattle.store_sql.specs.Tables.{version_1_schema, store_schema}
-use Rattle.store_adoption.specs.Inspects.{TablesAreInOrder, InOrder, InOrderOfVersion1}
+use Rattle.store_adoption.specs.Inspects.{CheckIsCaused, TablesAreInOrder, InOrder, InOrderOfVersion1}
 
 module _ {D : Type 0} {g : Ghosts D} (it : FileStore D g) (is_open : IsTrue (view it).is_open) where
   committed_ordered : IsOrdered (all_shapes (kept_schema it.saved (schema_of it))) (view it).committed
@@ -62,3 +67,11 @@ open_in_order h is_open settled sound = record {
   version_1 = λ has. of_version_1 (file_state h).now has (all_in_order h is_open settled sound);
   version_2 = λ origin has. of_tables origin (file_state h).now has (all_in_order h is_open settled sound);
 }
+
+-- the fault of a reading has a cause, also if the connection is shut
+pub adoption_caused : {D : Type 0} {g : Ghosts D} (h : Held (FileStore D g)) (new : State) (fault : StoreFault) → IsSettled (file_state h) → IsLive (file_state h) → CheckIsCaused (file_state h) new fault
+    → AdoptIsCaused (file_state h) new fault
+adoption_caused h new fault settled live caused e = elim (cases_Bool (file_state h).is_open) [
+  | inl up ↦ caused e (open_in_order h up (settled up) (live up).0)
+  | inr shut ↦ inl (inl shut)
+]

@@ -1,5 +1,5 @@
 -- What the calls of a store say of the database outside a transaction.
-use Rattle.std.specs.Prelude.{◌≡◌, ◌≢◌, ◌⊎◌, Result, Ok, Err, IsTrue}
+use Rattle.std.specs.Prelude.{◌≡◌, ◌≢◌, ◌⊎◌, Result, Ok, Err, IfErr, IsTrue}
 use Rattle.sqlite.specs.Effect.{Database}
 use Rattle.sqlite.specs.State.{State, HasCleanDisk, IsUnchanged, KeepsCommit, Survives}
 use Rattle.sqlite_disk.specs.declared.Disk.{Ghosts}
@@ -13,18 +13,24 @@ use Rattle.statements_facts.specs.declared.counts.Counts.{Counts}
 use Rattle.statements_facts.specs.declared.fact.Facts.{Facts}
 use Rattle.statements_facts.specs.Statement.{Holdings, empty_holdings}
 use Rattle.store_sql.specs.declared.fault.StoreFault.{StoreFault}
-use Rattle.store_sql.specs.declared.fault.StoreFault.TheVariants.{Schema}
+use Rattle.store_sql.specs.declared.fault.StoreFault.TheVariants.{Store, Schema}
+use Rattle.store_sql.specs.Cause.{MayRefuse}
 use Rattle.store_maps.specs.Held.{IsStoreOf, AreTreesOf}
+use Rattle.store_maps.specs.LooksUp.{IsCausedOverStore}
 use Rattle.sqlite_trees.specs.Tree.{Trees}
 use Rattle.store_taking.specs.Delivery.{PutsFacts, AllOrNothing}
 use Rattle.store_adoption.specs.Creates.{IsCreated, MayLeaveEmptyStore}
-use Rattle.store_adoption.specs.Inspects.{IsStore, TablesAreInOrder}
+use Rattle.store_adoption.specs.Inspects.{HasTooMany, IsStore, TablesAreInOrder, LacksVersion1, LacksVersion2}
 use Rattle.store_adoption.specs.Version1.{IsVersion1Of, IsVersion1}
 
 -- nothing changes and the database is a store; or a fault, which is for the tables and rows only where it is none
 abbrev pub Adopts : {A : Type 0} → State → State → Result A StoreFault → Type 0
 Adopts old new (Ok done) = IsUnchanged old new × IsStore new.now
 Adopts old new (Err fault) = KeepsCommit old new × (fault ≡ Schema → (held : Holdings) → IsStoreOf old.now held → ⊥)
+
+-- the fault `Store` has a cause: the database may refuse, or has more rows than are counted
+abbrev pub AdoptIsCaused : State → State → StoreFault → Type 0
+AdoptIsCaused old new fault = fault ≡ Store → MayRefuse old new ⊎ HasTooMany old.now
 
 -- It was a store, and nothing changes; or it was of version 1, and what that held is held by version 2. It is a store then.
 pub record IsTakenOver (old new : State) : Type 0 where
@@ -47,6 +53,10 @@ TakesOverOrdered old new (Err fault) = KeepsCommit old new × (fault ≡ Schema 
 
 abbrev pub TakesOverInOrder : {A : Type 0} → State → State → Result A StoreFault → Type 0
 TakesOverInOrder old new result = HasCleanDisk new → TakesOverOrdered old new result
+
+-- the tables are those of neither version
+abbrev pub HasOtherTables : Database → Type 0
+HasOtherTables db = LacksVersion2 db × LacksVersion1 db
 
 -- the database is a store of neither version
 abbrev pub IsNoStore : Database → Type 0
@@ -71,6 +81,10 @@ FindsOrFails Kept db Is (Err fault) = Kept × (fault ≡ Schema → (held : Hold
 -- if the disk has returned what was written
 abbrev pub FindsHeld : {A : Type 0} → (State → State → Type 0) → State → State → (Holdings → A → Type 0) → Result A StoreFault → Type 0
 FindsHeld Keeps old new Is result = HasCleanDisk new → FindsOrFails (Keeps old new) old.now Is result
+
+-- over a store the fault `Store` has a cause, if the disk has returned what was written
+abbrev pub CausedOn : {A : Type 0} → State → State → Result A StoreFault → Type 0
+CausedOn old new result = HasCleanDisk new → IfErr result (IsCausedOverStore old new)
 
 -- a connection that was opened on the files that a close gave back is the same store
 abbrev pub Reopens : {D : Type 0} {g : Ghosts D} → Held (FileStore D g) → Files D → Type 0
@@ -97,6 +111,16 @@ pub record Restarts (old new : State) : Type 0 where
 module _ {D : Type 0} {g : Ghosts D} (old new : Held (FileStore D g)) where
   abbrev pub AdoptsOn : {A : Type 0} → Result A StoreFault → Type 0
   AdoptsOn result = HasCleanDisk (file_state new) → Adopts (file_state old) (file_state new) result
+
+  abbrev pub AdoptsForCause : {A : Type 0} → Result A StoreFault → Type 0
+  AdoptsForCause result = HasCleanDisk (file_state new) → IfErr result (AdoptIsCaused (file_state old) (file_state new))
+
+  -- the same where nothing is migrated
+  abbrev pub TakesOverForCause : {A : Type 0} → Result A StoreFault → Type 0
+  TakesOverForCause result = HasCleanDisk (file_state new) → LacksVersion1 (file_state old).now → IfErr result (AdoptIsCaused (file_state old) (file_state new))
+
+  abbrev pub IsRefusedForCause : StoreFault → Type 0
+  IsRefusedForCause fault = HasCleanDisk (file_state new) → LacksVersion1 (file_state old).now → AdoptIsCaused (file_state old) (file_state new) fault
 
   abbrev pub TakesOverOn : {A : Type 0} → Result A StoreFault → Type 0
   TakesOverOn result = HasCleanDisk (file_state new) → TakesOver (file_state old) (file_state new) result

@@ -1,11 +1,15 @@
 -- Why no store is opened or made at a path, or opened again, and what is left then.
-use Rattle.std.specs.Prelude.{◌≡◌, ◌≢◌, IsTrue}
+use Rattle.std.specs.Prelude.{◌≡◌, ◌≢◌, ⊤, IsTrue}
 use Rattle.sqlite_disk.specs.declared.Disk.{Ghosts}
 use Rattle.sqlite_disk.specs.declared.Files.{Files}
 use Rattle.sqlite_store.specs.declared.store.FileStore.{FileStore}
 use Rattle.sqlite.specs.Held.{Held}
-use Rattle.sqlite.specs.Files.{IsCleanLeft, IsClosed, LeavesFiles, file_state}
+use Rattle.sqlite.specs.Files.{FailsToClose, FailsToOpenFiles, IsCleanLeft, IsClosed, LeavesFiles, file_state}
 use Rattle.sqlite.specs.State.{HasCleanDisk}
+use Rattle.sqlite.specs.declared.error.Error.{Error}
+use Rattle.sqlite_store.specs.FileStore.{view}
+use Rattle.sqlite_trees.specs.View.{IsClean}
+use Rattle.store_sql.specs.Fault.{fault_from}
 use Rattle.sqlite.specs.declared.file.Leftover.{Leftover}
 use Rattle.statements_facts.specs.Statement.{Holdings}
 use Rattle.store_sql.specs.declared.fault.StoreFault.{StoreFault}
@@ -56,6 +60,19 @@ abbrev pub StillHolds : {D : Type 0} {g : Ghosts D} → Held (FileStore D g) →
 StillHolds old refused =
     HasCleanDisk (file_state refused.conn) → (held : Holdings) → IsStoreOf (file_state old).now held →
     (refused.fault ≢ Schema) × (IsTrue (file_state refused.conn).is_open → IsStoreOf (file_state refused.conn).now held)
+
+-- why files are not closed, and why they are not opened: the fault is that of an error with such a cause
+abbrev pub ClosesForCause : {D : Type 0} {g : Ghosts D} → Held (FileStore D g) → FileStore D g → StoreFault → Type 0
+ClosesForCause old last fault = IsClean (view last) → (error : Error) × (fault ≡ fault_from error) × FailsToClose old last error
+
+abbrev pub OpensForCause : {D : Type 0} {g : Ghosts D} → Files D → Leftover D g → StoreFault → Type 0
+OpensForCause files left fault = IsCleanLeft left → (error : Error) × (fault ≡ fault_from error) × FailsToOpenFiles files left error
+
+-- of a store that is closed and not opened again
+abbrev pub ReopensForCause : {D : Type 0} {g : Ghosts D} → Held (FileStore D g) → ReopenFault D g → Type 0
+ReopensForCause old (Close fault left) = ClosesForCause old left fault
+ReopensForCause {D} old (Open fault left) = (files : Files D) × CopiesTo old files × OpensForCause files left fault
+ReopensForCause old (Adopt refused) = ⊤
 
 -- What is left of a store that is not taken for one again.
 abbrev pub FailsToReopen : {D : Type 0} {g : Ghosts D} → Held (FileStore D g) → ReopenFault D g → Type 0

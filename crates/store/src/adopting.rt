@@ -1,14 +1,14 @@
 //! A database that is taken for a store.
 
-ghost use Rattle.std.specs.Prelude.{◌≡◌, false, OnOk};
+ghost use Rattle.std.specs.Prelude.{◌≡◌, false, IfErr, OnOk, Err};
 ghost use Rattle.sqlite.specs.Files.{file_state};
 ghost use Rattle.store_sql.specs.Statements.{CommitsNothing, IsDurable};
 ghost use Rattle.store_adoption.specs.Creates.{IsSettled};
-ghost use Rattle.store.specs.Adopts.{AdoptsOn, TakesOverOn, MayLeaveVersion2, TakesOverInOrder};
+ghost use Rattle.store.specs.Adopts.{AdoptsForCause, AdoptsOn, TakesOverForCause, HasOtherTables, TakesOverOn, MayLeaveVersion2, TakesOverInOrder};
 ghost use Rattle.store_migration.specs.Migrates.{MayLeaveMigrated};
-ghost use Rattle.sqlite.specs.State.{IsLive};
+ghost use Rattle.sqlite.specs.State.{HasCleanDisk, IsLive};
 ghost use Rattle.sqlite.specs.Held.{state};
-ghost use Rattle.store_adoption.specs.Inspects.{InspectsOn};
+ghost use Rattle.store_adoption.specs.Inspects.{CheckIsCaused, ChecksForCause, InspectsOn, LacksVersion1, LacksVersion2};
 
 use sqlite::{Alter, Connection, FileStore};
 use sqlite_disk::Disk;
@@ -23,7 +23,9 @@ fn inspect_live<S: Alter>(conn: &mut Connection<S>) -> Result<(), StoreFault>
     requires idle { conn.old.in_transaction ≡ false }
     ensures idle { conn.new.in_transaction ≡ false }
     ensures live { IsLive (state S.Store conn.old) }
+    ensures tables { LacksVersion2 (state S.Store conn.old).now → result ≡ Err StoreFault.Schema }
     ensures inspects { InspectsOn S.Store conn.old conn.new result }
+    ensures caused { ChecksForCause S.Store conn.old conn.new result }
     ensures settled { IsSettled (state S.Store conn.old) × IsSettled (state S.Store conn.new) }
     ensures durable { IsDurable (state S.Store conn.new) }
     ensures survives { CommitsNothing (state S.Store conn.old) (state S.Store conn.new) }
@@ -37,7 +39,9 @@ fn inspect_live<S: Alter>(conn: &mut Connection<S>) -> Result<(), StoreFault>
 pub fn adopt<D: Disk + Drop>(conn: &mut Connection<FileStore<D>>) -> Result<(), StoreFault>
     requires idle { conn.old.in_transaction ≡ false }
     ensures idle { conn.new.in_transaction ≡ false }
+    ensures tables { LacksVersion2 (file_state conn.old).now → result ≡ Err StoreFault.Schema }
     ensures adopts { AdoptsOn conn.old conn.new result }
+    ensures caused { AdoptsForCause conn.old conn.new result }
     ensures settled { IsSettled (file_state conn.old) × IsSettled (file_state conn.new) }
     ensures durable { IsDurable (file_state conn.new) }
     ensures survives { CommitsNothing (file_state conn.old) (file_state conn.new) }
@@ -53,7 +57,11 @@ fn migrate_or_inspect<S: Alter>(alloc: Global, conn: &mut Connection<S>) -> Resu
     requires idle { conn.old.in_transaction ≡ false }
     ensures idle { conn.new.in_transaction ≡ false }
     ensures live { IsLive (state S.Store conn.old) }
+    ensures tables { HasOtherTables (state S.Store conn.old).now → result ≡ Err StoreFault.Schema }
     ensures takes { TakesOverInOrder (state S.Store conn.old) (state S.Store conn.new) result }
+    ensures caused { HasCleanDisk (state S.Store conn.new)
+        → LacksVersion1 (state S.Store conn.old).now
+        → IfErr result (CheckIsCaused (state S.Store conn.old) (state S.Store conn.new)) }
     ensures settled { IsSettled (state S.Store conn.old) × IsSettled (state S.Store conn.new) }
     ensures durable { IsDurable (state S.Store conn.new) }
     ensures crash { MayLeaveMigrated (state S.Store conn.old) (state S.Store conn.new) }
@@ -79,7 +87,9 @@ pub fn take_over<D: Disk + Drop>(
 ) -> Result<(), StoreFault>
     requires idle { conn.old.in_transaction ≡ false }
     ensures idle { conn.new.in_transaction ≡ false }
+    ensures tables { HasOtherTables (file_state conn.old).now → result ≡ Err StoreFault.Schema }
     ensures takes { TakesOverOn conn.old conn.new result }
+    ensures caused { TakesOverForCause conn.old conn.new result }
     ensures settled { IsSettled (file_state conn.old) × IsSettled (file_state conn.new) }
     ensures durable { IsDurable (file_state conn.new) }
     ensures crash { MayLeaveMigrated (file_state conn.old) (file_state conn.new) }

@@ -1,12 +1,12 @@
 //! A store over files.
 
-ghost use Rattle.std.specs.Prelude.{◌≡◌, ◌≢◌, false, IfErr, IfOk};
+ghost use Rattle.std.specs.Prelude.{◌≡◌, ◌≢◌, false, IfErr, IfOk, OnOk};
 ghost use Rattle.sqlite.specs.Files.{IsClosed, file_state};
 ghost use Rattle.statements_facts.specs.Fact.{issuer_of};
 ghost use Rattle.store_sql.specs.Statements.{CommitsNothing, IsDurable};
-ghost use Rattle.store_adoption.specs.Creates.{IsSettled};
-ghost use Rattle.store.specs.Adopts.{Reopens, MayLeaveVersion2, IsCreatedOn, IsEmptyStoreOn, IsNotAdoptedOn, IsNotCreatedOn, IsOpenOn, MayLeaveEmpty, WasStoreOn, KeepsStoreOn, MigratesStoreOn, IsStoreOn, PutsOn, AllOrNothingOn, FindsHeldOn, AreUsable, CopiesTo, RestartsOn};
-ghost use Rattle.store.specs.Opens.{FailsToReopen, reopen_fault};
+ghost use Rattle.store_adoption.specs.Creates.{IsSettled, HasTables};
+ghost use Rattle.store.specs.Adopts.{CausedOn, IsRefusedForCause, Reopens, HasOtherTables, MayLeaveVersion2, IsCreatedOn, IsEmptyStoreOn, IsNotAdoptedOn, IsNotCreatedOn, IsOpenOn, MayLeaveEmpty, WasStoreOn, KeepsStoreOn, MigratesStoreOn, IsStoreOn, PutsOn, AllOrNothingOn, FindsHeldOn, AreUsable, CopiesTo, RestartsOn};
+ghost use Rattle.store.specs.Opens.{ClosesForCause, FailsToReopen, ReopensForCause, reopen_fault};
 ghost use Rattle.store_migration.specs.Migrates.{MayLeaveMigrated};
 ghost use Rattle.store_maps.specs.Held.{IsCrlHeld, IsOcspHeld};
 
@@ -58,6 +58,9 @@ impl<D: Disk + Drop> Store<D> {
         ensures is_open { IfOk result (λ store. IsOpenOn store.conn) }
         ensures durable { IfOk result (λ store. IsDurable (file_state store.conn)) }
         ensures crash { IfOk result (λ store. MayLeaveEmpty conn store.conn) }
+        ensures free { OnOk result (HasTables (file_state conn).now → ⊥) }
+        ensures tables { IfErr result (λ refused.
+            HasTables (file_state conn).now → refused.fault ≡ StoreFault.Store) }
         ensures refused { IfErr result (λ refused. IsNotCreatedOn conn refused.conn refused.fault) }
         ensures refused_durable { IfErr result (λ refused. IsDurable (file_state refused.conn)) }
         ensures refused_crash { IfErr result (λ refused. MayLeaveEmpty conn refused.conn) }
@@ -80,6 +83,11 @@ impl<D: Disk + Drop> Store<D> {
         ensures settled { IfOk result (λ store. IsSettled (file_state store.conn)) }
         ensures durable { IfOk result (λ store. IsDurable (file_state store.conn)) }
         ensures crash { IfOk result (λ store. MayLeaveVersion2 conn store.conn) }
+        ensures ours { OnOk result (HasOtherTables (file_state conn).now → ⊥) }
+        ensures tables { IfErr result (λ refused.
+            HasOtherTables (file_state conn).now → refused.fault ≡ StoreFault.Schema) }
+        ensures caused { IfErr result (λ refused.
+            IsRefusedForCause conn refused.conn refused.fault) }
         ensures refused { IfErr result (λ refused. IsNotAdoptedOn conn refused.conn refused.fault) }
         ensures refused_durable { IfErr result (λ refused. IsDurable (file_state refused.conn)) }
         ensures refused_crash { IfErr result (λ refused.
@@ -112,6 +120,7 @@ impl<D: Disk + Drop> Store<D> {
     ) -> Result<Option<HeldCrl>, StoreFault>
         ensures looks_up { FindsHeldOn self.old.conn self.new.conn
             (IsCrlHeld (issuer_of issuer.now) scope serial.now) result }
+        ensures caused { CausedOn (file_state self.old.conn) (file_state self.new.conn) result }
         ensures durable { IsDurable (file_state self.new.conn) }
         ensures survives { CommitsNothing (file_state self.old.conn) (file_state self.new.conn) }
     {
@@ -128,6 +137,7 @@ impl<D: Disk + Drop> Store<D> {
     ) -> Result<Option<HeldStatus>, StoreFault>
         ensures looks_up { FindsHeldOn self.old.conn self.new.conn
             (IsOcspHeld (issuer_of issuer.now) name_hash.now serial.now) result }
+        ensures caused { CausedOn (file_state self.old.conn) (file_state self.new.conn) result }
         ensures durable { IsDurable (file_state self.new.conn) }
         ensures survives { CommitsNothing (file_state self.old.conn) (file_state self.new.conn) }
     {
@@ -141,6 +151,7 @@ impl<D: Disk + Drop> Store<D> {
         ensures copied { IfOk result (CopiesTo self.conn) }
         ensures reopens { IfOk result (Reopens self.conn) }
         ensures fault { IfErr result (λ failed. failed.0 ≢ StoreFault.Schema) }
+        ensures cause { IfErr result (λ failed. ClosesForCause self.conn failed.1 failed.0) }
         ensures left { IfErr result (λ failed. IsClosed self.conn failed.1) }
     {
         let Store { conn } = self;
@@ -155,6 +166,7 @@ impl<D: Disk + Drop> Store<D> {
     pub fn reopen(self, alloc: Global) -> Result<Store<D>, ReopenFault<D>>
         ensures restarts { IfOk result (λ store. RestartsOn self.conn store.conn) }
         ensures durable { IfOk result (λ store. IsDurable (file_state store.conn)) }
+        ensures cause { IfErr result (ReopensForCause self.conn) }
         ensures fails { IfErr result (FailsToReopen self.conn) }
     {
         let mut conn = match self.into_files() {

@@ -3,6 +3,7 @@
 ghost use Rattle.std.specs.Prelude.{◌≡◌, ◌≢◌, false, IfErr, IfOk, IsTrue};
 ghost use Rattle.sqlite.specs.Files.{Finds, IsCleanLeft, IsOpened, LeavesFiles, file_state};
 ghost use Rattle.sqlite.specs.State.{HasCleanDisk};
+ghost use Rattle.store.specs.Opens.{OpensForCause};
 
 use sqlite::{Connection, FileStore, Files, Leftover, Options};
 use sqlite_disk::Disk;
@@ -23,6 +24,7 @@ pub(crate) fn open_again<D: Disk + Drop>(
     ensures opened { IfOk result (λ conn. HasCleanDisk (file_state conn) → IsOpened conn) }
     ensures found { IfOk result (λ conn. HasCleanDisk (file_state conn) → Finds files conn) }
     ensures fault { IfErr result (λ failed. failed.0 ≢ StoreFault.Schema) }
+    ensures cause { IfErr result (λ failed. OpensForCause files failed.1 failed.0) }
     ensures unharmed { IfErr result (λ failed. IsCleanLeft failed.1 → LeavesFiles files failed.1) }
 {
     match Connection::open_files(alloc, files, Options::new(SEED)) {

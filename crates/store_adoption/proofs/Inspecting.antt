@@ -1,5 +1,5 @@
 -- From rows that are shown to what stands in the tables, and one test behind another.
-use Rattle.std.proofs.Common.{◌≡◌, ℕ, List, [], ◌∷◌, map, false, Result, Ok, Err, refl, sym, ap, ap₂, subst, ◌∙◌, inl}
+use Rattle.std.proofs.Common.{◌≡◌, ℕ, List, [], ◌∷◌, map, false, Result, Ok, Err, refl, sym, ap, ap₂, subst, ◌∙◌, inl, inr, ◌⊎◌, ◌++◌, suc, length, arith, length-append}
 use Rattle.sqlite.specs.Order.{Row}
 use Rattle.sqlite.specs.Tree.{IsTable}
 use Rattle.sqlite.specs.Term.{Term}
@@ -7,18 +7,23 @@ use Rattle.sqlite.specs.Schema.{Schema}
 use Rattle.sqlite.specs.Command.TheVariants.{Select}
 use Rattle.sqlite.specs.Effect.{Database}
 use Rattle.sqlite.specs.Listing.{understood, reads_listing}
-use Rattle.sqlite.specs.State.{State, IsUnchanged, KeepsCommit}
+use Rattle.sqlite.specs.State.{State, HasCleanDisk, IsUnchanged, KeepsCommit, Survives}
 use Rattle.sqlite.proofs.InsideLemmas.{unchanged_keeps, keeps_then}
 use Rattle.sqlite.proofs.Callers.{IsPlain, command_of, reads_as, begins_as, unchanged_then}
 use Rattle.store_sql.specs.declared.fault.StoreFault.{StoreFault}
-use Rattle.store_sql.proofs.Laws.{shown_as}
-use Rattle.store_adoption.specs.Tests.{AllPass, SomeFail, Tests}
-use Rattle.store_adoption.specs.Inspects.{TablesAreInOrder, Checks}
+use Rattle.store_sql.specs.Cause.{MayRefuse}
+use Rattle.store_sql.proofs.Laws.{later_refuses, shown_as}
+use Rattle.store_adoption.specs.Tests.{AllPass, IsStopped, SomeFail, Tests}
+use Rattle.store_adoption.specs.Inspects.{CheckIsCaused, HasTooMany, TablesAreInOrder, Checks}
 use Rattle.store_adoption.proofs.Ordered.{in_order_of_ids, ordered_whole, ordered_start}
 
 map_same : (f g : Row → Row) → ((r : Row) → f r ≡ g r) → (rows : List Row) → map f rows ≡ map g rows
 map_same f g same [] = refl
 map_same f g same (r ∷ rs) = ap₂ (λ a b. a ∷ b) (same r) (map_same f g same rs)
+
+length_map : (f : Row → Row) (rows : List Row) → length (map f rows) ≡ length rows
+length_map f [] = refl
+length_map f (r ∷ rs) = ap suc (length_map f rs)
 
 module _ (schema : Schema) (text : List ℕ) (tree : ℕ) (project : List Term) (names : List (List ℕ)) (show : Row → Row)
     (command : command_of (understood schema text) ≡ Select (record { lets = []; body = in_order_of_ids tree project }) names) (listing : reads_listing schema text ≡ false) (plain : IsPlain (understood schema text))
@@ -41,6 +46,22 @@ module _ (schema : Schema) (text : List ℕ) (tree : ℕ) (project : List Term) 
       → Tests old new text Passed Formed result → Checks old new (λ done db. Passed (map show (db.trees tree))) (λ db. Formed (map show (db.trees tree))) result
   checked old new Passed Formed (Ok done) has rising all = (all.unchanged, λ ordered. passed_all old new Passed has all (rising ordered))
   checked old new Passed Formed (Err fault) has rising stops = (stops.keeps, λ ours ordered formed. let why = stops.why ours in failed_some old new Formed has why.0 why.1 (rising ordered) formed)
+
+  pub stopped : (old new : State) → old.now.schema ≡ schema → IsTable (old.now.trees tree) → IsStopped old new text → MayRefuse old new ⊎ HasTooMany old.now
+  stopped old new has rising (inl may) = inl may
+  stopped old new has rising (inr many) =
+      let same = many.0.0.now_is in
+      let first = begins_as text [] new new schema (ap (λ (d : Database). d.schema) same ∙ has) (Select (record { lets = []; body = in_order_of_ids tree project }) names) command plain listing many.1 many.2 in
+      let start = ordered_start tree project [] new.now many.1 (subst (λ (d : Database). IsTable (d.trees tree)) (sym same) rising) first.1 in
+      let count : length (many.1 ++ start.0) ≡ length (old.now.trees tree) = ap length start.1 ∙ length_map (shown_as project []) (new.now.trees tree) ∙ ap (λ (d : Database). length (d.trees tree)) same in
+      inr (tree, omega (arith, many.3, count, length-append many.1 start.0))
+
+-- the cause of the test behind one that has passed is one of both
+pub later_caused : (old mid new : State) (fault : StoreFault) → IsUnchanged old mid → Survives old mid (λ _. ⊥) → Survives mid new (λ _. ⊥) → HasCleanDisk mid → CheckIsCaused mid new fault → CheckIsCaused old new fault
+later_caused old mid new fault same first second clean h e ordered = elim (h e (subst TablesAreInOrder (sym same.0.now_is) ordered)) [
+  | inl may ↦ inl (later_refuses old mid new (λ _. ⊥) (λ _. ⊥) first second clean may)
+  | inr many ↦ inr (subst HasTooMany same.0.now_is many)
+]
 
 -- what is checked says less, or is asked of more
 pub checked_as : {A B : Type 0} (old new : State) (P : A → Database → Type 0) (P′ : B → Database → Type 0) (Q Q′ : Database → Type 0) (a : A) (b : B)

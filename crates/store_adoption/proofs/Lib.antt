@@ -2,6 +2,7 @@ mod Chained
 mod Cells
 mod Ordered
 mod Meaning
+mod Answered
 mod Testing
 mod Following
 mod Stores

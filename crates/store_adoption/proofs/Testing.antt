@@ -1,5 +1,5 @@
 -- Rows that a text shows, one after the other.
-use Rattle.std.proofs.Common.{◌≡◌, ◌≢◌, ◌⊎◌, ℕ, List, [], ◌∷◌, ◌++◌, Option, Some, None, Ok, IsTrue, refl, sym, subst, inl, inr, arith}
+use Rattle.std.proofs.Common.{◌≡◌, ◌≢◌, ◌⊎◌, ℕ, List, [], ◌∷◌, ◌++◌, Option, Some, None, Result, Ok, Err, IsTrue, refl, sym, ap, subst, ◌∙◌, inl, inr, arith, length, true≢false}
 use Rattle.std.proofs.lemmas.List.{append_assoc}
 use Rattle.sqlite.specs.Order.{Row}
 use Rattle.sqlite.specs.Effect.{Database}
@@ -12,7 +12,16 @@ use Rattle.sqlite.proofs.InsideLemmas.{unchanged_keeps}
 use Rattle.sqlite.proofs.StateLemmas.{survives_weaker}
 use Rattle.sqlite.proofs.Callers.{IsPlain, never_commits, unchanged_then}
 use Rattle.store_sql.specs.declared.fault.StoreFault.{StoreFault}
-use Rattle.store_adoption.specs.Tests.{AllPass, TestFails}
+use Rattle.sqlite_resolve.specs.declared.compiled.Compiled.{Compiled}
+use Rattle.sqlite_resolve.specs.declared.error.CompileError.{CompileError}
+use Rattle.sqlite.specs.Command.{Command}
+use Rattle.sqlite.specs.Command.TheVariants.{Select}
+use Rattle.sqlite.specs.Effect.{RefusesToRead}
+use Rattle.store_sql.specs.declared.fault.StoreFault.TheVariants.{Store}
+use Rattle.store_sql.specs.Cause.{MayRefuse}
+use Rattle.store_sql.specs.Fault.{fault_from}
+use Rattle.store_sql.proofs.Laws.{IsWhole, not_run_caused}
+use Rattle.store_adoption.specs.Tests.{AllPass, IsAnswered, IsServed, TestFails}
 
 pub unchanged_itself : (s : State) → IsTrue s.is_open → IsUnchanged s s
 unchanged_itself s live = (record { was_open = live; is_open = live; now_is = refl; committed_is = refl; mode = refl }, record { changes = refl; last_rowid = refl }, refl)
@@ -71,3 +80,28 @@ refused text old new rows row Formed fault same begins why = record {
   keeps = unchanged_keeps old new (inl same);
   why = λ ours. (same, record { rows = rows ++ row ∷ []; begins = begins; refused = λ later formed. why ours later (subst Formed (append_assoc rows (row ∷ []) later) formed) });
 }
+
+-- ---- why the text is refused
+
+served_caused : (old new : State) (db : Database) (command : Command) (error : Error) → IsServed db.schema command → RefusesToRead old.step_limit command db [] error → MayRefuse old new
+served_caused old new db (Select q names) error served (inl wrong) = absurd (true≢false (sym served.0 ∙ wrong.1))
+served_caused old new db (Select q names) error served (inr (inl over)) = absurd (served.1 db.trees over.1)
+served_caused old new db (Select q names) error served (inr (inr limited)) = inr (inr limited.1)
+served_caused old new db _ error served refused = absurd served
+
+pub asked_caused : (old new : State) (text : List ℕ) (error : Error) → IsAnswered old.now.schema text (understood old.now.schema text) → FailsToQuery text [] old new error → fault_from error ≡ Store → MayRefuse old new
+unfolding FailsToQuery
+asked_caused old new text error answered (inl refused) is = not_run_caused old new old.now.schema text [] error refl (plain _ answered) (whole _ answered) refused is
+  where
+    plain : (r : Result Compiled CompileError) → IsAnswered old.now.schema text r → IsPlain r
+    plain (Ok c) it = (it.3, it.4)
+    plain (Err e) it = it
+
+    whole : (r : Result Compiled CompileError) → IsAnswered old.now.schema text r → IsWhole text 0 r
+    whole (Ok c) it = (it.1, sym (ap length it.2))
+    whole (Err e) it = it
+asked_caused old new text error answered (inr ran) is =
+    let it = subst (IsAnswered old.now.schema text) ran.1.is answered in
+    let shown : FailsToShow old new text ran.0 [] error None = rw (it.3, it.4) at ran.2 in
+    let db : shown.0 ≡ old.now = subst (λ b. IsSourceOf b old.now shown.0) it.0 shown.1 in
+    served_caused old new shown.0 ran.0.command error (subst (λ (d : Database). IsServed d.schema ran.0.command) (sym db) it.5) shown.2

@@ -1,6 +1,7 @@
 -- A store is made, and what a crash leaves.
 use Rattle.std.specs.Prelude.{◌≡◌, ◌≢◌, Result, Ok, Err, IsTrue}
 use Rattle.sqlite_trees.specs.declared.store.Store.{Ghosts}
+use Rattle.sqlite.specs.Effect.{Database}
 use Rattle.sqlite.specs.Held.{Held, state}
 use Rattle.sqlite.specs.State.{State, HasCleanDisk, KeepsCommit, Survives}
 use Rattle.statements_facts.specs.Statement.{empty_holdings}
@@ -8,6 +9,10 @@ use Rattle.store_sql.specs.declared.fault.StoreFault.{StoreFault}
 use Rattle.store_sql.specs.declared.fault.StoreFault.TheVariants.{Schema}
 use Rattle.store_sql.specs.Tables.{no_schema}
 use Rattle.store_maps.specs.Held.{IsStoreOf, AreTreesOf}
+
+-- a table, an index or a view is there
+abbrev pub HasTables : Database → Type 0
+HasTables db = db.schema ≢ no_schema
 
 -- what is shown is committed
 abbrev pub IsSettled : State → Type 0

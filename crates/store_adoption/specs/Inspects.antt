@@ -1,5 +1,5 @@
 -- What the one reading of all rows says of a database.
-use Rattle.std.specs.Prelude.{◌≡◌, ℕ, List, [], ◌∷◌, map, length, None, Result, Ok, Err}
+use Rattle.std.specs.Prelude.{◌≡◌, ◌≢◌, ◌⊎◌, ◌≤◌, ℕ, List, [], ◌∷◌, map, length, None, Result, Ok, Err, IfErr}
 use Rattle.std.specs.List.{AllByRecursion}
 use Rattle.sqlite.specs.Order.{Row, column}
 use Rattle.sqlite.specs.Effect.{Database}
@@ -10,9 +10,10 @@ use Rattle.sqlite_trees.specs.declared.store.Shape.TheVariants.{Table}
 use Rattle.sqlite_trees.specs.declared.store.Store.{Ghosts}
 use Rattle.sqlite_trees.specs.View.{IsShaped}
 use Rattle.statements_facts.specs.Statement.{Holdings}
+use Rattle.store_sql.specs.Cause.{MayRefuse}
 use Rattle.store_sql.specs.declared.origin.Origin.{Origin}
 use Rattle.store_sql.specs.declared.fault.StoreFault.{StoreFault}
-use Rattle.store_sql.specs.declared.fault.StoreFault.TheVariants.{Schema}
+use Rattle.store_sql.specs.declared.fault.StoreFault.TheVariants.{Store, Schema}
 use Rattle.store_sql.specs.Tables.{version_1_schema, store_schema, crls_tree, entries_tree}
 use Rattle.store_maps.specs.Held.{IsStoreOf}
 use Rattle.store_adoption.specs.Version1.{UnscopedCrl, UnscopedEntry, IsVersion1, HasLists}
@@ -38,6 +39,13 @@ pub record TablesAreInOrder (db : Database) : Type 0 where
   pub version_1 : db.schema ≡ version_1_schema → InOrderOfVersion1 db
   pub version_2 : (origin : Origin) → db.schema ≡ store_schema origin → InOrder origin db
 
+-- the tables are others than those of version 2, or of version 1
+abbrev pub LacksVersion2 : Database → Type 0
+LacksVersion2 db = (origin : Origin) → db.schema ≢ store_schema origin
+
+abbrev pub LacksVersion1 : Database → Type 0
+LacksVersion1 db = db.schema ≢ version_1_schema
+
 -- the database is that of a store
 abbrev pub IsStore : Database → Type 0
 IsStore db = (held : Holdings) × IsStoreOf db held
@@ -54,7 +62,18 @@ ReadsVersion1 old new crls entries result = Checks old new (λ lists. HasLists (
 abbrev pub Inspects : {A : Type 0} → State → State → Result A StoreFault → Type 0
 Inspects old new result = Checks old new (λ done. IsStore) IsStore result
 
+-- a table has as many rows as a reading counts
+abbrev pub HasTooMany : Database → Type 0
+HasTooMany db = (tree : ℕ) × (18446744073709551615 ≤ length (db.trees tree))
+
+-- the fault `Store` has a cause
+abbrev pub CheckIsCaused : State → State → StoreFault → Type 0
+CheckIsCaused old new fault = fault ≡ Store → TablesAreInOrder old.now → MayRefuse old new ⊎ HasTooMany old.now
+
 -- ---- the same of a call on a connection, if the disk has returned what was written
+
+abbrev pub ChecksForCause : {S A : Type 0} → Ghosts S → Held S → Held S → Result A StoreFault → Type 0
+ChecksForCause g old new result = HasCleanDisk (state g new) → IfErr result (CheckIsCaused (state g old) (state g new))
 
 abbrev pub ChecksOn : {S A : Type 0} → Ghosts S → Held S → Held S → (A → Database → Type 0) → (Database → Type 0) → Result A StoreFault → Type 0
 ChecksOn g old new P Q result = HasCleanDisk (state g new) → Checks (state g old) (state g new) P Q result

@@ -1,11 +1,22 @@
 -- What a test of a table's rows says of the database.
-use Rattle.std.specs.Prelude.{◌≡◌, ◌↔◌, ◌++◌, ◌∷◌, ℕ, List, [], Result, Ok, Err}
+use Rattle.std.specs.Prelude.{◌≡◌, ◌↔◌, ◌⊎◌, ◌≤◌, ◌++◌, ◌∷◌, ℕ, true, false, List, [], length, None, Result, Ok, Err, IfErr}
 use Rattle.sqlite.specs.Order.{Row}
 use Rattle.sqlite_trees.specs.declared.store.Store.{Ghosts}
+use Rattle.sqlite_resolve.specs.declared.compiled.Compiled.{Compiled}
+use Rattle.sqlite_resolve.specs.declared.error.CompileError.{CompileError}
+use Rattle.sqlite_schema.specs.Program.{lets_of}
+use Rattle.sqlite_sql.specs.Program.{ProgramOverflows}
+use Rattle.sqlite_typing.specs.Types.{accepts_program}
+use Rattle.sqlite.specs.Command.{Command}
+use Rattle.sqlite.specs.Command.TheVariants.{Select}
+use Rattle.sqlite.specs.Listing.{understood, reads_listing}
+use Rattle.sqlite.specs.Schema.{Schema}
+use Rattle.sqlite.specs.Tree.{Trees}
 use Rattle.sqlite.specs.Held.{Held, state}
 use Rattle.sqlite.specs.State.{State, HasCleanDisk, IsUnchanged, KeepsCommit, Shown, Begins}
+use Rattle.store_sql.specs.Cause.{MayRefuse}
 use Rattle.store_sql.specs.declared.fault.StoreFault.{StoreFault}
-use Rattle.store_sql.specs.declared.fault.StoreFault.TheVariants.{Schema}
+use Rattle.store_sql.specs.declared.fault.StoreFault.TheVariants.{Store, Schema as NotOurs}
 
 -- all rows that the text shows have passed
 pub record AllPass (old new : State) (text : List ℕ) (Passed : List Row → Type 0) : Type 0 where
@@ -22,7 +33,7 @@ pub record SomeFail (new : State) (text : List ℕ) (AreFormed : List Row → Ty
 
 pub record TestFails (old new : State) (text : List ℕ) (AreFormed : List Row → Type 0) (fault : StoreFault) : Type 0 where
   pub keeps : KeepsCommit old new
-  pub why : fault ≡ Schema → IsUnchanged old new × SomeFail new text AreFormed
+  pub why : fault ≡ NotOurs → IsUnchanged old new × SomeFail new text AreFormed
 
 abbrev pub Tests : {A : Type 0} → State → State → List ℕ → (List Row → Type 0) → (List Row → Type 0) → Result A StoreFault → Type 0
 Tests old new text Passed AreFormed (Ok done) = AllPass old new text Passed
@@ -32,6 +43,28 @@ Tests old new text Passed AreFormed (Err fault) = TestFails old new text AreForm
 abbrev pub TestsOn : {S A : Type 0} → Ghosts S → Held S → Held S → List ℕ → (List Row → Type 0) → (List Row → Type 0) → Result A StoreFault → Type 0
 TestsOn g old new text Passed AreFormed result = HasCleanDisk (state g new) → Tests (state g old) (state g new) text Passed AreFormed result
 
+-- ---- why a text is refused
+
+-- the query shows each type of value where it fits, and no sum in it overflows
+abbrev pub IsServed : Schema → Command → Type 0
+IsServed schema (Select q names) = (accepts_program schema (lets_of q) q.body [] ≡ true) × ((trees : Trees) → ¬ ProgramOverflows trees [] [] (lets_of q) q.body)
+IsServed schema _ = ⊥
+
+-- the text is one such query of the tables, without parameters
+abbrev pub IsAnswered : Schema → List ℕ → Result Compiled CompileError → Type 0
+IsAnswered schema text (Ok c) =
+    (reads_listing schema text ≡ false) × (c.tail ≡ length text) × (c.names ≡ []) × (c.returning ≡ None) × (c.formats ≡ []) × IsServed schema c.command
+IsAnswered schema text (Err e) = ⊥
+
+-- the database may refuse, or the text shows as many rows as are counted
+abbrev pub IsStopped : State → State → List ℕ → Type 0
+IsStopped old new text = MayRefuse old new ⊎ (IsUnchanged old new × (rows : List Row) × Begins text [] new rows × (18446744073709551615 ≤ length rows))
+
+abbrev pub TestsForCause : {S A : Type 0} → Ghosts S → Held S → Held S → List ℕ → Result A StoreFault → Type 0
+TestsForCause g old new text result =
+    HasCleanDisk (state g new) → IsAnswered (state g old).now.schema text (understood (state g old).now.schema text) →
+    IfErr result (λ fault. fault ≡ Store → IsStopped (state g old) (state g new) text)
+
 -- ---- one row after the other
 
 -- with one more row
@@ -40,7 +73,7 @@ PassesOneMore Old New row = (rows : List Row) → Old rows → New (rows ++ row 
 
 -- the fault `Schema` says that no table of a store goes on with this row
 abbrev pub SchemaBreaksForm : {A : Type 0} → (List Row → Type 0) → (List Row → Type 0) → Row → Result A StoreFault → Type 0
-SchemaBreaksForm Passed AreFormed row result = result ≡ Err Schema → (rows later : List Row) → Passed rows → AreFormed (rows ++ row ∷ later) → ⊥
+SchemaBreaksForm Passed AreFormed row result = result ≡ Err NotOurs → (rows later : List Row) → Passed rows → AreFormed (rows ++ row ∷ later) → ⊥
 
 abbrev pub HoldsAlike : (List Row → Type 0) → (List Row → Type 0) → Type 0
 HoldsAlike One Other = (rows : List Row) → One rows ↔ Other rows

@@ -1,6 +1,6 @@
 //! Cells of the rows that a text shows.
 
-ghost use Rattle.std.specs.Prelude.{IfOk, OnOk};
+ghost use Rattle.std.specs.Prelude.{IfOk, OnOk, ◌≢◌, Err};
 ghost use Rattle.sqlite.specs.Order.{column};
 ghost use Rattle.store_adoption.specs.Cells.{HasInteger, HasNatural, HasOctets, HasNumber, SchemaRefutes, ReadsNatural, ReadsOctets, ReadsInteger, ReadsNumber};
 
@@ -14,6 +14,7 @@ use store_sql::StoreFault;
 pub(crate) fn below(row: &Row, at: usize, bound: u32) -> Result<u32, StoreFault>
     ensures ok { IfOk result (ReadsNatural bound row.now at) }
     ensures schema { SchemaRefutes result (HasNatural bound (column row.now at)) }
+    ensures cell { result ≢ Err StoreFault.Store }
 {
     natural(row, at, bound)
 }
@@ -22,6 +23,7 @@ pub(crate) fn below(row: &Row, at: usize, bound: u32) -> Result<u32, StoreFault>
 pub(crate) fn place(row: &Row, at: usize) -> Result<u64, StoreFault>
     ensures ok { IfOk result (ReadsNatural 18446744073709551616 row.now at) }
     ensures schema { SchemaRefutes result (HasNatural 18446744073709551616 (column row.now at)) }
+    ensures cell { result ≢ Err StoreFault.Store }
 {
     match row.get(at) {
         Ok(number) => Ok(number),
@@ -35,6 +37,7 @@ pub(crate) fn place(row: &Row, at: usize) -> Result<u64, StoreFault>
 pub(crate) fn blob(row: &Row, at: usize) -> Result<Vec<u8>, StoreFault>
     ensures ok { IfOk result (ReadsOctets row.now at) }
     ensures schema { SchemaRefutes result (HasOctets (column row.now at)) }
+    ensures cell { result ≢ Err StoreFault.Store }
 {
     octets(row, at)
 }
@@ -44,6 +47,7 @@ pub(crate) fn blob(row: &Row, at: usize) -> Result<Vec<u8>, StoreFault>
 pub(crate) fn whole(row: &Row, at: usize) -> Result<i64, StoreFault>
     ensures ok { IfOk result (ReadsInteger row.now at) }
     ensures schema { SchemaRefutes result (HasInteger (column row.now at)) }
+    ensures cell { result ≢ Err StoreFault.Store }
 {
     integer(row, at)
 }
@@ -52,6 +56,7 @@ pub(crate) fn whole(row: &Row, at: usize) -> Result<i64, StoreFault>
 pub(crate) fn number(row: &Row, at: usize) -> Result<Number20, StoreFault>
     ensures ok { IfOk result (ReadsNumber row.now at) }
     ensures schema { SchemaRefutes result (HasNumber (column row.now at)) }
+    ensures cell { result ≢ Err StoreFault.Store }
 {
     let octets = match octets(row, at) {
         Ok(octets) => octets,
@@ -67,6 +72,7 @@ pub(crate) fn number(row: &Row, at: usize) -> Result<Number20, StoreFault>
 pub(crate) fn has_number(row: &Row, at: usize) -> Result<(), StoreFault>
     ensures ok { OnOk result (HasNumber (column row.now at)) }
     ensures schema { SchemaRefutes result (HasNumber (column row.now at)) }
+    ensures cell { result ≢ Err StoreFault.Store }
 {
     match number(row, at) {
         Ok(_) => Ok(()),

@@ -1,8 +1,8 @@
 //! A new store.
 
-ghost use Rattle.std.specs.Prelude.{◌≡◌, false};
+ghost use Rattle.std.specs.Prelude.{◌≡◌, false, Err};
 ghost use Rattle.sqlite.specs.Held.{state};
-ghost use Rattle.store_adoption.specs.Creates.{IsSettled, CreatesOn, MayLeaveEmptyStore};
+ghost use Rattle.store_adoption.specs.Creates.{IsSettled, HasTables, CreatesOn, MayLeaveEmptyStore};
 ghost use Rattle.store_sql.specs.Statements.{IsDurable};
 
 use sqlite::{Alter, Connection};
@@ -12,6 +12,7 @@ use store_sql::{StoreFault, is_empty};
 fn make_committed<S: Alter>(conn: &mut Connection<S>) -> Result<(), StoreFault>
     requires idle { conn.old.in_transaction ≡ false }
     ensures idle { conn.new.in_transaction ≡ false }
+    ensures tables { HasTables (state S.Store conn.old).now → result ≡ Err StoreFault.Store }
     ensures creates { CreatesOn S.Store conn.old conn.new result }
     ensures crash { MayLeaveEmptyStore (state S.Store conn.old) (state S.Store conn.new) }
 {
@@ -33,6 +34,7 @@ fn make_committed<S: Alter>(conn: &mut Connection<S>) -> Result<(), StoreFault>
 pub fn create<S: Alter>(conn: &mut Connection<S>) -> Result<(), StoreFault>
     requires idle { conn.old.in_transaction ≡ false }
     ensures idle { conn.new.in_transaction ≡ false }
+    ensures tables { HasTables (state S.Store conn.old).now → result ≡ Err StoreFault.Store }
     ensures creates { CreatesOn S.Store conn.old conn.new result }
     ensures settled { IsSettled (state S.Store conn.old) × IsSettled (state S.Store conn.new) }
     ensures durable { IsDurable (state S.Store conn.new) }

@@ -1,6 +1,6 @@
 //! The heads of revocation lists.
 
-ghost use Rattle.std.specs.Prelude.{◌≡◌, OnOk, Err};
+ghost use Rattle.std.specs.Prelude.{◌≡◌, OnOk, Err, ◌≢◌};
 ghost use Rattle.store_adoption.specs.Cells.{IsCrlCells};
 
 use crate::cell::{below, has_number};
@@ -17,6 +17,7 @@ pub(crate) struct CrlTest {
 fn is_crl(row: &Row, next: u32) -> Result<(), StoreFault>
     ensures ok { OnOk result (IsCrlCells next row.now) }
     ensures schema { result ≡ Err StoreFault.Schema → IsCrlCells next row.now → ⊥ }
+    ensures cell { result ≢ Err StoreFault.Store }
 {
     if let Err(fault) = below(row, 0, next) {
         return Err(fault);

@@ -1,6 +1,6 @@
 //! Entries of revocation lists, at their places.
 
-ghost use Rattle.std.specs.Prelude.{◌≡◌, ◌<◌, ◌↔◌, ◌+◌, Err, IfOk, IsTrue, option_map};
+ghost use Rattle.std.specs.Prelude.{◌≡◌, ◌<◌, ◌↔◌, ◌+◌, Err, IfOk, IsTrue, option_map, ◌≢◌};
 ghost use Rattle.store_adoption.specs.Cells.{Begins, Continues, Follows, IsEntryCells, IsListed, entry_in, IsInRoom, IsOfSameList};
 ghost use Rattle.store_adoption.specs.Seen.{seen_placed, IsPlacedIn};
 ghost use Rattle.store_rows.specs.Places.{IsBelow, base_of};
@@ -97,6 +97,7 @@ fn follows(last: &Option<Placed>, entry: &Placed) -> bool
 fn read_placed(row: &Row) -> Result<Placed, StoreFault>
     ensures ok { IfOk result (IsPlacedIn row.now) }
     ensures schema { result ≡ Err StoreFault.Schema → IsEntryCells row.now → ⊥ }
+    ensures cell { result ≢ Err StoreFault.Store }
 {
     let place = place(row, 0)?;
     let issuer = below(row, 1, ID_LIMIT)?;

@@ -1,11 +1,11 @@
 //! A database, read once and taken for a store.
 
-ghost use Rattle.std.specs.Prelude.{◌≡◌, false};
+ghost use Rattle.std.specs.Prelude.{◌≡◌, false, Err};
 ghost use Rattle.sqlite.specs.Held.{state};
 ghost use Rattle.store_sql.specs.Statements.{CommitsNothing, IsDurable};
 ghost use Rattle.store_sql.specs.Tables.{store_schema};
 ghost use Rattle.store_adoption.specs.Creates.{IsSettled};
-ghost use Rattle.store_adoption.specs.Inspects.{HasVersion, HasIssuers, HasCrls, HasSingles, HasEntries, HasHeads, HasIds, ChecksOn, ChecksThat, InspectsOn, HasSchema, HasVersionAndIssuers, HasCrlsAndSingles, ReadsOn, HasNext};
+ghost use Rattle.store_adoption.specs.Inspects.{LacksVersion2, HasVersion, HasIssuers, HasCrls, HasSingles, HasEntries, HasHeads, HasIds, ChecksOn, ChecksForCause, ChecksThat, InspectsOn, HasSchema, HasVersionAndIssuers, HasCrlsAndSingles, ReadsOn, HasNext};
 
 use crate::crl_test::CrlTest;
 use crate::entry_test::EntryTest;
@@ -21,6 +21,7 @@ fn inspect_version<S: Alter>(conn: &mut Connection<S>, origin: Origin) -> Result
     requires ours { HasSchema S.Store conn.old (store_schema origin) }
     ensures idle { conn.new.in_transaction ≡ false }
     ensures checks { ChecksThat S.Store conn.old conn.new (HasVersion 2) result }
+    ensures caused { ChecksForCause S.Store conn.old conn.new result }
     ensures survives { CommitsNothing (state S.Store conn.old) (state S.Store conn.new) }
 {
     let mut test = VersionTest {
@@ -43,6 +44,7 @@ fn inspect_issuers<S: Alter>(conn: &mut Connection<S>, origin: Origin) -> Result
     requires ours { HasSchema S.Store conn.old (store_schema origin) }
     ensures idle { conn.new.in_transaction ≡ false }
     ensures checks { ReadsOn S.Store conn.old conn.new HasIssuers HasNext result }
+    ensures caused { ChecksForCause S.Store conn.old conn.new result }
     ensures survives { CommitsNothing (state S.Store conn.old) (state S.Store conn.new) }
 {
     let mut test = IssuerTest { next: 1 };
@@ -61,6 +63,7 @@ fn inspect_crls<S: Alter>(
     requires ours { HasSchema S.Store conn.old (store_schema origin) }
     ensures idle { conn.new.in_transaction ≡ false }
     ensures checks { ChecksThat S.Store conn.old conn.new (HasCrls origin next) result }
+    ensures caused { ChecksForCause S.Store conn.old conn.new result }
     ensures survives { CommitsNothing (state S.Store conn.old) (state S.Store conn.new) }
 {
     let mut test = CrlTest { next };
@@ -83,6 +86,7 @@ fn inspect_singles<S: Alter>(
     requires ours { HasSchema S.Store conn.old (store_schema origin) }
     ensures idle { conn.new.in_transaction ≡ false }
     ensures checks { ChecksThat S.Store conn.old conn.new (HasSingles next) result }
+    ensures caused { ChecksForCause S.Store conn.old conn.new result }
     ensures survives { CommitsNothing (state S.Store conn.old) (state S.Store conn.new) }
 {
     let mut test = SingleTest { next };
@@ -101,6 +105,7 @@ fn inspect_entries<S: Alter>(conn: &mut Connection<S>, origin: Origin) -> Result
     requires ours { HasSchema S.Store conn.old (store_schema origin) }
     ensures idle { conn.new.in_transaction ≡ false }
     ensures checks { ChecksThat S.Store conn.old conn.new (HasEntries origin) result }
+    ensures caused { ChecksForCause S.Store conn.old conn.new result }
     ensures survives { CommitsNothing (state S.Store conn.old) (state S.Store conn.new) }
 {
     let mut test = EntryTest { last: None };
@@ -124,6 +129,7 @@ fn inspect_under<S: Alter>(
     requires ours { HasSchema S.Store conn.old (store_schema origin) }
     ensures idle { conn.new.in_transaction ≡ false }
     ensures checks { ChecksThat S.Store conn.old conn.new (HasCrlsAndSingles origin next) result }
+    ensures caused { ChecksForCause S.Store conn.old conn.new result }
     ensures survives { CommitsNothing (state S.Store conn.old) (state S.Store conn.new) }
 {
     if let Err(fault) = inspect_crls(conn, origin, next) {
@@ -141,6 +147,7 @@ fn inspect_ids<S: Alter>(conn: &mut Connection<S>, origin: Origin) -> Result<u32
     requires ours { HasSchema S.Store conn.old (store_schema origin) }
     ensures idle { conn.new.in_transaction ≡ false }
     ensures checks { ChecksOn S.Store conn.old conn.new (HasIds 2) (HasVersionAndIssuers 2) result }
+    ensures caused { ChecksForCause S.Store conn.old conn.new result }
     ensures survives { CommitsNothing (state S.Store conn.old) (state S.Store conn.new) }
 {
     if let Err(fault) = inspect_version(conn, origin) {
@@ -157,6 +164,7 @@ fn inspect_heads<S: Alter>(conn: &mut Connection<S>, origin: Origin) -> Result<(
     requires ours { HasSchema S.Store conn.old (store_schema origin) }
     ensures idle { conn.new.in_transaction ≡ false }
     ensures checks { ChecksThat S.Store conn.old conn.new (HasHeads origin) result }
+    ensures caused { ChecksForCause S.Store conn.old conn.new result }
     ensures survives { CommitsNothing (state S.Store conn.old) (state S.Store conn.new) }
 {
     let next = match inspect_ids(conn, origin) {
@@ -172,7 +180,9 @@ fn inspect_heads<S: Alter>(conn: &mut Connection<S>, origin: Origin) -> Result<(
 fn inspect_all<S: Alter>(conn: &mut Connection<S>) -> Result<(), StoreFault>
     requires idle { conn.old.in_transaction ≡ false }
     ensures idle { conn.new.in_transaction ≡ false }
+    ensures tables { LacksVersion2 (state S.Store conn.old).now → result ≡ Err StoreFault.Schema }
     ensures inspects { InspectsOn S.Store conn.old conn.new result }
+    ensures caused { ChecksForCause S.Store conn.old conn.new result }
     ensures survives { CommitsNothing (state S.Store conn.old) (state S.Store conn.new) }
 {
     let Some(origin) = origin_of(conn.schema()) else {
@@ -191,7 +201,9 @@ fn inspect_all<S: Alter>(conn: &mut Connection<S>) -> Result<(), StoreFault>
 pub fn inspect<S: Alter>(conn: &mut Connection<S>) -> Result<(), StoreFault>
     requires idle { conn.old.in_transaction ≡ false }
     ensures idle { conn.new.in_transaction ≡ false }
+    ensures tables { LacksVersion2 (state S.Store conn.old).now → result ≡ Err StoreFault.Schema }
     ensures inspects { InspectsOn S.Store conn.old conn.new result }
+    ensures caused { ChecksForCause S.Store conn.old conn.new result }
     ensures settled { IsSettled (state S.Store conn.old) × IsSettled (state S.Store conn.new) }
     ensures durable { IsDurable (state S.Store conn.new) }
     ensures survives { CommitsNothing (state S.Store conn.old) (state S.Store conn.new) }

@@ -5,15 +5,16 @@ ghost use Rattle.sqlite.specs.Held.{state};
 ghost use Rattle.sqlite.specs.State.{HasCleanDisk};
 ghost use Rattle.sqlite.specs.Given.{IsPlain};
 ghost use Rattle.sqlite.specs.Listing.{understood};
+ghost use Rattle.store_sql.specs.Fault.{fault_from};
 ghost use Rattle.store_sql.specs.Statements.{CommitsNothing};
-ghost use Rattle.store_adoption.specs.Tests.{PassesOneMore, HoldsAlike, TestsOn, SchemaBreaksForm};
+ghost use Rattle.store_adoption.specs.Tests.{PassesOneMore, HoldsAlike, TestsOn, TestsForCause, SchemaBreaksForm};
 
 use sqlite::{Alter, Connection, Error, Row};
 use store_sql::StoreFault;
 
 /// A test of rows, one after the other.
 pub(crate) trait RowTest {
-    ghost use Rattle.std.specs.Prelude.{List};
+    ghost use Rattle.std.specs.Prelude.{◌≢◌, List, Err};
     ghost use Rattle.sqlite.specs.Order.{Row as Cells};
 
     // These rows have passed, and left the test so.
@@ -26,12 +27,14 @@ pub(crate) trait RowTest {
     fn take(&mut self, row: &Row) -> Result<(), StoreFault>
         ensures passed { OnOk result (PassesOneMore (passed self.old) (passed self.new) row.now) }
         ensures same { OnOk result (HoldsAlike (are_formed self.old) (are_formed self.new)) }
-        ensures refused { SchemaBreaksForm (passed self.old) (are_formed self.old) row.now result };
+        ensures refused { SchemaBreaksForm (passed self.old) (are_formed self.old) row.now result }
+        ensures cell { result ≢ Err StoreFault.Store };
 }
 
 /// A refusal of the database, which says nothing of the rows.
 fn fault_of(error: Error) -> StoreFault
-    ensures { result ≢ StoreFault.Schema }
+    ensures form { result ≢ StoreFault.Schema }
+    ensures from { result ≡ fault_from error }
 {
     StoreFault::from(error)
 }
@@ -49,6 +52,7 @@ pub(crate) fn test_rows<S: Alter, T: RowTest>(
     ensures idle { conn.new.in_transaction ≡ false }
     ensures tests { TestsOn S.Store conn.old conn.new sql.now
         (T.RowTest.passed test.new) (T.RowTest.are_formed test.old) result }
+    ensures caused { TestsForCause S.Store conn.old conn.new sql.now result }
     ensures same { OnOk result
         (HoldsAlike (T.RowTest.are_formed test.old) (T.RowTest.are_formed test.new)) }
     ensures survives { CommitsNothing (state S.Store conn.old) (state S.Store conn.new) }
@@ -57,7 +61,7 @@ pub(crate) fn test_rows<S: Alter, T: RowTest>(
         Ok(rows) => rows,
         Err(error) => return Err(fault_of(error)),
     };
-    'each: for _ in 0..u64::MAX {
+    'each: for _shown in 0..u64::MAX {
         if let Err(error) = rows.advance() {
             return Err(fault_of(error));
         }

@@ -1,6 +1,6 @@
 //! What responses say of single certificates.
 
-ghost use Rattle.std.specs.Prelude.{◌≡◌, OnOk, Err};
+ghost use Rattle.std.specs.Prelude.{◌≡◌, OnOk, Err, ◌≢◌};
 ghost use Rattle.store_adoption.specs.Cells.{IsSingleCells, HasStatus, RefusesStatusCells};
 
 use crate::cell::below;
@@ -18,6 +18,7 @@ pub(crate) struct SingleTest {
 fn has_status(row: &Row) -> Result<(), StoreFault>
     ensures ok { OnOk result (HasStatus row.now) }
     ensures schema { RefusesStatusCells row.now result }
+    ensures cell { result ≢ Err StoreFault.Store }
 {
     let status = match below(row, 1, 3) {
         Ok(status) => status,
@@ -37,6 +38,7 @@ fn has_status(row: &Row) -> Result<(), StoreFault>
 fn is_single(row: &Row, next: u32) -> Result<(), StoreFault>
     ensures ok { OnOk result (IsSingleCells next row.now) }
     ensures schema { result ≡ Err StoreFault.Schema → IsSingleCells next row.now → ⊥ }
+    ensures cell { result ≢ Err StoreFault.Store }
 {
     if let Err(fault) = below(row, 0, next) {
         return Err(fault);

@@ -1,6 +1,6 @@
 //! Lists of version 1 and their entries, read and kept.
 
-ghost use Rattle.std.specs.Prelude.{◌≡◌, Err, IfOk};
+ghost use Rattle.std.specs.Prelude.{◌≡◌, Err, IfOk, ◌≢◌};
 ghost use Rattle.store_adoption.specs.Cells.{IsUnscopedCrlCells, IsUnscopedEntryCells, HasHead, head_in, unscoped_crl_in, unscoped_entry_in};
 ghost use Rattle.store_adoption.specs.Seen.{seen_list, seen_own, IsListIn, IsOwnIn};
 ghost use Rattle.store_rows.specs.Seen.{seen_head};
@@ -23,6 +23,7 @@ pub(crate) struct ListTest {
 fn read_head(row: &Row) -> Result<Head, StoreFault>
     ensures ok { IfOk result (λ head. HasHead row.now × (seen_head head ≡ head_in row.now)) }
     ensures schema { result ≡ Err StoreFault.Schema → HasHead row.now → ⊥ }
+    ensures cell { result ≢ Err StoreFault.Store }
 {
     let number = number(row, 1)?;
     let from = whole(row, 2)?;
@@ -37,6 +38,7 @@ fn read_head(row: &Row) -> Result<Head, StoreFault>
 fn read_list(row: &Row, next: u32) -> Result<UnscopedList, StoreFault>
     ensures ok { IfOk result (IsListIn next row.now) }
     ensures schema { result ≡ Err StoreFault.Schema → IsUnscopedCrlCells next row.now → ⊥ }
+    ensures cell { result ≢ Err StoreFault.Store }
 {
     let issuer = below(row, 0, next)?;
     let head = read_head(row)?;
@@ -76,6 +78,7 @@ pub(crate) struct OwnTest {
 fn read_own(row: &Row, next: u32) -> Result<OwnEntry, StoreFault>
     ensures ok { IfOk result (IsOwnIn next row.now) }
     ensures schema { result ≡ Err StoreFault.Schema → IsUnscopedEntryCells next row.now → ⊥ }
+    ensures cell { result ≢ Err StoreFault.Store }
 {
     let issuer = below(row, 0, next)?;
     let serial = blob(row, 1)?;

@@ -1,11 +1,11 @@
 //! A database of version 1, read once.
 
-ghost use Rattle.std.specs.Prelude.{◌≡◌, false};
+ghost use Rattle.std.specs.Prelude.{◌≡◌, false, Err};
 ghost use Rattle.sqlite.specs.Held.{state};
 ghost use Rattle.store_sql.specs.Statements.{CommitsNothing, IsDurable};
 ghost use Rattle.store_sql.specs.Tables.{version_1_schema};
 ghost use Rattle.store_adoption.specs.Creates.{IsSettled};
-ghost use Rattle.store_adoption.specs.Inspects.{HasVersion, HasIssuers, HasSingles, HasUnscopedCrls, HasUnscopedEntries, HasListsUnder, HasUnder, ChecksOn, ChecksThat, ReadsVersion1On, HasSchema, HasVersionAndIssuers, HasIds, ReadsOn, HasNext};
+ghost use Rattle.store_adoption.specs.Inspects.{LacksVersion1, HasVersion, HasIssuers, HasSingles, HasUnscopedCrls, HasUnscopedEntries, HasListsUnder, HasUnder, ChecksOn, ChecksForCause, ChecksThat, ReadsVersion1On, HasSchema, HasVersionAndIssuers, HasIds, ReadsOn, HasNext};
 ghost use Rattle.store_adoption.specs.Seen.{seen_crls, seen_entries};
 ghost use Rattle.store_adoption.specs.Read.{ShowsUnscoped, ShowsOwn, ShowsAll};
 
@@ -24,6 +24,7 @@ fn read_version<S: Alter>(conn: &mut Connection<S>) -> Result<(), StoreFault>
     requires ours { HasSchema S.Store conn.old version_1_schema }
     ensures idle { conn.new.in_transaction ≡ false }
     ensures checks { ChecksThat S.Store conn.old conn.new (HasVersion 1) result }
+    ensures caused { ChecksForCause S.Store conn.old conn.new result }
     ensures survives { CommitsNothing (state S.Store conn.old) (state S.Store conn.new) }
 {
     let mut test = VersionTest {
@@ -46,6 +47,7 @@ fn read_issuers<S: Alter>(conn: &mut Connection<S>) -> Result<u32, StoreFault>
     requires ours { HasSchema S.Store conn.old version_1_schema }
     ensures idle { conn.new.in_transaction ≡ false }
     ensures checks { ReadsOn S.Store conn.old conn.new HasIssuers HasNext result }
+    ensures caused { ChecksForCause S.Store conn.old conn.new result }
     ensures survives { CommitsNothing (state S.Store conn.old) (state S.Store conn.new) }
 {
     let mut test = IssuerTest { next: 1 };
@@ -60,6 +62,7 @@ fn read_singles<S: Alter>(conn: &mut Connection<S>, next: u32) -> Result<(), Sto
     requires ours { HasSchema S.Store conn.old version_1_schema }
     ensures idle { conn.new.in_transaction ≡ false }
     ensures checks { ChecksThat S.Store conn.old conn.new (HasSingles next) result }
+    ensures caused { ChecksForCause S.Store conn.old conn.new result }
     ensures survives { CommitsNothing (state S.Store conn.old) (state S.Store conn.new) }
 {
     let mut test = SingleTest { next };
@@ -82,6 +85,7 @@ fn read_lists<S: Alter>(
     requires ours { HasSchema S.Store conn.old version_1_schema }
     ensures idle { conn.new.in_transaction ≡ false }
     ensures checks { ReadsOn S.Store conn.old conn.new (HasUnscopedCrls next) ShowsUnscoped result }
+    ensures caused { ChecksForCause S.Store conn.old conn.new result }
     ensures survives { CommitsNothing (state S.Store conn.old) (state S.Store conn.new) }
 {
     let mut test = ListTest {
@@ -107,6 +111,7 @@ fn read_entries<S: Alter>(
     requires ours { HasSchema S.Store conn.old version_1_schema }
     ensures idle { conn.new.in_transaction ≡ false }
     ensures checks { ReadsOn S.Store conn.old conn.new (HasUnscopedEntries next) ShowsOwn result }
+    ensures caused { ChecksForCause S.Store conn.old conn.new result }
     ensures survives { CommitsNothing (state S.Store conn.old) (state S.Store conn.new) }
 {
     let mut test = OwnTest {
@@ -129,6 +134,7 @@ fn read_ids<S: Alter>(conn: &mut Connection<S>) -> Result<u32, StoreFault>
     requires ours { HasSchema S.Store conn.old version_1_schema }
     ensures idle { conn.new.in_transaction ≡ false }
     ensures checks { ChecksOn S.Store conn.old conn.new (HasIds 1) (HasVersionAndIssuers 1) result }
+    ensures caused { ChecksForCause S.Store conn.old conn.new result }
     ensures survives { CommitsNothing (state S.Store conn.old) (state S.Store conn.new) }
 {
     if let Err(fault) = read_version(conn) {
@@ -150,6 +156,7 @@ fn read_all_lists<S: Alter>(
     requires ours { HasSchema S.Store conn.old version_1_schema }
     ensures idle { conn.new.in_transaction ≡ false }
     ensures checks { ReadsOn S.Store conn.old conn.new (HasListsUnder next) ShowsAll result }
+    ensures caused { ChecksForCause S.Store conn.old conn.new result }
     ensures survives { CommitsNothing (state S.Store conn.old) (state S.Store conn.new) }
 {
     let lists = match read_lists(alloc, conn, next) {
@@ -172,6 +179,7 @@ fn read_under<S: Alter>(
     requires ours { HasSchema S.Store conn.old version_1_schema }
     ensures idle { conn.new.in_transaction ≡ false }
     ensures checks { ReadsOn S.Store conn.old conn.new (HasUnder next) ShowsAll result }
+    ensures caused { ChecksForCause S.Store conn.old conn.new result }
     ensures survives { CommitsNothing (state S.Store conn.old) (state S.Store conn.new) }
 {
     if let Err(fault) = read_singles(conn, next) {
@@ -186,7 +194,9 @@ fn read_under<S: Alter>(
 fn read_all<S: Alter>(alloc: Global, conn: &mut Connection<S>) -> Result<UnscopedLists, StoreFault>
     requires idle { conn.old.in_transaction ≡ false }
     ensures idle { conn.new.in_transaction ≡ false }
+    ensures tables { LacksVersion1 (state S.Store conn.old).now → result ≡ Err StoreFault.Schema }
     ensures reads { ReadsVersion1On S.Store conn.old conn.new seen_crls seen_entries result }
+    ensures caused { ChecksForCause S.Store conn.old conn.new result }
     ensures survives { CommitsNothing (state S.Store conn.old) (state S.Store conn.new) }
 {
     if !is_version_1(conn.schema()) {
@@ -210,7 +220,9 @@ pub fn read_version_1<S: Alter>(
 ) -> Result<UnscopedLists, StoreFault>
     requires idle { conn.old.in_transaction ≡ false }
     ensures idle { conn.new.in_transaction ≡ false }
+    ensures tables { LacksVersion1 (state S.Store conn.old).now → result ≡ Err StoreFault.Schema }
     ensures reads { ReadsVersion1On S.Store conn.old conn.new seen_crls seen_entries result }
+    ensures caused { ChecksForCause S.Store conn.old conn.new result }
     ensures settled { IsSettled (state S.Store conn.old) × IsSettled (state S.Store conn.new) }
     ensures durable { IsDurable (state S.Store conn.new) }
     ensures survives { CommitsNothing (state S.Store conn.old) (state S.Store conn.new) }

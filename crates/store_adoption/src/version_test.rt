@@ -1,6 +1,6 @@
 //! The version of the tables.
 
-ghost use Rattle.std.specs.Prelude.{◌≡◌, ◌<◌, OnOk, Err};
+ghost use Rattle.std.specs.Prelude.{◌≡◌, ◌<◌, OnOk, Err, ◌≢◌};
 ghost use Rattle.store_adoption.specs.Cells.{IsVersionCells};
 
 use crate::cell::below;
@@ -20,6 +20,7 @@ fn is_version(row: &Row, wanted: u32) -> Result<(), StoreFault>
     requires { wanted < 3 }
     ensures ok { OnOk result (IsVersionCells wanted row.now) }
     ensures schema { result ≡ Err StoreFault.Schema → IsVersionCells wanted row.now → ⊥ }
+    ensures cell { result ≢ Err StoreFault.Store }
 {
     let id = match below(row, 0, 2) {
         Ok(id) => id,

@@ -1,15 +1,17 @@
 -- One look-up behind another.
 use Rattle.std.proofs.Common.{sym, subst, ◌∙◌}
-use Rattle.sqlite.specs.State.{State}
+use Rattle.sqlite.specs.State.{State, HasCleanDisk, Survives}
 use Rattle.sqlite.proofs.InsideLemmas.{keeps_then}
 use Rattle.statements_facts.specs.Statement.{Holdings}
 use Rattle.store_sql.specs.declared.origin.Origin.{Origin}
 use Rattle.store_sql.specs.declared.fault.StoreFault.{StoreFault}
 use Rattle.store_rows.specs.Contents.{Contents}
 use Rattle.store_rows.specs.Holding.{HasContents}
-use Rattle.store_rows.specs.Steps.{Stays, Fails, HasFound}
+use Rattle.store_sql.specs.Cause.{MayRefuse}
+use Rattle.store_sql.proofs.Laws.{later_refuses}
+use Rattle.store_rows.specs.Steps.{Stays, Fails, HasFound, IsCaused}
 use Rattle.store_maps.specs.Held.{held_in}
-use Rattle.store_maps.specs.LooksUp.{IsFoundIn, FailsIn}
+use Rattle.store_maps.specs.LooksUp.{IsFoundIn, FailsIn, IsCausedOverStore}
 
 then_stays : (first mid now : State) → Stays first mid → Stays mid now → Stays first now
 then_stays first mid now a b = record { open_is = b.open_is ∙ a.open_is; now_is = b.now_is ∙ a.now_is; committed_is = b.committed_is ∙ a.committed_is; mode = b.mode ∙ a.mode }
@@ -41,6 +43,15 @@ fails_then old mid new P a fault one two = record {
   keeps = keeps_then old mid new one.keeps two.keeps;
   formed = λ e origin it held form. two.formed e origin it (still_holds old mid origin it (one.rows origin it held form).0 held) form;
 }
+
+-- the second look-up fails for a cause of both
+pub caused_then : {A : Type 0} (old mid new : State) (P : Contents → A → Type 0) (a : A) (fault : StoreFault) → Survives old mid (λ _. ⊥) → Survives mid new (λ _. ⊥) → HasCleanDisk mid
+    → HasFound old mid P a → IsCaused mid new fault → IsCaused old new fault
+caused_then old mid new P a fault first second clean one two e origin it held form =
+    later_refuses old mid new (λ _. ⊥) (λ _. ⊥) first second clean (two e origin it (still_holds old mid origin it (one.rows origin it held form).0 held) form)
+
+pub caused_held : (old new : State) (fault : StoreFault) → IsCaused old new fault → IsCausedOverStore old new fault
+caused_held old new fault h e held store = h e store.origin store.contents store.rows store.form
 
 -- ---- from rows to what is held
 

@@ -5,8 +5,8 @@ ghost use Rattle.statements_facts.specs.Fact.{issuer_of};
 ghost use Rattle.store_sql.specs.Statements.{CommitsNothing};
 ghost use Rattle.store_maps.specs.Held.{seen_crl, seen_with_reason, IsCrlUnder, IsCrlHeld};
 ghost use Rattle.store_sql.specs.Inside.{inside, IsInTransaction, KeepsReference, SucceedsOnlyIfOpen};
-ghost use Rattle.store_maps.specs.LooksUp.{LooksUpInside};
-ghost use Rattle.store_rows.specs.Steps.{FindsIn};
+ghost use Rattle.store_maps.specs.LooksUp.{LooksUpInside, CausedOverStore};
+ghost use Rattle.store_rows.specs.Steps.{FindsIn, CausedIn};
 
 use asn::Number20;
 use sqlite::{Alter, Transaction};
@@ -46,6 +46,7 @@ pub(crate) fn look_under<S: Alter>(
     requires inside { IsInTransaction S.Store tx.old }
     ensures same_reference { KeepsReference tx.old tx.new }
     ensures finds { FindsIn S.Store tx.old tx.new (IsCrlUnder list.now serial.now) result }
+    ensures caused { CausedIn S.Store tx.old tx.new result }
     ensures survives { CommitsNothing (inside S.Store tx.old) (inside S.Store tx.new) }
 {
     let head = match find_crl(tx, list.issuer, list.scope) {
@@ -70,6 +71,7 @@ pub fn crl<S: Alter>(
     ensures same_reference { KeepsReference tx.old tx.new }
     ensures looks_up { LooksUpInside S.Store tx.old tx.new
         (IsCrlHeld (issuer_of issuer.now) scope serial.now) result }
+    ensures caused { CausedOverStore S.Store tx.old tx.new result }
     ensures open { SucceedsOnlyIfOpen S.Store tx.old tx.new result }
     ensures survives { CommitsNothing (inside S.Store tx.old) (inside S.Store tx.new) }
 {

@@ -3,7 +3,7 @@
 ghost use Rattle.statements_facts.specs.Fact.{issuer_of};
 ghost use Rattle.store_sql.specs.Statements.{CommitsNothing};
 ghost use Rattle.store_sql.specs.Inside.{inside, IsInTransaction, KeepsReference, SucceedsOnlyIfOpen};
-ghost use Rattle.store_maps.specs.LooksUp.{LooksUpInside};
+ghost use Rattle.store_maps.specs.LooksUp.{LooksUpInside, CausedOverStore};
 ghost use Rattle.store_maps.specs.Held.{IsOcspHeld};
 
 use sqlite::{Alter, Transaction};
@@ -23,6 +23,7 @@ pub fn ocsp<'x, S: Alter>(
     ensures same_reference { KeepsReference tx.old tx.new }
     ensures looks_up { LooksUpInside S.Store tx.old tx.new
         (IsOcspHeld (issuer_of issuer.now) name_hash.now serial.now) result }
+    ensures caused { CausedOverStore S.Store tx.old tx.new result }
     ensures open { SucceedsOnlyIfOpen S.Store tx.old tx.new result }
     ensures survives { CommitsNothing (inside S.Store tx.old) (inside S.Store tx.new) }
 {

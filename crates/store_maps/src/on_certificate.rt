@@ -4,9 +4,9 @@ ghost use Rattle.std.specs.Prelude.{◌<◌};
 ghost use Rattle.statements_facts.specs.Fact.{issuer_of};
 ghost use Rattle.store_sql.specs.Statements.{CommitsNothing};
 ghost use Rattle.store_sql.specs.Inside.{inside, IsInTransaction, KeepsReference, SucceedsOnlyIfOpen};
-ghost use Rattle.store_rows.specs.Steps.{FindsIn};
+ghost use Rattle.store_rows.specs.Steps.{FindsIn, CausedIn};
 ghost use Rattle.store_maps.specs.Answers.{AreAnswersHeld, AreAnswersUnder, AreListsUnder};
-ghost use Rattle.store_maps.specs.LooksUp.{LooksUpInside};
+ghost use Rattle.store_maps.specs.LooksUp.{LooksUpInside, CausedOverStore};
 
 use crate::crl_slot::{HeldCrl, look_under};
 use sqlite::{Alter, Transaction};
@@ -45,6 +45,7 @@ fn lists_under<S: Alter>(
     requires inside { IsInTransaction S.Store tx.old }
     ensures same_reference { KeepsReference tx.old tx.new }
     ensures finds { FindsIn S.Store tx.old tx.new (AreListsUnder issuer key.now) result }
+    ensures caused { CausedIn S.Store tx.old tx.new result }
     ensures survives { CommitsNothing (inside S.Store tx.old) (inside S.Store tx.new) }
 {
     let list = ListKey {
@@ -74,6 +75,7 @@ fn answers_under<S: Alter>(
     requires inside { IsInTransaction S.Store tx.old }
     ensures same_reference { KeepsReference tx.old tx.new }
     ensures finds { FindsIn S.Store tx.old tx.new (AreAnswersUnder issuer key.now) result }
+    ensures caused { CausedIn S.Store tx.old tx.new result }
     ensures survives { CommitsNothing (inside S.Store tx.old) (inside S.Store tx.new) }
 {
     let (all, own) = match lists_under(tx, issuer, key) {
@@ -97,6 +99,7 @@ pub fn answers_on<S: Alter>(
     ensures same_reference { KeepsReference tx.old tx.new }
     ensures looks_up { LooksUpInside S.Store tx.old tx.new
         (AreAnswersHeld (issuer_of issuer.now) key.now) result }
+    ensures caused { CausedOverStore S.Store tx.old tx.new result }
     ensures open { SucceedsOnlyIfOpen S.Store tx.old tx.new result }
     ensures survives { CommitsNothing (inside S.Store tx.old) (inside S.Store tx.new) }
 {

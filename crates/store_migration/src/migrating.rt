@@ -1,9 +1,10 @@
 //! The migration, in one transaction.
 
-ghost use Rattle.std.specs.Prelude.{◌≡◌, false};
+ghost use Rattle.std.specs.Prelude.{◌≡◌, false, Err};
 ghost use Rattle.sqlite.specs.Held.{state};
 ghost use Rattle.store_sql.specs.Statements.{CommitsNothing, IsDurable};
 ghost use Rattle.store_adoption.specs.Creates.{IsSettled};
+ghost use Rattle.store_adoption.specs.Inspects.{LacksVersion1};
 ghost use Rattle.store_sql.specs.Inside.{inside, IsInTransaction, KeepsReference};
 ghost use Rattle.store_migration.specs.Moves.{BecomesStore};
 ghost use Rattle.store_migration.specs.Migrates.{MigratesListsOn, MayLeaveMoved, MigratesOn, MayLeaveMigrated};
@@ -58,6 +59,7 @@ fn move_committed<S: Alter>(
 fn migrate_idle<S: Alter>(alloc: Global, conn: &mut Connection<S>) -> Result<(), StoreFault>
     requires idle { conn.old.in_transaction ≡ false }
     ensures idle { conn.new.in_transaction ≡ false }
+    ensures tables { LacksVersion1 (state S.Store conn.old).now → result ≡ Err StoreFault.Schema }
     ensures migrates { MigratesOn S.Store conn.old conn.new result }
     ensures crash { MayLeaveMigrated (state S.Store conn.old) (state S.Store conn.new) }
 {
@@ -76,6 +78,7 @@ fn migrate_idle<S: Alter>(alloc: Global, conn: &mut Connection<S>) -> Result<(),
 pub fn migrate<S: Alter>(alloc: Global, conn: &mut Connection<S>) -> Result<(), StoreFault>
     requires idle { conn.old.in_transaction ≡ false }
     ensures idle { conn.new.in_transaction ≡ false }
+    ensures tables { LacksVersion1 (state S.Store conn.old).now → result ≡ Err StoreFault.Schema }
     ensures migrates { MigratesOn S.Store conn.old conn.new result }
     ensures settled { IsSettled (state S.Store conn.old) × IsSettled (state S.Store conn.new) }
     ensures durable { IsDurable (state S.Store conn.new) }

@@ -1,12 +1,13 @@
 -- What a call inside a transaction does to the rows.
-use Rattle.std.specs.Prelude.{◌≡◌, ℕ, Option, Result, Ok, Err, IfOk, IsTrue}
+use Rattle.std.specs.Prelude.{◌≡◌, ℕ, Option, Result, Ok, Err, IfOk, IfErr, IsTrue, ◌⊎◌}
 use Rattle.sqlite_trees.specs.declared.store.Store.{Ghosts}
 use Rattle.sqlite.specs.declared.transaction.Transaction.{Transaction}
 use Rattle.sqlite.specs.State.{State, HasCleanDisk, KeepsCommit}
 use Rattle.store_sql.specs.Inside.{inside}
+use Rattle.store_sql.specs.Cause.{MayRefuse}
 use Rattle.store_sql.specs.declared.origin.Origin.{Origin}
 use Rattle.store_sql.specs.declared.fault.StoreFault.{StoreFault}
-use Rattle.store_sql.specs.declared.fault.StoreFault.TheVariants.{Schema}
+use Rattle.store_sql.specs.declared.fault.StoreFault.TheVariants.{Store, Schema}
 use Rattle.statements_facts.specs.Statement.{IssuerIdentity}
 use Rattle.store_rows.specs.Contents.{Contents, id_of}
 use Rattle.store_rows.specs.Holding.{HasContents, AreInForm}
@@ -50,6 +51,18 @@ abbrev pub Changes : {A : Type 0} → State → State → (Contents → Contents
 Changes old new changed (Ok done) = Moves old new changed
 Changes old new changed (Err fault) = Fails old new fault
 
+-- over rows in form the fault `Store` has a cause: the database may refuse, or the rows are at a limit of the call
+abbrev pub IsCausedOr : (Contents → Type 0) → State → State → StoreFault → Type 0
+IsCausedOr AtLimit old new fault =
+    fault ≡ Store → (origin : Origin) (it : Contents) → HasContents old.now origin it → AreInForm it →
+    AtLimit it ⊎ MayRefuse old new
+
+-- a call without a limit of its own
+abbrev pub IsCaused : State → State → StoreFault → Type 0
+IsCaused old new fault =
+    fault ≡ Store → (origin : Origin) (it : Contents) → HasContents old.now origin it → AreInForm it →
+    MayRefuse old new
+
 -- ---- the same of a call on a transaction, if the disk has returned what was written
 
 abbrev pub FindsIn : {S A : Type 0} → Ghosts S → Transaction S → Transaction S → (Contents → A → Type 0) → Result A StoreFault → Type 0
@@ -60,3 +73,9 @@ KnowsIn g old new identity result = HasCleanDisk (inside g new) → IfOk result 
 
 abbrev pub ChangesIn : {S A : Type 0} → Ghosts S → Transaction S → Transaction S → (Contents → Contents) → Result A StoreFault → Type 0
 ChangesIn g old new changed result = HasCleanDisk (inside g new) → Changes (inside g old) (inside g new) changed result
+
+abbrev pub CausedIn : {S A : Type 0} → Ghosts S → Transaction S → Transaction S → Result A StoreFault → Type 0
+CausedIn g old new result = HasCleanDisk (inside g new) → IfErr result (IsCaused (inside g old) (inside g new))
+
+abbrev pub CausedOrIn : {S A : Type 0} → Ghosts S → Transaction S → Transaction S → (Contents → Type 0) → Result A StoreFault → Type 0
+CausedOrIn g old new AtLimit result = HasCleanDisk (inside g new) → IfErr result (IsCausedOr AtLimit (inside g old) (inside g new))

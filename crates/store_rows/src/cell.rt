@@ -1,6 +1,6 @@
 //! Cells of the rows that a query shows.
 
-ghost use Rattle.std.specs.Prelude.{◌≡◌, ◌≢◌, ◌<◌, pos, IfOk};
+ghost use Rattle.std.specs.Prelude.{◌≡◌, ◌≢◌, ◌<◌, pos, IfOk, Err};
 ghost use Rattle.sqlite.specs.declared.types.Value.TheVariants.{Int, Blob};
 ghost use Rattle.store_rows.specs.Contents.{HasCell};
 ghost use Rattle.store_rows.specs.Reading.{RefusesCell, RefusesNatural};
@@ -8,9 +8,11 @@ ghost use Rattle.store_rows.specs.Reading.{RefusesCell, RefusesNatural};
 use sqlite::{Error, ErrorCode, Row};
 use store_sql::StoreFault;
 
-/// Want of memory, or a cell of another form than the store writes.
+/// Memory ran out, or a cell has another form than the store writes.
 fn cell_fault(error: Error) -> StoreFault
-    ensures { result ≡ StoreFault.Schema → error ≢ Error.SqliteFailure ErrorCode.OutOfMemory }
+    ensures schema { result ≡ StoreFault.Schema
+        → error ≢ Error.SqliteFailure ErrorCode.OutOfMemory }
+    ensures cell { result ≢ StoreFault.Store }
 {
     match error {
         Error::SqliteFailure(ErrorCode::OutOfMemory) => StoreFault::Memory,
@@ -22,6 +24,7 @@ fn cell_fault(error: Error) -> StoreFault
 pub fn integer(row: &Row, at: usize) -> Result<i64, StoreFault>
     ensures ok { IfOk result (λ number. HasCell row.now at (Int number)) }
     ensures schema { RefusesCell Int row.now at result }
+    ensures cell { result ≢ Err StoreFault.Store }
 {
     row.get(at).map_err(cell_fault)
 }
@@ -30,6 +33,7 @@ pub fn integer(row: &Row, at: usize) -> Result<i64, StoreFault>
 pub fn octets(row: &Row, at: usize) -> Result<Vec<u8>, StoreFault>
     ensures ok { IfOk result (λ octets. HasCell row.now at (Blob octets.items)) }
     ensures schema { RefusesCell Blob row.now at result }
+    ensures cell { result ≢ Err StoreFault.Store }
 {
     row.get(at).map_err(cell_fault)
 }
@@ -38,6 +42,7 @@ pub fn octets(row: &Row, at: usize) -> Result<Vec<u8>, StoreFault>
 pub fn natural(row: &Row, at: usize, bound: u32) -> Result<u32, StoreFault>
     ensures ok { IfOk result (λ number. HasCell row.now at (Int (pos number)) × (number < bound)) }
     ensures schema { RefusesNatural bound row.now at result }
+    ensures cell { result ≢ Err StoreFault.Store }
 {
     let number = integer(row, at)?;
     if 0 <= number && number < i64::from(bound) {

@@ -1,11 +1,11 @@
 //! The entries of a list, beside others.
 
-ghost use Rattle.std.specs.Prelude.{◌≡◌, ◌<◌, ◌↔◌, IsTrue};
+ghost use Rattle.std.specs.Prelude.{◌≡◌, ◌<◌, ◌≤◌, ◌↔◌, length, IsTrue};
 ghost use Rattle.statements_facts.specs.Listed.{IsAscending};
 ghost use Rattle.store_sql.specs.Statements.{CommitsNothing};
 ghost use Rattle.store_sql.specs.Inside.{inside, IsInTransaction, KeepsReference};
 ghost use Rattle.store_rows.specs.Found.{TellsEntryAt, TellsEndAt, TellsEntries};
-ghost use Rattle.store_rows.specs.Steps.{FindsIn};
+ghost use Rattle.store_rows.specs.Steps.{FindsIn, CausedIn, CausedOrIn};
 
 use crate::beside::SerialAtPlace;
 use crate::entry::{ListKey, ROOM, stands_at};
@@ -43,6 +43,7 @@ fn has_at<S: Alter>(
     requires inside { IsInTransaction S.Store tx.old }
     ensures same_reference { KeepsReference tx.old tx.new }
     ensures finds { FindsIn S.Store tx.old tx.new (TellsEntryAt list.now index listed.now) result }
+    ensures caused { CausedIn S.Store tx.old tx.new result }
     ensures survives { CommitsNothing (inside S.Store tx.old) (inside S.Store tx.new) }
 {
     let beside = stands_at(tx, list, index, listed.serial)?;
@@ -60,6 +61,7 @@ fn ends_at<S: Alter>(
     requires inside { IsInTransaction S.Store tx.old }
     ensures same_reference { KeepsReference tx.old tx.new }
     ensures finds { FindsIn S.Store tx.old tx.new (TellsEndAt list.now index) result }
+    ensures caused { CausedIn S.Store tx.old tx.new result }
     ensures survives { CommitsNothing (inside S.Store tx.old) (inside S.Store tx.new) }
 {
     let beside = stands_at(tx, list, index, &[])?;
@@ -78,6 +80,8 @@ pub fn has_entries<S: Alter>(
     ensures same_reference { KeepsReference tx.old tx.new }
     ensures finds { FindsIn S.Store tx.old tx.new (TellsEntries list.now revoked.now) result }
     ensures ascend { IsAscending revoked.now }
+    ensures caused { CausedOrIn S.Store tx.old tx.new
+        (λ _. 4294967296 ≤ length revoked.now) result }
     ensures survives { CommitsNothing (inside S.Store tx.old) (inside S.Store tx.new) }
 {
     let all = revoked.as_slice();

@@ -11,7 +11,7 @@ ghost use Rattle.store_sql.specs.Inside.{inside, IsInTransaction, KeepsReference
 ghost use Rattle.store_rows.specs.Found.{IsHeadOf};
 ghost use Rattle.store_rows.specs.Reading.{SpellsNumber, IsShown, AreShown, RefusesRows};
 ghost use Rattle.store_rows.specs.Bound.{head_insertion};
-ghost use Rattle.store_rows.specs.Steps.{FindsIn, ChangesIn};
+ghost use Rattle.store_rows.specs.Steps.{FindsIn, CausedIn, ChangesIn};
 
 use crate::cell::{integer, octets};
 use asn::Number20;
@@ -52,6 +52,7 @@ pub fn number_of(octets: &[u8]) -> Option<Number20>
 fn read_head(row: &Row) -> Result<Head, StoreFault>
     ensures ok { IfOk result (IsShown seen_head head_cells IsNumbered row.now) }
     ensures schema { result ≡ Err StoreFault.Schema → (head : CrlHead) → row.now ≢ head_cells head }
+    ensures cell { result ≢ Err StoreFault.Store }
 {
     let octets = octets(row, 0)?;
     let from = integer(row, 1)?;
@@ -69,6 +70,7 @@ fn read_head(row: &Row) -> Result<Head, StoreFault>
 fn read_heads(rows: &[Row]) -> Result<Option<Head>, StoreFault>
     ensures ok { IfOk result (AreShown seen_head head_cells IsNumbered rows.now) }
     ensures schema { RefusesRows head_cells IsNumbered rows.now result }
+    ensures cell { result ≢ Err StoreFault.Store }
 {
     match rows {
         [] => Ok(None),
@@ -86,6 +88,7 @@ pub fn find_crl<S: Alter>(
     requires inside { IsInTransaction S.Store tx.old }
     ensures same_reference { KeepsReference tx.old tx.new }
     ensures finds { FindsIn S.Store tx.old tx.new (IsHeadOf issuer scope) result }
+    ensures caused { CausedIn S.Store tx.old tx.new result }
     ensures survives { CommitsNothing (inside S.Store tx.old) (inside S.Store tx.new) }
 {
     let key = key_of(issuer, scope);

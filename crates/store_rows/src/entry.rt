@@ -1,6 +1,6 @@
 //! Entries of revocation lists, at their places.
 
-ghost use Rattle.std.specs.Prelude.{◌≡◌, ◌<◌, ◌+◌, pos, IfOk};
+ghost use Rattle.std.specs.Prelude.{◌≡◌, ◌<◌, ◌+◌, ◌≢◌, pos, Err, IfOk};
 ghost use Rattle.store_sql.specs.Statements.{CommitsNothing};
 ghost use Rattle.store_rows.specs.Contents.{listed_cells};
 ghost use Rattle.store_rows.specs.Holding.{HasByte};
@@ -8,8 +8,9 @@ ghost use Rattle.store_sql.specs.Inside.{inside, IsInTransaction, KeepsReference
 ghost use Rattle.store_rows.specs.Found.{IsBesideAt, IsReasonIn};
 ghost use Rattle.store_rows.specs.Reading.{RefusesRow, RefusesRows, IsBesideRow, IsBesideRows};
 ghost use Rattle.store_rows.specs.Bound.{first_place};
-ghost use Rattle.store_rows.specs.Steps.{FindsIn};
+ghost use Rattle.store_rows.specs.Steps.{FindsIn, CausedIn};
 ghost use Rattle.store_sql.specs.Bindings.{entry_query};
+ghost use Rattle.store_sql.specs.Cause.{RefusesForCause};
 
 use crate::beside::{SerialAtPlace, compare};
 use crate::cell::{natural, octets};
@@ -47,6 +48,7 @@ pub(crate) fn signed(place: u64) -> i64
 fn read_entry(row: &Row, serial: &[u8]) -> Result<SerialAtPlace, StoreFault>
     ensures ok { IfOk result (IsBesideRow row.now serial.now) }
     ensures schema { RefusesRow listed_cells HasByte row.now result }
+    ensures cell { result ≢ Err StoreFault.Store }
 {
     let reason = natural(row, 1, 256)?;
     let there = octets(row, 0)?;
@@ -56,6 +58,7 @@ fn read_entry(row: &Row, serial: &[u8]) -> Result<SerialAtPlace, StoreFault>
 fn read_entries(rows: &[Row], serial: &[u8]) -> Result<SerialAtPlace, StoreFault>
     ensures ok { IfOk result (IsBesideRows rows.now serial.now) }
     ensures schema { RefusesRows listed_cells HasByte rows.now result }
+    ensures cell { result ≢ Err StoreFault.Store }
 {
     match rows {
         [] => Ok(SerialAtPlace::Nothing),
@@ -69,6 +72,7 @@ fn rows_at<S: Alter>(tx: &mut Transaction<'_, S>, place: u64) -> Result<Vec<Row>
     ensures same_reference { KeepsReference tx.old tx.new }
     ensures shows { SelectsIn S.Store tx.old tx.new (entry_query (pos place)) result }
     ensures kept { KeepsCommitOnError S.Store tx.old tx.new result }
+    ensures cause { RefusesForCause S.Store tx.old tx.new result }
     ensures survives { CommitsNothing (inside S.Store tx.old) (inside S.Store tx.new) }
 {
     entry_rows(tx, signed(place))
@@ -86,6 +90,7 @@ pub(crate) fn stands_at<S: Alter>(
     requires inside { IsInTransaction S.Store tx.old }
     ensures same_reference { KeepsReference tx.old tx.new }
     ensures finds { FindsIn S.Store tx.old tx.new (IsBesideAt list.now index serial.now) result }
+    ensures caused { CausedIn S.Store tx.old tx.new result }
     ensures survives { CommitsNothing (inside S.Store tx.old) (inside S.Store tx.new) }
 {
     let place = base_of(list) + index;
@@ -103,6 +108,7 @@ pub fn find_entry<S: Alter>(
     requires inside { IsInTransaction S.Store tx.old }
     ensures same_reference { KeepsReference tx.old tx.new }
     ensures finds { FindsIn S.Store tx.old tx.new (IsReasonIn list.now serial.now) result }
+    ensures caused { CausedIn S.Store tx.old tx.new result }
     ensures survives { CommitsNothing (inside S.Store tx.old) (inside S.Store tx.new) }
 {
     let mut low: u64 = 0;

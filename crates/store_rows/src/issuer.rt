@@ -1,6 +1,6 @@
 //! Issuers and their ids.
 
-ghost use Rattle.std.specs.Prelude.{IfOk, IfSome};
+ghost use Rattle.std.specs.Prelude.{◌≢◌, Err, IfOk, IfSome};
 ghost use Rattle.store_sql.specs.Statements.{CommitsNothing};
 ghost use Rattle.statements_facts.specs.Fact.{issuer_of};
 ghost use Rattle.store_rows.specs.Contents.{id_cells};
@@ -8,7 +8,7 @@ ghost use Rattle.store_rows.specs.Holding.{HasRoom, with_issuer};
 ghost use Rattle.store_sql.specs.Inside.{inside, IsInTransaction, KeepsReference};
 ghost use Rattle.store_rows.specs.Found.{IsIssuerId};
 ghost use Rattle.store_rows.specs.Reading.{RefusesRows, IsIdShown};
-ghost use Rattle.store_rows.specs.Steps.{FindsIn, KnowsIn, ChangesIn};
+ghost use Rattle.store_rows.specs.Steps.{FindsIn, KnowsIn, CausedIn, ChangesIn};
 
 use crate::cell::natural;
 use sqlite::{Alter, Row, Transaction};
@@ -22,6 +22,7 @@ fn read_ids(rows: &[Row]) -> Result<Option<u32>, StoreFault>
     ensures ok { IfOk result (IsIdShown rows.now) }
     ensures room { IfOk result (λ found. IfSome found HasRoom) }
     ensures schema { RefusesRows id_cells HasRoom rows.now result }
+    ensures cell { result ≢ Err StoreFault.Store }
 {
     match rows {
         [] => Ok(None),
@@ -40,6 +41,7 @@ pub fn find_issuer<S: Alter>(
     ensures finds { FindsIn S.Store tx.old tx.new (IsIssuerId (issuer_of issuer.now)) result }
     ensures known { KnowsIn S.Store tx.old tx.new (issuer_of issuer.now) result }
     ensures room { IfOk result (λ id. IfSome id HasRoom) }
+    ensures caused { CausedIn S.Store tx.old tx.new result }
     ensures survives { CommitsNothing (inside S.Store tx.old) (inside S.Store tx.new) }
 {
     let rows = issuer_rows(tx, issuer.name.as_slice(), issuer.key_info)?;

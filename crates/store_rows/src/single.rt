@@ -1,6 +1,6 @@
 //! What responses say of single certificates.
 
-ghost use Rattle.std.specs.Prelude.{◌≡◌, pos, IfOk, IfSome, IfNone};
+ghost use Rattle.std.specs.Prelude.{◌≡◌, ◌≢◌, pos, Err, IfOk, IfSome, IfNone};
 ghost use Rattle.statements_facts.specs.Single.{seen_single};
 ghost use Rattle.store_sql.specs.Statements.{CommitsNothing};
 ghost use Rattle.store_rows.specs.Contents.{said_cells, status_number, reason_number};
@@ -9,7 +9,7 @@ ghost use Rattle.store_rows.specs.Seen.{seen_held_status};
 ghost use Rattle.store_sql.specs.Inside.{inside, IsInTransaction, KeepsReference};
 ghost use Rattle.store_rows.specs.Found.{SaysOf};
 ghost use Rattle.store_rows.specs.Reading.{AreShown, RefusesRow, RefusesRows, HasNumbers, AreOfNoStatus, HasStatusCells, RefusesStatus, IsSaidIn};
-ghost use Rattle.store_rows.specs.Steps.{FindsIn, ChangesIn};
+ghost use Rattle.store_rows.specs.Steps.{FindsIn, CausedIn, ChangesIn};
 ghost use Rattle.store_sql.specs.Bindings.{said_params};
 
 use crate::cell::{integer, natural};
@@ -65,6 +65,7 @@ fn status_of(status: u32, reason: u8) -> Option<Status>
 fn read_status(row: &Row) -> Result<Status, StoreFault>
     ensures ok { IfOk result (HasStatusCells row.now) }
     ensures schema { RefusesStatus row.now result }
+    ensures cell { result ≢ Err StoreFault.Store }
 {
     let status = natural(row, 4, 3)?;
     let reason = natural(row, 5, 256)?;
@@ -77,6 +78,7 @@ fn read_status(row: &Row) -> Result<Status, StoreFault>
 fn read_said(row: &Row) -> Result<HeldStatus, StoreFault>
     ensures ok { IfOk result (IsSaidIn row.now) }
     ensures schema { RefusesRow said_cells IsSaid row.now result }
+    ensures cell { result ≢ Err StoreFault.Store }
 {
     let this_update = integer(row, 0)?;
     let produced_at = integer(row, 1)?;
@@ -95,6 +97,7 @@ fn read_said(row: &Row) -> Result<HeldStatus, StoreFault>
 fn read_all(rows: &[Row]) -> Result<Option<HeldStatus>, StoreFault>
     ensures ok { IfOk result (AreShown seen_held_status said_cells IsSaid rows.now) }
     ensures schema { RefusesRows said_cells IsSaid rows.now result }
+    ensures cell { result ≢ Err StoreFault.Store }
 {
     match rows {
         [] => Ok(None),
@@ -125,6 +128,7 @@ pub fn find_single<'x, S: Alter>(
     requires inside { IsInTransaction S.Store tx.old }
     ensures same_reference { KeepsReference tx.old tx.new }
     ensures finds { FindsIn S.Store tx.old tx.new (SaysOf issuer name_hash.now serial.now) result }
+    ensures caused { CausedIn S.Store tx.old tx.new result }
     ensures survives { CommitsNothing (inside S.Store tx.old) (inside S.Store tx.new) }
 {
     let key = key_of(issuer, name_hash, serial);

@@ -6,3 +6,4 @@ pub use Rattle.store_sql.proofs.Rowids.{less_is, below_next, rises_kept, rises_p
 pub use Rattle.store_sql.proofs.TableWrites.{went, same_value}
 pub use Rattle.store_sql.proofs.Keys.{at_most, one_row, one_passes}
 pub use Rattle.store_sql.proofs.Making.{MakesTable, makes}
+pub use Rattle.store_sql.proofs.Refusing.{IsWhole, query_caused, failure_caused, not_run_caused, later_refuses, sooner_refuses, if_err_then}

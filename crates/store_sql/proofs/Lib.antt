@@ -8,4 +8,5 @@ mod TableSteps
 mod Meaning
 mod Keys
 mod Making
+mod Refusing
 pub mod Laws

@@ -16,7 +16,7 @@ store_fault_name Store = codes "Store"
 store_fault_name Schema = codes "Schema"
 store_fault_name Memory = codes "Memory"
 
--- what a refusal of the database is: want of memory, or another
+-- what a refusal of the database is: that memory ran out, or another
 abbrev pub fault_from : Error → StoreFault
 fault_from (SqliteFailure OutOfMemory) = Memory
 fault_from _ = Store

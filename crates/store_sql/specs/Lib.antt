@@ -5,3 +5,4 @@ pub mod Queries
 pub mod Statements
 pub mod Inside
 pub mod Bindings
+pub mod Cause

@@ -2,6 +2,7 @@
 
 ghost use Rattle.store_sql.specs.Statements.{CommitsNothing};
 ghost use Rattle.store_sql.specs.Inside.{inside, KeepsReference, KeepsCommitOnError, SelectsIn, RunsIn};
+ghost use Rattle.store_sql.specs.Cause.{RefusesForCause};
 ghost use Rattle.store_sql.specs.Bindings.{crl_query, crl_deletion, crl_insertion};
 
 use sqlite::types::ValueRef;
@@ -29,6 +30,7 @@ pub struct CrlCells<'a> {
 pub fn crl_rows<S: Alter>(tx: &mut Transaction<'_, S>, key: &CrlKey) -> Result<Vec<Row>, Error>
     ensures same_reference { KeepsReference tx.old tx.new }
     ensures shows { SelectsIn S.Store tx.old tx.new (crl_query key.now) result }
+    ensures cause { RefusesForCause S.Store tx.old tx.new result }
     ensures kept { KeepsCommitOnError S.Store tx.old tx.new result }
     ensures survives { CommitsNothing (inside S.Store tx.old) (inside S.Store tx.new) }
 {

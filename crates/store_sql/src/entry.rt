@@ -2,6 +2,7 @@
 
 ghost use Rattle.store_sql.specs.Statements.{CommitsNothing};
 ghost use Rattle.store_sql.specs.Inside.{inside, KeepsReference, KeepsCommitOnError, SelectsIn, RunsIn};
+ghost use Rattle.store_sql.specs.Cause.{RefusesForCause};
 ghost use Rattle.store_sql.specs.Bindings.{entry_query, entries_query, entries_deletion, entry_insertion};
 
 use sqlite::types::ValueRef;
@@ -31,6 +32,7 @@ pub struct EntryCells<'a> {
 pub fn entry_rows<S: Alter>(tx: &mut Transaction<'_, S>, place: i64) -> Result<Vec<Row>, Error>
     ensures same_reference { KeepsReference tx.old tx.new }
     ensures shows { SelectsIn S.Store tx.old tx.new (entry_query place) result }
+    ensures cause { RefusesForCause S.Store tx.old tx.new result }
     ensures kept { KeepsCommitOnError S.Store tx.old tx.new result }
     ensures survives { CommitsNothing (inside S.Store tx.old) (inside S.Store tx.new) }
 {
@@ -47,6 +49,7 @@ pub fn entries_between<S: Alter>(
 ) -> Result<Vec<Row>, Error>
     ensures same_reference { KeepsReference tx.old tx.new }
     ensures shows { SelectsIn S.Store tx.old tx.new (entries_query places.now) result }
+    ensures cause { RefusesForCause S.Store tx.old tx.new result }
     ensures kept { KeepsCommitOnError S.Store tx.old tx.new result }
     ensures survives { CommitsNothing (inside S.Store tx.old) (inside S.Store tx.new) }
 {

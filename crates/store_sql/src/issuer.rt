@@ -2,6 +2,7 @@
 
 ghost use Rattle.store_sql.specs.Statements.{CommitsNothing};
 ghost use Rattle.store_sql.specs.Inside.{inside, KeepsReference, KeepsCommitOnError, SelectsIn, RunsIn};
+ghost use Rattle.store_sql.specs.Cause.{RefusesForCause};
 ghost use Rattle.store_sql.specs.Bindings.{issuer_query, issuer_insertion};
 
 use sqlite::types::ValueRef;
@@ -15,6 +16,7 @@ pub fn issuer_rows<'x, S: Alter>(
 ) -> Result<Vec<Row>, Error>
     ensures same_reference { KeepsReference tx.old tx.new }
     ensures shows { SelectsIn S.Store tx.old tx.new (issuer_query name.now key_info.now) result }
+    ensures cause { RefusesForCause S.Store tx.old tx.new result }
     ensures kept { KeepsCommitOnError S.Store tx.old tx.new result }
     ensures survives { CommitsNothing (inside S.Store tx.old) (inside S.Store tx.new) }
 {

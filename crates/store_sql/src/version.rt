@@ -2,6 +2,7 @@
 
 ghost use Rattle.store_sql.specs.Statements.{CommitsNothing};
 ghost use Rattle.store_sql.specs.Inside.{inside, KeepsReference, KeepsCommitOnError, SelectsIn, RunsIn};
+ghost use Rattle.store_sql.specs.Cause.{RefusesForCause};
 ghost use Rattle.store_sql.specs.Bindings.{versions_query, version_deletion, version_insertion};
 
 use sqlite::types::ValueRef;
@@ -11,6 +12,7 @@ use sqlite::{Alter, Error, Row, Transaction};
 pub fn version_rows<S: Alter>(tx: &mut Transaction<'_, S>) -> Result<Vec<Row>, Error>
     ensures same_reference { KeepsReference tx.old tx.new }
     ensures shows { SelectsIn S.Store tx.old tx.new versions_query result }
+    ensures cause { RefusesForCause S.Store tx.old tx.new result }
     ensures kept { KeepsCommitOnError S.Store tx.old tx.new result }
     ensures survives { CommitsNothing (inside S.Store tx.old) (inside S.Store tx.new) }
 {

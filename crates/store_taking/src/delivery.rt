@@ -1,6 +1,6 @@
 //! Deliveries: all facts of a statement, in one transaction.
 
-ghost use Rattle.std.specs.Prelude.{◌≡◌, false};
+ghost use Rattle.std.specs.Prelude.{◌≡◌, false, Err, IsTrue};
 ghost use Rattle.sqlite.specs.Held.{state};
 ghost use Rattle.statements_facts.specs.Fact.{facts_in};
 ghost use Rattle.store_sql.specs.Statements.{CommitsNothing, IsDurable};
@@ -75,6 +75,7 @@ fn deliver<S: Alter>(conn: &mut Connection<S>, facts: &Facts<'_>) -> Result<Coun
 /// held is as it was. A connection in a transaction is refused.
 pub fn put<S: Alter>(conn: &mut Connection<S>, facts: &Facts<'_>) -> Result<Counts, StoreFault>
     ensures idle { conn.old.in_transaction ≡ false → conn.new.in_transaction ≡ false }
+    ensures busy { IsTrue conn.old.in_transaction → result ≡ Err StoreFault.Store }
     ensures puts { PutsFacts (state S.Store conn.old) (state S.Store conn.new) facts.now result }
     ensures survives { AllOrNothing (state S.Store conn.old) (state S.Store conn.new) facts.now }
 {

@@ -2,10 +2,10 @@ use Rattle.std.proofs.Common.{◌≡◌, Ok, Err, rules, subst, arith}
 use Rattle.sqlite.specs.Held.{state}
 use Rattle.relying_agreement.specs.Verdict.{IsVerdict}
 use Rattle.sqlite.specs.State.{HasCleanDisk}
-use Rattle.relying_verdicts.specs.Asking.{IsInvalidOrOpen}
+use Rattle.relying_verdicts.specs.Asking.{AskIsCaused, IsInvalidOrOpen}
 use Rattle.relying_verdicts.specs.View.{seen_query}
 use Rattle.relying.specs.Asking.{LooksInside}
-use Rattle.relying.proofs.Looking.{looked, opened}
+use Rattle.relying.proofs.Looking.{asked_at, looked, opened}
 use Rattle.relying.proofs.verdicts.verdict_in_transaction.Goals as goal
 
 pub returns-in-Ok-clause-looks : goal.returns-in-Ok-clause-looks
@@ -32,3 +32,10 @@ returns-in-Ok-clause-open g c =
     subst (λ h. HasCleanDisk (state g.S.Store h) → IsInvalidOrOpen (g.V.Verifier.accepts c.args.verifier.now) (seen_query c.args.query.now) (state g.S.Store c.args.conn.now).is_open c.in-Ok.verdict) same
     (λ clean. let step = c.drop-tx.ensures.survives.clean in
     opened (g.V.Verifier.accepts c.args.verifier.now) (seen_query c.args.query.now) g.S.Store c.args.conn.now c.transaction-tx.result.conn.now c.in-Ok.verdict c.transaction-tx.ensures.begun (c.in-Ok.ensures.open (omega (arith, step, clean))))
+
+pub returns-clause-caused : goal.returns-clause-caused
+returns-clause-caused g c =
+    let same : c.drop-tx-2.new.self.0 ≡ c.conn-2-1.given.0 = search rules in
+    subst (λ h. HasCleanDisk (state g.S.Store h) → AskIsCaused (state g.S.Store c.args.conn.now) (state g.S.Store h) c.in-Err.fault) same
+    (λ clean. let step = c.drop-tx-2.ensures.survives.clean in
+    asked_at g.S.Store c.args.conn.now c.transaction-tx.result.conn.now (state g.S.Store c.verdict.new.tx.conn.now) (state g.S.Store c.drop-tx-2.new.self.0) c.in-Err.fault c.transaction-tx.ensures.begun (c.in-Err.ensures.caused (omega (arith, step, clean))) c.drop-tx-2.ensures.survives)

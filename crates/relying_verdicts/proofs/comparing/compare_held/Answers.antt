@@ -1,7 +1,8 @@
 use Rattle.std.proofs.Common.{arith, ◌≡◌, vec_len, map, ap, ◌∙◌}
+use Rattle.store_sql.specs.Inside.{inside}
 use Rattle.relying_verdicts.specs.View.{seen_evidence}
 use Rattle.relying_verdicts.proofs.Opening.{are_asked, some_found}
-use Rattle.relying_verdicts.proofs.Chains.{first_fails, other_fails, both_found}
+use Rattle.relying_verdicts.proofs.Chains.{first_fails, other_fails, both_found, first_caused, other_caused}
 use Rattle.relying_verdicts.proofs.Differing.{compared_as}
 use Rattle.relying_verdicts.proofs.comparing.compare_held.Goals as goal
 
@@ -24,3 +25,11 @@ returns-in-Ok-evidence_on-clause-open g c clean other_clean some =
     are_asked _ _ c.args.query.now.moment (map seen_evidence c.as_slice.result.now) (map seen_evidence c.as_slice-in-Ok-evidence_on.result.now) c.compare_at.result c.compare_at.ensures
     (c.in-Ok.ensures.open clean (some_found c.in-Ok.held.items c.args.query.now.path.items (omega (arith, c.in-Ok.ensures.count)) some))
     (c.in-Ok-evidence_on.ensures.open other_clean (some_found c.in-Ok-evidence_on.others.items c.args.query.now.path.items (omega (arith, count)) some))
+
+pub returns-in-Err-clause-caused : goal.returns-in-Err-clause-caused
+returns-in-Err-clause-caused g c clean other_clean =
+    first_caused (inside g.S.Store c.args.one.now) (inside g.S.Store c.evidence_on.new.tx) (inside g.D.Store c.args.other.now) (inside g.D.Store c.args.other.now) c.in-Err.fault (c.in-Err.ensures.caused clean)
+
+pub returns-clause-caused : goal.returns-clause-caused
+returns-clause-caused g c clean other_clean =
+    other_caused (inside g.S.Store c.args.one.now) (inside g.S.Store c.evidence_on.new.tx) (inside g.D.Store c.args.other.now) (inside g.D.Store c.evidence_on-2.new.tx) c.in-Err-evidence_on.fault (c.in-Err-evidence_on.ensures.caused other_clean)

@@ -1,8 +1,10 @@
 use Rattle.std.proofs.Common.{arith, ◌≡◌, ◌+◌, ◌<◌, ◌++◌, [], ◌∷◌, get_or, length, refl, sym, subst, ◌∙◌}
 use Rattle.cert.specs.Certificate.{seen_certificate}
+use Rattle.sqlite.specs.State.{HasCleanDisk}
+use Rattle.store_sql.specs.Inside.{inside}
 use Rattle.relying_verdicts.specs.View.{seen_query}
 use Rattle.relying_verdicts.proofs.Answering.{counted, pushed}
-use Rattle.relying_verdicts.proofs.Chains.{gives_up_then, both_commit_nothing, found_as, found_then}
+use Rattle.relying_verdicts.proofs.Chains.{gives_up_then, both_commit_nothing, found_as, found_then, asked_then}
 use Rattle.relying_verdicts.proofs.Links.{IsSoFar, ends, goes_on}
 use Rattle.relying_verdicts.proofs.looking.evidence_on.Goals as goal
 
@@ -32,3 +34,8 @@ returns-clause-asks g c clean =
 
 pub returns-clause-open : goal.returns-clause-open
 returns-clause-open g c clean = c.loop-index.invariant.4 clean
+
+pub returns-in-Err-clause-caused : goal.returns-in-Err-clause-caused
+returns-in-Err-clause-caused g c clean =
+    let before : HasCleanDisk (inside g.S.Store c.loop-index.tx) = omega (arith, clean, c.evidence_of.ensures.survives.clean) in
+    asked_then (inside g.S.Store c.args.tx.now) (inside g.S.Store c.loop-index.tx) (inside g.S.Store c.evidence_of.new.tx) _ c.loop-index.all.items c.in-Err.fault c.loop-index.invariant.1 c.evidence_of.ensures.survives before (c.loop-index.invariant.3 before) (c.in-Err.ensures.caused clean)

@@ -44,3 +44,11 @@ pub returns-in-Err-inspect-clause-crash : goal.returns-in-Err-inspect-clause-cra
 returns-in-Err-inspect-clause-crash g c =
     let old = state g.S.Store c.args.conn.now in
     survives_weaker old (state g.S.Store c.inspect.new.conn) (λ _. ⊥) (LeavesMigrated old) (λ clean db none. absurd none) c.inspect.ensures.survives
+
+pub returns-in-Err-clause-caused : goal.returns-in-Err-clause-caused
+returns-in-Err-clause-caused g c clean lacks =
+    let has : (state g.S.Store c.args.conn.now).now.schema ≡ version_1_schema = search rules in
+    absurd (lacks has)
+
+pub returns-in-Err-inspect-clause-caused : goal.returns-in-Err-inspect-clause-caused
+returns-in-Err-inspect-clause-caused g c clean lacks = c.in-Err-inspect.ensures.caused clean

@@ -2,12 +2,13 @@ use Rattle.std.proofs.Common.{◌≡◌, rules, subst, arith}
 use Rattle.sqlite.specs.Held.{state}
 use Rattle.sqlite.specs.State.{HasCleanDisk, KeepsCommit}
 use Rattle.statements_facts.specs.Statement.{Holdings}
+use Rattle.store_maps.specs.LooksUp.{IsCausedOverStore}
 use Rattle.store_maps.specs.Held.{IsStoreOf}
 use Rattle.std.specs.Option.{option_map}
 use Rattle.statements_facts.specs.Fact.{issuer_of}
 use Rattle.store_rows.specs.Seen.{seen_held_status}
 use Rattle.store_sql.specs.declared.fault.StoreFault.{StoreFault}
-use Rattle.store.proofs.Looking.{fails_at, found_at}
+use Rattle.store.proofs.Looking.{caused_at, fails_at, found_at}
 use Rattle.store.proofs.look_up.ocsp_in_transaction.Goals as goal
 
 pub returns-clause-looks_at : goal.returns-clause-looks_at
@@ -25,3 +26,11 @@ returns-in-Ok-clause-looks_at g c =
     (λ clean.
     let step = c.drop-tx.ensures.survives.clean in
     found_at g.S.Store c.args.conn.now c.transaction-tx.result.conn.now (state g.S.Store c.ocsp.new.tx.conn.now) (state g.S.Store c.drop-tx.new.self.0) (λ held it. option_map seen_held_status it ≡ held.ocsp (record { issuer = issuer_of c.args.issuer.now; name_hash = c.args.name_hash.now; serial = c.args.serial.now })) c.in-Ok.said c.transaction-tx.ensures.begun (c.in-Ok.ensures.looks_up (omega (arith, step, clean))) (c.drop-tx.ensures.undone clean))
+
+pub returns-clause-caused : goal.returns-clause-caused
+returns-clause-caused g c =
+    let same : c.drop-tx-2.new.self.0 ≡ c.conn-2-1.given.0 = search rules in
+    subst (λ h. HasCleanDisk (state g.S.Store h) → IsCausedOverStore (state g.S.Store c.args.conn.now) (state g.S.Store h) c.in-Err.fault) same
+    (λ clean.
+    let step = c.drop-tx-2.ensures.survives.clean in
+    caused_at g.S.Store c.args.conn.now c.transaction-tx.result.conn.now (state g.S.Store c.ocsp.new.tx.conn.now) (state g.S.Store c.drop-tx-2.new.self.0) c.in-Err.fault c.transaction-tx.ensures.begun (c.in-Err.ensures.caused (omega (arith, step, clean))) c.drop-tx-2.ensures.survives)

@@ -7,8 +7,10 @@ use Rattle.store_sql.specs.Tables.{store_schema, entries_tree}
 use Rattle.store_adoption.specs.Texts.{all_entries}
 use Rattle.store_adoption.specs.Cells.{IsEntryCells, AreChained, entry_in}
 use Rattle.store_adoption.specs.Inspects.{entry_cells}
+use Rattle.store_adoption.specs.Tests.{IsAnswered}
+use Rattle.store_adoption.proofs.Answered.{answers_entries}
 use Rattle.store_adoption.proofs.Meaning.{shows_entries}
-use Rattle.store_adoption.proofs.Inspecting.{checked}
+use Rattle.store_adoption.proofs.Inspecting.{checked, stopped}
 use Rattle.store_adoption.proofs.Placed.{in_order}
 use Rattle.store_adoption.proofs.inspection.inspect_entries.Goals as goal
 
@@ -31,3 +33,12 @@ returns-clause-checks g c clean =
     let ours = c.requires.ours (omega (arith, step, clean)) in
     let it = shows_entries c.args.origin in
     checked (store_schema c.args.origin) all_entries (entries_tree c.args.origin) _ _ entry_cells it.0 it.1 it.2 (λ r. refl) {A = Unit {0}} old _ (λ _. Unit {0}) (λ rows. AllByRecursion IsEntryCells rows × AreChained None (map entry_in rows)) (Err c.in-Err.fault) ours (λ ordered. (in_order c.args.origin old.now ours ordered).entries.0) (c.in-Err.ensures.tests clean)
+
+pub returns-clause-caused : goal.returns-clause-caused
+returns-clause-caused g c clean e ordered =
+    let old = state g.S.Store c.args.conn.now in
+    let step = c.test_rows.ensures.survives.clean in
+    let ours = c.requires.ours (omega (arith, step, clean)) in
+    let it = shows_entries c.args.origin in
+    stopped (store_schema c.args.origin) all_entries (entries_tree c.args.origin) _ _ entry_cells it.0 it.1 it.2 (λ r. refl) old (state g.S.Store c.test_rows.new.conn) ours (in_order c.args.origin old.now ours ordered).entries.0
+    (c.in-Err.ensures.caused clean (subst (λ s. IsAnswered s all_entries (understood s all_entries)) (sym ours) (answers_entries c.args.origin)) e)

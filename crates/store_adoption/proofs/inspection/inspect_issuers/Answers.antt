@@ -7,8 +7,10 @@ use Rattle.store_sql.specs.Tables.{store_schema}
 use Rattle.store_adoption.specs.Texts.{all_issuers}
 use Rattle.store_adoption.specs.Cells.{IsIssuerCells}
 use Rattle.store_adoption.specs.Inspects.{issuer_cells}
+use Rattle.store_adoption.specs.Tests.{IsAnswered}
+use Rattle.store_adoption.proofs.Answered.{answers_issuers}
 use Rattle.store_adoption.proofs.Meaning.{shows_issuers}
-use Rattle.store_adoption.proofs.Inspecting.{checked}
+use Rattle.store_adoption.proofs.Inspecting.{checked, stopped}
 use Rattle.store_adoption.proofs.Placed.{in_order}
 use Rattle.store_adoption.proofs.inspection.inspect_issuers.Goals as goal
 
@@ -31,3 +33,12 @@ returns-in-Err-clause-checks g c clean =
     let ours = c.requires.ours (omega (arith, step, clean)) in
     let it = shows_issuers c.args.origin in
     checked (store_schema c.args.origin) all_issuers 1 _ _ issuer_cells it.0 it.1 it.2 (λ r. refl) {A = Unit {0}} old _ (λ _. Unit {0}) (AllByRecursion IsIssuerCells) (Err c.in-Err.fault) ours (λ ordered. (in_order c.args.origin old.now ours ordered).issuers.0) (c.in-Err.ensures.tests clean)
+
+pub returns-in-Err-clause-caused : goal.returns-in-Err-clause-caused
+returns-in-Err-clause-caused g c clean e ordered =
+    let old = state g.S.Store c.args.conn.now in
+    let step = c.test_rows.ensures.survives.clean in
+    let ours = c.requires.ours (omega (arith, step, clean)) in
+    let it = shows_issuers c.args.origin in
+    stopped (store_schema c.args.origin) all_issuers 1 _ _ issuer_cells it.0 it.1 it.2 (λ r. refl) old (state g.S.Store c.test_rows.new.conn) ours (in_order c.args.origin old.now ours ordered).issuers.0
+    (c.in-Err.ensures.caused clean (subst (λ s. IsAnswered s all_issuers (understood s all_issuers)) (sym ours) (answers_issuers c.args.origin)) e)

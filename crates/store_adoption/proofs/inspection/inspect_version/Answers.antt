@@ -8,8 +8,10 @@ use Rattle.store_sql.specs.Tables.{store_schema}
 use Rattle.store_adoption.specs.Texts.{all_versions}
 use Rattle.store_adoption.specs.Cells.{IsVersionCells}
 use Rattle.store_adoption.specs.Inspects.{version_cells}
+use Rattle.store_adoption.specs.Tests.{IsAnswered}
+use Rattle.store_adoption.proofs.Answered.{answers_versions}
 use Rattle.store_adoption.proofs.Meaning.{shows_versions}
-use Rattle.store_adoption.proofs.Inspecting.{checked}
+use Rattle.store_adoption.proofs.Inspecting.{checked, stopped}
 use Rattle.store_adoption.proofs.Placed.{in_order}
 use Rattle.store_adoption.proofs.inspection.inspect_version.Goals as goal
 
@@ -41,3 +43,12 @@ returns-else-test-clause-checks g c clean =
     let it = shows_versions c.args.origin in
     let h = checked (store_schema c.args.origin) all_versions 0 _ _ version_cells it.0 it.1 it.2 (λ r. refl) {A = Unit {0}} old _ _ (λ rows. AllByRecursion (IsVersionCells 2) rows × (length rows ≡ 1)) (Ok c.in_default.field-0) ours (λ ordered. (in_order c.args.origin old.now ours ordered).versions.0) (c.in_default.ensures.tests clean) in
     (unchanged_keeps old (state g.S.Store c.test_rows.new.conn) (inl h.0), λ same ordered formed. let all = h.1 ordered in let none = rw c.if-test.false at all.1 in let one = formed.1 in absurd (omega (arith, none, one)))
+
+pub returns-in-Err-clause-caused : goal.returns-in-Err-clause-caused
+returns-in-Err-clause-caused g c clean e ordered =
+    let old = state g.S.Store c.args.conn.now in
+    let step = c.test_rows.ensures.survives.clean in
+    let ours = c.requires.ours (omega (arith, step, clean)) in
+    let it = shows_versions c.args.origin in
+    stopped (store_schema c.args.origin) all_versions 0 _ _ version_cells it.0 it.1 it.2 (λ r. refl) old (state g.S.Store c.test_rows.new.conn) ours (in_order c.args.origin old.now ours ordered).versions.0
+    (c.in-Err.ensures.caused clean (subst (λ s. IsAnswered s all_versions (understood s all_versions)) (sym ours) (answers_versions c.args.origin)) e)

@@ -1,4 +1,4 @@
-use Rattle.std.proofs.Common.{◌≡◌, ◌++◌, ◌∷◌, [], Err, Some, None, rules, refl, sym, ap, subst, ◌∙◌, inl, arith}
+use Rattle.std.proofs.Common.{◌≡◌, ◌++◌, ◌∷◌, [], Err, Some, None, rules, refl, sym, ap, subst, ◌∙◌, inl, inr, arith, length-append}
 use Rattle.std.specs.Option.{option_copied}
 use Rattle.sqlite.specs.Held.{state}
 use Rattle.sqlite.specs.State.{HasCleanDisk, Survives, FailsToQuery, CommitsShowing}
@@ -7,9 +7,12 @@ use Rattle.sqlite.proofs.StateLemmas.{survives_then}
 use Rattle.sqlite.proofs.InsideLemmas.{unchanged_keeps, keeps_then}
 use Rattle.sqlite.proofs.Callers.{begun_plain, given_begin, unchanged_then}
 use Rattle.store_sql.specs.declared.fault.StoreFault.TheVariants.{Store}
-use Rattle.store_adoption.specs.Tests.{AllPass, TestFails}
+use Rattle.sqlite.specs.Effect.{Database}
+use Rattle.sqlite.specs.Listing.{understood}
+use Rattle.store_sql.proofs.Laws.{later_refuses}
+use Rattle.store_adoption.specs.Tests.{AllPass, IsAnswered, IsStopped, TestFails}
 use Rattle.store_sql.specs.declared.fault.StoreFault.{StoreFault}
-use Rattle.store_adoption.proofs.Testing.{advance_keeps, all_pass, gave_up, query_keeps, refused, shows_nothing}
+use Rattle.store_adoption.proofs.Testing.{asked_caused, advance_keeps, all_pass, gave_up, query_keeps, refused, shows_nothing}
 use Rattle.store_adoption.proofs.row_test.test_rows.Goals as goal
 
 pub returns-in-Err-clause-tests : goal.returns-in-Err-clause-tests
@@ -18,7 +21,7 @@ returns-in-Err-clause-tests g c clean =
     let new = state g.S.Store c.query.follows.lender-at-none in
     let held = c.query.follows.holds-at-none in
     let failed : FailsToQuery c.args.sql.now [] old new c.in-Err.error = search rules in
-    gave_up c.args.sql.now old new (g.T.RowTest.are_formed c.args.test.now) c.fault_of.result c.fault_of.ensures (query_keeps old new c.args.sql.now [] c.in-Err.error failed)
+    gave_up c.args.sql.now old new (g.T.RowTest.are_formed c.args.test.now) c.fault_of.result c.fault_of.ensures.form (query_keeps old new c.args.sql.now [] c.in-Err.error failed)
 
 pub returns-in-Err-clause-survives : goal.returns-in-Err-clause-survives
 returns-in-Err-clause-survives g c =
@@ -36,7 +39,7 @@ returns-in-Err-advance-clause-tests g c =
     let same : c.advance.new.self.conn.now ≡ c.conn-in-Err-advance-1.given.0 = search rules in
     let step = c.advance.ensures.survives.clean in
     subst (λ h. HasCleanDisk (state g.S.Store h) → TestFails old (state g.S.Store h) c.args.sql.now (g.T.RowTest.are_formed c.args.test.now) c.fault_of-in-Err-advance.result) same
-    (λ clean. gave_up c.args.sql.now old new (g.T.RowTest.are_formed c.args.test.now) c.fault_of-in-Err-advance.result c.fault_of-in-Err-advance.ensures
+    (λ clean. gave_up c.args.sql.now old new (g.T.RowTest.are_formed c.args.test.now) c.fault_of-in-Err-advance.result c.fault_of-in-Err-advance.ensures.form
     (keeps_then old mid new (unchanged_keeps old mid (inl (c.each.invariant.3 (omega (arith, step, clean))).2)) (advance_keeps mid new c.in-Err-advance.error (c.in-Err-advance.ensures.kept clean))))
 
 pub returns-in-Err-advance-clause-survives : goal.returns-in-Err-advance-clause-survives
@@ -91,7 +94,7 @@ each-preserved g c =
       λ clean.
           let was = c.each.invariant.3 (omega (arith, step, clean)) in
           let moves = subst (λ r. Advances g.S.Store c.each.rows.conn.now c.advance.new.self.conn.now r) given (c.in_default.ensures.ok clean) in
-          (was.0 ++ c.in-Some.row.now ∷ [], moves c.args.sql.now [] was.0 was.1, unchanged_then old mid new was.2 (c.in_default.ensures.same clean), c.in_default-take.ensures.passed was.0 was.3),
+          (was.0 ++ c.in-Some.row.now ∷ [], moves c.args.sql.now [] was.0 was.1, unchanged_then old mid new was.2 (c.in_default.ensures.same clean), c.in_default-take.ensures.passed was.0 was.3, omega (arith, was.4, length-append was.0 (c.in-Some.row.now ∷ []))),
       λ rows. (λ formed. (c.in_default-take.ensures.same rows).0 ((c.each.invariant.4 rows).0 formed), λ formed. (c.each.invariant.4 rows).1 ((c.in_default-take.ensures.same rows).1 formed)),
     )
 
@@ -107,4 +110,37 @@ pub each-init : goal.each-init
 each-init g c =
     let made = c.in-Ok.ensures in
     let begun = λ (clean : HasCleanDisk (state g.S.Store c.in-Ok.rows.conn.now)). begun_plain g.S.Store c.args.sql.now [] c.args.conn.now c.in-Ok.rows.conn.now (c.requires.plain (let s = made.survives.clean in omega (arith, s, clean))) (made.begun clean) in
-    (refl, made.mode c.requires.idle, shows_nothing c.args.sql.now _ _ c.requires.plain made.survives, λ clean. ([], (begun clean).0, (begun clean).1, c.requires.start), λ rows. (λ h. h, λ h. h))
+    (refl, made.mode c.requires.idle, shows_nothing c.args.sql.now _ _ c.requires.plain made.survives, λ clean. ([], (begun clean).0, (begun clean).1, c.requires.start, refl), λ rows. (λ h. h, λ h. h))
+
+pub returns-in-Err-clause-caused : goal.returns-in-Err-clause-caused
+returns-in-Err-clause-caused g c clean answered e =
+    let old = state g.S.Store c.args.conn.now in
+    let new = state g.S.Store c.query.follows.lender-at-none in
+    let held = c.query.follows.holds-at-none in
+    let failed : FailsToQuery c.args.sql.now [] old new c.in-Err.error = search rules in
+    inl (asked_caused old new c.args.sql.now c.in-Err.error answered failed (sym c.fault_of.ensures.from ∙ e))
+
+pub returns-in-Err-advance-clause-caused : goal.returns-in-Err-advance-clause-caused
+returns-in-Err-advance-clause-caused g c =
+    let old = state g.S.Store c.args.conn.now in
+    let mid = state g.S.Store c.each.rows.conn.now in
+    let new = state g.S.Store c.advance.new.self.conn.now in
+    let same : c.advance.new.self.conn.now ≡ c.conn-in-Err-advance-1.given.0 = search rules in
+    let step = c.advance.ensures.survives.clean in
+    subst (λ h. HasCleanDisk (state g.S.Store h) → IsAnswered old.now.schema c.args.sql.now (understood old.now.schema c.args.sql.now) → c.fault_of-in-Err-advance.result ≡ Store → IsStopped old (state g.S.Store h) c.args.sql.now) same
+    (λ clean answered e.
+    let before : HasCleanDisk mid = omega (arith, step, clean) in
+    let was = c.each.invariant.3 before in
+    let failed = c.in-Err-advance.ensures.err clean c.args.sql.now [] was.0 was.1 in
+    let still = subst (λ (d : Database). IsAnswered d.schema c.args.sql.now (understood d.schema c.args.sql.now)) (sym was.2.0.now_is) answered in
+    inl (later_refuses old mid new (λ _. ⊥) (λ _. ⊥) c.each.invariant.2 c.advance.ensures.survives before
+    (asked_caused mid new c.args.sql.now c.in-Err-advance.error still failed (sym c.fault_of-in-Err-advance.ensures.from ∙ e))))
+
+pub returns-clause-caused : goal.returns-clause-caused
+returns-clause-caused g c =
+    let old = state g.S.Store c.args.conn.now in
+    let mid = state g.S.Store c.each.rows.conn.now in
+    let same : c.each.rows.conn.now ≡ c.conn-2-1.given.0 = search rules in
+    subst (λ h. HasCleanDisk (state g.S.Store h) → IsAnswered old.now.schema c.args.sql.now (understood old.now.schema c.args.sql.now) → Store ≡ Store → IsStopped old (state g.S.Store h) c.args.sql.now) same
+    (λ clean answered e. let was = c.each.invariant.3 clean in
+    inr (was.2, was.0, given_begin g.S.Store c.args.sql.now [] c.each.rows.conn.now was.0 was.1, omega (arith, was.4, c.each-test.false)))

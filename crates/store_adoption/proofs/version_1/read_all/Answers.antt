@@ -1,3 +1,4 @@
+use Rattle.sqlite.specs.State.{HasCleanDisk}
 use Rattle.std.proofs.Common.{◌≡◌, ℕ, map, Ok, Err, rules, arith}
 use Rattle.sqlite.specs.Held.{state}
 use Rattle.sqlite.proofs.StateLemmas.{survives_then}
@@ -6,7 +7,7 @@ use Rattle.store_adoption.specs.declared.unscoped.UnscopedLists.{UnscopedLists}
 use Rattle.store_adoption.specs.Seen.{seen_list, seen_own}
 use Rattle.store_adoption.specs.Version1.{HasLists, IsVersion1}
 use Rattle.store_adoption.specs.Inspects.{HasVersion, HasIssuers, HasIds, HasUnder, ShowsLists}
-use Rattle.store_adoption.proofs.Inspecting.{checks_then, first_fails}
+use Rattle.store_adoption.proofs.Inspecting.{checks_then, first_fails, later_caused}
 use Rattle.store_adoption.proofs.WithoutScopes.{lists_of, ids_of, under_of}
 use Rattle.store_adoption.proofs.version_1.read_all.Goals as goal
 
@@ -41,3 +42,9 @@ returns-in-Err-read_under-clause-reads g c clean =
 
 pub returns-in-Err-read_under-clause-survives : goal.returns-in-Err-read_under-clause-survives
 returns-in-Err-read_under-clause-survives g c = survives_then (state g.S.Store c.args.conn.now) (state g.S.Store c.read_ids.new.conn) (state g.S.Store c.read_under.new.conn) _ _ (λ trees. ⊥) (λ clean db none. none) (λ clean db none. none) c.read_ids.ensures.survives c.read_under.ensures.survives
+
+pub returns-in-Err-read_under-clause-caused : goal.returns-in-Err-read_under-clause-caused
+returns-in-Err-read_under-clause-caused g c clean =
+    let mid = state g.S.Store c.read_ids.new.conn in
+    let before : HasCleanDisk mid = omega (arith, clean, c.read_under.ensures.survives.clean) in
+    later_caused (state g.S.Store c.args.conn.now) mid (state g.S.Store c.read_under.new.conn) c.in-Err-read_under.fault (c.in-Ok.ensures.checks before).0 c.read_ids.ensures.survives c.read_under.ensures.survives before (c.in-Err-read_under.ensures.caused clean)

@@ -1,8 +1,9 @@
+use Rattle.sqlite.specs.State.{HasCleanDisk}
 use Rattle.std.proofs.Common.{ℕ, Err, arith}
 use Rattle.sqlite.specs.Held.{state}
 use Rattle.sqlite.proofs.StateLemmas.{survives_then}
 use Rattle.store_adoption.specs.Inspects.{HasVersion, HasIssuers, HasNext, HasIds}
-use Rattle.store_adoption.proofs.Inspecting.{checks_then}
+use Rattle.store_adoption.proofs.Inspecting.{checks_then, later_caused}
 use Rattle.store_adoption.proofs.version_1.read_ids.Goals as goal
 
 pub returns-in-Ok-clause-survives : goal.returns-in-Ok-clause-survives
@@ -19,3 +20,9 @@ returns-in-Err-read_issuers-clause-checks g c clean =
     let first = c.in_default.ensures.checks (omega (arith, step, clean)) in
     checks_then {A = Unit {0}} {B = ℕ} old mid (state g.S.Store c.read_issuers.new.conn) (λ _. HasVersion 1) (λ next db. HasIssuers db × HasNext next db) HasIssuers (HasIds 1) (λ db. HasVersion 1 db × HasIssuers db) c.in_default.field-0 (Err c.in-Err-read_issuers.fault)
     first (c.in-Err-read_issuers.ensures.checks clean) (λ next ordered a b. (a, b.0, b.1)) (λ ordered a all. all.1)
+
+pub returns-in-Err-read_issuers-clause-caused : goal.returns-in-Err-read_issuers-clause-caused
+returns-in-Err-read_issuers-clause-caused g c clean =
+    let mid = state g.S.Store c.read_version.new.conn in
+    let before : HasCleanDisk mid = omega (arith, clean, c.read_issuers.ensures.survives.clean) in
+    later_caused (state g.S.Store c.args.conn.now) mid (state g.S.Store c.read_issuers.new.conn) c.in-Err-read_issuers.fault (c.in_default.ensures.checks before).0 c.read_version.ensures.survives c.read_issuers.ensures.survives before (c.in-Err-read_issuers.ensures.caused clean)

@@ -7,8 +7,10 @@ use Rattle.store_sql.specs.Tables.{version_1_schema}
 use Rattle.store_adoption.specs.Texts.{all_unscoped_crls}
 use Rattle.store_adoption.specs.Cells.{IsUnscopedCrlCells}
 use Rattle.store_adoption.specs.Inspects.{unscoped_crl_cells}
+use Rattle.store_adoption.specs.Tests.{IsAnswered}
+use Rattle.store_adoption.proofs.Answered.{answers_unscoped_crls}
 use Rattle.store_adoption.proofs.Meaning.{shows_unscoped_crls}
-use Rattle.store_adoption.proofs.Inspecting.{checked}
+use Rattle.store_adoption.proofs.Inspecting.{checked, stopped}
 use Rattle.store_adoption.proofs.Placed.{in_order_before}
 use Rattle.store_adoption.proofs.version_1.read_lists.Goals as goal
 
@@ -31,3 +33,12 @@ returns-in-Err-clause-checks g c clean =
     let ours = c.requires.ours (omega (arith, step, clean)) in
     let it = shows_unscoped_crls in
     checked version_1_schema all_unscoped_crls 5 _ _ unscoped_crl_cells it.0 it.1 it.2 (λ r. refl) {A = Unit {0}} old _ (λ _. Unit {0}) (AllByRecursion (IsUnscopedCrlCells c.args.next)) (Err c.in-Err.fault) ours (λ ordered. (in_order_before old.now ours ordered).crls.0) (c.in-Err.ensures.tests clean)
+
+pub returns-in-Err-clause-caused : goal.returns-in-Err-clause-caused
+returns-in-Err-clause-caused g c clean e ordered =
+    let old = state g.S.Store c.args.conn.now in
+    let step = c.test_rows.ensures.survives.clean in
+    let ours = c.requires.ours (omega (arith, step, clean)) in
+    let it = shows_unscoped_crls in
+    stopped version_1_schema all_unscoped_crls 5 _ _ unscoped_crl_cells it.0 it.1 it.2 (λ r. refl) old (state g.S.Store c.test_rows.new.conn) ours (in_order_before old.now ours ordered).crls.0
+    (c.in-Err.ensures.caused clean (subst (λ s. IsAnswered s all_unscoped_crls (understood s all_unscoped_crls)) (sym ours) answers_unscoped_crls) e)

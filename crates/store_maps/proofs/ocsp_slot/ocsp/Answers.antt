@@ -2,7 +2,10 @@ use Rattle.std.proofs.Common.{arith, option_map, sym}
 use Rattle.statements_facts.specs.Fact.{issuer_of}
 use Rattle.store_rows.specs.Seen.{seen_held_status}
 use Rattle.store_maps.specs.Held.{ocsp_under}
-use Rattle.store_maps.proofs.Chains.{answered_as, found_in}
+use Rattle.sqlite.specs.State.{HasCleanDisk}
+use Rattle.store_sql.specs.Inside.{inside}
+use Rattle.store_sql.proofs.Laws.{if_err_then}
+use Rattle.store_maps.proofs.Chains.{answered_as, found_in, caused_then, caused_held}
 use Rattle.store_maps.proofs.Looking.{none_held, on_ok, looks_same, looks_up}
 use Rattle.store_maps.proofs.ocsp_slot.ocsp.Goals as goal
 
@@ -22,3 +25,11 @@ returns-in-Ok-None-clause-open g c clean = (c.in-Ok-None.ensures.known clean).wa
 
 pub returns-clause-open : goal.returns-clause-open
 returns-clause-open g c clean = on_ok c.find_single.result (c.in-Ok-Some.ensures.known (omega (arith, clean, c.find_single.ensures.survives.clean))).was_open
+
+pub returns-clause-caused : goal.returns-clause-caused
+returns-clause-caused g c clean =
+    let old = inside g.S.Store c.args.tx.now in
+    let mid = inside g.S.Store c.find_issuer.new.tx in
+    let new = inside g.S.Store c.find_single.new.tx in
+    let before : HasCleanDisk mid = omega (arith, clean, c.find_single.ensures.survives.clean) in
+    if_err_then c.find_single.result _ _ (c.find_single.ensures.caused clean) (λ fault two. caused_held old new fault (caused_then old mid new _ c.in-Ok-Some.field-0 fault c.find_issuer.ensures.survives c.find_single.ensures.survives before (c.in-Ok-Some.ensures.finds before) two))

@@ -1,7 +1,10 @@
 use Rattle.std.proofs.Common.{arith, sym, refl, ◌∙◌}
 use Rattle.statements_facts.specs.Fact.{issuer_of}
 use Rattle.store_maps.specs.Answers.{AreAnswersHeld, AreAnswersUnder}
-use Rattle.store_maps.proofs.Chains.{answered_as, found_in}
+use Rattle.sqlite.specs.State.{HasCleanDisk}
+use Rattle.store_sql.specs.Inside.{inside}
+use Rattle.store_sql.proofs.Laws.{if_err_then}
+use Rattle.store_maps.proofs.Chains.{answered_as, found_in, caused_then, caused_held}
 use Rattle.store_maps.proofs.Looking.{answers_of, looks_through, no_answers, on_ok}
 use Rattle.store_maps.proofs.on_certificate.answers_on.Goals as goal
 
@@ -22,3 +25,11 @@ returns-in-Ok-None-clause-open g c clean = (c.in-Ok-None.ensures.known clean).wa
 
 pub returns-clause-open : goal.returns-clause-open
 returns-clause-open g c clean = on_ok c.answers_under.result (c.in-Ok-Some.ensures.known (omega (arith, clean, c.answers_under.ensures.survives.clean))).was_open
+
+pub returns-clause-caused : goal.returns-clause-caused
+returns-clause-caused g c clean =
+    let old = inside g.S.Store c.args.tx.now in
+    let mid = inside g.S.Store c.find_issuer.new.tx in
+    let new = inside g.S.Store c.answers_under.new.tx in
+    let before : HasCleanDisk mid = omega (arith, clean, c.answers_under.ensures.survives.clean) in
+    if_err_then c.answers_under.result _ _ (c.answers_under.ensures.caused clean) (λ fault two. caused_held old new fault (caused_then old mid new _ c.in-Ok-Some.field-0 fault c.find_issuer.ensures.survives c.answers_under.ensures.survives before (c.in-Ok-Some.ensures.finds before) two))

@@ -1,9 +1,11 @@
 use Rattle.std.proofs.Common.{arith, ◌+◌, ◌-◌, ◌/◌, ◌∙◌, refl}
 use Rattle.sqlite.specs.Held.{state}
+use Rattle.sqlite.specs.State.{HasCleanDisk}
 use Rattle.sqlite.proofs.StateLemmas.{survives_then}
+use Rattle.store_sql.proofs.Laws.{later_refuses}
 use Rattle.store_rows.specs.Contents.{scope_number}
 use Rattle.store_rows.proofs.Finding.{survives_itself}
-use Rattle.store_rows.proofs.Entries.{search_begins, search_up, search_down, search_back, search_ends, search_closes, search_fails}
+use Rattle.store_rows.proofs.Entries.{search_begins, search_up, search_down, search_back, search_ends, search_closes, search_fails, still_holds}
 use Rattle.store_rows.proofs.entry.find_entry.Goals as goal
 
 pub loop-low-init : goal.loop-low-init
@@ -48,6 +50,13 @@ returns-in-Same-clause-finds g c clean =
 pub returns-in-Err-clause-finds : goal.returns-in-Err-clause-finds
 returns-in-Err-clause-finds g c clean =
     search_fails (state g.S.Store c.args.tx.now.conn.now) _ _ c.args.list.now.issuer (scope_number c.args.list.now.scope) c.args.serial.now c.loop-low.low c.loop-low.high c.in-Err.fault (c.loop-low.invariant.3 (omega (arith, clean, c.stands_at.ensures.survives.clean))) (c.in-Err.ensures.finds clean)
+
+pub returns-in-Err-clause-caused : goal.returns-in-Err-clause-caused
+returns-in-Err-clause-caused g c clean e origin it held form =
+    let l = c.loop-low.invariant in
+    let before : HasCleanDisk (state g.S.Store c.loop-low.tx.conn.now) = omega (arith, clean, c.stands_at.ensures.survives.clean) in
+    let was = ((l.3 before).rows origin it held form).0 in
+    later_refuses _ _ _ (λ _. ⊥) (λ _. ⊥) l.1 c.stands_at.ensures.survives before (c.in-Err.ensures.caused clean e origin it (still_holds _ _ origin it was held) form)
 
 pub returns-clause-finds : goal.returns-clause-finds
 returns-clause-finds g c clean =

@@ -24,3 +24,12 @@ returns-in-Err-clause-refused g c clean =
     let h = c.in-Err.ensures.takes clean in
     let settled = c.take_over.ensures.settled in
     (record { was_open = h.0.was_open; now_is = λ up. settled.1 up ∙ h.0.committed up ∙ sym (settled.0 (h.0.was_open up)) }, h.1)
+
+pub returns-in-Ok-clause-was : goal.returns-in-Ok-clause-was
+returns-in-Ok-clause-was g c clean = (c.in-Ok.ensures.takes clean).was
+
+pub returns-in-Ok-clause-ours : goal.returns-in-Ok-clause-ours
+returns-in-Ok-clause-ours g c other = absurd (let no = c.in-Ok.ensures.tables other in cc)
+
+pub returns-in-Err-clause-tables : goal.returns-in-Err-clause-tables
+returns-in-Err-clause-tables g c other = let is = c.in-Err.ensures.tables other in cc

@@ -8,6 +8,8 @@ returns-in-Ok g c = record {
   is_open = λ clean. (c.in-Ok.ensures.creates clean).is_open;
   durable = c.create.ensures.durable;
   crash = c.create.ensures.crash;
+  free = λ has. absurd (let no = c.in-Ok.ensures.tables has in cc);
+  tables = tt;
   refused = tt;
   refused_durable = tt;
   refused_crash = tt;
@@ -20,6 +22,8 @@ returns-in-Err g c = record {
   is_open = tt;
   durable = tt;
   crash = tt;
+  free = tt;
+  tables = λ has. let is = c.in-Err.ensures.tables has in cc;
   refused = λ clean. let h = c.in-Err.ensures.creates clean in (
     record {
       was_open = h.0.was_open;
