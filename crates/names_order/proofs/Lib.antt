@@ -1,4 +1,5 @@
 mod KeyLists
+mod SameEnds
 mod TextKeys
 mod DomainTexts
 mod BitKeys

@@ -21,17 +21,47 @@ fn octet_rank(octet: u8) -> u16
     }
 }
 
+/// Compares octets by their places.
+#[inline(always)]
+fn compare_octets(one: u8, other: u8) -> Ordering
+    ensures { result ≡ octet_order one other }
+{
+    if one == other {
+        Ordering::Equal
+    } else {
+        octet_rank(one).cmp(&octet_rank(other))
+    }
+}
+
+/// The texts without octets that both end in, of which eight are compared at once.
+fn without_same_end<'a, 'b>(left: &'a [u8], right: &'b [u8]) -> (&'a [u8], &'b [u8])
+    ensures { slice_cmp octet_order (reverse left.entry.now) (reverse right.entry.now)
+        ≡ slice_cmp octet_order (reverse result.0.now) (reverse result.1.now) }
+{
+    let mut left_rest = left;
+    let mut right_rest = right;
+    while let Some((left_front, left_end)) = left_rest.split_last_chunk::<8>() {
+        match right_rest.split_last_chunk::<8>() {
+            Some((right_front, right_end)) if left_end == right_end => {
+                left_rest = left_front;
+                right_rest = right_front;
+            }
+            _ => return (left_rest, right_rest),
+        }
+    }
+    (left_rest, right_rest)
+}
+
 /// Compares the texts from their ends on.
 fn compare_texts(left: &[u8], right: &[u8]) -> Ordering
     ensures { result ≡ slice_cmp octet_order (reverse left.now) (reverse right.now) }
 {
-    let mut left_rest = left;
-    let mut right_rest = right;
+    let (mut left_rest, mut right_rest) = without_same_end(left, right);
     while let Some((one, left_front)) = left_rest.split_last() {
         let Some((other, right_front)) = right_rest.split_last() else {
             return Ordering::Greater;
         };
-        match octet_rank(*one).cmp(&octet_rank(*other)) {
+        match compare_octets(*one, *other) {
             Ordering::Equal => {
                 left_rest = left_front;
                 right_rest = right_front;

@@ -44,6 +44,14 @@ asked b q f = (λ e _. f.0 e, λ g. f.1 (g q))
 pub unasked : {P Q : Type 0} → (Q → ⊥) → ((true ≡ true) ↔ (Q → P))
 unasked n = (λ _ q. absurd (n q), λ _. refl)
 
+-- the same, where the condition is looked at first
+pub met : {P Q : Type 0} (b : Bool) → ((b ≡ true) ↔ P) → b ≡ true → ((b ≡ true) ↔ (Q → P))
+met b f e = (λ _ _. f.0 e, λ _. e)
+
+pub unmet : {P Q : Type 0} (b asks : Bool) → ((b ≡ true) ↔ P) → b ≡ false → ((asks ≡ true) ↔ Q) → ((not asks ≡ true) ↔ (Q → P))
+unmet b true f e h = (λ n _. absurd (false≢true n), λ g. absurd (false≢true (sym e ∙ f.1 (g (h.0 refl)))))
+unmet b false f e h = (λ _ q. absurd (false≢true (h.1 q)), λ _. refl)
+
 pub decided : {P Q : Type 0} {b : Bool} → (b ≡ true) ↔ P → (P → Q) → (Q → P) → ((b ≡ true) ↔ Q)
 decided f to from = (λ e. to (f.0 e), λ q. f.1 (from q))
 

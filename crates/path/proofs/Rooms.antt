@@ -68,7 +68,7 @@ room_other q k room h is e ne =
       attained = (a.0, a.1, a.2, a.3, a.4, omega (arith, others_more q a.0 k a.3 h, a.5, one));
     }
 
--- the room behind certificate k + 1, but for its own path length
+-- the room behind certificate k + 1, without its own path length
 pub room_spent : (q : Query) (k : ℕ) (room : Option ℕ) → k < count q → RoomIs q k k room → (is_self_issued (certificate_at q (k + 1)) ≡ false → room ≡ Some 0 → ⊥) → RoomIs q k (k + 1) (spent room (is_self_issued (certificate_at q (k + 1))))
 room_spent q k None h is left = is
 room_spent q k (Some room) h is left =

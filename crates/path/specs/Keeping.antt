@@ -23,7 +23,7 @@ abbrev pub RoomIs : Query → ℕ → ℕ → Option ℕ → Type 0
 RoomIs q m k None = (i : ℕ) → 1 ≤ i → i ≤ m → path_length_of (certificate_at q i) ≡ None
 RoomIs q m k (Some room) = IsRoom q m k room
 
--- the room behind a certificate, but for its own path length (6.1.4 (l))
+-- the room behind a certificate, without its own path length (6.1.4 (l))
 abbrev pub spent : Option ℕ → Bool → Option ℕ
 spent None self_issued = None
 spent (Some room) self_issued = Some (if self_issued then room else room - 1)

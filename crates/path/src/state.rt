@@ -228,25 +228,26 @@ impl<'p, 'c, V: Verifier> State<'p, 'c, V> {
         self.certificate().issuer.matches(&self.issuer)
     }
 
+    // The constraints are asked first in each of the three: mostly there are none, and comparing subject and issuer costs more.
     fn are_names_permitted(&self) -> bool
         requires { self.now.done < count self.now.query }
         ensures { IsTrue result ↔ NextMeets V.accepts self.now reason.NotPermitted }
     {
-        !self.are_names_checked() || self.constraints.permits_names_of(self.certificate())
+        self.constraints.permits_names_of(self.certificate()) || !self.are_names_checked()
     }
 
     fn are_names_not_excluded(&self) -> bool
         requires { self.now.done < count self.now.query }
         ensures { IsTrue result ↔ NextMeets V.accepts self.now reason.Excluded }
     {
-        !self.are_names_checked() || !self.constraints.excludes_name_of(self.certificate())
+        !self.constraints.excludes_name_of(self.certificate()) || !self.are_names_checked()
     }
 
     fn are_constraints_processed(&self) -> bool
         requires { self.now.done < count self.now.query }
         ensures { IsTrue result ↔ NextMeets V.accepts self.now reason.ConstraintForm }
     {
-        !self.are_names_checked() || !self.forms.has_form_of_name_of(self.certificate())
+        !self.forms.has_form_of_name_of(self.certificate()) || !self.are_names_checked()
     }
 
     fn is_within_path_length(&self) -> bool
