@@ -50,7 +50,7 @@ module _ (holds : Holding) (stands : Standing) (leaves : Leaving) (accepts : Acc
   fails_for octets issuer (Ok x) held is fails = tt
   fails_for octets issuer (Err failure) held is fails = inr (issuer, (octets, held, is), fails)
 
--- ---- for who believes the verdicts
+-- ---- with the verifier that believes the verdicts
 
 pub delivered_believed : {E : Type 0} (holds : Holding) (stands : Standing) (leaves : Leaving) (accepts : Accepts) (words : Delivery) (prints : List (List ℕ)) (result : Result Counts E)
     → HoldsFingerprints holds words.verdicts.now prints → AcceptsJust prints accepts → IfOk result (IsDeliveredFor holds stands leaves accepts words)

@@ -47,7 +47,7 @@ IsDeliveredFor holds stands leaves accepts words counts =
     (issuer : Certificate) × HoldsCertificate holds words.issuer.now issuer
     × IsDeliveredUnder holds stands leaves accepts issuer words counts
 
--- and for who believes the verdicts
+-- and the verifier believes the verdicts
 abbrev pub IsDelivered : Holding → Standing → Leaving → Delivery → Counts → Type 0
 IsDelivered holds stands leaves words counts =
     (prints : List (List ℕ)) × (accepts : Accepts) × HoldsFingerprints holds words.verdicts.now prints
@@ -89,7 +89,7 @@ IsFailureFor holds stands leaves accepts words failure =
     ⊎ ((issuer : Certificate) × HoldsCertificate holds words.issuer.now issuer
     × IsFailureUnder holds stands leaves accepts issuer words failure)
 
--- and for who believes the verdicts
+-- and the verifier believes the verdicts
 abbrev pub IsFailureForWhoBelieves : Holding → Standing → Leaving → Delivery → Failure → Type 0
 IsFailureForWhoBelieves holds stands leaves words failure =
     (prints : List (List ℕ)) × (accepts : Accepts) × HoldsFingerprints holds words.verdicts.now prints

@@ -15,11 +15,11 @@ abbrev pub IsAnswering : ℕ → Type 0
 IsAnswering status =
     (status ≡ 0) ⊎ (status ≡ 1) ⊎ (status ≡ 2) ⊎ (status ≡ 3) ⊎ (status ≡ 7)
 
--- refused input, mistaken words, a failed file, store or writer or want of memory
+-- refused input, mistaken words, a failed file, store or writer, or memory that ran out
 abbrev pub IsFailing : ℕ → Type 0
 IsFailing status = (status ≡ 4) ⊎ (status ≡ 5) ⊎ (status ≡ 6)
 
--- This failed, with its status, and its line was told; standard output is as it was, but for what came before a late failure. Or the
+-- This failed, with its status, and its line was told; standard output is as it was, except for what came before a late failure. Or the
 -- words are mistaken.
 abbrev pub HasEnded : Holding → Standing → Leaving → List Text → Type 0 → (List ℕ → Type 0) → ℕ → Type 0
 HasEnded holds stands leaves words unchanged Told status =

@@ -42,7 +42,8 @@ abbrev pub IsReadToEnd : Option (List ℕ) → Option (List ℕ) → List (List 
 IsReadToEnd input source lines answers =
     (middle : Option (List ℕ)) × GivesLines input middle lines × GoOn answers × Consumes middle source [] × IsAtEnd source
 
--- The answers to the lines that the source gave, in order, by who believes those fingerprints in the beginning, over the store at the path.
+-- The answers to the lines that the source gave, in order, over the store at the path, by a verifier that believes those fingerprints in
+-- the beginning.
 -- What one line leaves the next finds.
 pub record IsSessionText (holds : Holding) (stands : Standing) (leaves : Leaving) (path : List ℕ) (verdicts : Option (List ℕ)) (input source : Option (List ℕ)) (text : List ℕ) : Type 0 where
   pub prints : List (List ℕ)

@@ -8,6 +8,7 @@ use Rattle.sqlite_trees.specs.View.{doubt}
 use Rattle.store_adoption.specs.Inspects.{IsStore}
 use Rattle.statements_facts.specs.Statement.{Holdings, empty_holdings}
 use Rattle.store_maps.specs.Held.{IsStoreOf}
+use Rattle.store_sql.specs.Tables.{no_schema}
 use Rattle.store.specs.declared.handle.Store as handle
 use Rattle.store_sql.specs.declared.fault.StoreFault.{StoreFault}
 use Rattle.store_sql.specs.declared.fault.StoreFault.TheVariants.{Store, Schema, Memory}
@@ -53,10 +54,16 @@ Leaving = List ℕ → Seen → Type 0
 abbrev pub IsFound : Standing → List ℕ → Seen → Type 0
 IsFound stands path old = stands path (database old) × (IsIntact old → IsStore old.now)
 
--- No file was met at the path, and this was seen of a database that was made there: where the disk returned what was written it is a
--- store that holds nothing.
+-- no file was met at the path, or a database without tables
+abbrev pub MeetsNoTable : Standing → List ℕ → Type 0
+MeetsNoTable stands path =
+    stands path nothing
+    ⊎ ((empty : Seen) × stands path (database empty) × (IsIntact empty → empty.now.schema ≡ no_schema))
+
+-- So it was, and this was seen of the database where a store was made: where the disk returned what was written it is a store that holds
+-- nothing.
 abbrev pub IsMade : Standing → List ℕ → Seen → Type 0
-IsMade stands path old = stands path nothing × (IsIntact old → IsStoreOf old.now empty_holdings)
+IsMade stands path old = MeetsNoTable stands path × (IsIntact old → IsStoreOf old.now empty_holdings)
 
 -- one or the other
 abbrev pub IsFoundOrMade : Standing → List ℕ → Seen → Type 0

@@ -17,10 +17,7 @@ pub(crate) fn query_of<'q, 'a>(
     ensures asks { IfOk result (λ query. IsQueryOf operands.now (seen_query query)) }
     ensures fails { IfErr result (IsRefusalIn operands.now) }
 {
-    let (anchor, path) = match operands.certificates(alloc) {
-        Ok(certificates) => certificates,
-        Err(failure) => return Err(failure),
-    };
+    let (anchor, path) = operands.certificates(alloc)?;
     let purpose = operands.purpose.as_deref();
     Ok(Query::new(anchor, path, operands.moment, purpose))
 }

@@ -87,10 +87,7 @@ fn check_asked<'a, S: Stores>(
     ensures fails { IfErr result
         (IsNotCheckedOf (S.stands source.now) (S.leaves source.now) path.entry.now operands.now) }
 {
-    let query = match query_of(alloc, operands) {
-        Ok(query) => query,
-        Err(failure) => return Err(failure),
-    };
+    let query = query_of(alloc, operands)?;
     check_by(source, alloc, path, &operands.verifier, &query)
 }
 

@@ -90,10 +90,7 @@ fn compare_asked<'a, S: Stores>(
     ensures fails { IfErr result (IsNotComparedOf (S.stands source.now) (S.leaves source.now)
         paths.now.path.now paths.now.other.now operands.now) }
 {
-    let query = match query_of(alloc, operands) {
-        Ok(query) => query,
-        Err(failure) => return Err(failure),
-    };
+    let query = query_of(alloc, operands)?;
     compare_by(source, alloc, paths, &operands.verifier, &query)
 }
 

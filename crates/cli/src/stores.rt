@@ -1,18 +1,19 @@
 //! Stores at paths.
-ghost use Rattle.std.specs.Prelude.{◌≡◌, IfErr, IfOk};
+ghost use Rattle.std.specs.Prelude.{◌≡◌, ◌⊎◌, false, IfErr, IfOk};
 ghost use Rattle.sqlite.specs.Files.{file_state};
 ghost use Rattle.sqlite.specs.State.{HasCleanDisk};
 ghost use Rattle.store_adoption.specs.Creates.{IsSettled};
-ghost use Rattle.store.specs.Adopts.{IsEmptyStoreOn};
+ghost use Rattle.store.specs.Adopts.{IsEmptyStoreOn, IsStoreOn};
 ghost use Rattle.store_adoption.specs.Inspects.{IsStore};
 ghost use Rattle.store_sql.specs.Statements.{IsDurable};
 ghost use Rattle.cli.specs.Standing.{IsFound, IsFoundOrMade, IsNotFound, IsNotMade, seen_in, told_of};
 
 use cli_failures::Failure;
+use sqlite::{Connection, FileStore};
 use sqlite_std_file::File;
 use std::{fs, io};
-use store::Store;
-use store_sql::StoreFault;
+use store::{OpenFault, Refused, Store};
+use store_sql::{StoreFault, is_empty};
 
 /// Where stores stand.
 ///
@@ -35,7 +36,8 @@ pub trait Stores {
             IsFound (stands self.now) path.entry.now (seen_in store)) }
         ensures fails { IfErr result (IsNotFound (stands self.now) path.entry.now) };
 
-    /// The same; if no file is there, a store is made that holds nothing. What it holds is committed, and is there behind a crash.
+    /// The same; if no file is there, or a database without tables, a store is made that holds nothing. What it holds is committed, and is
+    /// there behind a crash.
     fn open_or_make_store<'a>(&self, path: &'a str) -> Result<Store<File>, Failure<'a>>
         ensures found { IfOk result (λ store.
             IsFoundOrMade (stands self.now) path.entry.now (seen_in store)) }
@@ -90,6 +92,52 @@ fn make<'a>(rt: &HostRuntime, path: &str) -> Result<Store<File>, Failure<'a>>
     }
 }
 
+// A store that is made in an empty database.
+fn create<'a>(conn: Connection<FileStore<File>>) -> Result<Store<File>, Failure<'a>>
+    requires idle { conn.in_transaction ≡ false }
+    ensures empty { IfOk result (λ store. IsEmptyStoreOn store.conn) }
+    ensures settled { IfOk result (λ store. IsSettled (file_state store.conn)) }
+    ensures durable { IfOk result (λ store. IsDurable (file_state store.conn)) }
+    ensures fails { IfErr result (λ failure. (fault : StoreFault) × (failure ≡ told_of fault)) }
+{
+    match Store::create(conn) {
+        Ok(store) => {
+            let _settled = store.conn.is_autocommit();
+            Ok(store)
+        }
+        Err(refused) => Err(failed(refused.fault)),
+    }
+}
+
+// Makes a store in a refused database if that has no table. A process that ends while it makes a store may leave such a database.
+fn fill<'a>(refused: Refused<File>) -> Result<Store<File>, Failure<'a>>
+    ensures empty { IfOk result (λ store. IsEmptyStoreOn store.conn) }
+    ensures settled { IfOk result (λ store. IsSettled (file_state store.conn)) }
+    ensures durable { IfOk result (λ store. IsDurable (file_state store.conn)) }
+    ensures fails { IfErr result (λ failure. (fault : StoreFault) × (failure ≡ told_of fault)) }
+{
+    let Refused { fault, conn } = refused;
+    if is_empty(conn.schema()) {
+        create(conn)
+    } else {
+        Err(failed(fault))
+    }
+}
+
+// The store in the file at the path. If its database has no table, a store is made in it.
+fn open_or_fill<'a>(rt: &HostRuntime, path: &str) -> Result<Store<File>, Failure<'a>>
+    ensures store { IfOk result (λ store. IsStoreOn store.conn ⊎ IsEmptyStoreOn store.conn) }
+    ensures settled { IfOk result (λ store. IsSettled (file_state store.conn)) }
+    ensures durable { IfOk result (λ store. IsDurable (file_state store.conn)) }
+    ensures fails { IfErr result (λ failure. (fault : StoreFault) × (failure ≡ told_of fault)) }
+{
+    match Store::open(rt, path) {
+        Ok(store) => Ok(store),
+        Err(OpenFault::Refused(refused)) => fill(refused),
+        Err(OpenFault::Unconnected(fault)) => Err(failed(fault)),
+    }
+}
+
 // Whether no file is there.
 fn is_missing(rt: &HostRuntime, path: &str) -> bool {
     match fs::open(rt, path) {
@@ -117,7 +165,7 @@ impl Stores for HostRuntime {
         if is_missing(self, path) {
             make(self, path)
         } else {
-            open(self, path)
+            open_or_fill(self, path)
         }
     }
 

@@ -100,7 +100,7 @@ told_line NoInput = codes "cannot read standard input\n"
 abbrev pub report_line : Failure → List ℕ
 report_line failure = codes "x509check: " ++ told_line failure
 
--- 4 for input that is refused, 5 for words, 6 for a file, a store or a writer that failed and for want of memory
+-- 4 for input that is refused, 5 for words, 6 for a file, a store or a writer that failed, and if memory ran out
 abbrev pub status_of : Failure → ℕ
 status_of (Refused file fault) = 4
 status_of (NoCertificate file rule at) = 4

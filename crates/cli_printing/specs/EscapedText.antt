@@ -1,4 +1,4 @@
--- Octets as text: those that print stand for themselves, but for the separators of names; others are a backslash and two
+-- Octets as text: those that print stand for themselves, except the separators of names; others are a backslash and two
 -- hexadecimal digits.
 use Rattle.std.specs.Prelude.{ℕ, ◌==◌, ◌&&◌, ◌||◌, Bool, not, nat_le, List, [], ◌∷◌, if◌then◌else◌}
 use Rattle.std.specs.List.{flat_map}

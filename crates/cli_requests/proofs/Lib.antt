@@ -1,2 +1,3 @@
+mod Digits
 pub mod Names
 pub mod Words

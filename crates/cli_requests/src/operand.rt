@@ -1,5 +1,7 @@
 //! Operands: names of files, and octets that stand in the line.
-ghost use Rattle.std.specs.Prelude.{◌≡◌, ◌<◌, ◌⊎◌, None, Some, IfNone, IfOk, IfSome, length, option_map, string_bytes};
+ghost use Rattle.std.specs.Prelude.{◌≡◌, ◌<◌, ◌⊎◌, None, Some, IfNone, IfOk, IfSome, is_some, length, option_map, string_bytes};
+ghost use Rattle.std.specs.List.{list_all};
+ghost use Rattle.hex.specs.Hex.{is_hex_digit};
 ghost use Rattle.cli_requests.specs.Operands.{escaped, file_in, file_name, is_plain, name_in, octets_in, operand_in, seen_operand, with_octet};
 
 use hex::FromHexError;
@@ -114,6 +116,38 @@ fn octets_in(alloc: Global, digits: &[u8]) -> Result<Option<Operand>, AllocError
         Ok(octets) => Ok(Some(Operand::Octets(octets))),
         Err(FromHexError::OutOfMemory) => Err(AllocError),
         Err(_) => Ok(None),
+    }
+}
+
+fn is_digit(octet: u8) -> bool
+    ensures { result ≡ is_hex_digit octet }
+{
+    match octet {
+        b'0'..=b'9' | b'A'..=b'F' | b'a'..=b'f' => true,
+        _ => false,
+    }
+}
+
+fn are_digits(digits: &[u8]) -> bool
+    ensures { result ≡ list_all is_hex_digit digits.now }
+{
+    digits.iter().all(|octet| is_digit(*octet))
+}
+
+// Whether these are the digits of octets.
+fn are_octets(digits: &[u8]) -> bool
+    ensures { result ≡ is_some (octets_in digits.now) }
+{
+    digits.len() % 2 == 0 && are_digits(digits)
+}
+
+/// Whether the word writes an operand. Octets take no memory.
+pub(crate) fn is_operand(alloc: Global, word: &[u8]) -> Result<bool, AllocError>
+    ensures { IfOk result (λ is. is ≡ is_some (operand_in word.now)) }
+{
+    match word.strip_prefix(b"hex:") {
+        Some(digits) => Ok(are_octets(digits)),
+        None => Ok(file_in(alloc, word)?.is_some()),
     }
 }
 

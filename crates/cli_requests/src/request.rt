@@ -2,7 +2,7 @@
 ghost use Rattle.std.specs.Prelude.{◌≡◌, IfErr, IfOk, OnOk, Some, map, option_map, true};
 ghost use Rattle.cli_requests.specs.Requests.{IsFalse, IsNone, alone, are_operands, believe_in, check_in, deliver_in, is_passed_over, kind_named, path_in, print_in, prints_in, purpose_in, request_in, request_named, request_on, seen_request, texts_of, words_of};
 
-use crate::operand::operand_of;
+use crate::operand::is_operand;
 use cli_words::Kind;
 use std::alloc::{AllocError, Global};
 use std::str;
@@ -113,7 +113,7 @@ fn check_operands(alloc: Global, words: &[&str]) -> Result<(), RequestFault>
     ensures refuses { IfErr result (IsFalse (are_operands (texts_of words.now))) }
 {
     for word in words {
-        if operand_of(alloc, word.as_bytes())?.is_none() {
+        if !is_operand(alloc, word.as_bytes())? {
             return Err(RequestFault::Malformed);
         }
     }
@@ -273,7 +273,7 @@ fn request_of_text<'a>(alloc: Global, text: &'a str) -> Result<Request<'a>, Requ
 
 /// What the line asks for, which stands there without its line feed: words parted by single spaces, in UTF-8. An empty line, and one that
 /// begins with `#`, asks for nothing. `Malformed` is answered exactly if the line is no request. Time is linear in the line, and memory
-/// is 16 octets a word and what an operand holds.
+/// is 16 octets a word and what the name of a file holds.
 pub fn request_of<'a>(alloc: Global, line: &'a [u8]) -> Result<Request<'a>, RequestFault>
     ensures reads { IfOk result (λ request. request_on line.now ≡ Some (seen_request request)) }
     ensures refuses { IfErr result (IsNone (request_on line.now)) }

@@ -1,2 +1,3 @@
 mod Composing
+mod CrashLaws
 mod Lines

@@ -3,7 +3,9 @@
 
 mod answering;
 mod ending;
+mod laws;
 mod serving;
 
 pub use ending::End;
+pub use laws::crash_law;
 pub use serving::serve;

@@ -19,7 +19,7 @@ use Rattle.cli_steps.specs.Steps.{BelievesMore, Checks, Delivers}
 use Rattle.cli_steps.specs.Ways.{FindsAsked, Steps, TakesFrom, without_writer}
 use Rattle.cli_steps.specs.declared.answer.Answer.TheVariants.{Believes as Told_more, Delivered, Told, Failed}
 
--- who believes these fingerprints accepts just them
+-- a verifier that believes these fingerprints accepts just them
 accepts_just : (believed : Believed) (prints : List (List ℕ)) → BelievesJust believed prints → AcceptsJust prints (accepted_by believed)
 accepts_just believed prints believes = λ algorithm key message signature. believes (fingerprint_of algorithm key message signature)
 

@@ -55,7 +55,7 @@ FailsToDeliver holds accepts issuer file old new failure =
     ⊎ ((facts : List Fact) × HoldsStatement holds accepts issuer file facts × IsNotKept failure
     × (new ≡ trying facts old))
 
--- for who believes these fingerprints the facts of the statement are taken, and counted so; or a failure
+-- a verifier that believes these fingerprints judges the statement; its facts are taken, and counted so; or a failure
 abbrev pub Delivers : Holding → List ℕ → List ℕ → State → State → Answer → Type 0
 Delivers holds issuer file old new (Delivered counts) =
     (accepts : Accepts) × AcceptsJust old.prints accepts
@@ -91,7 +91,7 @@ abbrev pub IsFailureOfCheck : Holding → Path → Failure → Type 0
 IsFailureOfCheck holds path =
     FailsFirst (AsksNothing holds path) ((query : Query) × Asks holds path query) IsNotKept
 
--- the verdict of who believes these fingerprints, by what is held; or a failure
+-- the verdict by what is held, with a verifier that believes these fingerprints; or a failure
 abbrev pub Checks : Holding → Path → State → Answer → Type 0
 Checks holds path state (Told verdict) =
     (accepts : Accepts) × AcceptsJust state.prints accepts

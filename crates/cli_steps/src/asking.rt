@@ -37,10 +37,7 @@ pub(crate) fn asked_by<'q, 'a>(
     ensures asks { IfOk result (λ asked. IsAskedBy operands.now (seen_asked asked)) }
     ensures fails { IfErr result (IsRefusalIn operands.now) }
 {
-    let (anchor, path) = match operands.certificates(alloc) {
-        Ok(certificates) => certificates,
-        Err(failure) => return Err(failure),
-    };
+    let (anchor, path) = operands.certificates(alloc)?;
     Ok(Asked {
         anchor,
         path,

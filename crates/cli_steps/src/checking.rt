@@ -29,10 +29,7 @@ fn find_asked<'a, K: Keeper, V: Verifier>(
     ensures finds { K.is_sound keeper.new → FindsOf (K.keeps keeper.old) (K.keeps keeper.new)
         (V.accepts verifier.now) operands.now result }
 {
-    let asked = match asked_by(alloc, operands) {
-        Ok(asked) => asked,
-        Err(failure) => return Err(failure),
-    };
+    let asked = asked_by(alloc, operands)?;
     find_verdict(keeper, alloc, verifier, asked)
 }
 
