@@ -53,7 +53,7 @@ third x rest w long not_128 = octet x rest 2 (omega (arith, w.1, header_len-long
 third_of : (x rest : List ℕ) → IsHeaderWhole x → 128 ≤ get_or x 1 0 → (get_or x 1 0 ≡ 128) ⊎ (get_or (x ++ rest) 2 0 ≡ get_or x 2 0)
 third_of x rest w long = elim (cases_lt (get_or x 1 0) 129) [ inl lt ↦ inl (omega arith) | inr le ↦ inr (third x rest w long (omega arith)) ]
 
--- a rule that a header breaks as far as it is there is broken whatever follows
+-- a rule that the part of a header breaks is broken whatever follows
 pub header-ahead : (rule : Rule) (depth : ℕ) (x rest : List ℕ) → rule_number rule < 4 → Breaks rule depth x → Breaks rule depth (x ++ rest)
 header-ahead TagForm depth x rest low (some, r) = (omega (arith, longer x rest), rw (octet x rest 0 some) r)
 header-ahead LengthForm depth x rest low (two, inl e) = (omega (arith, longer x rest), inl (octet x rest 1 two ∙ e))

@@ -40,7 +40,7 @@ abbrev pub ReadsAtMost : {R : Type 0} → ℕ → (R → Option (List ℕ)) → 
 ReadsAtMost most remaining old new path =
     ReadsValues 268435461 most (remaining old) (remaining new) (map (λ octets. octets.items) path.values.items) path.stopped
 
--- no value was past the limit, as far as the source tells what it has left
+-- no value was past the limit, if the source tells what it has left
 abbrev pub NoneIsPast : Option (List ℕ) → Option (ℕ × ReadFault) → Type 0
 NoneIsPast (Some text) (Some stopped) = stopped.1 ≢ Limit
 NoneIsPast text stopped = ⊤

@@ -12,7 +12,7 @@ use Rattle.der.specs.declared.fault.Fault.TheVariants.{Refused, Memory}
 use Rattle.der_stream.specs.declared.reading.ReadFault.{ReadFault}
 use Rattle.der_stream.specs.declared.reading.ReadFault.TheVariants.{Fault, Limit, Io}
 
--- what is answered, apart from errors of the source and want of memory
+-- what is answered, if the source does not fail and memory does not run out
 pub data StreamAnswer : Type 0 where
   value : List ℕ → StreamAnswer
   ended : StreamAnswer
@@ -116,7 +116,7 @@ IsRefusedBy limit remaining old new fault = TakesFault limit (remaining old) (re
 abbrev pub IsValueWithin : ℕ → List ℕ → Type 0
 IsValueWithin limit octets = ((v : Value) × Encodes octets v) × (length octets ≤ limit)
 
--- want of memory, or an error of the source
+-- memory ran out, or the source failed
 abbrev pub IsNoRefusal : ReadFault → Type 0
 IsNoRefusal (Fault (Refused rule at)) = ⊥
 IsNoRefusal (Fault Memory) = ⊤

@@ -35,7 +35,7 @@ unfolding agree Same
 agree_of count left right h =
     all_from (same_bit left right) 0 count (λ i lt. ap (same_bit left right) (omega arith) ∙ eq-eqb (bit left i) (bit right i) (h i lt))
 
--- through a third, as far as both reach
+-- through a third, up to the shorter of both
 through : (m n : ℕ) (a b x : List ℕ) → m ≤ n → Same m a b → Same n b x → Same m a x
 unfolding Same
 through m n a b x le p q i lt = p i lt ∙ q i (omega arith)

@@ -6,7 +6,7 @@ use Rattle.std.specs.Char.{to_ascii_lowercase}
 use Rattle.names.specs.declared.dns.Domain.{Domain}
 use Rattle.names.specs.declared.dns.Domain.TheVariants as D
 
--- an octet of a label: any that prints, but for the dot (a choice of this profile)
+-- an octet of a label: any that prints, except the dot (a choice of this profile)
 pub record IsLabelOctet (octet : ℕ) : Type 0 where
   pub from : 33 ≤ octet
   pub to : octet ≤ 126

@@ -57,6 +57,6 @@ InnerSpacesStay =
     (before after : List ℕ) → 0 < length (prepared before) → 0 < length (prepared after) →
     prepared (before ++ 32 ∷ after) ≡ prepared before ++ 32 ∷ prepared after
 
--- a text without spaces stays, but for its case
+-- a text without spaces stays, except for its case
 abbrev pub WordsStay : Type 0
 WordsStay = (word : List ℕ) → All (λ octet. is_space octet ≡ false) word → prepared word ≡ lowered word

@@ -23,7 +23,7 @@ pub record IsReadOneWay {A F : Type 0} (read : List ℕ → Result A (F × ℕ))
   pub one_fault : (row : List ℕ) (fault other : F) (at place : ℕ) → AreOctets row →
       IsRefusedAt read row fault at → IsRefusedAt read row other place → (fault ≡ other) × (at ≡ place)
 
--- A question in rows has one answer: one verdict, and no fault beside it but want of memory.
+-- A question in rows has one answer: one verdict, and no fault beside it except that memory runs out.
 pub record HasOneAnswer (rows : Rows) : Type 0 where
   pub verdict : (one other : Verdict) → IsVerdictInRows rows one → IsVerdictInRows rows other → one ≡ other
   pub never_both : (verdict : Verdict) (fault : RowFault) → IsVerdictInRows rows verdict → IsRowFault rows fault → fault ≡ Memory

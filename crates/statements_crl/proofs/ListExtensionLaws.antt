@@ -334,7 +334,7 @@ rest_given fields one others all = record {
   known = All-tail IsKnown one others all.known;
 }
 
--- what was said before is what the fields tell, but for what these extensions say
+-- what was said before is what the fields tell, except for what these extensions say
 record Lacks (fields : NumberAndScope) (list : List Extension) (before : ListExtensions) : Type 0 where
   number : All (Differs 20) list → before.number ≡ Some fields.number
   scope : All (Differs 28) list → before.scope ≡ fields.scope

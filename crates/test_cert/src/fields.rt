@@ -288,7 +288,7 @@ fn many_types_are_told_apart(rt: HostRuntime) -> Result<(), Fail> {
     Ok(())
 }
 
-/// For every refused allocation: the answer is that of ample memory, or want of memory.
+/// For every refused allocation: the answer is that of ample memory, or that memory ran out.
 #[test]
 fn wants_memory_or_answers(rt: HostRuntime) -> Result<(), Fail> {
     let alloc = rt.alloc();

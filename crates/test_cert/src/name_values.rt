@@ -481,7 +481,7 @@ fn subtrees_have_a_limit(rt: HostRuntime) -> Result<(), Fail> {
     Ok(())
 }
 
-/// Where an allocation is refused, the answer is want of memory, and else what the octets hold.
+/// If an allocation is refused, the answer is that memory ran out, and otherwise what the octets hold.
 #[test]
 fn wants_memory_or_answers(rt: HostRuntime) -> Result<(), Fail> {
     let constraints = b"\x04\x10\x30\x0E\xA0\x05\x30\x03\x82\x01a\xA1\x05\x30\x03\x82\x01a";

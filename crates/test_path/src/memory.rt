@@ -1,4 +1,4 @@
-//! Want of memory.
+//! When memory runs out.
 
 use crate::building::{MIDDLE, PathFault, certificates_of, octets_of, outcome_of};
 use cert::Certificate;

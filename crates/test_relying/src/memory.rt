@@ -1,4 +1,4 @@
-//! Want of memory. These tests hold whichever request is refused: the answer is that of ample memory, or want of memory, never a third. A
+//! When memory runs out. These tests hold whichever request is refused: the answer is that of ample memory, or that memory ran out. A
 //! disk in memory takes memory itself: what it is refused is a fault of the disk, which the store answers as `StoreFault::Store`.
 
 use crate::answering::{FIFTH, LEAF, REVOKING, STORED};
@@ -46,7 +46,7 @@ fn is_stored_or_want(answer: &Answer) -> bool {
     }
 }
 
-/// Whether the party says so of `ee(T,R)`, as far as there is memory.
+/// Whether the party says so of `ee(T,R)`, if there is memory for it.
 fn says<D: Disk + Drop>(alloc: Global, party: &mut Node<ToyVerifier, D>, wanted: Verdict) -> bool {
     match verdict_on(alloc, party, LEAF, MIDDLE) {
         Some(Ok(verdict)) => verdict == wanted,

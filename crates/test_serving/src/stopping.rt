@@ -1,4 +1,4 @@
-//! Sessions that end: by a keeper, a reader or a writer that fails, a line that is too long, and want of memory.
+//! Sessions that end: by a keeper, a reader or a writer that fails, a line that is too long, and memory that runs out.
 
 use crate::keeping::{Told, ends, obliging, refusing};
 use cli_serving::End;

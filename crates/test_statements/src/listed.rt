@@ -109,7 +109,7 @@ fn signs_a_list_anew(rt: HostRuntime) -> Result<(), Fail> {
     Ok(())
 }
 
-/// For every refused allocation: the answer is that of ample memory, or want of memory.
+/// For every refused allocation: the answer is that of ample memory, or that memory ran out.
 #[test]
 fn wants_memory_or_answers(rt: HostRuntime) {
     let (text, _, _, wanted) = LISTS[2];

@@ -295,7 +295,7 @@ fn responses_are_refused(rt: HostRuntime) -> Result<(), Fail> {
     Ok(())
 }
 
-/// Any answer but a wrong one: a delegate who can't be read for want of memory is never passed over.
+/// Any answer but a wrong one: a delegate for whom memory runs out is never passed over.
 #[test]
 fn wants_memory_or_answers(rt: HostRuntime) -> Result<(), Fail> {
     let delegate = "ee(D,R){purpose 1.3.6.1.5.5.7.3.9}{nocheck}";

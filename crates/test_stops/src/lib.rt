@@ -9,6 +9,8 @@ mod finding;
 #[cfg(test)]
 mod putting;
 #[cfg(test)]
+mod refusing;
+#[cfg(test)]
 mod stopping;
 #[cfg(test)]
 mod trials;

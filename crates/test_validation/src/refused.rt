@@ -1,6 +1,6 @@
 //! Operands that are refused, the first of them.
 
-use crate::files::write_files;
+use crate::files::{write_files, write_verdicts};
 use crate::walking::walk;
 use std::fs;
 use std::test::Fail;
@@ -73,4 +73,39 @@ fn the_first_fault_decides(rt: HostRuntime) -> Result<(), Fail> {
     fs::write(&rt, "refused_lines", b"\n\nnothing\n")?;
     fs::write(&rt, "refused.prints", line.as_bytes())?;
     walk(&rt, STEPS)
+}
+
+// What the files hold where a store begins as a database without tables.
+const FILES_OF_NONE: &str = "
+tableless.db =
+tableless_r.der = ca(R,R)
+tableless_t.der = ee(T,R)
+tableless_c.der = crl(R,5)
+";
+
+// The runs whose lines are the verdicts.
+const PRINTS_OF_NONE: &str = "
+prints --issuer tableless_r.der tableless_r.der
+prints --issuer tableless_r.der tableless_t.der
+prints --issuer tableless_r.der --as crl tableless_c.der
+";
+
+// Only a delivery makes a store of it.
+const STEPS_OF_NONE: &str = "
+$ check --store tableless.db --verdicts tableless.prints --at 20250615000000Z --anchor tableless_r.der tableless_t.der
+x509check: store fault 72
+status 6
+$ deliver --store tableless.db --verdicts tableless.prints --issuer tableless_r.der tableless_c.der
+stored 1 kept 0 contradicted 0
+status 0
+$ check --store tableless.db --verdicts tableless.prints --at 20250615000000Z --anchor tableless_r.der tableless_t.der
+valid
+status 0
+";
+
+#[test]
+fn a_database_without_tables_is_made_a_store(rt: HostRuntime) -> Result<(), Fail> {
+    write_files(&rt, FILES_OF_NONE)?;
+    write_verdicts(&rt, "tableless.prints", PRINTS_OF_NONE)?;
+    walk(&rt, STEPS_OF_NONE)
 }

@@ -1,0 +1,58 @@
+//! Runs of many events.
+
+use crate::stores::made;
+use relying::{Answer, Event, Node};
+use statements_facts::Counts;
+use std::alloc::Global;
+use vectors::{ToyVerifier, certificate, revocation_list};
+
+const EVENTS: usize = 2_000;
+
+const RESTARTS_AT: usize = 1_000;
+
+/// A list comes again and again, with a restart on the way.
+fn events<'a>(alloc: Global, issuer: &'a [u8], list: &'a [u8]) -> Option<Vec<Event<'a>>> {
+    let mut events = Vec::new(alloc);
+    for index in 0..EVENTS {
+        let event = if index == RESTARTS_AT {
+            Event::Restart
+        } else {
+            Event::Deliver(issuer, list)
+        };
+        events.push(event).ok()?;
+    }
+    Some(events)
+}
+
+/// Whether the first list was stored, and no later one.
+fn are_kept(answers: &[Answer]) -> bool {
+    let Some((first, later)) = answers.split_first() else {
+        return false;
+    };
+    let stored = Counts {
+        stored: 1,
+        kept: 0,
+        contradicted: 0,
+    };
+    let kept = Counts {
+        stored: 0,
+        kept: 1,
+        contradicted: 0,
+    };
+    *first == Ok(stored) && later.iter().all(|answer| *answer == Ok(kept))
+}
+
+/// How many answers there are, and whether they are as wanted.
+fn answered(alloc: Global) -> Option<(usize, bool)> {
+    let issuer = certificate(alloc, "ca(R,R)").ok()?;
+    let list = revocation_list(alloc, "crl(R,5,[05 1])").ok()?;
+    let events = events(alloc, &issuer, &list)?;
+    let node = Node::new(ToyVerifier, made(alloc)?);
+    let (_node, answers) = node.run(alloc, &events).ok()?;
+    Some((answers.len(), are_kept(&answers)))
+}
+
+#[test]
+fn a_run_of_2_000_events(rt: HostRuntime) {
+    assert_eq!(rt; answered(rt.alloc()), Some((EVENTS - 1, true)));
+}
