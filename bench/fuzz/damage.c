@@ -324,7 +324,7 @@ static void change_length(struct numbers *numbers, struct text *text, const stru
     replace(text, value->at + 1, value->at + value->header, octets, count);
 }
 
-/* A mistake in a value of a text that is DER, with the lengths mended but for one kind. */
+/* A mistake in a value of a text that is DER, with all lengths mended except those of one kind. */
 static void damage_value(struct numbers *numbers, const struct texts *texts, struct text *text, const struct values *values)
 {
     size_t place = number_below(numbers, values->count);
