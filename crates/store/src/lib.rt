@@ -2,6 +2,7 @@
 #![tactic(auto)]
 
 mod adopting;
+mod connecting;
 mod handle;
 mod look_up;
 mod paths;

@@ -7,9 +7,9 @@ ghost use Rattle.store.specs.Adopts.{IsEmptyStoreOn, IsOpenOn, IsStoreOn};
 ghost use Rattle.store_sql.specs.Statements.{IsDurable};
 ghost use Rattle.store.specs.Opens.{IsNotMade, IsNotOpened, fault_of};
 
+use crate::connecting::connect;
 use crate::handle::Store;
 use crate::refusal::OpenFault;
-use sqlite::Connection;
 use sqlite_std_file::File;
 use std::fs;
 use std::rt::HostRuntime;
@@ -40,12 +40,12 @@ impl Store<File> {
         if fs::open(rt, path).is_err() {
             return Err(OpenFault::Unconnected(StoreFault::Store));
         }
-        match Connection::open(rt, path) {
+        match connect(rt, path) {
             Ok(conn) => match Store::adopt(rt.alloc(), conn) {
                 Ok(store) => Ok(store),
                 Err(refused) => Err(OpenFault::Refused(refused)),
             },
-            Err(error) => Err(OpenFault::Unconnected(StoreFault::from(error))),
+            Err(fault) => Err(OpenFault::Unconnected(fault)),
         }
     }
 
@@ -60,12 +60,12 @@ impl Store<File> {
         if fs::open(rt, path).is_ok() {
             return Err(OpenFault::Unconnected(StoreFault::Store));
         }
-        match Connection::open(rt, path) {
+        match connect(rt, path) {
             Ok(conn) => match Store::create(conn) {
                 Ok(store) => Ok(store),
                 Err(refused) => Err(OpenFault::Refused(refused)),
             },
-            Err(error) => Err(OpenFault::Unconnected(StoreFault::from(error))),
+            Err(fault) => Err(OpenFault::Unconnected(fault)),
         }
     }
 }

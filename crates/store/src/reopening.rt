@@ -5,7 +5,8 @@ ghost use Rattle.sqlite.specs.Files.{Finds, IsCleanLeft, IsOpened, LeavesFiles, 
 ghost use Rattle.sqlite.specs.State.{HasCleanDisk};
 ghost use Rattle.store.specs.Opens.{OpensForCause};
 
-use sqlite::{Connection, FileStore, Files, Leftover, Options};
+use crate::connecting::options;
+use sqlite::{Connection, FileStore, Files, Leftover};
 use sqlite_disk::Disk;
 use std::alloc::Global;
 use store_sql::StoreFault;
@@ -27,7 +28,7 @@ pub(crate) fn open_again<D: Disk + Drop>(
     ensures cause { IfErr result (λ failed. OpensForCause files failed.1 failed.0) }
     ensures unharmed { IfErr result (λ failed. IsCleanLeft failed.1 → LeavesFiles files failed.1) }
 {
-    match Connection::open_files(alloc, files, Options::new(SEED)) {
+    match Connection::open_files(alloc, files, options(SEED)) {
         Ok(conn) => Ok(conn),
         Err((error, left)) => Err((StoreFault::from(error), left)),
     }

@@ -76,7 +76,7 @@ fn migrated(alloc: Global) -> Option<Option<u8>> {
         name: NameKey::from_octets(Vec::from_slice(alloc, &key).ok()?),
         key_info: &key,
     };
-    let held = store.crl(&issuer, Scope::User, b"\x05").ok()??;
+    let held = store.crl(&issuer, Scope::All, b"\x05").ok()??;
     Some(held.reason)
 }
 

@@ -1,0 +1,71 @@
+//! Connections to the files at a path.
+
+ghost use Rattle.std.specs.Prelude.{◌≢◌, IfErr, IfOk};
+ghost use Rattle.sqlite.specs.Files.{IsOpened, file_state};
+ghost use Rattle.sqlite.specs.Held.{IsNew};
+ghost use Rattle.sqlite.specs.State.{HasCleanDisk};
+
+use sqlite::{Connection, FileStore, Options};
+use sqlite_std_file::{File, OpenError, Unknown};
+use std::hash::{BuildHasher, RandomState};
+use std::io::ErrorKind;
+use std::rt::HostRuntime;
+use store_sql::StoreFault;
+
+/// How many pages of a database are kept in memory: 1 MB of them. Opening takes all of that memory at once, and a look-up asks for some
+/// forty pages.
+const CACHE_PAGES: usize = 256;
+
+/// How a database is opened; the salts of its log begin with the seed.
+pub(crate) fn options(seed: u64) -> Options {
+    let mut options = Options::new(seed);
+    options.cache_pages = CACHE_PAGES;
+    options
+}
+
+fn random_options(rt: &HostRuntime) -> Result<Options, StoreFault>
+    ensures { IfErr result (λ fault. fault ≢ StoreFault.Schema) }
+{
+    match RandomState::new(rt) {
+        Ok(state) => Ok(options(state.hash_one(&0u8))),
+        Err(_) => Err(StoreFault::Store),
+    }
+}
+
+fn fault_of(error: &OpenError) -> StoreFault
+    ensures { result ≢ StoreFault.Schema }
+{
+    match error {
+        OpenError::OutOfMemory => StoreFault::Memory,
+        OpenError::Io(error) if error.kind() == ErrorKind::OutOfMemory => StoreFault::Memory,
+        _ => StoreFault::Store,
+    }
+}
+
+/// Whether SQLite reads the path as another thing than the name of a file.
+fn is_no_file(path: &str) -> bool {
+    path == ":memory:" || path.starts_with("file:")
+}
+
+/// Opens the database at the path, or makes an empty one.
+pub(crate) fn connect(
+    rt: &HostRuntime,
+    path: &str,
+) -> Result<Connection<FileStore<File>>, StoreFault>
+    ensures fresh { IfOk result IsNew }
+    ensures opened { IfOk result (λ conn. HasCleanDisk (file_state conn) → IsOpened conn) }
+    ensures fault { IfErr result (λ fault. fault ≢ StoreFault.Schema) }
+{
+    if is_no_file(path) {
+        return Err(StoreFault::Store);
+    }
+    let options = random_options(rt)?;
+    let files = match sqlite_std_file::open(rt, path, Unknown) {
+        Ok(files) => files,
+        Err(error) => return Err(fault_of(&error)),
+    };
+    match Connection::open_files(rt.alloc(), files, options) {
+        Ok(conn) => Ok(conn),
+        Err((error, _left)) => Err(StoreFault::from(error)),
+    }
+}
