@@ -78,8 +78,15 @@ def shapes():
     yield "spared_128_4096", 128, none, exclude, [dns("www.n%d.example" % k) for k in range(LIMIT)]
     ranges = [address(k, 64) for k in range(LIMIT)]
     yield "addresses_16_4096", 16, lambda _: ranges, none, [address(k) for k in range(LIMIT)]
-    people = [directory("Authority %d" % k) for k in range(1024)]
-    yield "directory_4_1024", 4, lambda _: people, none, one
+    people = [directory("Authority %d" % k) for k in range(LIMIT)]
+
+    def strangers(number):
+        return [directory("Person %d of %d" % (k, number)) for k in range(LIMIT)]
+
+    for count in (16, 64, 1024):
+        yield "directory_4_%d" % count, 4, lambda _: people[:count], none, one
+    yield "directory_16_4096", 16, lambda _: people, none, people
+    yield "strangers_128_4096", 128, none, strangers, one
 
 
 def main(folder):

@@ -1,14 +1,21 @@
-use Rattle.std.proofs.Common.{◌≡◌, ◌<◌, ◌^◌, ℕ, List, [], ◌∷◌, ◌++◌, length, take, drop, map, get_or, zero, suc, subst, refl, sym, ◌∙◌, ap, arith, append_assoc, append-nil}
+use Rattle.std.proofs.Common.{◌≡◌, ◌<◌, ◌^◌, ℕ, List, [], ◌∷◌, ◌++◌, length, take, drop, map, get_or, zero, suc, subst, refl, sym, ◌∙◌, ap, arith, append_assoc, append-nil, length-append}
+use Rattle.std.specs.Cmp.{both_ways}
 use Rattle.std.specs.List.{flat_map, AllByRecursion}
 use Rattle.std.specs.Int.{from_be_bytes, w32}
 use Rattle.std.specs.FinMap.{entries, same_entries_map}
+use Rattle.std.proofs.lemmas.Bool.Decides.{Decides-eqb}
 use Rattle.std.proofs.lemmas.List.{take_at, drop_at}
+use Rattle.std.proofs.lemmas.List.Concat.{flat_map-append}
 use Rattle.std.proofs.lemmas.Nat.{from_be_bytes-to_be_bytes_4}
+use Rattle.std.proofs.lemmas.Slice.Eq.{starts_is}
 use Rattle.names_distinguished.specs.declared.attribute.Attribute.{Attribute}
 use Rattle.names_distinguished.specs.NameView.{entry_of}
 use Rattle.names_distinguished.specs.AttributeValue.{ComparedValue, Text, Other}
 use Rattle.names_distinguished.specs.DistinguishedName.{Entry, RdnMap}
-use Rattle.names_distinguished.specs.NameKey.{number, counted, value_key, entry_key, rdn_key, name_key, ValueFits, EntryFits, RdnFits, NameFits, KeyIsExact}
+use Rattle.names_distinguished.specs.NameKey.{number, counted, value_key, entry_key, rdn_key, name_key, rdns_key, ValueFits, EntryFits, RdnFits, NameFits, KeyIsExact, WithinIsByKeys}
+use Rattle.names_distinguished.specs.NameOctets.{rdns_of, KeysDecideWithin}
+use Rattle.names_distinguished.proofs.Matching.{within_is_exact}
+use Rattle.names_distinguished.proofs.SequenceFits.{sequence_fits}
 
 -- two equal joined lists whose first parts are of one length
 same_fronts : {X : Type 0} (a b c d : List X) → a ++ b ≡ c ++ d → length a ≡ length c → (a ≡ c) × (b ≡ d)
@@ -61,6 +68,19 @@ module _ {X : Type 0} (f : X → List ℕ) (Fit : X → Type 0) (apart : (x y : 
       let c : x ∷ xs ≡ y ∷ ys = cc in
       (c, b.1)
 
+  -- none is empty: a list whose encoding begins with that of another begins with it
+  all_begin : ((x : X) → 0 < length (f x)) → (xs ys : List X) (r : List ℕ) → AllByRecursion Fit xs → AllByRecursion Fit ys → flat_map f xs ≡ flat_map f ys ++ r → (rest : List X) × (xs ≡ ys ++ rest)
+  all_begin some xs [] r p q e = (xs, refl)
+  all_begin some [] (y ∷ ys) r p q e =
+      let first = some y in
+      absurd (omega (arith, ap length e, length-append (f y ++ flat_map f ys) r, length-append (f y) (flat_map f ys)))
+  all_begin some (x ∷ xs) (y ∷ ys) r p q e =
+      let h : f x ++ flat_map f xs ≡ f y ++ (flat_map f ys ++ r) = e ∙ append_assoc (f y) (flat_map f ys) r in
+      let a = apart x y (flat_map f xs) (flat_map f ys ++ r) p.0 q.0 h in
+      let b = all_begin some xs ys r p.1 q.1 a.1 in
+      let c : x ∷ xs ≡ y ∷ (ys ++ b.0) = cc in
+      (b.0, c)
+
 rdn_apart : (m n : RdnMap) (r s : List ℕ) → RdnFits m → RdnFits n → rdn_key m ++ r ≡ rdn_key n ++ s → (m ≡ n) × (r ≡ s)
 rdn_apart m n r s p q h =
     let f : number (length (entries m)) ++ (flat_map entry_key (entries m) ++ r) ≡ number (length (entries n)) ++ (flat_map entry_key (entries n) ++ s) =
@@ -78,17 +98,31 @@ same_names n m p q e =
 pub key_is_exact : KeyIsExact
 key_is_exact n m p q = (same_names n m p q, λ e. ap name_key e)
 
--- what is written, and the keys of the sets to come, are the key
-pub record IsKeyUpTo (whole rest : List RdnMap) (out : List ℕ) : Type 0 where
-  pub joined : out ++ flat_map rdn_key rest ≡ name_key whole
-  pub each : AllByRecursion RdnFits rest
+-- which name lies within which
 
-pub key_start : (whole : List RdnMap) (none out : List ℕ) → NameFits whole → none ≡ [] → out ≡ none ++ number (length whole) → IsKeyUpTo whole whole out
-unfolding name_key
-key_start whole none out fits z e = record {
-  joined = ap (λ (l : List ℕ). l ++ flat_map rdn_key whole) (e ∙ ap (λ (l : List ℕ). l ++ number (length whole)) z);
-  each = fits.each;
-}
+rdn_key_some : (m : RdnMap) → 0 < length (rdn_key m)
+rdn_key_some m =
+    let four : length (number (length (entries m))) ≡ 4 = refl in
+    omega (arith, length-append (number (length (entries m))) (flat_map entry_key (entries m)))
+
+pub within_is_by_keys : WithinIsByKeys
+unfolding rdns_key
+within_is_by_keys inner outer p q =
+    let within = within_is_exact inner outer in
+    let begins = starts_is Decides-eqb (rdns_key inner) (rdns_key outer) _ refl in
+    both_ways _ _
+    (λ t. let w = within.0 t in begins.1 (rdns_key w.rest) (ap rdns_key w.joined ∙ flat_map-append rdn_key outer w.rest))
+    (λ t. let w = all_begin rdn_key RdnFits rdn_apart rdn_key_some inner outer _ p.each q.each (begins.0 t) in within.1 (record { rest = w.0; joined = w.1 }))
+
+pub keys_decide_within : KeysDecideWithin
+unfolding rdns_of
+keys_decide_within inner outer =
+    within_is_by_keys (rdns_of inner) (rdns_of outer) (sequence_fits inner.rdns) (sequence_fits outer.rdns)
+
+-- what is written behind the start, and the keys of the sets to come, are the keys of all
+pub record AreKeysUpTo (start : List ℕ) (whole rest : List RdnMap) (out : List ℕ) : Type 0 where
+  pub joined : out ++ flat_map rdn_key rest ≡ start ++ flat_map rdn_key whole
+  pub each : AllByRecursion RdnFits rest
 
 module _ {X Y : Type 0} (f : X → Y) (P : Y → Type 0) where
   each_at : (xs : List X) (k : ℕ) (d : X) → AllByRecursion P (map f xs) → k < length xs → P (f (get_or xs k d))

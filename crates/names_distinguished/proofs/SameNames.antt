@@ -10,11 +10,11 @@ use Rattle.names_distinguished.specs.declared.fault.NameRule.TheVariants.{NameLa
 use Rattle.names_distinguished.specs.declared.name.Name.{Name}
 use Rattle.names_distinguished.specs.declared.rdn.Rdn.{Rdn}
 use Rattle.names_distinguished.specs.AttributeValue.{compared}
-use Rattle.names_distinguished.specs.DistinguishedName.{Entry, RdnMap, rdn_map}
+use Rattle.names_distinguished.specs.DistinguishedName.{Entry, rdn_map}
 use Rattle.names_distinguished.specs.NameLayout.{AttributePlaces, attribute_members}
-use Rattle.names_distinguished.specs.NameParts.{entry_in, entry_at, entries_at, map_at}
+use Rattle.names_distinguished.specs.NameParts.{entry_in, entry_at, map_at}
 use Rattle.names_distinguished.specs.NameView.{entries_of, map_of, maps_of}
-use Rattle.names_distinguished.specs.NameOctets.{raw_of, rdns_of}
+use Rattle.names_distinguished.specs.NameOctets.{rdns_of}
 
 IsOfOctets : {A : Type 0} → (Place → A) → Type 0
 IsOfOctets view = (one other : Place) → one.octets ≡ other.octets → view one ≡ view other

@@ -1,10 +1,10 @@
 -- The key of a name: octets that two names share exactly where they match.
-use Rattle.std.specs.Prelude.{◌≡◌, ◌↔◌, ◌<◌, ◌^◌, ℕ, List, ◌∷◌, ◌++◌, length}
-use Rattle.std.specs.List.{flat_map, AllByRecursion}
+use Rattle.std.specs.Prelude.{◌≡◌, ◌↔◌, ◌<◌, ◌^◌, ℕ, nat_eq, List, ◌∷◌, ◌++◌, length}
+use Rattle.std.specs.List.{flat_map, starts_with, AllByRecursion}
 use Rattle.std.specs.Int.{to_be_bytes, w32}
 use Rattle.std.specs.FinMap.{entries}
 use Rattle.names_distinguished.specs.AttributeValue.{ComparedValue, Text, Other}
-use Rattle.names_distinguished.specs.DistinguishedName.{Entry, RdnMap, NamesMatch}
+use Rattle.names_distinguished.specs.DistinguishedName.{Entry, RdnMap, NamesMatch, is_within}
 
 -- a number in four octets, the highest first
 abbrev pub number : ℕ → List ℕ
@@ -27,6 +27,10 @@ rdn_key m = number (length (entries m)) ++ flat_map entry_key (entries m)
 
 unfoldable pub name_key : List RdnMap → List ℕ
 name_key rdns = number (length rdns) ++ flat_map rdn_key rdns
+
+-- the same without the number of the sets
+unfoldable pub rdns_key : List RdnMap → List ℕ
+rdns_key rdns = flat_map rdn_key rdns
 
 -- the numbers fit in four octets
 abbrev pub ValueFits : ComparedValue → Type 0
@@ -55,3 +59,9 @@ abbrev pub KeyIsExact : Type 0
 KeyIsExact =
     (left right : List RdnMap) → NameFits left → NameFits right →
     (name_key left ≡ name_key right ↔ NamesMatch left right)
+
+-- a name lies within another exactly where the one's key of sets begins with the other's
+abbrev pub WithinIsByKeys : Type 0
+WithinIsByKeys =
+    (inner outer : List RdnMap) → NameFits inner → NameFits outer →
+    is_within inner outer ≡ starts_with nat_eq (rdns_key inner) (rdns_key outer)

@@ -1,9 +1,10 @@
 -- What a name that was read holds.
-use Rattle.std.specs.Prelude.{◌≡◌, ◌↔◌, ℕ, List}
+use Rattle.std.specs.Prelude.{◌≡◌, ◌↔◌, ℕ, nat_eq, List}
+use Rattle.std.specs.List.{starts_with}
 use Rattle.names_distinguished.specs.declared.name.Name.{Name}
-use Rattle.names_distinguished.specs.DistinguishedName.{RdnMap, NamesMatch}
+use Rattle.names_distinguished.specs.DistinguishedName.{RdnMap, NamesMatch, is_within}
 use Rattle.names_distinguished.specs.NameView.{maps_of}
-use Rattle.names_distinguished.specs.NameKey.{name_key}
+use Rattle.names_distinguished.specs.NameKey.{name_key, rdns_key}
 
 -- its whole encoding
 unfoldable pub raw_of : Name → List ℕ
@@ -21,3 +22,8 @@ rdns_of name = maps_of name.rdns
 abbrev pub KeysDecideMatching : Type 0
 KeysDecideMatching =
     (left right : Name) → (name_key (rdns_of left) ≡ name_key (rdns_of right) ↔ NamesMatch (rdns_of left) (rdns_of right))
+
+-- a name lies within another exactly where the one's key of sets begins with the other's
+abbrev pub KeysDecideWithin : Type 0
+KeysDecideWithin =
+    (inner outer : Name) → is_within (rdns_of inner) (rdns_of outer) ≡ starts_with nat_eq (rdns_key (rdns_of inner)) (rdns_key (rdns_of outer))

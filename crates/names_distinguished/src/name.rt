@@ -7,7 +7,7 @@ ghost use Rattle.asn.specs.Members.{HasMembersOf};
 ghost use Rattle.asn.specs.Place.{text_at};
 ghost use Rattle.asn.specs.Oid.{oid_contents};
 ghost use Rattle.names_distinguished.specs.DistinguishedName.{NamesMatch, IsWithin, HasKind, matching, is_within, MatchingIsExact, WithinIsExact};
-ghost use Rattle.names_distinguished.specs.NameKey.{name_key};
+ghost use Rattle.names_distinguished.specs.NameKey.{name_key, rdns_key};
 ghost use Rattle.names_distinguished.specs.NameParts.{rdns_at};
 ghost use Rattle.names_distinguished.specs.NameLayout.{name, rdn, attributes, one_more_rdn};
 ghost use Rattle.names_distinguished.specs.NameForms.{NameIsExact, NameHasLayout};
@@ -192,6 +192,14 @@ impl<'a> Name<'a> {
         ensures { IfOk result (λ key. key.items ≡ name_key (rdns_of self.now)) }
     {
         self.rdns.key(alloc)
+    }
+
+    /// The key without the number of RDNs: a name lies within another exactly if its octets begin with those of the other.
+    #[tactic(auto, unfolding(crate::specs::NameOctets::rdns_of))]
+    pub fn rdns_key(&self, alloc: Global) -> Result<Vec<u8>, AllocError>
+        ensures { IfOk result (λ key. key.items ≡ rdns_key (rdns_of self.now)) }
+    {
+        self.rdns.rdns_key(alloc)
     }
 }
 

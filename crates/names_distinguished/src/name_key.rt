@@ -3,8 +3,8 @@
 ghost use Rattle.std.specs.Prelude.{◌≡◌, ◌↔◌, ◌<◌, ◌^◌, ◌++◌, ◌∷◌, IsTrue, OnOk, IfOk, map, length};
 ghost use Rattle.std.specs.FinMap.{entries};
 ghost use Rattle.names_distinguished.specs.AttributeOrder.{AscendsByKind, HasSameValues, EndsInKind, AreFirstOfEach};
-ghost use Rattle.names_distinguished.specs.NameKey.{number, counted, entry_key, rdn_key, name_key, EntryFits, RdnFits, KeyIsExact};
-ghost use Rattle.names_distinguished.specs.NameOctets.{KeysDecideMatching};
+ghost use Rattle.names_distinguished.specs.NameKey.{number, counted, entry_key, rdn_key, name_key, rdns_key, EntryFits, RdnFits, KeyIsExact, WithinIsByKeys};
+ghost use Rattle.names_distinguished.specs.NameOctets.{KeysDecideMatching, KeysDecideWithin};
 ghost use Rattle.names_distinguished.specs.NameView.{entry_of, entries_of, map_of, maps_of};
 
 use crate::attribute::{Attribute, is_text};
@@ -143,26 +143,48 @@ fn count_of(name: &RdnSequence<'_>) -> usize
     count
 }
 
+/// Adds the keys of the sets.
+#[tactic(auto, unfolding(crate::specs::NameKey::rdns_key))]
+fn push_rdns(alloc: Global, out: &mut Vec<u8>, name: &RdnSequence<'_>) -> Result<(), AllocError>
+    ensures { OnOk result (out.new.items ≡ out.old.items ++ rdns_key (maps_of name.now)) }
+{
+    let mut rest = *name;
+    while let Some((rdn, after)) = rest.split_first() {
+        push_rdn(alloc, out, &rdn)?;
+        rest = after;
+    }
+    Ok(())
+}
+
 impl RdnSequence<'_> {
     /// The key: the number of sets; for each set the number of its attributes; for each attribute, ascending by type, the
     /// contents of the type's object identifier after their number, and either `01` and the prepared text after its number,
     /// or `00` and the identifier and contents of the value after their number. Numbers have four octets, the highest first.
+    #[tactic(auto, unfolding(crate::specs::NameKey::name_key, crate::specs::NameKey::rdns_key))]
     pub(crate) fn key(&self, alloc: Global) -> Result<Vec<u8>, AllocError>
         ensures { IfOk result (λ key. key.items ≡ name_key (maps_of self.now)) }
     {
-        let mut out = Vec::new(alloc);
-        push_number(&mut out, count_of(self))?;
-        let mut rest = *self;
-        while let Some((rdn, after)) = rest.split_first() {
-            push_rdn(alloc, &mut out, &rdn)?;
-            rest = after;
-        }
-        Ok(out)
+        let mut key = Vec::new(alloc);
+        push_number(&mut key, count_of(self))?;
+        push_rdns(alloc, &mut key, self)?;
+        Ok(key)
+    }
+
+    /// The key without the number of sets.
+    pub(crate) fn rdns_key(&self, alloc: Global) -> Result<Vec<u8>, AllocError>
+        ensures { IfOk result (λ key. key.items ≡ rdns_key (maps_of self.now)) }
+    {
+        let mut sets = Vec::new(alloc);
+        push_rdns(alloc, &mut sets, self)?;
+        Ok(sets)
     }
 }
 
-/// Two names have one key exactly if they match: any two that were read, and all lists of sets whose numbers fit in four octets.
+/// Two names have one key exactly if they match, and one lies within another exactly if its key of sets begins with the other's: any two
+/// that were read, and all lists of sets whose numbers fit in four octets.
 pub fn key_laws()
     ensures names { KeysDecideMatching }
     ensures lists { KeyIsExact }
+    ensures names_within { KeysDecideWithin }
+    ensures lists_within { WithinIsByKeys }
 {}

@@ -1,6 +1,6 @@
 -- Ranges: what lies in one has a key that begins with its key.
-use Rattle.std.proofs.Common.{◌≡◌, ◌⊎◌, ◌+◌, ◌-◌, ◌<◌, ◌≤◌, ℕ, zero, suc, List, ◌∷◌, Bool, true, false, ◌&&◌, ◌==◌, refl, ap, sym, ◌∙◌, inl, inr, arith, length, map}
-use Rattle.std.specs.Prelude.{nat_le, min}
+use Rattle.std.proofs.Common.{◌≡◌, ◌⊎◌, ◌+◌, ◌-◌, ◌*◌, ◌/◌, ◌%◌, ◌^◌, ◌<◌, ◌≤◌, ℕ, zero, suc, List, ◌∷◌, Bool, true, false, ◌&&◌, ◌==◌, refl, ap, sym, ◌∙◌, inl, inr, arith, length, map}
+use Rattle.std.specs.Prelude.{nat_le, min, slice_index}
 use Rattle.std.specs.declared.cmp.Ordering.{Ordering}
 use Rattle.std.specs.declared.cmp.Ordering.TheVariants.{Less, Equal, Greater}
 use Rattle.std.specs.List.{list_all, range_with_len}
@@ -12,7 +12,7 @@ use Rattle.names.specs.Ip.{bit, same_bit, agree}
 use Rattle.names.specs.Bases.{AddressRange}
 use Rattle.names.specs.GeneralCoverage.{is_range_of}
 use Rattle.names_order.specs.Order.{begins_with, range_key}
-use Rattle.names_order.proofs.KeyLists.{cmp_less, cmp_greater}
+use Rattle.names_order.proofs.KeyLists.{cmp_less, cmp_same, cmp_greater}
 
 and_swap : (a b c : Bool) → (a && (b && c)) ≡ (b && (a && c))
 and_swap true true c = refl
@@ -93,3 +93,21 @@ first_equal one other i p q whole is a b e = is ∙ (bits_step one other i p q a
 
 pub shorter : (i p q count : ℕ) → count ≡ min p q → count ≤ i → (p ≤ i) ⊎ (q ≤ i)
 shorter i p q count is h = elim (cases_lt p q) [ inl lt ↦ inl (omega arith) | inr le ↦ inr (omega arith) ]
+
+-- the same octets have the same bits
+pub same_octets : (one other : List ℕ) (n : ℕ) → ((k : ℕ) → k < n → slice_index one k ≡ slice_index other k) → (i : ℕ) → i < 8 * n → bit one i ≡ bit other i
+same_octets one other n h i lt = ap (λ (octet : ℕ). octet / 2 ^ (7 - i % 8) % 2) (h (i / 8) (omega arith))
+
+-- the first bits, which are the same, are left out
+pub same_bits_left_out : (one other : List ℕ) (n p q : ℕ) → n ≤ p → n ≤ q → ((i : ℕ) → i < n → bit one i ≡ bit other i)
+    → slice_cmp nat_cmp (map (bit one) (range_with_len 0 p)) (map (bit other) (range_with_len 0 q))
+    ≡ slice_cmp nat_cmp (map (bit one) (range_with_len n (p - n))) (map (bit other) (range_with_len n (q - n)))
+same_bits_left_out one other zero p q a b h =
+    let first : p ≡ p - 0 = omega arith in
+    let second : q ≡ q - 0 = omega arith in
+    λ i. slice_cmp nat_cmp (map (bit one) (range_with_len 0 (first i))) (map (bit other) (range_with_len 0 (second i)))
+same_bits_left_out one other (suc n) p q a b h =
+    let next : n + 1 ≡ suc n = omega arith in
+    let equal : Equal ≡ nat_cmp (bit one n) (bit other n) = sym (ap (nat_cmp (bit one n)) (sym (h n (omega arith))) ∙ cmp_same (bit one n)) in
+    let rest = first_equal one other n p q _ (same_bits_left_out one other n p q (omega arith) (omega arith) (λ i lt. h i (omega arith))) (omega arith) (omega arith) equal in
+    rw next at rest

@@ -4,7 +4,10 @@ mod TextKeys
 mod DomainTexts
 mod BitKeys
 mod BaseKeys
+mod Members
+mod KeySearch
 mod Halving
 mod Outermost
-mod Members
+mod Indexed
+mod Directories
 pub mod Laws

@@ -13,13 +13,16 @@ use Rattle.names.specs.GeneralCoverage.{is_covered, is_base_inside, is_among, ar
 use Rattle.names_order.specs.Order.{is_ordered}
 use Rattle.names_order.specs.Index.{HasSameMembers, lies_in_one, holds_name, is_in_one, unordered, prefix_in, HasNoLonger}
 
-pub any_map : (test : SubtreeBase → Bool) (list : List Subtree) → list_any test (map subtree_base list) ≡ list_any (λ s. test (subtree_base s)) list
-any_map test [] = refl
-any_map test (s ∷ list) = ap (λ b. test (subtree_base s) || b) (any_map test list)
+pub any_mapped : {X Y : Type 0} (f : X → Y) (test : Y → Bool) (list : List X) → list_any test (map f list) ≡ list_any (λ x. test (f x)) list
+any_mapped f test [] = refl
+any_mapped f test (x ∷ list) = ap (λ b. test (f x) || b) (any_mapped f test list)
 
-pub any_same : (p q : SubtreeBase → Bool) → ((b : SubtreeBase) → p b ≡ q b) → (list : List SubtreeBase) → list_any p list ≡ list_any q list
-any_same p q h [] = refl
-any_same p q h (b ∷ list) = ap (λ a. a || list_any p list) (h b) ∙ ap (λ a. q b || a) (any_same p q h list)
+pub any_map : (test : SubtreeBase → Bool) (list : List Subtree) → list_any test (map subtree_base list) ≡ list_any (λ s. test (subtree_base s)) list
+any_map test list = any_mapped subtree_base test list
+
+pub any_alike : {X : Type 0} (p q : X → Bool) → ((x : X) → p x ≡ q x) → (list : List X) → list_any p list ≡ list_any q list
+any_alike p q h [] = refl
+any_alike p q h (x ∷ list) = ap (λ a. a || list_any p list) (h x) ∙ ap (λ a. q x || a) (any_alike p q h list)
 
 -- sorted
 

@@ -1,13 +1,16 @@
 -- Lists of subtrees in which names are found by halving.
-use Rattle.std.specs.Prelude.{◌≡◌, ◌<◌, ◌≤◌, ◌+◌, ℕ, List, [], ◌∷◌, Bool, true, false, not, filter, length, Option, None, Some, if◌then◌else◌}
-use Rattle.std.specs.List.{list_any, AllByRecursion, slice_index_or}
+use Rattle.std.specs.Prelude.{◌≡◌, ◌<◌, ◌≤◌, ◌+◌, ℕ, List, [], ◌∷◌, Bool, true, false, not, filter, length, Option, None, Some}
+use Rattle.std.specs.Global.{Vec}
+use Rattle.std.specs.List.{list_any, dedup, cons_option, AllByRecursion, slice_index_or}
 use Rattle.std.specs.List.Sorted.{IsSortedBy}
-use Rattle.std.specs.Ordering.{is_lt}
+use Rattle.std.specs.Ordering.{nat_cmp, is_lt}
+use Rattle.std.specs.Cmp.Lexicographic.{slice_cmp}
+use Rattle.names_distinguished.specs.NameKey.{rdns_key}
 use Rattle.names.specs.declared.subtree.Subtree.{Subtree}
 use Rattle.names.specs.GeneralView.{subtree_base}
 use Rattle.names.specs.GeneralLayout.{GeneralName, SubtreeBase, directory_base, dns_base, ip_base, other_base}
 use Rattle.names.specs.GeneralCoverage.{is_covered, is_base_inside}
-use Rattle.names_order.specs.Order.{base_order, is_ordered}
+use Rattle.names_order.specs.Order.{base_order, begins_with, is_ordered}
 
 -- each test that a member of the one passes, a member of the other passes
 abbrev pub HasSameMembers : List SubtreeBase → List SubtreeBase → Type 0
@@ -35,15 +38,12 @@ lies_in base other = is_base_inside base other
 abbrev pub lies_within : GeneralName → SubtreeBase → Bool
 lies_within name base = is_covered name base
 
--- whether the base lies in the other, where there is one
-abbrev pub lies_in_last : SubtreeBase → Option Subtree → Bool
-lies_in_last base None = false
-lies_in_last base (Some last) = is_base_inside base (subtree_base last)
+abbrev pub lies_in_other : Subtree → Subtree → Bool
+lies_in_other s t = is_base_inside (subtree_base s) (subtree_base t)
 
--- of subtrees in order, those that do not lie in the last one that is taken
-abbrev pub outermost : Option Subtree → List Subtree → List Subtree
-outermost last [] = []
-outermost last (s ∷ list) = if lies_in_last (subtree_base s) last then outermost last list else s ∷ outermost (Some s) list
+-- of subtrees in order, those that do not lie in the last one that is kept
+abbrev pub outermost : List Subtree → List Subtree
+outermost list = dedup lies_in_other list
 
 -- those that have no order
 abbrev pub unordered : List Subtree → List Subtree
@@ -64,14 +64,56 @@ prefix_in (other_base number contents) = 0
 abbrev pub HasNoLonger : ℕ → List Subtree → Type 0
 HasNoLonger longest list = AllByRecursion (λ s. prefix_in (subtree_base s) ≤ longest) list
 
--- what is kept of a list: those that are searched for bases that have an order, and for others
-pub record IsIndexed (all tops rest : List Subtree) (longest : ℕ) : Type 0 where
+-- the key of a subtree of directory names
+abbrev pub directory_key : SubtreeBase → Option (List ℕ)
+directory_key (directory_base name) = Some (rdns_key name.rdns)
+directory_key (dns_base names) = None
+directory_key (ip_base range) = None
+directory_key (other_base number contents) = None
+
+abbrev pub directory_keys : List Subtree → List (List ℕ)
+directory_keys [] = []
+directory_keys (s ∷ list) = cons_option (directory_key (subtree_base s)) (directory_keys list)
+
+abbrev pub octets_in : Vec ℕ → List ℕ
+octets_in key = key.items
+
+-- the octets begin with one of the keys
+abbrev pub begins_with_one : List (Vec ℕ) → List ℕ → Bool
+begins_with_one keys octets = list_any (λ key. begins_with octets (octets_in key)) keys
+
+abbrev pub is_key_before : Vec ℕ → Vec ℕ → Bool
+is_key_before one other = is_lt (slice_cmp nat_cmp (octets_in one) (octets_in other))
+
+-- keys that ascend, of which none begins with the one before it
+pub record AreSearchable (keys : List (Vec ℕ)) : Type 0 where
+  pub sorted : IsSortedBy is_key_before keys
+  pub apart : (k : ℕ) (d : Vec ℕ) → k + 1 < length keys → begins_with (octets_in (slice_index_or keys (k + 1) d)) (octets_in (slice_index_or keys k d)) ≡ false
+
+-- some of the keys, with which the same octets begin as with all of them
+pub record AreOutermost (all keys : List (Vec ℕ)) : Type 0 where
+  pub searchable : AreSearchable keys
+  pub same : (octets : List ℕ) → begins_with_one keys octets ≡ begins_with_one all octets
+
+-- the keys by which it is decided whether directory names lie in one of the subtrees
+pub record AreKeysOf (list : List Subtree) (keys : List (Vec ℕ)) : Type 0 where
+  pub searchable : AreSearchable keys
+  pub decide : (s : Subtree) (octets : List ℕ) → directory_key (subtree_base s) ≡ Some octets
+      → begins_with_one keys octets ≡ is_in_one list (subtree_base s)
+
+-- a few are gone over
+abbrev pub AreKeysIfMany : List Subtree → List (Vec ℕ) → Type 0
+AreKeysIfMany list keys = 32 < length list → AreKeysOf list keys
+
+-- what is kept of a list: those that are searched for bases that have an order, and for others, and the keys of those
+pub record IsIndexed (all tops rest : List Subtree) (keys : List (Vec ℕ)) (longest : ℕ) : Type 0 where
   pub sorted : IsSortedBy stands_before tops
   pub apart : IsApart tops
   pub in_tops : (base : SubtreeBase) → is_ordered base ≡ true → is_in_one tops base ≡ is_in_one all base
   pub in_rest : (base : SubtreeBase) → is_ordered base ≡ false → is_in_one rest base ≡ is_in_one all base
+  pub in_keys : AreKeysIfMany rest keys
   pub no_longer : HasNoLonger longest all
 
 -- a short list is gone over
-abbrev pub IsIndexedIfLong : List Subtree → List Subtree → List Subtree → ℕ → Type 0
-IsIndexedIfLong all tops rest longest = 12 < length all → IsIndexed all tops rest longest
+abbrev pub IsIndexedIfLong : List Subtree → List Subtree → List Subtree → List (Vec ℕ) → ℕ → Type 0
+IsIndexedIfLong all tops rest keys longest = 12 < length all → IsIndexed all tops rest keys longest

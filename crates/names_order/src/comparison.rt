@@ -1,6 +1,6 @@
 //! The order of subtrees.
 
-ghost use Rattle.std.specs.Prelude.{◌≡◌, ℕ, reverse};
+ghost use Rattle.std.specs.Prelude.{◌≡◌, ◌<◌, ◌≤◌, ℕ, reverse, slice_index};
 ghost use Rattle.std.specs.Cmp.Lexicographic.{slice_cmp};
 ghost use Rattle.std.specs.Ordering.{nat_cmp};
 ghost use Rattle.names.specs.Ip.{bit};
@@ -103,14 +103,34 @@ fn compare_domains(left: &Domain<'_>, right: &Domain<'_>) -> Ordering
     }
 }
 
+/// The octet at `index`; 0 past the end.
+fn octet_at(octets: &[u8], index: u16) -> u8
+    ensures { result ≡ slice_index octets.now index }
+{
+    match octets.get(usize::from(index)) {
+        Some(octet) => *octet,
+        None => 0,
+    }
+}
+
 /// The bit at `index`, the highest of the first octet being bit 0; 0 past the end.
 fn bit_at(octets: &[u8], index: u16) -> u8
     ensures { result ≡ bit octets.now index }
 {
-    match octets.get(usize::from(index / 8)) {
-        Some(octet) => *octet >> (7 - index % 8) & 1,
-        None => 0,
+    octet_at(octets, index / 8) >> (7 - index % 8) & 1
+}
+
+/// How many bits, `most` at most, are the same in both: those of the octets with which both begin.
+fn same_bits(left: &[u8], right: &[u8], most: u16) -> u16
+    ensures within { result ≤ most }
+    ensures same { (i : ℕ) → i < result → bit left.now i ≡ bit right.now i }
+{
+    for i in 0..most / 8 {
+        if octet_at(left, i) != octet_at(right, i) {
+            return 8 * i;
+        }
     }
+    most / 8 * 8
 }
 
 /// Compares the bits of the prefixes.
@@ -119,7 +139,7 @@ fn compare_bits(left: &IpRange<'_>, right: &IpRange<'_>) -> Ordering
         (prefix_bits (address_range right.now)) }
 {
     let count = left.prefix.min(right.prefix);
-    for i in 0..count {
+    for i in same_bits(left.address, right.address, count)..count {
         match bit_at(left.address, i).cmp(&bit_at(right.address, i)) {
             Ordering::Equal => {}
             order => return order,

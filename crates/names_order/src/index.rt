@@ -1,10 +1,10 @@
 //! Lists of subtrees in which names are found by halving.
 
-ghost use Rattle.std.specs.Prelude.{◌≡◌, ◌++◌, ◌<◌, length, map, true, OnOk, None, IfOk};
+ghost use Rattle.std.specs.Prelude.{◌≡◌, ◌++◌, ◌<◌, length, map, true, option_map, OnOk, IfOk};
 ghost use Rattle.std.specs.List.Sorted.{IsPermutation, IsSortedBy};
 ghost use Rattle.names.specs.GeneralView.{general_name, subtree_base};
-ghost use Rattle.names_order.specs.Order.{is_ordered};
-ghost use Rattle.names_order.specs.Index.{HasSameMembers, lies_in_one, holds_name, is_in_one, one_covers, lies_within, stands_before, lies_in, lies_in_last, outermost, unordered, IsApart, HasNoLonger, prefix_in};
+ghost use Rattle.names_order.specs.Order.{begins_with, is_ordered};
+ghost use Rattle.names_order.specs.Index.{HasSameMembers, lies_in_one, holds_name, is_in_one, one_covers, lies_within, stands_before, lies_in, outermost, unordered, IsApart, HasNoLonger, prefix_in, directory_key, directory_keys, octets_in, begins_with_one, AreSearchable, AreOutermost, AreKeysIfMany};
 
 use crate::comparison::order;
 use names::{Domain, General, IpRange, Subtree, coverage_laws};
@@ -14,8 +14,11 @@ use std::marker::Model;
 /// The most subtrees that are gone over one by one.
 const SHORT: usize = 12;
 
-/// Subtrees in order, if they are many. Whether a name or a subtree of DNS names or of addresses lies in one of them is found by halving; directory names are
-/// compared with each subtree of directory names.
+/// The most subtrees without an order that are gone over one by one: the key of a name costs as much as some comparisons.
+const FEW: usize = 32;
+
+/// Subtrees in order, if they are many. Whether a name or a subtree of DNS names or of addresses lies in one of them is found by halving, and
+/// so for directory names by their keys, if these are many.
 #[derive(Drop)]
 pub struct Index<'a> {
     all: Vec<Subtree<'a>>,
@@ -23,8 +26,12 @@ pub struct Index<'a> {
     tops: Vec<Subtree<'a>>,
     /// Those that have no order.
     rest: Vec<Subtree<'a>>,
+    /// The keys of those of directory names, if they are many, in order and without those that begin with another.
+    keys: Vec<Vec<u8>>,
     /// The most bits of a range.
     longest: u16,
+    /// Where the keys of names that are looked for find memory.
+    alloc: Global,
 }
 
 impl<'a> Model for Index<'a> {
@@ -41,7 +48,7 @@ impl<'a> Model for Index<'a> {
 
     ghost view = { λ i. map subtree_base i.all.items };
 
-    ghost invariant = { λ i. IsIndexedIfLong i.all.items i.tops.items i.rest.items i.longest };
+    ghost invariant = { λ i. IsIndexedIfLong i.all.items i.tops.items i.rest.items i.keys.items i.longest };
 }
 
 /// Whether the first subtree lies in the other.
@@ -50,16 +57,6 @@ fn is_inside(base: &Subtree<'_>, other: &Subtree<'_>) -> bool
 {
     coverage_laws();
     base.inside(other)
-}
-
-/// Whether the subtree lies in the other, if there is one.
-fn is_inside_last(base: &Subtree<'_>, last: &Option<Subtree<'_>>) -> bool
-    ensures { result ≡ lies_in_last (subtree_base base.now) last.now }
-{
-    match last {
-        None => false,
-        Some(last) => is_inside(base, last),
-    }
 }
 
 /// Whether the subtree is of a form that has an order.
@@ -90,21 +87,16 @@ fn sort(list: &mut Vec<Subtree<'_>>) -> Result<(), AllocError>
     list.sort_by(|one, other| order(one, other))
 }
 
-/// Of subtrees in order, those that do not lie in the last one that is taken.
+/// Of subtrees in order, those that do not lie in the last one that is kept.
 fn select_outermost<'a>(
     alloc: Global,
     sorted: &[Subtree<'a>],
 ) -> Result<Vec<Subtree<'a>>, AllocError>
-    ensures { IfOk result (λ tops. tops.items ≡ outermost None sorted.now) }
+    ensures { IfOk result (λ tops. tops.items ≡ outermost sorted.now) }
 {
     let mut tops = Vec::new(alloc);
-    let mut last = None;
-    for base in sorted {
-        if !is_inside_last(base, &last) {
-            tops.push(*base)?;
-            last = Some(*base);
-        }
-    }
+    tops.extend_from_slice(sorted)?;
+    tops.dedup_by(|base, last| is_inside(base, last));
     Ok(tops)
 }
 
@@ -116,6 +108,57 @@ fn select_unordered<'a>(alloc: Global, list: &[Subtree<'a>]) -> Result<Vec<Subtr
         .copied()
         .filter(|base| !has_order(base))
         .collect(alloc)
+}
+
+/// The key of a subtree of directory names.
+fn key_of(alloc: Global, base: &Subtree<'_>) -> Result<Option<Vec<u8>>, AllocError>
+    ensures { IfOk result (λ key.
+        option_map octets_in key ≡ directory_key (subtree_base base.now)) }
+{
+    match base {
+        Subtree::Directory(name) => Ok(Some(name.rdns_key(alloc)?)),
+        _ => Ok(None),
+    }
+}
+
+/// The keys of those that are subtrees of directory names.
+fn keys_of(alloc: Global, list: &[Subtree<'_>]) -> Result<Vec<Vec<u8>>, AllocError>
+    ensures { IfOk result (λ keys. map octets_in keys.items ≡ directory_keys list.now) }
+{
+    let mut keys = Vec::new(alloc);
+    for base in list {
+        if let Some(key) = key_of(alloc, base)? {
+            keys.push(key)?;
+        }
+    }
+    Ok(keys)
+}
+
+/// Whether the octets begin with the others.
+fn goes_on(octets: &[u8], front: &[u8]) -> bool
+    ensures { result ≡ begins_with octets.now front.now }
+{
+    octets.starts_with(front)
+}
+
+/// Sorts the keys, and leaves out those that begin with another.
+fn keep_outermost(keys: &mut Vec<Vec<u8>>)
+    ensures { AreOutermost keys.old.items keys.new.items }
+{
+    keys.sort_unstable();
+    keys.dedup_by(|key, front| goes_on(key, front));
+}
+
+/// The keys by which directory names are looked for, if the subtrees are many.
+fn select_keys(alloc: Global, list: &[Subtree<'_>]) -> Result<Vec<Vec<u8>>, AllocError>
+    ensures { IfOk result (λ keys. AreKeysIfMany list.now keys.items) }
+{
+    if list.len() <= FEW {
+        return Ok(Vec::new(alloc));
+    }
+    let mut keys = keys_of(alloc, list)?;
+    keep_outermost(&mut keys);
+    Ok(keys)
 }
 
 /// The most bits of a range.
@@ -165,6 +208,33 @@ fn is_in_top(tops: &[Subtree<'_>], base: &Subtree<'_>) -> bool
     is_inside(base, &tops[place - 1])
 }
 
+/// Whether the octets begin with one of the keys.
+fn begins_with_one(keys: &[Vec<u8>], octets: &[u8]) -> bool
+    requires { AreSearchable keys.now }
+    ensures { result ≡ begins_with_one keys.now octets.now }
+{
+    let place = keys.partition_point(|key| !octets.cmp(key.as_slice()).is_lt());
+    if place == 0 {
+        return false;
+    }
+    goes_on(octets, &keys[place - 1])
+}
+
+/// Whether the subtree lies in one of those that have no order. If there is no memory for its key, it is compared with each, to the same
+/// answer.
+fn is_in_rest(alloc: Global, rest: &[Subtree<'_>], keys: &[Vec<u8>], base: &Subtree<'_>) -> bool
+    requires { AreKeysIfMany rest.now keys.now }
+    ensures { result ≡ is_in_one rest.now (subtree_base base.now) }
+{
+    if rest.len() <= FEW {
+        return is_in_one(rest, base);
+    }
+    match key_of(alloc, base) {
+        Ok(Some(key)) => begins_with_one(keys, &key),
+        _ => is_in_one(rest, base),
+    }
+}
+
 impl<'a> Index<'a> {
     /// An index of the subtrees. Runs of many that are in order are not sorted again.
     pub fn of(alloc: Global, list: Vec<Subtree<'a>>) -> Result<Index<'a>, AllocError>
@@ -176,18 +246,23 @@ impl<'a> Index<'a> {
                 all,
                 tops: Vec::new(alloc),
                 rest: Vec::new(alloc),
+                keys: Vec::new(alloc),
                 longest: 0,
+                alloc,
             });
         }
         sort(&mut all)?;
         let tops = select_outermost(alloc, &all)?;
         let rest = select_unordered(alloc, &all)?;
+        let keys = select_keys(alloc, &rest)?;
         let longest = longest_prefix(&all);
         Ok(Index {
             all,
             tops,
             rest,
+            keys,
             longest,
+            alloc,
         })
     }
 }
@@ -220,7 +295,7 @@ impl<'a> Index<'a> {
         } else if has_order(base) {
             is_in_top(&self.tops, base)
         } else {
-            is_in_one(&self.rest, base)
+            is_in_rest(self.alloc, &self.rest, &self.keys, base)
         }
     }
 

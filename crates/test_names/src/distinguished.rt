@@ -12,6 +12,7 @@ mod batches;
 mod comparison;
 mod layout;
 mod repetition;
+mod subtrees;
 
 const COMMON_NAME: &[u8] = &[0x55, 0x04, 0x03];
 

@@ -26,6 +26,14 @@ const MANY: &[&str] = &[
     "ee(T,B){signed B2}{dns b.n14.example}",
 ];
 
+/// The same with directory names, of which more are looked for by their keys.
+const DIRECTORIES: &[&str] = &[
+    "ca(R,R)",
+    "ca(A,R){permit dir n0}{permit dir n1}{permit dir n2}{permit dir n3}{permit dir n4}{permit dir n5}{permit dir n6}{permit dir n7}{permit dir n8}{permit dir n9}{permit dir n10}{permit dir n11}{permit dir n12}{permit dir n13}{permit dir n14}{permit dir n15}{permit dir n16}{permit dir n17}{permit dir n18}{permit dir n19}{permit dir n20}{permit dir n21}{permit dir n22}{permit dir n23}{permit dir n24}{permit dir n25}{permit dir n26}{permit dir n27}{permit dir n28}{permit dir n29}{permit dir n30}{permit dir n31}{permit dir n32}{permit dir n33}{permit dir B}",
+    "ca(B,A){key B2}{permit dir n40}{permit dir n0}{permit dir n1}{permit dir n2}{permit dir n3}{permit dir n4}{permit dir n5}{permit dir n6}{permit dir n7}{permit dir n8}{permit dir n9}{permit dir n10}{permit dir n11}{permit dir n12}{permit dir n13}{permit dir n14}{permit dir n15}{permit dir n16}{permit dir n17}{permit dir n18}{permit dir n19}{permit dir n20}{permit dir n21}{permit dir n22}{permit dir n23}{permit dir n24}{permit dir n25}{permit dir n26}{permit dir n27}{permit dir n28}{permit dir n29}{permit dir n30}{permit dir n31}{permit dir n32}{permit dir n33}",
+    "ee(T,B){signed B2}{dir n21}",
+];
+
 /// The validation of the path to its end, behind its anchor: where a step has no memory, nothing has changed, and it is taken
 /// again.
 fn outcome_by_steps(alloc: Global, certificates: &[Certificate<'_>]) -> Result<Outcome, PathFault> {
@@ -68,5 +76,7 @@ fn wants_memory_or_answers(rt: HostRuntime) -> Result<(), Fail> {
     assert!(rt; stepped == wanted || stepped == Err(PathFault::Memory));
     let many = outcome_of_texts(rt.alloc(), MANY);
     assert!(rt; many == wanted || many == Err(PathFault::Memory));
+    let directories = outcome_of_texts(rt.alloc(), DIRECTORIES);
+    assert!(rt; directories == wanted || directories == Err(PathFault::Memory));
     Ok(())
 }

@@ -2,6 +2,16 @@
 
 use super::*;
 
+/// Whether each of two names lies within the other by the keys of their sets.
+fn relations_by_keys(alloc: Global, left: &[u8], right: &[u8]) -> Result<[bool; 2], Fail> {
+    let left_key = read(left)?.rdns_key(alloc)?;
+    let right_key = read(right)?.rdns_key(alloc)?;
+    Ok([
+        left_key.starts_with(&right_key),
+        right_key.starts_with(&left_key),
+    ])
+}
+
 /// Whether each of two names matches the other, whether each lies within the other, and whether their keys are equal.
 fn relations(alloc: Global, left: &[u8], right: &[u8]) -> Result<[bool; 5], Fail> {
     let left = read(left)?;
@@ -262,6 +272,8 @@ fn names_compare(rt: HostRuntime) -> Result<(), Fail> {
         let same = *inside && *around;
         let found = relations(rt.alloc(), &left_octets, &right_octets)?;
         assert!(rt; found == [same, same, *inside, *around, same], "{what}");
+        let by_keys = relations_by_keys(rt.alloc(), &left_octets, &right_octets)?;
+        assert!(rt; by_keys == [*inside, *around], "{what}, by keys");
     }
     Ok(())
 }
@@ -317,6 +329,8 @@ fn keys_are_as_worked(rt: HostRuntime) -> Result<(), Fail> {
         let octets = name_of(rt.alloc(), attributes)?;
         let key = read(&octets)?.key(rt.alloc())?;
         assert!(rt; key.as_slice() == *want, "{what}");
+        let sets = read(&octets)?.rdns_key(rt.alloc())?;
+        assert!(rt; Some(sets.as_slice()) == want.get(4..), "{what}, the sets");
     }
     Ok(())
 }

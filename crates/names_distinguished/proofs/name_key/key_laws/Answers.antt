@@ -1,5 +1,5 @@
 use Rattle.names_distinguished.specs.NameOctets.{rdns_of}
-use Rattle.names_distinguished.proofs.Keys.{key_is_exact}
+use Rattle.names_distinguished.proofs.Keys.{key_is_exact, within_is_by_keys, keys_decide_within}
 use Rattle.names_distinguished.proofs.SequenceFits.{sequence_fits}
 use Rattle.names_distinguished.proofs.name_key.key_laws.Goals as goal
 
@@ -10,3 +10,9 @@ returns-clause-names c = λ left right.
 
 pub returns-clause-lists : goal.returns-clause-lists
 returns-clause-lists c = key_is_exact
+
+pub returns-clause-names_within : goal.returns-clause-names_within
+returns-clause-names_within c = keys_decide_within
+
+pub returns-clause-lists_within : goal.returns-clause-lists_within
+returns-clause-lists_within c = within_is_by_keys

@@ -1,6 +1,11 @@
 use Rattle.std.proofs.Common.{◌∙◌, arith, sym}
-use Rattle.names_order.proofs.BitKeys.{bits_end, first_decides, first_equal, shorter}
+use Rattle.names_order.proofs.BitKeys.{bits_end, first_decides, first_equal, same_bits_left_out, shorter}
 use Rattle.names_order.proofs.comparison.compare_bits.Goals as goal
+
+pub loop-i-init : goal.loop-i-init
+loop-i-init c =
+    same_bits_left_out c.args.left.now.address.now c.args.right.now.address.now c.same_bits-i.result c.args.left.now.prefix c.args.right.now.prefix
+    (omega arith) (omega arith) c.same_bits-i.ensures.same
 
 pub returns-in_default : goal.returns-in_default
 returns-in_default c =

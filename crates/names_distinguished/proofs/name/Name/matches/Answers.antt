@@ -1,4 +1,4 @@
-use Rattle.std.proofs.Common.{◌≡◌, ◌∙◌, sym, true, rules}
+use Rattle.std.proofs.Common.{◌≡◌, rules}
 use Rattle.names_distinguished.specs.NameOctets.{rdns_of}
 use Rattle.names_distinguished.proofs.Matching.{matching_test}
 use Rattle.names_distinguished.proofs.SameNames.{same_rdns}

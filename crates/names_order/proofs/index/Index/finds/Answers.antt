@@ -5,18 +5,18 @@ use Rattle.names.specs.Bases.{names_within}
 use Rattle.names.specs.GeneralLayout.{SubtreeBase, dns_base, dns_name, directory_base, directory_name, ip_base, ip_address}
 use Rattle.names.specs.GeneralCoverage.{is_base_inside, is_covered}
 use Rattle.names_order.specs.Index.{lies_in_one, holds_name}
-use Rattle.names_order.proofs.Members.{any_same, directory_is, dns_is, addresses_are, others_are}
+use Rattle.names_order.proofs.Members.{any_alike, directory_is, dns_is, addresses_are, others_are}
 use Rattle.names_order.proofs.index.Index.finds.Goals as goal
 
 pub returns-in-Directory : goal.returns-in-Directory
 returns-in-Directory c =
     let name = name_contents c.in-Directory.name in
-    rw c.in-Directory.is (c.holds.ensures ∙ any_same (λ b. is_base_inside (directory_base name) b) (λ b. is_covered (directory_name name) b) (directory_is name) c.args.self.now)
+    rw c.in-Directory.is (c.holds.ensures ∙ any_alike (λ b. is_base_inside (directory_base name) b) (λ b. is_covered (directory_name name) b) (directory_is name) c.args.self.now)
 
 pub returns-in-Dns : goal.returns-in-Dns
 returns-in-Dns c =
     let name = c.in-Dns.name.now in
-    rw c.in-Dns.is (c.holds-in-Dns.ensures ∙ any_same (λ b. is_base_inside (dns_base (names_within name)) b) (λ b. is_covered (dns_name name) b) (dns_is name) c.args.self.now)
+    rw c.in-Dns.is (c.holds-in-Dns.ensures ∙ any_alike (λ b. is_base_inside (dns_base (names_within name)) b) (λ b. is_covered (dns_name name) b) (dns_is name) c.args.self.now)
 
 pub returns-in-Ip : goal.returns-in-Ip
 returns-in-Ip c =

@@ -28,7 +28,7 @@ pub returns-else-has_order : goal.returns-else-has_order
 returns-else-has_order c =
     let base = subtree_base c.args.base.now in
     let many : 12 < length c.self.inside.all.items = omega arith in
-    c.is_in_one-else-has_order.ensures
+    c.is_in_rest.ensures
     ∙ (rw c.deref-else-has_order.ensures.value ((c.self.invariant many).in_rest base (sym c.has_order.ensures ∙ c.if-has_order.false))
     ∙ (sym (any_map (λ other. is_base_inside base other) c.self.inside.all.items)
     ∙ ap (λ (l : List SubtreeBase). lies_in_one l base) c.self.view_is))
@@ -42,3 +42,8 @@ pub is_in_top-requires-clause-apart : goal.is_in_top-requires-clause-apart
 is_in_top-requires-clause-apart c =
     let many : 12 < length c.self.inside.all.items = omega arith in
     rw c.deref-then-has_order.ensures.value (c.self.invariant many).apart
+
+pub is_in_rest-requires : goal.is_in_rest-requires
+is_in_rest-requires c =
+    let many : 12 < length c.self.inside.all.items = omega arith in
+    rw (c.deref-else-has_order.ensures.value, c.deref-else-has_order-2.ensures.value) (c.self.invariant many).in_keys
