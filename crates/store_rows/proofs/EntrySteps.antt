@@ -26,11 +26,11 @@ use Rattle.store_rows.proofs.Others.{entries_change}
 use Rattle.store_rows.proofs.Terms.{passes_at, passes_range, in_range, cast_null, cast_int, as_int}
 use Rattle.store_rows.proofs.Steps.{shows_one}
 
-entries_stand : (origin : Origin) → slice_get (store_schema origin).tables (entries_at origin) ≡ Some (scoped_entries_table (entries_tree origin))
+pub entries_stand : (origin : Origin) → slice_get (store_schema origin).tables (entries_at origin) ≡ Some (scoped_entries_table (entries_tree origin))
 entries_stand Made = refl
 entries_stand Migrated = refl
 
-entries_alone : (origin : Origin) (keys : Keys) (gone news : List Row) → works (store_schema origin) keys 0 (entries_tree origin) gone news ≡ []
+pub entries_alone : (origin : Origin) (keys : Keys) (gone news : List Row) → works (store_schema origin) keys 0 (entries_tree origin) gone news ≡ []
 entries_alone Made keys gone news = refl
 entries_alone Migrated keys gone news = refl
 

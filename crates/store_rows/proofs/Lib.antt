@@ -6,6 +6,8 @@ mod Others
 mod Terms
 mod Steps
 mod EntrySteps
+mod NewRows
+mod Refused
 mod Numbers
 mod Finding
 mod Issuers

@@ -1,5 +1,5 @@
 -- The entries of a list take the place of those that stood there, one after the other.
-use Rattle.std.proofs.Common.{◌≡◌, ◌<◌, ◌≤◌, ◌+◌, ℕ, suc, All, pos, List, [], ◌∷◌, ◌++◌, map, filter, length, take, drop, get_or, Ok, refl, sym, ap, subst, ◌∙◌, arith}
+use Rattle.std.proofs.Common.{◌≡◌, ◌<◌, ◌≤◌, ◌+◌, ℕ, zero, suc, Err, All, pos, List, [], ◌∷◌, ◌++◌, map, filter, length, take, drop, get_or, Ok, refl, sym, ap, subst, ◌∙◌, arith}
 use Rattle.std.proofs.Math.Seq.{take-length}
 use Rattle.std.proofs.lemmas.List.{map_more, take-append-drop, map-append, length-take-le}
 use Rattle.std.specs.List.{AllByRecursion}
@@ -8,16 +8,24 @@ use Rattle.std.specs.Cmp.Lexicographic.{slice_cmp}
 use Rattle.std.proofs.lemmas.Map.Keys.{sorted_tail}
 use Rattle.std.proofs.lemmas.Map.Views.{All-after_first}
 use Rattle.sqlite.specs.declared.types.Value.TheVariants.{Int}
-use Rattle.sqlite.specs.State.{State, KeepsCommit, ExecutesInside}
+use Rattle.sqlite.specs.State.{State, KeepsCommit, ExecutesInside, HasCleanDisk, Survives}
+use Rattle.sqlite.specs.declared.error.Error.{Error}
 use Rattle.sqlite_trees.specs.Tree.{IsAscending}
 use Rattle.statements_facts.specs.declared.revoked.Listed.{Listed}
 use Rattle.statements_facts.specs.Listed.{ListedSerial, seen_listed, IsAscending as Ascend}
+use Rattle.store_sql.specs.declared.fault.StoreFault.TheVariants.{Store}
+use Rattle.store_sql.specs.declared.origin.Origin.{Origin}
+use Rattle.store_sql.specs.Cause.{MayRefuse}
+use Rattle.store_sql.specs.Fault.{fault_from}
 use Rattle.store_sql.specs.Texts.{delete_entries, insert_entry}
+use Rattle.store_sql.proofs.Laws.{later_refuses}
 use Rattle.store_rows.specs.Contents.{EntryRow, Contents, listed_cells}
 use Rattle.store_rows.specs.Places.{IsBelow, base_of, fill, is_under, put_entry, replaced, without}
-use Rattle.store_rows.specs.Holding.{HasContents, HasByte, FitInList, with_entries}
-use Rattle.store_rows.specs.Steps.{Moves}
-use Rattle.store_rows.proofs.Placing.{IsNext}
+use Rattle.store_rows.specs.Holding.{HasContents, AreInForm, HasByte, FitInList, with_entries}
+use Rattle.store_rows.specs.Room.{FitRow, EntriesFit}
+use Rattle.store_rows.specs.Steps.{Moves, IsCausedIfRoom}
+use Rattle.store_rows.proofs.Refused.{entry_not_added}
+use Rattle.store_rows.proofs.Placing.{IsNext, fars}
 use Rattle.store_rows.proofs.Refilling.{length_map, befores, replaces}
 use Rattle.store_rows.proofs.Finding.{moves}
 use Rattle.store_rows.proofs.EntrySteps.{range_deleted, entry_added}
@@ -81,6 +89,24 @@ moves_on old mid new issuer scope k count ps p so few scopes at room up h = reco
       subst (λ es. HasContents new.now origin (record it { entries = es })) same added;
 }
 
+-- the next entry is refused only for cause
+not_added_on : (old mid new : State) (issuer scope k : ℕ) (ps : List ListedSerial) (p : ListedSerial) → Moves old mid (with_entries issuer scope ps) → issuer < 536870911 → scope < 3 → k ≡ length ps → k < 4294967296
+    → IsAscending IsBelow (ps ++ p ∷ []) → FitRow (length p.serial)
+    → (error : Error) → ExecutesInside 0 insert_entry (Int (pos (base_of issuer scope + k)) ∷ Int (pos issuer) ∷ Int (pos scope) ∷ listed_cells p) mid new (Err error) → fault_from error ≡ Store
+    → (origin : Origin) (it : Contents) → HasContents old.now origin it → AreInForm it → MayRefuse mid new
+not_added_on old mid new issuer scope k ps p so few scopes at room up short error h is origin it held form =
+    let was = replaces it.entries issuer scope ps form.placed few scopes (omega (arith, at, room)) (ascends_front ps (p ∷ []) up) in
+    let e : EntryRow = record { place = base_of issuer scope + k; issuer = issuer; scope = scope; listed = p } in
+    let size : k ≡ length (filter (is_under issuer scope) (replaced it.entries issuer scope ps)) =
+    at ∙ ap length (sym was.own) ∙ length_map (λ (e : EntryRow). e.listed) (filter (is_under issuer scope) (replaced it.entries issuer scope ps)) in
+    let next : IsNext (replaced it.entries issuer scope ps) e = record {
+      inside = record { issuer = few; scope = scopes; low = omega arith; high = omega (arith, room) };
+      next = ap (λ n. base_of issuer scope + n) size;
+      above = subst (AllByRecursion (λ x. IsBelow x p)) (sym was.own) (befores ps p [] up);
+    } in
+    entry_not_added origin mid new (with_entries issuer scope ps it) (so.rows origin it held form) e (fars (replaced it.entries issuer scope ps) e was.placed next)
+    (omega (arith, few, scopes, room)) short error h is
+
 -- the list so far with the next, and what is left
 parts : (all : List Listed) (k : ℕ) (d : Listed) → k < length all → map seen_listed all ≡ (map seen_listed (take k all) ++ seen_listed (get_or all k d) ∷ []) ++ map seen_listed (drop (k + 1) all)
 parts all k d low =
@@ -97,6 +123,23 @@ one_more old mid new issuer scope k count all d low few up issuers scopes so h =
     let front = ascends_front (map seen_listed (take k all) ++ seen_listed (get_or all k d) ∷ []) (map seen_listed (drop (k + 1) all)) whole in
     subst (λ ps. Moves old new (with_entries issuer scope ps)) (sym (map_more seen_listed all k d low))
     (moves_on old mid new issuer scope k count (map seen_listed (take k all)) (seen_listed (get_or all k d)) so issuers scopes size (omega (arith, low, few)) front h)
+
+short_at : (all : List Listed) (k : ℕ) (d : Listed) → k < length all → AllByRecursion (λ (entry : ListedSerial). FitRow (length entry.serial)) (map seen_listed all) → FitRow (length (seen_listed (get_or all k d)).serial)
+short_at [] k d low h = absurd (omega (arith, low))
+short_at (x ∷ all) zero d low h = h.0
+short_at (x ∷ all) (suc k) d low h = short_at all k d (omega (arith, low)) h.1
+
+-- and so the fault has a cause
+pub not_one_more : (old mid new : State) (issuer scope k : ℕ) (all : List Listed) (d : Listed) → k < length all → length all ≤ 4294967296 → Ascend (map seen_listed all)
+    → issuer < 536870911 → scope < 3 → Moves old mid (with_entries issuer scope (map seen_listed (take k all))) → Survives old mid (λ _. ⊥) → Survives mid new (λ _. ⊥) → HasCleanDisk mid
+    → (error : Error) → ExecutesInside 0 insert_entry (Int (pos (base_of issuer scope + k)) ∷ Int (pos issuer) ∷ Int (pos scope) ∷ listed_cells (seen_listed (get_or all k d))) mid new (Err error)
+    → IsCausedIfRoom (λ _. EntriesFit (map seen_listed all)) old new (fault_from error)
+not_one_more old mid new issuer scope k all d low few up issuers scopes so first second clean error h is origin it held form fit =
+    let size : k ≡ length (map seen_listed (take k all)) = sym (length_map seen_listed (take k all) ∙ length-take-le k all (omega (arith, low))) in
+    let whole = subst (IsAscending IsBelow) (parts all k d low) (ascends (map seen_listed all) up) in
+    let front = ascends_front (map seen_listed (take k all) ++ seen_listed (get_or all k d) ∷ []) (map seen_listed (drop (k + 1) all)) whole in
+    later_refuses old mid new _ _ first second clean
+    (not_added_on old mid new issuer scope k (map seen_listed (take k all)) (seen_listed (get_or all k d)) so issuers scopes size (omega (arith, low, few)) front (short_at all k d low fit.short) error h is origin it held form)
 
 -- a fault on the way
 pub moves_keep : (old new : State) (changed : Contents → Contents) → Moves old new changed → KeepsCommit old new

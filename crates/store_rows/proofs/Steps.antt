@@ -33,27 +33,27 @@ use Rattle.store_rows.proofs.Terms.{passes_issuer, passes_crl, passes_single, ca
 
 -- ---- where the tables stand
 
-issuers_stand : (origin : Origin) → slice_get (store_schema origin).tables 1 ≡ Some (issuers_table 1)
+pub issuers_stand : (origin : Origin) → slice_get (store_schema origin).tables 1 ≡ Some (issuers_table 1)
 issuers_stand Made = refl
 issuers_stand Migrated = refl
 
-singles_stand : (origin : Origin) → slice_get (store_schema origin).tables 2 ≡ Some (ocsp_table 3)
+pub singles_stand : (origin : Origin) → slice_get (store_schema origin).tables 2 ≡ Some (ocsp_table 3)
 singles_stand Made = refl
 singles_stand Migrated = refl
 
-crls_stand : (origin : Origin) → slice_get (store_schema origin).tables (crls_at origin) ≡ Some (scoped_crls_table (crls_tree origin))
+pub crls_stand : (origin : Origin) → slice_get (store_schema origin).tables (crls_at origin) ≡ Some (scoped_crls_table (crls_tree origin))
 crls_stand Made = refl
 crls_stand Migrated = refl
 
-issuers_alone : (origin : Origin) (keys : Keys) (gone news : List Row) → works (store_schema origin) keys 0 1 gone news ≡ []
+pub issuers_alone : (origin : Origin) (keys : Keys) (gone news : List Row) → works (store_schema origin) keys 0 1 gone news ≡ []
 issuers_alone Made keys gone news = refl
 issuers_alone Migrated keys gone news = refl
 
-singles_alone : (origin : Origin) (keys : Keys) (gone news : List Row) → works (store_schema origin) keys 0 3 gone news ≡ []
+pub singles_alone : (origin : Origin) (keys : Keys) (gone news : List Row) → works (store_schema origin) keys 0 3 gone news ≡ []
 singles_alone Made keys gone news = refl
 singles_alone Migrated keys gone news = refl
 
-crls_alone : (origin : Origin) (keys : Keys) (gone news : List Row) → works (store_schema origin) keys 0 (crls_tree origin) gone news ≡ []
+pub crls_alone : (origin : Origin) (keys : Keys) (gone news : List Row) → works (store_schema origin) keys 0 (crls_tree origin) gone news ≡ []
 crls_alone Made keys gone news = refl
 crls_alone Migrated keys gone news = refl
 
@@ -88,27 +88,27 @@ three true true false e = e
 three true false c e = e
 three false b c e = e
 
-issuers_agree : (one other : IssuerRow) → agree plain (2 ∷ 3 ∷ []) (issuer_row one) (2 ∷ 3 ∷ []) (issuer_row other) ≡ (bytes_eq one.identity.name other.identity.name && (bytes_eq one.identity.key_info other.identity.key_info && true))
+pub issuers_agree : (one other : IssuerRow) → agree plain (2 ∷ 3 ∷ []) (issuer_row one) (2 ∷ 3 ∷ []) (issuer_row other) ≡ (bytes_eq one.identity.name other.identity.name && (bytes_eq one.identity.key_info other.identity.key_info && true))
 unfolding first_key
 issuers_agree one other = rw (equal_blobs one.identity.name other.identity.name, equal_blobs one.identity.key_info other.identity.key_info) refl
 
-crls_agree : (one other : CrlRow) → agree plain (1 ∷ 2 ∷ []) (crl_row one) (1 ∷ 2 ∷ []) (crl_row other) ≡ ((one.issuer == other.issuer) && ((scope_number one.scope == scope_number other.scope) && true))
+pub crls_agree : (one other : CrlRow) → agree plain (1 ∷ 2 ∷ []) (crl_row one) (1 ∷ 2 ∷ []) (crl_row other) ≡ ((one.issuer == other.issuer) && ((scope_number one.scope == scope_number other.scope) && true))
 unfolding first_key
 crls_agree one other = rw (equal_ints (pos one.issuer) (pos other.issuer), equal_ints (pos (scope_number one.scope)) (pos (scope_number other.scope)), same_pos one.issuer other.issuer, same_pos (scope_number one.scope) (scope_number other.scope)) refl
 
-singles_agree : (one other : SingleRow) → agree plain (1 ∷ 2 ∷ 3 ∷ []) (single_row one) (1 ∷ 2 ∷ 3 ∷ []) (single_row other)
+pub singles_agree : (one other : SingleRow) → agree plain (1 ∷ 2 ∷ 3 ∷ []) (single_row one) (1 ∷ 2 ∷ 3 ∷ []) (single_row other)
     ≡ ((one.issuer == other.issuer) && (bytes_eq one.name_hash other.name_hash && (bytes_eq one.serial other.serial && true)))
 unfolding first_key
 singles_agree one other = rw (equal_ints (pos one.issuer) (pos other.issuer), equal_blobs one.name_hash other.name_hash, equal_blobs one.serial other.serial, same_pos one.issuer other.issuer) refl
 
-and_parts : (a b : Bool) → (a && b) ≡ true → (a ≡ true) × (b ≡ true)
+pub and_parts : (a b : Bool) → (a && b) ≡ true → (a ≡ true) × (b ≡ true)
 and_parts true b e = (refl, e)
 and_parts false b e = absurd (Rattle.std.proofs.Common.true≢false (sym e))
 
-octets_of : (a b : List ℕ) → bytes_eq a b ≡ true → a ≡ b
+pub octets_of : (a b : List ℕ) → bytes_eq a b ≡ true → a ≡ b
 octets_of a b = (bytes_eq-Decides a b).0
 
-octets_same : (a b : List ℕ) → a ≡ b → bytes_eq a b ≡ true
+pub octets_same : (a b : List ℕ) → a ≡ b → bytes_eq a b ≡ true
 octets_same a b = (bytes_eq-Decides a b).1
 
 -- two texts that equal a third
@@ -185,7 +185,7 @@ module _ (origin : Origin) (old new : State) (it : Contents) (held : HasContents
 
   -- ---- what is changed
 
-  next_is : (n : ℕ) (rows : List IssuerRow) → fold (λ _ (r : Row). id_in (rowid r) +ℤ pos 1) (pos n) (map issuer_row rows) ≡ pos (fold (λ _ (row : IssuerRow). row.id + 1) n rows)
+  pub next_is : (n : ℕ) (rows : List IssuerRow) → fold (λ _ (r : Row). id_in (rowid r) +ℤ pos 1) (pos n) (map issuer_row rows) ≡ pos (fold (λ _ (row : IssuerRow). row.id + 1) n rows)
   next_is n [] = refl
   next_is n (row ∷ rows) = next_is (row.id + 1) rows
 

@@ -2,6 +2,7 @@ pub mod Contents
 pub mod Places
 pub mod Holding
 pub mod Steps
+pub mod Room
 pub mod Seen
 pub mod Making
 pub mod Found

@@ -57,6 +57,12 @@ IsCausedOr AtLimit old new fault =
     fault ≡ Store → (origin : Origin) (it : Contents) → HasContents old.now origin it → AreInForm it →
     AtLimit it ⊎ MayRefuse old new
 
+-- the same of a call that puts rows, if there is room for them
+abbrev pub IsCausedIfRoom : (Contents → Type 0) → State → State → StoreFault → Type 0
+IsCausedIfRoom HasRoom old new fault =
+    fault ≡ Store → (origin : Origin) (it : Contents) → HasContents old.now origin it → AreInForm it → HasRoom it →
+    MayRefuse old new
+
 -- a call without a limit of its own
 abbrev pub IsCaused : State → State → StoreFault → Type 0
 IsCaused old new fault =
@@ -79,3 +85,6 @@ CausedIn g old new result = HasCleanDisk (inside g new) → IfErr result (IsCaus
 
 abbrev pub CausedOrIn : {S A : Type 0} → Ghosts S → Transaction S → Transaction S → (Contents → Type 0) → Result A StoreFault → Type 0
 CausedOrIn g old new AtLimit result = HasCleanDisk (inside g new) → IfErr result (IsCausedOr AtLimit (inside g old) (inside g new))
+
+abbrev pub CausedIfRoomIn : {S A : Type 0} → Ghosts S → Transaction S → Transaction S → (Contents → Type 0) → Result A StoreFault → Type 0
+CausedIfRoomIn g old new HasRoom result = HasCleanDisk (inside g new) → IfErr result (IsCausedIfRoom HasRoom (inside g old) (inside g new))

@@ -11,7 +11,8 @@ ghost use Rattle.store_sql.specs.Inside.{inside, IsInTransaction, KeepsReference
 ghost use Rattle.store_rows.specs.Found.{IsHeadOf};
 ghost use Rattle.store_rows.specs.Reading.{SpellsNumber, IsShown, AreShown, RefusesRows};
 ghost use Rattle.store_rows.specs.Bound.{head_insertion};
-ghost use Rattle.store_rows.specs.Steps.{FindsIn, CausedIn, ChangesIn};
+ghost use Rattle.store_rows.specs.Room.{CrlsLeaveAnId};
+ghost use Rattle.store_rows.specs.Steps.{FindsIn, CausedIn, CausedIfRoomIn, ChangesIn};
 
 use crate::cell::{integer, octets};
 use asn::Number20;
@@ -139,6 +140,7 @@ pub fn replace_crl<S: Alter>(
     requires inside { IsInTransaction S.Store tx.old }
     ensures same_reference { KeepsReference tx.old tx.new }
     ensures changes { ChangesIn S.Store tx.old tx.new (with_head issuer scope head.now) result }
+    ensures caused { CausedIfRoomIn S.Store tx.old tx.new CrlsLeaveAnId result }
     ensures survives { CommitsNothing (inside S.Store tx.old) (inside S.Store tx.new) }
 {
     let key = key_of(issuer, scope);

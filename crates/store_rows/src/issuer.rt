@@ -8,7 +8,8 @@ ghost use Rattle.store_rows.specs.Holding.{HasRoom, with_issuer};
 ghost use Rattle.store_sql.specs.Inside.{inside, IsInTransaction, KeepsReference};
 ghost use Rattle.store_rows.specs.Found.{IsIssuerId};
 ghost use Rattle.store_rows.specs.Reading.{RefusesRows, IsIdShown};
-ghost use Rattle.store_rows.specs.Steps.{FindsIn, KnowsIn, CausedIn, ChangesIn};
+ghost use Rattle.store_rows.specs.Room.{CanAddIssuer};
+ghost use Rattle.store_rows.specs.Steps.{FindsIn, KnowsIn, CausedIn, CausedIfRoomIn, ChangesIn};
 
 use crate::cell::natural;
 use sqlite::{Alter, Row, Transaction};
@@ -56,6 +57,8 @@ pub fn add_issuer<S: Alter>(
     requires inside { IsInTransaction S.Store tx.old }
     ensures same_reference { KeepsReference tx.old tx.new }
     ensures changes { ChangesIn S.Store tx.old tx.new (with_issuer (issuer_of issuer.now)) result }
+    ensures caused { CausedIfRoomIn S.Store tx.old tx.new
+        (CanAddIssuer (issuer_of issuer.now)) result }
     ensures survives { CommitsNothing (inside S.Store tx.old) (inside S.Store tx.new) }
 {
     insert_issuer(tx, issuer.name.as_slice(), issuer.key_info)?;

@@ -7,7 +7,8 @@ ghost use Rattle.store_rows.specs.Contents.{scope_number};
 ghost use Rattle.store_rows.specs.Holding.{FitInList, HasByte, with_listed};
 ghost use Rattle.store_sql.specs.Inside.{inside, IsInTransaction, KeepsReference, RunsIn};
 ghost use Rattle.store_rows.specs.Bound.{first_place, room_deletion, insertion_at};
-ghost use Rattle.store_rows.specs.Steps.{ChangesIn};
+ghost use Rattle.store_rows.specs.Room.{EntriesFit};
+ghost use Rattle.store_rows.specs.Steps.{CausedIfRoomIn, ChangesIn};
 
 use crate::crl::scope_number;
 use crate::entry::{ListKey, ROOM, base_of, signed};
@@ -84,6 +85,8 @@ pub fn replace_entries<S: Alter>(
     ensures same_reference { KeepsReference tx.old tx.new }
     ensures formed { OnOk result (FitInList revoked.now) }
     ensures changes { ChangesIn S.Store tx.old tx.new (with_listed list.now revoked.now) result }
+    ensures caused { CausedIfRoomIn S.Store tx.old tx.new
+        (λ _. EntriesFit revoked.now) result }
     ensures survives { CommitsNothing (inside S.Store tx.old) (inside S.Store tx.new) }
 {
     let all = revoked.as_slice();

@@ -9,7 +9,8 @@ ghost use Rattle.store_rows.specs.Seen.{seen_held_status};
 ghost use Rattle.store_sql.specs.Inside.{inside, IsInTransaction, KeepsReference};
 ghost use Rattle.store_rows.specs.Found.{SaysOf};
 ghost use Rattle.store_rows.specs.Reading.{AreShown, RefusesRow, RefusesRows, HasNumbers, AreOfNoStatus, HasStatusCells, RefusesStatus, IsSaidIn};
-ghost use Rattle.store_rows.specs.Steps.{FindsIn, CausedIn, ChangesIn};
+ghost use Rattle.store_rows.specs.Room.{CanPutSingle};
+ghost use Rattle.store_rows.specs.Steps.{FindsIn, CausedIn, CausedIfRoomIn, ChangesIn};
 ghost use Rattle.store_sql.specs.Bindings.{said_params};
 
 use crate::cell::{integer, natural};
@@ -158,6 +159,8 @@ pub fn replace_single<S: Alter>(
     requires inside { IsInTransaction S.Store tx.old }
     ensures same_reference { KeepsReference tx.old tx.new }
     ensures changes { ChangesIn S.Store tx.old tx.new (with_said issuer single.now) result }
+    ensures caused { CausedIfRoomIn S.Store tx.old tx.new
+        (CanPutSingle (seen_single single.now)) result }
     ensures survives { CommitsNothing (inside S.Store tx.old) (inside S.Store tx.new) }
 {
     let key = key_of(issuer, single.name_hash, single.serial);

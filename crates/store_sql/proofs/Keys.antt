@@ -26,7 +26,7 @@ ne_is Less = refl
 ne_is Equal = refl
 ne_is Greater = refl
 
-differ_ints : (a b : ℤ) → differ (Int a) (Int b) ≡ not (is_eq (int_cmp a b))
+pub differ_ints : (a b : ℤ) → differ (Int a) (Int b) ≡ not (is_eq (int_cmp a b))
 unfolding binary
 differ_ints a b = truth_of _ ∙ ap is_ne (value_cmp-Int a b) ∙ ne_is (int_cmp a b)
 

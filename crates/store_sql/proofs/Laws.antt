@@ -7,3 +7,8 @@ pub use Rattle.store_sql.proofs.TableWrites.{went, same_value}
 pub use Rattle.store_sql.proofs.Keys.{at_most, one_row, one_passes}
 pub use Rattle.store_sql.proofs.Making.{MakesTable, makes}
 pub use Rattle.store_sql.proofs.Refusing.{IsWhole, query_caused, failure_caused, not_run_caused, later_refuses, sooner_refuses, if_err_then}
+pub use Rattle.store_sql.proofs.RefusingWrites.{delete_caused}
+pub use Rattle.store_sql.proofs.RefusingRows.{Fits, chosen_caused, given_caused}
+pub use Rattle.store_sql.proofs.Uniques.{IsNewKey}
+pub use Rattle.store_sql.proofs.Storable.{int_is_number, zero_is_number, storable, fits_between, next_fits, apart_below}
+pub use Rattle.store_sql.proofs.Typing.{insert_issuer_whole, delete_crl_whole, insert_crl_whole, delete_entries_whole, insert_entry_whole, delete_single_whole, insert_single_whole, crl_deletion_typed, entries_deletion_typed, single_deletion_typed, issuer_insertion_typed, crl_insertion_typed, entry_insertion_typed, single_insertion_typed}

@@ -9,4 +9,9 @@ mod Meaning
 mod Keys
 mod Making
 mod Refusing
+mod Uniques
+mod RefusingWrites
+mod Storable
+mod RefusingRows
+mod Typing
 pub mod Laws

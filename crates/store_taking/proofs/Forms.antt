@@ -19,15 +19,15 @@ use Rattle.store_taking.specs.Lists.{with_list}
 
 -- ---- lists
 
-all_filtered : {X : Type 0} (P : X → Type 0) (p : X → Bool) (xs : List X) → AllByRecursion P xs → AllByRecursion P (filter p xs)
+pub all_filtered : {X : Type 0} (P : X → Type 0) (p : X → Bool) (xs : List X) → AllByRecursion P xs → AllByRecursion P (filter p xs)
 all_filtered P p [] h = tt
 all_filtered P p (x ∷ xs) h = elim (cases_Bool (p x)) [ inl here ↦ rw here (h.0, all_filtered P p xs h.1) | inr gone ↦ rw gone (all_filtered P p xs h.1) ]
 
-all_and : {X : Type 0} (P : X → Type 0) (xs : List X) (x : X) → AllByRecursion P xs → P x → AllByRecursion P (xs ++ x ∷ [])
+pub all_and : {X : Type 0} (P : X → Type 0) (xs : List X) (x : X) → AllByRecursion P xs → P x → AllByRecursion P (xs ++ x ∷ [])
 all_and P [] x h one = (one, tt)
 all_and P (y ∷ xs) x h one = (h.0, all_and P xs x h.1 one)
 
-all_as : {X : Type 0} (P Q : X → Type 0) (xs : List X) → ((x : X) → P x → Q x) → AllByRecursion P xs → AllByRecursion Q xs
+pub all_as : {X : Type 0} (P Q : X → Type 0) (xs : List X) → ((x : X) → P x → Q x) → AllByRecursion P xs → AllByRecursion Q xs
 all_as P Q [] leads h = tt
 all_as P Q (x ∷ xs) leads h = (leads x h.0, all_as P Q xs leads h.1)
 
@@ -71,7 +71,7 @@ id_below issuers identity id rise known = from (find (is_issuer identity) issuer
         let same : row.id ≡ id = cc in
         subst (λ n. n < next_id issuers) same (found_has (λ (row : IssuerRow). row.id < next_id issuers) (is_issuer identity) issuers row (all_below 1 issuers rise) e)
 
-last_is : (first : ℕ) (rows : List IssuerRow) (row : IssuerRow) → fold after_id first (rows ++ row ∷ []) ≡ row.id + 1
+pub last_is : (first : ℕ) (rows : List IssuerRow) (row : IssuerRow) → fold after_id first (rows ++ row ∷ []) ≡ row.id + 1
 last_is first [] row = refl
 last_is first (other ∷ rows) row = last_is (other.id + 1) rows row
 

@@ -1,6 +1,7 @@
 mod Chains
 mod Forms
 mod Issuing
+mod Causing
 mod Outcomes
 mod Storing
 mod Deliveries

@@ -7,6 +7,7 @@ ghost use Rattle.store_sql.specs.Statements.{CommitsNothing, IsDurable};
 ghost use Rattle.store_sql.specs.Inside.{inside, IsInTransaction, KeepsReference, SucceedsOnlyIfOpen};
 ghost use Rattle.store_taking.specs.Taking.{TakesFacts};
 ghost use Rattle.store_taking.specs.Delivery.{EndsDelivery, PutsFacts, AllOrNothing};
+ghost use Rattle.store_taking.specs.Room.{CausedOverIn, FactsFit, HasRoomForFacts, PutsForCause, ResponseFits};
 
 use crate::lists::take_list;
 use crate::responses::take_single;
@@ -21,6 +22,8 @@ fn take_singles<S: Alter>(
     requires inside { IsInTransaction S.Store tx.old }
     ensures same_reference { KeepsReference tx.old tx.new }
     ensures takes { TakesFacts S.Store tx.old tx.new (facts_in (Facts.Ocsp response.now)) result }
+    ensures caused { CausedOverIn S.Store tx.old tx.new
+        (HasRoomForFacts (Facts.Ocsp response.now)) (ResponseFits response.now) result }
     ensures open { SucceedsOnlyIfOpen S.Store tx.old tx.new result }
     ensures survives { CommitsNothing (inside S.Store tx.old) (inside S.Store tx.new) }
 {
@@ -40,6 +43,8 @@ fn take_all<S: Alter>(tx: &mut Transaction<'_, S>, facts: &Facts<'_>) -> Result<
     requires inside { IsInTransaction S.Store tx.old }
     ensures same_reference { KeepsReference tx.old tx.new }
     ensures takes { TakesFacts S.Store tx.old tx.new (facts_in facts.now) result }
+    ensures caused { CausedOverIn S.Store tx.old tx.new
+        (HasRoomForFacts facts.now) (FactsFit facts.now) result }
     ensures open { SucceedsOnlyIfOpen S.Store tx.old tx.new result }
     ensures survives { CommitsNothing (inside S.Store tx.old) (inside S.Store tx.new) }
 {
@@ -57,6 +62,8 @@ fn deliver<S: Alter>(conn: &mut Connection<S>, facts: &Facts<'_>) -> Result<Coun
     requires idle { conn.old.in_transaction ≡ false }
     ensures idle { conn.new.in_transaction ≡ false }
     ensures ends { EndsDelivery (state S.Store conn.old) (state S.Store conn.new) facts.now result }
+    ensures caused { PutsForCause (state S.Store conn.old) (state S.Store conn.new)
+        facts.now result }
     ensures settled { IsDurable (state S.Store conn.new) }
     ensures survives { AllOrNothing (state S.Store conn.old) (state S.Store conn.new) facts.now }
 {
@@ -77,6 +84,8 @@ pub fn put<S: Alter>(conn: &mut Connection<S>, facts: &Facts<'_>) -> Result<Coun
     ensures idle { conn.old.in_transaction ≡ false → conn.new.in_transaction ≡ false }
     ensures busy { IsTrue conn.old.in_transaction → result ≡ Err StoreFault.Store }
     ensures puts { PutsFacts (state S.Store conn.old) (state S.Store conn.new) facts.now result }
+    ensures caused { conn.old.in_transaction ≡ false → PutsForCause
+        (state S.Store conn.old) (state S.Store conn.new) facts.now result }
     ensures survives { AllOrNothing (state S.Store conn.old) (state S.Store conn.new) facts.now }
 {
     if !conn.is_autocommit() {

@@ -1,6 +1,7 @@
 //! Revocation lists that are put into a store.
 
-ghost use Rattle.std.specs.Prelude.{◌≡◌, ◌<◌, ◌^◌, IfSome, IfNone, OnOk};
+ghost use Rattle.std.specs.Prelude.{◌≡◌, ◌<◌, ◌≤◌, ◌^◌, length, IfSome, IfNone, OnOk};
+ghost use Rattle.statements_facts.specs.Fact.{issuer_of};
 ghost use Rattle.statements_facts.specs.Listed.{IsAscending};
 ghost use Rattle.store_sql.specs.Statements.{CommitsNothing};
 ghost use Rattle.store_rows.specs.Holding.{IsNumbered, FitInList};
@@ -8,7 +9,9 @@ ghost use Rattle.store_rows.specs.Seen.{seen_head};
 ghost use Rattle.store_taking.specs.Lists.{crl_head, with_crl_facts, HeadDecides, EntriesDecide, ListIsTakenAs};
 ghost use Rattle.store_sql.specs.Inside.{inside, IsInTransaction, KeepsReference, SucceedsOnlyIfOpen};
 ghost use Rattle.store_taking.specs.Taking.{fact_of_list, TakesFact, TakesUnder};
-ghost use Rattle.store_rows.specs.Steps.{FindsIn, ChangesIn};
+ghost use Rattle.store_rows.specs.Room.{CrlsLeaveAnId, EntriesFit};
+ghost use Rattle.store_rows.specs.Steps.{FindsIn, ChangesIn, CausedOrIn, CausedIfRoomIn};
+ghost use Rattle.store_taking.specs.Room.{ListFits, TakesForCause, TakesUnderForCause};
 
 use crate::known::issuer_id;
 use asn::Number20;
@@ -66,6 +69,8 @@ fn outcome_by_entries<S: Alter>(
     ensures same_reference { KeepsReference tx.old tx.new }
     ensures finds { FindsIn S.Store tx.old tx.new (EntriesDecide key.now list.now) result }
     ensures ascend { IsAscending list.now.revoked }
+    ensures caused { CausedOrIn S.Store tx.old tx.new
+        (λ _. 4294967296 ≤ length list.now.revoked) result }
     ensures survives { CommitsNothing (inside S.Store tx.old) (inside S.Store tx.new) }
 {
     match has_entries(tx, key, &list.revoked) {
@@ -85,6 +90,8 @@ fn outcome_of_list<S: Alter>(
     requires inside { IsInTransaction S.Store tx.old }
     ensures same_reference { KeepsReference tx.old tx.new }
     ensures finds { FindsIn S.Store tx.old tx.new (ListIsTakenAs key.now list.now) result }
+    ensures caused { CausedOrIn S.Store tx.old tx.new
+        (λ _. 4294967296 ≤ length list.now.revoked) result }
     ensures survives { CommitsNothing (inside S.Store tx.old) (inside S.Store tx.new) }
 {
     let held = match find_crl(tx, key.issuer, key.scope) {
@@ -110,6 +117,8 @@ fn store_list<S: Alter>(
     ensures numbered { IsNumbered (crl_head list.now) }
     ensures formed { OnOk result (FitInList list.now.revoked) }
     ensures changes { ChangesIn S.Store tx.old tx.new (with_crl_facts key.now list.now) result }
+    ensures caused { CausedIfRoomIn S.Store tx.old tx.new
+        (λ it. CrlsLeaveAnId it × EntriesFit list.now.revoked) result }
     ensures survives { CommitsNothing (inside S.Store tx.old) (inside S.Store tx.new) }
 {
     let head = head_of(list);
@@ -131,6 +140,8 @@ fn take_under<S: Alter>(
     requires inside { IsInTransaction S.Store tx.old }
     ensures same_reference { KeepsReference tx.old tx.new }
     ensures goes { TakesUnder S.Store tx.old tx.new id (fact_of_list list.now) result }
+    ensures caused { TakesUnderForCause S.Store tx.old tx.new
+        (issuer_of list.now.issuer) id (ListFits list.now) result }
     ensures survives { CommitsNothing (inside S.Store tx.old) (inside S.Store tx.new) }
 {
     let key = ListKey {
@@ -160,6 +171,7 @@ pub fn take_list<S: Alter>(
     requires inside { IsInTransaction S.Store tx.old }
     ensures same_reference { KeepsReference tx.old tx.new }
     ensures takes { TakesFact S.Store tx.old tx.new (fact_of_list list.now) result }
+    ensures caused { TakesForCause S.Store tx.old tx.new (ListFits list.now) result }
     ensures open { SucceedsOnlyIfOpen S.Store tx.old tx.new result }
     ensures survives { CommitsNothing (inside S.Store tx.old) (inside S.Store tx.new) }
 {

@@ -1,12 +1,16 @@
 //! What responses say of single certificates, put into a store.
 
-ghost use Rattle.std.specs.Prelude.{◌↔◌, ◌<◌, IsTrue};
+ghost use Rattle.std.specs.Prelude.{◌↔◌, ◌<◌, ℕ, suc, IsTrue};
+ghost use Rattle.statements_facts.specs.Fact.{issuer_of};
+ghost use Rattle.statements_facts.specs.Single.{seen_single};
 ghost use Rattle.store_sql.specs.Statements.{CommitsNothing};
 ghost use Rattle.store_rows.specs.Holding.{HasReason};
 ghost use Rattle.store_sql.specs.Inside.{inside, IsInTransaction, KeepsReference, SucceedsOnlyIfOpen};
 ghost use Rattle.store_taking.specs.Taking.{fact_from, TakesFact, TakesUnder};
 ghost use Rattle.store_taking.specs.Lists.{SaysSame, SingleIsTakenBeside, SingleIsTakenAs};
-ghost use Rattle.store_rows.specs.Steps.{FindsIn};
+ghost use Rattle.store_rows.specs.Room.{IssuerFitsRow, SingleFitsRow};
+ghost use Rattle.store_rows.specs.Steps.{FindsIn, CausedIn};
+ghost use Rattle.store_taking.specs.Room.{LeavesRoomIn, TakesForCause, TakesUnderForCause, IsStoreWithRoom, KnowsWithRoom};
 
 use crate::known::issuer_id;
 use sqlite::{Alter, Transaction};
@@ -58,6 +62,7 @@ fn outcome_of_single<S: Alter>(
     requires inside { IsInTransaction S.Store tx.old }
     ensures same_reference { KeepsReference tx.old tx.new }
     ensures finds { FindsIn S.Store tx.old tx.new (SingleIsTakenAs id single.now) result }
+    ensures caused { CausedIn S.Store tx.old tx.new result }
     ensures survives { CommitsNothing (inside S.Store tx.old) (inside S.Store tx.new) }
 {
     match find_single(tx, id, single.name_hash, single.serial) {
@@ -77,6 +82,11 @@ fn take_under<S: Alter>(
     requires inside { IsInTransaction S.Store tx.old }
     ensures same_reference { KeepsReference tx.old tx.new }
     ensures goes { TakesUnder S.Store tx.old tx.new id (fact_from issuer.now single.now) result }
+    ensures caused { TakesUnderForCause S.Store tx.old tx.new
+        (issuer_of issuer.now) id (SingleFitsRow (seen_single single.now)) result }
+    ensures leaves { (issuers rows : ℕ) → LeavesRoomIn S.Store tx.old tx.new
+        (KnowsWithRoom (issuer_of issuer.now) id issuers (suc rows))
+        (λ _. IsStoreWithRoom issuers rows) result }
     ensures survives { CommitsNothing (inside S.Store tx.old) (inside S.Store tx.new) }
 {
     let outcome = match outcome_of_single(tx, id, single) {
@@ -104,6 +114,10 @@ pub fn take_single<S: Alter>(
     requires inside { IsInTransaction S.Store tx.old }
     ensures same_reference { KeepsReference tx.old tx.new }
     ensures takes { TakesFact S.Store tx.old tx.new (fact_from issuer.now single.now) result }
+    ensures caused { TakesForCause S.Store tx.old tx.new
+        (IssuerFitsRow (issuer_of issuer.now) × SingleFitsRow (seen_single single.now)) result }
+    ensures leaves { (issuers rows : ℕ) → LeavesRoomIn S.Store tx.old tx.new
+        (IsStoreWithRoom (suc issuers) (suc rows)) (λ _. IsStoreWithRoom issuers rows) result }
     ensures open { SucceedsOnlyIfOpen S.Store tx.old tx.new result }
     ensures survives { CommitsNothing (inside S.Store tx.old) (inside S.Store tx.new) }
 {

@@ -1,12 +1,19 @@
-use Rattle.std.proofs.Common.{arith, length, map, refl, subst, sym, take, ◌≡◌, ◌∙◌, inl, inr}
+use Rattle.std.proofs.Common.{arith, length, map, refl, subst, sym, ap, take, suc, ◌≡◌, ◌<◌, ◌∙◌, inl, inr}
+use Rattle.std.specs.List.{AllByRecursion}
 use Rattle.sqlite.specs.Held.{state}
+use Rattle.sqlite.specs.State.{HasCleanDisk}
 use Rattle.sqlite.proofs.StateLemmas.{survives_then}
-use Rattle.statements_facts.specs.Fact.{issuer_of}
+use Rattle.store_sql.proofs.Laws.{later_refuses}
+use Rattle.statements_facts.specs.declared.fact.Facts.{Facts}
+use Rattle.store_rows.specs.Room.{SingleFitsRow}
+use Rattle.statements_facts.specs.Fact.{facts_in, issuer_of}
 use Rattle.statements_facts.specs.Single.{seen_single}
 use Rattle.store_rows.proofs.Laws.{survives_itself}
 use Rattle.store_maps.specs.Held.{IsStoreOf}
 use Rattle.store_taking.specs.Passing.{HasStepped}
 use Rattle.store_taking.specs.Taking.{AreTaken, facts_of_singles}
+use Rattle.store_taking.specs.Room.{IsStoreWithRoom}
+use Rattle.store_taking.proofs.Causing.{as_many, fits_at, one_left}
 use Rattle.store_taking.proofs.Deliveries.{nothing_taken, one_more, stops_on_the_way, single_more, all_singles, some_told}
 use Rattle.store_taking.proofs.delivery.take_singles.Goals as goal
 
@@ -17,6 +24,7 @@ each-init g c = (
   c.none-counts.ensures.total,
   λ clean. nothing_taken (state g.S.Store c.args.tx.now.conn.now) c.none-counts.result c.none-counts.ensures.counted (c.requires.inside clean),
   λ clean. inl refl,
+  λ left at clean before. subst (λ n. IsStoreWithRoom n n (state g.S.Store c.args.tx.now.conn.now).now) (omega (arith, at)) before,
 )
 
 pub each-preserved : goal.each-preserved
@@ -34,6 +42,7 @@ each-preserved g c =
           subst (λ facts. HasStepped (state g.S.Store c.args.tx.now.conn.now) (state g.S.Store c.take_single.new.tx.conn.now) IsStoreOf (AreTaken facts c.and-counts.result)) (sym more)
           (one_more _ _ _ (facts_of_singles issuer (map seen_single (take k all))) _ c.each.counts c.and-counts.result c.in-Ok.outcome so (c.in-Ok.ensures.takes clean) c.and-counts.ensures.counted),
       λ clean. inr ((l.3 (omega (arith, clean, c.take_single.ensures.survives.clean))).keeps.was_open (c.in-Ok.ensures.open clean)),
+      λ left at clean before. c.in-Ok.ensures.leaves left left clean (l.5 (suc left) (omega (arith, at)) (omega (arith, clean, c.take_single.ensures.survives.clean)) before),
     )
 
 pub returns-in-Err-clause-takes : goal.returns-in-Err-clause-takes
@@ -51,3 +60,16 @@ pub returns-clause-open : goal.returns-clause-open
 returns-clause-open g c clean =
     let at_end : c.each.single-index ≡ length c.as_slice-all.result.now = omega (arith, c.each-test.false, c.each.auto.single-index-end) in
     some_told c.as_slice-all.result.now c.each.single-index _ c.as_slice-all.ensures.some at_end (c.each.invariant.4 clean)
+
+pub returns-in-Err-clause-caused : goal.returns-in-Err-clause-caused
+returns-in-Err-clause-caused g c clean e before fits =
+    let l = c.each.invariant in
+    let all = c.as_slice-all.result.now in
+    let k = c.each.single-index in
+    let middle : HasCleanDisk (state g.S.Store c.each.tx.conn.now) = omega (arith, clean, c.take_single.ensures.survives.clean) in
+    let size : length (facts_in (Facts.Ocsp c.args.response.now)) ≡ length all = as_many _ c.args.response.now.singles ∙ ap length (sym c.as_slice-all.ensures.singles) ∙ as_many seen_single all in
+    let low : k < length (facts_in (Facts.Ocsp c.args.response.now)) = omega (arith, size, c.each-test.true) in
+    let left = one_left k (length (facts_in (Facts.Ocsp c.args.response.now))) low in
+    later_refuses _ _ _ (λ _. ⊥) (λ _. ⊥) l.1 c.take_single.ensures.survives middle
+    (c.in-Err.ensures.caused left.0 left.0 clean e (l.5 (suc left.0) left.1 middle before)
+    (fits.issuer, fits_at all k _ c.each-test.true (subst (AllByRecursion SingleFitsRow) (sym c.as_slice-all.ensures.singles) fits.singles)))

@@ -2,6 +2,9 @@ use Rattle.std.proofs.Common.{arith}
 use Rattle.statements_facts.specs.Fact.{issuer_of}
 use Rattle.store_taking.specs.Lists.{crl_head}
 use Rattle.store_taking.proofs.Storing.{list_left, list_stored, looked_then_stops, stops_at_once}
+use Rattle.sqlite.specs.Held.{state}
+use Rattle.sqlite.specs.State.{HasCleanDisk}
+use Rattle.store_taking.proofs.Causing.{list_not_stored}
 use Rattle.store_taking.proofs.lists.take_under.Goals as goal
 
 pub returns-in-Err-clause-goes : goal.returns-in-Err-clause-goes
@@ -22,3 +25,9 @@ pub returns-in-Err-store_list-clause-goes : goal.returns-in-Err-store_list-claus
 returns-in-Err-store_list-clause-goes g c clean =
     looked_then_stops _ _ _ (issuer_of c.args.list.now.issuer) c.args.id _ c.in-Ok.outcome c.in-Err-store_list.fault
     (c.in-Ok.ensures.finds (omega (arith, clean, c.store_list.ensures.survives.clean))) (c.in-Err-store_list.ensures.changes clean)
+
+pub returns-in-Err-store_list-clause-caused : goal.returns-in-Err-store_list-clause-caused
+returns-in-Err-store_list-clause-caused g c issuers rows clean =
+    let middle : HasCleanDisk (state g.S.Store c.outcome_of_list.new.tx.conn.now) = omega (arith, clean, c.store_list.ensures.survives.clean) in
+    list_not_stored (issuer_of c.args.list.now.issuer) c.args.id issuers rows _ _ _ c.args.list.now c.in-Err-store_list.fault _ c.in-Ok.outcome (c.in-Ok.ensures.finds middle)
+    c.outcome_of_list.ensures.survives c.store_list.ensures.survives middle (c.in-Err-store_list.ensures.caused clean)
