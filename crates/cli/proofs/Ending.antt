@@ -14,7 +14,7 @@ use Rattle.cli_failures.specs.declared.failure.Failure.TheVariants.{Unwritable}
 use Rattle.cli.specs.Standing.{Leaving, Standing}
 use Rattle.cli_showing.specs.Shown.{ArePrints, HoldsKind, IsShownText}
 use Rattle.cli.specs.Outcome.{HasAnswered, IsDone, IsFailureOf}
-use Rattle.cli.specs.Ended.{HasEnded, IsAnswering, IsFailing}
+use Rattle.cli.specs.Ended.{RunHasEnded, IsAnswering, IsFailing}
 use Rattle.cli.proofs.Statuses.{is_failing, not_both}
 
 pub either : (result : Result ℕ Failure) (ended : ℕ) (same : Type 0) (Told : List ℕ → Type 0) → IfOk result IsAnswering
@@ -35,7 +35,7 @@ answered holds stands leaves words line input source old new (Err failure) ended
 pub failed : (holds : Holding) (stands : Standing) (leaves : Leaving) (words : List Text) (line : Line) (result : Result ℕ Failure) (ended : ℕ) (same unchanged : Type 0) (Told : List ℕ → Type 0)
     → Reads words line → IfOk result IsAnswering → IfErr result (IsFailureOf holds stands leaves line) → IfErr result (λ failure. UnlessLate failure unchanged)
     → IfOk result (λ status. (ended ≡ status) × same) → IfErr result (λ failure. (ended ≡ status_of failure) × Told (report_line failure))
-    → IsFailing ended → HasEnded holds stands leaves words unchanged Told ended
+    → IsFailing ended → RunHasEnded holds stands leaves words unchanged Told ended
 failed holds stands leaves words line (Ok status) ended same unchanged Told reads is fails quiet done told failing =
     absurd (not_both ended (subst IsAnswering (sym done.0) is) failing)
 failed holds stands leaves words line (Err failure) ended same unchanged Told reads is fails quiet done told failing =

@@ -9,7 +9,7 @@ use Rattle.cli_failures.specs.Failures.{Holding}
 use Rattle.cli_failures.specs.Report.{report_line, status_of}
 use Rattle.cli.specs.Standing.{Leaving, Standing}
 use Rattle.cli.specs.Outcome.{HasAnswered, IsHelp, IsMistake}
-use Rattle.cli.specs.Ended.{HasEnded, IsAnswering, IsFailing, IsUnexplained}
+use Rattle.cli.specs.Ended.{RunHasEnded, IsAnswering, IsFailing, IsUnexplained}
 use Rattle.cli.proofs.Statuses.{not_both}
 
 no_memory : (kind : ErrorKind) → IsHelp kind → kind ≡ OutOfMemory → ⊥
@@ -36,7 +36,7 @@ helped holds stands leaves words kind input source old new status same refused (
 helped holds stands leaves words kind input source old new status same refused (inr fails) help answers = absurd (not_both status answers fails)
 
 pub unexplained : (holds : Holding) (stands : Standing) (leaves : Leaving) (words : List Text) (kind : ErrorKind) (status : ℕ) (unchanged : Type 0) (Told : List ℕ → Type 0)
-    → (kind ≡ OutOfMemory) ⊎ AreRefusedWith words kind → IsUnexplained kind unchanged Told status → HasEnded holds stands leaves words unchanged Told status
+    → (kind ≡ OutOfMemory) ⊎ AreRefusedWith words kind → IsUnexplained kind unchanged Told status → RunHasEnded holds stands leaves words unchanged Told status
 unexplained holds stands leaves words kind status unchanged Told refused (inl (failure, inl memory, told, quiet, line)) = inl (failure, inr (inl memory), told, quiet, line)
 unexplained holds stands leaves words kind status unchanged Told refused (inl (failure, inr (help, late), told, quiet, line)) =
     inl (failure, inr (inr (kind, refused_help words kind refused help, help, late)), told, quiet, line)

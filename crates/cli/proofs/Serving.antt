@@ -13,7 +13,7 @@ use Rattle.cli_failures.specs.Failures.{Holding}
 use Rattle.cli_session.specs.Believed.{BelievesJust}
 use Rattle.cli_session.specs.declared.believed.Believed.{Believed}
 use Rattle.cli_session.specs.Held.{holding_of}
-use Rattle.cli_serving.specs.Serving.{AreAnswersTo, HasEnded, Known, is_end, text_of}
+use Rattle.cli_serving.specs.Serving.{AreAnswersTo, SessionHasEnded, Known, is_end, text_of}
 use Rattle.cli_serving.specs.declared.ending.End.{End}
 use Rattle.cli_serving.specs.declared.ending.End.TheVariants.{Quit, Finished, Shut, Unwritable, Unreadable, NoMemory}
 use Rattle.cli_steps.specs.State.{IsState, State as PartyState}
@@ -21,7 +21,7 @@ use Rattle.cli_steps.specs.Ways.{Steps}
 use Rattle.cli_steps.specs.declared.answer.Answer.{Answer}
 use Rattle.cli_steps.specs.declared.answer.Answer.TheVariants as answer
 use Rattle.cli_store.specs.Stored.{IsSoundIn, LeavesOneOf, keeping_in}
-use Rattle.cli.specs.Serves.{IsServed, IsWhole}
+use Rattle.cli.specs.Serves.{SessionIsServed, IsWhole}
 use Rattle.cli.specs.Session.{HasComeTo, IsReadToEnd, IsReadToQuit, beginning}
 use Rattle.cli.specs.Standing.{Seen, seen_of}
 
@@ -68,7 +68,7 @@ is_ends answer.BadLine is = absurd cc
 is_ends answer.LongLine is = absurd cc
 
 pub whole : (holds : Holding) (input source output written : Option (List ℕ)) (Knows Before : Known) (end : End)
-    → HasEnded holds input source output written Knows Before end → IsWhole end → Served holds input source output written Knows
+    → SessionHasEnded holds input source output written Knows Before end → IsWhole end → Served holds input source output written Knows
 whole holds input source output written Knows Before Quit it is = record {
   lines = it.lines ++ it.line ∷ [];
   answers = it.answers ++ it.answer ∷ [];
@@ -86,8 +86,8 @@ whole holds input source output written Knows Before NoMemory it is = absurd is
 -- what was served over a store that was opened, and is closed then
 pub served : (holds : Holding) (leaves : Seen → Type 0) (prints : List (List ℕ)) (believed last : Believed) (old new : State) (input source output written : Option (List ℕ)) (Before : Known) (end : End)
     → Believes believed.listed prints → BelievesJust believed prints → IsSettled old → IsDurable old → (IsSoundIn new → IsSoundIn old)
-    → HasEnded (holding_of holds) input source output written (λ Are. IsSoundIn new → Steps believed (keeping_in old) last (keeping_in new) Are) Before end
-    → leaves (seen_of new) → IsWhole end → IsServed holds leaves prints (seen_of old) input source output written
+    → SessionHasEnded (holding_of holds) input source output written (λ Are. IsSoundIn new → Steps believed (keeping_in old) last (keeping_in new) Are) Before end
+    → leaves (seen_of new) → IsWhole end → SessionIsServed holds leaves prints (seen_of old) input source output written
 served holds leaves prints believed last old new input source output written Before end listed believes settled durable was_sound ended left is =
     let it = whole (holding_of holds) input source output written (λ Are. IsSoundIn new → Steps believed (keeping_in old) last (keeping_in new) Are) Before end ended is in record {
       new = seen_of new;

@@ -21,8 +21,8 @@ IsFailing status = (status ≡ 4) ⊎ (status ≡ 5) ⊎ (status ≡ 6)
 
 -- This failed, with its status, and its line was told; standard output is as it was, except for what came before a late failure. Or the
 -- words are mistaken.
-abbrev pub HasEnded : Holding → Standing → Leaving → List Text → Type 0 → (List ℕ → Type 0) → ℕ → Type 0
-HasEnded holds stands leaves words unchanged Told status =
+abbrev pub RunHasEnded : Holding → Standing → Leaving → List Text → Type 0 → (List ℕ → Type 0) → ℕ → Type 0
+RunHasEnded holds stands leaves words unchanged Told status =
     ((failure : Failure) × HasFailed holds stands leaves words failure × (status ≡ status_of failure)
     × UnlessLate failure unchanged × Told (report_line failure))
     ⊎ (AreMistaken words × (status ≡ 5) × unchanged)
@@ -30,7 +30,7 @@ HasEnded holds stands leaves words unchanged Told status =
 -- whatever was told
 abbrev pub HasEndedSo : Holding → Standing → Leaving → List Text → Type 0 → ℕ → Type 0
 HasEndedSo holds stands leaves words unchanged status =
-    HasEnded holds stands leaves words unchanged (λ line. Unit {0}) status
+    RunHasEnded holds stands leaves words unchanged (λ line. Unit {0}) status
 
 -- an error of clap's in place of a line: memory ran out, help could not be written, or the words are mistaken
 abbrev pub IsUnexplained : ErrorKind → Type 0 → (List ℕ → Type 0) → ℕ → Type 0

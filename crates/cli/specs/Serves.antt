@@ -18,7 +18,7 @@ IsWhole _ = ⊥
 
 -- The answers to the lines that the source gave were written, over a store that was seen so, by a verifier that believes those
 -- fingerprints in the beginning.
-pub record IsServed (holds : Holding) (leaves : Seen → Type 0) (prints : List (List ℕ)) (old : Seen) (input source output written : Option (List ℕ)) : Type 0 where
+pub record SessionIsServed (holds : Holding) (leaves : Seen → Type 0) (prints : List (List ℕ)) (old : Seen) (input source output written : Option (List ℕ)) : Type 0 where
   pub new : Seen
   pub left : leaves new
   pub lines : List (List ℕ)

@@ -3,7 +3,7 @@ ghost use Rattle.std.specs.Prelude.{◌≡◌, ◌⊎◌, IfErr, IfOk, OnOk, map
 ghost use Rattle.std.specs.Io.KnownBytes.{Appends};
 ghost use Rattle.clap.specs.Words.{kind_of};
 ghost use Rattle.cli_failures.specs.Report.{UnlessLate, report_line, status_of};
-ghost use Rattle.cli.specs.Ended.{HasEnded, HasEndedSo, IsAnswering, IsFailing, IsUnexplained};
+ghost use Rattle.cli.specs.Ended.{RunHasEnded, HasEndedSo, IsAnswering, IsFailing, IsUnexplained};
 ghost use Rattle.cli.specs.Outcome.{HasAnswered, IsDone, IsFailureOf, IsHelp};
 
 use crate::{
@@ -70,7 +70,7 @@ pub fn executed<S: Source + Stores, I: Read, O: Write, E: Write>(
         (map (λ w. w.now) words.now) (I.remaining input.old) (I.remaining input.new)
         (O.contents out.old) (O.contents out.new) result.status
         × (err.new ≡ err.old) }
-    ensures failed { IsFailing result.status → HasEnded (S.holds source.now)
+    ensures failed { IsFailing result.status → RunHasEnded (S.holds source.now)
         (S.stands source.now) (S.leaves source.now) (map (λ w. w.now) words.now) (out.new ≡ out.old)
         (λ line. OnOk result.told (Appends (E.contents err.old) (E.contents err.new) line))
         result.status }

@@ -2,7 +2,7 @@
 ghost use Rattle.std.specs.Prelude.{◌≡◌, IfErr, IfOk, OnOk, option_map};
 ghost use Rattle.cli_failures.specs.Report.{UnlessLate, Writes};
 ghost use Rattle.cli.specs.Session.{BeginsWith, IsCutShort, IsFailureOfSession, IsFailureOnVerdicts, IsSessionText};
-ghost use Rattle.cli.specs.Serves.{IsServed, IsWhole};
+ghost use Rattle.cli.specs.Serves.{SessionIsServed, IsWhole};
 ghost use Rattle.cli.specs.Standing.{seen_in};
 ghost use Rattle.sqlite.specs.Files.{file_state};
 ghost use Rattle.store_adoption.specs.Creates.{IsSettled};
@@ -64,8 +64,9 @@ fn serve_over<S: Source + Stores, R: Read, O: Write>(
 ) -> End
     requires settled { IsSettled (file_state store.conn) }
     requires durable { IsDurable (file_state store.conn) }
-    ensures served { IsWhole result → IsServed (S.holds source.now) (S.leaves source.now path.now)
-        prints.items (seen_in store) (R.remaining input.old) (R.remaining input.new)
+    ensures served { IsWhole result → SessionIsServed (S.holds source.now)
+        (S.leaves source.now path.now) prints.items (seen_in store)
+        (R.remaining input.old) (R.remaining input.new)
         (O.contents out.old) (O.contents out.new) }
 {
     let believed = Believed::new(alloc, ListVerifier::new(prints));

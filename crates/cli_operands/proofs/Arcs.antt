@@ -2,12 +2,12 @@
 use Rattle.std.proofs.Common.{◌≡◌, ◌≢◌, ◌<◌, ◌≤◌, ◌+◌, ◌-◌, ◌*◌, ◌++◌, ◌∙◌, ℕ, zero, suc, List, [], ◌∷◌, Option, Some, None, Result, Ok, Err, IfOk, IfNone, length, take, drop, map, get_or, decimal, sym, ap, subst, arith, slice_index}
 use Rattle.std.specs.List.{All, flat_map}
 use Rattle.std.proofs.lemmas.List.{get_or-map, length-drop, length-map, take_all}
-use Rattle.cli_operands.specs.Purpose.{AreArcs, IsDotted, IsPurpose, IsServed, MayBegin, contents_of, subidentifier_octets}
+use Rattle.cli_operands.specs.Purpose.{AreArcs, IsDotted, IsPurpose, IsServedArc, MayBegin, contents_of, subidentifier_octets}
 use Rattle.cli_operands.proofs.Decimals.{same_decimals}
 
 -- a part that is no number: the text is no dotted decimal
-pub no_arcs : (parts : List (List ℕ)) (k : ℕ) (part : List ℕ) → (k < length parts) × (part ≡ get_or parts k part) → ((arc : ℕ) → IsServed arc → part ≢ decimal arc)
-    → (arcs : List ℕ) → All IsServed arcs → parts ≡ map decimal arcs → ⊥
+pub no_arcs : (parts : List (List ℕ)) (k : ℕ) (part : List ℕ) → (k < length parts) × (part ≡ get_or parts k part) → ((arc : ℕ) → IsServedArc arc → part ≢ decimal arc)
+    → (arcs : List ℕ) → All IsServedArc arcs → parts ≡ map decimal arcs → ⊥
 no_arcs parts k part at none arcs served is =
     let long : length parts ≡ length arcs = ap length is ∙ length-map arcs decimal in
     let less : k < length arcs = omega (arith, at.0, long) in
@@ -15,18 +15,18 @@ no_arcs parts k part at none arcs served is =
     none (get_or arcs k 0) (served k 0 less) (at.1 ∙ there)
 
 -- all numbers of an OBJECT IDENTIFIER have 63 bits
-pub arcs_are_served : (arcs : List ℕ) → AreArcs arcs → All IsServed arcs
+pub arcs_are_served : (arcs : List ℕ) → AreArcs arcs → All IsServedArc arcs
 arcs_are_served [] are = absurd are
 arcs_are_served (first ∷ []) are = absurd are
 arcs_are_served (first ∷ second ∷ others) are = λ k d less. each k d less
   where
-    each : (k d : ℕ) → k < length (first ∷ second ∷ others) → IsServed (get_or (first ∷ second ∷ others) k d)
+    each : (k d : ℕ) → k < length (first ∷ second ∷ others) → IsServedArc (get_or (first ∷ second ∷ others) k d)
     each zero d less = omega (arith, are.0.root)
     each (suc zero) d less = omega (arith, are.0.served)
     each (suc (suc k)) d less = are.1 k d (omega (arith, less))
 
 -- numbers with which no OBJECT IDENTIFIER has a text
-pub no_purpose : (text arcs : List ℕ) → All IsServed arcs → IsDotted text arcs → (AreArcs arcs → ⊥) → (contents : List ℕ) → IsPurpose text contents → ⊥
+pub no_purpose : (text arcs : List ℕ) → All IsServedArc arcs → IsDotted text arcs → (AreArcs arcs → ⊥) → (contents : List ℕ) → IsPurpose text contents → ⊥
 no_purpose text arcs served dotted none contents is =
     none (subst AreArcs (same_decimals is.arcs arcs (arcs_are_served is.arcs is.are) served (sym is.dotted ∙ dotted)) is.are)
 
@@ -37,7 +37,7 @@ few (first ∷ []) short are = are
 few (first ∷ second ∷ others) short are = absurd (omega (arith, short))
 
 -- what the code makes of two numbers and those behind them
-pub arcs_by : (arcs others contents : List ℕ) (number : ℕ) → 2 ≤ length arcs → All IsServed arcs → others ≡ drop 2 arcs
+pub arcs_by : (arcs others contents : List ℕ) (number : ℕ) → 2 ≤ length arcs → All IsServedArc arcs → others ≡ drop 2 arcs
     → MayBegin (slice_index arcs 0) (slice_index arcs 1) × (number ≡ slice_index arcs 0 * 40 + slice_index arcs 1)
     → contents ≡ subidentifier_octets number ++ flat_map subidentifier_octets others → AreArcs arcs × (contents ≡ contents_of arcs)
 arcs_by [] others contents number long served behind begin is = absurd (omega (arith, long))

@@ -4,7 +4,7 @@ use Rattle.std.specs.List.{All}
 use Rattle.std.specs.Str.Parse.{AllDigits, ParsesUnsigned, digits_value}
 use Rattle.std.proofs.lemmas.Str.Parse.{IsNumeralModel, numerals_by_value, parse_plain, tells_digits, digit_at}
 use Rattle.std.proofs.lemmas.Fmt.{decimal-digits_value, decimal_digit, decimal_injective, decimal_nonempty, digits_decimal, first_decimal, parse-decimal}
-use Rattle.cli_operands.specs.Purpose.{IsPlain, IsServed}
+use Rattle.cli_operands.specs.Purpose.{IsPlain, IsServedArc}
 
 own : IsNumeralModel (AllDigits 10) (digits_value 10)
 own = numerals_by_value (AllDigits 10) tells_digits
@@ -19,7 +19,7 @@ parsed_is {E} text (Ok found) arc plain parses is =
     sym (ap decimal value ∙ same)
 
 -- a number's decimal is parsed to it
-pub parsed_again : {E : Type 0} (text : List ℕ) (r : Result ℕ E) (arc : ℕ) → ParsesUnsigned 64 10 text r → IsServed arc → text ≡ decimal arc → r ≡ Ok arc
+pub parsed_again : {E : Type 0} (text : List ℕ) (r : Result ℕ E) (arc : ℕ) → ParsesUnsigned 64 10 text r → IsServedArc arc → text ≡ decimal arc → r ≡ Ok arc
 parsed_again text r arc parses served is = parse-decimal 64 arc text r (omega (arith, served)) (omega (arith, served)) is parses
 
 -- and it stands plainly
@@ -30,7 +30,7 @@ zero_first : (arc : ℕ) → arc < 2 ^ 64 → slice_index (decimal arc) 0 ≡ 48
 zero_first zero fits e = zero_is 0 refl
 zero_first (suc n) fits e = absurd (omega (arith, first_decimal (suc n) (omega arith) fits, e))
 
-pub decimal_is_plain : (arc : ℕ) → IsServed arc → IsPlain (decimal arc)
+pub decimal_is_plain : (arc : ℕ) → IsServedArc arc → IsPlain (decimal arc)
 decimal_is_plain arc served =
     let fits : arc < 2 ^ 64 = omega (arith, served) in
     let some : 0 < length (decimal arc) = decimal_nonempty arc fits in
@@ -42,7 +42,7 @@ decimal_is_plain arc served =
     }
 
 -- numbers that have the same decimals are the same
-pub same_decimals : (arcs others : List ℕ) → All IsServed arcs → All IsServed others → map decimal arcs ≡ map decimal others → arcs ≡ others
+pub same_decimals : (arcs others : List ℕ) → All IsServedArc arcs → All IsServedArc others → map decimal arcs ≡ map decimal others → arcs ≡ others
 same_decimals [] [] served fits is = refl
 same_decimals [] (other ∷ others) served fits is = cc
 same_decimals (arc ∷ arcs) [] served fits is = cc

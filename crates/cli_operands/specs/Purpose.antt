@@ -15,20 +15,20 @@ pub record IsPlain (text : List ℕ) : Type 0 where
   pub short : slice_index text 0 ≡ 48 → length text ≡ 1
 
 -- a number of 63 bits
-abbrev pub IsServed : ℕ → Type 0
-IsServed number = number < 2 ^ 63
+abbrev pub IsServedArc : ℕ → Type 0
+IsServedArc number = number < 2 ^ 63
 
 -- two numbers with which an OBJECT IDENTIFIER may begin: the first is 0, 1 or 2, and where it is not 2, the second is below 40 (8.19.4)
 pub record MayBegin (first second : ℕ) : Type 0 where
   pub root : first ≤ 2
   pub below : first < 2 → second < 40
-  pub served : IsServed (first * 40 + second)
+  pub served : IsServedArc (first * 40 + second)
 
 -- the numbers of an OBJECT IDENTIFIER
 abbrev pub AreArcs : List ℕ → Type 0
 AreArcs [] = ⊥
 AreArcs (first ∷ []) = ⊥
-AreArcs (first ∷ second ∷ others) = MayBegin first second × All IsServed others
+AreArcs (first ∷ second ∷ others) = MayBegin first second × All IsServedArc others
 
 -- the subidentifiers: one for the first two of the numbers, and one for each other (8.19.3, 8.19.4)
 abbrev pub subidentifiers : List ℕ → List ℕ

@@ -2,7 +2,7 @@
 ghost use Rattle.std.specs.Prelude.{◌≡◌, ◌↔◌, ◌≢◌, ◌<◌, ◌+◌, ◌*◌, ◌^◌, ◌++◌, ℕ, List, IsTrue, IfNone, IfOk, IfSome, OnOk};
 ghost use Rattle.std.specs.List.{All, flat_map};
 ghost use Rattle.std.specs.Fmt.{decimal};
-ghost use Rattle.cli_operands.specs.Purpose.{AreArcs, IsDotted, IsPlain, IsPurpose, IsServed, MayBegin, contents_of, leading_octets, subidentifier_octets};
+ghost use Rattle.cli_operands.specs.Purpose.{AreArcs, IsDotted, IsPlain, IsPurpose, IsServedArc, MayBegin, contents_of, leading_octets, subidentifier_octets};
 
 use std::alloc::{AllocError, Global};
 
@@ -18,8 +18,8 @@ fn is_plain(digits: &[u8]) -> bool
 
 // The number that the text is in decimal, with no zero in front.
 fn arc_of(text: &str) -> Option<u64>
-    ensures arc { IfSome result (λ arc. IsServed arc × (text.now ≡ decimal arc)) }
-    ensures none { IfNone result ((arc : ℕ) → IsServed arc → text.now ≢ decimal arc) }
+    ensures arc { IfSome result (λ arc. IsServedArc arc × (text.now ≡ decimal arc)) }
+    ensures none { IfNone result ((arc : ℕ) → IsServedArc arc → text.now ≢ decimal arc) }
 {
     if !is_plain(text.as_bytes()) {
         return None;
@@ -33,9 +33,9 @@ fn arc_of(text: &str) -> Option<u64>
 // The numbers of which the text is the dotted decimal.
 fn arcs_of(alloc: Global, text: &str) -> Result<Option<Vec<u64>>, AllocError>
     ensures arcs { IfOk result (λ found. IfSome found (λ arcs.
-        All IsServed arcs.items × IsDotted text.now arcs.items)) }
+        All IsServedArc arcs.items × IsDotted text.now arcs.items)) }
     ensures none { IfOk result (λ found. IfNone found
-        ((arcs : List ℕ) → All IsServed arcs → IsDotted text.now arcs → ⊥)) }
+        ((arcs : List ℕ) → All IsServedArc arcs → IsDotted text.now arcs → ⊥)) }
 {
     let mut arcs = Vec::new(alloc);
     for part in text.split('.') {
@@ -49,7 +49,7 @@ fn arcs_of(alloc: Global, text: &str) -> Result<Option<Vec<u64>>, AllocError>
 
 // The first subidentifier (X.690, 8.19.4).
 fn first_subidentifier(first: u64, second: u64) -> Option<u64>
-    requires { IsServed second }
+    requires { IsServedArc second }
     ensures number { IfSome result (λ number.
         MayBegin first second × (number ≡ first * 40 + second)) }
     ensures none { IfNone result (MayBegin first second → ⊥) }
@@ -96,7 +96,7 @@ fn octets_of(alloc: Global, first: u64, others: &[u64]) -> Result<Vec<u8>, Alloc
 
 // The contents of the OBJECT IDENTIFIER that has these numbers.
 fn purpose_in(alloc: Global, arcs: &[u64]) -> Result<Option<Vec<u8>>, AllocError>
-    requires { All IsServed arcs.now }
+    requires { All IsServedArc arcs.now }
     ensures contents { IfOk result (λ purpose. IfSome purpose (λ contents.
         AreArcs arcs.now × (contents.items ≡ contents_of arcs.now))) }
     ensures none { IfOk result (λ purpose. IfNone purpose (AreArcs arcs.now → ⊥)) }

@@ -13,7 +13,7 @@ use Rattle.cli_steps.specs.AnswerText.{answer_text, failed_text}
 use Rattle.cli_steps.specs.State.{State}
 use Rattle.cli_steps.specs.declared.answer.Answer.{Answer}
 use Rattle.cli_steps.specs.declared.answer.Answer.TheVariants.{Nothing, Believes, Forgets, Ends, Delivered, Told, Prints, Failed, BadLine, LongLine}
-use Rattle.cli_serving.specs.Serving.{AnswersRead, AreAnswersTo, GivesLines, GoOn, HasEnded, HasServed, HasServedLast, HasShut, IsAnswerTo, IsSame, Known, Says, SaysLong, ServesLine, is_end, is_refusal, text_of}
+use Rattle.cli_serving.specs.Serving.{AnswersRead, AreAnswersTo, GivesLines, GoOn, SessionHasEnded, HasServed, HasServedLast, HasShut, IsAnswerTo, IsSame, Known, WritesAnswer, SaysLong, ServesLine, is_end, is_refusal, text_of}
 use Rattle.cli_serving.specs.declared.ending.End.{End}
 use Rattle.cli_serving.specs.declared.ending.End.TheVariants as ended
 
@@ -108,7 +108,7 @@ module _ (holds : Holding) (input middle source output said written : Option (Li
   }
 
   pub ends : (Earlier : Known) (end : End) → HasServed holds input middle output said Before → HasServed holds input middle output said Earlier → ServesLine holds middle source said written Line (Some end)
-      → HasEnded holds input source output written Now Earlier end
+      → SessionHasEnded holds input source output written Now Earlier end
   ends Earlier ended.Quit served earlier (line, gives, (answer, says, known, is)) =
       last _ served line answer gives (is, said_more output said written served.answers answer served.said says) known
   ends Earlier ended.Finished served earlier (same, known, rest, at_end) = (middle, unchanged served same known, rest, at_end)

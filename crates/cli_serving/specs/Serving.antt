@@ -122,39 +122,39 @@ pub record HasShut (holds : Holding) (input source output written : Option (List
   pub refused : Appends said written (failed_text (StoreFailed 71))
 
 -- How a session ended. What is known of its party in the end, and what was known at a moment before.
-abbrev pub HasEnded : Holding → Option (List ℕ) → Option (List ℕ) → Option (List ℕ) → Option (List ℕ) → Known → Known → End → Type 0
-HasEnded holds input source output written Knows Before ended.Quit =
+abbrev pub SessionHasEnded : Holding → Option (List ℕ) → Option (List ℕ) → Option (List ℕ) → Option (List ℕ) → Known → Known → End → Type 0
+SessionHasEnded holds input source output written Knows Before ended.Quit =
     HasServedLast holds input source Knows (SaysEnd output written)
-HasEnded holds input source output written Knows Before ended.Finished =
+SessionHasEnded holds input source output written Knows Before ended.Finished =
     (middle : Option (List ℕ)) × HasServed holds input middle output written Knows
     × Consumes middle source [] × IsAtEnd source
-HasEnded holds input source output written Knows Before ended.Shut =
+SessionHasEnded holds input source output written Knows Before ended.Shut =
     HasShut holds input source output written Before
-HasEnded holds input source output written Knows Before ended.Unwritable =
+SessionHasEnded holds input source output written Knows Before ended.Unwritable =
     HasServedLast holds input source Knows (SaysAllButLast output)
-HasEnded holds input source output written Knows Before ended.Unreadable =
+SessionHasEnded holds input source output written Knows Before ended.Unreadable =
     (middle : Option (List ℕ)) × HasServed holds input middle output written Knows
-HasEnded holds input source output written Knows Before ended.NoMemory =
+SessionHasEnded holds input source output written Knows Before ended.NoMemory =
     (source ≡ input) × (written ≡ output) × Knows IsSame
 
 -- ---- on the way
 
 -- An answer of which this is so was written, and the session goes on or ends so; or it could not be written.
-abbrev pub Says : Option (List ℕ) → Option (List ℕ) → Known → (State → State → Answer → Type 0) → Option End → Type 0
-Says output written Knows Is None =
+abbrev pub WritesAnswer : Option (List ℕ) → Option (List ℕ) → Known → (State → State → Answer → Type 0) → Option End → Type 0
+WritesAnswer output written Knows Is None =
     (answer : Answer) × Appends output written (answer_text answer) × Knows (λ old new. Is old new answer)
     × (is_end answer ≡ false)
-Says output written Knows Is (Some ended.Quit) =
+WritesAnswer output written Knows Is (Some ended.Quit) =
     (answer : Answer) × Appends output written (answer_text answer) × Knows (λ old new. Is old new answer)
     × (is_end answer ≡ true)
-Says output written Knows Is (Some ended.Shut) =
+WritesAnswer output written Knows Is (Some ended.Shut) =
     (answer : Answer) × Appends output written (answer_text answer) × Knows (λ old new. Is old new answer)
     × (is_refusal answer ≡ true)
-Says output written Knows Is (Some ended.Unwritable) =
+WritesAnswer output written Knows Is (Some ended.Unwritable) =
     (answer : Answer) × Knows (λ old new. Is old new answer)
-Says output written Knows Is (Some ended.Finished) = ⊥
-Says output written Knows Is (Some ended.Unreadable) = ⊥
-Says output written Knows Is (Some ended.NoMemory) = ⊥
+WritesAnswer output written Knows Is (Some ended.Finished) = ⊥
+WritesAnswer output written Knows Is (Some ended.Unreadable) = ⊥
+WritesAnswer output written Knows Is (Some ended.NoMemory) = ⊥
 
 -- the answer to a line that is too long was written, or could not be
 abbrev pub SaysLong : Option (List ℕ) → Option (List ℕ) → Option End → Type 0
@@ -164,7 +164,7 @@ SaysLong output written (Some end) = end ≡ ended.Unwritable
 -- the answer to a line that was read
 abbrev pub AnswersRead : Holding → Option (List ℕ) → Option (List ℕ) → Option (List ℕ) → Option (List ℕ) → Known → Option End → Type 0
 AnswersRead holds input source output written Knows end =
-    (line : List ℕ) × GivesLine input source line × Says output written Knows (IsAnswerTo holds line) end
+    (line : List ℕ) × GivesLine input source line × WritesAnswer output written Knows (IsAnswerTo holds line) end
 
 -- One line was read and answered; or none was, and nothing changed.
 abbrev pub ServesLine : Holding → Option (List ℕ) → Option (List ℕ) → Option (List ℕ) → Option (List ℕ) → Known → Option End → Type 0

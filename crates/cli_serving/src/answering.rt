@@ -5,7 +5,7 @@ ghost use Rattle.cli_keeping.specs.Keeping.{Keeps};
 ghost use Rattle.cli_session.specs.Held.{holding_of};
 ghost use Rattle.cli_steps.specs.AnswerText.{answer_text};
 ghost use Rattle.cli_steps.specs.Ways.{Steps};
-ghost use Rattle.cli_serving.specs.Serving.{Follows, IsAnswerWithin, Says, is_end, is_refusal};
+ghost use Rattle.cli_serving.specs.Serving.{Follows, IsAnswerWithin, WritesAnswer, is_end, is_refusal};
 
 use crate::ending::End;
 use cli_failures::{Failure, Source};
@@ -92,7 +92,7 @@ pub(crate) fn answer_read<K: Keeper, S: Source, W: Write>(
     out: &mut W,
 ) -> Option<End>
     ensures sound { K.is_sound party.new.keeper → K.is_sound party.old.keeper }
-    ensures says { Says (W.contents out.old) (W.contents out.new)
+    ensures says { WritesAnswer (W.contents out.old) (W.contents out.new)
         (λ Are. K.is_sound party.new.keeper → Steps party.old.believed (K.keeps party.old.keeper)
         party.new.believed (K.keeps party.new.keeper) Are)
         (IsAnswerWithin (holding_of (S.holds source.now)) line.now) result }

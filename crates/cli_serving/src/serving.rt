@@ -3,7 +3,7 @@ ghost use Rattle.std.specs.Prelude.{◌≡◌, ◌≤◌, ◌^◌, vec_capacity}
 ghost use Rattle.cli_session.specs.Held.{holding_of};
 ghost use Rattle.cli_session.specs.declared.believed.Believed.{Believed as WasBelieved};
 ghost use Rattle.cli_steps.specs.Ways.{Steps};
-ghost use Rattle.cli_serving.specs.Serving.{HasEnded, SaysLong, ServesLine};
+ghost use Rattle.cli_serving.specs.Serving.{SessionHasEnded, SaysLong, ServesLine};
 
 use crate::answering::{answer_read, write_answer};
 use crate::ending::End;
@@ -60,7 +60,7 @@ fn serve_lines<R: Read, K: Keeper, S: Source, W: Write>(
 ) -> End
     requires room { 2 ^ 20 ≤ vec_capacity line.old }
     ensures sound { K.is_sound party.new.keeper → K.is_sound party.old.keeper }
-    ensures ended { HasEnded (holding_of (S.holds source.now))
+    ensures ended { SessionHasEnded (holding_of (S.holds source.now))
         (R.remaining input.old) (R.remaining input.new) (W.contents out.old) (W.contents out.new)
         (λ Are. K.is_sound party.new.keeper → Steps party.old.believed (K.keeps party.old.keeper)
         party.new.believed (K.keeps party.new.keeper) Are)
@@ -88,7 +88,7 @@ pub fn serve<R: Read, K: Keeper, S: Source, W: Write>(
     out: &mut W,
 ) -> End
     ensures sound { K.is_sound party.new.keeper → K.is_sound party.old.keeper }
-    ensures ended { HasEnded (holding_of (S.holds source.now))
+    ensures ended { SessionHasEnded (holding_of (S.holds source.now))
         (R.remaining input.old) (R.remaining input.new) (W.contents out.old) (W.contents out.new)
         (λ Are. K.is_sound party.new.keeper → Steps party.old.believed (K.keeps party.old.keeper)
         party.new.believed (K.keeps party.new.keeper) Are)

@@ -8,7 +8,7 @@ use Rattle.path.specs.Query.{Accepts}
 use Rattle.relying_agreement.specs.Run.{facts_or_none, facts_under, genuine_facts}
 use Rattle.relying.specs.declared.fault.DeliverFault.{DeliverFault}
 use Rattle.relying.specs.declared.fault.DeliverFault.TheVariants.{Issuer, Statement, Store}
-use Rattle.relying.specs.Delivery.{IsAnswered, IsReason, IsRefusal, MayCommit, Says}
+use Rattle.relying.specs.Delivery.{AnswersDelivery, IsReason, IsRefusal, MayCommit, StatementSays}
 
 -- ---- nothing was read
 
@@ -17,7 +17,7 @@ refused accepts issuer statement (Issuer fault) why = why
 refused accepts issuer statement (Statement fault) why = why
 refused accepts issuer statement (Store fault) why = absurd why
 
-pub refused_so : (accepts : Accepts) (issuer statement : List ℕ) (s : State) (fault : DeliverFault) → IsRefusal accepts issuer statement fault → IsAnswered accepts issuer statement s s (Err fault)
+pub refused_so : (accepts : Accepts) (issuer statement : List ℕ) (s : State) (fault : DeliverFault) → IsRefusal accepts issuer statement fault → AnswersDelivery accepts issuer statement s s (Err fault)
 refused_so accepts issuer statement s (Issuer fault) why = (why, record { was_open = λ live. live; now_is = λ live. refl })
 refused_so accepts issuer statement s (Statement fault) why = (why, record { was_open = λ live. live; now_is = λ live. refl })
 refused_so accepts issuer statement s (Store fault) why = absurd why
@@ -33,9 +33,9 @@ commits_nothing accepts issuer statement facts s (Store fault) why = absurd why
 -- ---- what was read was taken
 
 -- the facts that the two texts say are those that were read
-pub facts_said : (accepts : Accepts) (issuer statement : List ℕ) (facts : List Fact) → Says accepts issuer statement facts → genuine_facts accepts issuer statement ≡ facts
+pub facts_said : (accepts : Accepts) (issuer statement : List ℕ) (facts : List Fact) → StatementSays accepts issuer statement facts → genuine_facts accepts issuer statement ≡ facts
 facts_said accepts issuer statement facts says = ap (facts_under accepts statement) says.by_is ∙ ap facts_or_none says.said
 
-pub may_commit : (accepts : Accepts) (issuer statement : List ℕ) (facts : List Fact) (old new : State) → Says accepts issuer statement facts → Survives old new (CommitsWhole old facts)
+pub may_commit : (accepts : Accepts) (issuer statement : List ℕ) (facts : List Fact) (old new : State) → StatementSays accepts issuer statement facts → Survives old new (CommitsWhole old facts)
     → Survives old new (CommitsWhole old (genuine_facts accepts issuer statement))
 may_commit accepts issuer statement facts old new says survives = subst (λ (said : List Fact). Survives old new (CommitsWhole old said)) (sym (facts_said accepts issuer statement facts says)) survives

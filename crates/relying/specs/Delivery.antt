@@ -15,7 +15,7 @@ use Rattle.relying.specs.declared.fault.DeliverFault.{DeliverFault}
 use Rattle.relying.specs.declared.fault.DeliverFault.TheVariants.{Issuer, Statement, Store}
 
 -- the issuer's certificate is one, and the statement is genuine under it and says these facts
-pub record Says (accepts : Accepts) (issuer statement : List ℕ) (facts : List Fact) : Type 0 where
+pub record StatementSays (accepts : Accepts) (issuer statement : List ℕ) (facts : List Fact) : Type 0 where
   pub by : Certificate
   pub by_is : certificate issuer ≡ Ok by
   pub said : genuine_statement accepts by statement ≡ Ok facts
@@ -26,7 +26,7 @@ abbrev pub IsReason : Accepts → List ℕ → List ℕ → DeliverFault → Typ
 IsReason accepts issuer statement (Issuer fault) = CertificateFails fault (certificate issuer)
 IsReason accepts issuer statement (Statement fault) =
     (by : Certificate) × (certificate issuer ≡ Ok by) × FailsUnlessFull fault (genuine_statement accepts by statement)
-IsReason accepts issuer statement (Store fault) = (facts : List Fact) × Says accepts issuer statement facts
+IsReason accepts issuer statement (Store fault) = (facts : List Fact) × StatementSays accepts issuer statement facts
 
 -- why nothing is read, for which no store was asked
 abbrev pub IsRefusal : Accepts → List ℕ → List ℕ → DeliverFault → Type 0
@@ -40,16 +40,16 @@ Leaves old new fault = StaysIfOpen old new
 
 -- How a delivery is answered, whatever the disk did: the statement is genuine and says some facts, or the fault has its reason.
 abbrev pub IsAnswerTo : Accepts → List ℕ → List ℕ → Result Counts DeliverFault → Type 0
-IsAnswerTo accepts issuer statement (Ok counts) = (facts : List Fact) × Says accepts issuer statement facts
+IsAnswerTo accepts issuer statement (Ok counts) = (facts : List Fact) × StatementSays accepts issuer statement facts
 IsAnswerTo accepts issuer statement (Err fault) = IsReason accepts issuer statement fault
 
-abbrev pub IsAnswered : Accepts → List ℕ → List ℕ → State → State → Result Counts DeliverFault → Type 0
-IsAnswered accepts issuer statement old new (Ok counts) = (facts : List Fact) × Says accepts issuer statement facts × Delivers old new facts counts
-IsAnswered accepts issuer statement old new (Err fault) = IsReason accepts issuer statement fault × Leaves old new fault
+abbrev pub AnswersDelivery : Accepts → List ℕ → List ℕ → State → State → Result Counts DeliverFault → Type 0
+AnswersDelivery accepts issuer statement old new (Ok counts) = (facts : List Fact) × StatementSays accepts issuer statement facts × Delivers old new facts counts
+AnswersDelivery accepts issuer statement old new (Err fault) = IsReason accepts issuer statement fault × Leaves old new fault
 
 -- the same, if the disk returned what was written
 abbrev pub AnswersDelivery : Accepts → List ℕ → List ℕ → State → State → Result Counts DeliverFault → Type 0
-AnswersDelivery accepts issuer statement old new result = HasCleanDisk new → IsAnswered accepts issuer statement old new result
+AnswersDelivery accepts issuer statement old new result = HasCleanDisk new → AnswersDelivery accepts issuer statement old new result
 
 -- What a crash may leave: what it could leave before the call, or the whole delivery if the store was asked to take it.
 abbrev pub MayCommit : List Fact → State → State → Result Counts DeliverFault → Type 0

@@ -16,7 +16,7 @@ use Rattle.relying_agreement.specs.Run.{Event, DeliveryAnswer, facts_taken, genu
 use Rattle.relying.specs.declared.events.Event as said
 use Rattle.relying.specs.declared.fault.DeliverFault.{DeliverFault}
 use Rattle.relying.specs.declared.fault.DeliverFault.TheVariants.{Store}
-use Rattle.relying.specs.Delivery.{IsAnswerTo, IsReason, Says}
+use Rattle.relying.specs.Delivery.{IsAnswerTo, IsReason, StatementSays}
 use Rattle.store.specs.Opens.{FailsToReopen}
 use Rattle.store.specs.declared.refusal.ReopenFault.{ReopenFault}
 
@@ -32,7 +32,7 @@ as_answered (Err fault) = DeliveryAnswer.Refused
 -- so; or nothing is, for the reason that is told, which is never the form of the store's rows.
 abbrev pub TakesDelivery : Accepts → List ℕ → List ℕ → Holdings → Holdings → Result Counts DeliverFault → Type 0
 TakesDelivery accepts issuer statement held next (Ok counts) =
-    (facts : List Fact) × Says accepts issuer statement facts × AreCounts held facts counts × (next ≡ after_all held facts)
+    (facts : List Fact) × StatementSays accepts issuer statement facts × AreCounts held facts counts × (next ≡ after_all held facts)
 TakesDelivery accepts issuer statement held next (Err fault) =
     IsReason accepts issuer statement fault × (fault ≢ Store NotOurs) × (next ≡ held)
 

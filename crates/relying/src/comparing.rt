@@ -84,7 +84,7 @@ fn compare_stores<V: Verifier, S: Alter, D: Alter>(
     found
 }
 
-/// The same of a store and one over files.
+/// The same of a store and one over files, in a function of its own for the prover alone.
 fn compare_with_files<V: Verifier, S: Alter, D: Disk + Drop>(
     alloc: Global,
     verifier: &V,

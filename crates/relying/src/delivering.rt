@@ -2,7 +2,7 @@
 
 ghost use Rattle.std.specs.Prelude.{IfErr, IfOk};
 ghost use Rattle.statements_facts.specs.Fact.{facts_in};
-ghost use Rattle.relying.specs.Delivery.{IsRefusal, Says};
+ghost use Rattle.relying.specs.Delivery.{IsRefusal, StatementSays};
 
 use crate::fault::DeliverFault;
 use cert::Certificate;
@@ -21,7 +21,7 @@ pub fn read_statement<'a, V: Verifier>(
     statement: &'a [u8],
 ) -> Result<Facts<'a>, DeliverFault>
     ensures says { IfOk result (λ facts.
-        Says (V.accepts verifier.now) issuer.now statement.now (facts_in facts)) }
+        StatementSays (V.accepts verifier.now) issuer.now statement.now (facts_in facts)) }
     ensures refused { IfErr result
         (IsRefusal (V.accepts verifier.now) issuer.now statement.now) }
 {

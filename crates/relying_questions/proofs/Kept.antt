@@ -14,7 +14,7 @@ use Rattle.relying_texts.specs.View.{texts_of}
 use Rattle.relying_questions.specs.declared.asked.Asked.{Asked}
 use Rattle.relying_questions.specs.declared.part.Source.TheVariants as source
 use Rattle.relying_questions.specs.Offsets.{AreCertsAt, GivesOffset}
-use Rattle.relying_questions.specs.Places.{Texts, AllInTexts, AreInTexts, AreStatementTexts, IsStatementText, HasParts, Keeps, LinkStands, ValueStands, WereRead, texts_in}
+use Rattle.relying_questions.specs.Places.{Texts, AllInTexts, AreInTexts, AreStatementTexts, IsStatementText, HasParts, KeepsInTexts, LinkStands, ValueStands, WereRead, texts_in}
 use Rattle.relying_questions.proofs.Standing.{certificate_has_parts}
 
 -- one more
@@ -22,14 +22,14 @@ pub pushed : (texts : Texts) (sofar : List Asked) (asked : Asked) → AllInTexts
 pushed texts [] asked all one = (one, tt)
 pushed texts (first ∷ sofar) asked all one = (all.0, pushed texts sofar asked all.1 one)
 
-pub kept_one : (Premise : Texts → Type 0) (old sofar new : List Asked) (asked : Asked) → Keeps Premise old sofar → new ≡ sofar ++ asked ∷ []
-    → ((texts : Texts) → Premise texts → AreInTexts texts asked) → Keeps Premise old new
+pub kept_one : (Premise : Texts → Type 0) (old sofar new : List Asked) (asked : Asked) → KeepsInTexts Premise old sofar → new ≡ sofar ++ asked ∷ []
+    → ((texts : Texts) → Premise texts → AreInTexts texts asked) → KeepsInTexts Premise old new
 kept_one Premise old sofar new asked keeps new_is one texts holds all =
     subst (AllInTexts texts) (sym new_is) (pushed texts sofar asked (keeps texts holds all) (one texts holds))
 
 -- one step after another
-pub kept_more : (Premise Weaker : Texts → Type 0) (old sofar new : List Asked) → Keeps Premise old sofar → Keeps Weaker sofar new
-    → ((texts : Texts) → Premise texts → Weaker texts) → Keeps Premise old new
+pub kept_more : (Premise Weaker : Texts → Type 0) (old sofar new : List Asked) → KeepsInTexts Premise old sofar → KeepsInTexts Weaker sofar new
+    → ((texts : Texts) → Premise texts → Weaker texts) → KeepsInTexts Premise old new
 kept_more Premise Weaker old sofar new keeps more weaker texts holds all = more texts (weaker texts holds) (keeps texts holds all)
 
 -- of all, the one at an index
@@ -123,8 +123,8 @@ question_stands query statements were =
 
 -- ---- what a call answers
 
-pub kept_by : {E : Type 0} (result : Result (Unit {0}) E) (Premise Weaker : Texts → Type 0) (old new : List Asked) → IfOk result (λ _. Keeps Weaker old new)
-    → ((texts : Texts) → Premise texts → Weaker texts) → IfOk result (λ _. Keeps Premise old new)
+pub kept_by : {E : Type 0} (result : Result (Unit {0}) E) (Premise Weaker : Texts → Type 0) (old new : List Asked) → IfOk result (λ _. KeepsInTexts Weaker old new)
+    → ((texts : Texts) → Premise texts → Weaker texts) → IfOk result (λ _. KeepsInTexts Premise old new)
 kept_by (Ok x) Premise Weaker old new keeps weaker = λ texts holds all. keeps texts (weaker texts holds) all
 kept_by (Err e) Premise Weaker old new keeps weaker = tt
 

@@ -44,8 +44,8 @@ abbrev pub AllInTexts : Texts → List asked.Asked → Type 0
 AllInTexts texts asked = AllByRecursion (AreInTexts texts) asked
 
 -- In each text in which the premise holds, questions whose parts stand there are added.
-abbrev pub Keeps : (Texts → Type 0) → List asked.Asked → List asked.Asked → Type 0
-Keeps Premise old new = (texts : Texts) → Premise texts → AllInTexts texts old → AllInTexts texts new
+abbrev pub KeepsInTexts : (Texts → Type 0) → List asked.Asked → List asked.Asked → Type 0
+KeepsInTexts Premise old new = (texts : Texts) → Premise texts → AllInTexts texts old → AllInTexts texts new
 
 -- the certificates of the question were read from their octets
 abbrev pub WereRead : Query → Type 0

@@ -6,7 +6,7 @@ ghost use Rattle.relying_texts.specs.View.{seen_question, texts_of};
 ghost use Rattle.relying_evidence.specs.View.{seen_link};
 ghost use Rattle.relying_questions.specs.Agreement.{Decide};
 ghost use Rattle.relying_questions.specs.Offsets.{StatementStands};
-ghost use Rattle.relying_questions.specs.Places.{AllInTexts, AreStatementTexts, IsStatementText, Keeps, LinkStands, LinksStand, PartsArePlaced, Texts, WereRead, seen_placed, texts_in};
+ghost use Rattle.relying_questions.specs.Places.{AllInTexts, AreStatementTexts, IsStatementText, KeepsInTexts, LinkStands, LinksStand, PartsArePlaced, Texts, WereRead, seen_placed, texts_in};
 ghost use Rattle.relying_questions.specs.Questions.{asked_of_statement, asked_of_statements, asked_under, questions_of};
 ghost use Rattle.relying_questions.specs.Seen.{Adds, asked_of_links, certificate_of, issuer_of, issuers_in, seen_all, seen_statement};
 
@@ -43,7 +43,7 @@ fn certificate_of<'p, 'a>(link: &Link<'p, 'a>) -> Placed<'p, 'a>
 fn ask_path<'a>(asked: &mut Vec<Asked<'a>>, links: &[Link<'_, 'a>]) -> Result<(), AllocError>
     ensures asked { IfOk result (λ _. Adds asked.old.items asked.new.items
         (asked_of_links links.now)) }
-    ensures places { IfOk result (λ _. Keeps (λ texts. LinksStand texts links.now)
+    ensures places { IfOk result (λ _. KeepsInTexts (λ texts. LinksStand texts links.now)
         asked.old.items asked.new.items) }
 {
     for link in links {
@@ -61,7 +61,7 @@ fn ask_under_each<'a>(
 ) -> Result<(), AllocError>
     ensures asked { IfOk result (λ _. Adds asked.old.items asked.new.items
         (flat_map (asked_under (seen_statement statement.now)) (issuers_in links.now))) }
-    ensures places { IfOk result (λ _. Keeps (λ texts. LinksStand texts links.now
+    ensures places { IfOk result (λ _. KeepsInTexts (λ texts. LinksStand texts links.now
         × StatementStands texts statement.now) asked.old.items asked.new.items) }
 {
     for link in links {
@@ -80,7 +80,7 @@ fn ask_octets<'a>(
 ) -> Result<(), AllocError>
     ensures asked { IfOk result (λ _. Adds asked.old.items asked.new.items
         (asked_of_statement (issuers_in links.now) octets.now)) }
-    ensures places { IfOk result (λ _. Keeps (λ texts. LinksStand texts links.now
+    ensures places { IfOk result (λ _. KeepsInTexts (λ texts. LinksStand texts links.now
         × IsStatementText index octets.now texts) asked.old.items asked.new.items) }
 {
     let read = Statement::read(alloc, Source::Statement(index), octets)?;
@@ -99,7 +99,7 @@ fn ask_statements<'a>(
 ) -> Result<(), AllocError>
     ensures asked { IfOk result (λ _. Adds asked.old.items asked.new.items
         (asked_of_statements (issuers_in links.now) (texts_of statements.now))) }
-    ensures places { IfOk result (λ _. Keeps (λ texts. LinksStand texts links.now
+    ensures places { IfOk result (λ _. KeepsInTexts (λ texts. LinksStand texts links.now
         × AreStatementTexts (texts_of statements.now) texts) asked.old.items asked.new.items) }
 {
     for (index, octets) in statements.iter().enumerate() {

@@ -5,7 +5,7 @@ ghost use Rattle.std.specs.List.{flat_map};
 ghost use Rattle.statements_ocsp.specs.OcspResponse.{certs_left, seen_response};
 ghost use Rattle.statements_parts.specs.Steps.{HandsOutFirst};
 ghost use Rattle.relying_questions.specs.Offsets.{AreAnswersAt, AreCertsAt, GivesOffset, HandedStands, StatementStands, seen_values};
-ghost use Rattle.relying_questions.specs.Places.{AnswersStand, Keeps, ListStands, PartsArePlaced, ValueStands};
+ghost use Rattle.relying_questions.specs.Places.{AnswersStand, KeepsInTexts, ListStands, PartsArePlaced, ValueStands};
 ghost use Rattle.relying_questions.specs.Seen.{Adds, asked_of_delegate_seen, asked_of_issuer_seen, asked_of_list_seen, asked_of_response_seen, asked_of_value_seen, asked_under_seen};
 
 use crate::asked::Asked;
@@ -29,7 +29,7 @@ fn ask_list<'a>(
 ) -> Result<(), AllocError>
     ensures asked { IfOk result (λ _. Adds asked.old.items asked.new.items
         (asked_of_list_seen issuer.now list.now)) }
-    ensures places { IfOk result (λ _. Keeps (λ texts. PartsArePlaced texts issuer.now
+    ensures places { IfOk result (λ _. KeepsInTexts (λ texts. PartsArePlaced texts issuer.now
         × ListStands texts list.now at.now) asked.old.items asked.new.items) }
 {
     if list.issuer.matches(&issuer.certificate.subject) {
@@ -47,7 +47,7 @@ fn ask_issuer<'a>(
 ) -> Result<(), AllocError>
     ensures asked { IfOk result (λ _. Adds asked.old.items asked.new.items
         (asked_of_issuer_seen issuer.now response.now)) }
-    ensures places { IfOk result (λ _. Keeps (λ texts. PartsArePlaced texts issuer.now
+    ensures places { IfOk result (λ _. KeepsInTexts (λ texts. PartsArePlaced texts issuer.now
         × AnswersStand texts response.now at.now) asked.old.items asked.new.items) }
 {
     if is_named(&response.responder, issuer.certificate) {
@@ -67,7 +67,7 @@ fn ask_delegate<'a>(
 ) -> Result<(), AllocError>
     ensures asked { IfOk result (λ _. Adds asked.old.items asked.new.items
         (asked_of_delegate_seen issuer.now response.now delegate.now)) }
-    ensures places { IfOk result (λ _. Keeps (λ texts. PartsArePlaced texts issuer.now
+    ensures places { IfOk result (λ _. KeepsInTexts (λ texts. PartsArePlaced texts issuer.now
         × AnswersStand texts response.now at.now × PartsArePlaced texts delegate.now)
         asked.old.items asked.new.items) }
 {
@@ -95,7 +95,7 @@ fn ask_value<'a>(
 ) -> Result<(), AllocError>
     ensures asked { IfOk result (λ _. Adds asked.old.items asked.new.items
         (asked_of_value_seen issuer.now response.now octets.now)) }
-    ensures places { IfOk result (λ _. Keeps (λ texts. PartsArePlaced texts issuer.now
+    ensures places { IfOk result (λ _. KeepsInTexts (λ texts. PartsArePlaced texts issuer.now
         × AnswersStand texts response.now at.now
         × ValueStands (texts at.now.source) octets.now offset) asked.old.items asked.new.items) }
 {
@@ -152,7 +152,7 @@ fn ask_values<'a>(
 ) -> Result<(), AllocError>
     ensures asked { IfOk result (λ _. Adds asked.old.items asked.new.items
         (flat_map (asked_of_value_seen issuer.now response.now) (certs_left response.now.certs))) }
-    ensures places { IfOk result (λ _. Keeps (λ texts. PartsArePlaced texts issuer.now
+    ensures places { IfOk result (λ _. KeepsInTexts (λ texts. PartsArePlaced texts issuer.now
         × AreAnswersAt texts at.now (seen_response response.now)) asked.old.items asked.new.items) }
 {
     let mut certs = response.certs;
@@ -173,7 +173,7 @@ fn ask_response<'a>(
 ) -> Result<(), AllocError>
     ensures asked { IfOk result (λ _. Adds asked.old.items asked.new.items
         (asked_of_response_seen issuer.now response.now)) }
-    ensures places { IfOk result (λ _. Keeps (λ texts. PartsArePlaced texts issuer.now
+    ensures places { IfOk result (λ _. KeepsInTexts (λ texts. PartsArePlaced texts issuer.now
         × AreAnswersAt texts at.now (seen_response response.now)) asked.old.items asked.new.items) }
 {
     ask_issuer(asked, issuer, response, &at.signed)?;
@@ -189,7 +189,7 @@ pub(crate) fn ask_statement<'a>(
 ) -> Result<(), AllocError>
     ensures asked { IfOk result (λ _. Adds asked.old.items asked.new.items
         (asked_under_seen issuer.now statement.now)) }
-    ensures places { IfOk result (λ _. Keeps (λ texts. PartsArePlaced texts issuer.now
+    ensures places { IfOk result (λ _. KeepsInTexts (λ texts. PartsArePlaced texts issuer.now
         × StatementStands texts statement.now) asked.old.items asked.new.items) }
 {
     match statement {

@@ -14,7 +14,7 @@ use Rattle.store_sql.specs.declared.origin.Origin.TheVariants.{Made, Migrated}
 use Rattle.store_sql.specs.Tables.{version_1_schema, store_schema, crls_tree, entries_tree}
 use Rattle.store_sql.proofs.Laws.{IsWhole}
 use Rattle.store_adoption.specs.Texts.{all_versions, all_issuers, all_crls, all_singles, all_entries, all_unscoped_crls, all_unscoped_entries}
-use Rattle.store_adoption.specs.Tests.{IsAnswered, IsServed}
+use Rattle.store_adoption.specs.Tests.{IsTableQuery, IsSafeQuery}
 use Rattle.store_adoption.proofs.Ordered.{in_order_of_ids}
 use Rattle.store_adoption.proofs.Meaning.{shows_versions, shows_issuers, shows_crls, shows_singles, shows_entries, shows_old_versions, shows_old_issuers, shows_old_singles, shows_unscoped_crls, shows_unscoped_entries}
 
@@ -23,14 +23,14 @@ none_of [] e = refl
 none_of (x ∷ xs) e = absurd cc
 
 served : (schema : Schema) (tree : ℕ) (project : List Term) (names : List (List ℕ)) → accepts_program schema [] (in_order_of_ids tree project) [] ≡ true
-    → IsServed schema (Select (record { lets = []; body = in_order_of_ids tree project }) names)
+    → IsSafeQuery schema (Select (record { lets = []; body = in_order_of_ids tree project }) names)
 served schema tree project names typed = (typed, λ trees over. elim over [ inl none ↦ none | inr any ↦ any.4 ])
 
 answered : (schema : Schema) (text : List ℕ) (tree : ℕ) (project : List Term) (names : List (List ℕ)) (r : Result Compiled CompileError)
     → command_of r ≡ Select (record { lets = []; body = in_order_of_ids tree project }) names → reads_listing schema text ≡ false → IsPlain r → IsWhole text 0 r
-    → accepts_program schema [] (in_order_of_ids tree project) [] ≡ true → IsAnswered schema text r
+    → accepts_program schema [] (in_order_of_ids tree project) [] ≡ true → IsTableQuery schema text r
 answered schema text tree project names (Ok c) command listing plain whole typed =
-    (listing, whole.0, none_of c.names whole.1, plain.0, plain.1, subst (IsServed schema) (sym command) (served schema tree project names typed))
+    (listing, whole.0, none_of c.names whole.1, plain.0, plain.1, subst (IsSafeQuery schema) (sym command) (served schema tree project names typed))
 answered schema text tree project names (Err e) command listing plain whole typed = absurd plain
 
 -- ---- version 2
@@ -44,7 +44,7 @@ typed_versions : (origin : Origin) → accepts_program (store_schema origin) [] 
 typed_versions Made = refl
 typed_versions Migrated = refl
 
-pub answers_versions : (origin : Origin) → IsAnswered (store_schema origin) all_versions (understood (store_schema origin) all_versions)
+pub answers_versions : (origin : Origin) → IsTableQuery (store_schema origin) all_versions (understood (store_schema origin) all_versions)
 answers_versions origin = let it = shows_versions origin in answered (store_schema origin) all_versions 0 (col 1 0 ∷ col 1 2 ∷ []) _ (understood (store_schema origin) all_versions) it.0 it.1 it.2 (whole_versions origin) (typed_versions origin)
 
 whole_issuers : (origin : Origin) → IsWhole all_issuers 0 (understood (store_schema origin) all_issuers)
@@ -56,7 +56,7 @@ typed_issuers : (origin : Origin) → accepts_program (store_schema origin) [] (
 typed_issuers Made = refl
 typed_issuers Migrated = refl
 
-pub answers_issuers : (origin : Origin) → IsAnswered (store_schema origin) all_issuers (understood (store_schema origin) all_issuers)
+pub answers_issuers : (origin : Origin) → IsTableQuery (store_schema origin) all_issuers (understood (store_schema origin) all_issuers)
 answers_issuers origin = let it = shows_issuers origin in answered (store_schema origin) all_issuers 1 (col 1 0 ∷ []) _ (understood (store_schema origin) all_issuers) it.0 it.1 it.2 (whole_issuers origin) (typed_issuers origin)
 
 whole_crls : (origin : Origin) → IsWhole all_crls 0 (understood (store_schema origin) all_crls)
@@ -68,7 +68,7 @@ typed_crls : (origin : Origin) → accepts_program (store_schema origin) [] (in_
 typed_crls Made = refl
 typed_crls Migrated = refl
 
-pub answers_crls : (origin : Origin) → IsAnswered (store_schema origin) all_crls (understood (store_schema origin) all_crls)
+pub answers_crls : (origin : Origin) → IsTableQuery (store_schema origin) all_crls (understood (store_schema origin) all_crls)
 answers_crls origin = let it = shows_crls origin in answered (store_schema origin) all_crls (crls_tree origin) (col 1 1 ∷ col 1 2 ∷ col 1 3 ∷ []) _ (understood (store_schema origin) all_crls) it.0 it.1 it.2 (whole_crls origin) (typed_crls origin)
 
 whole_singles : (origin : Origin) → IsWhole all_singles 0 (understood (store_schema origin) all_singles)
@@ -80,7 +80,7 @@ typed_singles : (origin : Origin) → accepts_program (store_schema origin) [] (
 typed_singles Made = refl
 typed_singles Migrated = refl
 
-pub answers_singles : (origin : Origin) → IsAnswered (store_schema origin) all_singles (understood (store_schema origin) all_singles)
+pub answers_singles : (origin : Origin) → IsTableQuery (store_schema origin) all_singles (understood (store_schema origin) all_singles)
 answers_singles origin = let it = shows_singles origin in answered (store_schema origin) all_singles 3 (col 1 1 ∷ col 1 8 ∷ col 1 9 ∷ []) _ (understood (store_schema origin) all_singles) it.0 it.1 it.2 (whole_singles origin) (typed_singles origin)
 
 whole_entries : (origin : Origin) → IsWhole all_entries 0 (understood (store_schema origin) all_entries)
@@ -92,7 +92,7 @@ typed_entries : (origin : Origin) → accepts_program (store_schema origin) [] (
 typed_entries Made = refl
 typed_entries Migrated = refl
 
-pub answers_entries : (origin : Origin) → IsAnswered (store_schema origin) all_entries (understood (store_schema origin) all_entries)
+pub answers_entries : (origin : Origin) → IsTableQuery (store_schema origin) all_entries (understood (store_schema origin) all_entries)
 answers_entries origin = let it = shows_entries origin in answered (store_schema origin) all_entries (entries_tree origin) (col 1 0 ∷ col 1 2 ∷ col 1 3 ∷ col 1 4 ∷ col 1 5 ∷ []) _ (understood (store_schema origin) all_entries) it.0 it.1 it.2 (whole_entries origin) (typed_entries origin)
 
 -- ---- version 1
@@ -101,33 +101,33 @@ whole_old_versions : IsWhole all_versions 0 (understood version_1_schema all_ver
 unfolding understood everything
 whole_old_versions = (refl, refl)
 
-pub answers_old_versions : IsAnswered version_1_schema all_versions (understood version_1_schema all_versions)
+pub answers_old_versions : IsTableQuery version_1_schema all_versions (understood version_1_schema all_versions)
 answers_old_versions = let it = shows_old_versions in answered version_1_schema all_versions 0 (col 1 0 ∷ col 1 2 ∷ []) _ (understood version_1_schema all_versions) it.0 it.1 it.2 whole_old_versions refl
 
 whole_old_issuers : IsWhole all_issuers 0 (understood version_1_schema all_issuers)
 unfolding understood everything
 whole_old_issuers = (refl, refl)
 
-pub answers_old_issuers : IsAnswered version_1_schema all_issuers (understood version_1_schema all_issuers)
+pub answers_old_issuers : IsTableQuery version_1_schema all_issuers (understood version_1_schema all_issuers)
 answers_old_issuers = let it = shows_old_issuers in answered version_1_schema all_issuers 1 (col 1 0 ∷ []) _ (understood version_1_schema all_issuers) it.0 it.1 it.2 whole_old_issuers refl
 
 whole_old_singles : IsWhole all_singles 0 (understood version_1_schema all_singles)
 unfolding understood everything
 whole_old_singles = (refl, refl)
 
-pub answers_old_singles : IsAnswered version_1_schema all_singles (understood version_1_schema all_singles)
+pub answers_old_singles : IsTableQuery version_1_schema all_singles (understood version_1_schema all_singles)
 answers_old_singles = let it = shows_old_singles in answered version_1_schema all_singles 3 (col 1 1 ∷ col 1 8 ∷ col 1 9 ∷ []) _ (understood version_1_schema all_singles) it.0 it.1 it.2 whole_old_singles refl
 
 whole_unscoped_crls : IsWhole all_unscoped_crls 0 (understood version_1_schema all_unscoped_crls)
 unfolding understood everything
 whole_unscoped_crls = (refl, refl)
 
-pub answers_unscoped_crls : IsAnswered version_1_schema all_unscoped_crls (understood version_1_schema all_unscoped_crls)
+pub answers_unscoped_crls : IsTableQuery version_1_schema all_unscoped_crls (understood version_1_schema all_unscoped_crls)
 answers_unscoped_crls = let it = shows_unscoped_crls in answered version_1_schema all_unscoped_crls 5 (col 1 0 ∷ col 1 2 ∷ col 1 3 ∷ col 1 4 ∷ []) _ (understood version_1_schema all_unscoped_crls) it.0 it.1 it.2 whole_unscoped_crls refl
 
 whole_unscoped_entries : IsWhole all_unscoped_entries 0 (understood version_1_schema all_unscoped_entries)
 unfolding understood everything
 whole_unscoped_entries = (refl, refl)
 
-pub answers_unscoped_entries : IsAnswered version_1_schema all_unscoped_entries (understood version_1_schema all_unscoped_entries)
+pub answers_unscoped_entries : IsTableQuery version_1_schema all_unscoped_entries (understood version_1_schema all_unscoped_entries)
 answers_unscoped_entries = let it = shows_unscoped_entries in answered version_1_schema all_unscoped_entries 6 (col 1 1 ∷ col 1 2 ∷ col 1 3 ∷ []) _ (understood version_1_schema all_unscoped_entries) it.0 it.1 it.2 whole_unscoped_entries refl

@@ -21,7 +21,7 @@ use Rattle.store_sql.specs.declared.fault.StoreFault.TheVariants.{Store}
 use Rattle.store_sql.specs.Cause.{MayRefuse}
 use Rattle.store_sql.specs.Fault.{fault_from}
 use Rattle.store_sql.proofs.Laws.{IsWhole, not_run_caused}
-use Rattle.store_adoption.specs.Tests.{AllPass, IsAnswered, IsServed, TestFails}
+use Rattle.store_adoption.specs.Tests.{AllPass, IsTableQuery, IsSafeQuery, TestFails}
 
 pub unchanged_itself : (s : State) → IsTrue s.is_open → IsUnchanged s s
 unchanged_itself s live = (record { was_open = live; is_open = live; now_is = refl; committed_is = refl; mode = refl }, record { changes = refl; last_rowid = refl }, refl)
@@ -83,25 +83,25 @@ refused text old new rows row Formed fault same begins why = record {
 
 -- ---- why the text is refused
 
-served_caused : (old new : State) (db : Database) (command : Command) (error : Error) → IsServed db.schema command → RefusesToRead old.step_limit command db [] error → MayRefuse old new
+served_caused : (old new : State) (db : Database) (command : Command) (error : Error) → IsSafeQuery db.schema command → RefusesToRead old.step_limit command db [] error → MayRefuse old new
 served_caused old new db (Select q names) error served (inl wrong) = absurd (true≢false (sym served.0 ∙ wrong.1))
 served_caused old new db (Select q names) error served (inr (inl over)) = absurd (served.1 db.trees over.1)
 served_caused old new db (Select q names) error served (inr (inr limited)) = inr (inr limited.1)
 served_caused old new db _ error served refused = absurd served
 
-pub asked_caused : (old new : State) (text : List ℕ) (error : Error) → IsAnswered old.now.schema text (understood old.now.schema text) → FailsToQuery text [] old new error → fault_from error ≡ Store → MayRefuse old new
+pub asked_caused : (old new : State) (text : List ℕ) (error : Error) → IsTableQuery old.now.schema text (understood old.now.schema text) → FailsToQuery text [] old new error → fault_from error ≡ Store → MayRefuse old new
 unfolding FailsToQuery
 asked_caused old new text error answered (inl refused) is = not_run_caused old new old.now.schema text [] error refl (plain _ answered) (whole _ answered) refused is
   where
-    plain : (r : Result Compiled CompileError) → IsAnswered old.now.schema text r → IsPlain r
+    plain : (r : Result Compiled CompileError) → IsTableQuery old.now.schema text r → IsPlain r
     plain (Ok c) it = (it.3, it.4)
     plain (Err e) it = it
 
-    whole : (r : Result Compiled CompileError) → IsAnswered old.now.schema text r → IsWhole text 0 r
+    whole : (r : Result Compiled CompileError) → IsTableQuery old.now.schema text r → IsWhole text 0 r
     whole (Ok c) it = (it.1, sym (ap length it.2))
     whole (Err e) it = it
 asked_caused old new text error answered (inr ran) is =
-    let it = subst (IsAnswered old.now.schema text) ran.1.is answered in
+    let it = subst (IsTableQuery old.now.schema text) ran.1.is answered in
     let shown : FailsToShow old new text ran.0 [] error None = rw (it.3, it.4) at ran.2 in
     let db : shown.0 ≡ old.now = subst (λ b. IsSourceOf b old.now shown.0) it.0 shown.1 in
-    served_caused old new shown.0 ran.0.command error (subst (λ (d : Database). IsServed d.schema ran.0.command) (sym db) it.5) shown.2
+    served_caused old new shown.0 ran.0.command error (subst (λ (d : Database). IsSafeQuery d.schema ran.0.command) (sym db) it.5) shown.2

@@ -46,15 +46,15 @@ TestsOn g old new text Passed AreFormed result = HasCleanDisk (state g new) → 
 -- ---- why a text is refused
 
 -- the query shows each type of value where it fits, and no sum in it overflows
-abbrev pub IsServed : Schema → Command → Type 0
-IsServed schema (Select q names) = (accepts_program schema (lets_of q) q.body [] ≡ true) × ((trees : Trees) → ¬ ProgramOverflows trees [] [] (lets_of q) q.body)
-IsServed schema _ = ⊥
+abbrev pub IsSafeQuery : Schema → Command → Type 0
+IsSafeQuery schema (Select q names) = (accepts_program schema (lets_of q) q.body [] ≡ true) × ((trees : Trees) → ¬ ProgramOverflows trees [] [] (lets_of q) q.body)
+IsSafeQuery schema _ = ⊥
 
 -- the text is one such query of the tables, without parameters
-abbrev pub IsAnswered : Schema → List ℕ → Result Compiled CompileError → Type 0
-IsAnswered schema text (Ok c) =
-    (reads_listing schema text ≡ false) × (c.tail ≡ length text) × (c.names ≡ []) × (c.returning ≡ None) × (c.formats ≡ []) × IsServed schema c.command
-IsAnswered schema text (Err e) = ⊥
+abbrev pub IsTableQuery : Schema → List ℕ → Result Compiled CompileError → Type 0
+IsTableQuery schema text (Ok c) =
+    (reads_listing schema text ≡ false) × (c.tail ≡ length text) × (c.names ≡ []) × (c.returning ≡ None) × (c.formats ≡ []) × IsSafeQuery schema c.command
+IsTableQuery schema text (Err e) = ⊥
 
 -- the database may refuse, or the text shows as many rows as are counted
 abbrev pub IsStopped : State → State → List ℕ → Type 0
@@ -62,7 +62,7 @@ IsStopped old new text = MayRefuse old new ⊎ (IsUnchanged old new × (rows : L
 
 abbrev pub TestsForCause : {S A : Type 0} → Ghosts S → Held S → Held S → List ℕ → Result A StoreFault → Type 0
 TestsForCause g old new text result =
-    HasCleanDisk (state g new) → IsAnswered (state g old).now.schema text (understood (state g old).now.schema text) →
+    HasCleanDisk (state g new) → IsTableQuery (state g old).now.schema text (understood (state g old).now.schema text) →
     IfErr result (λ fault. fault ≡ Store → IsStopped (state g old) (state g new) text)
 
 -- ---- one row after the other

@@ -1,4 +1,5 @@
-//! Cells of the rows that a text shows.
+//! Cells of the rows that a text shows. `below`, `blob` and `whole` read what `natural`, `octets` and `integer` of `store_rows` read; their
+//! clauses also say that a cell is refused only if it holds no such value.
 
 ghost use Rattle.std.specs.Prelude.{IfOk, OnOk, ◌≢◌, Err};
 ghost use Rattle.sqlite.specs.Order.{column};

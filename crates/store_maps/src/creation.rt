@@ -8,7 +8,7 @@ use sqlite::{Alter, Transaction};
 use store_rows::make_tables;
 use store_sql::StoreFault;
 
-/// Makes a store in an empty database, which holds nothing.
+/// Makes a store in an empty database, which holds nothing. The rows are those of `make_tables`; the clause here says what they hold.
 pub fn make<S: Alter>(tx: &mut Transaction<'_, S>) -> Result<(), StoreFault>
     requires inside { IsInTransaction S.Store tx.old }
     ensures same_reference { KeepsReference tx.old tx.new }

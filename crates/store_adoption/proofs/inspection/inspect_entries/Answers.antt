@@ -7,7 +7,7 @@ use Rattle.store_sql.specs.Tables.{store_schema, entries_tree}
 use Rattle.store_adoption.specs.Texts.{all_entries}
 use Rattle.store_adoption.specs.Cells.{IsEntryCells, AreChained, entry_in}
 use Rattle.store_adoption.specs.Inspects.{entry_cells}
-use Rattle.store_adoption.specs.Tests.{IsAnswered}
+use Rattle.store_adoption.specs.Tests.{IsTableQuery}
 use Rattle.store_adoption.proofs.Answered.{answers_entries}
 use Rattle.store_adoption.proofs.Meaning.{shows_entries}
 use Rattle.store_adoption.proofs.Inspecting.{checked, stopped}
@@ -41,4 +41,4 @@ returns-clause-caused g c clean e ordered =
     let ours = c.requires.ours (omega (arith, step, clean)) in
     let it = shows_entries c.args.origin in
     stopped (store_schema c.args.origin) all_entries (entries_tree c.args.origin) _ _ entry_cells it.0 it.1 it.2 (λ r. refl) old (state g.S.Store c.test_rows.new.conn) ours (in_order c.args.origin old.now ours ordered).entries.0
-    (c.in-Err.ensures.caused clean (subst (λ s. IsAnswered s all_entries (understood s all_entries)) (sym ours) (answers_entries c.args.origin)) e)
+    (c.in-Err.ensures.caused clean (subst (λ s. IsTableQuery s all_entries (understood s all_entries)) (sym ours) (answers_entries c.args.origin)) e)

@@ -10,7 +10,7 @@ use Rattle.store_sql.specs.declared.fault.StoreFault.TheVariants.{Store}
 use Rattle.sqlite.specs.Effect.{Database}
 use Rattle.sqlite.specs.Listing.{understood}
 use Rattle.store_sql.proofs.Laws.{later_refuses}
-use Rattle.store_adoption.specs.Tests.{AllPass, IsAnswered, IsStopped, TestFails}
+use Rattle.store_adoption.specs.Tests.{AllPass, IsTableQuery, IsStopped, TestFails}
 use Rattle.store_sql.specs.declared.fault.StoreFault.{StoreFault}
 use Rattle.store_adoption.proofs.Testing.{asked_caused, advance_keeps, all_pass, gave_up, query_keeps, refused, shows_nothing}
 use Rattle.store_adoption.proofs.row_test.test_rows.Goals as goal
@@ -127,12 +127,12 @@ returns-in-Err-advance-clause-caused g c =
     let new = state g.S.Store c.advance.new.self.conn.now in
     let same : c.advance.new.self.conn.now ≡ c.conn-in-Err-advance-1.given.0 = search rules in
     let step = c.advance.ensures.survives.clean in
-    subst (λ h. HasCleanDisk (state g.S.Store h) → IsAnswered old.now.schema c.args.sql.now (understood old.now.schema c.args.sql.now) → c.fault_of-in-Err-advance.result ≡ Store → IsStopped old (state g.S.Store h) c.args.sql.now) same
+    subst (λ h. HasCleanDisk (state g.S.Store h) → IsTableQuery old.now.schema c.args.sql.now (understood old.now.schema c.args.sql.now) → c.fault_of-in-Err-advance.result ≡ Store → IsStopped old (state g.S.Store h) c.args.sql.now) same
     (λ clean answered e.
     let before : HasCleanDisk mid = omega (arith, step, clean) in
     let was = c.each.invariant.3 before in
     let failed = c.in-Err-advance.ensures.err clean c.args.sql.now [] was.0 was.1 in
-    let still = subst (λ (d : Database). IsAnswered d.schema c.args.sql.now (understood d.schema c.args.sql.now)) (sym was.2.0.now_is) answered in
+    let still = subst (λ (d : Database). IsTableQuery d.schema c.args.sql.now (understood d.schema c.args.sql.now)) (sym was.2.0.now_is) answered in
     inl (later_refuses old mid new (λ _. ⊥) (λ _. ⊥) c.each.invariant.2 c.advance.ensures.survives before
     (asked_caused mid new c.args.sql.now c.in-Err-advance.error still failed (sym c.fault_of-in-Err-advance.ensures.from ∙ e))))
 
@@ -141,6 +141,6 @@ returns-clause-caused g c =
     let old = state g.S.Store c.args.conn.now in
     let mid = state g.S.Store c.each.rows.conn.now in
     let same : c.each.rows.conn.now ≡ c.conn-2-1.given.0 = search rules in
-    subst (λ h. HasCleanDisk (state g.S.Store h) → IsAnswered old.now.schema c.args.sql.now (understood old.now.schema c.args.sql.now) → Store ≡ Store → IsStopped old (state g.S.Store h) c.args.sql.now) same
+    subst (λ h. HasCleanDisk (state g.S.Store h) → IsTableQuery old.now.schema c.args.sql.now (understood old.now.schema c.args.sql.now) → Store ≡ Store → IsStopped old (state g.S.Store h) c.args.sql.now) same
     (λ clean answered e. let was = c.each.invariant.3 clean in
     inr (was.2, was.0, given_begin g.S.Store c.args.sql.now [] c.each.rows.conn.now was.0 was.1, omega (arith, was.4, c.each-test.false)))

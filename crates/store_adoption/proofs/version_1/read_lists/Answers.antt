@@ -7,7 +7,7 @@ use Rattle.store_sql.specs.Tables.{version_1_schema}
 use Rattle.store_adoption.specs.Texts.{all_unscoped_crls}
 use Rattle.store_adoption.specs.Cells.{IsUnscopedCrlCells}
 use Rattle.store_adoption.specs.Inspects.{unscoped_crl_cells}
-use Rattle.store_adoption.specs.Tests.{IsAnswered}
+use Rattle.store_adoption.specs.Tests.{IsTableQuery}
 use Rattle.store_adoption.proofs.Answered.{answers_unscoped_crls}
 use Rattle.store_adoption.proofs.Meaning.{shows_unscoped_crls}
 use Rattle.store_adoption.proofs.Inspecting.{checked, stopped}
@@ -41,4 +41,4 @@ returns-in-Err-clause-caused g c clean e ordered =
     let ours = c.requires.ours (omega (arith, step, clean)) in
     let it = shows_unscoped_crls in
     stopped version_1_schema all_unscoped_crls 5 _ _ unscoped_crl_cells it.0 it.1 it.2 (λ r. refl) old (state g.S.Store c.test_rows.new.conn) ours (in_order_before old.now ours ordered).crls.0
-    (c.in-Err.ensures.caused clean (subst (λ s. IsAnswered s all_unscoped_crls (understood s all_unscoped_crls)) (sym ours) answers_unscoped_crls) e)
+    (c.in-Err.ensures.caused clean (subst (λ s. IsTableQuery s all_unscoped_crls (understood s all_unscoped_crls)) (sym ours) answers_unscoped_crls) e)

@@ -8,7 +8,7 @@ use Rattle.store_sql.specs.Tables.{version_1_schema}
 use Rattle.store_adoption.specs.Texts.{all_versions}
 use Rattle.store_adoption.specs.Cells.{IsVersionCells}
 use Rattle.store_adoption.specs.Inspects.{version_cells}
-use Rattle.store_adoption.specs.Tests.{IsAnswered}
+use Rattle.store_adoption.specs.Tests.{IsTableQuery}
 use Rattle.store_adoption.proofs.Answered.{answers_old_versions}
 use Rattle.store_adoption.proofs.Meaning.{shows_old_versions}
 use Rattle.store_adoption.proofs.Inspecting.{checked, stopped}
@@ -51,4 +51,4 @@ returns-in-Err-clause-caused g c clean e ordered =
     let ours = c.requires.ours (omega (arith, step, clean)) in
     let it = shows_old_versions in
     stopped version_1_schema all_versions 0 _ _ version_cells it.0 it.1 it.2 (λ r. refl) old (state g.S.Store c.test_rows.new.conn) ours (in_order_before old.now ours ordered).versions.0
-    (c.in-Err.ensures.caused clean (subst (λ s. IsAnswered s all_versions (understood s all_versions)) (sym ours) answers_old_versions) e)
+    (c.in-Err.ensures.caused clean (subst (λ s. IsTableQuery s all_versions (understood s all_versions)) (sym ours) answers_old_versions) e)
