@@ -1,5 +1,5 @@
--- Of things in order by their keys, none of which has a key that begins with that of the one before it, the last that does not stand behind a list is the
--- one with whose key the list may begin.
+-- Of things in order by their keys, none of which has a key that begins with that of the one before it, the last that does not stand
+-- behind a list is the one with whose key the list may begin.
 use Rattle.std.proofs.Common.{◌≡◌, ◌+◌, ◌-◌, ◌<◌, ◌≤◌, ℕ, List, length, Bool, true, false, not, refl, ap, sym, ◌∙◌, inl, inr, arith, get_or}
 use Rattle.std.specs.List.{list_any}
 use Rattle.std.specs.List.Sorted.{IsSortedBy, IsPartitionedBy, IsPartitionPoint}

@@ -103,7 +103,7 @@ pub record AreKeysOf (list : List Subtree) (keys : List (Vec ℕ)) : Type 0 wher
 
 -- a few are gone over
 abbrev pub AreKeysIfMany : List Subtree → List (Vec ℕ) → Type 0
-AreKeysIfMany list keys = 32 < length list → AreKeysOf list keys
+AreKeysIfMany list keys = 12 < length list → AreKeysOf list keys
 
 -- what is kept of a list: those that are searched for bases that have an order, and for others, and the keys of those
 pub record IsIndexed (all tops rest : List Subtree) (keys : List (Vec ℕ)) (longest : ℕ) : Type 0 where

@@ -14,11 +14,8 @@ use std::marker::Model;
 /// The most subtrees that are gone over one by one.
 const SHORT: usize = 12;
 
-/// The most subtrees without an order that are gone over one by one: the key of a name costs as much as some comparisons.
-const FEW: usize = 32;
-
-/// Subtrees in order, if they are many. Whether a name or a subtree of DNS names or of addresses lies in one of them is found by halving, and
-/// so for directory names by their keys, if these are many.
+/// Subtrees in order, if they are many. Whether a name or a subtree lies in one of them is found by halving, for directory names by their
+/// keys, if these are many.
 #[derive(Drop)]
 pub struct Index<'a> {
     all: Vec<Subtree<'a>>,
@@ -153,7 +150,7 @@ fn keep_outermost(keys: &mut Vec<Vec<u8>>)
 fn select_keys(alloc: Global, list: &[Subtree<'_>]) -> Result<Vec<Vec<u8>>, AllocError>
     ensures { IfOk result (λ keys. AreKeysIfMany list.now keys.items) }
 {
-    if list.len() <= FEW {
+    if list.len() <= SHORT {
         return Ok(Vec::new(alloc));
     }
     let mut keys = keys_of(alloc, list)?;
@@ -226,7 +223,7 @@ fn is_in_rest(alloc: Global, rest: &[Subtree<'_>], keys: &[Vec<u8>], base: &Subt
     requires { AreKeysIfMany rest.now keys.now }
     ensures { result ≡ is_in_one rest.now (subtree_base base.now) }
 {
-    if rest.len() <= FEW {
+    if rest.len() <= SHORT {
         return is_in_one(rest, base);
     }
     match key_of(alloc, base) {

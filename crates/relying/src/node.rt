@@ -10,6 +10,7 @@ ghost use Rattle.relying.specs.View.{stored};
 ghost use Rattle.relying_verdicts.specs.View.{seen_query};
 ghost use Rattle.store.specs.Opens.{FailsToReopen, ReopensForCause};
 ghost use Rattle.store_taking.specs.Delivery.{AllOrNothing, PutsFacts};
+ghost use Rattle.store_taking.specs.Room.{PutsForCause};
 
 use crate::delivering::read_statement;
 use crate::fault::DeliverFault;
@@ -86,6 +87,7 @@ impl<V: Verifier + Drop, D: Disk + Drop> Node<V, D> {
     pub fn take(&mut self, facts: &Facts<'_>) -> Result<Counts, StoreFault>
         ensures verifier { self.new.verifier ≡ self.old.verifier }
         ensures takes { PutsFacts (stored self.old) (stored self.new) facts.now result }
+        ensures caused { PutsForCause (stored self.old) (stored self.new) facts.now result }
         ensures survives { AllOrNothing (stored self.old) (stored self.new) facts.now }
     {
         self.store.put(facts)

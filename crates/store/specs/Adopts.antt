@@ -19,6 +19,7 @@ use Rattle.store_maps.specs.Held.{IsStoreOf, AreTreesOf}
 use Rattle.store_maps.specs.LooksUp.{IsCausedOverStore}
 use Rattle.sqlite_trees.specs.Tree.{Trees}
 use Rattle.store_taking.specs.Delivery.{PutsFacts, AllOrNothing}
+use Rattle.store_taking.specs.Room.{PutsForCause}
 use Rattle.store_adoption.specs.Creates.{IsCreated, MayLeaveEmptyStore}
 use Rattle.store_adoption.specs.Inspects.{HasTooMany, IsStore, TablesAreInOrder, LacksVersion1, LacksVersion2}
 use Rattle.store_adoption.specs.Version1.{IsVersion1Of, IsVersion1}
@@ -157,6 +158,10 @@ module _ {D : Type 0} {g : Ghosts D} (old new : Held (FileStore D g)) where
 
   abbrev pub PutsOn : Facts → Result Counts StoreFault → Type 0
   PutsOn facts result = PutsFacts (file_state old) (file_state new) facts result
+
+  -- the fault `Store` has a cause, if the facts keep within the limits and the store has room for them
+  abbrev pub PutsForCauseOn : {A : Type 0} → Facts → Result A StoreFault → Type 0
+  PutsForCauseOn facts result = PutsForCause (file_state old) (file_state new) facts result
 
   abbrev pub AllOrNothingOn : Facts → Type 0
   AllOrNothingOn facts = AllOrNothing (file_state old) (file_state new) facts

@@ -1,10 +1,10 @@
 -- Why no store is opened or made at a path, or opened again, and what is left then.
-use Rattle.std.specs.Prelude.{◌≡◌, ◌≢◌, ⊤, IsTrue}
+use Rattle.std.specs.Prelude.{◌≡◌, ◌≢◌, IsTrue}
 use Rattle.sqlite_disk.specs.declared.Disk.{Ghosts}
 use Rattle.sqlite_disk.specs.declared.Files.{Files}
 use Rattle.sqlite_store.specs.declared.store.FileStore.{FileStore}
 use Rattle.sqlite.specs.Held.{Held}
-use Rattle.sqlite.specs.Files.{FailsToClose, FailsToOpenFiles, IsCleanLeft, IsClosed, LeavesFiles, file_state}
+use Rattle.sqlite.specs.Files.{FailsToClose, FailsToOpenFiles, Finds, IsCleanLeft, IsClosed, IsOpened, LeavesFiles, file_state}
 use Rattle.sqlite.specs.State.{HasCleanDisk}
 use Rattle.sqlite.specs.declared.error.Error.{Error}
 use Rattle.sqlite_store.specs.FileStore.{view}
@@ -20,7 +20,7 @@ use Rattle.store.specs.declared.refusal.ReopenFault.{ReopenFault}
 use Rattle.store.specs.declared.refusal.ReopenFault.TheVariants.{Close, Open, Adopt}
 use Rattle.store.specs.declared.refusal.OpenFault.{OpenFault}
 use Rattle.store.specs.declared.refusal.OpenFault.TheVariants.{Unconnected, Refused}
-use Rattle.store.specs.Adopts.{CopiesTo, IsNoStore}
+use Rattle.store.specs.Adopts.{AdoptIsCaused, CopiesTo, IsNoStore}
 
 -- ---- at a path
 
@@ -68,11 +68,21 @@ ClosesForCause old last fault = IsClean (view last) → (error : Error) × (faul
 abbrev pub OpensForCause : {D : Type 0} {g : Ghosts D} → Files D → Leftover D g → StoreFault → Type 0
 OpensForCause files left fault = IsCleanLeft left → (error : Error) × (fault ≡ fault_from error) × FailsToOpenFiles files left error
 
--- of a store that is closed and not opened again
+-- why files that were opened again are not taken for a store: over the connection that was opened on what the close gave back, the fault
+-- has a cause
+pub record AdoptsAgainForCause {D : Type 0} {g : Ghosts D} (old : Held (FileStore D g)) (refused : refusal.Refused D g) : Type 0 where
+  pub files : Files D
+  pub again : Held (FileStore D g)
+  pub copied : CopiesTo old files
+  pub found : Finds files again
+  pub opened : IsOpened again
+  pub caused : AdoptIsCaused (file_state again) (file_state refused.conn) refused.fault
+
+-- of a store that is closed, and not opened or taken for one again
 abbrev pub ReopensForCause : {D : Type 0} {g : Ghosts D} → Held (FileStore D g) → ReopenFault D g → Type 0
 ReopensForCause old (Close fault left) = ClosesForCause old left fault
 ReopensForCause {D} old (Open fault left) = (files : Files D) × CopiesTo old files × OpensForCause files left fault
-ReopensForCause old (Adopt refused) = ⊤
+ReopensForCause old (Adopt refused) = HasCleanDisk (file_state refused.conn) → AdoptsAgainForCause old refused
 
 -- What is left of a store that is not taken for one again.
 abbrev pub FailsToReopen : {D : Type 0} {g : Ghosts D} → Held (FileStore D g) → ReopenFault D g → Type 0

@@ -5,7 +5,7 @@ ghost use Rattle.sqlite.specs.Files.{IsClosed, file_state};
 ghost use Rattle.statements_facts.specs.Fact.{issuer_of};
 ghost use Rattle.store_sql.specs.Statements.{CommitsNothing, IsDurable};
 ghost use Rattle.store_adoption.specs.Creates.{IsSettled, HasTables};
-ghost use Rattle.store.specs.Adopts.{CausedOn, IsRefusedForCause, Reopens, HasOtherTables, MayLeaveVersion2, IsCreatedOn, IsEmptyStoreOn, IsNotAdoptedOn, IsNotCreatedOn, IsOpenOn, MayLeaveEmpty, WasStoreOn, KeepsStoreOn, MigratesStoreOn, IsStoreOn, PutsOn, AllOrNothingOn, FindsHeldOn, AreUsable, CopiesTo, RestartsOn};
+ghost use Rattle.store.specs.Adopts.{CausedOn, IsRefusedForCause, Reopens, HasOtherTables, MayLeaveVersion2, IsCreatedOn, IsEmptyStoreOn, IsNotAdoptedOn, IsNotCreatedOn, IsOpenOn, MayLeaveEmpty, WasStoreOn, KeepsStoreOn, MigratesStoreOn, IsStoreOn, PutsOn, PutsForCauseOn, AllOrNothingOn, FindsHeldOn, AreUsable, CopiesTo, RestartsOn};
 ghost use Rattle.store.specs.Opens.{ClosesForCause, FailsToReopen, ReopensForCause, reopen_fault};
 ghost use Rattle.store_migration.specs.Migrates.{MayLeaveMigrated};
 ghost use Rattle.store_maps.specs.Held.{IsCrlHeld, IsOcspHeld};
@@ -104,6 +104,7 @@ impl<D: Disk + Drop> Store<D> {
     /// in n log n; one of the same number as the held list is compared by a look-up for each entry.
     pub fn put(&mut self, facts: &Facts<'_>) -> Result<Counts, StoreFault>
         ensures puts { PutsOn self.old.conn self.new.conn facts.now result }
+        ensures caused { PutsForCauseOn self.old.conn self.new.conn facts.now result }
         ensures survives { AllOrNothingOn self.old.conn self.new.conn facts.now }
     {
         put(&mut self.conn, facts)

@@ -24,7 +24,7 @@ fn organization(alloc: Global, number: u8) -> Result<Vec<u8>, Fail> {
 fn bases(alloc: Global) -> Result<Vec<Vec<u8>>, Fail> {
     let mut list = Vec::new(alloc);
     for i in 0..COUNT {
-        list.push(organization(alloc, i * 7 % COUNT)?)?;
+        list.push(organization(alloc, i * 3 % COUNT)?)?;
     }
     list.push(name_of(alloc, &[SWEDEN, (2, ORGANIZATION, UTF8, b"ORG 07"), ANN])?)?;
     Ok(list)
@@ -162,7 +162,7 @@ fn is_found(index: &Index<'_>, octets: &[u8]) -> bool {
 fn short_names(alloc: Global) -> Result<Vec<Vec<u8>>, AllocError> {
     let mut octets = Vec::new(alloc);
     for i in 0..COUNT {
-        octets.push(short_name(alloc, i * 7 % COUNT)?)?;
+        octets.push(short_name(alloc, i * 3 % COUNT)?)?;
     }
     Ok(octets)
 }

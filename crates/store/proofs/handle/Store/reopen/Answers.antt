@@ -1,3 +1,6 @@
+use Rattle.std.proofs.Common.{arith}
+use Rattle.sqlite.specs.Files.{file_state}
+use Rattle.sqlite.specs.State.{HasCleanDisk}
 use Rattle.store.proofs.Reopened.{restarts, still_holds}
 use Rattle.store.proofs.handle.Store.reopen.Goals as goal
 
@@ -10,3 +13,15 @@ pub returns-in-Err-adopt-clause-fails : goal.returns-in-Err-adopt-clause-fails
 returns-in-Err-adopt-clause-fails g c =
     still_holds c.args.self.conn c.in-Ok-open_again.conn c.adopt.new.conn c.in-Ok.files c.in-Ok.ensures.copied c.in-Ok.ensures.reopens c.in-Ok-open_again.ensures.found
     c.in-Ok-open_again.ensures.opened c.adopt.ensures.survives c.in-Err-adopt.fault c.adopt.ensures.settled.0 c.adopt.ensures.settled.1 c.in-Err-adopt.ensures.adopts
+
+pub returns-in-Err-adopt-clause-cause : goal.returns-in-Err-adopt-clause-cause
+returns-in-Err-adopt-clause-cause g c clean =
+    let before : HasCleanDisk (file_state c.in-Ok-open_again.conn) = let step = c.adopt.ensures.survives.clean in omega (arith, step, clean) in
+    record {
+      files = c.in-Ok.files;
+      again = c.in-Ok-open_again.conn;
+      copied = c.in-Ok.ensures.copied;
+      found = c.in-Ok-open_again.ensures.found before;
+      opened = c.in-Ok-open_again.ensures.opened before;
+      caused = c.in-Err-adopt.ensures.caused clean;
+    }
