@@ -1,5 +1,5 @@
 -- What a party answered, by what was seen of its store.
-use Rattle.std.proofs.Common.{ℕ, List, Ok, Err, Result, IfOk}
+use Rattle.std.proofs.Common.{◌≡◌, subst, ℕ, List, Ok, Err, Result, IfOk}
 use Rattle.sqlite.specs.State.{State}
 use Rattle.statements_facts.specs.Statement.{Holdings}
 use Rattle.store_maps.specs.Held.{IsStoreOf}
@@ -13,9 +13,15 @@ use Rattle.relying_agreement.specs.declared.verdict.Verdict.{Verdict}
 use Rattle.statements_facts.specs.declared.counts.Counts.{Counts}
 use Rattle.path.specs.Query.{Query, Accepts}
 use Rattle.relying.specs.Asking.{Looks, LooksAtBoth}
-use Rattle.cli.specs.Standing.{IsFound, IsFoundOrMade, Leaving, Seen, Standing, seen_of}
+use Rattle.sqlite_disk.specs.declared.Disk.{Ghosts}
+use Rattle.store.specs.declared.handle.Store.{Store}
+use Rattle.cli.specs.Standing.{IsFound, IsFoundOrMade, Leaving, Seen, Standing, seen_in, seen_of}
 use Rattle.cli.specs.Delivered.{HasTaken, IsTakenAt}
 use Rattle.cli.specs.Checked.{HasCompared, HasChecked, IsComparedBy, IsCheckedBy}
+
+-- a store that is handed on is left as it was
+pub left_as : {D : Type 0} {g : Ghosts D} (leaves : Seen → Type 0) (given kept : Store D g) → given ≡ kept → leaves (seen_in given) → leaves (seen_in kept)
+left_as {D} {g} leaves given kept same left = subst (λ (store : Store D g). leaves (seen_in store)) same left
 
 -- a verdict
 pub checked : (leaves : Seen → Type 0) (accepts : Accepts) (query : Query) (old new : State) (verdict : Verdict) → leaves (seen_of new)

@@ -20,9 +20,10 @@ use cli_words::Question;
 use path_verifiers::{ListVerifier, Verifier};
 use relying::{Fault, Node, Query};
 use relying_agreement::Verdict;
-use sqlite_std_file::File;
+use sqlite_disk::Disk;
 use std::alloc::Global;
 use std::io::Write;
+use store::Store;
 
 // What a party's fault is for a run.
 pub(crate) fn not_checked<'a>(fault: Fault) -> Failure<'a>
@@ -35,11 +36,11 @@ pub(crate) fn not_checked<'a>(fault: Fault) -> Failure<'a>
 }
 
 // The verdict of a party, whose store is closed then.
-fn check_at<'a, S: Stores, V: Verifier + Drop>(
+fn check_at<'a, D: Disk + Drop, S: Stores<Store<D>>, V: Verifier + Drop>(
     source: &S,
     alloc: Global,
     path: &str,
-    node: Node<V, File>,
+    node: Node<V, D>,
     query: &Query<'_>,
 ) -> Result<Verdict, Failure<'a>>
     ensures checked { IfOk result
@@ -58,7 +59,7 @@ fn check_at<'a, S: Stores, V: Verifier + Drop>(
 }
 
 // The verdict on the path by what the store holds.
-fn check_by<'a, S: Stores>(
+fn check_by<'a, D: Disk + Drop, S: Stores<Store<D>>>(
     source: &S,
     alloc: Global,
     path: &'a str,
@@ -76,7 +77,7 @@ fn check_by<'a, S: Stores>(
 }
 
 // The same of what the operands ask.
-fn check_asked<'a, S: Stores>(
+fn check_asked<'a, D: Disk + Drop, S: Stores<Store<D>>>(
     source: &S,
     alloc: Global,
     path: &'a str,
@@ -92,7 +93,7 @@ fn check_asked<'a, S: Stores>(
 }
 
 // The verdict that the operands ask for.
-fn check_path<'a, S: Source + Stores>(
+fn check_path<'a, D: Disk + Drop, S: Source + Stores<Store<D>>>(
     source: &S,
     alloc: Global,
     question: &Question<'a>,
@@ -107,7 +108,7 @@ fn check_path<'a, S: Source + Stores>(
 }
 
 /// Writes the verdict on the path that the operands name, by the statements that the store holds (RFC 5280, 6; RFC 6960, 3.2).
-pub fn check<'a, S: Source + Stores, O: Write>(
+pub fn check<'a, D: Disk + Drop, S: Source + Stores<Store<D>>, O: Write>(
     source: &S,
     alloc: Global,
     question: &Question<'a>,

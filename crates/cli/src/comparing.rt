@@ -20,7 +20,7 @@ use cli_words::Question;
 use path_verifiers::{ListVerifier, Verifier};
 use relying::{Node, Query};
 use relying_agreement::Comparison;
-use sqlite_std_file::File;
+use sqlite_disk::Disk;
 use std::alloc::Global;
 use std::io::Write;
 use store::Store;
@@ -33,13 +33,13 @@ struct Pair<'a> {
 }
 
 // The comparison of two parties that share a verifier, whose stores are closed then.
-fn compare_at<'a, S: Stores>(
+fn compare_at<'a, D: Disk + Drop, S: Stores<Store<D>>>(
     source: &S,
     alloc: Global,
     paths: &Pair<'_>,
     verifier: &ListVerifier,
-    store: Store<File>,
-    beside: Store<File>,
+    store: Store<D>,
+    beside: Store<D>,
     query: &Query<'_>,
 ) -> Result<Comparison, Failure<'a>>
     ensures compared { IfOk result (HasCompared (S.leaves source.now paths.now.path.now)
@@ -61,7 +61,7 @@ fn compare_at<'a, S: Stores>(
 }
 
 // The comparison of the verdicts on the path by what the two stores hold, of which the second is looked for when the first is open.
-fn compare_by<'a, S: Stores>(
+fn compare_by<'a, D: Disk + Drop, S: Stores<Store<D>>>(
     source: &S,
     alloc: Global,
     paths: &Pair<'a>,
@@ -79,7 +79,7 @@ fn compare_by<'a, S: Stores>(
 }
 
 // The same of what the operands ask.
-fn compare_asked<'a, S: Stores>(
+fn compare_asked<'a, D: Disk + Drop, S: Stores<Store<D>>>(
     source: &S,
     alloc: Global,
     paths: &Pair<'a>,
@@ -95,7 +95,7 @@ fn compare_asked<'a, S: Stores>(
 }
 
 // The comparison that the operands ask for.
-fn compare_verdicts<'a, S: Source + Stores>(
+fn compare_verdicts<'a, D: Disk + Drop, S: Source + Stores<Store<D>>>(
     source: &S,
     alloc: Global,
     question: &Question<'a>,
@@ -116,7 +116,7 @@ fn compare_verdicts<'a, S: Source + Stores>(
 
 /// Writes whether the store and the other give the same verdict on the path that the operands name, and the verdict; else both, and the
 /// least certificate of which the two hold something different.
-pub fn compare<'a, S: Source + Stores, O: Write>(
+pub fn compare<'a, D: Disk + Drop, S: Source + Stores<Store<D>>, O: Write>(
     source: &S,
     alloc: Global,
     question: &Question<'a>,

@@ -18,10 +18,11 @@ use cli_failures::{Failure, Source, read_certificate, read_facts};
 use cli_operands::read_fingerprints;
 use path_verifiers::{ListVerifier, Verifier};
 use relying::Node;
-use sqlite_std_file::File;
+use sqlite_disk::Disk;
 use statements_facts::{Counts, Facts};
 use std::alloc::Global;
 use std::io::Write;
+use store::Store;
 
 /// What `deliver` names.
 #[derive(Clone, Copy, Debug, PartialEq, Eq)]
@@ -37,10 +38,10 @@ pub struct Delivery<'a> {
 }
 
 // The party takes the facts, and its store is closed.
-fn take_into<'a, S: Stores, V: Verifier + Drop>(
+fn take_into<'a, D: Disk + Drop, S: Stores<Store<D>>, V: Verifier + Drop>(
     source: &S,
     path: &str,
-    node: Node<V, File>,
+    node: Node<V, D>,
     facts: &Facts<'_>,
 ) -> Result<Counts, Failure<'a>>
     ensures taken { IfOk result
@@ -58,7 +59,7 @@ fn take_into<'a, S: Stores, V: Verifier + Drop>(
 }
 
 // The store at the path takes the facts. Where no file is there it is made.
-fn take_at<'a, S: Stores>(
+fn take_at<'a, D: Disk + Drop, S: Stores<Store<D>>>(
     source: &S,
     path: &'a str,
     verifier: &ListVerifier,
@@ -75,7 +76,7 @@ fn take_at<'a, S: Stores>(
 }
 
 // The store takes what these octets of the file say, under the issuer of the certificate.
-fn take_statement<'a, S: Stores>(
+fn take_statement<'a, D: Disk + Drop, S: Stores<Store<D>>>(
     source: &S,
     alloc: Global,
     verifier: &ListVerifier,
@@ -98,7 +99,7 @@ fn take_statement<'a, S: Stores>(
 }
 
 // Delivers the statement in the file, under the issuer of the certificate.
-fn deliver_under<'a, S: Source + Stores>(
+fn deliver_under<'a, D: Disk + Drop, S: Source + Stores<Store<D>>>(
     source: &S,
     alloc: Global,
     verifier: &ListVerifier,
@@ -120,7 +121,7 @@ fn deliver_under<'a, S: Source + Stores>(
 }
 
 // Delivers the statement in the file, under the issuer whose certificate is in the other.
-fn deliver_for<'a, S: Source + Stores>(
+fn deliver_for<'a, D: Disk + Drop, S: Source + Stores<Store<D>>>(
     source: &S,
     alloc: Global,
     verifier: &ListVerifier,
@@ -143,7 +144,7 @@ fn deliver_for<'a, S: Source + Stores>(
 }
 
 // Delivers what the words name.
-fn deliver_facts<'a, S: Source + Stores>(
+fn deliver_facts<'a, D: Disk + Drop, S: Source + Stores<Store<D>>>(
     source: &S,
     alloc: Global,
     words: Delivery<'a>,
@@ -163,7 +164,7 @@ fn deliver_facts<'a, S: Source + Stores>(
 
 /// Delivers the statement in the file to the store, under the issuer's certificate, and writes how its facts were counted. Both files
 /// are read once, before the store is opened. Where no store is there it is made, but not for a statement that is refused.
-pub fn deliver<'a, S: Source + Stores, O: Write>(
+pub fn deliver<'a, D: Disk + Drop, S: Source + Stores<Store<D>>, O: Write>(
     source: &S,
     alloc: Global,
     words: Delivery<'a>,

@@ -13,9 +13,11 @@ use clap::error::ErrorKind;
 use cli_failures::{Failure, Source};
 use cli_showing::{prints, show, tree};
 use cli_words::{Line, command_of};
+use sqlite_disk::Disk;
 use std::alloc::Global;
 use std::io;
 use std::io::{Read, Write};
+use store::Store;
 
 const DONE: u8 = 0;
 
@@ -34,7 +36,7 @@ pub struct Ended {
 /// and for help; 1, 2 and 3 for a path that is invalid, revoked or unknown; 7 for two verdicts that differ; 4 for refused input, 5 for
 /// mistaken words, 6 if a file, a store or a writer failed or there is no memory. Each of 4, 5 and 6 comes with a text on `err`. Only a
 /// session reads from `input`.
-pub fn execute<S: Source + Stores, I: Read, O: Write, E: Write>(
+pub fn execute<D: Disk + Drop, S: Source + Stores<Store<D>>, I: Read, O: Write, E: Write>(
     source: &S,
     alloc: Global,
     words: &[&str],
@@ -56,7 +58,7 @@ pub fn execute<S: Source + Stores, I: Read, O: Write, E: Write>(
 }
 
 /// The same, with whether standard error took the line of what failed.
-pub fn executed<S: Source + Stores, I: Read, O: Write, E: Write>(
+pub fn executed<D: Disk + Drop, S: Source + Stores<Store<D>>, I: Read, O: Write, E: Write>(
     source: &S,
     alloc: Global,
     words: &[&str],
@@ -100,7 +102,7 @@ fn finish<E: Write>(outcome: Result<u8, Failure<'_>>, err: &mut E) -> Ended
     }
 }
 
-fn run<'a, S: Source + Stores, I: Read, O: Write>(
+fn run<'a, D: Disk + Drop, S: Source + Stores<Store<D>>, I: Read, O: Write>(
     source: &S,
     alloc: Global,
     line: &Line<'a>,
@@ -122,7 +124,7 @@ fn run<'a, S: Source + Stores, I: Read, O: Write>(
     }
 }
 
-fn answer<'a, S: Source + Stores, I: Read, O: Write>(
+fn answer<'a, D: Disk + Drop, S: Source + Stores<Store<D>>, I: Read, O: Write>(
     source: &S,
     alloc: Global,
     line: &Line<'a>,

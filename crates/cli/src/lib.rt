@@ -20,4 +20,4 @@ pub use delivering::{Delivery, deliver};
 pub use execution::{Ended, execute, executed};
 pub use explanation::explain;
 pub use sessions::session;
-pub use stores::Stores;
+pub use stores::{Connected, Stores};

@@ -16,7 +16,7 @@ use cli_session::Believed;
 use cli_steps::Party;
 use cli_store::StoreKeeper;
 use path_verifiers::ListVerifier;
-use sqlite_std_file::File;
+use sqlite_disk::Disk;
 use std::alloc::Global;
 use std::io::{Read, Write};
 use store::Store;
@@ -53,12 +53,12 @@ fn outcome_of<'a>(end: End) -> Result<(), Failure<'a>>
 }
 
 // Answers the lines over the store, which is closed in the end.
-fn serve_over<S: Source + Stores, R: Read, O: Write>(
+fn serve_over<D: Disk + Drop, S: Source + Stores<Store<D>>, R: Read, O: Write>(
     source: &S,
     alloc: Global,
     path: &str,
     prints: Vec<[u8; 32]>,
-    store: Store<File>,
+    store: Store<D>,
     input: &mut R,
     out: &mut O,
 ) -> End
@@ -85,7 +85,7 @@ fn serve_over<S: Source + Stores, R: Read, O: Write>(
 
 /// Answers the lines of the input, one after the other, each before the next is read (`cli_serving::serve`), over the store at the path,
 /// which is made if no file is there. The fingerprints of the file are believed, and those that come in requests.
-pub fn session<'a, S: Source + Stores, R: Read, O: Write>(
+pub fn session<'a, D: Disk + Drop, S: Source + Stores<Store<D>>, R: Read, O: Write>(
     source: &S,
     alloc: Global,
     path: &'a str,

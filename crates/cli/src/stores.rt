@@ -6,20 +6,35 @@ ghost use Rattle.store_adoption.specs.Creates.{IsSettled};
 ghost use Rattle.store.specs.Adopts.{IsEmptyStoreOn, IsStoreOn};
 ghost use Rattle.store_adoption.specs.Inspects.{IsStore};
 ghost use Rattle.store_sql.specs.Statements.{IsDurable};
-ghost use Rattle.cli.specs.Standing.{IsFound, IsFoundOrMade, IsNotFound, IsNotMade, seen_in, told_of};
+ghost use Rattle.cli.specs.Standing.{IsFound, IsFoundOrMade, IsNotFound, IsNotMade, seen_of, told_of};
 
 use cli_failures::Failure;
 use sqlite::{Connection, FileStore};
+use sqlite_disk::Disk;
 use sqlite_std_file::File;
 use std::{fs, io};
 use store::{OpenFault, Refused, Store};
 use store_sql::{StoreFault, is_empty};
 
-/// Where stores stand.
+/// What has a connection to a database, which clauses see in its state.
+pub trait Connected: Drop {
+    ghost use Rattle.sqlite.specs.State.{State};
+
+    /// What is seen of the connection.
+    ghost state: { Self → State };
+}
+
+impl<D: Disk + Drop> Connected for Store<D> {
+    ghost use Rattle.sqlite.specs.Files.{file_state};
+
+    ghost state = { λ store. file_state store.conn };
+}
+
+/// Where stores stand. They are kept on files of the system, or on disks of another kind.
 ///
-/// What stands at a path is the system's own matter: no contract can look at a disk. The contracts only know that what is opened is what
-/// stands there, that what is closed is left there, and that opening fails only because of what is found at the path.
-pub trait Stores {
+/// What stands at a path of the system's files is the system's own matter: no contract can look at a disk. The contracts only know that what
+/// is opened is what stands there, that what is closed is left there, and that opening fails only because of what is found at the path.
+pub trait Stores<T: Connected> {
     ghost use Rattle.std.specs.Prelude.{ℕ, List};
     ghost use Rattle.cli.specs.Standing.{Met, Seen};
 
@@ -31,23 +46,23 @@ pub trait Stores {
     ghost leaves: { Self → List ℕ → Seen → Type 0 };
 
     /// The store that stands at the path; `Unreadable` if there is no file that can be read.
-    fn open_store<'a>(&self, path: &'a str) -> Result<Store<File>, Failure<'a>>
+    fn open_store<'a>(&self, path: &'a str) -> Result<T, Failure<'a>>
         ensures found { IfOk result (λ store.
-            IsFound (stands self.now) path.entry.now (seen_in store)) }
+            IsFound (stands self.now) path.entry.now (seen_of (T.state store))) }
         ensures fails { IfErr result (IsNotFound (stands self.now) path.entry.now) };
 
     /// The same; if no file is there, or a database without tables, a store is made that holds nothing. What it holds is committed, and is
     /// there behind a crash.
-    fn open_or_make_store<'a>(&self, path: &'a str) -> Result<Store<File>, Failure<'a>>
+    fn open_or_make_store<'a>(&self, path: &'a str) -> Result<T, Failure<'a>>
         ensures found { IfOk result (λ store.
-            IsFoundOrMade (stands self.now) path.entry.now (seen_in store)) }
-        ensures settled { IfOk result (λ store. IsSettled (file_state store.conn)) }
-        ensures durable { IfOk result (λ store. IsDurable (file_state store.conn)) }
+            IsFoundOrMade (stands self.now) path.entry.now (seen_of (T.state store))) }
+        ensures settled { IfOk result (λ store. IsSettled (T.state store)) }
+        ensures durable { IfOk result (λ store. IsDurable (T.state store)) }
         ensures fails { IfErr result (IsNotMade (stands self.now) path.entry.now) };
 
     /// Closes a store of the path. What was committed to it is safe however that ends.
-    fn close_store(&self, path: &str, store: Store<File>)
-        ensures leaves { leaves self.now path.now (seen_in store) };
+    fn close_store(&self, path: &str, store: T)
+        ensures leaves { leaves self.now path.now (seen_of (T.state store)) };
 }
 
 // What a store's fault is for a run.
@@ -147,7 +162,7 @@ fn is_missing(rt: &HostRuntime, path: &str) -> bool {
 }
 
 /// The system's files, of which no contract says what they hold.
-impl Stores for HostRuntime {
+impl Stores<Store<File>> for HostRuntime {
     ghost use Rattle.std.specs.Prelude.{⊤};
 
     ghost stands = { λ _ _ _. ⊤ };

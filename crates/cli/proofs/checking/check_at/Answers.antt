@@ -1,6 +1,6 @@
 use Rattle.sqlite.specs.Files.{file_state}
 use Rattle.relying_verdicts.specs.View.{seen_query}
-use Rattle.cli.proofs.Seeing.{checked}
+use Rattle.cli.proofs.Seeing.{checked, left_as}
 use Rattle.cli.proofs.Unanswered.{not_checked}
 use Rattle.cli.proofs.checking.check_at.Goals as goal
 
@@ -8,9 +8,9 @@ pub returns-in-Ok-clause-checked : goal.returns-in-Ok-clause-checked
 returns-in-Ok-clause-checked g c =
     checked (g.S.Stores.leaves c.args.source.now c.args.path.now) (g.V.Verifier.accepts c.args.node.verifier) (seen_query c.args.query.now)
     (file_state c.args.node.store.conn) (file_state c.verdict-verdict.new.self.store.conn) c.in-Ok.verdict
-    (rw c.into_store.ensures at c.close_store.ensures.leaves) c.in-Ok.ensures.looks
+    (left_as (g.S.Stores.leaves c.args.source.now c.args.path.now) c.into_store.result c.verdict-verdict.new.self.store c.into_store.ensures c.close_store.ensures.leaves) c.in-Ok.ensures.looks
 
 pub returns-in-Err-clause-fails : goal.returns-in-Err-clause-fails
 returns-in-Err-clause-fails g c =
     not_checked (g.S.Stores.leaves c.args.source.now c.args.path.now) (file_state c.args.node.store.conn) (file_state c.verdict-verdict.new.self.store.conn)
-    c.in-Err.fault c.not_checked.result c.not_checked.ensures (rw c.into_store.ensures at c.close_store.ensures.leaves) c.in-Err.ensures.looks
+    c.in-Err.fault c.not_checked.result c.not_checked.ensures (left_as (g.S.Stores.leaves c.args.source.now c.args.path.now) c.into_store.result c.verdict-verdict.new.self.store c.into_store.ensures c.close_store.ensures.leaves) c.in-Err.ensures.looks

@@ -1,6 +1,7 @@
 use Rattle.std.proofs.Common.{subst, sym}
 use Rattle.path_verifiers.specs.ListVerifier.{Believes}
 use Rattle.sqlite.specs.Files.{file_state}
+use Rattle.cli.proofs.Seeing.{left_as}
 use Rattle.cli.proofs.Serving.{served}
 use Rattle.cli.proofs.sessions.serve_over.Goals as goal
 
@@ -12,5 +13,5 @@ returns g c = record {
       (subst (λ listed. Believes listed c.args.prints.items) (sym c.new-believed.ensures.listed) c.new.ensures)
       (c.new-believed.ensures.believes c.args.prints.items c.new.ensures)
       c.requires.settled c.requires.durable c.serve-end.ensures.sound c.serve-end.ensures.ended
-      (rw c.into_store.ensures at c.close_store.ensures.leaves);
+      (left_as (g.S.Stores.leaves c.args.source.now c.args.path.now) c.into_store.result c.serve-end.new.party.keeper.store c.into_store.ensures c.close_store.ensures.leaves);
 }
