@@ -8,7 +8,7 @@ use Rattle.path.specs.Query.{Accepts}
 use Rattle.relying_agreement.specs.Run.{facts_or_none, facts_under, genuine_facts}
 use Rattle.relying.specs.declared.fault.DeliverFault.{DeliverFault}
 use Rattle.relying.specs.declared.fault.DeliverFault.TheVariants.{Issuer, Statement, Store}
-use Rattle.relying.specs.Delivery.{AnswersDelivery, IsReason, IsRefusal, MayCommit, StatementSays}
+use Rattle.relying.specs.Delivery.{IsDeliveryAnswer, IsReason, IsRefusal, MayCommit, StatementSays}
 
 -- ---- nothing was read
 
@@ -17,7 +17,7 @@ refused accepts issuer statement (Issuer fault) why = why
 refused accepts issuer statement (Statement fault) why = why
 refused accepts issuer statement (Store fault) why = absurd why
 
-pub refused_so : (accepts : Accepts) (issuer statement : List ℕ) (s : State) (fault : DeliverFault) → IsRefusal accepts issuer statement fault → AnswersDelivery accepts issuer statement s s (Err fault)
+pub refused_so : (accepts : Accepts) (issuer statement : List ℕ) (s : State) (fault : DeliverFault) → IsRefusal accepts issuer statement fault → IsDeliveryAnswer accepts issuer statement s s (Err fault)
 refused_so accepts issuer statement s (Issuer fault) why = (why, record { was_open = λ live. live; now_is = λ live. refl })
 refused_so accepts issuer statement s (Statement fault) why = (why, record { was_open = λ live. live; now_is = λ live. refl })
 refused_so accepts issuer statement s (Store fault) why = absurd why

@@ -13,14 +13,14 @@ use Rattle.relying_agreement.specs.Run.{Event, genuine_facts, facts_taken}
 use Rattle.store.specs.Adopts.{Restarts}
 use Rattle.relying.specs.declared.fault.DeliverFault.{DeliverFault}
 use Rattle.relying.specs.declared.fault.DeliverFault.TheVariants.{Issuer, Statement, Store}
-use Rattle.relying.specs.Delivery.{IsAnswerTo, AnswersDelivery, StatementSays}
+use Rattle.relying.specs.Delivery.{IsAnswerTo, IsDeliveryAnswer, StatementSays}
 use Rattle.relying.proofs.Delivered.{facts_said}
 use Rattle.relying.specs.Run.{Runs, RanSoFar, Ran, HasHappened, RunsAreRuns, AddsAnswer, AreAnswersTo, as_answered}
 
 -- ---- one event
 
 delivered : (accepts : Accepts) (issuer statement : List ℕ) (before : List (Result Counts DeliverFault)) (answer : Result Counts DeliverFault) (old new : State)
-    → AnswersDelivery accepts issuer statement old new answer → HasHappened accepts (Event.Deliver issuer statement) before (before ++ answer ∷ []) old new
+    → IsDeliveryAnswer accepts issuer statement old new answer → HasHappened accepts (Event.Deliver issuer statement) before (before ++ answer ∷ []) old new
 delivered accepts issuer statement before (Ok counts) old new (facts, says, it) = record {
   added = Ok counts ∷ [];
   after_is = refl;
@@ -128,7 +128,7 @@ pushed before after x (Ok y) is grown = grown
 pushed before after x (Err e) is grown = absurd cc
 
 pub delivered_so : (accepts : Accepts) (issuer statement : List ℕ) (before after : List (Result Counts DeliverFault)) (answer : Result Counts DeliverFault) (old new : State)
-    → after ≡ before ++ answer ∷ [] → AnswersDelivery accepts issuer statement old new answer → HasHappened accepts (Event.Deliver issuer statement) before after old new
+    → after ≡ before ++ answer ∷ [] → IsDeliveryAnswer accepts issuer statement old new answer → HasHappened accepts (Event.Deliver issuer statement) before after old new
 delivered_so accepts issuer statement before after answer old new grown it =
     subst (λ x. HasHappened accepts (Event.Deliver issuer statement) before x old new) (sym grown) (delivered accepts issuer statement before answer old new it)
 

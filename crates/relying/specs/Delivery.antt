@@ -43,13 +43,13 @@ abbrev pub IsAnswerTo : Accepts → List ℕ → List ℕ → Result Counts Deli
 IsAnswerTo accepts issuer statement (Ok counts) = (facts : List Fact) × StatementSays accepts issuer statement facts
 IsAnswerTo accepts issuer statement (Err fault) = IsReason accepts issuer statement fault
 
-abbrev pub AnswersDelivery : Accepts → List ℕ → List ℕ → State → State → Result Counts DeliverFault → Type 0
-AnswersDelivery accepts issuer statement old new (Ok counts) = (facts : List Fact) × StatementSays accepts issuer statement facts × Delivers old new facts counts
-AnswersDelivery accepts issuer statement old new (Err fault) = IsReason accepts issuer statement fault × Leaves old new fault
+abbrev pub IsDeliveryAnswer : Accepts → List ℕ → List ℕ → State → State → Result Counts DeliverFault → Type 0
+IsDeliveryAnswer accepts issuer statement old new (Ok counts) = (facts : List Fact) × StatementSays accepts issuer statement facts × Delivers old new facts counts
+IsDeliveryAnswer accepts issuer statement old new (Err fault) = IsReason accepts issuer statement fault × Leaves old new fault
 
 -- the same, if the disk returned what was written
 abbrev pub AnswersDelivery : Accepts → List ℕ → List ℕ → State → State → Result Counts DeliverFault → Type 0
-AnswersDelivery accepts issuer statement old new result = HasCleanDisk new → AnswersDelivery accepts issuer statement old new result
+AnswersDelivery accepts issuer statement old new result = HasCleanDisk new → IsDeliveryAnswer accepts issuer statement old new result
 
 -- What a crash may leave: what it could leave before the call, or the whole delivery if the store was asked to take it.
 abbrev pub MayCommit : List Fact → State → State → Result Counts DeliverFault → Type 0
