@@ -1,0 +1,3 @@
+mod Clean
+mod Filling
+mod Runs

@@ -1,0 +1,86 @@
+-- What a run over a shelf answers.
+use Rattle.std.proofs.Common.{◌≡◌, inl, inr, refl, sym, subst, ap, ◌∙◌, true≢false, ℕ, List, [], ◌∷◌, ◌++◌, Option, Some, IsSome, unwrap_or}
+use Rattle.statements_facts.specs.Statement.{Holdings, empty_holdings}
+use Rattle.statements_facts.specs.declared.fact.Facts.{Facts}
+use Rattle.sqlite.specs.Effect.{Database}
+use Rattle.store_maps.specs.Held.{IsStoreOf}
+use Rattle.sqlite.specs.Schema.{Schema}
+use Rattle.store_sql.specs.Tables.{crls_tree, entries_tree, no_schema, scoped_crls_table, scoped_entries_table, start_schema, store_schema}
+use Rattle.store_sql.specs.declared.origin.Origin.{Origin}
+use Rattle.cli.specs.Standing.{IsFound, IsFoundOrMade, Seen}
+use Rattle.test_program.specs.Shelves.{after_these, standing_on, statements_at}
+use Rattle.test_program.specs.Runs.{ChecksByTexts, ComparesByTexts, DeliversByTexts, HasStore, held_at}
+use Rattle.test_program.specs.declared.shelf.Kept.{Kept}
+
+-- a database without tables is no store
+not_empty : {T : Type 0} (front : List T) (x : T) (back : List T) → front ++ x ∷ back ≡ [] → ⊥
+not_empty [] x back same = absurd cc
+not_empty (y ∷ front) x back same = absurd cc
+
+tables : (origin : Origin) → store_schema origin ≡ no_schema → ⊥
+tables origin same =
+    not_empty (start_schema origin).tables (scoped_crls_table (crls_tree origin)) (scoped_entries_table (entries_tree origin) ∷ []) (ap (λ (schema : Schema). schema.tables) same)
+
+no_store : (db : Database) (held : Holdings) → IsStoreOf db held → db.schema ≡ no_schema → ⊥
+no_store db held is empty = tables is.origin (sym is.rows.schema_is ∙ empty)
+
+module _ (stores : List Kept) (path : List ℕ) where
+  some : (found : Option (List Facts)) (rows : List Facts) → found ≡ Some rows → IsSome found
+  some found rows is = subst (λ (rows : Option (List Facts)). IsSome rows) (sym is) refl
+
+  -- a store that was found there holds what the statements say
+  pub stands : (old : Seen) → IsFound (standing_on stores) path old → HasStore stores path
+  stands old found = some (statements_at stores path) found.0.0 found.0.1
+
+  pub holds : (old : Seen) → IsFound (standing_on stores) path old → IsStoreOf old.now (held_at stores path)
+  holds old found = subst (λ (rows : Option (List Facts)). IsStoreOf old.now (after_these empty_holdings (unwrap_or rows []))) (sym found.0.1) found.0.2
+
+  -- and no other was made there
+  pub holds_if : HasStore stores path → (old : Seen) → IsFoundOrMade (standing_on stores) path old → IsStoreOf old.now (held_at stores path)
+  holds_if has old (inl found) = holds old found
+  holds_if has old (inr (inl none, is)) = absurd (true≢false (sym (subst (λ (rows : Option (List Facts)). IsSome rows) none has)))
+  holds_if has old (inr (inr (empty, (rows, at, held, intact), lacks), is)) = absurd (no_store empty.now (after_these empty_holdings rows) held (lacks intact))
+
+pub checks : ChecksByTexts
+checks texts stores question verdict it =
+    let path = question.store.now in
+    let old = it.checked.0 in
+    let found = it.checked.1 in
+    let looks = it.checked.2 in record {
+      accepts = it.accepts;
+      query = it.query;
+      asked = it.asked;
+      stands = stands stores path old found;
+      is = looks.2 looks.1 (held_at stores path) (holds stores path old found);
+    }
+
+pub compares : ComparesByTexts
+compares texts stores question other comparison it =
+    let path = question.store.now in
+    let old = it.compared.0 in
+    let other_old = it.compared.1 in
+    let found = it.compared.2 in
+    let other_found = it.compared.3 in
+    let looks = it.compared.4 in record {
+      accepts = it.accepts;
+      query = it.query;
+      asked = it.asked;
+      stands = stands stores path old found;
+      other_stands = stands stores other other_old other_found;
+      is = looks.4 looks.2 looks.3 (held_at stores path) (held_at stores other) (holds stores path old found) (holds stores other other_old other_found);
+    }
+
+pub delivers : DeliversByTexts
+delivers texts stores words counts (prints, accepts, verdicts, believed, (issuer, issued, (statement, text, (facts, said, (old, found, (new, left, takes)))))) = record {
+  prints = prints;
+  accepts = accepts;
+  verdicts = verdicts;
+  believed = believed;
+  issuer = issuer;
+  issued = issued;
+  statement = statement;
+  text = text;
+  facts = facts;
+  said = said;
+  counted = λ has. (takes left (held_at stores words.store.now) (holds_if stores words.store.now has old found)).1;
+}
