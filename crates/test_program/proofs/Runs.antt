@@ -12,11 +12,11 @@ use Rattle.test_program.specs.Shelves.{after_these, standing_on, statements_at}
 use Rattle.test_program.specs.Runs.{ChecksByTexts, ComparesByTexts, DeliversByTexts, HasStore, held_at}
 use Rattle.test_program.specs.declared.shelf.Kept.{Kept}
 
--- a database without tables is no store
 not_empty : {T : Type 0} (front : List T) (x : T) (back : List T) → front ++ x ∷ back ≡ [] → ⊥
 not_empty [] x back same = absurd cc
 not_empty (y ∷ front) x back same = absurd cc
 
+-- a database without tables is no store
 tables : (origin : Origin) → store_schema origin ≡ no_schema → ⊥
 tables origin same =
     not_empty (start_schema origin).tables (scoped_crls_table (crls_tree origin)) (scoped_entries_table (entries_tree origin) ∷ []) (ap (λ (schema : Schema). schema.tables) same)
