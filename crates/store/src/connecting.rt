@@ -12,8 +12,7 @@ use std::io::ErrorKind;
 use std::rt::HostRuntime;
 use store_sql::StoreFault;
 
-/// How many pages of a database are kept in memory: 1 MB of them. Opening takes all of that memory at once, and a look-up asks for some
-/// forty pages.
+/// How many pages of a database are kept in memory: 1 MB of them. Opening takes all of that memory at once.
 const CACHE_PAGES: usize = 256;
 
 /// How a database is opened; the salts of its log begin with the seed.
