@@ -13,7 +13,7 @@ use Rattle.cert.specs.BitString.{BitString}
 use Rattle.cert.specs.Certificate.{Certificate, certificate}
 use Rattle.cert.specs.CertificateForms.{IsNameOf, IsCertificateAt}
 use Rattle.cert.proofs.Laws.{certificate_is_exact}
-use Rattle.capi.specs.Parts.{StandsIn}
+use Rattle.capi.specs.Parts.{IsPlaceIn}
 use Rattle.capi.specs.Fields.{ComponentsStandIn}
 
 later : (text : List ℕ) (first others : List Place) → AllParts text (first ++ others) → AllParts text others
@@ -31,7 +31,7 @@ whole_stands text value encodes = record {
   encodes = encodes;
 }
 
-name_stands : (text : List ℕ) (place : Place) (name : NameContents) → StandsIn text place → IsNameOf place name → IsPartOf text name.at name.octets
+name_stands : (text : List ℕ) (place : Place) (name : NameContents) → IsPlaceIn text place → IsNameOf place name → IsPartOf text name.at name.octets
 name_stands text place name stands is = subst (λ (n : NameContents). IsPartOf text n.at n.octets) (sym is.contents) stands
 
 they_stand : (text : List ℕ) (fields : Certificate) (is : IsCertificateAt (whole_text text) fields) → IsEncodedPart text (whole_text text) → ComponentsStandIn text fields
@@ -45,11 +45,11 @@ they_stand text fields is whole =
     subst (ComponentsStandIn text) (sym is.fields_are) record {
       tbs = outer.0.stands;
       serial = contents_stand text is.tbs.head.serial inner.0;
-      algorithm = subst (StandsIn text) (sym tbs.signature_is.whole) inner.1.0.stands;
+      algorithm = subst (IsPlaceIn text) (sym tbs.signature_is.whole) inner.1.0.stands;
       issuer = name_stands text tbs.issuer is.tbs.head.issuer inner.1.1.0.stands tbs.issuer_is;
       subject = name_stands text tbs.subject is.tbs.subject.name behind_issuer.1.0.stands tbs.subject_is;
-      key_info = subst (StandsIn text) (sym tbs.key_info_is.whole) key_info.stands;
-      key = subst (λ (b : BitString). StandsIn text (body_place b.value)) (sym tbs.key_info_is.bits) (contents_stand text tbs.key_info_is.key key.1.0);
+      key_info = subst (IsPlaceIn text) (sym tbs.key_info_is.whole) key_info.stands;
+      key = subst (λ (b : BitString). IsPlaceIn text (body_place b.value)) (sym tbs.key_info_is.bits) (contents_stand text tbs.key_info_is.key key.1.0);
       signature = contents_stand text is.signature.value outer.1.1.0;
     }
 

@@ -17,7 +17,7 @@ use Rattle.capi.specs.declared.answer.CertificateAnswer.{CertificateAnswer}
 use Rattle.capi.specs.declared.fields.Part.{Part}
 use Rattle.capi.specs.declared.fields.Fields as code
 use Rattle.capi.specs.declared.fields.ExtensionFields as extension
-use Rattle.capi.specs.Parts.{IsPart, StandsIn, bits_at}
+use Rattle.capi.specs.Parts.{IsPart, IsPlaceIn, bits_at}
 
 -- basicConstraints (4.2.1.9): cA, and the path length where it is there
 abbrev pub is_ca : Option BasicConstraints → Bool
@@ -84,14 +84,14 @@ pub record AreAtComponents (told : code.Fields) (certificate : Certificate) : Ty
 
 -- the components of a certificate are parts of the text
 pub record ComponentsStandIn (text : List ℕ) (certificate : Certificate) : Type 0 where
-  pub tbs : StandsIn text certificate.tbs
-  pub serial : StandsIn text (body_place certificate.serial)
-  pub algorithm : StandsIn text certificate.algorithm.value
+  pub tbs : IsPlaceIn text certificate.tbs
+  pub serial : IsPlaceIn text (body_place certificate.serial)
+  pub algorithm : IsPlaceIn text certificate.algorithm.value
   pub issuer : IsPartOf text certificate.issuer.at certificate.issuer.octets
   pub subject : IsPartOf text certificate.subject.at certificate.subject.octets
-  pub key_info : StandsIn text certificate.key_info.value
-  pub key : StandsIn text (body_place certificate.key_info.key.value)
-  pub signature : StandsIn text (body_place certificate.signature.value)
+  pub key_info : IsPlaceIn text certificate.key_info.value
+  pub key : IsPlaceIn text (body_place certificate.key_info.key.value)
+  pub signature : IsPlaceIn text (body_place certificate.signature.value)
 
 -- in each text in which the components of the certificate stand, the fields tell them
 abbrev pub TellsComponents : code.Fields → Certificate → Type 0
@@ -158,9 +158,9 @@ pub record TellsCertificate (text : List ℕ) (answer : CertificateAnswer) (cert
   pub places : AreAtComponents answer.fields certificate
 
 -- The answer tells what reading the text gives, unless memory was refused.
-abbrev pub Tells : List ℕ → CertificateAnswer → Result Certificate (CertRule × ℕ) → Type 0
-Tells text answer (Ok certificate) = (answer ≡ no_memory) ⊎ TellsCertificate text answer certificate
-Tells text answer (Err (rule, at)) = (answer ≡ no_memory) ⊎ TellsRefusal answer rule at
+abbrev pub TellsReading : List ℕ → CertificateAnswer → Result Certificate (CertRule × ℕ) → Type 0
+TellsReading text answer (Ok certificate) = (answer ≡ no_memory) ⊎ TellsCertificate text answer certificate
+TellsReading text answer (Err (rule, at)) = (answer ≡ no_memory) ⊎ TellsRefusal answer rule at
 
 -- The answer tells of a fault.
 abbrev pub IsRefusalOf : CertificateAnswer → CertFault → Type 0

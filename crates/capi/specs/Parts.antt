@@ -7,17 +7,17 @@ use Rattle.cert.specs.BitString.{bits_in}
 use Rattle.capi.specs.declared.fields.Part.{Part}
 
 -- where the part ends
-abbrev pub end_of : Part → ℕ
-end_of part = part.offset + part.length
+abbrev pub part_end : Part → ℕ
+part_end part = part.offset + part.length
 
 -- the part of the text is these octets
 pub record IsPart (text : List ℕ) (part : Part) (octets : List ℕ) : Type 0 where
-  pub within : end_of part ≤ length text
-  pub octets_are : slice_range text part.offset (end_of part) ≡ octets
+  pub within : part_end part ≤ length text
+  pub octets_are : slice_range text part.offset (part_end part) ≡ octets
 
 -- the place is a part of the text
-abbrev pub StandsIn : List ℕ → Place → Type 0
-StandsIn text place = IsPartOf text place.at place.octets
+abbrev pub IsPlaceIn : List ℕ → Place → Type 0
+IsPlaceIn text place = IsPartOf text place.at place.octets
 
 -- in each text in which these octets stand at the offset, the part is these octets
 abbrev pub IsPartAt : ℕ → List ℕ → Part → Type 0
@@ -26,12 +26,12 @@ IsPartAt offset octets part = (text : List ℕ) → IsPartOf text offset octets 
 -- in each text in which the contents of the value stand, the part is these contents
 abbrev pub IsContentsOf : Tlv → Part → Type 0
 IsContentsOf value part =
-    (text : List ℕ) → StandsIn text (body_place (seen_tlv value)) → IsPart text part (body (seen_tlv value))
+    (text : List ℕ) → IsPlaceIn text (body_place (seen_tlv value)) → IsPart text part (body (seen_tlv value))
 
 -- the same of the bits of a BIT STRING, behind the count of unused bits
 abbrev pub IsBitsOf : Tlv → Part → Type 0
 IsBitsOf value part =
-    (text : List ℕ) → StandsIn text (body_place (seen_tlv value)) → IsPart text part (bits_in (body (seen_tlv value)))
+    (text : List ℕ) → IsPlaceIn text (body_place (seen_tlv value)) → IsPart text part (bits_in (body (seen_tlv value)))
 
 -- where the bits of a BIT STRING begin, behind the count of unused bits
 abbrev pub bits_at : Place → ℕ

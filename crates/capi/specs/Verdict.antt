@@ -15,8 +15,8 @@ use Rattle.capi.specs.Fields.{der_number}
 use Rattle.capi.specs.declared.answer.VerdictAnswer.{VerdictAnswer}
 
 -- the numbers of a verdict, the certificate that decides, and the reason
-abbrev pub verdict_answer : ℕ → ℕ → ℕ → VerdictAnswer
-verdict_answer verdict certificate reason = record {
+abbrev pub verdict_numbers : ℕ → ℕ → ℕ → VerdictAnswer
+verdict_numbers verdict certificate reason = record {
   verdict = verdict;
   reason = reason;
   certificate = certificate;
@@ -27,10 +27,10 @@ verdict_answer verdict certificate reason = record {
 }
 
 abbrev pub TellsVerdict : VerdictAnswer → Verdict → Type 0
-TellsVerdict answer Valid = answer ≡ verdict_answer 0 0 0
-TellsVerdict answer (Invalid certificate reason) = answer ≡ verdict_answer 1 certificate (reason_rank reason)
-TellsVerdict answer (Revoked certificate reason) = answer ≡ verdict_answer 2 certificate reason
-TellsVerdict answer (Unknown certificate) = answer ≡ verdict_answer 3 certificate 0
+TellsVerdict answer Valid = answer ≡ verdict_numbers 0 0 0
+TellsVerdict answer (Invalid certificate reason) = answer ≡ verdict_numbers 1 certificate (reason_rank reason)
+TellsVerdict answer (Revoked certificate reason) = answer ≡ verdict_numbers 2 certificate reason
+TellsVerdict answer (Unknown certificate) = answer ≡ verdict_numbers 3 certificate 0
 
 -- the numbers of a refusal: which text, its fault, the rule of DER that is broken, and the place
 abbrev pub refusal_answer : ℕ → ℕ → ℕ → ℕ → VerdictAnswer
@@ -60,8 +60,8 @@ abbrev pub purpose_asked : List ℕ → Option (List ℕ)
 purpose_asked [] = None
 purpose_asked (octet ∷ octets) = Some (octet ∷ octets)
 
-abbrev pub rows_of : List ℕ → List ℕ → List ℕ → ℤ → Option (List ℕ) → Rows
-rows_of certificates statements fingerprints moment purpose = record {
+abbrev pub rows_asked : List ℕ → List ℕ → List ℕ → ℤ → Option (List ℕ) → Rows
+rows_asked certificates statements fingerprints moment purpose = record {
   certificates = certificates;
   statements = statements;
   fingerprints = fingerprints;

@@ -2,7 +2,7 @@
 
 ghost use Rattle.std.specs.Prelude.{◌≡◌};
 ghost use Rattle.cert.specs.Certificate.{certificate};
-ghost use Rattle.capi.specs.Fields.{Tells, der_number, IsRefusalOf};
+ghost use Rattle.capi.specs.Fields.{TellsReading, der_number, IsRefusalOf};
 
 use crate::answer::CertificateAnswer;
 use crate::fields::Fields;
@@ -40,7 +40,7 @@ fn refusal(fault: CertFault) -> CertificateAnswer
 /// Reads a certificate, as `Certificate::read`, or answers the first fault.
 #[unsafe(no_mangle)]
 pub extern "C" fn x509check_read_certificate(alloc: Global, octets: &[u8]) -> CertificateAnswer
-    ensures { Tells octets.now result (certificate octets.now) }
+    ensures { TellsReading octets.now result (certificate octets.now) }
 {
     match Certificate::read(alloc, octets) {
         Ok(certificate) => CertificateAnswer {

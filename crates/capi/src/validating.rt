@@ -4,7 +4,7 @@ ghost use Rattle.std.specs.Prelude.{◌≡◌};
 ghost use Rattle.std.specs.Option.{option_copied};
 ghost use Rattle.cert.specs.Fault.{cert_rule_number};
 ghost use Rattle.capi.specs.Fields.{der_number};
-ghost use Rattle.capi.specs.Verdict.{TellsVerdict, TellsRowFault, TellsAnswer, purpose_asked, rows_of, der_number_of};
+ghost use Rattle.capi.specs.Verdict.{TellsVerdict, TellsRowFault, TellsAnswer, purpose_asked, rows_asked, der_number_of};
 
 use crate::answer::VerdictAnswer;
 use crate::reading::der_fault;
@@ -109,7 +109,7 @@ pub extern "C" fn x509check_validate(
     moment: i64,
     purpose: &[u8],
 ) -> VerdictAnswer
-    ensures { TellsAnswer result (rows_of certificates.now statements.now fingerprints.now
+    ensures { TellsAnswer result (rows_asked certificates.now statements.now fingerprints.now
         moment (purpose_asked purpose.now)) }
 {
     let rows = Rows {

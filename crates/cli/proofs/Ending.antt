@@ -8,24 +8,24 @@ use Rattle.cli_words.specs.declared.line.Kind.TheVariants.{Certificate, Revocati
 use Rattle.cli_words.specs.declared.line.Line.{Line}
 use Rattle.cli_words.specs.declared.line.Line.TheVariants.{Tree, Show, Prints, Deliver, Check, Compare, Explain, Session}
 use Rattle.cli_failures.specs.Failures.{Holding}
-use Rattle.cli_failures.specs.Report.{UnlessLate, report_line, status_of}
+use Rattle.cli_failures.specs.Report.{UnlessLate, report_line, exit_status}
 use Rattle.cli_failures.specs.declared.failure.Failure.{Failure}
 use Rattle.cli_failures.specs.declared.failure.Failure.TheVariants.{Unwritable}
 use Rattle.cli.specs.Standing.{Leaving, Standing}
-use Rattle.cli_showing.specs.Shown.{ArePrints, HoldsKind, IsShownText}
-use Rattle.cli.specs.Outcome.{HasAnswered, IsDone, IsFailureOf}
+use Rattle.cli_showing.specs.Shown.{ArePrintLines, HoldsKind, IsShownText}
+use Rattle.cli.specs.Outcome.{HasAnswered, IsDone, IsLineFailure}
 use Rattle.cli.specs.Ended.{RunHasEnded, IsAnswering, IsFailing}
 use Rattle.cli.proofs.Statuses.{is_failing, not_both}
 
 pub either : (result : Result ℕ Failure) (ended : ℕ) (same : Type 0) (Told : List ℕ → Type 0) → IfOk result IsAnswering
-    → IfOk result (λ status. (ended ≡ status) × same) → IfErr result (λ failure. (ended ≡ status_of failure) × Told (report_line failure))
+    → IfOk result (λ status. (ended ≡ status) × same) → IfErr result (λ failure. (ended ≡ exit_status failure) × Told (report_line failure))
     → IsAnswering ended ⊎ IsFailing ended
 either (Ok status) ended same Told is done failed = inl (subst IsAnswering (sym done.0) is)
 either (Err failure) ended same Told is done failed = inr (subst IsFailing (sym failed.0) (is_failing failure))
 
 pub answered : (holds : Holding) (stands : Standing) (leaves : Leaving) (words : List Text) (line : Line) (input source old new : Option (List ℕ)) (result : Result ℕ Failure) (ended : ℕ) (same : Type 0) (Told : List ℕ → Type 0)
     → Reads words line → IfOk result (IsDone holds stands leaves line input source old new)
-    → IfOk result (λ status. (ended ≡ status) × same) → IfErr result (λ failure. (ended ≡ status_of failure) × Told (report_line failure))
+    → IfOk result (λ status. (ended ≡ status) × same) → IfErr result (λ failure. (ended ≡ exit_status failure) × Told (report_line failure))
     → IsAnswering ended → HasAnswered holds stands leaves words input source old new ended × same
 answered holds stands leaves words line input source old new (Ok status) ended same Told reads did done failed answers =
     (inl (line, reads, subst (IsDone holds stands leaves line input source old new) (sym done.0) did), done.1)
@@ -33,8 +33,8 @@ answered holds stands leaves words line input source old new (Err failure) ended
     absurd (not_both ended answers (subst IsFailing (sym failed.0) (is_failing failure)))
 
 pub failed : (holds : Holding) (stands : Standing) (leaves : Leaving) (words : List Text) (line : Line) (result : Result ℕ Failure) (ended : ℕ) (same unchanged : Type 0) (Told : List ℕ → Type 0)
-    → Reads words line → IfOk result IsAnswering → IfErr result (IsFailureOf holds stands leaves line) → IfErr result (λ failure. UnlessLate failure unchanged)
-    → IfOk result (λ status. (ended ≡ status) × same) → IfErr result (λ failure. (ended ≡ status_of failure) × Told (report_line failure))
+    → Reads words line → IfOk result IsAnswering → IfErr result (IsLineFailure holds stands leaves line) → IfErr result (λ failure. UnlessLate failure unchanged)
+    → IfOk result (λ status. (ended ≡ status) × same) → IfErr result (λ failure. (ended ≡ exit_status failure) × Told (report_line failure))
     → IsFailing ended → RunHasEnded holds stands leaves words unchanged Told ended
 failed holds stands leaves words line (Ok status) ended same unchanged Told reads is fails quiet done told failing =
     absurd (not_both ended (subst IsAnswering (sym done.0) is) failing)
@@ -48,13 +48,13 @@ shown holds Certificate file text is = (is.0, is.1)
 shown holds RevocationList file text is = (is.0, is.1)
 shown holds Response file text is = (is.0, is.1)
 
-printed : (holds : Holding) (key_info : SubjectPublicKeyInfo) (kind : Kind) (file text : List ℕ) → ArePrints holds key_info kind file text → HoldsKind holds kind file
+printed : (holds : Holding) (key_info : SubjectPublicKeyInfo) (kind : Kind) (file text : List ℕ) → ArePrintLines holds key_info kind file text → HoldsKind holds kind file
 printed holds key_info Certificate file text are = (are.0, are.1)
 printed holds key_info RevocationList file text are = (are.0, are.1)
 printed holds key_info Response file text are = (are.0, are.1)
 
 pub unflushed : (holds : Holding) (stands : Standing) (leaves : Leaving) (line : Line) (input source old new : Option (List ℕ)) (status : ℕ) → IsDone holds stands leaves line input source old new status
-    → IsFailureOf holds stands leaves line Unwritable
+    → IsLineFailure holds stands leaves line Unwritable
 unflushed holds stands leaves (Tree file) input source old new status (text, (zero, is), written) = inr ((is.0, is.1, is.2, is.3), refl)
 unflushed holds stands leaves (Show kind file) input source old new status (text, (zero, is), written) = inr (shown holds kind file.now text is, refl)
 unflushed holds stands leaves (Prints issuer kind file) input source old new status (text, (zero, (signer, held, are)), written) =

@@ -6,7 +6,7 @@ use Rattle.clap.specs.declared.error.kind.ErrorKind.TheVariants.{OutOfMemory}
 use Rattle.cli_words.specs.CommandLine.{AreRefusedWith}
 use Rattle.cli_failures.specs.declared.failure.Failure.TheVariants.{NoMemory, Unwritable}
 use Rattle.cli_failures.specs.Failures.{Holding}
-use Rattle.cli_failures.specs.Report.{report_line, status_of}
+use Rattle.cli_failures.specs.Report.{report_line, exit_status}
 use Rattle.cli.specs.Standing.{Leaving, Standing}
 use Rattle.cli.specs.Outcome.{HasAnswered, IsHelp, IsMistake}
 use Rattle.cli.specs.Ended.{RunHasEnded, IsAnswering, IsFailing, IsUnexplained}
@@ -44,10 +44,10 @@ unexplained holds stands leaves words kind status unchanged Told refused (inr (m
 
 -- ---- what clap answers in place of a line
 
-pub late : (kind : ErrorKind) (status : ℕ) (unchanged : Type 0) (Told : List ℕ → Type 0) → IsHelp kind → (status ≡ status_of Unwritable) × Told (report_line Unwritable)
+pub late : (kind : ErrorKind) (status : ℕ) (unchanged : Type 0) (Told : List ℕ → Type 0) → IsHelp kind → (status ≡ exit_status Unwritable) × Told (report_line Unwritable)
     → IsUnexplained kind unchanged Told status
 late kind status unchanged Told help told = inl (Unwritable, inr (help, refl), told.0, tt, told.1)
 
-pub full : (kind : ErrorKind) (status : ℕ) (unchanged : Type 0) (Told : List ℕ → Type 0) → (status ≡ status_of NoMemory) × Told (report_line NoMemory)
+pub full : (kind : ErrorKind) (status : ℕ) (unchanged : Type 0) (Told : List ℕ → Type 0) → (status ≡ exit_status NoMemory) × Told (report_line NoMemory)
     → IsUnexplained kind unchanged Told status
 full kind status unchanged Told told = inl (NoMemory, inl refl, told.0, tt, told.1)

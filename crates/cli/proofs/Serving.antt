@@ -13,15 +13,15 @@ use Rattle.cli_failures.specs.Failures.{Holding}
 use Rattle.cli_session.specs.Believed.{BelievesJust}
 use Rattle.cli_session.specs.declared.believed.Believed.{Believed}
 use Rattle.cli_session.specs.Held.{holding_of}
-use Rattle.cli_serving.specs.Serving.{AreAnswersTo, SessionHasEnded, Known, is_end, text_of}
+use Rattle.cli_serving.specs.Serving.{AreAnswersToLines, SessionHasEnded, Known, is_end, text_of}
 use Rattle.cli_serving.specs.declared.ending.End.{End}
 use Rattle.cli_serving.specs.declared.ending.End.TheVariants.{Quit, Finished, Shut, Unwritable, Unreadable, NoMemory}
-use Rattle.cli_steps.specs.State.{IsState, State as PartyState}
+use Rattle.cli_steps.specs.State.{IsState, SessionState as PartyState}
 use Rattle.cli_steps.specs.Ways.{Steps}
-use Rattle.cli_steps.specs.declared.answer.Answer.{Answer}
-use Rattle.cli_steps.specs.declared.answer.Answer.TheVariants as answer
+use Rattle.cli_steps.specs.declared.answer.SessionAnswer.{SessionAnswer}
+use Rattle.cli_steps.specs.declared.answer.SessionAnswer.TheVariants as answer
 use Rattle.cli_store.specs.Stored.{IsSoundIn, LeavesOneOf, keeping_in}
-use Rattle.cli.specs.Serves.{SessionIsServed, IsWhole}
+use Rattle.cli.specs.Serves.{SessionIsServed, IsWholeSession}
 use Rattle.cli.specs.Session.{HasComeTo, IsReadToEnd, IsReadToQuit, beginning}
 use Rattle.cli.specs.Standing.{Seen, seen_of}
 
@@ -49,13 +49,13 @@ has_come believed last prints old new Are listed believes settled durable was_so
 -- the lines of a session that was not cut short, and their answers
 pub record Served (holds : Holding) (input source output written : Option (List ℕ)) (Knows : Known) : Type 0 where
   pub lines : List (List ℕ)
-  pub answers : List Answer
+  pub answers : List SessionAnswer
   pub read : IsReadToQuit input source lines answers ⊎ IsReadToEnd input source lines answers
   pub said : Appends output written (text_of answers)
-  pub known : Knows (λ before now. AreAnswersTo holds lines answers before now)
+  pub known : Knows (λ before now. AreAnswersToLines holds lines answers before now)
 
 -- an answer that ends a session is the one
-is_ends : (it : Answer) → is_end it ≡ true → it ≡ answer.Ends
+is_ends : (it : SessionAnswer) → is_end it ≡ true → it ≡ answer.Ends
 is_ends answer.Ends is = refl
 is_ends answer.Nothing is = absurd cc
 is_ends answer.Believes is = absurd cc
@@ -68,7 +68,7 @@ is_ends answer.BadLine is = absurd cc
 is_ends answer.LongLine is = absurd cc
 
 pub whole : (holds : Holding) (input source output written : Option (List ℕ)) (Knows Before : Known) (end : End)
-    → SessionHasEnded holds input source output written Knows Before end → IsWhole end → Served holds input source output written Knows
+    → SessionHasEnded holds input source output written Knows Before end → IsWholeSession end → Served holds input source output written Knows
 whole holds input source output written Knows Before Quit it is = record {
   lines = it.lines ++ it.line ∷ [];
   answers = it.answers ++ it.answer ∷ [];
@@ -87,7 +87,7 @@ whole holds input source output written Knows Before NoMemory it is = absurd is
 pub served : (holds : Holding) (leaves : Seen → Type 0) (prints : List (List ℕ)) (believed last : Believed) (old new : State) (input source output written : Option (List ℕ)) (Before : Known) (end : End)
     → Believes believed.listed prints → BelievesJust believed prints → IsSettled old → IsDurable old → (IsSoundIn new → IsSoundIn old)
     → SessionHasEnded (holding_of holds) input source output written (λ Are. IsSoundIn new → Steps believed (keeping_in old) last (keeping_in new) Are) Before end
-    → leaves (seen_of new) → IsWhole end → SessionIsServed holds leaves prints (seen_of old) input source output written
+    → leaves (seen_of new) → IsWholeSession end → SessionIsServed holds leaves prints (seen_of old) input source output written
 served holds leaves prints believed last old new input source output written Before end listed believes settled durable was_sound ended left is =
     let it = whole (holding_of holds) input source output written (λ Are. IsSoundIn new → Steps believed (keeping_in old) last (keeping_in new) Are) Before end ended is in record {
       new = seen_of new;
@@ -96,5 +96,5 @@ served holds leaves prints believed last old new input source output written Bef
       answers = it.answers;
       read = it.read;
       said = it.said;
-      come = has_come believed last prints old new (λ before now. AreAnswersTo (holding_of holds) it.lines it.answers before now) listed believes settled durable was_sound it.known;
+      come = has_come believed last prints old new (λ before now. AreAnswersToLines (holding_of holds) it.lines it.answers before now) listed believes settled durable was_sound it.known;
     }

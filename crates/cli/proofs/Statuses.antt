@@ -1,12 +1,12 @@
 -- Statuses of answers and of failures.
 use Rattle.std.proofs.Common.{◌≡◌, inl, inr, refl, ℕ, arith}
-use Rattle.cli_failures.specs.Report.{status_of}
+use Rattle.cli_failures.specs.Report.{exit_status}
 use Rattle.cli_failures.specs.declared.failure.Failure.{Failure}
 use Rattle.cli_failures.specs.declared.failure.Failure.TheVariants.{Refused, NoCertificate, NoRevocationList, NoResponse, NotGenuine, BadLine, BadTime, BadPurpose, BadTopic, Unreadable, Unwritable, StoreFailed, NoMemory, Shut, NoInput}
 use Rattle.cli.specs.Ended.{IsAnswering, IsFailing}
 
 -- a failure has one of three
-pub is_failing : (failure : Failure) → IsFailing (status_of failure)
+pub is_failing : (failure : Failure) → IsFailing (exit_status failure)
 is_failing (Refused file fault) = inl refl
 is_failing (NoCertificate file rule at) = inl refl
 is_failing (NoRevocationList file rule at) = inl refl

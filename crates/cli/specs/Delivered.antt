@@ -14,7 +14,7 @@ use Rattle.cli_failures.specs.Failures.{Holding, HoldsCertificate, IsDenied, IsN
 use Rattle.cli_failures.specs.declared.failure.Failure.{Failure}
 use Rattle.cli_operands.specs.InOrder.{FailsFirst}
 use Rattle.cli_operands.specs.Question.{AcceptsJust, HoldsFingerprints, IsFailureOnFingerprints}
-use Rattle.cli.specs.Standing.{IsFoundOrMade, IsIntact, IsNotMade, IsUnanswered, Leaving, Seen, Standing}
+use Rattle.cli.specs.Standing.{IsFoundOrMade, IsIntact, MakesNoStore, IsUnanswered, Leaving, Seen, Standing}
 use Rattle.cli.specs.declared.delivering.Delivery.{Delivery}
 
 -- A store that was seen so has taken the facts, and was left in a state in which it holds what they make of what it held: all are taken,
@@ -68,7 +68,7 @@ IsDeliveredText holds stands leaves words text =
 -- no store was opened or made, or it did not answer
 abbrev pub IsNotTaken : Standing → Leaving → List ℕ → Failure → Type 0
 IsNotTaken stands leaves path failure =
-    IsNotMade stands path failure ⊎ IsUnanswered (IsFoundOrMade stands path) (leaves path) failure
+    MakesNoStore stands path failure ⊎ IsUnanswered (IsFoundOrMade stands path) (leaves path) failure
 
 -- what is said is that the statement is refused, or that it is genuine, and the store did not take it
 abbrev pub IsNotTakenOf : Standing → Leaving → Result (List Fact) StatementFault → Delivery → Failure → Type 0

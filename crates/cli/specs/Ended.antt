@@ -2,7 +2,7 @@
 use Rattle.std.specs.Prelude.{◌≡◌, ◌⊎◌, ℕ, List}
 use Rattle.clap.specs.Words.{Text}
 use Rattle.cli_failures.specs.Failures.{Holding}
-use Rattle.cli_failures.specs.Report.{UnlessLate, report_line, status_of}
+use Rattle.cli_failures.specs.Report.{UnlessLate, report_line, exit_status}
 use Rattle.cli_failures.specs.declared.failure.Failure.{Failure}
 use Rattle.clap.specs.declared.error.kind.ErrorKind.{ErrorKind}
 use Rattle.cli_failures.specs.declared.failure.Failure.TheVariants.{NoMemory, Unwritable}
@@ -23,7 +23,7 @@ IsFailing status = (status ≡ 4) ⊎ (status ≡ 5) ⊎ (status ≡ 6)
 -- words are mistaken.
 abbrev pub RunHasEnded : Holding → Standing → Leaving → List Text → Type 0 → (List ℕ → Type 0) → ℕ → Type 0
 RunHasEnded holds stands leaves words unchanged Told status =
-    ((failure : Failure) × HasFailed holds stands leaves words failure × (status ≡ status_of failure)
+    ((failure : Failure) × HasFailed holds stands leaves words failure × (status ≡ exit_status failure)
     × UnlessLate failure unchanged × Told (report_line failure))
     ⊎ (AreMistaken words × (status ≡ 5) × unchanged)
 
@@ -36,5 +36,5 @@ HasEndedSo holds stands leaves words unchanged status =
 abbrev pub IsUnexplained : ErrorKind → Type 0 → (List ℕ → Type 0) → ℕ → Type 0
 IsUnexplained kind unchanged Told status =
     ((failure : Failure) × ((failure ≡ NoMemory) ⊎ (IsHelp kind × (failure ≡ Unwritable)))
-    × (status ≡ status_of failure) × UnlessLate failure unchanged × Told (report_line failure))
+    × (status ≡ exit_status failure) × UnlessLate failure unchanged × Told (report_line failure))
     ⊎ (IsMistake kind × (status ≡ 5) × unchanged)

@@ -74,28 +74,28 @@ IsDone holds stands leaves line input source old new status =
 -- ---- failures
 
 -- the first failure on what the line names; or what it asks for was found, and standard output failed
-abbrev pub IsFailureOf : Holding → Standing → Leaving → Line → Failure → Type 0
-IsFailureOf holds stands leaves (Tree file) =
+abbrev pub IsLineFailure : Holding → Standing → Leaving → Line → Failure → Type 0
+IsLineFailure holds stands leaves (Tree file) =
     OrUnwritable (IsNoValue holds file.now) (HoldsValue holds file.now)
-IsFailureOf holds stands leaves (Show kind file) =
+IsLineFailure holds stands leaves (Show kind file) =
     OrUnwritable (IsNotShown holds kind file.now) (HoldsKind holds kind file.now)
-IsFailureOf holds stands leaves (Prints issuer kind file) =
+IsLineFailure holds stands leaves (Prints issuer kind file) =
     OrUnwritable (IsFailureOfPrints holds issuer.now kind file.now) (HoldUnder holds issuer.now kind file.now)
-IsFailureOf holds stands leaves (Deliver store verdicts issuer file) =
+IsLineFailure holds stands leaves (Deliver store verdicts issuer file) =
     OrUnwritable (IsFailureOfDelivery holds stands leaves
     (record { store = store; verdicts = verdicts; issuer = issuer; file = file }))
     (WasDelivered holds stands leaves
     (record { store = store; verdicts = verdicts; issuer = issuer; file = file }))
-IsFailureOf holds stands leaves (Check question) =
+IsLineFailure holds stands leaves (Check question) =
     OrUnwritable (IsFailureOfCheck holds stands leaves question)
     (WasChecked holds stands leaves question)
-IsFailureOf holds stands leaves (Compare question other) =
+IsLineFailure holds stands leaves (Compare question other) =
     OrUnwritable (IsFailureOfComparison holds stands leaves question other.now)
     (WereCompared holds stands leaves question other.now)
-IsFailureOf holds stands leaves (Explain words) =
+IsLineFailure holds stands leaves (Explain words) =
     OrUnwritable (IsNoTopic (map (λ w. w.now) words.items))
     ((text : List ℕ) × IsExplanation (map (λ w. w.now) words.items) text)
-IsFailureOf holds stands leaves (Session store verdicts) =
+IsLineFailure holds stands leaves (Session store verdicts) =
     IsFailureOfSession holds stands store.now (option_map (λ w. w.now) verdicts)
 
 -- ---- words
@@ -118,7 +118,7 @@ HasAnswered holds stands leaves words input source old new status =
 -- The words are a line, and this failed; or memory ran out while they were read, or the text of help could not be written.
 abbrev pub HasFailed : Holding → Standing → Leaving → List Text → Failure → Type 0
 HasFailed holds stands leaves words failure =
-    ((line : Line) × Reads words line × IsFailureOf holds stands leaves line failure)
+    ((line : Line) × Reads words line × IsLineFailure holds stands leaves line failure)
     ⊎ (failure ≡ NoMemory)
     ⊎ ((kind : ErrorKind) × AreRefusedWith words kind × IsHelp kind × (failure ≡ Unwritable))
 

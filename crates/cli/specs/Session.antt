@@ -9,36 +9,36 @@ use Rattle.cli_operands.specs.InOrder.{FailsFirst}
 use Rattle.cli_operands.specs.Question.{HoldsFingerprints, IsFailureOnFingerprints}
 use Rattle.cli_session.specs.Held.{holding_of}
 use Rattle.std.specs.Io.KnownBytes.{Consumes, IsAtEnd}
-use Rattle.cli_serving.specs.Serving.{AreAnswersTo, GivesLines, GoOn, text_of}
-use Rattle.cli_steps.specs.State.{State}
-use Rattle.cli_steps.specs.declared.answer.Answer.{Answer}
-use Rattle.cli_steps.specs.declared.answer.Answer.TheVariants.{Ends}
-use Rattle.cli.specs.Standing.{IsFoundOrMade, IsIntact, IsNotMade, Leaving, Seen, Standing}
+use Rattle.cli_serving.specs.Serving.{AreAnswersToLines, GivesLines, GoOn, text_of}
+use Rattle.cli_steps.specs.State.{SessionState}
+use Rattle.cli_steps.specs.declared.answer.SessionAnswer.{SessionAnswer}
+use Rattle.cli_steps.specs.declared.answer.SessionAnswer.TheVariants.{Ends}
+use Rattle.cli.specs.Standing.{IsFoundOrMade, IsIntact, MakesNoStore, Leaving, Seen, Standing}
 
 -- the fingerprints that are believed in the beginning: those of the file, or none
-abbrev pub BeginsWith : Holding → Option (List ℕ) → List (List ℕ) → Type 0
-BeginsWith holds None prints = prints ≡ []
-BeginsWith holds (Some file) prints = HoldsFingerprints holds file prints
+abbrev pub BelievesAtFirst : Holding → Option (List ℕ) → List (List ℕ) → Type 0
+BelievesAtFirst holds None prints = prints ≡ []
+BelievesAtFirst holds (Some file) prints = HoldsFingerprints holds file prints
 
 -- the party of the beginning: these are believed, and this is held, also behind a crash
-abbrev pub beginning : List (List ℕ) → Holdings → State
+abbrev pub beginning : List (List ℕ) → Holdings → SessionState
 beginning prints held =
     record { listed = prints; prints = prints; kept = record { held = held; left = held ∷ [] } }
 
 -- A party has come so far over a store that was seen so in the beginning and in the end, if its connection is open and its disk has
 -- returned what was written.
-abbrev pub HasComeTo : Seen → Seen → List (List ℕ) → (State → State → Type 0) → Type 0
+abbrev pub HasComeTo : Seen → Seen → List (List ℕ) → (SessionState → SessionState → Type 0) → Type 0
 HasComeTo old new prints Are =
     IsIntact new → IsTrue new.is_open → (start : Holdings) → IsStoreOf old.now start →
-    (now : State) × IsStoreOf new.now now.kept.held × Are (beginning prints start) now
+    (now : SessionState) × IsStoreOf new.now now.kept.held × Are (beginning prints start) now
 
 -- the source gave these lines, of which the last asks for the end, as its answer says
-abbrev pub IsReadToQuit : Option (List ℕ) → Option (List ℕ) → List (List ℕ) → List Answer → Type 0
+abbrev pub IsReadToQuit : Option (List ℕ) → Option (List ℕ) → List (List ℕ) → List SessionAnswer → Type 0
 IsReadToQuit input source lines answers =
-    (earlier : List Answer) × (answers ≡ earlier ++ Ends ∷ []) × GoOn earlier × GivesLines input source lines
+    (earlier : List SessionAnswer) × (answers ≡ earlier ++ Ends ∷ []) × GoOn earlier × GivesLines input source lines
 
 -- or none asks for it, and it is at its end behind them
-abbrev pub IsReadToEnd : Option (List ℕ) → Option (List ℕ) → List (List ℕ) → List Answer → Type 0
+abbrev pub IsReadToEnd : Option (List ℕ) → Option (List ℕ) → List (List ℕ) → List SessionAnswer → Type 0
 IsReadToEnd input source lines answers =
     (middle : Option (List ℕ)) × GivesLines input middle lines × GoOn answers × Consumes middle source [] × IsAtEnd source
 
@@ -47,16 +47,16 @@ IsReadToEnd input source lines answers =
 -- What one line leaves the next finds.
 pub record IsSessionText (holds : Holding) (stands : Standing) (leaves : Leaving) (path : List ℕ) (verdicts : Option (List ℕ)) (input source : Option (List ℕ)) (text : List ℕ) : Type 0 where
   pub prints : List (List ℕ)
-  pub begins : BeginsWith holds verdicts prints
+  pub begins : BelievesAtFirst holds verdicts prints
   pub old : Seen
   pub found : IsFoundOrMade stands path old
   pub new : Seen
   pub left : leaves path new
   pub lines : List (List ℕ)
-  pub answers : List Answer
+  pub answers : List SessionAnswer
   pub read : IsReadToQuit input source lines answers ⊎ IsReadToEnd input source lines answers
   pub text_is : text ≡ text_of answers
-  pub come : HasComeTo old new prints (λ before now. AreAnswersTo (holding_of holds) lines answers before now)
+  pub come : HasComeTo old new prints (λ before now. AreAnswersToLines (holding_of holds) lines answers before now)
 
 -- ---- why a session fails
 
@@ -66,13 +66,13 @@ IsFailureOnVerdicts holds None failure = failure ≡ NoMemory
 IsFailureOnVerdicts holds (Some file) failure = IsFailureOnFingerprints holds file failure
 
 -- it was cut short
-abbrev pub IsCutShort : Failure → Type 0
-IsCutShort failure =
+abbrev pub CutsSessionShort : Failure → Type 0
+CutsSessionShort failure =
     (failure ≡ Unwritable) ⊎ (failure ≡ NoMemory) ⊎ (failure ≡ Shut) ⊎ (failure ≡ NoInput)
 
 -- What is wrong, the first of it: the verdicts, and then the store; or it began, and was cut short.
 abbrev pub IsFailureOfSession : Holding → Standing → List ℕ → Option (List ℕ) → Failure → Type 0
 IsFailureOfSession holds stands path verdicts =
     FailsFirst (IsFailureOnVerdicts holds verdicts)
-    ((prints : List (List ℕ)) × BeginsWith holds verdicts prints)
-    (λ failure. IsNotMade stands path failure ⊎ IsCutShort failure)
+    ((prints : List (List ℕ)) × BelievesAtFirst holds verdicts prints)
+    (λ failure. MakesNoStore stands path failure ⊎ CutsSessionShort failure)

@@ -87,15 +87,15 @@ abbrev pub IsFaultNumber : ℕ → Type 0
 IsFaultNumber number = (number ≡ 71) ⊎ (number ≡ 72)
 
 -- No store was opened or made: a fault with that number was met at the path, or memory ran out.
-abbrev pub IsNotMade : Standing → List ℕ → Failure → Type 0
-IsNotMade stands path (StoreFailed number) = IsFaultNumber number × stands path (refusal number)
-IsNotMade stands path NoMemory = Unit {0}
-IsNotMade stands path _ = ⊥
+abbrev pub MakesNoStore : Standing → List ℕ → Failure → Type 0
+MakesNoStore stands path (StoreFailed number) = IsFaultNumber number × stands path (refusal number)
+MakesNoStore stands path NoMemory = Unit {0}
+MakesNoStore stands path _ = ⊥
 
 -- or no file that can be read was met there
 abbrev pub IsNotFound : Standing → List ℕ → Failure → Type 0
 IsNotFound stands path (Unreadable named) = (named.now ≡ path) × stands path nothing
-IsNotFound stands path failure = IsNotMade stands path failure
+IsNotFound stands path failure = MakesNoStore stands path failure
 
 -- ---- no answer
 

@@ -5,7 +5,7 @@ ghost use Rattle.cert.specs.Certificate.{seen_certificate};
 ghost use Rattle.statements.specs.OcspFact.{genuine_statement};
 ghost use Rattle.statements_facts.specs.Fact.{facts_in};
 ghost use Rattle.cli_failures.specs.Failures.{OrUnwritable};
-ghost use Rattle.cli_failures.specs.Report.{UnlessLate, Writes};
+ghost use Rattle.cli_failures.specs.Report.{UnlessLate, WritesText};
 ghost use Rattle.cli.specs.Believed.{accepted_by};
 ghost use Rattle.cli.specs.Delivered.{HasTaken, IsDelivered, IsDeliveredFor, IsDeliveredText, IsDeliveredUnder, IsFailureFor, IsFailureOfDelivery, IsFailureUnder, IsNotTaken, IsNotTakenOf, IsTakenAt, IsTakenOf, WasDelivered};
 ghost use Rattle.cli.specs.Standing.{IsNoAnswer, seen_of};
@@ -91,10 +91,7 @@ fn take_statement<'a, D: Disk + Drop, S: Stores<Store<D>>>(
         (genuine_statement (accepted_by verifier.now) (seen_certificate issuer.now) statement.now)
         words.entry) }
 {
-    let facts = match read_facts(alloc, verifier, issuer, words.file, statement) {
-        Ok(facts) => facts,
-        Err(failure) => return Err(failure),
-    };
+    let facts = read_facts(alloc, verifier, issuer, words.file, statement)?;
     take_at(source, words.store, verifier, &facts)
 }
 
@@ -113,10 +110,7 @@ fn deliver_under<'a, D: Disk + Drop, S: Source + Stores<Store<D>>>(
         (S.leaves source.now) (accepted_by verifier.now) (seen_certificate issuer.now)
         words.entry) }
 {
-    let statement = match source.octets_of(words.file) {
-        Ok(octets) => octets,
-        Err(failure) => return Err(failure),
-    };
+    let statement = source.octets_of(words.file)?;
     take_statement(source, alloc, verifier, issuer, statement.as_slice(), words)
 }
 
@@ -132,14 +126,8 @@ fn deliver_for<'a, D: Disk + Drop, S: Source + Stores<Store<D>>>(
     ensures fails { IfErr result (IsFailureFor (S.holds source.now) (S.stands source.now)
         (S.leaves source.now) (accepted_by verifier.now) words.entry) }
 {
-    let octets = match source.octets_of(words.issuer) {
-        Ok(octets) => octets,
-        Err(failure) => return Err(failure),
-    };
-    let issuer = match read_certificate(alloc, words.issuer, octets.as_slice()) {
-        Ok(issuer) => issuer,
-        Err(failure) => return Err(failure),
-    };
+    let octets = source.octets_of(words.issuer)?;
+    let issuer = read_certificate(alloc, words.issuer, octets.as_slice())?;
     deliver_under(source, alloc, verifier, &issuer, words)
 }
 
@@ -154,10 +142,7 @@ fn deliver_facts<'a, D: Disk + Drop, S: Source + Stores<Store<D>>>(
     ensures fails { IfErr result (IsFailureOfDelivery
         (S.holds source.now) (S.stands source.now) (S.leaves source.now) words.entry) }
 {
-    let prints = match read_fingerprints(source, alloc, words.verdicts) {
-        Ok(prints) => prints,
-        Err(failure) => return Err(failure),
-    };
+    let prints = read_fingerprints(source, alloc, words.verdicts)?;
     let verifier = ListVerifier::new(prints);
     deliver_for(source, alloc, &verifier, words)
 }
@@ -170,7 +155,7 @@ pub fn deliver<'a, D: Disk + Drop, S: Source + Stores<Store<D>>, O: Write>(
     words: Delivery<'a>,
     out: &mut O,
 ) -> Result<(), Failure<'a>>
-    ensures done { OnOk result (Writes
+    ensures done { OnOk result (WritesText
         (IsDeliveredText (S.holds source.now) (S.stands source.now) (S.leaves source.now)
         words.entry)
         (O.contents out.old) (O.contents out.new)) }

@@ -2,9 +2,9 @@
 ghost use Rattle.std.specs.Prelude.{◌≡◌, ◌⊎◌, IfErr, IfOk, OnOk, map};
 ghost use Rattle.std.specs.Io.KnownBytes.{Appends};
 ghost use Rattle.clap.specs.Words.{kind_of};
-ghost use Rattle.cli_failures.specs.Report.{UnlessLate, report_line, status_of};
+ghost use Rattle.cli_failures.specs.Report.{UnlessLate, report_line, exit_status};
 ghost use Rattle.cli.specs.Ended.{RunHasEnded, HasEndedSo, IsAnswering, IsFailing, IsUnexplained};
-ghost use Rattle.cli.specs.Outcome.{HasAnswered, IsDone, IsFailureOf, IsHelp};
+ghost use Rattle.cli.specs.Outcome.{HasAnswered, IsDone, IsLineFailure, IsHelp};
 
 use crate::{
     Delivery, Stores, check, compare, comparison_status, deliver, explain, session, verdict_status,
@@ -86,7 +86,7 @@ pub fn executed<D: Disk + Drop, S: Source + Stores<Store<D>>, I: Read, O: Write,
 fn finish<E: Write>(outcome: Result<u8, Failure<'_>>, err: &mut E) -> Ended
     ensures done { IfOk outcome.entry (λ status.
         (result.status ≡ status) × (err.new ≡ err.old)) }
-    ensures failed { IfErr outcome.entry (λ failure. (result.status ≡ status_of failure)
+    ensures failed { IfErr outcome.entry (λ failure. (result.status ≡ exit_status failure)
         × OnOk result.told
         (Appends (E.contents err.old) (E.contents err.new) (report_line failure))) }
 {
@@ -114,7 +114,7 @@ fn run<'a, D: Disk + Drop, S: Source + Stores<Store<D>>, I: Read, O: Write>(
         (O.contents out.old) (O.contents out.new)) }
     ensures status { IfOk result IsAnswering }
     ensures fails { IfErr result
-        (IsFailureOf (S.holds source.now) (S.stands source.now) (S.leaves source.now) line.now) }
+        (IsLineFailure (S.holds source.now) (S.stands source.now) (S.leaves source.now) line.now) }
     ensures quiet { IfErr result (λ failure. UnlessLate failure (out.new ≡ out.old)) }
 {
     let status = answer(source, alloc, line, input, out)?;
@@ -136,7 +136,7 @@ fn answer<'a, D: Disk + Drop, S: Source + Stores<Store<D>>, I: Read, O: Write>(
         (O.contents out.old) (O.contents out.new)) }
     ensures status { IfOk result IsAnswering }
     ensures fails { IfErr result
-        (IsFailureOf (S.holds source.now) (S.stands source.now) (S.leaves source.now) line.now) }
+        (IsLineFailure (S.holds source.now) (S.stands source.now) (S.leaves source.now) line.now) }
     ensures quiet { IfErr result (λ failure. UnlessLate failure (out.new ≡ out.old)) }
 {
     match line {

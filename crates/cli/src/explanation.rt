@@ -1,7 +1,7 @@
 //! Explanations of faults, reasons and statuses.
 ghost use Rattle.std.specs.Prelude.{◌≡◌, IfErr, OnOk, map};
 ghost use Rattle.cli_failures.specs.Failures.{OrUnwritable};
-ghost use Rattle.cli_failures.specs.Report.{UnlessLate, Writes};
+ghost use Rattle.cli_failures.specs.Report.{UnlessLate, WritesText};
 ghost use Rattle.cli.specs.Outcome.{IsExplanation, IsNoTopic};
 ghost use Rattle.std.specs.Prelude.{List, ℕ};
 
@@ -11,7 +11,7 @@ use std::io::Write;
 
 /// Writes what the fault, reason or status of these words means, an entry a line; all entries if there are no words.
 pub fn explain<'a, O: Write>(words: &[&'a str], out: &mut O) -> Result<(), Failure<'a>>
-    ensures done { OnOk result (Writes (IsExplanation (map (λ w. w.now) words.now))
+    ensures done { OnOk result (WritesText (IsExplanation (map (λ w. w.now) words.now))
         (O.contents out.old) (O.contents out.new)) }
     ensures fails { IfErr result (OrUnwritable (IsNoTopic (map (λ w. w.now) words.now))
         ((text : List ℕ) × IsExplanation (map (λ w. w.now) words.now) text)) }

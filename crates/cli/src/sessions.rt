@@ -1,8 +1,8 @@
 //! Sessions over a store at a path.
 ghost use Rattle.std.specs.Prelude.{◌≡◌, IfErr, IfOk, OnOk, option_map};
-ghost use Rattle.cli_failures.specs.Report.{UnlessLate, Writes};
-ghost use Rattle.cli.specs.Session.{BeginsWith, IsCutShort, IsFailureOfSession, IsFailureOnVerdicts, IsSessionText};
-ghost use Rattle.cli.specs.Serves.{SessionIsServed, IsWhole};
+ghost use Rattle.cli_failures.specs.Report.{UnlessLate, WritesText};
+ghost use Rattle.cli.specs.Session.{BelievesAtFirst, CutsSessionShort, IsFailureOfSession, IsFailureOnVerdicts, IsSessionText};
+ghost use Rattle.cli.specs.Serves.{SessionIsServed, IsWholeSession};
 ghost use Rattle.cli.specs.Standing.{seen_in};
 ghost use Rattle.sqlite.specs.Files.{file_state};
 ghost use Rattle.store_adoption.specs.Creates.{IsSettled};
@@ -27,7 +27,7 @@ fn prints_of<'a, S: Source>(
     alloc: Global,
     verdicts: Option<&'a str>,
 ) -> Result<Vec<[u8; 32]>, Failure<'a>>
-    ensures begins { IfOk result (λ prints. BeginsWith (S.holds source.now)
+    ensures begins { IfOk result (λ prints. BelievesAtFirst (S.holds source.now)
         (option_map (λ w. w.now) verdicts.entry) prints.items) }
     ensures fails { IfErr result (IsFailureOnVerdicts (S.holds source.now)
         (option_map (λ w. w.now) verdicts.entry)) }
@@ -40,8 +40,8 @@ fn prints_of<'a, S: Source>(
 
 // Whether a session that ended so was cut short, and by what.
 fn outcome_of<'a>(end: End) -> Result<(), Failure<'a>>
-    ensures whole { OnOk result (IsWhole end) }
-    ensures cut { IfErr result IsCutShort }
+    ensures whole { OnOk result (IsWholeSession end) }
+    ensures cut { IfErr result CutsSessionShort }
 {
     match end {
         End::Quit | End::Finished => Ok(()),
@@ -64,7 +64,7 @@ fn serve_over<D: Disk + Drop, S: Source + Stores<Store<D>>, R: Read, O: Write>(
 ) -> End
     requires settled { IsSettled (file_state store.conn) }
     requires durable { IsDurable (file_state store.conn) }
-    ensures served { IsWhole result → SessionIsServed (S.holds source.now)
+    ensures served { IsWholeSession result → SessionIsServed (S.holds source.now)
         (S.leaves source.now path.now) prints.items (seen_in store)
         (R.remaining input.old) (R.remaining input.new)
         (O.contents out.old) (O.contents out.new) }
@@ -93,7 +93,7 @@ pub fn session<'a, D: Disk + Drop, S: Source + Stores<Store<D>>, R: Read, O: Wri
     input: &mut R,
     out: &mut O,
 ) -> Result<(), Failure<'a>>
-    ensures done { OnOk result (Writes (IsSessionText (S.holds source.now) (S.stands source.now)
+    ensures done { OnOk result (WritesText (IsSessionText (S.holds source.now) (S.stands source.now)
         (S.leaves source.now) path.entry.now (option_map (λ w. w.now) verdicts.entry)
         (R.remaining input.old) (R.remaining input.new))
         (O.contents out.old) (O.contents out.new)) }

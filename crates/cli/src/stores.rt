@@ -6,7 +6,7 @@ ghost use Rattle.store_adoption.specs.Creates.{IsSettled};
 ghost use Rattle.store.specs.Adopts.{IsEmptyStoreOn, IsStoreOn};
 ghost use Rattle.store_adoption.specs.Inspects.{IsStore};
 ghost use Rattle.store_sql.specs.Statements.{IsDurable};
-ghost use Rattle.cli.specs.Standing.{IsFound, IsFoundOrMade, IsNotFound, IsNotMade, seen_of, told_of};
+ghost use Rattle.cli.specs.Standing.{IsFound, IsFoundOrMade, IsNotFound, MakesNoStore, seen_of, told_of};
 
 use cli_failures::Failure;
 use sqlite::{Connection, FileStore};
@@ -58,7 +58,7 @@ pub trait Stores<T: Connected> {
             IsFoundOrMade (stands self.now) path.entry.now (seen_of (T.state store))) }
         ensures settled { IfOk result (λ store. IsSettled (T.state store)) }
         ensures durable { IfOk result (λ store. IsDurable (T.state store)) }
-        ensures fails { IfErr result (IsNotMade (stands self.now) path.entry.now) };
+        ensures fails { IfErr result (MakesNoStore (stands self.now) path.entry.now) };
 
     /// Closes a store of the path. What was committed to it is safe however that ends.
     fn close_store(&self, path: &str, store: T)

@@ -13,35 +13,35 @@ abbrev pub is_feed : ℕ → Bool
 is_feed octet = octet == 10
 
 -- what stands before the colon
-abbrev pub front : Option ℕ → List ℕ → List ℕ
-front (Some at) entry = take at entry
-front None entry = entry
+abbrev pub before_colon : Option ℕ → List ℕ → List ℕ
+before_colon (Some at) entry = take at entry
+before_colon None entry = entry
 
-abbrev pub head_of : List ℕ → List ℕ
-head_of entry = front (position is_colon entry) entry
+abbrev pub entry_head : List ℕ → List ℕ
+entry_head entry = before_colon (position is_colon entry) entry
 
-abbrev pub words_of : List ℕ → List (List ℕ)
-words_of head = slice_split is_space head
+abbrev pub head_words : List ℕ → List (List ℕ)
+head_words head = slice_split is_space head
 
 -- the head has all of these words
 abbrev pub about_all : List ℕ → List (List ℕ) → Bool
-about_all head words = list_all (λ word. list_any (λ piece. bytes_eq piece word) (words_of head)) words
+about_all head words = list_all (λ word. list_any (λ piece. bytes_eq piece word) (head_words head)) words
 
 -- the entry is about the topic of these words: its head has all of them
 abbrev pub is_about : List (List ℕ) → List ℕ → Bool
-is_about words entry = about_all (head_of entry) words
+is_about words entry = about_all (entry_head entry) words
 
 -- entries are lines
-abbrev pub entries_of : List ℕ → List (List ℕ)
-entries_of text = slice_split is_feed text
+abbrev pub text_entries : List ℕ → List (List ℕ)
+text_entries text = slice_split is_feed text
 
 -- one of the entries is about the topic
 abbrev pub is_known : List ℕ → List (List ℕ) → Bool
-is_known text words = list_any (is_about words) (entries_of text)
+is_known text words = list_any (is_about words) (text_entries text)
 
 abbrev pub line_if_about : List (List ℕ) → List ℕ → List ℕ
 line_if_about words entry = if is_about words entry then entry ++ 10 ∷ [] else []
 
 -- the entries that are about the topic, a line each
 abbrev pub explanation : List ℕ → List (List ℕ) → List ℕ
-explanation text words = flat_map (line_if_about words) (entries_of text)
+explanation text words = flat_map (line_if_about words) (text_entries text)

@@ -3,7 +3,7 @@ ghost use Rattle.std.specs.Prelude.{◌≡◌, OnOk, map};
 ghost use Rattle.std.specs.List.{list_any, position};
 ghost use Rattle.std.specs.Str.{bytes_eq};
 ghost use Rattle.std.specs.Io.KnownBytes.{Appends};
-ghost use Rattle.cli_explaining.specs.Topics.{about_all, explanation, head_of, is_about, is_colon, is_known, line_if_about, words_of};
+ghost use Rattle.cli_explaining.specs.Topics.{about_all, explanation, entry_head, is_about, is_colon, is_known, line_if_about, head_words};
 
 use std::io;
 use std::io::Write;
@@ -17,7 +17,7 @@ fn first_colon(entry: &[u8]) -> Option<usize>
 
 /// What stands before the colon of an entry.
 fn head_of(entry: &[u8]) -> &[u8]
-    ensures { result.now ≡ head_of entry.now }
+    ensures { result.now ≡ entry_head entry.now }
 {
     match first_colon(entry) {
         Some(at) => entry.split_at(at).0,
@@ -27,7 +27,7 @@ fn head_of(entry: &[u8]) -> &[u8]
 
 /// Whether the head has the word.
 fn has_word(head: &[u8], word: &[u8]) -> bool
-    ensures { result ≡ list_any (λ piece. bytes_eq piece word.now) (words_of head.now) }
+    ensures { result ≡ list_any (λ piece. bytes_eq piece word.now) (head_words head.now) }
 {
     head.split(|octet| *octet == b' ')
         .any(|piece| piece == word)

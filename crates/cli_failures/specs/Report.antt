@@ -101,22 +101,22 @@ abbrev pub report_line : Failure → List ℕ
 report_line failure = codes "x509check: " ++ told_line failure
 
 -- 4 for input that is refused, 5 for words, 6 for a file, a store or a writer that failed, and if memory ran out
-abbrev pub status_of : Failure → ℕ
-status_of (Refused file fault) = 4
-status_of (NoCertificate file rule at) = 4
-status_of (NoRevocationList file rule at) = 4
-status_of (NoResponse file rule at) = 4
-status_of (NotGenuine file fault) = 4
-status_of (BadLine file line) = 4
-status_of BadTime = 5
-status_of BadPurpose = 5
-status_of BadTopic = 5
-status_of (Unreadable file) = 6
-status_of Unwritable = 6
-status_of (StoreFailed number) = 6
-status_of NoMemory = 6
-status_of Shut = 6
-status_of NoInput = 6
+abbrev pub exit_status : Failure → ℕ
+exit_status (Refused file fault) = 4
+exit_status (NoCertificate file rule at) = 4
+exit_status (NoRevocationList file rule at) = 4
+exit_status (NoResponse file rule at) = 4
+exit_status (NotGenuine file fault) = 4
+exit_status (BadLine file line) = 4
+exit_status BadTime = 5
+exit_status BadPurpose = 5
+exit_status BadTopic = 5
+exit_status (Unreadable file) = 6
+exit_status Unwritable = 6
+exit_status (StoreFailed number) = 6
+exit_status NoMemory = 6
+exit_status Shut = 6
+exit_status NoInput = 6
 
 -- Where a run fails so, this is so: standard output is as it was. What was written before it failed itself, before memory ran out, or in
 -- a session that was cut short, is left open.
@@ -128,5 +128,5 @@ UnlessLate NoInput unchanged = Unit {0}
 UnlessLate _ unchanged = unchanged
 
 -- a text of which this is so was written
-abbrev pub Writes : (List ℕ → Type 0) → Option (List ℕ) → Option (List ℕ) → Type 0
-Writes Is old new = (text : List ℕ) × Is text × Appends old new text
+abbrev pub WritesText : (List ℕ → Type 0) → Option (List ℕ) → Option (List ℕ) → Type 0
+WritesText Is old new = (text : List ℕ) × Is text × Appends old new text

@@ -1,7 +1,7 @@
 //! Why a run failed: the line on standard error and the exit status.
 ghost use Rattle.std.specs.Prelude.{◌≡◌, OnOk};
 ghost use Rattle.std.specs.Io.KnownBytes.{Appends};
-ghost use Rattle.cli_failures.specs.Report.{bad_line, line_words, place_text, printed_name, printed_number, printed_statement_name, printed_statement_number, refusal_line, report_line, response_line, statement_line, status_of, store_fault_line, told_line, unreadable_line, unsuccessful_line, unsuccessful_words};
+ghost use Rattle.cli_failures.specs.Report.{bad_line, line_words, place_text, printed_name, printed_number, printed_statement_name, printed_statement_number, refusal_line, report_line, response_line, statement_line, exit_status, store_fault_line, told_line, unreadable_line, unsuccessful_line, unsuccessful_words};
 
 use asn::Fault;
 use cert::CertRule;
@@ -222,7 +222,7 @@ fn write_text<W: Write>(text: &str, writer: &mut W) -> io::Result<()>
 impl<'a> Failure<'a> {
     /// The exit status.
     pub fn status(&self) -> u8
-        ensures { result ≡ status_of self.now }
+        ensures { result ≡ exit_status self.now }
     {
         match self {
             Failure::Refused { .. }

@@ -9,13 +9,13 @@ use Rattle.statements_facts.specs.Coming.{AreCounts, after_all}
 use Rattle.statements_facts.specs.Fact.{Fact}
 use Rattle.statements_facts.specs.Statement.{Holdings}
 use Rattle.statements_facts.specs.declared.counts.Counts.{Counts}
-use Rattle.cli_keeping.specs.declared.asked.Asked.{Asked}
+use Rattle.cli_keeping.specs.declared.asked.PathQuestion.{PathQuestion}
 use Rattle.cli_keeping.specs.declared.fault.KeeperFault.{KeeperFault}
 use Rattle.cli_keeping.specs.declared.fault.KeeperFault.TheVariants.{NoKeeper}
 
 -- the question that is asked
-abbrev pub seen_asked : Asked → Query
-seen_asked asked = query_of asked.anchor asked.path.items asked.moment (option_copied asked.purpose)
+abbrev pub asked_query : PathQuestion → Query
+asked_query asked = query_of asked.anchor asked.path.items asked.moment (option_copied asked.purpose)
 
 -- What is kept: what is held, and what may be found behind a crash at this moment, which is one of these.
 pub record Kept : Type 0 where
@@ -47,8 +47,8 @@ Takes old new facts (Err fault) =
     (kept : Kept) → old kept → new (trying facts kept) × (fault ≢ NoKeeper)
 
 -- the verdict by what is held, and nothing changed
-abbrev pub Finds : Keeping → Keeping → Accepts → Query → Result Verdict KeeperFault → Type 0
-Finds old new accepts query (Ok verdict) =
+abbrev pub AnswersWithVerdict : Keeping → Keeping → Accepts → Query → Result Verdict KeeperFault → Type 0
+AnswersWithVerdict old new accepts query (Ok verdict) =
     (kept : Kept) → old kept → new kept × IsVerdict accepts query kept.held verdict
-Finds old new accepts query (Err fault) =
+AnswersWithVerdict old new accepts query (Err fault) =
     (kept : Kept) → old kept → new kept × (fault ≢ NoKeeper)

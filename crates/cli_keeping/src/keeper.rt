@@ -1,9 +1,9 @@
 //! Who keeps statements.
 ghost use Rattle.std.specs.Prelude.{◌≡◌, false};
 ghost use Rattle.statements_facts.specs.Fact.{facts_in};
-ghost use Rattle.cli_keeping.specs.Keeping.{Finds, Keeps, Takes, seen_asked};
+ghost use Rattle.cli_keeping.specs.Keeping.{AnswersWithVerdict, Keeps, Takes, asked_query};
 
-use crate::asked::Asked;
+use crate::asked::PathQuestion;
 use crate::fault::KeeperFault;
 use path_verifiers::Verifier;
 use relying_agreement::Verdict;
@@ -33,11 +33,11 @@ pub trait Keeper {
         &mut self,
         alloc: Global,
         verifier: &V,
-        asked: Asked<'_>,
+        asked: PathQuestion<'_>,
     ) -> Result<Verdict, KeeperFault>
         ensures sound { is_sound self.new → is_sound self.old }
-        ensures finds { is_sound self.new → Finds (keeps self.old) (keeps self.new)
-            (V.accepts verifier.now) (seen_asked asked.entry) result };
+        ensures finds { is_sound self.new → AnswersWithVerdict (keeps self.old) (keeps self.new)
+            (V.accepts verifier.now) (asked_query asked.entry) result };
 
     /// Whether it may still answer. It does not once its connection is shut.
     fn may_answer(&mut self) -> bool

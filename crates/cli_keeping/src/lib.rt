@@ -5,6 +5,6 @@ mod asked;
 mod fault;
 mod keeper;
 
-pub use asked::Asked;
+pub use asked::PathQuestion;
 pub use fault::KeeperFault;
 pub use keeper::Keeper;

@@ -2,7 +2,7 @@
 use Rattle.std.proofs.Common.{◌≡◌, ◌≢◌, ◌<◌, ◌≤◌, ◌+◌, ◌-◌, ◌*◌, ◌++◌, ◌∙◌, ℕ, zero, suc, List, [], ◌∷◌, Option, Some, None, Result, Ok, Err, IfOk, IfNone, length, take, drop, map, get_or, decimal, sym, ap, subst, arith, slice_index}
 use Rattle.std.specs.List.{All, flat_map}
 use Rattle.std.proofs.lemmas.List.{get_or-map, length-drop, length-map, take_all}
-use Rattle.cli_operands.specs.Purpose.{AreArcs, IsDotted, IsPurpose, IsServedArc, MayBegin, contents_of, subidentifier_octets}
+use Rattle.cli_operands.specs.Purpose.{AreOidNumbers, IsDotted, NamesPurpose, IsServedArc, MayBegin, contents_of_arcs, subidentifier_octets}
 use Rattle.cli_operands.proofs.Decimals.{same_decimals}
 
 -- a part that is no number: the text is no dotted decimal
@@ -15,7 +15,7 @@ no_arcs parts k part at none arcs served is =
     none (get_or arcs k 0) (served k 0 less) (at.1 ∙ there)
 
 -- all numbers of an OBJECT IDENTIFIER have 63 bits
-pub arcs_are_served : (arcs : List ℕ) → AreArcs arcs → All IsServedArc arcs
+pub arcs_are_served : (arcs : List ℕ) → AreOidNumbers arcs → All IsServedArc arcs
 arcs_are_served [] are = absurd are
 arcs_are_served (first ∷ []) are = absurd are
 arcs_are_served (first ∷ second ∷ others) are = λ k d less. each k d less
@@ -26,12 +26,12 @@ arcs_are_served (first ∷ second ∷ others) are = λ k d less. each k d less
     each (suc (suc k)) d less = are.1 k d (omega (arith, less))
 
 -- numbers with which no OBJECT IDENTIFIER has a text
-pub no_purpose : (text arcs : List ℕ) → All IsServedArc arcs → IsDotted text arcs → (AreArcs arcs → ⊥) → (contents : List ℕ) → IsPurpose text contents → ⊥
+pub no_purpose : (text arcs : List ℕ) → All IsServedArc arcs → IsDotted text arcs → (AreOidNumbers arcs → ⊥) → (contents : List ℕ) → NamesPurpose text contents → ⊥
 no_purpose text arcs served dotted none contents is =
-    none (subst AreArcs (same_decimals is.arcs arcs (arcs_are_served is.arcs is.are) served (sym is.dotted ∙ dotted)) is.are)
+    none (subst AreOidNumbers (same_decimals is.arcs arcs (arcs_are_served is.arcs is.are) served (sym is.dotted ∙ dotted)) is.are)
 
 -- fewer than two
-pub few : (arcs : List ℕ) → length arcs < 2 → AreArcs arcs → ⊥
+pub few : (arcs : List ℕ) → length arcs < 2 → AreOidNumbers arcs → ⊥
 few [] short are = are
 few (first ∷ []) short are = are
 few (first ∷ second ∷ others) short are = absurd (omega (arith, short))
@@ -39,7 +39,7 @@ few (first ∷ second ∷ others) short are = absurd (omega (arith, short))
 -- what the code makes of two numbers and those behind them
 pub arcs_by : (arcs others contents : List ℕ) (number : ℕ) → 2 ≤ length arcs → All IsServedArc arcs → others ≡ drop 2 arcs
     → MayBegin (slice_index arcs 0) (slice_index arcs 1) × (number ≡ slice_index arcs 0 * 40 + slice_index arcs 1)
-    → contents ≡ subidentifier_octets number ++ flat_map subidentifier_octets others → AreArcs arcs × (contents ≡ contents_of arcs)
+    → contents ≡ subidentifier_octets number ++ flat_map subidentifier_octets others → AreOidNumbers arcs × (contents ≡ contents_of_arcs arcs)
 arcs_by [] others contents number long served behind begin is = absurd (omega (arith, long))
 arcs_by (first ∷ []) others contents number long served behind begin is = absurd (omega (arith, long))
 arcs_by (first ∷ second ∷ more) others contents number long served behind begin is = (

@@ -15,8 +15,8 @@ use Rattle.der_stream.specs.Sequence.{IsValueWithin, joined}
 use Rattle.cli_failures.specs.Failures.{Holding}
 use Rattle.cli_failures.specs.declared.failure.Failure.{Failure}
 use Rattle.cli_failures.specs.declared.failure.Failure.TheVariants.{Refused, NoCertificate, NoRevocationList, NoResponse, NotGenuine, BadLine, BadTime, BadPurpose, BadTopic, Unreadable, Unwritable, StoreFailed, NoMemory, Shut, NoInput}
-use Rattle.cli_operands.specs.PathText.{AreTexts, Begins, HoldsNoValue, HoldsOther, IsFailureOnPath, longest, most}
-use Rattle.cli_operands.specs.CertificateValues.{AreRead, IsFailureAmong, IsFailureAt, IsOtherAmong, IsToldOf, WereRead}
+use Rattle.cli_operands.specs.PathText.{AreTexts, BeginsWithValues, HoldsNoValue, HoldsOther, IsFailureOnPath, longest, most}
+use Rattle.cli_operands.specs.CertificateValues.{AreCertificateValues, IsFailureAmong, IsFailureAt, IsOtherAmong, IsToldOf, ReadUpTo}
 use Rattle.cli_operands.specs.PathFiles.{IsFailureBehind}
 
 -- ---- values in order
@@ -59,7 +59,7 @@ pub place_more : (values : List (List ℕ)) (value : List ℕ) → length (joine
 place_more values value =
     ap length (joined-more values (value ∷ [])) ∙ length-append (joined values) (value ++ []) ∙ ap (λ (octets : List ℕ). length (joined values) + length octets) (append-nil value)
 
-pub among : (before : List (List ℕ)) (value : List ℕ) (behind : List (List ℕ)) (file : List ℕ) (failure : Failure) → AreRead before → IsFailureAt value (length (joined before)) file failure
+pub among : (before : List (List ℕ)) (value : List ℕ) (behind : List (List ℕ)) (file : List ℕ) (failure : Failure) → AreCertificateValues before → IsFailureAt value (length (joined before)) file failure
     → IsFailureAmong (before ++ value ∷ behind) file failure
 among before value behind file (NoCertificate named rule at) read (same, (offset, refused, at_is)) =
     (same, record { before = before; value = value; behind = behind; values_are = refl; read = read; offset = offset; refused = refused; at_is = at_is })
@@ -89,7 +89,7 @@ back_of P [] others all = all
 back_of P (value ∷ before) others all = back_of P before others all.1
 
 -- a value among those with which the octets begin, and what is left behind it
-other_in : (octets : List ℕ) (values : List (List ℕ)) (left : List ℕ) (rule : CertRule) (at : ℕ) → Begins octets values left → length values ≤ 129 → IsOtherAmong values rule at → HoldsOther octets rule at
+other_in : (octets : List ℕ) (values : List (List ℕ)) (left : List ℕ) (rule : CertRule) (at : ℕ) → BeginsWithValues octets values left → length values ≤ 129 → IsOtherAmong values rule at → HoldsOther octets rule at
 other_in octets values left rule at begins few other =
     let others = other.value ∷ other.behind in
     let all = subst (AllByRecursion (IsValueWithin longest)) other.values_are begins.each in
@@ -125,7 +125,7 @@ module _ (holds : Holding) (octets file : List ℕ) (held : holds file (Some oct
   pub of_memory : (failure : Failure) → failure ≡ NoMemory → IsFailureOnPath holds file failure
   of_memory failure is = subst (IsFailureOnPath holds file) (sym is) tt
 
-  pub refused_among : (values : List (List ℕ)) (stopped : Option (ℕ × ReadFault)) (failure : Failure) → WereRead octets values stopped → IsFailureAmong values file failure → IsFailureOnPath holds file failure
+  pub refused_among : (values : List (List ℕ)) (stopped : Option (ℕ × ReadFault)) (failure : Failure) → ReadUpTo octets values stopped → IsFailureAmong values file failure → IsFailureOnPath holds file failure
   refused_among values stopped (NoCertificate named rule at) read (same, other) = (same, (octets, held, other_in octets values read.left rule at read.begins read.few other))
   refused_among values stopped (Refused named fault) read fails = of_memory (Refused named fault) fails
   refused_among values stopped (NoRevocationList named rule at) read fails = of_memory (NoRevocationList named rule at) fails
@@ -143,7 +143,7 @@ module _ (holds : Holding) (octets file : List ℕ) (held : holds file (Some oct
   refused_among values stopped NoMemory read fails = of_memory NoMemory fails
 
   -- what stands behind certificates is no value
-  no_value : (values : List (List ℕ)) (place : ℕ) (rule : Rule) (at : ℕ) (fault : Fault) → WereRead octets values (Some (place, OfValue (Breaks rule at))) → AreRead values → fault ≡ Breaks rule (place + at) → HoldsNoValue octets fault
+  no_value : (values : List (List ℕ)) (place : ℕ) (rule : Rule) (at : ℕ) (fault : Fault) → ReadUpTo octets values (Some (place, OfValue (Breaks rule at))) → AreCertificateValues values → fault ≡ Breaks rule (place + at) → HoldsNoValue octets fault
   no_value values place rule at fault read (certificates, are) is = record {
     before = values;
     left = read.left;
@@ -151,7 +151,7 @@ module _ (holds : Holding) (octets file : List ℕ) (held : holds file (Some oct
     broken = inl (rule, at, read.end.2, read.end.3, is ∙ ap (λ (start : ℕ). Breaks rule (start + at)) read.end.1);
   }
 
-  told_behind : (values : List (List ℕ)) (place : ℕ) (rule : Rule) (at : ℕ) (failure : Failure) → WereRead octets values (Some (place, OfValue (Breaks rule at))) → AreRead values
+  told_behind : (values : List (List ℕ)) (place : ℕ) (rule : Rule) (at : ℕ) (failure : Failure) → ReadUpTo octets values (Some (place, OfValue (Breaks rule at))) → AreCertificateValues values
       → IsToldOf file place (OfValue (Breaks rule at)) failure → IsFailureOnPath holds file failure
   told_behind values place rule at (Refused named fault) read are (same, is) = (same, (octets, held, no_value values place rule at fault read are is))
   told_behind values place rule at (NoCertificate named other place_of) read are fails = of_memory (NoCertificate named other place_of) fails
@@ -170,7 +170,7 @@ module _ (holds : Holding) (octets file : List ℕ) (held : holds file (Some oct
   told_behind values place rule at NoMemory read are fails = of_memory NoMemory fails
 
   -- nothing is there at all
-  empty : (values : List (List ℕ)) (fault : Fault) → WereRead octets values None → AreRead values → values ≡ [] → fault ≡ Breaks Truncated 0 → HoldsNoValue octets fault
+  empty : (values : List (List ℕ)) (fault : Fault) → ReadUpTo octets values None → AreCertificateValues values → values ≡ [] → fault ≡ Breaks Truncated 0 → HoldsNoValue octets fault
   empty values fault read are none is = record {
     before = [];
     left = octets;
@@ -185,7 +185,7 @@ module _ (holds : Holding) (octets file : List ℕ) (held : holds file (Some oct
       nothing : octets ≡ []
       nothing = read.begins.text_is ∙ ap (λ (values : List (List ℕ)). joined values ++ read.left) none ∙ left_is read.end
 
-  pub refused_behind : (values : List (List ℕ)) (stopped : Option (ℕ × ReadFault)) (failure : Failure) → WereRead octets values stopped → AreRead values → IsFailureBehind values file stopped failure
+  pub refused_behind : (values : List (List ℕ)) (stopped : Option (ℕ × ReadFault)) (failure : Failure) → ReadUpTo octets values stopped → AreCertificateValues values → IsFailureBehind values file stopped failure
       → IsFailureOnPath holds file failure
   refused_behind values (Some (place, OfValue (Breaks rule at))) failure read are fails = told_behind values place rule at failure read are fails
   refused_behind values (Some (place, OfValue Memory)) failure read are fails = of_memory failure fails

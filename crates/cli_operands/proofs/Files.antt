@@ -6,7 +6,7 @@ use Rattle.cli_failures.specs.Failures.{Holding, IsJust, IsNoCertificate, IsUnre
 use Rattle.cli_failures.specs.declared.failure.Failure.{Failure}
 use Rattle.cli_failures.specs.declared.failure.Failure.TheVariants.{Refused, NoCertificate, NoRevocationList, NoResponse, NotGenuine, BadLine, BadTime, BadPurpose, BadTopic, Unreadable, Unwritable, StoreFailed, NoMemory, Shut, NoInput}
 use Rattle.cli_operands.specs.CertificateValues.{EndBehind, IsFailureAmong}
-use Rattle.cli_operands.specs.PathFiles.{AreCertificatesIn, AreCertificatesOf, AreFilesRead, IsFailureBehind, IsFailureIn, IsFailureOf, IsFileRead, values_of}
+use Rattle.cli_operands.specs.PathFiles.{AreCertificatesIn, AreCertificatesOf, AreFilesRead, IsFailureBehind, IsFailureIn, IsFailureOf, IsFileRead, values_read}
 use Rattle.cli_operands.specs.PathText.{HoldPath, HoldsCertificates, IsFailureOfPath, IsFailureOnPath}
 use Rattle.cli_operands.specs.declared.path_file.PathFile.{PathFile}
 use Rattle.cli_operands.proofs.Certificates.{of_memory, one_more_at, parted_at, refused_among, refused_behind}
@@ -131,21 +131,21 @@ holds_certificates holds file it certificates (named, (octets, held, read)) are 
   octets,
   held,
   record {
-    values = values_of it;
+    values = values_read it;
     some = are.some;
     left = read.left;
     begins = read.begins;
     few = read.few;
-    whole = subst (EndBehind (values_of it) read.left) are.whole read.end;
+    whole = subst (EndBehind (values_read it) read.left) are.whole read.end;
     each = are.each;
   },
 )
 
 fails_on : (holds : Holding) (file : List ℕ) (it : PathFile) (failure : Failure) → IsFileRead holds file it → IsFailureIn it failure → IsFailureOnPath holds file failure
 fails_on holds file it failure (named, (octets, held, read)) (inl among) =
-    refused_among holds octets file held (values_of it) it.stopped failure read (subst (λ (name : List ℕ). IsFailureAmong (values_of it) name failure) named among)
+    refused_among holds octets file held (values_read it) it.stopped failure read (subst (λ (name : List ℕ). IsFailureAmong (values_read it) name failure) named among)
 fails_on holds file it failure (named, (octets, held, read)) (inr (are, behind)) =
-    refused_behind holds octets file held (values_of it) it.stopped failure read are (subst (λ (name : List ℕ). IsFailureBehind (values_of it) name it.stopped failure) named behind)
+    refused_behind holds octets file held (values_read it) it.stopped failure read are (subst (λ (name : List ℕ). IsFailureBehind (values_read it) name it.stopped failure) named behind)
 
 pub hold_path : (holds : Holding) (files : List (List ℕ)) (read : List PathFile) (unread : Option Failure) (certificates : List Certificate) → AreFilesRead holds files read unread → unread ≡ None → AreCertificatesOf read certificates
     → HoldPath holds files certificates

@@ -3,11 +3,11 @@ use Rattle.std.proofs.Common.{◌≡◌, ◌≤◌, ◌+◌, ℕ, List, Option, 
 use Rattle.std.proofs.lemmas.List.{length-append}
 use Rattle.der_stream.specs.declared.reading.ReadFault.{ReadFault}
 use Rattle.der_stream.specs.Sequence.{joined}
-use Rattle.cli_operands.specs.CertificateValues.{WereRead}
+use Rattle.cli_operands.specs.CertificateValues.{ReadUpTo}
 
 -- they are a part of the octets
-whole : (octets : List ℕ) (values : List (List ℕ)) (stopped : Option (ℕ × ReadFault)) → (read : WereRead octets values stopped) → length octets ≡ length (joined values) + length read.left
+whole : (octets : List ℕ) (values : List (List ℕ)) (stopped : Option (ℕ × ReadFault)) → (read : ReadUpTo octets values stopped) → length octets ≡ length (joined values) + length read.left
 whole octets values stopped read = ap length read.begins.text_is ∙ length-append (joined values) read.left
 
-pub part : (octets : List ℕ) (values : List (List ℕ)) (stopped : Option (ℕ × ReadFault)) → WereRead octets values stopped → length (joined values) ≤ length octets
+pub part : (octets : List ℕ) (values : List (List ℕ)) (stopped : Option (ℕ × ReadFault)) → ReadUpTo octets values stopped → length (joined values) ≤ length octets
 part octets values stopped read = omega (arith, whole octets values stopped read)

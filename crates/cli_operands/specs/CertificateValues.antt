@@ -9,11 +9,11 @@ use Rattle.der_stream.specs.declared.reading.ReadFault.TheVariants.{Fault, Limit
 use Rattle.der_stream.specs.Sequence.{joined}
 use Rattle.cli_failures.specs.declared.failure.Failure.{Failure}
 use Rattle.cli_failures.specs.declared.failure.Failure.TheVariants.{NoCertificate, NoMemory, Refused}
-use Rattle.cli_operands.specs.PathText.{AreTexts, Begins, most}
+use Rattle.cli_operands.specs.PathText.{AreTexts, BeginsWithValues, most}
 
 -- each is the value of a certificate
-abbrev pub AreRead : List (List ℕ) → Type 0
-AreRead values = (certificates : List Certificate) × AreTexts values certificates
+abbrev pub AreCertificateValues : List (List ℕ) → Type 0
+AreCertificateValues values = (certificates : List Certificate) × AreTexts values certificates
 
 -- a failure on the value that starts at that place of the file
 abbrev pub IsFailureAt : List ℕ → ℕ → List ℕ → Failure → Type 0
@@ -27,7 +27,7 @@ pub record IsOtherAmong (values : List (List ℕ)) (rule : CertRule) (at : ℕ) 
   pub value : List ℕ
   pub behind : List (List ℕ)
   pub values_are : values ≡ before ++ value ∷ behind
-  pub read : AreRead before
+  pub read : AreCertificateValues before
   pub offset : ℕ
   pub refused : certificate value ≡ Err (rule, offset)
   pub at_is : at ≡ length (joined before) + offset
@@ -46,9 +46,9 @@ EndBehind values left (Some (place, Limit)) = ⊥
 EndBehind values left (Some (place, Io)) = Unit {0}
 
 -- the octets begin with these values, and no more were read for that reason
-pub record WereRead (octets : List ℕ) (values : List (List ℕ)) (stopped : Option (ℕ × ReadFault)) : Type 0 where
+pub record ReadUpTo (octets : List ℕ) (values : List (List ℕ)) (stopped : Option (ℕ × ReadFault)) : Type 0 where
   pub left : List ℕ
-  pub begins : Begins octets values left
+  pub begins : BeginsWithValues octets values left
   pub few : length values ≤ most
   pub end : EndBehind values left stopped
 

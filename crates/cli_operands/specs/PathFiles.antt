@@ -9,20 +9,20 @@ use Rattle.cli_failures.specs.declared.failure.Failure.{Failure}
 use Rattle.cli_failures.specs.declared.failure.Failure.TheVariants.{NoMemory, Refused}
 use Rattle.cli_operands.specs.InOrder.{FailsFirst}
 use Rattle.cli_operands.specs.PathText.{AreTexts}
-use Rattle.cli_operands.specs.CertificateValues.{AreRead, IsFailureAmong, IsToldOf, WereRead}
+use Rattle.cli_operands.specs.CertificateValues.{AreCertificateValues, IsFailureAmong, IsToldOf, ReadUpTo}
 use Rattle.cli_operands.specs.declared.path_file.PathFile.{PathFile}
 
 -- ---- files
 
 -- the values that were read of a file
-abbrev pub values_of : PathFile → List (List ℕ)
-values_of it = map (λ value. value.items) it.values.items
+abbrev pub values_read : PathFile → List (List ℕ)
+values_read it = map (λ value. value.items) it.values.items
 
 -- the file holds octets, and these are the values with which they begin
 abbrev pub IsFileRead : Holding → List ℕ → PathFile → Type 0
 IsFileRead holds file it =
     (it.file.now ≡ file)
-    × ((octets : List ℕ) × holds file (Some octets) × WereRead octets (values_of it) it.stopped)
+    × ((octets : List ℕ) × holds file (Some octets) × ReadUpTo octets (values_read it) it.stopped)
 
 -- the files were read, or those before the first that was not, for this failure
 abbrev pub AreFilesRead : Holding → List (List ℕ) → List PathFile → Option Failure → Type 0
@@ -37,9 +37,9 @@ AreFilesRead holds (file ∷ files) (it ∷ more) unread = IsFileRead holds file
 
 -- the values of the file are those of the certificates, and it ends behind them
 pub record AreCertificatesIn (it : PathFile) (certificates : List Certificate) : Type 0 where
-  pub some : values_of it ≢ []
+  pub some : values_read it ≢ []
   pub whole : it.stopped ≡ None
-  pub each : AreTexts (values_of it) certificates
+  pub each : AreTexts (values_read it) certificates
 
 -- the same of files, one after the other
 abbrev pub AreCertificatesOf : List PathFile → List Certificate → Type 0
@@ -57,8 +57,8 @@ IsFailureBehind values file None failure = ⊥
 -- the first failure on a file, value by value
 abbrev pub IsFailureIn : PathFile → Failure → Type 0
 IsFailureIn it =
-    FailsFirst (IsFailureAmong (values_of it) it.file.now) (AreRead (values_of it))
-    (IsFailureBehind (values_of it) it.file.now it.stopped)
+    FailsFirst (IsFailureAmong (values_read it) it.file.now) (AreCertificateValues (values_read it))
+    (IsFailureBehind (values_read it) it.file.now it.stopped)
 
 -- the first failure on files, behind which one may not have been read
 abbrev pub IsFailureOf : List PathFile → Option Failure → Failure → Type 0

@@ -22,19 +22,19 @@ abbrev pub longest : ℕ
 longest = 268435461
 
 -- the octets begin with these values, and then these are left
-abbrev pub Begins : List ℕ → List (List ℕ) → List ℕ → Type 0
-Begins = BeginsWith longest
+abbrev pub BeginsWithValues : List ℕ → List (List ℕ) → List ℕ → Type 0
+BeginsWithValues = BeginsWith longest
 
 -- the texts are those of the certificates, in order
 abbrev pub AreTexts : List (List ℕ) → List Certificate → Type 0
 AreTexts texts certificates = map certificate texts ≡ map Ok certificates
 
 -- the octets are the certificates, each the value of one
-pub record AreCertificates (octets : List ℕ) (certificates : List Certificate) : Type 0 where
+pub record ArePathCertificates (octets : List ℕ) (certificates : List Certificate) : Type 0 where
   pub values : List (List ℕ)
   pub some : values ≢ []
   pub left : List ℕ
-  pub begins : Begins octets values left
+  pub begins : BeginsWithValues octets values left
   -- no more than the first of them are looked at
   pub few : length values ≤ most
   pub whole : (left ≡ []) ⊎ (length values ≡ most)
@@ -43,7 +43,7 @@ pub record AreCertificates (octets : List ℕ) (certificates : List Certificate)
 -- the file holds them
 abbrev pub HoldsCertificates : Holding → List ℕ → List Certificate → Type 0
 HoldsCertificates holds file certificates =
-    (octets : List ℕ) × holds file (Some octets) × AreCertificates octets certificates
+    (octets : List ℕ) × holds file (Some octets) × ArePathCertificates octets certificates
 
 -- the files hold them, one file after the other
 abbrev pub HoldPath : Holding → List (List ℕ) → List Certificate → Type 0
@@ -59,7 +59,7 @@ pub record BeginWithCertificates (octets : List ℕ) (before : List (List ℕ)) 
   pub few : length before < most
   pub certificates : List Certificate
   pub each : AreTexts before certificates
-  pub begins : Begins octets before left
+  pub begins : BeginsWithValues octets before left
 
 -- A value behind certificates is no certificate. The place is counted from the first octet of the file.
 pub record HoldsOther (octets : List ℕ) (rule : CertRule) (at : ℕ) : Type 0 where
@@ -67,7 +67,7 @@ pub record HoldsOther (octets : List ℕ) (rule : CertRule) (at : ℕ) : Type 0 
   pub text : List ℕ
   pub left : List ℕ
   pub begin : BeginWithCertificates octets before (text ++ left)
-  pub value : Begins (text ++ left) (text ∷ []) left
+  pub value : BeginsWithValues (text ++ left) (text ∷ []) left
   pub offset : ℕ
   pub refused : certificate text ≡ Err (rule, offset)
   pub at_is : at ≡ length (joined before) + offset

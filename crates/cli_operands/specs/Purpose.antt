@@ -25,10 +25,10 @@ pub record MayBegin (first second : ℕ) : Type 0 where
   pub served : IsServedArc (first * 40 + second)
 
 -- the numbers of an OBJECT IDENTIFIER
-abbrev pub AreArcs : List ℕ → Type 0
-AreArcs [] = ⊥
-AreArcs (first ∷ []) = ⊥
-AreArcs (first ∷ second ∷ others) = MayBegin first second × All IsServedArc others
+abbrev pub AreOidNumbers : List ℕ → Type 0
+AreOidNumbers [] = ⊥
+AreOidNumbers (first ∷ []) = ⊥
+AreOidNumbers (first ∷ second ∷ others) = MayBegin first second × All IsServedArc others
 
 -- the subidentifiers: one for the first two of the numbers, and one for each other (8.19.3, 8.19.4)
 abbrev pub subidentifiers : List ℕ → List ℕ
@@ -43,12 +43,12 @@ leading_octets number = map (λ digit. 128 + digit) (digits_of 128 number)
 abbrev pub subidentifier_octets : ℕ → List ℕ
 subidentifier_octets number = leading_octets (number / 128) ++ (number % 128) ∷ []
 
-abbrev pub contents_of : List ℕ → List ℕ
-contents_of arcs = flat_map subidentifier_octets (subidentifiers arcs)
+abbrev pub contents_of_arcs : List ℕ → List ℕ
+contents_of_arcs arcs = flat_map subidentifier_octets (subidentifiers arcs)
 
 -- the text is the dotted decimal of an OBJECT IDENTIFIER with these contents octets
-pub record IsPurpose (text contents : List ℕ) : Type 0 where
+pub record NamesPurpose (text contents : List ℕ) : Type 0 where
   pub arcs : List ℕ
-  pub are : AreArcs arcs
+  pub are : AreOidNumbers arcs
   pub dotted : IsDotted text arcs
-  pub spelled : contents ≡ contents_of arcs
+  pub spelled : contents ≡ contents_of_arcs arcs

@@ -1,8 +1,8 @@
 -- What the operands of `check` and `compare` ask, and what is wrong with them.
 use Rattle.std.specs.Prelude.{◌≡◌, ◌↔◌, ℕ, ℤ, List, Option, Some, None, IsTrue, Contains, map, option_map}
 use Rattle.cli_operands.specs.Moment.{IsMoment}
-use Rattle.cli_operands.specs.Purpose.{IsPurpose}
-use Rattle.cli_operands.specs.VerdictLines.{IsFirstBadLine, Name, lines_of}
+use Rattle.cli_operands.specs.Purpose.{NamesPurpose}
+use Rattle.cli_operands.specs.VerdictLines.{IsFirstBadLine, NamePrints, text_lines}
 use Rattle.cli_words.specs.declared.question.Question.{Question as Asked}
 use Rattle.cert.specs.Certificate.{Certificate}
 use Rattle.path.specs.Query.{Query, Accepts}
@@ -18,7 +18,7 @@ use Rattle.cli_operands.specs.PathText.{HoldPath, IsFailureOfPath}
 -- the file names these fingerprints
 abbrev pub HoldsFingerprints : Holding → List ℕ → List (List ℕ) → Type 0
 HoldsFingerprints holds file prints =
-    (octets : List ℕ) × holds file (Some octets) × Name (lines_of octets) prints
+    (octets : List ℕ) × holds file (Some octets) × NamePrints (text_lines octets) prints
 
 -- a signature is accepted exactly where its fingerprint is one of these
 abbrev pub AcceptsJust : List (List ℕ) → Accepts → Type 0
@@ -41,11 +41,11 @@ IsBadTime text failure = (failure ≡ BadTime) × ((seconds : ℤ) → IsMoment 
 -- a purpose is asked for by its text, or none is
 abbrev pub IsPurposeOf : Option (List ℕ) → Option (List ℕ) → Type 0
 IsPurposeOf None None = Unit {0}
-IsPurposeOf (Some text) (Some contents) = IsPurpose text contents
+IsPurposeOf (Some text) (Some contents) = NamesPurpose text contents
 IsPurposeOf _ _ = ⊥
 
 abbrev pub IsBadPurpose : Option (List ℕ) → Failure → Type 0
-IsBadPurpose (Some text) BadPurpose = (contents : List ℕ) → IsPurpose text contents → ⊥
+IsBadPurpose (Some text) BadPurpose = (contents : List ℕ) → NamesPurpose text contents → ⊥
 IsBadPurpose asked failure = failure ≡ NoMemory
 
 -- ---- the question

@@ -7,8 +7,8 @@ use Rattle.cli_operands.specs.declared.verdict_lines.FingerprintsFault.{Fingerpr
 use Rattle.cli_operands.specs.declared.verdict_lines.FingerprintsFault.TheVariants.{Line, Memory}
 
 -- what stands between line feeds
-abbrev pub lines_of : List ℕ → List (List ℕ)
-lines_of octets = slice_split (λ octet. octet == 10) octets
+abbrev pub text_lines : List ℕ → List (List ℕ)
+text_lines octets = slice_split (λ octet. octet == 10) octets
 
 -- there is something on the line
 abbrev pub is_written : List ℕ → Bool
@@ -21,20 +21,20 @@ is_remark behind =
     || ((slice_index behind 0 == 32) && not (slice_index behind (length behind - 1) == 13))
 
 -- the 32 octets that the line names: 64 hexadecimal digits of either case, with nothing or a remark behind them
-abbrev pub print_in : List ℕ → Option (List ℕ)
-print_in line = if is_remark (drop 64 line) then result_ok (decode_sized (take 64 line) 32) else None
+abbrev pub print_on_line : List ℕ → Option (List ℕ)
+print_on_line line = if is_remark (drop 64 line) then result_ok (decode_sized (take 64 line) 32) else None
 
 -- the lines on which something is written name these fingerprints, in order
-abbrev pub Name : List (List ℕ) → List (List ℕ) → Type 0
-Name lines prints = map print_in (filter is_written lines) ≡ map Some prints
+abbrev pub NamePrints : List (List ℕ) → List (List ℕ) → Type 0
+NamePrints lines prints = map print_on_line (filter is_written lines) ≡ map Some prints
 
 -- something is written on the line, and no fingerprint
 abbrev pub IsBad : List ℕ → Type 0
-IsBad line = (line ≢ []) × (print_in line ≡ None)
+IsBad line = (line ≢ []) × (print_on_line line ≡ None)
 
 -- the line of that number, counted from 1
 abbrev pub line_at : List ℕ → ℕ → List ℕ
-line_at octets number = slice_index_or (lines_of octets) (number - 1) []
+line_at octets number = slice_index_or (text_lines octets) (number - 1) []
 
 -- the line of that number is bad, and none before it
 pub record IsFirstBadLine (octets : List ℕ) (number : ℕ) : Type 0 where

@@ -2,7 +2,7 @@
 ghost use Rattle.std.specs.Prelude.{◌≡◌, map, IfErr, IfOk, None};
 ghost use Rattle.cert.specs.Certificate.{seen_certificate};
 ghost use Rattle.cli_failures.specs.Failures.{IsUnread};
-ghost use Rattle.cli_operands.specs.CertificateValues.{IsToldOf, WereRead};
+ghost use Rattle.cli_operands.specs.CertificateValues.{IsToldOf, ReadUpTo};
 ghost use Rattle.cli_operands.specs.PathFiles.{AreCertificatesIn, AreCertificatesOf, AreFilesRead, IsFailureIn, IsFailureOf, IsFileRead};
 
 use crate::certificate_values::read_certificates;
@@ -18,7 +18,7 @@ const MOST: u32 = 129;
 
 /// The values with which the octets begin, and why no more were read.
 fn values_of(alloc: Global, octets: &[u8]) -> PathOctets
-    ensures { WereRead octets.now (map (λ value. value.items) result.values.items) result.stopped }
+    ensures { ReadUpTo octets.now (map (λ value. value.items) result.values.items) result.stopped }
 {
     let mut left = octets;
     path_octets(alloc, &mut left, MOST)
@@ -27,7 +27,7 @@ fn values_of(alloc: Global, octets: &[u8]) -> PathOctets
 /// The file whose octets these are.
 fn file_of<'a>(alloc: Global, file: &'a str, octets: &[u8]) -> PathFile<'a>
     ensures name { result.file.now ≡ file.entry.now }
-    ensures values { WereRead octets.now (map (λ value. value.items) result.values.items)
+    ensures values { ReadUpTo octets.now (map (λ value. value.items) result.values.items)
         result.stopped }
 {
     let PathOctets { values, stopped } = values_of(alloc, octets);

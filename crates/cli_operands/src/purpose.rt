@@ -2,7 +2,7 @@
 ghost use Rattle.std.specs.Prelude.{◌≡◌, ◌↔◌, ◌≢◌, ◌<◌, ◌+◌, ◌*◌, ◌^◌, ◌++◌, ℕ, List, IsTrue, IfNone, IfOk, IfSome, OnOk};
 ghost use Rattle.std.specs.List.{All, flat_map};
 ghost use Rattle.std.specs.Fmt.{decimal};
-ghost use Rattle.cli_operands.specs.Purpose.{AreArcs, IsDotted, IsPlain, IsPurpose, IsServedArc, MayBegin, contents_of, leading_octets, subidentifier_octets};
+ghost use Rattle.cli_operands.specs.Purpose.{AreOidNumbers, IsDotted, IsPlain, NamesPurpose, IsServedArc, MayBegin, contents_of_arcs, leading_octets, subidentifier_octets};
 
 use std::alloc::{AllocError, Global};
 
@@ -98,8 +98,8 @@ fn octets_of(alloc: Global, first: u64, others: &[u64]) -> Result<Vec<u8>, Alloc
 fn purpose_in(alloc: Global, arcs: &[u64]) -> Result<Option<Vec<u8>>, AllocError>
     requires { All IsServedArc arcs.now }
     ensures contents { IfOk result (λ purpose. IfSome purpose (λ contents.
-        AreArcs arcs.now × (contents.items ≡ contents_of arcs.now))) }
-    ensures none { IfOk result (λ purpose. IfNone purpose (AreArcs arcs.now → ⊥)) }
+        AreOidNumbers arcs.now × (contents.items ≡ contents_of_arcs arcs.now))) }
+    ensures none { IfOk result (λ purpose. IfNone purpose (AreOidNumbers arcs.now → ⊥)) }
 {
     if arcs.len() < 2 {
         return Ok(None);
@@ -114,9 +114,9 @@ fn purpose_in(alloc: Global, arcs: &[u64]) -> Result<Option<Vec<u8>>, AllocError
 /// program prints so: at least two numbers, none with a zero in front, each below 2^63, and those with which one may begin.
 pub fn purpose_of(alloc: Global, text: &str) -> Result<Option<Vec<u8>>, AllocError>
     ensures purpose { IfOk result (λ purpose. IfSome purpose (λ contents.
-        IsPurpose text.now contents.items)) }
+        NamesPurpose text.now contents.items)) }
     ensures none { IfOk result (λ purpose. IfNone purpose
-        ((contents : List ℕ) → IsPurpose text.now contents → ⊥)) }
+        ((contents : List ℕ) → NamesPurpose text.now contents → ⊥)) }
 {
     let Some(arcs) = arcs_of(alloc, text)? else {
         return Ok(None);

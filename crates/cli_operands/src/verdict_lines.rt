@@ -1,6 +1,6 @@
 //! Files of verdicts.
 ghost use Rattle.std.specs.Prelude.{◌≡◌, IfErr, IfOk};
-ghost use Rattle.cli_operands.specs.VerdictLines.{IsRefusedWith, Name, is_remark, lines_of, print_in};
+ghost use Rattle.cli_operands.specs.VerdictLines.{IsRefusedWith, NamePrints, is_remark, text_lines, print_on_line};
 
 use std::alloc::{AllocFailed, Global};
 use thiserror::Error;
@@ -36,7 +36,7 @@ fn is_remark(behind: &[u8]) -> bool
 
 // The fingerprint that the line names.
 fn print_in(line: &[u8]) -> Option<[u8; 32]>
-    ensures { result ≡ print_in line.now }
+    ensures { result ≡ print_on_line line.now }
 {
     if line.len() < DIGITS {
         return None;
@@ -55,7 +55,7 @@ fn print_in(line: &[u8]) -> Option<[u8; 32]>
 /// The fingerprints that the octets name, one a line: 64 hexadecimal digits of either case, and then nothing, or a space and any
 /// text. Empty lines are passed over; a line that a carriage return ends is bad.
 pub fn fingerprints_of(alloc: Global, octets: &[u8]) -> Result<Vec<[u8; 32]>, FingerprintsFault>
-    ensures named { IfOk result (λ prints. Name (lines_of octets.now) prints.items) }
+    ensures named { IfOk result (λ prints. NamePrints (text_lines octets.now) prints.items) }
     ensures refused { IfErr result (IsRefusedWith octets.now) }
 {
     let mut prints = Vec::new(alloc);

@@ -3,7 +3,7 @@ use Rattle.std.proofs.Common.{◌≡◌, ◌<◌, ◌≤◌, ◌+◌, ◌*◌, �
 use Rattle.std.proofs.Math.Nat.{pow-suc, pow-le-pow_right}
 use Rattle.std.proofs.lemmas.Bool.Decides.{nat_tests}
 use Rattle.std.proofs.lemmas.List.{drop_all, drop_more, length-drop}
-use Rattle.cli_printing.specs.OidText.{number_from, number_size, numbers_in, with_octet}
+use Rattle.cli_printing.specs.OidText.{number_from, number_size, numbers_in, with_arc_octet}
 
 -- one octet more
 pub number_more : (octets : List ℕ) (i number next : ℕ) → i < length octets → next ≡ number * 128 + get_or octets i 0 % 128
@@ -68,11 +68,11 @@ rest_is_shorter (octet ∷ octets) rest some is =
     omega (arith, taken, long)
 
 split_by : (ends : Bool) (octet : ℕ) (octets : List ℕ) → (0 < length octets → numbers_in octets ≡ take (number_size octets) octets ∷ numbers_in (drop (number_size octets) octets))
-    → (if ends then (octet ∷ []) ∷ numbers_in octets else with_octet octet (numbers_in octets))
+    → (if ends then (octet ∷ []) ∷ numbers_in octets else with_arc_octet octet (numbers_in octets))
     ≡ take (if ends then 1 else suc (number_size octets)) (octet ∷ octets) ∷ numbers_in (drop (if ends then 1 else suc (number_size octets)) (octet ∷ octets))
 split_by true octet octets more = refl
 split_by false octet [] more = refl
-split_by false octet (next ∷ octets) more = ap (with_octet octet) (more (omega arith))
+split_by false octet (next ∷ octets) more = ap (with_arc_octet octet) (more (omega arith))
 
 -- the first number, and those behind it
 pub numbers_split : (octets : List ℕ) → 0 < length octets → numbers_in octets ≡ take (number_size octets) octets ∷ numbers_in (drop (number_size octets) octets)

@@ -9,11 +9,11 @@ abbrev pub is_separator : ℕ → Bool
 is_separator octet = octet == 92 || octet == 47 || octet == 43 || octet == 61 || octet == 35
 
 -- from the space to the tilde
-abbrev pub is_plain : ℕ → Bool
-is_plain octet = nat_le 32 octet && nat_le octet 126 && not (is_separator octet)
+abbrev pub prints_as_itself : ℕ → Bool
+prints_as_itself octet = nat_le 32 octet && nat_le octet 126 && not (is_separator octet)
 
 abbrev pub escaped_octet : ℕ → List ℕ
-escaped_octet octet = if is_plain octet then octet ∷ [] else 92 ∷ encode_lower (octet ∷ [])
+escaped_octet octet = if prints_as_itself octet then octet ∷ [] else 92 ∷ encode_lower (octet ∷ [])
 
 abbrev pub escaped : List ℕ → List ℕ
 escaped octets = flat_map escaped_octet octets

@@ -5,15 +5,15 @@ use Rattle.std.specs.Fmt.{decimal}
 use Rattle.hex.specs.Hex.{encode_lower}
 
 -- one octet more in front of the first number
-abbrev pub with_octet : ℕ → List (List ℕ) → List (List ℕ)
-with_octet octet [] = (octet ∷ []) ∷ []
-with_octet octet (number ∷ numbers) = (octet ∷ number) ∷ numbers
+abbrev pub with_arc_octet : ℕ → List (List ℕ) → List (List ℕ)
+with_arc_octet octet [] = (octet ∷ []) ∷ []
+with_arc_octet octet (number ∷ numbers) = (octet ∷ number) ∷ numbers
 
 -- the numbers in the contents, each by its octets, of which the last one alone is below 128 (8.19.2)
 abbrev pub numbers_in : List ℕ → List (List ℕ)
 numbers_in [] = []
 numbers_in (octet ∷ octets) =
-    if nat_lt octet 128 then (octet ∷ []) ∷ numbers_in octets else with_octet octet (numbers_in octets)
+    if nat_lt octet 128 then (octet ∷ []) ∷ numbers_in octets else with_arc_octet octet (numbers_in octets)
 
 -- how many octets the first number has
 abbrev pub number_size : List ℕ → ℕ
@@ -25,8 +25,8 @@ abbrev pub number_from : ℕ → List ℕ → ℕ
 number_from number [] = number
 number_from number (octet ∷ octets) = number_from (number * 128 + octet % 128) octets
 
-abbrev pub number_of : List ℕ → ℕ
-number_of octets = number_from 0 octets
+abbrev pub octets_number : List ℕ → ℕ
+octets_number octets = number_from 0 octets
 
 -- the first number is that of two: 40 times the first of them, which is 2 at most, and the second (8.19.4)
 abbrev pub first_two : ℕ → List ℕ
@@ -35,11 +35,11 @@ first_two number =
     else (if nat_lt number 80 then codes "1." ++ decimal (number - 40) else codes "2." ++ decimal (number - 80))
 
 abbrev pub dotted_number : List ℕ → List ℕ
-dotted_number octets = 46 ∷ decimal (number_of octets)
+dotted_number octets = 46 ∷ decimal (octets_number octets)
 
 abbrev pub dotted : List (List ℕ) → List ℕ
 dotted [] = []
-dotted (first ∷ numbers) = first_two (number_of first) ++ flat_map dotted_number numbers
+dotted (first ∷ numbers) = first_two (octets_number first) ++ flat_map dotted_number numbers
 
 -- a number of more than 63 bits
 abbrev pub is_long : List ℕ → Bool

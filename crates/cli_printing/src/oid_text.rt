@@ -1,7 +1,7 @@
 //! OBJECT IDENTIFIERs in dotted decimal (X.690, 8.19).
 ghost use Rattle.std.specs.Prelude.{◌≡◌, ◌≤◌, ◌<◌, ◌∷◌, ◌++◌, [], ℕ, length, map, IfSome, MatchOption, false};
 ghost use Rattle.std.specs.List.{flat_map, list_any};
-ghost use Rattle.cli_printing.specs.OidText.{dotted, dotted_number, first_two, is_long, number_of, number_size, numbers_in, oid_text};
+ghost use Rattle.cli_printing.specs.OidText.{dotted, dotted_number, first_two, is_long, octets_number, number_size, numbers_in, oid_text};
 ghost use Rattle.cli_printing.specs.Written.{Writes};
 
 use crate::text::write_hex;
@@ -55,7 +55,7 @@ fn has_long_number(contents: &[u8]) -> bool
 // The number that the octets spell, seven bits each.
 fn number_of(octets: &[u8]) -> u64
     requires { length octets.now ≤ MOST_OCTETS }
-    ensures { result ≡ number_of octets.now }
+    ensures { result ≡ octets_number octets.now }
 {
     let mut number = 0u64;
     for octet in octets {

@@ -3,7 +3,7 @@ ghost use Rattle.std.specs.Prelude.{◌≡◌};
 ghost use Rattle.std.specs.List.{flat_map};
 ghost use Rattle.statements_ocsp.specs.OcspResponse.{seen_response};
 ghost use Rattle.statements_ocsp.specs.Responder.{seen_responder};
-ghost use Rattle.statements_ocsp.specs.Single.{seen_single, singles_left};
+ghost use Rattle.statements_ocsp.specs.Single.{seen_single_response, singles_left};
 ghost use Rattle.cli_printing.specs.ResponseText.{head_lines, key_mark, next_text, produced_line, responder_line, response_text, single_line, status_text, title_line};
 ghost use Rattle.cli_printing.specs.Written.{Writes};
 
@@ -62,7 +62,7 @@ fn write_next<W: Write>(next_update: Option<i64>, writer: &mut W) -> io::Result<
 
 fn write_single<W: Write>(single: &SingleResponse<'_>, writer: &mut W) -> io::Result<()>
     ensures { Writes W.contents writer.old writer.new result
-        (single_line (seen_single single.now)) }
+        (single_line (seen_single_response single.now)) }
 {
     writer.write_all(b"single ")?;
     write_hex(single.id.serial, writer)?;

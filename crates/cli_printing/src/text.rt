@@ -2,7 +2,7 @@
 ghost use Rattle.std.specs.Prelude.{◌≡◌, ◌*◌, ◌≤◌, ◌∷◌, length};
 ghost use Rattle.hex.specs.Hex.{encode_lower};
 ghost use Rattle.cli_printing.specs.Printed.{shown_contents};
-ghost use Rattle.cli_printing.specs.EscapedText.{escaped, escaped_octet, is_plain, spaced_text};
+ghost use Rattle.cli_printing.specs.EscapedText.{escaped, escaped_octet, prints_as_itself, spaced_text};
 ghost use Rattle.cli_printing.specs.Written.{Writes};
 
 use std::io;
@@ -48,7 +48,7 @@ pub(crate) fn write_contents<W: Write>(contents: &[u8], writer: &mut W) -> io::R
 
 // Whether the octet stands for itself: it prints, and separates nothing in a name.
 fn is_plain(octet: u8) -> bool
-    ensures { result ≡ is_plain octet }
+    ensures { result ≡ prints_as_itself octet }
 {
     b' ' <= octet && octet <= b'~' && !matches!(octet, b'\\' | b'/' | b'+' | b'=' | b'#')
 }

@@ -7,15 +7,15 @@ use Rattle.std.proofs.lemmas.List.Sums.{AllPass-from_list_all, list_all-from_All
 use Rattle.hex.specs.Hex.{decode_of, is_hex_digit}
 use Rattle.hex.specs.declared.error.FromHexError.{FromHexError}
 use Rattle.hex.proofs.HexLemmas.{decode_of-digits, decode_of-odd, decode_of-ok}
-use Rattle.cli_requests.specs.Operands.{in_line, octets_in}
+use Rattle.cli_requests.specs.Operands.{in_line, operand_of_digits}
 
 not_even : (digits : List ℕ) → length digits % 2 ≢ 0 → (length digits % 2 == 0) ≡ false
 not_even digits is = grind (arith, nat_tests, is)
 
-refused : (digits : List ℕ) → length digits % 2 ≡ 1 → is_some (octets_in digits) ≡ false
+refused : (digits : List ℕ) → length digits % 2 ≡ 1 → is_some (operand_of_digits digits) ≡ false
 refused digits is = rw (decode_of-odd digits is) refl
 
-pub odd : (digits : List ℕ) → length digits % 2 ≢ 0 → (length digits % 2 == 0) ≡ is_some (octets_in digits)
+pub odd : (digits : List ℕ) → length digits % 2 ≢ 0 → (length digits % 2 == 0) ≡ is_some (operand_of_digits digits)
 odd digits is = not_even digits is ∙ sym (refused digits (omega (arith, is)))
 
 other : (digits : List ℕ) (decoded : Result (List ℕ) FromHexError) → decode_of digits ≡ decoded → list_all is_hex_digit digits ≡ false
@@ -23,6 +23,6 @@ other : (digits : List ℕ) (decoded : Result (List ℕ) FromHexError) → decod
 other digits (Ok octets) is fails = cc (sym fails ∙ list_all-from_AllPass is_hex_digit digits (decode_of-ok digits octets is).1)
 other digits (Err fault) is fails = refl
 
-pub even : (digits : List ℕ) (test : Bool) → length digits % 2 ≡ 0 → list_all is_hex_digit digits ≡ test → is_some (octets_in digits) ≡ test
+pub even : (digits : List ℕ) (test : Bool) → length digits % 2 ≡ 0 → list_all is_hex_digit digits ≡ test → is_some (operand_of_digits digits) ≡ test
 even digits true is all = let (octets, read) = decode_of-digits digits is (AllPass-from_list_all is_hex_digit digits all) in rw read refl
 even digits false is all = other digits (decode_of digits) refl all

@@ -6,7 +6,7 @@ use Rattle.std.proofs.lemmas.Bool.Decides.{nat_tests}
 use Rattle.std.proofs.lemmas.Str.{IsUtf8-from_is_utf8, is_utf8-from_IsUtf8}
 use Rattle.hex.specs.Hex.{◌>>=◌, decode_pairs, decode_sized, pair_value}
 use Rattle.hex.specs.declared.error.FromHexError.{FromHexError}
-use Rattle.cli_requests.specs.Operands.{escaped, file_name, is_plain, name_in, plain, with_octet}
+use Rattle.cli_requests.specs.Operands.{octet_of_digits, file_name, is_plain, name_in, plain_octet, with_octet}
 
 -- ---- two digits
 
@@ -30,16 +30,16 @@ of_pair (Err fault) result out is = (λ ok. absurd cc, λ e err. refl)
 
 pub of_two : (high low : ℕ) (result : Result (Unit {0}) FromHexError) (out : List ℕ)
     → MatchResult (decode_sized (high ∷ low ∷ []) 1) (λ bytes. (result ≡ Ok tt) × (out ≡ bytes)) (λ e. result ≡ Err e)
-    → (result ≡ Ok tt → Some (slice_index_or out 0 0) ≡ escaped high low) × ((e : FromHexError) → result ≡ Err e → None ≡ escaped high low)
+    → (result ≡ Ok tt → Some (slice_index_or out 0 0) ≡ octet_of_digits high low) × ((e : FromHexError) → result ≡ Err e → None ≡ octet_of_digits high low)
 of_two high low result out is = of_pair (pair_value high low 0) result out
     (subst (λ (r : Result (List ℕ) FromHexError). MatchResult r (λ bytes. (result ≡ Ok tt) × (out ≡ bytes)) (λ e. result ≡ Err e)) (as_decoded high low) is)
 
 -- ---- one octet
 
-plain_is : (octet : ℕ) → is_plain octet ≡ true → plain octet ≡ Some octet
+plain_is : (octet : ℕ) → is_plain octet ≡ true → plain_octet octet ≡ Some octet
 plain_is octet is = rw is refl
 
-plain_none : (octet : ℕ) → is_plain octet ≡ false → plain octet ≡ None
+plain_none : (octet : ℕ) → is_plain octet ≡ false → plain_octet octet ≡ None
 plain_none octet is = rw is refl
 
 no_escape : (octet : ℕ) → is_plain octet ≡ true → (octet == 92) ≡ false
@@ -76,7 +76,7 @@ is_escape : (octet : ℕ) → octet ≡ 92 → (octet == 92) ≡ true
 is_escape octet is = grind (arith, nat_tests, is)
 
 pub escape_read : (word : List ℕ) (octet : Option ℕ) → 3 ≤ length word → slice_index_or word 0 0 ≡ 92
-    → octet ≡ escaped (slice_index_or word 1 0) (slice_index_or word 2 0) → name_in word ≡ with_octet octet (name_in (drop 3 word))
+    → octet ≡ octet_of_digits (slice_index_or word 1 0) (slice_index_or word 2 0) → name_in word ≡ with_octet octet (name_in (drop 3 word))
 unfolding name_in
 escape_read [] octet some here is = absurd (omega (arith, some))
 escape_read (a ∷ []) octet some here is = absurd (omega (arith, some))

@@ -23,21 +23,21 @@ with_octet (Some octet) (Some name) = Some (octet ∷ name)
 with_octet _ _ = None
 
 -- the octet that stands for itself
-abbrev pub plain : ℕ → Option ℕ
-plain octet = if is_plain octet then Some octet else None
+abbrev pub plain_octet : ℕ → Option ℕ
+plain_octet octet = if is_plain octet then Some octet else None
 
 -- the octet of two hexadecimal digits, of either case
-abbrev pub escaped : ℕ → ℕ → Option ℕ
-escaped high low = result_ok (pair_value high low 0)
+abbrev pub octet_of_digits : ℕ → ℕ → Option ℕ
+octet_of_digits high low = result_ok (pair_value high low 0)
 
 -- the name that the word writes: a backslash and two hexadecimal digits are that octet
 unfoldable pub name_in : List ℕ → Option (List ℕ)
 name_in [] = Some []
-name_in (octet ∷ []) = with_octet (plain octet) (Some [])
-name_in (first ∷ second ∷ []) = with_octet (plain first) (name_in (second ∷ []))
+name_in (octet ∷ []) = with_octet (plain_octet octet) (Some [])
+name_in (first ∷ second ∷ []) = with_octet (plain_octet first) (name_in (second ∷ []))
 name_in (first ∷ second ∷ third ∷ rest) =
-    if first == 92 then with_octet (escaped second third) (name_in rest)
-    else with_octet (plain first) (name_in (second ∷ third ∷ rest))
+    if first == 92 then with_octet (octet_of_digits second third) (name_in rest)
+    else with_octet (plain_octet first) (name_in (second ∷ third ∷ rest))
 
 -- ---- operands
 
@@ -55,13 +55,13 @@ abbrev pub file_in : List ℕ → Option Operand
 file_in word = file_of (name_in word)
 
 -- two hexadecimal digits for each octet
-abbrev pub octets_in : List ℕ → Option Operand
-octets_in digits = option_map in_line (result_ok (decode_of digits))
+abbrev pub operand_of_digits : List ℕ → Option Operand
+operand_of_digits digits = option_map in_line (result_ok (decode_of digits))
 
 -- `hex:` and octets, or the name of a file
 abbrev pub operand_in : List ℕ → Option Operand
 operand_in word =
-    if bytes_eq (take 4 word) (codes "hex:") then octets_in (drop 4 word) else file_in word
+    if bytes_eq (take 4 word) (codes "hex:") then operand_of_digits (drop 4 word) else file_in word
 
 -- what the code holds
 abbrev pub seen_operand : Owned → Operand

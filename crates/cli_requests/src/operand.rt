@@ -2,7 +2,7 @@
 ghost use Rattle.std.specs.Prelude.{◌≡◌, ◌<◌, ◌⊎◌, None, Some, IfNone, IfOk, IfSome, is_some, length, option_map, string_bytes};
 ghost use Rattle.std.specs.List.{list_all};
 ghost use Rattle.hex.specs.Hex.{is_hex_digit};
-ghost use Rattle.cli_requests.specs.Operands.{escaped, file_in, file_name, is_plain, name_in, octets_in, operand_in, seen_operand, with_octet};
+ghost use Rattle.cli_requests.specs.Operands.{octet_of_digits, file_in, file_name, is_plain, name_in, operand_of_digits, operand_in, seen_operand, with_octet};
 
 use hex::FromHexError;
 use std::alloc::{AllocError, Global};
@@ -30,7 +30,7 @@ fn is_plain(octet: u8) -> bool
 
 // The octet of two hexadecimal digits.
 fn escaped(high: u8, low: u8) -> Option<u8>
-    ensures { result ≡ escaped high low }
+    ensures { result ≡ octet_of_digits high low }
 {
     let mut octet = [0];
     match hex::decode_to_slice(&[high, low], &mut octet) {
@@ -110,7 +110,7 @@ fn file_in(alloc: Global, word: &[u8]) -> Result<Option<Operand>, AllocError>
 
 // The octets that the digits are.
 fn octets_in(alloc: Global, digits: &[u8]) -> Result<Option<Operand>, AllocError>
-    ensures { IfOk result (λ found. option_map seen_operand found ≡ octets_in digits.now) }
+    ensures { IfOk result (λ found. option_map seen_operand found ≡ operand_of_digits digits.now) }
 {
     match hex::decode(alloc, digits) {
         Ok(octets) => Ok(Some(Operand::Octets(octets))),
@@ -136,7 +136,7 @@ fn are_digits(digits: &[u8]) -> bool
 
 // Whether these are the digits of octets.
 fn are_octets(digits: &[u8]) -> bool
-    ensures { result ≡ is_some (octets_in digits.now) }
+    ensures { result ≡ is_some (operand_of_digits digits.now) }
 {
     digits.len() % 2 == 0 && are_digits(digits)
 }

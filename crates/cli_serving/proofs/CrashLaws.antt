@@ -5,16 +5,16 @@ use Rattle.cli_failures.specs.Failures.{Holding}
 use Rattle.cli_failures.specs.declared.failure.Failure.{Failure}
 use Rattle.cli_keeping.specs.Keeping.{Kept, taking, trying}
 use Rattle.cli_requests.specs.Requests.{Request, nothing, believe, deliver, check, prints, forget, quit}
-use Rattle.cli_steps.specs.State.{State, believing, forgetting, keeping}
-use Rattle.cli_steps.specs.Steps.{BelievesMore, Delivers, FailsToDeliver, IsStep}
-use Rattle.cli_steps.specs.declared.answer.Answer.{Answer}
-use Rattle.cli_steps.specs.declared.answer.Answer.TheVariants.{Nothing, Believes, Forgets, Ends, Delivered, Told, Prints, Failed, BadLine, LongLine}
+use Rattle.cli_steps.specs.State.{SessionState, believing, forgetting, keeping}
+use Rattle.cli_steps.specs.Steps.{BelievesMore, DeliversFile, FailsToDeliver, IsStep}
+use Rattle.cli_steps.specs.declared.answer.SessionAnswer.{SessionAnswer}
+use Rattle.cli_steps.specs.declared.answer.SessionAnswer.TheVariants.{Nothing, Believes, Forgets, Ends, Delivered, Told, Prints, Failed, BadLine, LongLine}
 use Rattle.path.specs.Query.{Accepts}
 use Rattle.cli_serving.specs.Crash.{CrashLosesNothing, LosesNothing}
-use Rattle.cli_serving.specs.Serving.{IsAnswerOf, IsAnswerTo, IsAnswerWithin}
+use Rattle.cli_serving.specs.Serving.{IsAnswerOf, IsAnswerToLine, IsAnswerWithin}
 
-same : (old new : State) → new ≡ old → LosesNothing old.kept → LosesNothing new.kept
-same old new is so = subst (λ (state : State). LosesNothing state.kept) (sym is) so
+same : (old new : SessionState) → new ≡ old → LosesNothing old.kept → LosesNothing new.kept
+same old new is so = subst (λ (state : SessionState). LosesNothing state.kept) (sym is) so
 
 kept_is : (old new : Kept) → new ≡ old → LosesNothing old → LosesNothing new
 kept_is old new is so = subst LosesNothing (sym is) so
@@ -32,7 +32,7 @@ failed : (holds : Holding) (accepts : Accepts) (issuer file : List ℕ) (old new
 failed holds accepts issuer file old new failure (inl (refused, is)) so = kept_is old new is so
 failed holds accepts issuer file old new failure (inr (facts, says, why, is)) so = kept_is (trying facts old) new is (tried facts old so)
 
-delivers : (holds : Holding) (issuer file : List ℕ) (old new : State) (answer : Answer) → Delivers holds issuer file old new answer → LosesNothing old.kept → LosesNothing new.kept
+delivers : (holds : Holding) (issuer file : List ℕ) (old new : SessionState) (answer : SessionAnswer) → DeliversFile holds issuer file old new answer → LosesNothing old.kept → LosesNothing new.kept
 delivers holds issuer file old new (Delivered counts) (accepts, just, (facts, says, are, is)) so = same (keeping (taking facts old.kept) old) new is (taken facts old.kept)
 delivers holds issuer file old new (Failed failure) (accepts, just, (kept, fails, is)) so =
     same (keeping kept old) new is (failed holds accepts issuer file old.kept kept failure fails so)
@@ -45,7 +45,7 @@ delivers holds issuer file old new (Prints text) none so = absurd none
 delivers holds issuer file old new BadLine none so = absurd none
 delivers holds issuer file old new LongLine none so = absurd none
 
-believes : (print : List ℕ) (old new : State) (answer : Answer) → BelievesMore print old new answer → LosesNothing old.kept → LosesNothing new.kept
+believes : (print : List ℕ) (old new : SessionState) (answer : SessionAnswer) → BelievesMore print old new answer → LosesNothing old.kept → LosesNothing new.kept
 believes print old new Believes is so = same (believing print old) new is so
 believes print old new (Failed failure) (why, is) so = same old new is so
 believes print old new (Delivered counts) none so = absurd none
@@ -57,7 +57,7 @@ believes print old new (Prints text) none so = absurd none
 believes print old new BadLine none so = absurd none
 believes print old new LongLine none so = absurd none
 
-step : (holds : Holding) (request : Request) (old new : State) (answer : Answer) → IsStep holds request old new answer → LosesNothing old.kept → LosesNothing new.kept
+step : (holds : Holding) (request : Request) (old new : SessionState) (answer : SessionAnswer) → IsStep holds request old new answer → LosesNothing old.kept → LosesNothing new.kept
 step holds nothing old new answer (answered, is) so = same old new is so
 step holds (believe print) old new answer is so = believes print old new answer is so
 step holds (deliver issuer file) old new answer is so = delivers holds issuer file old new answer is so
@@ -68,15 +68,15 @@ step holds quit old new answer (answered, is) so = same old new is so
 
 -- ---- lines
 
-asked : (holds : Holding) (request : Option Request) (old new : State) (answer : Answer) → IsAnswerOf holds request old new answer → LosesNothing old.kept → LosesNothing new.kept
+asked : (holds : Holding) (request : Option Request) (old new : SessionState) (answer : SessionAnswer) → IsAnswerOf holds request old new answer → LosesNothing old.kept → LosesNothing new.kept
 asked holds (Some request) old new answer is so = step holds request old new answer is so
 asked holds None old new answer (answered, is) so = same old new is so
 
-within : (holds : Holding) (line : List ℕ) (old new : State) (answer : Answer) → IsAnswerWithin holds line old new answer → LosesNothing old.kept → LosesNothing new.kept
+within : (holds : Holding) (line : List ℕ) (old new : SessionState) (answer : SessionAnswer) → IsAnswerWithin holds line old new answer → LosesNothing old.kept → LosesNothing new.kept
 within holds line old new answer (inl is) so = asked holds _ old new answer is so
 within holds line old new answer (inr (answered, is)) so = same old new is so
 
-answered_to : (holds : Holding) (line : List ℕ) (old new : State) (answer : Answer) → IsAnswerTo holds line old new answer → LosesNothing old.kept → LosesNothing new.kept
+answered_to : (holds : Holding) (line : List ℕ) (old new : SessionState) (answer : SessionAnswer) → IsAnswerToLine holds line old new answer → LosesNothing old.kept → LosesNothing new.kept
 answered_to holds line old new answer (inl (short, is)) so = within holds line old new answer is so
 answered_to holds line old new answer (inr (long, answered, is)) so = same old new is so
 

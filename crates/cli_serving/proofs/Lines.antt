@@ -10,10 +10,10 @@ use Rattle.cli_failures.specs.declared.failure.Failure.TheVariants.{Refused, NoC
 use Rattle.cli_lines.specs.Lines.{GivesLine, IsLineRead}
 use Rattle.cli_lines.specs.declared.lines.LineRead.TheVariants.{TooLong}
 use Rattle.cli_steps.specs.AnswerText.{answer_text, failed_text}
-use Rattle.cli_steps.specs.State.{State}
-use Rattle.cli_steps.specs.declared.answer.Answer.{Answer}
-use Rattle.cli_steps.specs.declared.answer.Answer.TheVariants.{Nothing, Believes, Forgets, Ends, Delivered, Told, Prints, Failed, BadLine, LongLine}
-use Rattle.cli_serving.specs.Serving.{AnswersRead, AreAnswersTo, GivesLines, GoOn, SessionHasEnded, HasServed, HasServedLast, HasShut, IsAnswerTo, IsSame, Known, WritesAnswer, SaysLong, ServesLine, is_end, is_refusal, text_of}
+use Rattle.cli_steps.specs.State.{SessionState}
+use Rattle.cli_steps.specs.declared.answer.SessionAnswer.{SessionAnswer}
+use Rattle.cli_steps.specs.declared.answer.SessionAnswer.TheVariants.{Nothing, Believes, Forgets, Ends, Delivered, Told, Prints, Failed, BadLine, LongLine}
+use Rattle.cli_serving.specs.Serving.{AnswersRead, AreAnswersToLines, GivesLines, GoOn, SessionHasEnded, HasServed, HasServedLast, HasShut, IsAnswerToLine, IsSame, Known, WritesAnswer, SaysLong, ServesLine, is_end, is_refusal, text_of}
 use Rattle.cli_serving.specs.declared.ending.End.{End}
 use Rattle.cli_serving.specs.declared.ending.End.TheVariants as ended
 
@@ -21,29 +21,29 @@ gives_more : (a b c : Option (List ℕ)) (lines : List (List ℕ)) (line : List 
 gives_more a b c [] line same gives = (c, subst (λ (from : Option (List ℕ)). GivesLine from c line) same gives, refl)
 gives_more a b c (first ∷ lines) line (middle, one, more) gives = (middle, one, gives_more middle b c lines line more gives)
 
-answers_more : (holds : Holding) (lines : List (List ℕ)) (answers : List Answer) (line : List ℕ) (answer : Answer) (start middle now : State)
-    → AreAnswersTo holds lines answers start middle → IsAnswerTo holds line middle now answer → AreAnswersTo holds (lines ++ line ∷ []) (answers ++ answer ∷ []) start now
-answers_more holds [] [] line answer start middle now same is = (now, subst (λ (from : State). IsAnswerTo holds line from now answer) same is, refl)
+answers_more : (holds : Holding) (lines : List (List ℕ)) (answers : List SessionAnswer) (line : List ℕ) (answer : SessionAnswer) (start middle now : SessionState)
+    → AreAnswersToLines holds lines answers start middle → IsAnswerToLine holds line middle now answer → AreAnswersToLines holds (lines ++ line ∷ []) (answers ++ answer ∷ []) start now
+answers_more holds [] [] line answer start middle now same is = (now, subst (λ (from : SessionState). IsAnswerToLine holds line from now answer) same is, refl)
 answers_more holds [] (other ∷ answers) line answer start middle now none is = absurd none
 answers_more holds (first ∷ lines) [] line answer start middle now none is = absurd none
 answers_more holds (first ∷ lines) (other ∷ answers) line answer start middle now (next, one, more) is =
     (next, one, answers_more holds lines answers line answer next middle now more is)
 
-go_on_more : (answers : List Answer) (answer : Answer) → GoOn answers → is_end answer ≡ false → GoOn (answers ++ answer ∷ [])
+go_on_more : (answers : List SessionAnswer) (answer : SessionAnswer) → GoOn answers → is_end answer ≡ false → GoOn (answers ++ answer ∷ [])
 go_on_more [] answer go_on is = (is, tt)
 go_on_more (other ∷ answers) answer (one, more) is = (one, go_on_more answers answer more is)
 
-text_more : (answers : List Answer) (answer : Answer) → text_of answers ++ answer_text answer ≡ text_of (answers ++ answer ∷ [])
+text_more : (answers : List SessionAnswer) (answer : SessionAnswer) → text_of answers ++ answer_text answer ≡ text_of (answers ++ answer ∷ [])
 text_more answers answer = ap (λ (text : List ℕ). text_of answers ++ text) (sym (append-nil (answer_text answer))) ∙ sym (flat_map-append answer_text answers (answer ∷ []))
 
-said_more : (a b c : Option (List ℕ)) (answers : List Answer) (answer : Answer) → Appends a b (text_of answers) → Appends b c (answer_text answer) → Appends a c (text_of (answers ++ answer ∷ []))
+said_more : (a b c : Option (List ℕ)) (answers : List SessionAnswer) (answer : SessionAnswer) → Appends a b (text_of answers) → Appends b c (answer_text answer) → Appends a c (text_of (answers ++ answer ∷ []))
 said_more a b c answers answer before more = subst (Appends a c) (text_more answers answer) (Appends-trans a b c (text_of answers) (answer_text answer) before more)
 
 not_so : false ≡ true → ⊥
 not_so is = cc
 
 -- what a refusal says
-refused : (answer : Answer) → is_refusal answer ≡ true → answer_text answer ≡ failed_text (StoreFailed 71)
+refused : (answer : SessionAnswer) → is_refusal answer ≡ true → answer_text answer ≡ failed_text (StoreFailed 71)
 refused (Failed (StoreFailed number)) is = ap (λ (it : ℕ). failed_text (StoreFailed it)) (eqb-true number 71 is)
 refused (Failed (Refused file fault)) is = absurd (not_so is)
 refused (Failed (NoCertificate file rule at)) is = absurd (not_so is)
@@ -71,7 +71,7 @@ refused LongLine is = absurd (not_so is)
 
 -- one relation and then another are known, and what is weaker
 abbrev pub Follow : Known → Known → Known → Type 1
-Follow Before Line Now = (One Other Both : State → State → Type 0) → ((start between now : State) → One start between → Other between now → Both start now) → Before One → Line Other → Now Both
+Follow Before Line Now = (One Other Both : SessionState → SessionState → Type 0) → ((start between now : SessionState) → One start between → Other between now → Both start now) → Before One → Line Other → Now Both
 
 module _ (holds : Holding) (input middle source output said written : Option (List ℕ)) (Before Line Now : Known) (follow : Follow Before Line Now) where
   pub one_more : HasServed holds input middle output said Before → ServesLine holds middle source said written Line None → HasServed holds input source output written Now
@@ -84,8 +84,8 @@ module _ (holds : Holding) (input middle source output said written : Option (Li
     known = follow _ _ _ (answers_more holds served.lines served.answers line answer) served.known known;
   }
 
-  last : (Is : List Answer → Answer → Type 0) (served : HasServed holds input middle output said Before) (line : List ℕ) (answer : Answer) → GivesLine middle source line → Is served.answers answer
-      → Line (λ old new. IsAnswerTo holds line old new answer) → HasServedLast holds input source Now Is
+  last : (Is : List SessionAnswer → SessionAnswer → Type 0) (served : HasServed holds input middle output said Before) (line : List ℕ) (answer : SessionAnswer) → GivesLine middle source line → Is served.answers answer
+      → Line (λ old new. IsAnswerToLine holds line old new answer) → HasServedLast holds input source Now Is
   last Is served line answer gives is known = record {
     lines = served.lines;
     line = line;
@@ -104,7 +104,7 @@ module _ (holds : Holding) (input middle source output said written : Option (Li
     read = served.read;
     said = subst (λ (to : Option (List ℕ)). Appends output to (text_of served.answers)) (sym same) served.said;
     go_on = served.go_on;
-    known = follow _ _ _ (λ start between now are is. subst (λ (to : State). AreAnswersTo holds served.lines served.answers start to) (sym is) are) served.known known;
+    known = follow _ _ _ (λ start between now are is. subst (λ (to : SessionState). AreAnswersToLines holds served.lines served.answers start to) (sym is) are) served.known known;
   }
 
   pub ends : (Earlier : Known) (end : End) → HasServed holds input middle output said Before → HasServed holds input middle output said Earlier → ServesLine holds middle source said written Line (Some end)
@@ -128,7 +128,7 @@ module _ (holds : Holding) (input middle source output said written : Option (Li
 
 -- nothing changed, and the line was refused
 pub too_long : (holds : Holding) (input source output written : Option (List ℕ)) (Knows : Known) (begun : List ℕ) (end : Option End) → IsLineRead input source begun TooLong → SaysLong output written end
-    → ((Are : State → State → Type 0) → ((state : State) → Are state state) → Knows Are) → ServesLine holds input source output written Knows end
+    → ((Are : SessionState → SessionState → Type 0) → ((state : SessionState) → Are state state) → Knows Are) → ServesLine holds input source output written Knows end
 too_long holds input source output written Knows begun None (rest, more, gives) says known =
     (begun ++ rest, gives, (LongLine, says, known _ (λ state. inr (more, refl, refl)), refl))
 too_long holds input source output written Knows begun (Some end) (rest, more, gives) is known =

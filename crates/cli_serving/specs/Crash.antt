@@ -6,9 +6,9 @@ use Rattle.statements_facts.specs.Fact.{Fact}
 use Rattle.statements_facts.specs.Statement.{Holdings}
 use Rattle.cli_failures.specs.Failures.{Holding}
 use Rattle.cli_keeping.specs.Keeping.{Kept}
-use Rattle.cli_steps.specs.State.{State}
-use Rattle.cli_steps.specs.declared.answer.Answer.{Answer}
-use Rattle.cli_serving.specs.Serving.{AreAnswersTo}
+use Rattle.cli_steps.specs.State.{SessionState}
+use Rattle.cli_steps.specs.declared.answer.SessionAnswer.{SessionAnswer}
+use Rattle.cli_serving.specs.Serving.{AreAnswersToLines}
 
 -- this is what is held, or what is held when a statement more has come
 abbrev pub IsHeldOrMore : Holdings → Holdings → Type 0
@@ -22,5 +22,5 @@ LosesNothing kept = AllByRecursion (IsHeldOrMore kept.held) kept.left
 -- delivery failed.
 abbrev pub CrashLosesNothing : Holding → Type 0
 CrashLosesNothing holds =
-    (lines : List (List ℕ)) (answers : List Answer) (start now : State) →
-    LosesNothing start.kept → AreAnswersTo holds lines answers start now → LosesNothing now.kept
+    (lines : List (List ℕ)) (answers : List SessionAnswer) (start now : SessionState) →
+    LosesNothing start.kept → AreAnswersToLines holds lines answers start now → LosesNothing now.kept

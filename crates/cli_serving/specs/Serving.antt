@@ -7,32 +7,32 @@ use Rattle.cli_failures.specs.declared.failure.Failure.TheVariants.{NoMemory, St
 use Rattle.cli_lines.specs.Lines.{GivesLine}
 use Rattle.cli_requests.specs.Requests.{Request, request_on}
 use Rattle.cli_steps.specs.AnswerText.{answer_text, failed_text}
-use Rattle.cli_steps.specs.State.{State}
+use Rattle.cli_steps.specs.State.{SessionState}
 use Rattle.cli_steps.specs.Steps.{IsStep}
-use Rattle.cli_steps.specs.declared.answer.Answer.{Answer}
-use Rattle.cli_steps.specs.declared.answer.Answer.TheVariants.{BadLine, Ends, Failed, LongLine}
+use Rattle.cli_steps.specs.declared.answer.SessionAnswer.{SessionAnswer}
+use Rattle.cli_steps.specs.declared.answer.SessionAnswer.TheVariants.{BadLine, Ends, Failed, LongLine}
 use Rattle.cli_serving.specs.declared.ending.End.{End}
 use Rattle.cli_serving.specs.declared.ending.End.TheVariants as ended
 
 -- ---- one line
 
 -- a request does its step; a line that is none changes nothing
-abbrev pub IsAnswerOf : Holding → Option Request → State → State → Answer → Type 0
+abbrev pub IsAnswerOf : Holding → Option Request → SessionState → SessionState → SessionAnswer → Type 0
 IsAnswerOf holds (Some request) old new answer = IsStep holds request old new answer
 IsAnswerOf holds None old new answer = (answer ≡ BadLine) × (new ≡ old)
 
 -- memory ran out, and nothing changed
-abbrev pub RunsOut : State → State → Answer → Type 0
+abbrev pub RunsOut : SessionState → SessionState → SessionAnswer → Type 0
 RunsOut old new answer = (answer ≡ Failed NoMemory) × (new ≡ old)
 
 -- a line of at most 2^20 octets
-abbrev pub IsAnswerWithin : Holding → List ℕ → State → State → Answer → Type 0
+abbrev pub IsAnswerWithin : Holding → List ℕ → SessionState → SessionState → SessionAnswer → Type 0
 IsAnswerWithin holds line old new answer =
     IsAnswerOf holds (request_on line) old new answer ⊎ RunsOut old new answer
 
 -- What a line, without its line feed, makes of the party, and its answer.
-abbrev pub IsAnswerTo : Holding → List ℕ → State → State → Answer → Type 0
-IsAnswerTo holds line old new answer =
+abbrev pub IsAnswerToLine : Holding → List ℕ → SessionState → SessionState → SessionAnswer → Type 0
+IsAnswerToLine holds line old new answer =
     ((length line ≤ 2 ^ 20) × IsAnswerWithin holds line old new answer)
     ⊎ ((2 ^ 20 < length line) × (answer ≡ LongLine) × (new ≡ old))
 
@@ -45,39 +45,39 @@ GivesLines old new (line ∷ lines) =
     (middle : Option (List ℕ)) × GivesLine old middle line × GivesLines middle new lines
 
 -- each line has its answer, in order, and what one leaves the next finds
-abbrev pub AreAnswersTo : Holding → List (List ℕ) → List Answer → State → State → Type 0
-AreAnswersTo holds [] [] start now = now ≡ start
-AreAnswersTo holds [] (answer ∷ answers) start now = ⊥
-AreAnswersTo holds (line ∷ lines) [] start now = ⊥
-AreAnswersTo holds (line ∷ lines) (answer ∷ answers) start now =
-    (next : State) × IsAnswerTo holds line start next answer × AreAnswersTo holds lines answers next now
+abbrev pub AreAnswersToLines : Holding → List (List ℕ) → List SessionAnswer → SessionState → SessionState → Type 0
+AreAnswersToLines holds [] [] start now = now ≡ start
+AreAnswersToLines holds [] (answer ∷ answers) start now = ⊥
+AreAnswersToLines holds (line ∷ lines) [] start now = ⊥
+AreAnswersToLines holds (line ∷ lines) (answer ∷ answers) start now =
+    (next : SessionState) × IsAnswerToLine holds line start next answer × AreAnswersToLines holds lines answers next now
 
 -- how they are written
-abbrev pub text_of : List Answer → List ℕ
+abbrev pub text_of : List SessionAnswer → List ℕ
 text_of answers = flat_map answer_text answers
 
 -- ---- what comes behind an answer
 
 -- whether a session ends with the answer
-abbrev pub is_end : Answer → Bool
+abbrev pub is_end : SessionAnswer → Bool
 is_end Ends = true
 is_end answer = false
 
 -- whether the keeper of the statements refused
-abbrev pub is_refusal : Answer → Bool
+abbrev pub is_refusal : SessionAnswer → Bool
 is_refusal (Failed (StoreFailed number)) = number == 71
 is_refusal answer = false
 
 -- the session goes on after these answers
-abbrev pub GoOn : List Answer → Type 0
+abbrev pub GoOn : List SessionAnswer → Type 0
 GoOn answers = AllByRecursion (λ answer. is_end answer ≡ false) answers
 
 -- What is known of a party: that relations hold between what it believed and held before, and what it believes and holds now.
 abbrev pub Known : Type 1
-Known = (State → State → Type 0) → Type 0
+Known = (SessionState → SessionState → Type 0) → Type 0
 
 -- nothing changed
-abbrev pub IsSame : State → State → Type 0
+abbrev pub IsSame : SessionState → SessionState → Type 0
 IsSame old new = new ≡ old
 
 -- ---- sessions
@@ -85,30 +85,30 @@ IsSame old new = new ≡ old
 -- Lines were read and answered, and the session goes on.
 pub record HasServed (holds : Holding) (input source output written : Option (List ℕ)) (Knows : Known) : Type 0 where
   pub lines : List (List ℕ)
-  pub answers : List Answer
+  pub answers : List SessionAnswer
   pub read : GivesLines input source lines
   pub said : Appends output written (text_of answers)
   pub go_on : GoOn answers
-  pub known : Knows (λ old new. AreAnswersTo holds lines answers old new)
+  pub known : Knows (λ old new. AreAnswersToLines holds lines answers old new)
 
 -- The same, with a last line and its answer, of which this is so.
-pub record HasServedLast (holds : Holding) (input source : Option (List ℕ)) (Knows : Known) (Is : List Answer → Answer → Type 0) : Type 0 where
+pub record HasServedLast (holds : Holding) (input source : Option (List ℕ)) (Knows : Known) (Is : List SessionAnswer → SessionAnswer → Type 0) : Type 0 where
   pub lines : List (List ℕ)
   pub line : List ℕ
-  pub answers : List Answer
-  pub answer : Answer
+  pub answers : List SessionAnswer
+  pub answer : SessionAnswer
   pub read : GivesLines input source (lines ++ line ∷ [])
   pub go_on : GoOn answers
   pub last : Is answers answer
-  pub known : Knows (λ old new. AreAnswersTo holds (lines ++ line ∷ []) (answers ++ answer ∷ []) old new)
+  pub known : Knows (λ old new. AreAnswersToLines holds (lines ++ line ∷ []) (answers ++ answer ∷ []) old new)
 
 -- all answers were written, and the last ends the session
-abbrev pub SaysEnd : Option (List ℕ) → Option (List ℕ) → List Answer → Answer → Type 0
+abbrev pub SaysEnd : Option (List ℕ) → Option (List ℕ) → List SessionAnswer → SessionAnswer → Type 0
 SaysEnd output written answers answer =
     (is_end answer ≡ true) × Appends output written (text_of (answers ++ answer ∷ []))
 
 -- all but the last were written
-abbrev pub SaysAllButLast : Option (List ℕ) → List Answer → Answer → Type 0
+abbrev pub SaysAllButLast : Option (List ℕ) → List SessionAnswer → SessionAnswer → Type 0
 SaysAllButLast output answers answer =
     (written : Option (List ℕ)) × Appends output written (text_of answers)
 
@@ -140,18 +140,18 @@ SessionHasEnded holds input source output written Knows Before ended.NoMemory =
 -- ---- on the way
 
 -- An answer of which this is so was written, and the session goes on or ends so; or it could not be written.
-abbrev pub WritesAnswer : Option (List ℕ) → Option (List ℕ) → Known → (State → State → Answer → Type 0) → Option End → Type 0
+abbrev pub WritesAnswer : Option (List ℕ) → Option (List ℕ) → Known → (SessionState → SessionState → SessionAnswer → Type 0) → Option End → Type 0
 WritesAnswer output written Knows Is None =
-    (answer : Answer) × Appends output written (answer_text answer) × Knows (λ old new. Is old new answer)
+    (answer : SessionAnswer) × Appends output written (answer_text answer) × Knows (λ old new. Is old new answer)
     × (is_end answer ≡ false)
 WritesAnswer output written Knows Is (Some ended.Quit) =
-    (answer : Answer) × Appends output written (answer_text answer) × Knows (λ old new. Is old new answer)
+    (answer : SessionAnswer) × Appends output written (answer_text answer) × Knows (λ old new. Is old new answer)
     × (is_end answer ≡ true)
 WritesAnswer output written Knows Is (Some ended.Shut) =
-    (answer : Answer) × Appends output written (answer_text answer) × Knows (λ old new. Is old new answer)
+    (answer : SessionAnswer) × Appends output written (answer_text answer) × Knows (λ old new. Is old new answer)
     × (is_refusal answer ≡ true)
 WritesAnswer output written Knows Is (Some ended.Unwritable) =
-    (answer : Answer) × Knows (λ old new. Is old new answer)
+    (answer : SessionAnswer) × Knows (λ old new. Is old new answer)
 WritesAnswer output written Knows Is (Some ended.Finished) = ⊥
 WritesAnswer output written Knows Is (Some ended.Unreadable) = ⊥
 WritesAnswer output written Knows Is (Some ended.NoMemory) = ⊥
@@ -164,7 +164,7 @@ SaysLong output written (Some end) = end ≡ ended.Unwritable
 -- the answer to a line that was read
 abbrev pub AnswersRead : Holding → Option (List ℕ) → Option (List ℕ) → Option (List ℕ) → Option (List ℕ) → Known → Option End → Type 0
 AnswersRead holds input source output written Knows end =
-    (line : List ℕ) × GivesLine input source line × WritesAnswer output written Knows (IsAnswerTo holds line) end
+    (line : List ℕ) × GivesLine input source line × WritesAnswer output written Knows (IsAnswerToLine holds line) end
 
 -- One line was read and answered; or none was, and nothing changed.
 abbrev pub ServesLine : Holding → Option (List ℕ) → Option (List ℕ) → Option (List ℕ) → Option (List ℕ) → Known → Option End → Type 0
@@ -176,8 +176,8 @@ ServesLine holds input source output written Knows end =
     AnswersRead holds input source output written Knows end
 
 -- what comes behind an answer
-abbrev pub Follows : Answer → Option End → Type 0
-Follows answer None = is_end answer ≡ false
-Follows answer (Some ended.Quit) = is_end answer ≡ true
-Follows answer (Some ended.Shut) = is_refusal answer ≡ true
-Follows answer (Some end) = ⊥
+abbrev pub IsFollowedBy : SessionAnswer → Option End → Type 0
+IsFollowedBy answer None = is_end answer ≡ false
+IsFollowedBy answer (Some ended.Quit) = is_end answer ≡ true
+IsFollowedBy answer (Some ended.Shut) = is_refusal answer ≡ true
+IsFollowedBy answer (Some end) = ⊥

@@ -5,13 +5,13 @@ ghost use Rattle.cli_keeping.specs.Keeping.{Keeps};
 ghost use Rattle.cli_session.specs.Held.{holding_of};
 ghost use Rattle.cli_steps.specs.AnswerText.{answer_text};
 ghost use Rattle.cli_steps.specs.Ways.{Steps};
-ghost use Rattle.cli_serving.specs.Serving.{Follows, IsAnswerWithin, WritesAnswer, is_end, is_refusal};
+ghost use Rattle.cli_serving.specs.Serving.{IsFollowedBy, IsAnswerWithin, WritesAnswer, is_end, is_refusal};
 
 use crate::ending::End;
 use cli_failures::{Failure, Source};
 use cli_keeping::Keeper;
 use cli_requests::{RequestFault, request_of};
-use cli_steps::{Answer, Party, step};
+use cli_steps::{Party, SessionAnswer, step};
 use std::alloc::Global;
 use std::io;
 use std::io::Write;
@@ -19,21 +19,21 @@ use std::io::Write;
 const REFUSED: u8 = 71;
 
 // Whether the session ends with the answer.
-fn is_end(answer: &Answer<'_>) -> bool
+fn is_end(answer: &SessionAnswer<'_>) -> bool
     ensures { result ≡ is_end answer.now }
 {
     match answer {
-        Answer::Ends => true,
+        SessionAnswer::Ends => true,
         _ => false,
     }
 }
 
 // Whether the keeper refused.
-fn is_refusal(answer: &Answer<'_>) -> bool
+fn is_refusal(answer: &SessionAnswer<'_>) -> bool
     ensures { result ≡ is_refusal answer.now }
 {
     match answer {
-        Answer::Failed(Failure::StoreFailed { number }) => *number == REFUSED,
+        SessionAnswer::Failed(Failure::StoreFailed { number }) => *number == REFUSED,
         _ => false,
     }
 }
@@ -44,7 +44,7 @@ fn answer_line<'a, K: Keeper, S: Source>(
     source: &S,
     alloc: Global,
     line: &'a [u8],
-) -> Answer<'a>
+) -> SessionAnswer<'a>
     ensures sound { K.is_sound party.new.keeper → K.is_sound party.old.keeper }
     ensures steps { K.is_sound party.new.keeper
         → Steps party.old.believed (K.keeps party.old.keeper)
@@ -54,13 +54,13 @@ fn answer_line<'a, K: Keeper, S: Source>(
 {
     match request_of(alloc, line) {
         Ok(request) => step(party, source, alloc, request),
-        Err(RequestFault::Malformed) => Answer::BadLine,
-        Err(RequestFault::Memory) => Answer::Failed(Failure::NoMemory),
+        Err(RequestFault::Malformed) => SessionAnswer::BadLine,
+        Err(RequestFault::Memory) => SessionAnswer::Failed(Failure::NoMemory),
     }
 }
 
 /// Writes the answer, and what the writer may keep back.
-pub(crate) fn write_answer<W: Write>(answer: &Answer<'_>, out: &mut W) -> io::Result<()>
+pub(crate) fn write_answer<W: Write>(answer: &SessionAnswer<'_>, out: &mut W) -> io::Result<()>
     ensures { OnOk result (Appends (W.contents out.old) (W.contents out.new)
         (answer_text answer.now)) }
 {
@@ -69,10 +69,10 @@ pub(crate) fn write_answer<W: Write>(answer: &Answer<'_>, out: &mut W) -> io::Re
 }
 
 // How the session ends behind the answer, if it does.
-fn end_behind<K: Keeper>(keeper: &mut K, answer: &Answer<'_>) -> Option<End>
+fn end_behind<K: Keeper>(keeper: &mut K, answer: &SessionAnswer<'_>) -> Option<End>
     ensures sound { K.is_sound keeper.new → K.is_sound keeper.old }
     ensures keeps { K.is_sound keeper.new → Keeps (K.keeps keeper.old) (K.keeps keeper.new) }
-    ensures follows { Follows answer.now result }
+    ensures follows { IsFollowedBy answer.now result }
 {
     if is_end(answer) {
         return Some(End::Quit);

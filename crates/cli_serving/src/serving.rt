@@ -10,7 +10,7 @@ use crate::ending::End;
 use cli_failures::Source;
 use cli_keeping::Keeper;
 use cli_lines::{LINE_MOST, LineRead, read_line};
-use cli_steps::{Answer, Party};
+use cli_steps::{Party, SessionAnswer};
 use std::alloc::Global;
 use std::io::{Read, Write};
 
@@ -18,7 +18,7 @@ use std::io::{Read, Write};
 fn refuse_line<W: Write>(out: &mut W) -> Option<End>
     ensures { SaysLong (W.contents out.old) (W.contents out.new) result }
 {
-    match write_answer(&Answer::LongLine, out) {
+    match write_answer(&SessionAnswer::LongLine, out) {
         Ok(()) => None,
         Err(_) => Some(End::Unwritable),
     }

@@ -4,11 +4,11 @@ use Rattle.cli_failures.specs.Failures.{Holding}
 use Rattle.cli_requests.specs.Operands.{Operand, in_file, in_line, operand_in}
 
 -- an operand holds what the file of its name holds, or the octets that stand in the line; a word that is none cannot be read
-abbrev pub held_by : Holding → Option Operand → Option (List ℕ) → Type 0
-held_by holds (Some (in_file name)) found = holds name found
-held_by holds (Some (in_line octets)) found = found ≡ Some octets
-held_by holds None found = found ≡ None
+abbrev pub OperandHolds : Holding → Option Operand → Option (List ℕ) → Type 0
+OperandHolds holds (Some (in_file name)) found = holds name found
+OperandHolds holds (Some (in_line octets)) found = found ≡ Some octets
+OperandHolds holds None found = found ≡ None
 
 -- the same of a word
 abbrev pub holding_of : Holding → Holding
-holding_of holds word found = held_by holds (operand_in word) found
+holding_of holds word found = OperandHolds holds (operand_in word) found

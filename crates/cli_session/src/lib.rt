@@ -5,4 +5,4 @@ mod believed;
 mod operands;
 
 pub use believed::{Believed, Judge};
-pub use operands::Operands;
+pub use operands::OperandSource;

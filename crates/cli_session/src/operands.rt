@@ -9,7 +9,7 @@ use std::alloc::Global;
 /// The operands of a session's lines. One that names a file holds what that file holds, and octets hold themselves. A failure names the
 /// operand as it stands in the line, which is one word.
 #[derive(Clone, Copy)]
-pub struct Operands<'s, S> {
+pub struct OperandSource<'s, S> {
     /// Where files come from.
     pub source: &'s S,
     /// Where memory comes from.
@@ -30,7 +30,7 @@ fn read_named<'a, S: Source>(source: &S, word: &'a str, name: &str) -> Result<Ve
     }
 }
 
-impl<S: Source> Source for Operands<'_, S> {
+impl<S: Source> Source for OperandSource<'_, S> {
     ghost use Rattle.cli_session.specs.Held.{holding_of};
 
     ghost holds = { λ operands. holding_of (S.holds operands.source.now) };

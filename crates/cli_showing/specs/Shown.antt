@@ -32,13 +32,13 @@ IsShownText holds Response file text =
     (read : OcspResponse) × HoldsResponse holds file read × (text ≡ response_text read)
 
 -- the fingerprints of the file under this key: of a certificate and of a revocation list, its line; of a response, its lines
-abbrev pub ArePrints : Holding → SubjectPublicKeyInfo → Kind → List ℕ → List ℕ → Type 0
-ArePrints holds key_info Certificate file text =
+abbrev pub ArePrintLines : Holding → SubjectPublicKeyInfo → Kind → List ℕ → List ℕ → Type 0
+ArePrintLines holds key_info Certificate file text =
     (read : Fields) × HoldsCertificate holds file read
     × (text ≡ certificate_print_line key_info read)
-ArePrints holds key_info RevocationList file text =
+ArePrintLines holds key_info RevocationList file text =
     (read : CertificateList) × HoldsList holds file read × (text ≡ crl_print_line key_info read)
-ArePrints holds key_info Response file text =
+ArePrintLines holds key_info Response file text =
     (read : OcspResponse) × HoldsResponse holds file read
     × (text ≡ response_print_lines key_info read)
 
@@ -46,7 +46,7 @@ ArePrints holds key_info Response file text =
 abbrev pub ArePrintsUnder : Holding → List ℕ → Kind → List ℕ → List ℕ → Type 0
 ArePrintsUnder holds issuer kind file text =
     (signer : Fields) × HoldsCertificate holds issuer signer
-    × ArePrints holds signer.key_info kind file text
+    × ArePrintLines holds signer.key_info kind file text
 
 -- ---- what is found
 

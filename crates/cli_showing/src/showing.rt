@@ -10,8 +10,8 @@ ghost use Rattle.cli_printing.specs.FingerprintText.{certificate_print_line, crl
 ghost use Rattle.statements_ocsp.specs.OcspResponse.{OcspResponse, ocsp_response};
 ghost use Rattle.cli_printing.specs.ResponseText.{response_text};
 ghost use Rattle.cli_failures.specs.Failures.{IsJust, IsNoCertificate, IsNoList, IsNoResponse, IsNoValue, OrUnwritable};
-ghost use Rattle.cli_failures.specs.Report.{UnlessLate, Writes};
-ghost use Rattle.cli_showing.specs.Shown.{ArePrints, ArePrintsUnder, HoldUnder, HoldsKind, HoldsValue, IsFailureOfPrints, IsNotShown, IsShownText, IsTreeText};
+ghost use Rattle.cli_failures.specs.Report.{UnlessLate, WritesText};
+ghost use Rattle.cli_showing.specs.Shown.{ArePrintLines, ArePrintsUnder, HoldUnder, HoldsKind, HoldsValue, IsFailureOfPrints, IsNotShown, IsShownText, IsTreeText};
 
 use cert::SubjectPublicKeyInfo;
 use cli_failures::{Failure, Source, read_certificate, read_list, read_response};
@@ -29,7 +29,7 @@ pub fn tree<'a, S: Source, O: Write>(
     file: &'a str,
     out: &mut O,
 ) -> Result<(), Failure<'a>>
-    ensures done { OnOk result (Writes (IsTreeText (S.holds source.now) file.entry.now)
+    ensures done { OnOk result (WritesText (IsTreeText (S.holds source.now) file.entry.now)
         (O.contents out.old) (O.contents out.new)) }
     ensures fails { IfErr result (OrUnwritable (IsNoValue (S.holds source.now) file.entry.now)
         (HoldsValue (S.holds source.now) file.entry.now)) }
@@ -51,7 +51,7 @@ pub fn show<'a, S: Source, O: Write>(
     file: &'a str,
     out: &mut O,
 ) -> Result<(), Failure<'a>>
-    ensures done { OnOk result (Writes (IsShownText (S.holds source.now) kind file.entry.now)
+    ensures done { OnOk result (WritesText (IsShownText (S.holds source.now) kind file.entry.now)
         (O.contents out.old) (O.contents out.new)) }
     ensures fails { IfErr result (OrUnwritable (IsNotShown (S.holds source.now) kind file.entry.now)
         (HoldsKind (S.holds source.now) kind file.entry.now)) }
@@ -124,7 +124,7 @@ pub fn prints<'a, S: Source, O: Write>(
     out: &mut O,
 ) -> Result<(), Failure<'a>>
     ensures done { OnOk result
-        (Writes (ArePrintsUnder (S.holds source.now) issuer.entry.now kind file.entry.now)
+        (WritesText (ArePrintsUnder (S.holds source.now) issuer.entry.now kind file.entry.now)
         (O.contents out.old) (O.contents out.new)) }
     ensures fails { IfErr result
         (OrUnwritable
@@ -148,7 +148,8 @@ fn print_under<'a, S: Source, O: Write>(
     out: &mut O,
 ) -> Result<(), Failure<'a>>
     ensures done { OnOk result
-        (Writes (ArePrints (S.holds source.now) (seen_key_info key_info.now) kind file.entry.now)
+        (WritesText (ArePrintLines (S.holds source.now) (seen_key_info key_info.now) kind
+        file.entry.now)
         (O.contents out.old) (O.contents out.new)) }
     ensures fails { IfErr result (OrUnwritable (IsNotShown (S.holds source.now) kind file.entry.now)
         (HoldsKind (S.holds source.now) kind file.entry.now)) }

@@ -14,26 +14,26 @@ use Rattle.cli_operands.specs.Question.{AcceptsJust}
 use Rattle.cli_requests.specs.Requests.{Path}
 use Rattle.cli_session.specs.Believed.{BelievesJust, accepted_by}
 use Rattle.cli_session.specs.declared.believed.Believed.{Believed}
-use Rattle.cli_steps.specs.State.{State, IsState, believing, forgetting, keeping}
-use Rattle.cli_steps.specs.Steps.{BelievesMore, Checks, Delivers}
-use Rattle.cli_steps.specs.Ways.{FindsAsked, Steps, TakesFrom, without_writer}
-use Rattle.cli_steps.specs.declared.answer.Answer.TheVariants.{Believes as Told_more, Delivered, Told, Failed}
+use Rattle.cli_steps.specs.State.{SessionState, IsState, believing, forgetting, keeping}
+use Rattle.cli_steps.specs.Steps.{BelievesMore, ChecksPath, DeliversFile}
+use Rattle.cli_steps.specs.Ways.{FindsAsked, Steps, TakesFromFiles, without_writer}
+use Rattle.cli_steps.specs.declared.answer.SessionAnswer.TheVariants.{Believes as Told_more, Delivered, Told, Failed}
 
 -- a verifier that believes these fingerprints accepts just them
 accepts_just : (believed : Believed) (prints : List (List ℕ)) → BelievesJust believed prints → AcceptsJust prints (accepted_by believed)
 accepts_just believed prints believes = λ algorithm key message signature. believes (fingerprint_of algorithm key message signature)
 
 module _ (believed : Believed) (old new : Keeping) (holds : Holding) where
-  pub delivered : (issuer file : List ℕ) (counts : Counts) → TakesFrom holds old new (accepted_by believed) issuer file (Ok counts)
-      → Steps believed old believed new (λ before after. Delivers holds issuer file before after (Delivered counts))
+  pub delivered : (issuer file : List ℕ) (counts : Counts) → TakesFromFiles holds old new (accepted_by believed) issuer file (Ok counts)
+      → Steps believed old believed new (λ before after. DeliversFile holds issuer file before after (Delivered counts))
   delivered issuer file counts (facts, statement, takes) before is = (
     keeping (taking facts before.kept) before,
     record { listed = is.listed; believes = is.believes; keeps = (takes before.kept is.keeps).0 },
     (accepted_by believed, accepts_just believed before.prints is.believes, (facts, statement, (takes before.kept is.keeps).1, refl)),
   )
 
-  pub not_delivered : (issuer file : List ℕ) (failure : Failure) → TakesFrom holds old new (accepted_by believed) issuer file (Err failure)
-      → Steps believed old believed new (λ before after. Delivers holds issuer file before after (Failed failure))
+  pub not_delivered : (issuer file : List ℕ) (failure : Failure) → TakesFromFiles holds old new (accepted_by believed) issuer file (Err failure)
+      → Steps believed old believed new (λ before after. DeliversFile holds issuer file before after (Failed failure))
   not_delivered issuer file failure (inl (refused, same)) before is = (
     before,
     record { listed = is.listed; believes = is.believes; keeps = same before.kept is.keeps },
@@ -46,7 +46,7 @@ module _ (believed : Believed) (old new : Keeping) (holds : Holding) where
   )
 
   pub checked : (path : Path) (verdict : Verdict) → FindsAsked holds old new (accepted_by believed) path (Ok verdict)
-      → Steps believed old believed new (λ before after. Checks holds path before (Told verdict) × (after ≡ before))
+      → Steps believed old believed new (λ before after. ChecksPath holds path before (Told verdict) × (after ≡ before))
   checked path verdict (query, asks, finds) before is = (
     before,
     record { listed = is.listed; believes = is.believes; keeps = (finds before.kept is.keeps).0 },
@@ -54,7 +54,7 @@ module _ (believed : Believed) (old new : Keeping) (holds : Holding) where
   )
 
   pub not_checked : (path : Path) (failure : Failure) → FindsAsked holds old new (accepted_by believed) path (Err failure)
-      → Steps believed old believed new (λ before after. Checks holds path before (Failed failure) × (after ≡ before))
+      → Steps believed old believed new (λ before after. ChecksPath holds path before (Failed failure) × (after ≡ before))
   not_checked path failure stays before is = (
     before,
     record { listed = is.listed; believes = is.believes; keeps = (stays before.kept is.keeps).0 },

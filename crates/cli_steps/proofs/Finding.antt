@@ -19,8 +19,8 @@ use Rattle.cli_operands.specs.declared.operand_files.Operands.{Operands}
 use Rattle.cli_requests.specs.Requests.{Path}
 use Rattle.cli_session.specs.Held.{holding_of}
 use Rattle.cli_words.specs.declared.question.Question.{Question}
-use Rattle.cli_steps.specs.Steps.{Asks, AsksNothing, IsFailureOfCheck, IsNotKept}
-use Rattle.cli_steps.specs.Ways.{FindsAsked, FindsFor, FindsOf, IsAskedBy, IsQuestionOf, Stays}
+use Rattle.cli_steps.specs.Steps.{RequestAsks, AsksNothing, IsFailureOfCheck, IsNotKept}
+use Rattle.cli_steps.specs.Ways.{FindsAsked, FindsFor, FindsOf, IsAskedBy, IsQuestionOf, KeepsAndFails}
 
 -- ---- operands
 
@@ -74,7 +74,7 @@ CertificatesFail holds anchor files =
     FailsFirst (IsNoCertificate holds anchor) ((read : Certificate) × HoldsCertificate holds anchor read) (IsFailureOfPath holds files)
 
 module _ (holds : Holding) (path : Path) (question : Question) (same : IsQuestionOf path question) where
-  asks : (it : Operands) (query : Query) → AreOperands (holding_of holds) question it → IsAskedBy it query → Asks (holding_of holds) path query
+  asks : (it : Operands) (query : Query) → AreOperands (holding_of holds) question it → IsAskedBy it query → RequestAsks (holding_of holds) path query
   asks it query are asked =
       let found = ask (holding_of holds) question it query.anchor query.certificates are asked.certificates in
       record {

@@ -8,13 +8,13 @@ use Rattle.statements_facts.specs.declared.counts.Counts.{Counts}
 use Rattle.statements_parts.specs.declared.fault.StatementFault.{StatementFault}
 use Rattle.cli_failures.specs.Failures.{Holding}
 use Rattle.cli_failures.specs.declared.failure.Failure.{Failure}
-use Rattle.cli_keeping.specs.Keeping.{Keeping, Kept, Finds, Takes}
+use Rattle.cli_keeping.specs.Keeping.{Keeping, Kept, AnswersWithVerdict, Takes}
 use Rattle.cli_keeping.specs.declared.fault.KeeperFault.{KeeperFault}
 use Rattle.cli_keeping.specs.declared.fault.KeeperFault.TheVariants.{Refused, NoKeeper, Memory}
 use Rattle.relying_agreement.specs.declared.verdict.Verdict.{Verdict}
 use Rattle.path.specs.Query.{Query}
 use Rattle.cli_steps.specs.Steps.{IsNotKept}
-use Rattle.cli_steps.specs.Ways.{FindsFor, Stays, TakesFacts, TakesFrom, TakesNone, TakesOr, TakesSaid, TakesUnder, told_of}
+use Rattle.cli_steps.specs.Ways.{FindsFor, KeepsAndFails, TakesAllOrNone, TakesFromFiles, TakesNone, TakesOr, TakesSaid, TakesIssuedBy, told_of}
 
 -- ---- a keeper's fault, told
 
@@ -23,7 +23,7 @@ not_taken old new facts Refused fails kept is = ((fails kept is).0, inr refl)
 not_taken old new facts NoKeeper fails kept is = absurd ((fails kept is).1 refl)
 not_taken old new facts Memory fails kept is = ((fails kept is).0, inl refl)
 
-pub not_found : (old new : Keeping) (accepts : Accepts) (query : Query) (fault : KeeperFault) → Finds old new accepts query (Err fault) → Stays old new IsNotKept (told_of fault)
+pub not_found : (old new : Keeping) (accepts : Accepts) (query : Query) (fault : KeeperFault) → AnswersWithVerdict old new accepts query (Err fault) → KeepsAndFails old new IsNotKept (told_of fault)
 not_found old new accepts query Refused fails kept is = ((fails kept is).0, inr refl)
 not_found old new accepts query NoKeeper fails kept is = absurd ((fails kept is).1 refl)
 not_found old new accepts query Memory fails kept is = ((fails kept is).0, inl refl)
@@ -35,7 +35,7 @@ pub unasked : (keeps : Keeping) (Say : List Fact → Type 0) (Refuse : Failure �
 unasked keeps Say Refuse failure fails = inl (fails, λ kept is. is)
 
 -- it was asked
-pub asked : (old new : Keeping) (Say : List Fact → Type 0) (Refuse : Failure → Type 0) (facts : List Fact) (result : Result Counts Failure) → Say facts → TakesFacts old new facts result → TakesOr old new Say Refuse result
+pub asked : (old new : Keeping) (Say : List Fact → Type 0) (Refuse : Failure → Type 0) (facts : List Fact) (result : Result Counts Failure) → Say facts → TakesAllOrNone old new facts result → TakesOr old new Say Refuse result
 asked old new Say Refuse facts (Ok counts) say takes = (facts, say, takes)
 asked old new Say Refuse facts (Err failure) say takes = inr (facts, say, takes)
 
@@ -48,11 +48,11 @@ further old new Say More Refuse Others (Err failure) more others (inr (facts, sa
 
 module _ (old new : Keeping) (holds : Holding) (accepts : Accepts) where
   pub take_under : (by : Certificate) (statement file : List ℕ) (result : Result Counts Failure) → holds file (Some statement)
-      → TakesSaid old new (genuine_statement accepts by statement) file result → TakesUnder holds old new accepts by file result
+      → TakesSaid old new (genuine_statement accepts by statement) file result → TakesIssuedBy holds old new accepts by file result
   take_under by statement file result found = further old new _ _ _ _ result (λ facts says. (statement, found, says)) (λ failure denied. inr (statement, found, denied))
 
   pub take_from : (octets : List ℕ) (by : Certificate) (issuer file : List ℕ) (result : Result Counts Failure) → holds issuer (Some octets) → certificate octets ≡ Ok by
-      → TakesUnder holds old new accepts by file result → TakesFrom holds old new accepts issuer file result
+      → TakesIssuedBy holds old new accepts by file result → TakesFromFiles holds old new accepts issuer file result
   take_from octets by issuer file result found reads =
       further old new _ _ _ _ result
       (λ facts says. record { by = by; issuer_is = (octets, found, reads); statement = says.0; file_is = says.1; genuine = says.2 })

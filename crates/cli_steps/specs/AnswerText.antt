@@ -6,10 +6,10 @@ use Rattle.relying_agreement.specs.declared.verdict.Verdict.{Verdict}
 use Rattle.statements_facts.specs.declared.counts.Counts.{Counts}
 use Rattle.cli_answers.specs.AnswerText.{counts_line, verdict_line}
 use Rattle.cli_answers.specs.Status.{verdict_status}
-use Rattle.cli_failures.specs.Report.{status_of, told_line}
+use Rattle.cli_failures.specs.Report.{exit_status, told_line}
 use Rattle.cli_failures.specs.declared.failure.Failure.{Failure}
-use Rattle.cli_steps.specs.declared.answer.Answer.{Answer}
-use Rattle.cli_steps.specs.declared.answer.Answer.TheVariants.{Nothing, Believes, Forgets, Ends, Delivered, Told, Prints, Failed, BadLine, LongLine}
+use Rattle.cli_steps.specs.declared.answer.SessionAnswer.{SessionAnswer}
+use Rattle.cli_steps.specs.declared.answer.SessionAnswer.TheVariants.{Nothing, Believes, Forgets, Ends, Delivered, Told, Prints, Failed, BadLine, LongLine}
 
 -- how many lines a text has
 abbrev pub feeds_in : List ℕ → ℕ
@@ -29,9 +29,9 @@ verdict_answer verdict = decimal (verdict_status verdict) ++ codes " " ++ verdic
 
 -- the status of the failure, and its line
 abbrev pub failed_text : Failure → List ℕ
-failed_text failure = decimal (status_of failure) ++ codes " " ++ told_line failure
+failed_text failure = decimal (exit_status failure) ++ codes " " ++ told_line failure
 
-abbrev pub answer_text : Answer → List ℕ
+abbrev pub answer_text : SessionAnswer → List ℕ
 answer_text Nothing = []
 answer_text Believes = codes "0 believed\n"
 answer_text Forgets = codes "0 forgotten\n"

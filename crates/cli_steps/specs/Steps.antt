@@ -17,9 +17,9 @@ use Rattle.cli_operands.specs.Question.{AcceptsJust, IsBadPurpose, IsBadTime, Is
 use Rattle.cli_requests.specs.Requests.{Path, Request, nothing, believe, deliver, check, prints, forget, quit}
 use Rattle.cli_showing.specs.Shown.{ArePrintsUnder, IsFailureOfPrints}
 use Rattle.cli_words.specs.declared.line.Kind.{Kind}
-use Rattle.cli_steps.specs.State.{State, believing, forgetting, keeping}
-use Rattle.cli_steps.specs.declared.answer.Answer.{Answer}
-use Rattle.cli_steps.specs.declared.answer.Answer.TheVariants.{Nothing, Believes, Forgets, Ends, Delivered, Told, Prints, Failed}
+use Rattle.cli_steps.specs.State.{SessionState, believing, forgetting, keeping}
+use Rattle.cli_steps.specs.declared.answer.SessionAnswer.{SessionAnswer}
+use Rattle.cli_steps.specs.declared.answer.SessionAnswer.TheVariants.{Nothing, Believes, Forgets, Ends, Delivered, Told, Prints, Failed}
 
 -- the keeper of the statements did not answer: memory ran out, or it refused
 abbrev pub IsNotKept : Failure → Type 0
@@ -56,21 +56,21 @@ FailsToDeliver holds accepts issuer file old new failure =
     × (new ≡ trying facts old))
 
 -- a verifier that believes these fingerprints judges the statement; its facts are taken, and counted so; or a failure
-abbrev pub Delivers : Holding → List ℕ → List ℕ → State → State → Answer → Type 0
-Delivers holds issuer file old new (Delivered counts) =
+abbrev pub DeliversFile : Holding → List ℕ → List ℕ → SessionState → SessionState → SessionAnswer → Type 0
+DeliversFile holds issuer file old new (Delivered counts) =
     (accepts : Accepts) × AcceptsJust old.prints accepts
     × ((facts : List Fact) × HoldsStatement holds accepts issuer file facts
     × AreCounts old.kept.held facts counts × (new ≡ keeping (taking facts old.kept) old))
-Delivers holds issuer file old new (Failed failure) =
+DeliversFile holds issuer file old new (Failed failure) =
     (accepts : Accepts) × AcceptsJust old.prints accepts
     × ((kept : Kept) × FailsToDeliver holds accepts issuer file old.kept kept failure
     × (new ≡ keeping kept old))
-Delivers holds issuer file old new answer = ⊥
+DeliversFile holds issuer file old new answer = ⊥
 
 -- ---- verdicts
 
 -- what is asked of a path, by its operands
-pub record Asks (holds : Holding) (path : Path) (query : Query) : Type 0 where
+pub record RequestAsks (holds : Holding) (path : Path) (query : Query) : Type 0 where
   pub moment : IsMoment path.moment query.moment
   pub purpose : IsPurposeOf path.purpose query.purpose
   pub anchor : HoldsCertificate holds path.anchor query.anchor
@@ -89,26 +89,26 @@ AsksNothing holds path =
 -- the same, and then the keeper
 abbrev pub IsFailureOfCheck : Holding → Path → Failure → Type 0
 IsFailureOfCheck holds path =
-    FailsFirst (AsksNothing holds path) ((query : Query) × Asks holds path query) IsNotKept
+    FailsFirst (AsksNothing holds path) ((query : Query) × RequestAsks holds path query) IsNotKept
 
 -- the verdict by what is held, with a verifier that believes these fingerprints; or a failure
-abbrev pub Checks : Holding → Path → State → Answer → Type 0
-Checks holds path state (Told verdict) =
+abbrev pub ChecksPath : Holding → Path → SessionState → SessionAnswer → Type 0
+ChecksPath holds path state (Told verdict) =
     (accepts : Accepts) × AcceptsJust state.prints accepts
-    × ((query : Query) × Asks holds path query × IsVerdict accepts query state.kept.held verdict)
-Checks holds path state (Failed failure) = IsFailureOfCheck holds path failure
-Checks holds path state answer = ⊥
+    × ((query : Query) × RequestAsks holds path query × IsVerdict accepts query state.kept.held verdict)
+ChecksPath holds path state (Failed failure) = IsFailureOfCheck holds path failure
+ChecksPath holds path state answer = ⊥
 
 -- ---- others
 
 -- one fingerprint more is believed, or memory ran out
-abbrev pub BelievesMore : List ℕ → State → State → Answer → Type 0
+abbrev pub BelievesMore : List ℕ → SessionState → SessionState → SessionAnswer → Type 0
 BelievesMore print old new Believes = new ≡ believing print old
 BelievesMore print old new (Failed failure) = (failure ≡ NoMemory) × (new ≡ old)
 BelievesMore print old new answer = ⊥
 
 -- the lines of the fingerprints, or a failure
-abbrev pub ShowsPrints : Holding → Kind → List ℕ → List ℕ → Answer → Type 0
+abbrev pub ShowsPrints : Holding → Kind → List ℕ → List ℕ → SessionAnswer → Type 0
 ShowsPrints holds kind issuer file (Prints text) = ArePrintsUnder holds issuer kind file text.items
 ShowsPrints holds kind issuer file (Failed failure) =
     IsFailureOfPrints holds issuer kind file failure ⊎ (failure ≡ NoMemory)
@@ -117,11 +117,11 @@ ShowsPrints holds kind issuer file answer = ⊥
 -- ---- requests
 
 -- What a request makes of the party, and its answer. Operands hold so.
-abbrev pub IsStep : Holding → Request → State → State → Answer → Type 0
+abbrev pub IsStep : Holding → Request → SessionState → SessionState → SessionAnswer → Type 0
 IsStep holds nothing old new answer = (answer ≡ Nothing) × (new ≡ old)
 IsStep holds (believe print) old new answer = BelievesMore print old new answer
-IsStep holds (deliver issuer file) old new answer = Delivers holds issuer file old new answer
-IsStep holds (check path) old new answer = Checks holds path old answer × (new ≡ old)
+IsStep holds (deliver issuer file) old new answer = DeliversFile holds issuer file old new answer
+IsStep holds (check path) old new answer = ChecksPath holds path old answer × (new ≡ old)
 IsStep holds (prints kind issuer file) old new answer =
     ShowsPrints holds kind issuer file answer × (new ≡ old)
 IsStep holds forget old new answer = (answer ≡ Forgets) × (new ≡ forgetting old)

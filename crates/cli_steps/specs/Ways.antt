@@ -22,14 +22,14 @@ use Rattle.cli_operands.specs.declared.operand_files.Operands.{Operands}
 use Rattle.cli_requests.specs.Requests.{Path}
 use Rattle.cli_session.specs.declared.believed.Believed.{Believed}
 use Rattle.cli_words.specs.declared.question.Question.{Question}
-use Rattle.cli_steps.specs.State.{IsState, State}
-use Rattle.cli_steps.specs.Steps.{Asks, HoldsStatement, IsFailureOfCheck, IsNotKept, IsRefusedFrom, IsRefusedUnder}
+use Rattle.cli_steps.specs.State.{IsState, SessionState}
+use Rattle.cli_steps.specs.Steps.{RequestAsks, HoldsStatement, IsFailureOfCheck, IsNotKept, IsRefusedFrom, IsRefusedUnder}
 
 -- whatever the party believed and held, it believes and holds something now, and the two are related so
-abbrev pub Steps : Believed → Keeping → Believed → Keeping → (State → State → Type 0) → Type 0
+abbrev pub Steps : Believed → Keeping → Believed → Keeping → (SessionState → SessionState → Type 0) → Type 0
 Steps old_believed old_keeps believed keeps Are =
-    (old : State) → IsState old_believed old_keeps old →
-    (new : State) × IsState believed keeps new × Are old new
+    (old : SessionState) → IsState old_believed old_keeps old →
+    (new : SessionState) × IsState believed keeps new × Are old new
 
 -- what a keeper's fault is for a session
 abbrev pub told_of : KeeperFault → Failure
@@ -38,8 +38,8 @@ told_of NoKeeper = StoreFailed 72
 told_of Memory = NoMemory
 
 -- what was kept is kept, and the failure is one of these
-abbrev pub Stays : Keeping → Keeping → (Failure → Type 0) → Failure → Type 0
-Stays old new Fails failure = (kept : Kept) → old kept → new kept × Fails failure
+abbrev pub KeepsAndFails : Keeping → Keeping → (Failure → Type 0) → Failure → Type 0
+KeepsAndFails old new Fails failure = (kept : Kept) → old kept → new kept × Fails failure
 
 -- ---- deliveries
 
@@ -53,9 +53,9 @@ abbrev pub TakesNone : Keeping → Keeping → List Fact → Failure → Type 0
 TakesNone old new facts failure =
     (kept : Kept) → old kept → new (trying facts kept) × IsNotKept failure
 
-abbrev pub TakesFacts : Keeping → Keeping → List Fact → Result Counts Failure → Type 0
-TakesFacts old new facts (Ok counts) = TakesAll old new facts counts
-TakesFacts old new facts (Err failure) = TakesNone old new facts failure
+abbrev pub TakesAllOrNone : Keeping → Keeping → List Fact → Result Counts Failure → Type 0
+TakesAllOrNone old new facts (Ok counts) = TakesAll old new facts counts
+TakesAllOrNone old new facts (Err failure) = TakesNone old new facts failure
 
 -- the facts of the statement that the operand holds were taken, or not; or it is refused so, and nothing changed
 abbrev pub TakesOr : Keeping → Keeping → (List Fact → Type 0) → (Failure → Type 0) → Result Counts Failure → Type 0
@@ -74,13 +74,13 @@ HoldsUnder holds accepts by file facts =
     (statement : List ℕ) × holds file (Some statement)
     × (genuine_statement accepts by statement ≡ Ok facts)
 
-abbrev pub TakesUnder : Holding → Keeping → Keeping → Accepts → Certificate → List ℕ → Result Counts Failure → Type 0
-TakesUnder holds old new accepts by file =
+abbrev pub TakesIssuedBy : Holding → Keeping → Keeping → Accepts → Certificate → List ℕ → Result Counts Failure → Type 0
+TakesIssuedBy holds old new accepts by file =
     TakesOr old new (HoldsUnder holds accepts by file) (IsRefusedUnder holds accepts by file)
 
 -- under the issuer whose certificate the other operand holds
-abbrev pub TakesFrom : Holding → Keeping → Keeping → Accepts → List ℕ → List ℕ → Result Counts Failure → Type 0
-TakesFrom holds old new accepts issuer file =
+abbrev pub TakesFromFiles : Holding → Keeping → Keeping → Accepts → List ℕ → List ℕ → Result Counts Failure → Type 0
+TakesFromFiles holds old new accepts issuer file =
     TakesOr old new (HoldsStatement holds accepts issuer file) (IsRefusedFrom holds accepts issuer file)
 
 -- ---- verdicts
@@ -106,22 +106,22 @@ FindsVerdict old new accepts query verdict =
 
 abbrev pub FindsFor : Keeping → Keeping → Accepts → Query → Result Verdict Failure → Type 0
 FindsFor old new accepts query (Ok verdict) = FindsVerdict old new accepts query verdict
-FindsFor old new accepts query (Err failure) = Stays old new IsNotKept failure
+FindsFor old new accepts query (Err failure) = KeepsAndFails old new IsNotKept failure
 
 -- what the operands ask
 abbrev pub FindsOf : Keeping → Keeping → Accepts → Operands → Result Verdict Failure → Type 0
 FindsOf old new accepts it (Ok verdict) =
     (query : Query) × IsAskedBy it query × FindsVerdict old new accepts query verdict
 FindsOf old new accepts it (Err failure) =
-    Stays old new
+    KeepsAndFails old new
     (FailsFirst (IsRefusalIn it) ((query : Query) × IsAskedBy it query) IsNotKept) failure
 
 -- what the request asks
 abbrev pub FindsAsked : Holding → Keeping → Keeping → Accepts → Path → Result Verdict Failure → Type 0
 FindsAsked holds old new accepts path (Ok verdict) =
-    (query : Query) × Asks holds path query × FindsVerdict old new accepts query verdict
+    (query : Query) × RequestAsks holds path query × FindsVerdict old new accepts query verdict
 FindsAsked holds old new accepts path (Err failure) =
-    Stays old new (IsFailureOfCheck holds path) failure
+    KeepsAndFails old new (IsFailureOfCheck holds path) failure
 
 -- ---- fingerprints
 

@@ -12,7 +12,7 @@ use std::io::Write;
 
 /// The answer to a line of a session.
 #[derive(Debug, Drop, PartialEq, Eq)]
-pub enum Answer<'a> {
+pub enum SessionAnswer<'a> {
     /// None: the line asks for nothing.
     Nothing,
     /// A fingerprint more is believed.
@@ -74,7 +74,7 @@ fn write_failure<W: Write>(failure: &Failure<'_>, out: &mut W) -> io::Result<()>
     failure.tell(out)
 }
 
-impl Answer<'_> {
+impl SessionAnswer<'_> {
     /// Writes the answer: the status that the command would have ended with, a space, and the line that it would have written. It takes
     /// no memory.
     pub fn tell<W: Write>(&self, out: &mut W) -> io::Result<()>
@@ -82,16 +82,16 @@ impl Answer<'_> {
             (answer_text self.now)) }
     {
         match self {
-            Answer::Nothing => Ok(()),
-            Answer::Believes => out.write_all(b"0 believed\n"),
-            Answer::Forgets => out.write_all(b"0 forgotten\n"),
-            Answer::Ends => out.write_all(b"0 ended\n"),
-            Answer::Delivered(counts) => write_counts(counts, out),
-            Answer::Told(verdict) => write_verdict(*verdict, out),
-            Answer::Prints(text) => write_prints(text.as_slice(), out),
-            Answer::Failed(failure) => write_failure(failure, out),
-            Answer::BadLine => out.write_all(b"5 bad line\n"),
-            Answer::LongLine => out.write_all(b"5 line too long\n"),
+            SessionAnswer::Nothing => Ok(()),
+            SessionAnswer::Believes => out.write_all(b"0 believed\n"),
+            SessionAnswer::Forgets => out.write_all(b"0 forgotten\n"),
+            SessionAnswer::Ends => out.write_all(b"0 ended\n"),
+            SessionAnswer::Delivered(counts) => write_counts(counts, out),
+            SessionAnswer::Told(verdict) => write_verdict(*verdict, out),
+            SessionAnswer::Prints(text) => write_prints(text.as_slice(), out),
+            SessionAnswer::Failed(failure) => write_failure(failure, out),
+            SessionAnswer::BadLine => out.write_all(b"5 bad line\n"),
+            SessionAnswer::LongLine => out.write_all(b"5 line too long\n"),
         }
     }
 }

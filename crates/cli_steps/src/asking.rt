@@ -1,12 +1,12 @@
 //! What a request asks of a path.
 ghost use Rattle.std.specs.Prelude.{◌≡◌, IfErr, IfOk};
-ghost use Rattle.cli_keeping.specs.Keeping.{seen_asked};
+ghost use Rattle.cli_keeping.specs.Keeping.{asked_query};
 ghost use Rattle.cli_operands.specs.Operands.{IsRefusalIn};
 ghost use Rattle.cli_requests.specs.Requests.{seen_path};
 ghost use Rattle.cli_steps.specs.Ways.{IsAskedBy, IsQuestionOf};
 
 use cli_failures::Failure;
-use cli_keeping::Asked;
+use cli_keeping::PathQuestion;
 use cli_operands::Operands;
 use cli_requests::PathRequest;
 use cli_words::Question;
@@ -33,12 +33,12 @@ pub(crate) fn question_of<'a>(path: PathRequest<'a>) -> Question<'a>
 pub(crate) fn asked_by<'q, 'a>(
     alloc: Global,
     operands: &'q Operands<'a>,
-) -> Result<Asked<'q>, Failure<'a>>
-    ensures asks { IfOk result (λ asked. IsAskedBy operands.now (seen_asked asked)) }
+) -> Result<PathQuestion<'q>, Failure<'a>>
+    ensures asks { IfOk result (λ asked. IsAskedBy operands.now (asked_query asked)) }
     ensures fails { IfErr result (IsRefusalIn operands.now) }
 {
     let (anchor, path) = operands.certificates(alloc)?;
-    Ok(Asked {
+    Ok(PathQuestion {
         anchor,
         path,
         moment: operands.moment,

@@ -4,21 +4,21 @@ ghost use Rattle.cli_steps.specs.State.{forgetting};
 ghost use Rattle.cli_steps.specs.Steps.{BelievesMore};
 ghost use Rattle.cli_steps.specs.Ways.{Steps};
 
-use crate::answer::Answer;
+use crate::answer::SessionAnswer;
 use crate::party::Party;
 use cli_failures::Failure;
 use cli_keeping::Keeper;
 
 /// Believes one fingerprint more.
-pub(crate) fn believe<'a, K: Keeper>(party: &mut Party<K>, print: [u8; 32]) -> Answer<'a>
+pub(crate) fn believe<'a, K: Keeper>(party: &mut Party<K>, print: [u8; 32]) -> SessionAnswer<'a>
     ensures keeper { party.new.keeper ≡ party.old.keeper }
     ensures steps { Steps party.old.believed (K.keeps party.old.keeper)
         party.new.believed (K.keeps party.old.keeper)
         (λ old new. BelievesMore print old new result) }
 {
     match party.believed.believe(print) {
-        Ok(()) => Answer::Believes,
-        Err(_) => Answer::Failed(Failure::NoMemory),
+        Ok(()) => SessionAnswer::Believes,
+        Err(_) => SessionAnswer::Failed(Failure::NoMemory),
     }
 }
 

@@ -2,10 +2,10 @@
 ghost use Rattle.std.specs.Prelude.{◌≡◌};
 ghost use Rattle.cli_requests.specs.Requests.{seen_path};
 ghost use Rattle.cli_session.specs.Held.{holding_of};
-ghost use Rattle.cli_steps.specs.Steps.{Checks};
+ghost use Rattle.cli_steps.specs.Steps.{ChecksPath};
 ghost use Rattle.cli_steps.specs.Ways.{FindsAsked, FindsOf, Steps};
 
-use crate::answer::Answer;
+use crate::answer::SessionAnswer;
 use crate::asking::{asked_by, question_of};
 use crate::kept::find_verdict;
 use crate::party::Party;
@@ -13,7 +13,7 @@ use cli_failures::{Failure, Source};
 use cli_keeping::Keeper;
 use cli_operands::{Operands, read_operands};
 use cli_requests::PathRequest;
-use cli_session::{Judge, Operands as Files};
+use cli_session::{Judge, OperandSource};
 use path_verifiers::Verifier;
 use relying_agreement::Verdict;
 use std::alloc::Global;
@@ -36,7 +36,7 @@ fn find_asked<'a, K: Keeper, V: Verifier>(
 // The verdict that the request asks for.
 fn find_for<'a, K: Keeper, V: Verifier, S: Source>(
     keeper: &mut K,
-    source: &Files<'_, S>,
+    source: &OperandSource<'_, S>,
     alloc: Global,
     verifier: &V,
     path: PathRequest<'a>,
@@ -48,32 +48,29 @@ fn find_for<'a, K: Keeper, V: Verifier, S: Source>(
         (seen_path path.entry) result }
 {
     let question = question_of(path);
-    let operands = match read_operands(source, alloc, &question) {
-        Ok(operands) => operands,
-        Err(failure) => return Err(failure),
-    };
+    let operands = read_operands(source, alloc, &question)?;
     find_asked(keeper, alloc, verifier, &operands)
 }
 
 /// Tells the verdict on the path that the request names, by what is held.
 pub(crate) fn check<'a, K: Keeper, S: Source>(
     party: &mut Party<K>,
-    source: &Files<'_, S>,
+    source: &OperandSource<'_, S>,
     alloc: Global,
     path: PathRequest<'a>,
-) -> Answer<'a>
+) -> SessionAnswer<'a>
     ensures sound { K.is_sound party.new.keeper → K.is_sound party.old.keeper }
     ensures steps { K.is_sound party.new.keeper
         → Steps party.old.believed (K.keeps party.old.keeper)
         party.new.believed (K.keeps party.new.keeper)
-        (λ old new. Checks (holding_of (S.holds source.now.source.now)) (seen_path path.entry)
+        (λ old new. ChecksPath (holding_of (S.holds source.now.source.now)) (seen_path path.entry)
         old result × (new ≡ old)) }
 {
     let judge = Judge {
         believed: &party.believed,
     };
     match find_for(&mut party.keeper, source, alloc, &judge, path) {
-        Ok(verdict) => Answer::Told(verdict),
-        Err(failure) => Answer::Failed(failure),
+        Ok(verdict) => SessionAnswer::Told(verdict),
+        Err(failure) => SessionAnswer::Failed(failure),
     }
 }

@@ -2,10 +2,10 @@
 ghost use Rattle.std.specs.Prelude.{◌≡◌};
 ghost use Rattle.cert.specs.Certificate.{seen_certificate};
 ghost use Rattle.statements.specs.OcspFact.{genuine_statement};
-ghost use Rattle.cli_steps.specs.Steps.{Delivers};
-ghost use Rattle.cli_steps.specs.Ways.{Steps, TakesFrom, TakesSaid, TakesUnder};
+ghost use Rattle.cli_steps.specs.Steps.{DeliversFile};
+ghost use Rattle.cli_steps.specs.Ways.{Steps, TakesFromFiles, TakesSaid, TakesIssuedBy};
 
-use crate::answer::Answer;
+use crate::answer::SessionAnswer;
 use crate::kept::take_facts;
 use crate::party::Party;
 use cert::Certificate;
@@ -30,10 +30,7 @@ fn take_statement<'a, K: Keeper, V: Verifier>(
         (genuine_statement (V.accepts verifier.now) (seen_certificate issuer.now) statement.now)
         file.entry.now result }
 {
-    let facts = match read_facts(alloc, verifier, issuer, file, statement) {
-        Ok(facts) => facts,
-        Err(failure) => return Err(failure),
-    };
+    let facts = read_facts(alloc, verifier, issuer, file, statement)?;
     take_facts(keeper, &facts)
 }
 
@@ -47,14 +44,11 @@ fn take_under<'a, K: Keeper, V: Verifier, S: Source>(
     file: &'a str,
 ) -> Result<Counts, Failure<'a>>
     ensures sound { K.is_sound keeper.new → K.is_sound keeper.old }
-    ensures takes { K.is_sound keeper.new → TakesUnder (S.holds source.now)
+    ensures takes { K.is_sound keeper.new → TakesIssuedBy (S.holds source.now)
         (K.keeps keeper.old) (K.keeps keeper.new) (V.accepts verifier.now)
         (seen_certificate issuer.now) file.entry.now result }
 {
-    let statement = match source.octets_of(file) {
-        Ok(octets) => octets,
-        Err(failure) => return Err(failure),
-    };
+    let statement = source.octets_of(file)?;
     take_statement(keeper, alloc, verifier, issuer, statement.as_slice(), file)
 }
 
@@ -68,18 +62,12 @@ fn take_from<'a, K: Keeper, V: Verifier, S: Source>(
     file: &'a str,
 ) -> Result<Counts, Failure<'a>>
     ensures sound { K.is_sound keeper.new → K.is_sound keeper.old }
-    ensures takes { K.is_sound keeper.new → TakesFrom (S.holds source.now)
+    ensures takes { K.is_sound keeper.new → TakesFromFiles (S.holds source.now)
         (K.keeps keeper.old) (K.keeps keeper.new) (V.accepts verifier.now)
         issuer.entry.now file.entry.now result }
 {
-    let octets = match source.octets_of(issuer) {
-        Ok(octets) => octets,
-        Err(failure) => return Err(failure),
-    };
-    let certificate = match read_certificate(alloc, issuer, octets.as_slice()) {
-        Ok(certificate) => certificate,
-        Err(failure) => return Err(failure),
-    };
+    let octets = source.octets_of(issuer)?;
+    let certificate = read_certificate(alloc, issuer, octets.as_slice())?;
     take_under(keeper, source, alloc, verifier, &certificate, file)
 }
 
@@ -90,18 +78,19 @@ pub(crate) fn deliver<'a, K: Keeper, S: Source>(
     alloc: Global,
     issuer: &'a str,
     file: &'a str,
-) -> Answer<'a>
+) -> SessionAnswer<'a>
     ensures sound { K.is_sound party.new.keeper → K.is_sound party.old.keeper }
     ensures steps { K.is_sound party.new.keeper
         → Steps party.old.believed (K.keeps party.old.keeper)
         party.new.believed (K.keeps party.new.keeper)
-        (λ old new. Delivers (S.holds source.now) issuer.entry.now file.entry.now old new result) }
+        (λ old new. DeliversFile (S.holds source.now) issuer.entry.now file.entry.now old new
+        result) }
 {
     let judge = Judge {
         believed: &party.believed,
     };
     match take_from(&mut party.keeper, source, alloc, &judge, issuer, file) {
-        Ok(counts) => Answer::Delivered(counts),
-        Err(failure) => Answer::Failed(failure),
+        Ok(counts) => SessionAnswer::Delivered(counts),
+        Err(failure) => SessionAnswer::Failed(failure),
     }
 }

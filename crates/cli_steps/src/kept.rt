@@ -1,11 +1,11 @@
 //! What a keeper answers, for a session.
 ghost use Rattle.std.specs.Prelude.{◌≡◌};
 ghost use Rattle.statements_facts.specs.Fact.{facts_in};
-ghost use Rattle.cli_keeping.specs.Keeping.{seen_asked};
-ghost use Rattle.cli_steps.specs.Ways.{FindsFor, TakesFacts, told_of};
+ghost use Rattle.cli_keeping.specs.Keeping.{asked_query};
+ghost use Rattle.cli_steps.specs.Ways.{FindsFor, TakesAllOrNone, told_of};
 
 use cli_failures::Failure;
-use cli_keeping::{Asked, Keeper, KeeperFault};
+use cli_keeping::{Keeper, KeeperFault, PathQuestion};
 use path_verifiers::Verifier;
 use relying_agreement::Verdict;
 use statements_facts::{Counts, Facts};
@@ -29,7 +29,7 @@ pub(crate) fn take_facts<'a, K: Keeper>(
 ) -> Result<Counts, Failure<'a>>
     ensures sound { K.is_sound keeper.new → K.is_sound keeper.old }
     ensures takes { K.is_sound keeper.new
-        → TakesFacts (K.keeps keeper.old) (K.keeps keeper.new) (facts_in facts.now) result }
+        → TakesAllOrNone (K.keeps keeper.old) (K.keeps keeper.new) (facts_in facts.now) result }
 {
     match keeper.take(facts) {
         Ok(counts) => Ok(counts),
@@ -42,11 +42,11 @@ pub(crate) fn find_verdict<'a, K: Keeper, V: Verifier>(
     keeper: &mut K,
     alloc: Global,
     verifier: &V,
-    asked: Asked<'_>,
+    asked: PathQuestion<'_>,
 ) -> Result<Verdict, Failure<'a>>
     ensures sound { K.is_sound keeper.new → K.is_sound keeper.old }
     ensures finds { K.is_sound keeper.new → FindsFor (K.keeps keeper.old) (K.keeps keeper.new)
-        (V.accepts verifier.now) (seen_asked asked.entry) result }
+        (V.accepts verifier.now) (asked_query asked.entry) result }
 {
     match keeper.verdict(alloc, verifier, asked) {
         Ok(verdict) => Ok(verdict),

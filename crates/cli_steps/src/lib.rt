@@ -11,6 +11,6 @@ mod party;
 mod printing;
 mod stepping;
 
-pub use answer::Answer;
+pub use answer::SessionAnswer;
 pub use party::Party;
 pub use stepping::step;

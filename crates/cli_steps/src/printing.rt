@@ -5,7 +5,7 @@ ghost use Rattle.cli_showing.specs.Shown.{ArePrintsUnder, IsFailureOfPrints};
 ghost use Rattle.cli_steps.specs.Steps.{ShowsPrints};
 ghost use Rattle.cli_steps.specs.Ways.{without_writer};
 
-use crate::answer::Answer;
+use crate::answer::SessionAnswer;
 use cli_failures::{Failure, Source};
 use cli_showing::prints;
 use cli_words::Kind;
@@ -49,11 +49,11 @@ pub(crate) fn show_prints<'a, S: Source>(
     kind: Kind,
     issuer: &'a str,
     file: &'a str,
-) -> Answer<'a>
+) -> SessionAnswer<'a>
     ensures { ShowsPrints (S.holds source.now) kind issuer.entry.now file.entry.now result }
 {
     match prints_of(source, alloc, kind, issuer, file) {
-        Ok(text) => Answer::Prints(text),
-        Err(failure) => Answer::Failed(failure),
+        Ok(text) => SessionAnswer::Prints(text),
+        Err(failure) => SessionAnswer::Failed(failure),
     }
 }

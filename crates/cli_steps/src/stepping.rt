@@ -5,7 +5,7 @@ ghost use Rattle.cli_session.specs.Held.{holding_of};
 ghost use Rattle.cli_steps.specs.Steps.{IsStep};
 ghost use Rattle.cli_steps.specs.Ways.{Steps};
 
-use crate::answer::Answer;
+use crate::answer::SessionAnswer;
 use crate::believing::{believe, forget};
 use crate::checking::check;
 use crate::delivering::deliver;
@@ -14,7 +14,7 @@ use crate::printing::show_prints;
 use cli_failures::Source;
 use cli_keeping::Keeper;
 use cli_requests::Request;
-use cli_session::Operands;
+use cli_session::OperandSource;
 use std::alloc::Global;
 
 /// Does what the request asks for, and answers it. Where a failure is answered, nothing changes. Operands that name files are read from
@@ -24,7 +24,7 @@ pub fn step<'a, K: Keeper, S: Source>(
     source: &S,
     alloc: Global,
     request: Request<'a>,
-) -> Answer<'a>
+) -> SessionAnswer<'a>
     ensures sound { K.is_sound party.new.keeper → K.is_sound party.old.keeper }
     ensures steps { K.is_sound party.new.keeper
         → Steps party.old.believed (K.keeps party.old.keeper)
@@ -32,9 +32,9 @@ pub fn step<'a, K: Keeper, S: Source>(
         (λ old new. IsStep (holding_of (S.holds source.now)) (seen_request request.entry)
         old new result) }
 {
-    let operands = Operands { source, alloc };
+    let operands = OperandSource { source, alloc };
     match request {
-        Request::Nothing => Answer::Nothing,
+        Request::Nothing => SessionAnswer::Nothing,
         Request::Believe(print) => believe(party, print),
         Request::Deliver { issuer, file } => deliver(party, &operands, alloc, issuer, file),
         Request::Check(path) => check(party, &operands, alloc, path),
@@ -43,8 +43,8 @@ pub fn step<'a, K: Keeper, S: Source>(
         }
         Request::Forget => {
             forget(party);
-            Answer::Forgets
+            SessionAnswer::Forgets
         }
-        Request::Quit => Answer::Ends,
+        Request::Quit => SessionAnswer::Ends,
     }
 }

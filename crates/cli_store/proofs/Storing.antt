@@ -25,10 +25,10 @@ use Rattle.store_sql.specs.Statements.{CommitsNothing}
 use Rattle.store_sql.specs.declared.fault.StoreFault.{StoreFault}
 use Rattle.store_sql.specs.declared.fault.StoreFault.TheVariants.{Store, Schema, Memory}
 use Rattle.store_taking.specs.Delivery.{AllOrNothing, PutsFacts}
-use Rattle.cli_keeping.specs.Keeping.{Finds, Keeps, Takes}
+use Rattle.cli_keeping.specs.Keeping.{AnswersWithVerdict, Keeps, Takes}
 use Rattle.cli_keeping.specs.declared.fault.KeeperFault.{KeeperFault}
 use Rattle.cli_keeping.specs.declared.fault.KeeperFault.TheVariants.{NoKeeper}
-use Rattle.cli_store.specs.Stored.{IsSoundIn, LeavesOneOf, fault_of, fault_of_party, keeping_in}
+use Rattle.cli_store.specs.Stored.{IsSoundIn, LeavesOneOf, keeper_fault, fault_of_party, keeping_in}
 
 at_head : (left : List Holdings) (held : Holdings) → Contains (held ∷ left) held
 at_head left held = (0, omega arith, refl)
@@ -69,13 +69,13 @@ module _ (old new : State) where
       ((taken.hold, λ trees may. (after_all kept.held (facts_in facts), at_head [] _, it.durable kept.held is trees may)), taken.counted)
 
   -- the fault is not for the form of the rows
-  other_fault : (fault : StoreFault) → (fault ≡ Schema → ⊥) → fault_of fault ≢ NoKeeper
+  other_fault : (fault : StoreFault) → (fault ≡ Schema → ⊥) → keeper_fault fault ≢ NoKeeper
   other_fault Store not is = absurd cc
   other_fault Schema not is = not refl
   other_fault Memory not is = absurd cc
 
   pub takes_nothing : (facts : Facts) (fault : StoreFault) → PutsFacts old new facts (Err fault) → AllOrNothing old new facts → IsSoundIn new
-      → Takes (keeping_in old) (keeping_in new) (facts_in facts) (Err (fault_of fault))
+      → Takes (keeping_in old) (keeping_in new) (facts_in facts) (Err (keeper_fault fault))
   takes_nothing facts fault puts survives (clean, is_open) kept (is, leaves) =
       let it = puts clean in
       let held : IsStoreOf new.now kept.held = subst (λ db. IsStoreOf db kept.held) (sym (it.same is_open)) is in (
@@ -96,11 +96,11 @@ module _ (old new : State) where
   looked_sound accepts query (Err fault) looks survives (clean, is_open) = (was_clean old new survives clean, (looks clean).0.was_open is_open)
 
   pub finds : (accepts : Accepts) (query : Query) (verdict : Verdict) → Looks {A = Verdict} old new (IsVerdict accepts query) (Ok verdict) → CommitsNothing old new → IsSoundIn new
-      → Finds (keeping_in old) (keeping_in new) accepts query (Ok verdict)
+      → AnswersWithVerdict (keeping_in old) (keeping_in new) accepts query (Ok verdict)
   finds accepts query verdict looks survives sound kept (is, leaves) = (kept_same (looks sound.0).0 survives sound kept (is, leaves), (looks sound.0).1 kept.held is)
 
   pub finds_nothing : (accepts : Accepts) (query asked : Query) (fault : Fault) → Looks {A = Verdict} old new (IsVerdict accepts query) (Err fault) → CommitsNothing old new → IsSoundIn new
-      → Finds (keeping_in old) (keeping_in new) accepts asked (Err (fault_of_party fault))
+      → AnswersWithVerdict (keeping_in old) (keeping_in new) accepts asked (Err (fault_of_party fault))
   finds_nothing accepts query asked (OfStore fault) looks survives sound kept (is, leaves) =
       (kept_same (looks sound.0).0 survives sound kept (is, leaves), other_fault fault (λ schema. (looks sound.0).1 schema kept.held is))
   finds_nothing accepts query asked WithoutMemory looks survives sound kept (is, leaves) = (kept_same (looks sound.0).0 survives sound kept (is, leaves), λ is. absurd cc)
@@ -113,16 +113,16 @@ module _ (old new : State) where
 
   pub finds_asked : (accepts : Accepts) (query asked : Query) (verdict : Verdict)
       → query.anchor ≡ asked.anchor → query.certificates ≡ asked.certificates → query.moment ≡ asked.moment → query.purpose ≡ asked.purpose
-      → Looks {A = Verdict} old new (IsVerdict accepts query) (Ok verdict) → CommitsNothing old new → IsSoundIn new → Finds (keeping_in old) (keeping_in new) accepts asked (Ok verdict)
+      → Looks {A = Verdict} old new (IsVerdict accepts query) (Ok verdict) → CommitsNothing old new → IsSoundIn new → AnswersWithVerdict (keeping_in old) (keeping_in new) accepts asked (Ok verdict)
   finds_asked accepts query asked verdict anchor certificates moment purpose looks survives sound =
-      subst (λ q. Finds (keeping_in old) (keeping_in new) accepts q (Ok verdict)) (same_query query asked anchor certificates moment purpose) (finds accepts query verdict looks survives sound)
+      subst (λ q. AnswersWithVerdict (keeping_in old) (keeping_in new) accepts q (Ok verdict)) (same_query query asked anchor certificates moment purpose) (finds accepts query verdict looks survives sound)
 
   pub finds_no_verdict : (accepts : Accepts) (query asked : Query) (fault : Fault) (told : KeeperFault) → told ≡ fault_of_party fault
-      → Looks {A = Verdict} old new (IsVerdict accepts query) (Err fault) → CommitsNothing old new → IsSoundIn new → Finds (keeping_in old) (keeping_in new) accepts asked (Err told)
+      → Looks {A = Verdict} old new (IsVerdict accepts query) (Err fault) → CommitsNothing old new → IsSoundIn new → AnswersWithVerdict (keeping_in old) (keeping_in new) accepts asked (Err told)
   finds_no_verdict accepts query asked fault told is looks survives sound =
-      subst (λ t. Finds (keeping_in old) (keeping_in new) accepts asked (Err t)) (sym is) (finds_nothing accepts query asked fault looks survives sound)
+      subst (λ t. AnswersWithVerdict (keeping_in old) (keeping_in new) accepts asked (Err t)) (sym is) (finds_nothing accepts query asked fault looks survives sound)
 
-  pub takes_none : (facts : Facts) (fault : StoreFault) (told : KeeperFault) → told ≡ fault_of fault → PutsFacts old new facts (Err fault) → AllOrNothing old new facts → IsSoundIn new
+  pub takes_none : (facts : Facts) (fault : StoreFault) (told : KeeperFault) → told ≡ keeper_fault fault → PutsFacts old new facts (Err fault) → AllOrNothing old new facts → IsSoundIn new
       → Takes (keeping_in old) (keeping_in new) (facts_in facts) (Err told)
   takes_none facts fault told is puts survives sound =
       subst (λ t. Takes (keeping_in old) (keeping_in new) (facts_in facts) (Err t)) (sym is) (takes_nothing facts fault puts survives sound)

@@ -26,12 +26,12 @@ abbrev pub keeping_in : State → Keeping
 keeping_in s kept = IsStoreOf s.now kept.held × LeavesOneOf s kept.left
 
 -- what a store's fault is for a session
-abbrev pub fault_of : StoreFault → KeeperFault
-fault_of Store = Refused
-fault_of Schema = NoKeeper
-fault_of Memory = NoMemory
+abbrev pub keeper_fault : StoreFault → KeeperFault
+keeper_fault Store = Refused
+keeper_fault Schema = NoKeeper
+keeper_fault Memory = NoMemory
 
 -- and a party's fault
 abbrev pub fault_of_party : Fault → KeeperFault
-fault_of_party (OfStore fault) = fault_of fault
+fault_of_party (OfStore fault) = keeper_fault fault
 fault_of_party WithoutMemory = NoMemory

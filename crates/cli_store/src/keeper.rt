@@ -2,10 +2,10 @@
 ghost use Rattle.std.specs.Prelude.{◌≡◌, Err, false};
 ghost use Rattle.sqlite.specs.Files.{file_state};
 ghost use Rattle.statements_facts.specs.Fact.{facts_in};
-ghost use Rattle.cli_keeping.specs.Keeping.{Finds, Keeps, Takes, seen_asked};
-ghost use Rattle.cli_store.specs.Stored.{IsSoundIn, fault_of, fault_of_party, keeping_in};
+ghost use Rattle.cli_keeping.specs.Keeping.{AnswersWithVerdict, Keeps, Takes, asked_query};
+ghost use Rattle.cli_store.specs.Stored.{IsSoundIn, keeper_fault, fault_of_party, keeping_in};
 
-use cli_keeping::{Asked, Keeper, KeeperFault};
+use cli_keeping::{Keeper, KeeperFault, PathQuestion};
 use path_verifiers::Verifier;
 use relying::{Fault, Query, Verdict, verdict_of};
 use sqlite::{Error, ErrorCode};
@@ -38,7 +38,7 @@ impl<D: Disk + Drop> StoreKeeper<D> {
 
 // What a store's fault is for a session.
 fn fault_of(fault: StoreFault) -> KeeperFault
-    ensures { result ≡ fault_of fault }
+    ensures { result ≡ keeper_fault fault }
 {
     match fault {
         StoreFault::Store => KeeperFault::Refused,
@@ -73,12 +73,13 @@ fn find_in<D: Disk + Drop, V: Verifier>(
     store: &mut Store<D>,
     alloc: Global,
     verifier: &V,
-    asked: Asked<'_>,
+    asked: PathQuestion<'_>,
 ) -> Result<Verdict, KeeperFault>
     ensures sound { IsSoundIn (file_state store.new.conn) → IsSoundIn (file_state store.old.conn) }
     ensures finds { IsSoundIn (file_state store.new.conn)
-        → Finds (keeping_in (file_state store.old.conn)) (keeping_in (file_state store.new.conn))
-        (V.accepts verifier.now) (seen_asked asked.entry) result }
+        → AnswersWithVerdict (keeping_in (file_state store.old.conn))
+        (keeping_in (file_state store.new.conn))
+        (V.accepts verifier.now) (asked_query asked.entry) result }
 {
     let query = Query::new(asked.anchor, asked.path, asked.moment, asked.purpose);
     match verdict_of(alloc, verifier, &mut store.conn, &query) {
@@ -131,7 +132,7 @@ impl<D: Disk + Drop> Keeper for StoreKeeper<D> {
         &mut self,
         alloc: Global,
         verifier: &V,
-        asked: Asked<'_>,
+        asked: PathQuestion<'_>,
     ) -> Result<Verdict, KeeperFault> {
         find_in(&mut self.store, alloc, verifier, asked)
     }

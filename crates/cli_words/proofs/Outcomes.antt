@@ -5,7 +5,7 @@ use Rattle.cli_words.specs.App.{program}
 use Rattle.clap.specs.Kinds.{Kinds, HasKind, IsAmong}
 use Rattle.clap.specs.declared.error.Error.{Error}
 use Rattle.clap.specs.declared.error.kind.ErrorKind.TheVariants.{OutOfMemory}
-use Rattle.cli_words.specs.CommandLine.{Ask, AreRefusedWith, HasNoLine, HasOtherKind, IsCheck, IsCompare, IsDeliver, IsExplain, IsQuestion, IsLine, IsLineOf, IsPlainWord, IsPrints, IsSession, IsShow, IsTree, LacksOneOf, Reads, TakesKind, kind_in, kind_named, of_check, of_compare, of_deliver, of_file, of_prints, of_session, words_in}
+use Rattle.cli_words.specs.CommandLine.{Ask, AreRefusedWith, HasNoLine, HasOtherKind, IsCheck, IsCompare, IsDeliver, IsExplain, IsQuestion, IsLine, IsLineOf, IsPlainWord, IsPrints, IsSession, IsShow, IsTree, LacksOneOf, Reads, TakesKind, kind_in_rows, kind_named, of_check, of_compare, of_deliver, of_file, of_prints, of_session, words_in}
 use Rattle.cli_words.specs.declared.line.Kind.TheVariants.{Certificate}
 use Rattle.cli_words.specs.declared.line.Line.{Line}
 use Rattle.cli_words.specs.declared.line.Line.TheVariants.{Tree, Show, Prints, Deliver, Check, Compare, Explain, Session}
@@ -82,12 +82,12 @@ no_kind entered name rows is none (p, here, takes, other) =
     none (subst (λ (q : Text × List Row). TakesKind q.0) (same_rows p name rows (sym here ∙ is)) takes)
 
 -- and one whose kind is left out has that of a certificate
-certificate_kind : (rows : List Row) → first_of (codes "as") rows ≡ None → kind_in rows ≡ Some Certificate
+certificate_kind : (rows : List Row) → first_of (codes "as") rows ≡ None → kind_in_rows rows ≡ Some Certificate
 certificate_kind rows none = ap kind_named none
 
 no_other_kind : (entered : Option (Text × List Row)) (name : Text) (rows : List Row) → entered ≡ Some (name, rows) → first_of (codes "as") rows ≡ None → HasOtherKind entered → ⊥
 no_other_kind entered name rows is none (p, here, takes, other) =
-    let missing = subst (λ (q : Text × List Row). kind_in q.1 ≡ None) (same_rows p name rows (sym here ∙ is)) other in
+    let missing = subst (λ (q : Text × List Row). kind_in_rows q.1 ≡ None) (same_rows p name rows (sym here ∙ is)) other in
     let both = sym (certificate_kind rows none) ∙ missing in
     cc
 

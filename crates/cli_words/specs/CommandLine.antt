@@ -15,8 +15,8 @@ use Rattle.cli_words.specs.declared.line.Flaw.{Flaw}
 use Rattle.cli_words.specs.declared.line.Flaw.TheVariants.{ArgumentMissing, OtherKind, NoMemory}
 
 -- the rows give the argument with this id the text
-abbrev pub Gives : List Row → Text → Bor Text → Type 0
-Gives rows id text = first_of id rows ≡ Some text.now
+abbrev pub GivesText : List Row → Text → Bor Text → Type 0
+GivesText rows id text = first_of id rows ≡ Some text.now
 
 -- the kind of input that has the name; without a name, a certificate
 abbrev pub kind_named : Option Text → Option Kind
@@ -27,15 +27,15 @@ kind_named (Some name) =
     else (if bytes_eq name (codes "ocsp") then Some Response else None))
 
 -- the kind that the rows name
-abbrev pub kind_in : List Row → Option Kind
-kind_in rows = kind_named (first_of (codes "as") rows)
+abbrev pub kind_in_rows : List Row → Option Kind
+kind_in_rows rows = kind_named (first_of (codes "as") rows)
 
 -- the rows have what is asked of a path
 pub record Ask (rows : List Row) (question : Question) : Type 0 where
-  pub store : Gives rows (codes "store") question.store
-  pub verdicts : Gives rows (codes "verdicts") question.verdicts
-  pub moment : Gives rows (codes "at") question.moment
-  pub anchor : Gives rows (codes "anchor") question.anchor
+  pub store : GivesText rows (codes "store") question.store
+  pub verdicts : GivesText rows (codes "verdicts") question.verdicts
+  pub moment : GivesText rows (codes "at") question.moment
+  pub anchor : GivesText rows (codes "anchor") question.anchor
   pub purpose : first_of (codes "purpose") rows ≡ option_map (λ s. s.now) question.purpose
   pub files : all_of (codes "file") rows ≡ Some (map (λ s. s.now) question.files.items)
 
@@ -46,24 +46,24 @@ words_in None = []
 
 -- the line of a subcommand with these rows
 abbrev pub IsLine : Text × List Row → Line → Type 0
-IsLine (name, rows) (Tree file) = (name ≡ codes "tree") × Gives rows (codes "file") file
+IsLine (name, rows) (Tree file) = (name ≡ codes "tree") × GivesText rows (codes "file") file
 IsLine (name, rows) (Show kind file) =
-    (name ≡ codes "show") × (kind_in rows ≡ Some kind) × Gives rows (codes "file") file
+    (name ≡ codes "show") × (kind_in_rows rows ≡ Some kind) × GivesText rows (codes "file") file
 IsLine (name, rows) (Prints issuer kind file) =
-    (name ≡ codes "prints") × Gives rows (codes "issuer") issuer × (kind_in rows ≡ Some kind)
-    × Gives rows (codes "file") file
+    (name ≡ codes "prints") × GivesText rows (codes "issuer") issuer × (kind_in_rows rows ≡ Some kind)
+    × GivesText rows (codes "file") file
 IsLine (name, rows) (Deliver store verdicts issuer file) =
-    (name ≡ codes "deliver") × Gives rows (codes "store") store
-    × Gives rows (codes "verdicts") verdicts × Gives rows (codes "issuer") issuer
-    × Gives rows (codes "file") file
+    (name ≡ codes "deliver") × GivesText rows (codes "store") store
+    × GivesText rows (codes "verdicts") verdicts × GivesText rows (codes "issuer") issuer
+    × GivesText rows (codes "file") file
 IsLine (name, rows) (Check question) = (name ≡ codes "check") × Ask rows question
 IsLine (name, rows) (Compare question other) =
-    (name ≡ codes "compare") × Ask rows question × Gives rows (codes "other") other
+    (name ≡ codes "compare") × Ask rows question × GivesText rows (codes "other") other
 IsLine (name, rows) (Explain words) =
     (name ≡ codes "explain")
     × (map (λ s. s.now) words.items ≡ words_in (all_of (codes "topic") rows))
 IsLine (name, rows) (Session store verdicts) =
-    (name ≡ codes "session") × Gives rows (codes "store") store
+    (name ≡ codes "session") × GivesText rows (codes "store") store
     × (first_of (codes "verdicts") rows ≡ option_map (λ s. s.now) verdicts)
 
 -- the line of the subcommand that was entered
@@ -117,7 +117,7 @@ TakesKind name = (name ≡ codes "show") ⊎ (name ≡ codes "prints")
 -- one of these was entered, with a name that no kind has
 abbrev pub HasOtherKind : Option (Text × List Row) → Type 0
 HasOtherKind entered =
-    (p : Text × List Row) × (entered ≡ Some p) × TakesKind p.0 × (kind_in p.1 ≡ None)
+    (p : Text × List Row) × (entered ≡ Some p) × TakesKind p.0 × (kind_in_rows p.1 ≡ None)
 
 -- what is wrong with the subcommand that was entered; nothing is where memory ran out
 abbrev pub HasFlaw : Option (Text × List Row) → Flaw → Type 0
@@ -128,7 +128,7 @@ HasFlaw entered NoMemory = Unit {0}
 -- the same of the rows of a subcommand that takes a kind, and no memory
 abbrev pub IsFlaw : List Text → List Row → Flaw → Type 0
 IsFlaw ids rows ArgumentMissing = LacksOneOf ids rows
-IsFlaw ids rows OtherKind = kind_in rows ≡ None
+IsFlaw ids rows OtherKind = kind_in_rows rows ≡ None
 IsFlaw ids rows NoMemory = ⊥
 
 -- and of one that asks

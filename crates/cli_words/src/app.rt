@@ -2,7 +2,7 @@
 ghost use Rattle.std.specs.Prelude.{◌≡◌, IfOk, false};
 ghost use Rattle.clap.specs.Words.{app_of, new_app, rule_of};
 ghost use Rattle.clap.specs.declared.builder.command.Command.TheViews.{out-Command as fields_of};
-ghost use Rattle.cli_words.specs.App.{anchor as anchor_rule, anchored as anchored_app, asking as asking_app, certificates as certificates_rule, file as file_rule, issuer as issuer_rule, kind as kind_rule, moment as moment_rule, other as other_rule, purpose as purpose_rule, store as store_rule, storing as storing_app, verdicts as verdicts_rule, check as check_app, compare as compare_app, deliver as deliver_app, delivering as delivering_app, looking as looking_app, program as program_app, prints as prints_app, show as show_app, tree as tree_app, topic as topic_rule, explain as explain_app, explaining as explaining_app, known as known_rule, session as session_app, validating as validating_app};
+ghost use Rattle.cli_words.specs.App.{anchor_rule, anchored as anchored_app, asking as asking_app, certificates_rule, file_rule, issuer_rule, kind_rule, moment_rule, other_rule, purpose_rule, store_rule, storing as storing_app, verdicts_rule, check_app, compare_app, deliver_app, delivering as delivering_app, looking as looking_app, program as program_app, prints_app, show_app, tree_app, topic_rule, explain_app, explaining as explaining_app, known_rule, session_app, validating as validating_app};
 
 use clap::{Arg, Command};
 use std::alloc::{AllocError, Global};

@@ -4,7 +4,7 @@ ghost use Rattle.std.specs.List.{All};
 ghost use Rattle.clap.specs.Words.{Text, first_of, found_of, kind_of, rows_of, subcommand_rows_of};
 ghost use Rattle.clap.specs.declared.error.kind.ErrorKind.TheVariants.{OutOfMemory};
 ghost use Rattle.cli_words.specs.declared.line.Flaw.TheVariants.{NoMemory, OtherKind};
-ghost use Rattle.cli_words.specs.CommandLine.{AreRefusedWith, HasFlaw, IsCheck, IsCompare, IsDeliver, IsExplain, IsFlaw, IsFlawOfQuestion, IsLine, IsLineOf, IsPlainWord, IsPrints, IsSession, IsShow, IsTree, LacksOneOf, Reads, kind_in, kind_named, of_check, of_compare, of_deliver, of_file, of_prints, of_session};
+ghost use Rattle.cli_words.specs.CommandLine.{AreRefusedWith, HasFlaw, IsCheck, IsCompare, IsDeliver, IsExplain, IsFlaw, IsFlawOfQuestion, IsLine, IsLineOf, IsPlainWord, IsPrints, IsSession, IsShow, IsTree, LacksOneOf, Reads, kind_in_rows, kind_named, of_check, of_compare, of_deliver, of_file, of_prints, of_session};
 
 use crate::app::program;
 use crate::question::{Question, asked};
@@ -108,9 +108,9 @@ fn kind_named(name: Option<&str>) -> Option<Kind>
 
 // The kind that the rows name, if any.
 fn kind_asked(matches: &ArgMatches<'_>) -> Result<Kind, Flaw>
-    ensures kind { IfOk result (λ kind. kind_in (rows_of (found_of matches.now)) ≡ Some kind) }
+    ensures kind { IfOk result (λ kind. kind_in_rows (rows_of (found_of matches.now)) ≡ Some kind) }
     ensures flaw { IfErr result (λ flaw.
-        (flaw ≡ OtherKind) × (kind_in (rows_of (found_of matches.now)) ≡ None)) }
+        (flaw ≡ OtherKind) × (kind_in_rows (rows_of (found_of matches.now)) ≡ None)) }
 {
     kind_named(text(matches, "as")).ok_or(Flaw::OtherKind)
 }

@@ -16,21 +16,21 @@ use Rattle.der_tree.specs.declared.encoding.EncodeFault.TheVariants as E
 use Rattle.der_tree.specs.declared.tree.Tree.{Tree, fold-Tree}
 use Rattle.der_tree.specs.declared.tree.Tree.TheOpen.{Tree-F}
 
-abbrev pub listed : List Value → Values
-listed [] = none
-listed (value ∷ values) = more value (listed values)
+abbrev pub as_values : List Value → Values
+as_values [] = none
+as_values (value ∷ values) = more value (as_values values)
 
 -- one level, with each tree inside already seen as its value
 abbrev pub value_step : Tree-F Value → Value
 value_step (Tree-F.Primitive identifier contents) = primitive identifier contents.items
-value_step (Tree-F.Constructed identifier inner) = constructed identifier (listed inner.items)
+value_step (Tree-F.Constructed identifier inner) = constructed identifier (as_values inner.items)
 
 -- the value of a tree, apart from where it lies in memory
 abbrev pub value_of : Tree → Value
 value_of = fold-Tree Value value_step
 
-abbrev pub values_of : List Tree → Values
-values_of trees = listed (map value_of trees)
+abbrev pub values_of_trees : List Tree → Values
+values_of_trees trees = as_values (map value_of trees)
 
 -- The tree is the value that is shown, whatever depth it stands at.
 abbrev pub IsTreeOf : Tlv → Tree → Type 0
@@ -39,7 +39,7 @@ IsTreeOf tlv tree = (depth : ℕ) (value : Value) → Shows depth value tlv → 
 -- The trees are the values that the cursor has left, one for one.
 abbrev pub AreTreesIn : Cursor → List Tree → Type 0
 AreTreesIn members trees =
-    (depth : ℕ) (values : Values) → EncodesAllAt depth (remaining members).octets values → values_of trees ≡ values
+    (depth : ℕ) (values : Values) → EncodesAllAt depth (remaining members).octets values → values_of_trees trees ≡ values
 
 -- If the octets encode a value, its tree is answered, unless memory is refused.
 abbrev pub GivesTree : List ℕ → Result Tree Fault → Type 0

@@ -6,7 +6,7 @@ ghost use Rattle.der.specs.Encoding.{Encodes};
 ghost use Rattle.der.specs.Length.{contents_limit, length_octets};
 ghost use Rattle.asn.specs.Size.{size_around, IsHolder, octets_of, octets_of_all, IsEncodableAt, AreEncodableAt};
 ghost use Rattle.der_tree.specs.Fault.{encode_fault_number, encode_fault_name};
-ghost use Rattle.der_tree.specs.Tree.{value_of, values_of, HasSizeAt, HaveSizeAt, HaveNoSizeAt, GivesEncoding, HasNoEncoding};
+ghost use Rattle.der_tree.specs.Tree.{value_of, values_of_trees, HasSizeAt, HaveSizeAt, HaveNoSizeAt, GivesEncoding, HasNoEncoding};
 
 use crate::tree::Tree;
 use der::{MAX_DEPTH, is_constructed_form, is_contents, is_refused_identifier};
@@ -111,8 +111,8 @@ fn size_at(tree: &Tree, depth: u32) -> Option<usize>
 #[cycle(size)]
 fn sizes_at(trees: &[Tree], depth: u32) -> Option<usize>
     requires { depth ≤ 33 }
-    ensures some { IfSome result (HaveSizeAt depth (values_of trees.now)) }
-    ensures none { IfNone result (HaveNoSizeAt depth (values_of trees.now)) }
+    ensures some { IfSome result (HaveSizeAt depth (values_of_trees trees.now)) }
+    ensures none { IfNone result (HaveNoSizeAt depth (values_of_trees trees.now)) }
 {
     let mut size = 0;
     for tree in trees {
@@ -164,8 +164,9 @@ fn push_value(out: &mut Vec<u8>, tree: &Tree, depth: u32) -> Result<(), AllocErr
 /// Adds the encodings of the trees, one after the other.
 #[cycle(push)]
 fn push_values(out: &mut Vec<u8>, trees: &[Tree], depth: u32) -> Result<(), AllocError>
-    requires { AreEncodableAt depth (values_of trees.now) }
-    ensures { OnOk result (out.new.items ≡ out.old.items ++ octets_of_all (values_of trees.now)) }
+    requires { AreEncodableAt depth (values_of_trees trees.now) }
+    ensures { OnOk result (out.new.items ≡ out.old.items ++ octets_of_all
+        (values_of_trees trees.now)) }
 {
     for tree in trees {
         push_value(out, tree, depth)?;

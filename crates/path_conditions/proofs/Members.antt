@@ -1,7 +1,7 @@
 -- Lists with the same members pass the same tests.
-use Rattle.std.proofs.Common.{◌≡◌, List, [], true, false, refl, append-nil, ◌++◌, Bool, ◌&&◌, ◌||◌, not, filter, ap, ◌∙◌, sym}
+use Rattle.std.proofs.Common.{◌≡◌, ◌<◌, ◌+◌, ◌-◌, ℕ, zero, suc, arith, get_or, length, take, drop, ap₂, List, [], ◌∷◌, true, false, refl, append-nil, ◌++◌, Bool, ◌&&◌, ◌||◌, not, filter, ap, ◌∙◌, sym}
 use Rattle.std.specs.List.{list_any}
-use Rattle.std.proofs.lemmas.List.{map-append}
+use Rattle.std.proofs.lemmas.List.{map-append, append_assoc, take_all, length-drop}
 use Rattle.names.specs.GeneralView.{subtree_base}
 use Rattle.std.proofs.lemmas.List.Folds.{list_any-append}
 use Rattle.names.specs.declared.subtree.Subtree.{Subtree}
@@ -9,7 +9,7 @@ use Rattle.names.specs.declared.general.Form.{Form}
 use Rattle.names.specs.GeneralLayout.{SubtreeBase}
 use Rattle.names.specs.GeneralCoverage.{is_base_inside, is_of_form}
 use Rattle.names_order.specs.Index.{HasSameMembers}
-use Rattle.path_conditions.specs.Narrowing.{bases_of, selected, is_inside_one_of, kept, enters, narrowed}
+use Rattle.path_conditions.specs.Narrowing.{bases_of, members_of, selected, is_inside_one_of, kept, enters, narrowed}
 use Rattle.path_conditions.proofs.Selecting.{list_any-filter}
 use Rattle.path_conditions.proofs.NarrowedLists.{bases_of-selected}
 
@@ -70,25 +70,60 @@ order_made kept_index held_index index subtrees in_order subtrees_are made same 
 pub of_items : (index list : List SubtreeBase) (items : List Subtree) → bases_of items ≡ list → HasSameMembers index list → HasSameMembers index (bases_of items)
 of_items index list items are same test = same test ∙ ap (λ (l : List SubtreeBase). list_any test l) (sym are)
 
--- a list and its two indexes, of most members and of those that came last
+-- a list, of whose parts there are indexes
 
-or_or : (a b c : Bool) → (a || (b || c)) ≡ ((a || b) || c)
+pub any_members : (test : SubtreeBase → Bool) (lists : List (List SubtreeBase)) → list_any test (members_of lists) ≡ list_any (λ list. list_any test list) lists
+any_members test [] = refl
+any_members test (list ∷ lists) = list_any-append test list (members_of lists) ∙ ap (λ b. list_any test list || b) (any_members test lists)
+
+members_next : (lists : List (List SubtreeBase)) (i : ℕ) (list : List SubtreeBase) → i < length lists → list ≡ get_or lists i list → members_of (take (suc i) lists) ≡ members_of (take i lists) ++ list
+members_next [] i list lt is = absurd (omega arith)
+members_next (first ∷ lists) zero list lt is = append-nil first ∙ sym is
+members_next (first ∷ lists) (suc i) list lt is =
+    ap (λ (l : List SubtreeBase). first ++ l) (members_next lists i list (omega arith) is) ∙ sym (append_assoc first (members_of (take i lists)) list)
+
+-- the subtrees of the first lists, and of one more
+pub members_upto : (lists : List (List SubtreeBase)) (i : ℕ) (list : List SubtreeBase) → i < length lists → list ≡ get_or lists i list
+    → (all more new : List Subtree) → bases_of all ≡ members_of (take i lists) → bases_of more ≡ list → new ≡ all ++ more → bases_of new ≡ members_of (take (i + 1) lists)
+members_upto lists i list lt is all more new all_are more_are made =
+    let next : suc i ≡ i + 1 = omega arith in
+    ap bases_of made
+    ∙ (map-append subtree_base all more
+    ∙ (ap₂ ◌++◌ all_are more_are
+    ∙ (sym (members_next lists i list lt is) ∙ ap (λ (n : ℕ). members_of (take n lists)) next)))
+
+or_or : (a b c : Bool) → ((a || b) || c) ≡ (a || (b || c))
 or_or true b c = refl
 or_or false b c = refl
 
-pub recent_grown : (index old_recent recent items : List SubtreeBase) (list more new : List Subtree) → bases_of list ≡ items → new ≡ list ++ more → HasSameMembers (index ++ old_recent) items
-    → HasSameMembers recent (old_recent ++ bases_of more) → HasSameMembers (index ++ recent) (bases_of new)
-recent_grown index old_recent recent items list more new list_is new_is same grown test =
-    let back = bases_of more in
-    list_any-append test index recent
-    ∙ (ap (λ b. list_any test index || b) (grown test ∙ list_any-append test old_recent back)
-    ∙ (or_or (list_any test index) (list_any test old_recent) (list_any test back)
-    ∙ (ap (λ b. b || list_any test back) (sym (list_any-append test index old_recent) ∙ (same test ∙ ap (λ (l : List SubtreeBase). list_any test l) (sym list_is)))
-    ∙ (sym (list_any-append test (bases_of list) back)
-    ∙ ap (λ (l : List SubtreeBase). list_any test l) (sym (ap bases_of new_is ∙ map-append subtree_base list more))))))
+any_parts : (test : SubtreeBase → Bool) (k : ℕ) (lists : List (List SubtreeBase)) → list_any test (members_of lists) ≡ (list_any test (members_of (take k lists)) || list_any test (members_of (drop k lists)))
+any_parts test zero lists = refl
+any_parts test (suc k) [] = refl
+any_parts test (suc k) (list ∷ lists) =
+    list_any-append test list (members_of lists)
+    ∙ (ap (λ b. list_any test list || b) (any_parts test k lists)
+    ∙ (sym (or_or (list_any test list) (list_any test (members_of (take k lists))) (list_any test (members_of (drop k lists))))
+    ∙ ap (λ b. b || list_any test (members_of (drop k lists))) (sym (list_any-append test list (members_of (take k lists))))))
 
-pub recent_taken_in : (index longer recent : List SubtreeBase) (subtrees new : List Subtree) → bases_of subtrees ≡ recent → HasSameMembers longer (index ++ bases_of subtrees)
-    → HasSameMembers (index ++ recent) (bases_of new) → HasSameMembers (longer ++ []) (bases_of new)
-recent_taken_in index longer recent subtrees new subtrees_are taken same test =
-    ap (λ (l : List SubtreeBase). list_any test l) (append-nil longer)
-    ∙ (taken test ∙ (ap (λ (l : List SubtreeBase). list_any test (index ++ l)) subtrees_are ∙ same test))
+any_added : (test : SubtreeBase → Bool) (lists : List (List SubtreeBase)) (list : List SubtreeBase) → list_any test (members_of (lists ++ list ∷ [])) ≡ (list_any test (members_of lists) || list_any test list)
+any_added test [] list = ap (λ (l : List SubtreeBase). list_any test l) (append-nil list)
+any_added test (first ∷ lists) list =
+    list_any-append test first (members_of (lists ++ list ∷ []))
+    ∙ (ap (λ b. list_any test first || b) (any_added test lists list)
+    ∙ (sym (or_or (list_any test first) (list_any test (members_of lists)) (list_any test list))
+    ∙ ap (λ b. b || list_any test list) (sym (list_any-append test first (members_of lists)))))
+
+-- one index stands in place of all from a place on, and of more
+pub grown : (test : SubtreeBase → Bool) (k : ℕ) (lists : List (List SubtreeBase)) (index : List SubtreeBase) (list more new : List Subtree) (kept : List (List SubtreeBase))
+    → list_any test index ≡ list_any test (members_of (take (length lists - k) (drop k lists)) ++ bases_of more) → list_any test (members_of lists) ≡ list_any test (bases_of list) → new ≡ list ++ more → kept ≡ take k lists ++ index ∷ []
+    → list_any test (members_of kept) ≡ list_any test (bases_of new)
+grown test k lists index list more new kept joined same made kept_are =
+    let rest = ap (λ (l : List (List SubtreeBase)). list_any test (members_of l ++ bases_of more)) (take_all (length lists - k) (drop k lists) (omega (arith, length-drop k lists))) in
+    let front = list_any test (members_of (take k lists)) in
+    ap (λ (l : List (List SubtreeBase)). list_any test (members_of l)) kept_are
+    ∙ (any_added test (take k lists) index
+    ∙ (ap (λ b. front || b) (joined ∙ (rest ∙ list_any-append test (members_of (drop k lists)) (bases_of more)))
+    ∙ (sym (or_or front (list_any test (members_of (drop k lists))) (list_any test (bases_of more)))
+    ∙ (ap (λ b. b || list_any test (bases_of more)) (sym (any_parts test k lists) ∙ same)
+    ∙ (sym (list_any-append test (bases_of list) (bases_of more))
+    ∙ ap (λ (l : List SubtreeBase). list_any test l) (sym (ap bases_of made ∙ map-append subtree_base list more)))))))

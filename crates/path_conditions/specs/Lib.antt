@@ -1,6 +1,7 @@
 pub mod NamesOf
 pub mod CertificateConditions
 pub mod Narrowing
+pub mod Repetition
 pub mod Constraints
 pub use Rattle.names_order.specs.Codes
 pub use Rattle.names.specs.GeneralName

@@ -1,5 +1,5 @@
 -- How lists of subtrees are narrowed from certificate to certificate (RFC 5280, 6.1.4 (g)), without a subtree for each pair.
-use Rattle.std.specs.Prelude.{◌++◌, ◌&&◌, ◌||◌, ◌≡◌, List, [], Bool, not, filter, map, Option, Some, None, if◌then◌else◌}
+use Rattle.std.specs.Prelude.{◌++◌, ◌&&◌, ◌||◌, ◌≡◌, List, [], ◌∷◌, Bool, not, filter, map, Option, Some, None, if◌then◌else◌}
 use Rattle.std.specs.Global.{Vec}
 use Rattle.std.specs.List.{list_any}
 use Rattle.names.specs.declared.general.Form.{Form}
@@ -87,7 +87,7 @@ IsChangeOf form held carried list = list ≡ change_of form held (bases_of carri
 abbrev pub IsReplacedBy : Option (List SubtreeBase) → Option (List SubtreeBase) → Option (List SubtreeBase) → Type 0
 IsReplacedBy change old new = new ≡ changed old change
 
--- the subtrees of a list, where there is one
-abbrev pub all_of : Option (List SubtreeBase) → List SubtreeBase
-all_of None = []
-all_of (Some list) = list
+-- the subtrees of several lists
+abbrev pub members_of : List (List SubtreeBase) → List SubtreeBase
+members_of [] = []
+members_of (list ∷ lists) = list ++ members_of lists

@@ -9,7 +9,7 @@ ghost use Rattle.path_conditions.specs.Constraints.{seen_constraints, no_constra
 
 use crate::coverage::{is_processed, one_is_processed};
 use crate::excluded::Excluded;
-use crate::narrowing::narrowed_list;
+use crate::narrowing::narrowed_if_new;
 use crate::subtree_list::SubtreeList;
 use cert::{Certificate, NameConstraints};
 use names::{Form, General, Name, Subtree};
@@ -105,9 +105,14 @@ impl<'a> Constraints<'a> {
         ensures err { OnErr result (seen_constraints self.new ≡ seen_constraints self.old) }
         ensures calm { HasNoProcessed carried.now → IsOk result }
     {
-        let directory = narrowed_list(alloc, Form::Directory, &self.directory, &carried.permitted)?;
-        let dns = narrowed_list(alloc, Form::Dns, &self.dns, &carried.permitted)?;
-        let ip = narrowed_list(alloc, Form::Ip, &self.ip, &carried.permitted)?;
+        let directory = narrowed_if_new(
+            alloc,
+            Form::Directory,
+            &self.directory,
+            &carried.permitted,
+        )?;
+        let dns = narrowed_if_new(alloc, Form::Dns, &self.dns, &carried.permitted)?;
+        let ip = narrowed_if_new(alloc, Form::Ip, &self.ip, &carried.permitted)?;
         exclude(alloc, &mut self.excluded, &carried.excluded)?;
         replace(&mut self.directory, directory);
         replace(&mut self.dns, dns);

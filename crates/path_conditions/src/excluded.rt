@@ -1,32 +1,31 @@
 //! Subtrees that are excluded, of which each certificate may add more.
 
-ghost use Rattle.std.specs.Prelude.{◌≡◌, ◌++◌, [], length, OnOk, OnErr, IfOk};
+ghost use Rattle.std.specs.Prelude.{◌≡◌, ◌≤◌, ◌++◌, [], length, OnOk, OnErr, IfOk};
 ghost use Rattle.names.specs.GeneralView.{general_name};
 ghost use Rattle.names_order.specs.Index.{HasSameMembers};
-ghost use Rattle.path_conditions.specs.Narrowing.{bases_of, is_in_one_of, all_of};
+ghost use Rattle.path_conditions.specs.Narrowing.{bases_of, is_in_one_of, members_of};
 
-use crate::subtree_list::index_of;
+use crate::repetition::repeats_end;
 use names::{General, Subtree};
 use names_order::Index;
 use std::alloc::{AllocError, Global};
 use std::marker::Model;
 
-/// A list of subtrees with two indexes: of most of them, and of those that came last. When the second has grown to a quarter of the list,
-/// the first takes them in, so that one that grows by many small lists is seldom built anew.
+/// A list of subtrees with indexes of its parts. Each index is at least twice as long as the next one, so they are few, and a list that
+/// grows by many small ones is seldom put in order anew.
 #[derive(Drop)]
 pub(crate) struct Excluded<'a> {
     items: Vec<Subtree<'a>>,
-    index: Option<Index<'a>>,
-    recent: Option<Index<'a>>,
+    indexes: Vec<Index<'a>>,
 }
 
 impl<'a> Model for Excluded<'a> {
-    ghost use Rattle.std.specs.Prelude.{List, ◌++◌};
+    ghost use Rattle.std.specs.Prelude.{List};
     ghost use Rattle.std.specs.Coded.{codes};
     ghost use Rattle.names.specs.GeneralLayout.{SubtreeBase};
     ghost use Rattle.names_order.specs.Codes.{rdn_code};
-    ghost use Rattle.names_order.specs.Index.{HasSameMembers};
-    ghost use Rattle.path_conditions.specs.Narrowing.{bases_of, all_of};
+    ghost use Rattle.path_conditions.specs.Narrowing.{bases_of, members_of};
+    ghost use Rattle.path_conditions.specs.Repetition.{HoldSameNames};
 
     ghost Value = { List SubtreeBase };
 
@@ -34,32 +33,42 @@ impl<'a> Model for Excluded<'a> {
 
     ghost view = { λ s. bases_of s.items.items };
 
-    ghost invariant = { λ s. HasSameMembers (all_of s.index ++ all_of s.recent) (bases_of s.items.items) };
+    ghost invariant = { λ s. HoldSameNames (members_of s.indexes.items) (bases_of s.items.items) };
 }
 
-/// An index of the subtrees of an index, if there is one, and of more.
-fn extended<'a>(
+/// How many of the indexes are left as they are if so many subtrees come. The others are joined with what comes, from the last one on, until
+/// an index is at least twice as long as all that is joined.
+fn count_lasting(indexes: &[Index<'_>], coming: usize) -> usize
+    ensures { result ≤ length indexes.now }
+{
+    let mut count = indexes.len();
+    let mut behind = coming;
+    while count > 0 {
+        let last = indexes[count - 1].subtrees().len();
+        if last / 2 >= behind {
+            return count;
+        }
+        behind = behind.saturating_add(last);
+        count -= 1;
+    }
+    0
+}
+
+/// One index of the subtrees of all of these, and of more.
+fn joined<'a>(
     alloc: Global,
-    index: &Option<Index<'a>>,
+    indexes: &[Index<'a>],
     more: &[Subtree<'a>],
 ) -> Result<Index<'a>, AllocError>
-    ensures { IfOk result (λ longer.
-        HasSameMembers longer (all_of index.now ++ bases_of more.now)) }
+    ensures { IfOk result (λ index.
+        HasSameMembers index (members_of indexes.now ++ bases_of more.now)) }
 {
-    match index {
-        None => index_of(alloc, more),
-        Some(index) => index.with(alloc, more),
+    let mut list = Vec::new(alloc);
+    for index in indexes {
+        list.extend_from_slice(index.subtrees())?;
     }
-}
-
-/// Whether the name lies in a subtree of the index, if there is one.
-fn is_covered_by(index: &Option<Index<'_>>, name: &General<'_>) -> bool
-    ensures { result ≡ is_in_one_of (all_of index.now) (general_name name.now) }
-{
-    match index {
-        None => false,
-        Some(index) => index.covers(name),
-    }
+    list.extend_from_slice(more)?;
+    Index::of(alloc, list)
 }
 
 impl<'a> Excluded<'a> {
@@ -69,27 +78,27 @@ impl<'a> Excluded<'a> {
     {
         Excluded {
             items: Vec::new(alloc),
-            index: None,
-            recent: None,
+            indexes: Vec::new(alloc),
         }
     }
 
-    /// Adds subtrees.
+    /// Adds subtrees. Those that were added last and come again are in an index already.
     pub(crate) fn extend(&mut self, alloc: Global, more: &[Subtree<'a>]) -> Result<(), AllocError>
         ensures ok { OnOk result (self.new ≡ self.old ++ bases_of more.now) }
         ensures err { OnErr result (self.new ≡ self.old) }
     {
-        let recent = extended(alloc, &self.recent, more)?;
-        if recent.subtrees().len() < self.items.len() / 4 {
-            self.items.extend_from_slice(more)?;
-            self.recent = Some(recent);
-            return Ok(());
+        if repeats_end(&self.items, more) {
+            return self.items.extend_from_slice(more);
         }
-        let index = extended(alloc, &self.index, recent.subtrees())?;
+        let lasting = count_lasting(&self.indexes, more.len());
+        let index = joined(alloc, &self.indexes[lasting..], more)?;
+        self.indexes.reserve(1)?;
         self.items.extend_from_slice(more)?;
-        self.index = Some(index);
-        self.recent = None;
-        Ok(())
+        self.indexes.truncate(lasting);
+        match self.indexes.push(index) {
+            Ok(()) => Ok(()),
+            Err(_) => unreachable!(),
+        }
     }
 }
 
@@ -105,6 +114,6 @@ impl Excluded<'_> {
     pub(crate) fn covers(&self, name: &General<'_>) -> bool
         ensures { result ≡ is_in_one_of self.now (general_name name.now) }
     {
-        is_covered_by(&self.index, name) || is_covered_by(&self.recent, name)
+        self.indexes.iter().any(|index| index.covers(name))
     }
 }

@@ -7,6 +7,7 @@ mod coverage;
 mod excluded;
 mod form_set;
 mod narrowing;
+mod repetition;
 mod subtree_list;
 
 pub use conditions::{

@@ -1,10 +1,12 @@
 //! Narrowing of lists of subtrees (RFC 5280, 6.1.4 (g)).
 
-ghost use Rattle.std.specs.Prelude.{◌≡◌, IfOk, IsOk, false};
+ghost use Rattle.std.specs.Prelude.{◌≡◌, IfOk, IsOk, false, true};
 ghost use Rattle.names.specs.GeneralView.{subtree_base};
 ghost use Rattle.path_conditions.specs.Narrowing.{bases_of, enters, of_form, are_about, AreOfForm, AreKept, AreEntering, IsNarrowed, IsChangeOf};
+ghost use Rattle.path_conditions.specs.Repetition.{is_held_again, Renews};
 
 use crate::coverage::{is_about, one_is_about};
+use crate::repetition::repeats_form;
 use crate::subtree_list::{SubtreeList, index_of};
 use names::{Form, Subtree};
 use names_order::Index;
@@ -96,7 +98,7 @@ fn begin<'a>(
 }
 
 /// The list of the form behind a certificate that carries these permitted subtrees, if it changes.
-pub(crate) fn narrowed_list<'a>(
+fn narrowed_list<'a>(
     alloc: Global,
     form: Form,
     held: &Option<SubtreeList<'a>>,
@@ -113,4 +115,31 @@ pub(crate) fn narrowed_list<'a>(
         Some(held) => narrow(alloc, form, held, carried)?,
     };
     Ok(Some(list))
+}
+
+/// Whether the certificate carries just the subtrees of the form that are held.
+fn is_held_again(form: Form, held: &Option<SubtreeList<'_>>, carried: &[Subtree<'_>]) -> bool
+    ensures { result ≡ is_held_again form held.now (bases_of carried.now) }
+{
+    match held {
+        None => false,
+        Some(held) => repeats_form(held.items(), form, carried),
+    }
+}
+
+/// As `narrowed_list`, but a list that is carried again is not built anew: it narrows to itself.
+pub(crate) fn narrowed_if_new<'a>(
+    alloc: Global,
+    form: Form,
+    held: &Option<SubtreeList<'a>>,
+    carried: &[Subtree<'a>],
+) -> Result<Option<SubtreeList<'a>>, AllocError>
+    ensures value { IfOk result (Renews form held.now carried.now) }
+    ensures calm { are_about (bases_of carried.now) form ≡ false → IsOk result }
+    ensures again { is_held_again form held.now (bases_of carried.now) ≡ true → IsOk result }
+{
+    if is_held_again(form, held, carried) {
+        return Ok(None);
+    }
+    narrowed_list(alloc, form, held, carried)
 }

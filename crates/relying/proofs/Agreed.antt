@@ -19,7 +19,7 @@ use Rattle.relying.specs.Run.{IsEndOfRun, Ran, as_answered}
 use Rattle.relying.specs.View.{stored}
 use Rattle.relying.specs.declared.fault.DeliverFault.{DeliverFault}
 use Rattle.relying.specs.declared.node.Node.{Node}
-use Rattle.relying.proofs.Happening.{runs_then, runs_are_runs}
+use Rattle.relying.proofs.Happening.{runs_then, restart_in, runs_are_runs}
 
 -- the verdict is Invalid, whatever is held, or the connection was open
 abbrev Fails : Accepts → Query → Verdict → Type 0
@@ -75,6 +75,7 @@ node_is_exact one_verdict valid accepts query events answers start held begun ra
 pub runs_follow : {V D : Type 0} {g : Ghosts D} → RunsFollow V D g
 runs_follow accepts events more answers more_answers begun middle last first second = record {
   was_open = λ live. first.was_open (second.was_open live);
+  began_open = λ one. elim (restart_in events more one) [ inl before ↦ first.began_open before | inr later ↦ first.was_open (second.began_open later) ];
   ended = λ live start store.
       let before = first.ended (second.was_open live) start store in
       let after = second.ended live before.held before.store in

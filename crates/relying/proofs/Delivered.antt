@@ -8,11 +8,11 @@ use Rattle.path.specs.Query.{Accepts}
 use Rattle.relying_agreement.specs.Run.{facts_or_none, facts_under, genuine_facts}
 use Rattle.relying.specs.declared.fault.DeliverFault.{DeliverFault}
 use Rattle.relying.specs.declared.fault.DeliverFault.TheVariants.{Issuer, Statement, Store}
-use Rattle.relying.specs.Delivery.{IsDeliveryAnswer, IsReason, IsRefusal, MayCommit, StatementSays}
+use Rattle.relying.specs.Delivery.{DeliversForCause, IsDeliveryAnswer, IsReasonOfFault, IsRefusal, MayCommit, StatementSays}
 
 -- ---- nothing was read
 
-pub refused : (accepts : Accepts) (issuer statement : List ℕ) (fault : DeliverFault) → IsRefusal accepts issuer statement fault → IsReason accepts issuer statement fault
+pub refused : (accepts : Accepts) (issuer statement : List ℕ) (fault : DeliverFault) → IsRefusal accepts issuer statement fault → IsReasonOfFault accepts issuer statement fault
 refused accepts issuer statement (Issuer fault) why = why
 refused accepts issuer statement (Statement fault) why = why
 refused accepts issuer statement (Store fault) why = absurd why
@@ -21,6 +21,11 @@ pub refused_so : (accepts : Accepts) (issuer statement : List ℕ) (s : State) (
 refused_so accepts issuer statement s (Issuer fault) why = (why, record { was_open = λ live. live; now_is = λ live. refl })
 refused_so accepts issuer statement s (Statement fault) why = (why, record { was_open = λ live. live; now_is = λ live. refl })
 refused_so accepts issuer statement s (Store fault) why = absurd why
+
+pub refused_for_cause : (accepts : Accepts) (issuer statement : List ℕ) (s : State) (fault : DeliverFault) → IsRefusal accepts issuer statement fault → DeliversForCause accepts issuer statement s s (Err fault)
+refused_for_cause accepts issuer statement s (Issuer fault) why = tt
+refused_for_cause accepts issuer statement s (Statement fault) why = tt
+refused_for_cause accepts issuer statement s (Store fault) why = absurd why
 
 nothing_done : (s : State) → CommitsNothing s s
 nothing_done s = record { clean = omega arith; shield = λ h. h; counts = omega arith; limit = refl; closes = λ clean is. inl is; crash = λ clean db may. inl may }

@@ -1,5 +1,5 @@
 -- What one event does, and several one after the other.
-use Rattle.std.proofs.Common.{◌≡◌, is_ok, if◌then◌else◌, ℕ, append-nil, List, [], ◌∷◌, ◌++◌, map, Result, Ok, Err, refl, sym, ap, subst, ◌∙◌}
+use Rattle.std.proofs.Common.{◌≡◌, is_ok, if◌then◌else◌, ℕ, append-nil, List, [], ◌∷◌, ◌++◌, map, Result, Ok, Err, ◌⊎◌, inl, inr, refl, sym, ap, subst, ◌∙◌}
 use Rattle.sqlite.specs.State.{State}
 use Rattle.statements_facts.specs.Fact.{Fact}
 use Rattle.statements_facts.specs.Statement.{Holdings}
@@ -15,7 +15,7 @@ use Rattle.relying.specs.declared.fault.DeliverFault.{DeliverFault}
 use Rattle.relying.specs.declared.fault.DeliverFault.TheVariants.{Issuer, Statement, Store}
 use Rattle.relying.specs.Delivery.{IsAnswerTo, IsDeliveryAnswer, StatementSays}
 use Rattle.relying.proofs.Delivered.{facts_said}
-use Rattle.relying.specs.Run.{Runs, RanSoFar, Ran, HasHappened, RunsAreRuns, AddsAnswer, AreAnswersTo, as_answered}
+use Rattle.relying.specs.Run.{Runs, HasRestart, RanSoFar, Ran, HasHappened, RunsAreRuns, AddsAnswer, AreAnswersTo, as_answered}
 
 -- ---- one event
 
@@ -26,24 +26,26 @@ delivered accepts issuer statement before (Ok counts) old new (facts, says, it) 
   after_is = refl;
   ran = record {
     was_open = λ live. it.was_open;
+    began_open = λ none. absurd none;
     so_far = λ live start store. let taken = it.taken start store in (after_all start facts, taken.hold, (after_all start facts, (facts, says, taken.counted, refl), refl));
   };
 }
 delivered accepts issuer statement before (Err (Issuer fault)) old new (why, kept) = record {
   added = Err (Issuer fault) ∷ [];
   after_is = refl;
-  ran = record { was_open = kept.was_open; so_far = λ live start store. (start, subst (λ db. IsStoreOf db start) (sym (kept.now_is live)) store, (start, (why, λ e. cc, refl), refl)) };
+  ran = record { was_open = kept.was_open; began_open = λ none. absurd none; so_far = λ live start store. (start, subst (λ db. IsStoreOf db start) (sym (kept.now_is live)) store, (start, (why, λ e. cc, refl), refl)) };
 }
 delivered accepts issuer statement before (Err (Statement fault)) old new (why, kept) = record {
   added = Err (Statement fault) ∷ [];
   after_is = refl;
-  ran = record { was_open = kept.was_open; so_far = λ live start store. (start, subst (λ db. IsStoreOf db start) (sym (kept.now_is live)) store, (start, (why, λ e. cc, refl), refl)) };
+  ran = record { was_open = kept.was_open; began_open = λ none. absurd none; so_far = λ live start store. (start, subst (λ db. IsStoreOf db start) (sym (kept.now_is live)) store, (start, (why, λ e. cc, refl), refl)) };
 }
 delivered accepts issuer statement before (Err (Store fault)) old new (why, gives) = record {
   added = Err (Store fault) ∷ [];
   after_is = refl;
   ran = record {
     was_open = gives.was_open;
+    began_open = λ none. absurd none;
     so_far = λ live start store. (start, subst (λ db. IsStoreOf db start) (sym (gives.same live)) store, (start, (why, λ e. gives.formed (let same : fault ≡ NotOurs = cc in same) start store, refl), refl));
   };
 }
@@ -52,7 +54,7 @@ restarted : (accepts : Accepts) (before : List (Result Counts DeliverFault)) (ol
 restarted accepts before old new it = record {
   added = [];
   after_is = sym (append-nil before);
-  ran = record { was_open = λ live. it.was_open; so_far = λ live start store. (start, it.holds start store, refl) };
+  ran = record { was_open = λ live. it.was_open; began_open = λ one. it.was_open; so_far = λ live start store. (start, it.holds start store, refl) };
 }
 
 -- ---- one after the other
@@ -78,13 +80,19 @@ pub one_more_answered : (accepts : Accepts) (events : List Event) (event : Event
 one_more_answered accepts events event before after told it =
     subst (AreAnswersTo accepts (events ++ event ∷ [])) (sym it.after_is) (answers_then accepts events (event ∷ []) before it.added told it.answers)
 
+pub restart_in : (xs ys : List Event) → HasRestart (xs ++ ys) → HasRestart xs ⊎ HasRestart ys
+restart_in [] ys one = inr one
+restart_in (Event.Restart ∷ xs) ys one = inl tt
+restart_in (Event.Deliver issuer statement ∷ xs) ys one = restart_in xs ys one
+
 pub none_so_far : (accepts : Accepts) (s : State) → RanSoFar accepts [] [] s s
-none_so_far accepts s = record { was_open = λ live. live; so_far = λ live start store. (start, store, refl) }
+none_so_far accepts s = record { was_open = λ live. live; began_open = λ none. absurd none; so_far = λ live start store. (start, store, refl) }
 
 pub one_more : (accepts : Accepts) (events : List Event) (event : Event) (before after : List (Result Counts DeliverFault)) (first mid new : State)
     → RanSoFar accepts events before first mid → HasHappened accepts event before after mid new → RanSoFar accepts (events ++ event ∷ []) after first new
 one_more accepts events event before after first mid new ran it = subst (λ told. RanSoFar accepts (events ++ event ∷ []) told first new) (sym it.after_is) (record {
   was_open = λ live. ran.was_open (it.ran.was_open live);
+  began_open = λ one. elim (restart_in events (event ∷ []) one) [ inl before ↦ ran.began_open before | inr last ↦ ran.was_open (it.ran.began_open last) ];
   so_far = λ live start store.
       let (middle, here, runs) = ran.so_far (it.ran.was_open live) start store in
       let (held, there, more) = it.ran.so_far live middle here in
@@ -115,6 +123,7 @@ runs_are_runs accepts events answers start held runs =
 pub ends : (accepts : Accepts) (events : List Event) (answers : List (Result Counts DeliverFault)) (old new : State) → RanSoFar accepts events answers old new → Ran accepts events answers old new
 ends accepts events answers old new ran = record {
   was_open = ran.was_open;
+  began_open = ran.began_open;
   ended = λ live start store.
       let (held, here, runs) = ran.so_far live start store in
       record { held = held; store = here; runs = runs; newest = runs_are_runs accepts events answers start held runs };

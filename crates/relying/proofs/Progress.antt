@@ -14,7 +14,7 @@ use Rattle.store.specs.declared.refusal.ReopenFault.{ReopenFault}
 use Rattle.relying.specs.declared.events.Event as said
 use Rattle.relying.specs.declared.fault.DeliverFault.{DeliverFault}
 use Rattle.store.specs.Opens.{FailsToReopen}
-use Rattle.relying.specs.Run.{RanSoFar, Ran, HasHappened, StopsAt, AddsAnswer, AreAnswersTo, seen_event}
+use Rattle.relying.specs.Run.{RanSoFar, Ran, HasHappened, StopsAtRestart, AddsAnswer, AreAnswersTo, seen_event}
 use Rattle.relying.proofs.Happening.{one_more, one_more_answered, ends}
 
 module _ (accepts : Accepts) (events : List said.Event) (i : ℕ) where
@@ -39,7 +39,7 @@ module _ (accepts : Accepts) (events : List said.Event) (i : ℕ) where
 
   pub stops_at : {D : Type 0} {g : Ghosts D} (d : said.Event) (answers : List (Result Counts DeliverFault)) (old last : Held (FileStore D g)) (fault : ReopenFault D g) → i < length events
       → (HasCleanDisk (file_state last) → RanSoFar accepts (map seen_event (take i events)) answers (file_state old) (file_state last)) → seen_event (get_or events i d) ≡ Event.Restart → FailsToReopen last fault
-      → StopsAt accepts (map seen_event events) i old fault
+      → StopsAtRestart accepts (map seen_event events) i old fault
   stops_at d answers old last fault below ran restarts fails = record {
     at = slice_get-map seen_event events i ∙ ap (option_map seen_event) (slice_get-get_or events i d below) ∙ ap (λ e. Some e) restarts;
     last = last;

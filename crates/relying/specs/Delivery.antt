@@ -1,15 +1,17 @@
 -- How a delivery is answered, and what it does to the database.
-use Rattle.std.specs.Prelude.{◌≡◌, ℕ, List, Result, Ok, Err}
+use Rattle.std.specs.Prelude.{◌≡◌, ⊤, ℕ, List, Result, Ok, Err}
 use Rattle.sqlite.specs.State.{State, HasCleanDisk, Survives}
 use Rattle.cert.specs.Certificate.{Certificate, certificate}
 use Rattle.cert.specs.Fault.{FailsUnlessFull as CertificateFails}
-use Rattle.statements_facts.specs.Fact.{Fact}
-use Rattle.statements.specs.Genuine.{Accepts, FailsUnlessFull}
+use Rattle.statements_facts.specs.declared.fact.Facts.{Facts}
+use Rattle.statements_facts.specs.Fact.{Fact, facts_in}
+use Rattle.statements.specs.Genuine.{Accepts, RefusesUnlessFull}
 use Rattle.statements.specs.OcspFact.{genuine_statement}
 use Rattle.statements_facts.specs.declared.counts.Counts.{Counts}
 use Rattle.store.specs.Adopts.{StaysIfOpen}
 use Rattle.store_sql.specs.Statements.{CommitsNothing}
 use Rattle.store_taking.specs.Delivery.{CommitsWhole, Delivers, PutFails}
+use Rattle.store_taking.specs.Room.{FactsFit, HasRoomForFacts, IsCausedOver}
 use Rattle.relying_agreement.specs.Run.{genuine_facts}
 use Rattle.relying.specs.declared.fault.DeliverFault.{DeliverFault}
 use Rattle.relying.specs.declared.fault.DeliverFault.TheVariants.{Issuer, Statement, Store}
@@ -22,16 +24,16 @@ pub record StatementSays (accepts : Accepts) (issuer statement : List ℕ) (fact
 
 -- Why a delivery takes nothing: the issuer's certificate is refused; or it is one, and the statement is refused under it; or the
 -- statement is genuine, and the fault is that of the store.
-abbrev pub IsReason : Accepts → List ℕ → List ℕ → DeliverFault → Type 0
-IsReason accepts issuer statement (Issuer fault) = CertificateFails fault (certificate issuer)
-IsReason accepts issuer statement (Statement fault) =
-    (by : Certificate) × (certificate issuer ≡ Ok by) × FailsUnlessFull fault (genuine_statement accepts by statement)
-IsReason accepts issuer statement (Store fault) = (facts : List Fact) × StatementSays accepts issuer statement facts
+abbrev pub IsReasonOfFault : Accepts → List ℕ → List ℕ → DeliverFault → Type 0
+IsReasonOfFault accepts issuer statement (Issuer fault) = CertificateFails fault (certificate issuer)
+IsReasonOfFault accepts issuer statement (Statement fault) =
+    (by : Certificate) × (certificate issuer ≡ Ok by) × RefusesUnlessFull fault (genuine_statement accepts by statement)
+IsReasonOfFault accepts issuer statement (Store fault) = (facts : List Fact) × StatementSays accepts issuer statement facts
 
 -- why nothing is read, for which no store was asked
 abbrev pub IsRefusal : Accepts → List ℕ → List ℕ → DeliverFault → Type 0
 IsRefusal accepts issuer statement (Store fault) = ⊥
-IsRefusal accepts issuer statement fault = IsReason accepts issuer statement fault
+IsRefusal accepts issuer statement fault = IsReasonOfFault accepts issuer statement fault
 
 -- what becomes of the database: after a fault that is not the store's it is as it was
 abbrev pub Leaves : State → State → DeliverFault → Type 0
@@ -41,11 +43,11 @@ Leaves old new fault = StaysIfOpen old new
 -- How a delivery is answered, whatever the disk did: the statement is genuine and says some facts, or the fault has its reason.
 abbrev pub IsAnswerTo : Accepts → List ℕ → List ℕ → Result Counts DeliverFault → Type 0
 IsAnswerTo accepts issuer statement (Ok counts) = (facts : List Fact) × StatementSays accepts issuer statement facts
-IsAnswerTo accepts issuer statement (Err fault) = IsReason accepts issuer statement fault
+IsAnswerTo accepts issuer statement (Err fault) = IsReasonOfFault accepts issuer statement fault
 
 abbrev pub IsDeliveryAnswer : Accepts → List ℕ → List ℕ → State → State → Result Counts DeliverFault → Type 0
 IsDeliveryAnswer accepts issuer statement old new (Ok counts) = (facts : List Fact) × StatementSays accepts issuer statement facts × Delivers old new facts counts
-IsDeliveryAnswer accepts issuer statement old new (Err fault) = IsReason accepts issuer statement fault × Leaves old new fault
+IsDeliveryAnswer accepts issuer statement old new (Err fault) = IsReasonOfFault accepts issuer statement fault × Leaves old new fault
 
 -- the same, if the disk returned what was written
 abbrev pub AnswersDelivery : Accepts → List ℕ → List ℕ → State → State → Result Counts DeliverFault → Type 0
@@ -59,3 +61,12 @@ MayCommit facts old new (Err fault) = CommitsNothing old new
 
 abbrev pub MayCommitDelivery : Accepts → List ℕ → List ℕ → State → State → Result Counts DeliverFault → Type 0
 MayCommitDelivery accepts issuer statement = MayCommit (genuine_facts accepts issuer statement)
+
+-- Why the store did not take what was read: the statement says these facts, and the fault `Store` has a cause, if they keep within the
+-- limits and the store has room for them.
+abbrev pub DeliversForCause : Accepts → List ℕ → List ℕ → State → State → Result Counts DeliverFault → Type 0
+DeliversForCause accepts issuer statement old new (Ok counts) = ⊤
+DeliversForCause accepts issuer statement old new (Err (Store fault)) =
+    HasCleanDisk new →
+    (facts : Facts) × StatementSays accepts issuer statement (facts_in facts) × IsCausedOver (HasRoomForFacts facts) (FactsFit facts) old new fault
+DeliversForCause accepts issuer statement old new (Err fault) = ⊤

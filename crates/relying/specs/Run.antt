@@ -1,5 +1,5 @@
 -- What events do to a relying party, one after the other.
-use Rattle.std.specs.Prelude.{◌≡◌, ◌≢◌, ℕ, List, [], ◌∷◌, ◌++◌, map, slice_get, take, Some, Result, Ok, Err, IsTrue}
+use Rattle.std.specs.Prelude.{⊤, ◌≡◌, ◌≢◌, ℕ, List, [], ◌∷◌, ◌++◌, map, slice_get, take, Some, Result, Ok, Err, IsTrue}
 use Rattle.sqlite_disk.specs.declared.Disk.{Ghosts}
 use Rattle.sqlite_store.specs.declared.store.FileStore.{FileStore}
 use Rattle.sqlite.specs.Held.{Held}
@@ -16,7 +16,7 @@ use Rattle.relying_agreement.specs.Run.{Event, DeliveryAnswer, facts_taken, genu
 use Rattle.relying.specs.declared.events.Event as said
 use Rattle.relying.specs.declared.fault.DeliverFault.{DeliverFault}
 use Rattle.relying.specs.declared.fault.DeliverFault.TheVariants.{Store}
-use Rattle.relying.specs.Delivery.{IsAnswerTo, IsReason, StatementSays}
+use Rattle.relying.specs.Delivery.{IsAnswerTo, IsReasonOfFault, StatementSays}
 use Rattle.store.specs.Opens.{FailsToReopen}
 use Rattle.store.specs.declared.refusal.ReopenFault.{ReopenFault}
 
@@ -34,7 +34,7 @@ abbrev pub TakesDelivery : Accepts → List ℕ → List ℕ → Holdings → Ho
 TakesDelivery accepts issuer statement held next (Ok counts) =
     (facts : List Fact) × StatementSays accepts issuer statement facts × AreCounts held facts counts × (next ≡ after_all held facts)
 TakesDelivery accepts issuer statement held next (Err fault) =
-    IsReason accepts issuer statement fault × (fault ≢ Store NotOurs) × (next ≡ held)
+    IsReasonOfFault accepts issuer statement fault × (fault ≢ Store NotOurs) × (next ≡ held)
 
 -- one event after another, with the answers to the deliveries in order; a restart leaves what is held
 abbrev pub Runs : Accepts → List Event → List (Result Counts DeliverFault) → Holdings → Holdings → Type 0
@@ -64,9 +64,17 @@ pub record IsEndOfRun (accepts : Accepts) (events : List Event) (answers : List 
       HasRun genuine_facts events (map as_answered answers)
       (record { accepts = accepts; start = start; taken = facts_taken genuine_facts accepts events (map as_answered answers); held = held })
 
--- Where the connection is open in the end it was from the start, and the run has ended so.
+-- there is a restart among the events
+abbrev pub HasRestart : List Event → Type 0
+HasRestart [] = ⊥
+HasRestart (Event.Restart ∷ events) = ⊤
+HasRestart (Event.Deliver issuer statement ∷ events) = HasRestart events
+
+-- Where the connection is open in the end it was from the start, and the run has ended so; no run comes past a restart that began over
+-- one that was shut.
 pub record Ran (accepts : Accepts) (events : List Event) (answers : List (Result Counts DeliverFault)) (old new : State) : Type 0 where
   pub was_open : IsTrue new.is_open → IsTrue old.is_open
+  pub began_open : HasRestart events → IsTrue old.is_open
   pub ended : IsTrue new.is_open → (start : Holdings) → IsStoreOf old.now start → IsEndOfRun accepts events answers start new
 
 -- ---- on the way
@@ -74,6 +82,7 @@ pub record Ran (accepts : Accepts) (events : List Event) (answers : List (Result
 -- the same of the events so far
 pub record RanSoFar (accepts : Accepts) (events : List Event) (answers : List (Result Counts DeliverFault)) (old new : State) : Type 0 where
   pub was_open : IsTrue new.is_open → IsTrue old.is_open
+  pub began_open : HasRestart events → IsTrue old.is_open
   pub so_far :
       IsTrue new.is_open → (start : Holdings) → IsStoreOf old.now start →
       (held : Holdings) × IsStoreOf new.now held × Runs accepts events answers start held
@@ -91,7 +100,7 @@ pub record AddsAnswer (accepts : Accepts) (event : Event) (before after : List (
   pub answers : AreAnswersTo accepts (event ∷ []) added
 
 -- A restart that fails, behind so many events, which ran so.
-pub record StopsAt {D : Type 0} {g : Ghosts D} (accepts : Accepts) (events : List Event) (done : ℕ) (old : Held (FileStore D g)) (fault : ReopenFault D g) : Type 0 where
+pub record StopsAtRestart {D : Type 0} {g : Ghosts D} (accepts : Accepts) (events : List Event) (done : ℕ) (old : Held (FileStore D g)) (fault : ReopenFault D g) : Type 0 where
   pub at : slice_get events done ≡ Some Event.Restart
   pub last : Held (FileStore D g)
   pub answers : List (Result Counts DeliverFault)

@@ -4,7 +4,7 @@ ghost use Rattle.std.specs.Prelude.{◌≡◌, IfErr, IfOk};
 ghost use Rattle.store_sql.specs.Statements.{IsDurable, CommitsNothing};
 ghost use Rattle.relying_agreement.specs.Verdict.{IsVerdict};
 ghost use Rattle.relying.specs.Asking.{AnswersOnlyIfOpen, Looks, LooksForCause};
-ghost use Rattle.relying.specs.Delivery.{AnswersDelivery, IsAnswerTo, MayCommitDelivery};
+ghost use Rattle.relying.specs.Delivery.{AnswersDelivery, DeliversForCause, IsAnswerTo, MayCommitDelivery};
 ghost use Rattle.relying.specs.Restart.{HasRestarted};
 ghost use Rattle.relying.specs.View.{stored};
 ghost use Rattle.relying_verdicts.specs.View.{seen_query};
@@ -67,6 +67,8 @@ impl<V: Verifier + Drop, D: Disk + Drop> Node<V, D> {
         ensures verifier { self.new.verifier ≡ self.old.verifier }
         ensures reason { IsAnswerTo (V.accepts self.old.verifier) issuer.now statement.now result }
         ensures answered { AnswersDelivery (V.accepts self.old.verifier) issuer.now statement.now
+            (stored self.old) (stored self.new) result }
+        ensures caused { DeliversForCause (V.accepts self.old.verifier) issuer.now statement.now
             (stored self.old) (stored self.new) result }
         ensures survives { MayCommitDelivery (V.accepts self.old.verifier) issuer.now statement.now
             (stored self.old) (stored self.new) result }

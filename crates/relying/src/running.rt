@@ -2,7 +2,7 @@
 
 ghost use Rattle.std.specs.Prelude.{◌≡◌, ◌≤◌, [], IfErr, IfOk, length, map, vec_capacity};
 ghost use Rattle.sqlite.specs.State.{HasCleanDisk};
-ghost use Rattle.relying.specs.Run.{AreAnswersTo, Ran, RunsAreRuns, StopsAt, seen_event};
+ghost use Rattle.relying.specs.Run.{AreAnswersTo, Ran, RunsAreRuns, StopsAtRestart, seen_event};
 ghost use Rattle.relying.specs.Stopping.{RunFails};
 ghost use Rattle.relying.specs.View.{stored};
 
@@ -30,7 +30,7 @@ fn run_all<V: Verifier + Drop, D: Disk + Drop>(
     ensures ran { IfOk result (λ last. HasCleanDisk (stored last)
         → Ran (V.accepts node.verifier) (map seen_event events.now) answers.new.items
         (stored node) (stored last)) }
-    ensures stops { IfErr result (λ stop. StopsAt (V.accepts node.verifier)
+    ensures stops { IfErr result (λ stop. StopsAtRestart (V.accepts node.verifier)
         (map seen_event events.now) stop.0 node.store.conn stop.1) }
 {
     let mut node = node;

@@ -18,7 +18,7 @@ use Rattle.relying_agreement.specs.Verdict.{IsVerdict, verdict_of}
 use Rattle.relying_agreement.specs.Run.{Party, PartyHoldsNewest}
 use Rattle.statements_facts.specs.Coming.{crl_for, ocsp_for}
 use Rattle.relying_agreement.specs.Agreement.{IsIssued, IssuersAreConsistent, HoldSameNewest}
-use Rattle.relying_agreement.specs.Examples.{query, list_slot, stranger_slot, StrangersDoNotMatter, crl, crl_with_entry, good_at, given_crl, accepts_all, accepts_none, starting, one, other, AllPremisesHold, NeedsConsistency, NeedsSameNewest, NeedsHoldsNewest, NeedsOneVerifier}
+use Rattle.relying_agreement.specs.Examples.{query, list_slot, stranger_slot, StrangersDoNotMatter, crl_numbered, crl_with_entry, good_at, given_crl, accepts_all, accepts_none, starting, one, other, AllPremisesHold, NeedsConsistency, NeedsSameNewest, NeedsHoldsNewest, NeedsOneVerifier}
 use Rattle.relying_agreement.proofs.AgreementLaws.{all_is_enough, one_of_a_number}
 use Rattle.relying_agreement.proofs.ExamplePath.{path_is_valid, signature_is_denied}
 
@@ -45,15 +45,15 @@ responses_say P Q slot (Fact.OfCrl for fact ∷ facts) all = responses_say P Q s
 responses_say P Q slot (Fact.OfResponse for fact ∷ facts) all = cons_if Q (same_ocsp_slot for slot) fact (filter_map (ocsp_for slot) facts) all.0 (responses_say P Q slot facts all.1)
 
 abbrev IsOurs : Fact → Type 0
-IsOurs = EachSays (λ fact. fact ≡ crl fact.number) (λ fact. fact ≡ good_at fact.times)
+IsOurs = EachSays (λ fact. fact ≡ crl_numbered fact.number) (λ fact. fact ≡ good_at fact.times)
 
 -- facts that the example's issuer issues, taken from the start
-ours : (accepts : Accepts) (taken : List Fact) → AllByRecursion IsOurs taken → IsIssued (λ slot. crl) (λ slot. good_at) (starting accepts taken)
+ours : (accepts : Accepts) (taken : List Fact) → AllByRecursion IsOurs taken → IsIssued (λ slot. crl_numbered) (λ slot. good_at) (starting accepts taken)
 ours accepts taken all = record {
-  crls = λ slot fact among. All-contains (λ (f : CrlFact). f ≡ crl f.number) (filter_map (crl_for slot) taken) fact
-      (All-from_recursion (λ (f : CrlFact). f ≡ crl f.number) (filter_map (crl_for slot) taken) (crls_say (λ f. f ≡ crl f.number) (λ f. f ≡ good_at f.times) slot taken all)) among;
+  crls = λ slot fact among. All-contains (λ (f : CrlFact). f ≡ crl_numbered f.number) (filter_map (crl_for slot) taken) fact
+      (All-from_recursion (λ (f : CrlFact). f ≡ crl_numbered f.number) (filter_map (crl_for slot) taken) (crls_say (λ f. f ≡ crl_numbered f.number) (λ f. f ≡ good_at f.times) slot taken all)) among;
   responses = λ slot fact among. All-contains (λ (f : OcspFact). f ≡ good_at f.times) (filter_map (ocsp_for slot) taken) fact
-      (All-from_recursion (λ (f : OcspFact). f ≡ good_at f.times) (filter_map (ocsp_for slot) taken) (responses_say (λ f. f ≡ crl f.number) (λ f. f ≡ good_at f.times) slot taken all)) among;
+      (All-from_recursion (λ (f : OcspFact). f ≡ good_at f.times) (filter_map (ocsp_for slot) taken) (responses_say (λ f. f ≡ crl_numbered f.number) (λ f. f ≡ good_at f.times) slot taken all)) among;
 }
 
 newest : (accepts : Accepts) (taken : List Fact) → PartyHoldsNewest (starting accepts taken)
@@ -63,7 +63,7 @@ consistent : (accepts accepts' : Accepts) (taken taken' : List Fact) → AllByRe
     → IssuersAreConsistent query (starting accepts taken) (starting accepts' taken')
 consistent accepts accepts' taken taken' all all' =
     all_is_enough query (starting accepts taken) (starting accepts' taken')
-    (one_of_a_number (λ slot. crl) (λ slot. good_at) (starting accepts taken) (starting accepts' taken') (ours accepts taken all) (ours accepts' taken' all'))
+    (one_of_a_number (λ slot. crl_numbered) (λ slot. good_at) (starting accepts taken) (starting accepts' taken') (ours accepts taken all) (ours accepts' taken' all'))
 
 abbrev says_valid : Verdict → Bool
 says_valid Valid = true
@@ -100,7 +100,7 @@ planted = record {
 }
 
 abbrev holds_5 : Party
-holds_5 = starting accepts_all (given_crl (crl 5) ∷ [])
+holds_5 = starting accepts_all (given_crl (crl_numbered 5) ∷ [])
 
 abbrev holds_5_with_entry : Party
 holds_5_with_entry = starting accepts_all (given_crl (crl_with_entry 5) ∷ [])
@@ -115,7 +115,7 @@ needs_consistency = record {
   a = holds_5;
   b = holds_5_with_entry;
   one_verifier = refl;
-  a_newest = newest accepts_all (given_crl (crl 5) ∷ []);
+  a_newest = newest accepts_all (given_crl (crl_numbered 5) ∷ []);
   b_newest = newest accepts_all (given_crl (crl_with_entry 5) ∷ []);
   same_newest = (record { all = refl; own = refl; ocsp = refl }, tt);
   disagree = record {
@@ -132,9 +132,9 @@ needs_same_newest = record {
   a = holds_5;
   b = starting accepts_all [];
   one_verifier = refl;
-  a_newest = newest accepts_all (given_crl (crl 5) ∷ []);
+  a_newest = newest accepts_all (given_crl (crl_numbered 5) ∷ []);
   b_newest = newest accepts_all [];
-  consistent = consistent accepts_all accepts_all (given_crl (crl 5) ∷ []) [] (refl, tt) tt;
+  consistent = consistent accepts_all accepts_all (given_crl (crl_numbered 5) ∷ []) [] (refl, tt) tt;
   disagree = record {
     v = Valid;
     w = Unknown 1;
@@ -144,7 +144,7 @@ needs_same_newest = record {
   };
 }
 
-nothing_seen : IsIssued (λ slot. crl) (λ slot. good_at) planted
+nothing_seen : IsIssued (λ slot. crl_numbered) (λ slot. good_at) planted
 nothing_seen = record { crls = (ours accepts_all [] tt).crls; responses = (ours accepts_all [] tt).responses }
 
 pub needs_holds_newest : NeedsHoldsNewest
@@ -153,9 +153,9 @@ needs_holds_newest = record {
   a = holds_5;
   b = planted;
   one_verifier = refl;
-  a_newest = newest accepts_all (given_crl (crl 5) ∷ []);
+  a_newest = newest accepts_all (given_crl (crl_numbered 5) ∷ []);
   consistent = all_is_enough query holds_5 planted
-      (one_of_a_number (λ slot. crl) (λ slot. good_at) holds_5 planted (ours accepts_all (given_crl (crl 5) ∷ []) (refl, tt)) nothing_seen);
+      (one_of_a_number (λ slot. crl_numbered) (λ slot. good_at) holds_5 planted (ours accepts_all (given_crl (crl_numbered 5) ∷ []) (refl, tt)) nothing_seen);
   same_newest = (record { all = refl; own = refl; ocsp = refl }, tt);
   disagree = record {
     v = Valid;
@@ -170,10 +170,10 @@ pub needs_one_verifier : NeedsOneVerifier
 unfolding name_key contents
 needs_one_verifier = record {
   a = holds_5;
-  b = starting accepts_none (given_crl (crl 5) ∷ []);
-  a_newest = newest accepts_all (given_crl (crl 5) ∷ []);
-  b_newest = newest accepts_none (given_crl (crl 5) ∷ []);
-  consistent = consistent accepts_all accepts_none (given_crl (crl 5) ∷ []) (given_crl (crl 5) ∷ []) (refl, tt) (refl, tt);
+  b = starting accepts_none (given_crl (crl_numbered 5) ∷ []);
+  a_newest = newest accepts_all (given_crl (crl_numbered 5) ∷ []);
+  b_newest = newest accepts_none (given_crl (crl_numbered 5) ∷ []);
+  consistent = consistent accepts_all accepts_none (given_crl (crl_numbered 5) ∷ []) (given_crl (crl_numbered 5) ∷ []) (refl, tt) (refl, tt);
   same_newest = (record { all = refl; own = refl; ocsp = refl }, tt);
   disagree = record {
     v = Valid;
@@ -191,11 +191,11 @@ all_one x xs all f g in_f in_g = All-contains (λ y. y ≡ x) xs f (All-from_rec
 pub strangers_do_not_matter : StrangersDoNotMatter
 unfolding name_key contents
 strangers_do_not_matter = record {
-  not_all = λ all. true≢false (sym (ap (λ (f : CrlFact). is_some (f.reasons (5 ∷ []))) (all.crls stranger_slot (crl 1) (crl_with_entry 1) (0, lit< tt, refl) (1, lit< tt, refl) refl)));
+  not_all = λ all. true≢false (sym (ap (λ (f : CrlFact). is_some (f.reasons (5 ∷ []))) (all.crls stranger_slot (crl_numbered 1) (crl_with_entry 1) (0, lit< tt, refl) (1, lit< tt, refl) refl)));
   consistent = (
     record {
-      all = λ f g in_f in_g same. all_one (crl 3) (crl 3 ∷ crl 3 ∷ []) (refl, (refl, tt)) f g in_f in_g;
-      own = λ f g in_f in_g same. all_one (crl 3) [] tt f g in_f in_g;
+      all = λ f g in_f in_g same. all_one (crl_numbered 3) (crl_numbered 3 ∷ crl_numbered 3 ∷ []) (refl, (refl, tt)) f g in_f in_g;
+      own = λ f g in_f in_g same. all_one (crl_numbered 3) [] tt f g in_f in_g;
       ocsp = λ f g in_f in_g same. all_one (good_at (record { this_update = pos 1; produced_at = pos 1 })) [] tt f g in_f in_g;
     },
     tt,

@@ -64,8 +64,8 @@ abbrev pub window : Window
 window = record { from = pos 50; until = pos 150 }
 
 -- a list that has no entry, and one that lists serial 05 with reason 1
-abbrev pub crl : ℕ → CrlFact
-crl number = record { number = number; window = window; reasons = λ serial. None }
+abbrev pub crl_numbered : ℕ → CrlFact
+crl_numbered number = record { number = number; window = window; reasons = λ serial. None }
 
 abbrev pub crl_with_entry : ℕ → CrlFact
 crl_with_entry number = record { number = number; window = window; reasons = λ serial. if bytes_eq serial (5 ∷ []) then Some 1 else None }
@@ -78,10 +78,10 @@ given_crl fact = Fact.OfCrl list_slot fact
 
 -- ---- statements: one octet is a list of that number, two are a response of these times
 
-abbrev pub told : FactsOf
-told accepts certificate [] = []
-told accepts certificate (number ∷ []) = Fact.OfCrl list_slot (crl number) ∷ []
-told accepts certificate (this ∷ produced ∷ more) =
+abbrev pub facts_of_example : FactsOf
+facts_of_example accepts certificate [] = []
+facts_of_example accepts certificate (number ∷ []) = Fact.OfCrl list_slot (crl_numbered number) ∷ []
+facts_of_example accepts certificate (this ∷ produced ∷ more) =
     Fact.OfResponse response_slot (good_at (record { this_update = pos this; produced_at = pos produced })) ∷ []
 
 abbrev pub delivered : List ℕ → Event
@@ -112,16 +112,16 @@ abbrev pub starting : Accepts → List Fact → Party
 starting accepts taken = after_taking accepts empty_holdings taken
 
 abbrev pub one : Party
-one = starting accepts_all (facts_taken told accepts_all events_of_one answers_of_one)
+one = starting accepts_all (facts_taken facts_of_example accepts_all events_of_one answers_of_one)
 
 abbrev pub other : Party
-other = starting accepts_all (facts_taken told accepts_all events_of_other answers_of_other)
+other = starting accepts_all (facts_taken facts_of_example accepts_all events_of_other answers_of_other)
 
 -- All premises hold of two parties that the statements reach in different ways, and both verdicts are `Valid`.
 pub record AllPremisesHold : Type 0 where
   pub one_verifier : one.accepts ≡ other.accepts
-  pub one_ran : HasRun told events_of_one answers_of_one one
-  pub other_ran : HasRun told events_of_other answers_of_other other
+  pub one_ran : HasRun facts_of_example events_of_one answers_of_one one
+  pub other_ran : HasRun facts_of_example events_of_other answers_of_other other
   pub consistent : IssuersAreConsistent query one other
   pub same_newest : HoldSameNewest query one.held other.held
   pub one_is_valid : IsVerdict one.accepts query one.held Valid
@@ -136,10 +136,10 @@ abbrev pub stranger_gives : CrlFact → Fact
 stranger_gives fact = Fact.OfCrl stranger_slot fact
 
 abbrev pub stranger_first : Party
-stranger_first = starting accepts_all (stranger_gives (crl 1) ∷ given_crl (crl 3) ∷ [])
+stranger_first = starting accepts_all (stranger_gives (crl_numbered 1) ∷ given_crl (crl_numbered 3) ∷ [])
 
 abbrev pub stranger_last : Party
-stranger_last = starting accepts_all (given_crl (crl 3) ∷ stranger_gives (crl_with_entry 1) ∷ [])
+stranger_last = starting accepts_all (given_crl (crl_numbered 3) ∷ stranger_gives (crl_with_entry 1) ∷ [])
 
 pub record StrangersDoNotMatter : Type 0 where
   pub not_all : ¬ (AllAreConsistent stranger_first stranger_last)

@@ -8,7 +8,7 @@ use Rattle.cert.specs.Certificate.{Certificate}
 use Rattle.statements_ocsp.specs.Certificates.{certificate_in, certificates_in}
 use Rattle.statements_ocsp.specs.OcspResponse.{OcspResponse}
 use Rattle.relying_questions.specs.Questions.{Judgement, of_certificate, asked_of_delegate, asked_of_issuer, asked_of_path, asked_of_response, asked_of_statement, asked_of_statements, questions_of}
-use Rattle.relying_questions.specs.Seen.{asked_of_link, asked_of_links, asked_of_option, asked_of_value, issuer_of, issuers_in, seen_all, seen_asked}
+use Rattle.relying_questions.specs.Seen.{asked_of_link, asked_of_links, asked_of_option, asked_of_value, issuer_of_link, issuers_in, seen_all, seen_asked}
 use Rattle.path.specs.Query.{Query}
 use Rattle.relying_agreement.specs.Link.{Link, links_of}
 use Rattle.relying_evidence.specs.View.{seen_link}
@@ -103,7 +103,7 @@ links_asked (link ∷ links) = ap (λ more. asked_of_link link ∷ more) (links_
 
 issuers_are : (links : List linked.Link) → issuers_in links ≡ map (λ (link : Link). link.issuer) (map seen_link links)
 issuers_are [] = refl
-issuers_are (link ∷ links) = ap (λ more. issuer_of link ∷ more) (issuers_are links)
+issuers_are (link ∷ links) = ap (λ more. issuer_of_link link ∷ more) (issuers_are links)
 
 pub all_questions : (query : Query) (statements : List (List ℕ)) (links one other : List linked.Link) (start : List Asked) (middle new : List Judgement)
     → start ≡ [] → one ≡ links → other ≡ links → map seen_link links ≡ links_of query

@@ -11,7 +11,7 @@ use Rattle.asn.proofs.Laws.{IsEncodedPart, AllParts, members_stand, contents_sta
 use Rattle.cert.specs.Certificate.{Certificate, certificate}
 use Rattle.cert.specs.CertificateForms.{IsCertificateAt, IsSignature}
 use Rattle.cert.proofs.Laws.{certificate_is_exact}
-use Rattle.relying_questions.specs.Places.{StandsIn, bits_at, HasParts}
+use Rattle.relying_questions.specs.Places.{IsPlaceIn, bits_at, HasParts}
 
 none_behind : (xs : List ℕ) → xs ≡ xs ++ []
 none_behind [] = refl
@@ -81,8 +81,8 @@ in_octets octets c is whole =
     let fields = after octets tbs.versions _ (inside octets is.signed _ is.signed_sequence tbs.members_are parts.0) in
     subst HasParts (sym is.fields_are) record {
       message = parts.0.stands;
-      algorithm = subst (StandsIn octets) (sym tbs.signature_is.whole) fields.1.0.stands;
-      key_info = subst (StandsIn octets) (sym tbs.key_info_is.whole) fields.1.1.1.1.1.0.stands;
+      algorithm = subst (IsPlaceIn octets) (sym tbs.signature_is.whole) fields.1.0.stands;
+      key_info = subst (IsPlaceIn octets) (sym tbs.key_info_is.whole) fields.1.1.1.1.1.0.stands;
       signature = bits_stand octets is.signature.value is.signature.octets is.signature_is parts.1.1.0;
     }
 

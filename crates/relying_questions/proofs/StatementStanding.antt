@@ -15,7 +15,7 @@ use Rattle.statements_crl.specs.ListForms.{IsCertificateList}
 use Rattle.statements_crl.proofs.Laws.{list_is_exact}
 use Rattle.statements_ocsp.specs.OcspResponse.{OcspResponse, ocsp_response}
 use Rattle.statements_ocsp.specs.ResponseForms.{AreCerts, IsOcspResponse, OcspResponseIsExact}
-use Rattle.relying_questions.specs.Offsets.{Three, AreCertsAt, inside_of, first_of, second_of, three_of, if_ok, bytes_of, held_by, basic_of, list_three, basic_three, values_in, values_of}
+use Rattle.relying_questions.specs.Offsets.{Three, AreCertsAt, inside_of, first_of, second_of, three_of, if_ok, bytes_of, held_by, basic_of, list_three, basic_three, values_in, values_of_certs}
 use Rattle.relying_questions.specs.Places.{Texts, AreSignedAt, bits_at}
 use Rattle.relying_questions.specs.declared.placed.SignedAt.{SignedAt}
 use Rattle.relying_questions.proofs.Standing.{bits_stand, inside, inside_explicit, is_in_itself}
@@ -131,12 +131,12 @@ all_stand : (text : List ℕ) (places : List Place) → AllParts text places →
 all_stand text [] parts = tt
 all_stand text (place ∷ places) parts = (parts.0.stands, all_stand text places parts.1)
 
-certs_stand : (text : List ℕ) (values : List Place) (certs : List (List ℕ)) → AllParts text values → AreCerts values certs → AreCertsAt text (values_of values) certs
+certs_stand : (text : List ℕ) (values : List Place) (certs : List (List ℕ)) → AllParts text values → AreCerts values certs → AreCertsAt text (values_of_certs values) certs
 certs_stand text [] certs parts are = record { stand = tt; octets_are = sym are }
 certs_stand text (value ∷ []) certs parts (list, tagged, sequence, are) =
     let explicit : inside_of value ≡ list ∷ [] = inside_tagged value (list ∷ []) tagged.explicit tagged.members_are in
     let inner : inside_of list ≡ (members list).values = inside_is list (members list).values sequence refl in
-    let values_are : values_of (value ∷ []) ≡ (members list).values = found (inside_of value) list explicit ∙ inner in
+    let values_are : values_of_certs (value ∷ []) ≡ (members list).values = found (inside_of value) list explicit ∙ inner in
     let one = inside_explicit text value (list ∷ []) tagged.explicit tagged.members_are parts.0 in
     subst (λ places. AreCertsAt text places certs) (sym values_are) record {
       stand = all_stand text (members list).values (inside text list (members list).values sequence refl one.0);
@@ -153,7 +153,7 @@ certs_at one other places values certs text same are = rw (text, same) are
 -- the values behind what was found are those of certs
 abbrev pub WithCerts : List ℕ → Option Three → List (List ℕ) → Type 0
 WithCerts text None certs = ⊥
-WithCerts text (Some three) certs = AreCertsAt text (values_of three.behind) certs
+WithCerts text (Some three) certs = AreCertsAt text (values_of_certs three.behind) certs
 
 pub response_stands : OcspResponseIsExact → (text : List ℕ) (response : OcspResponse) (found : Option Three) → AreOctets text → ocsp_response text ≡ Ok response → found ≡ basic_three text
     → FoundAt text found response.tbs response.algorithm response.signature × WithCerts text found response.certs

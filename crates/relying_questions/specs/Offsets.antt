@@ -81,8 +81,8 @@ abbrev pub values_in : Option Place → List Place
 values_in None = []
 values_in (Some list) = inside_of list
 
-abbrev pub values_of : List Place → List Place
-values_of behind = values_in (option_and_then (λ explicit. first_of (inside_of explicit)) (first_of behind))
+abbrev pub values_of_certs : List Place → List Place
+values_of_certs behind = values_in (option_and_then (λ explicit. first_of (inside_of explicit)) (first_of behind))
 
 -- what a cursor has left, and nothing without one
 abbrev pub seen_values : Option Cursor → List Place

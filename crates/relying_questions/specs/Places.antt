@@ -53,12 +53,12 @@ WereRead query = AllByRecursion WasRead (query.anchor ∷ query.certificates)
 
 -- ---- certificates
 
-abbrev pub seen_placed : placed.Placed → Certificate
-seen_placed placed = seen_certificate placed.certificate.now
+abbrev pub placed_certificate : placed.Placed → Certificate
+placed_certificate placed = seen_certificate placed.certificate.now
 
 -- the place stands in the text
-abbrev pub StandsIn : List ℕ → Place → Type 0
-StandsIn text place = IsPartOf text place.at place.octets
+abbrev pub IsPlaceIn : List ℕ → Place → Type 0
+IsPlaceIn text place = IsPartOf text place.at place.octets
 
 -- where the octets of a BIT STRING begin, behind the count of unused bits
 abbrev pub bits_at : Place → ℕ
@@ -66,25 +66,25 @@ bits_at value = (body_place value).at + length (take 1 (body value))
 
 -- the parts that a verifier is asked about stand in the certificate
 pub record HasParts (c : Certificate) : Type 0 where
-  pub message : StandsIn c.octets c.tbs
-  pub algorithm : StandsIn c.octets c.algorithm.value
-  pub key_info : StandsIn c.octets c.key_info.value
+  pub message : IsPlaceIn c.octets c.tbs
+  pub algorithm : IsPlaceIn c.octets c.algorithm.value
+  pub key_info : IsPlaceIn c.octets c.key_info.value
   pub signature : IsPartOf c.octets (bits_at c.signature.value) c.signature.octets
 
 -- the certificate stands in its text, where it ends at an offset below 2^64
 pub record IsPlaced (texts : Texts) (placed : placed.Placed) : Type 0 where
-  pub whole : IsPartOf (texts placed.source) placed.at (seen_placed placed).octets
-  pub fits : placed.at + length (seen_placed placed).octets < 2 ^ 64
+  pub whole : IsPartOf (texts placed.source) placed.at (placed_certificate placed).octets
+  pub fits : placed.at + length (placed_certificate placed).octets < 2 ^ 64
 
 -- and its parts do
 pub record PartsArePlaced (texts : Texts) (placed : placed.Placed) : Type 0 where
   pub whole : IsPlaced texts placed
-  pub parts : HasParts (seen_placed placed)
+  pub parts : HasParts (placed_certificate placed)
 
 -- octets that stand in the certificate are a part of its text
 abbrev pub StandsIfInside : placed.Placed → ℕ → List ℕ → part.Part → Type 0
 StandsIfInside placed at octets part =
-    (texts : Texts) → IsPlaced texts placed → IsPartOf (seen_placed placed).octets at octets → Stands texts part
+    (texts : Texts) → IsPlaced texts placed → IsPartOf (placed_certificate placed).octets at octets → Stands texts part
 
 -- a certificate of a path and the one above it are the texts with their numbers, and have their parts
 pub record LinkStands (texts : Texts) (link : Link) : Type 0 where

@@ -10,7 +10,7 @@ use Rattle.statements_ocsp.specs.OcspResponse.{OcspResponse, seen_response}
 use Rattle.statements_ocsp.specs.declared.response.Response as response
 use Rattle.relying_evidence.specs.declared.link.Link as linked
 use Rattle.relying_texts.specs.Reading.{Statement, of_list, of_response}
-use Rattle.relying_questions.specs.Places.{seen_placed}
+use Rattle.relying_questions.specs.Places.{placed_certificate}
 use Rattle.relying_questions.specs.Questions.{Judgement, of_certificate, asked_of_issuer, asked_of_list, asked_of_delegate, asked_of_response, asked_under}
 use Rattle.relying_questions.specs.declared.asked.Asked as code
 use Rattle.relying_questions.specs.declared.placed.Placed as placed
@@ -43,18 +43,18 @@ seen_statement (kind.Response response at) = of_response (seen_response response
 
 -- ---- links
 
-abbrev pub issuer_of : linked.Link → Certificate
-issuer_of link = seen_certificate link.issuer.now
+abbrev pub issuer_of_link : linked.Link → Certificate
+issuer_of_link link = seen_certificate link.issuer.now
 
 abbrev pub certificate_of : linked.Link → Certificate
 certificate_of link = seen_certificate link.certificate.now
 
 abbrev pub issuers_in : List linked.Link → List Certificate
-issuers_in links = map issuer_of links
+issuers_in links = map issuer_of_link links
 
 -- the questions of the certificates, in order
 abbrev pub asked_of_link : linked.Link → Judgement
-asked_of_link link = of_certificate (issuer_of link) (certificate_of link)
+asked_of_link link = of_certificate (issuer_of_link link) (certificate_of link)
 
 abbrev pub asked_of_links : List linked.Link → List Judgement
 asked_of_links links = map asked_of_link links
@@ -62,13 +62,13 @@ asked_of_links links = map asked_of_link links
 -- ---- the questions of what was read
 
 abbrev pub asked_of_list_seen : placed.Placed → list.Crl → List Judgement
-asked_of_list_seen issuer list = asked_of_list (seen_placed issuer) (seen_list list)
+asked_of_list_seen issuer list = asked_of_list (placed_certificate issuer) (seen_list list)
 
 abbrev pub asked_of_issuer_seen : placed.Placed → response.Response → List Judgement
-asked_of_issuer_seen issuer response = asked_of_issuer (seen_placed issuer) (seen_response response)
+asked_of_issuer_seen issuer response = asked_of_issuer (placed_certificate issuer) (seen_response response)
 
 abbrev pub asked_of_delegate_seen : placed.Placed → response.Response → placed.Placed → List Judgement
-asked_of_delegate_seen issuer response delegate = asked_of_delegate (seen_placed issuer) (seen_response response) (seen_placed delegate)
+asked_of_delegate_seen issuer response delegate = asked_of_delegate (placed_certificate issuer) (seen_response response) (placed_certificate delegate)
 
 -- of a value that comes with the response, if it is a certificate
 abbrev pub asked_of_option : Certificate → OcspResponse → Option Certificate → List Judgement
@@ -79,10 +79,10 @@ abbrev pub asked_of_value : Certificate → OcspResponse → List ℕ → List J
 asked_of_value issuer response octets = asked_of_option issuer response (certificate_in octets)
 
 abbrev pub asked_of_value_seen : placed.Placed → response.Response → List ℕ → List Judgement
-asked_of_value_seen issuer response = asked_of_value (seen_placed issuer) (seen_response response)
+asked_of_value_seen issuer response = asked_of_value (placed_certificate issuer) (seen_response response)
 
 abbrev pub asked_of_response_seen : placed.Placed → response.Response → List Judgement
-asked_of_response_seen issuer response = asked_of_response (seen_placed issuer) (seen_response response)
+asked_of_response_seen issuer response = asked_of_response (placed_certificate issuer) (seen_response response)
 
 abbrev pub asked_under_seen : placed.Placed → read → List Judgement
-asked_under_seen issuer statement = asked_under (seen_statement statement) (seen_placed issuer)
+asked_under_seen issuer statement = asked_under (seen_statement statement) (placed_certificate issuer)

@@ -6,9 +6,9 @@ ghost use Rattle.relying_texts.specs.View.{seen_question, texts_of};
 ghost use Rattle.relying_evidence.specs.View.{seen_link};
 ghost use Rattle.relying_questions.specs.Agreement.{Decide};
 ghost use Rattle.relying_questions.specs.Offsets.{StatementStands};
-ghost use Rattle.relying_questions.specs.Places.{AllInTexts, AreStatementTexts, IsStatementText, KeepsInTexts, LinkStands, LinksStand, PartsArePlaced, Texts, WereRead, seen_placed, texts_in};
+ghost use Rattle.relying_questions.specs.Places.{AllInTexts, AreStatementTexts, IsStatementText, KeepsInTexts, LinkStands, LinksStand, PartsArePlaced, Texts, WereRead, placed_certificate, texts_in};
 ghost use Rattle.relying_questions.specs.Questions.{asked_of_statement, asked_of_statements, asked_under, questions_of};
-ghost use Rattle.relying_questions.specs.Seen.{Adds, asked_of_links, certificate_of, issuer_of, issuers_in, seen_all, seen_statement};
+ghost use Rattle.relying_questions.specs.Seen.{Adds, asked_of_links, certificate_of, issuer_of_link, issuers_in, seen_all, seen_statement};
 
 use crate::asked::Asked;
 use crate::part::Source;
@@ -22,7 +22,7 @@ use std::alloc::{AllocError, Global};
 
 /// The issuer of a link, as a certificate of the path or its anchor.
 fn issuer_of<'p, 'a>(link: &Link<'p, 'a>) -> Placed<'p, 'a>
-    ensures certificate { seen_placed result ≡ issuer_of link.now }
+    ensures certificate { placed_certificate result ≡ issuer_of_link link.now }
     ensures places { (texts : Texts) → LinkStands texts (seen_link link.now)
         → PartsArePlaced texts result }
 {
@@ -32,7 +32,7 @@ fn issuer_of<'p, 'a>(link: &Link<'p, 'a>) -> Placed<'p, 'a>
 
 /// The certificate of a link, as one of the path.
 fn certificate_of<'p, 'a>(link: &Link<'p, 'a>) -> Placed<'p, 'a>
-    ensures certificate { seen_placed result ≡ certificate_of link.now }
+    ensures certificate { placed_certificate result ≡ certificate_of link.now }
     ensures places { (texts : Texts) → LinkStands texts (seen_link link.now)
         → PartsArePlaced texts result }
 {

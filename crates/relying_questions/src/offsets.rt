@@ -3,7 +3,7 @@
 ghost use Rattle.std.specs.Prelude.{◌≡◌, option_map};
 ghost use Rattle.asn.specs.Members.{left};
 ghost use Rattle.asn.specs.Place.{seen_tlv};
-ghost use Rattle.relying_questions.specs.Offsets.{ListIsAt, ResponseIsAt, basic_of, basic_three, first_of, inside_of, list_three, second_of, seen_three, seen_values, three_of, values_of};
+ghost use Rattle.relying_questions.specs.Offsets.{ListIsAt, ResponseIsAt, basic_of, basic_three, first_of, inside_of, list_three, second_of, seen_three, seen_values, three_of, values_of_certs};
 
 use crate::part::Source;
 use crate::placed::{SignedAt, offset_of_bits};
@@ -69,7 +69,7 @@ fn basic_three(octets: &[u8]) -> Option<FirstThree<'_>>
 
 /// The values in certs [0] EXPLICIT SEQUENCE OF Certificate OPTIONAL.
 fn values_in(behind: Cursor<'_>) -> Option<Cursor<'_>>
-    ensures { seen_values result ≡ values_of (left behind.entry).values }
+    ensures { seen_values result ≡ values_of_certs (left behind.entry).values }
 {
     let mut behind = behind;
     let explicit = behind.next()?;

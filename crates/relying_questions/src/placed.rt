@@ -5,7 +5,7 @@ ghost use Rattle.asn.specs.Part.{IsPartOf};
 ghost use Rattle.asn.specs.Place.{seen_tlv};
 ghost use Rattle.cert.specs.BitString.{seen_bit_string};
 ghost use Rattle.cert.specs.Certificate.{seen_certificate};
-ghost use Rattle.relying_questions.specs.Places.{HasParts, PartsArePlaced, Stands, StandsIfInside, Texts, bits_at, seen_placed};
+ghost use Rattle.relying_questions.specs.Places.{HasParts, PartsArePlaced, Stands, StandsIfInside, Texts, bits_at, placed_certificate};
 
 use crate::part::{Part, Source};
 use asn::Tlv;
@@ -39,7 +39,7 @@ fn have_offsets(octets: &[u8])
 impl<'p, 'a> Placed<'p, 'a> {
     /// A certificate that is a text of its own.
     pub(crate) fn text(certificate: &'p Certificate<'a>, source: Source) -> Placed<'p, 'a>
-        ensures certificate { seen_placed result ≡ seen_certificate certificate.now }
+        ensures certificate { placed_certificate result ≡ seen_certificate certificate.now }
         ensures places { (texts : Texts) → texts source ≡ certificate.now.octets.now
             → HasParts (seen_certificate certificate.now) → PartsArePlaced texts result }
     {

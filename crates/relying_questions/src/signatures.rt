@@ -5,7 +5,7 @@ ghost use Rattle.cert.specs.Certificate.{seen_certificate};
 ghost use Rattle.statements_crl.specs.CertificateList.{seen_list};
 ghost use Rattle.statements_ocsp.specs.OcspResponse.{seen_response};
 ghost use Rattle.relying_questions.specs.Questions.{of_answers, of_certificate, of_revocations};
-ghost use Rattle.relying_questions.specs.Places.{AnswersStand, AreInTexts, ListStands, PartsArePlaced, Stands, Texts, seen_placed};
+ghost use Rattle.relying_questions.specs.Places.{AnswersStand, AreInTexts, ListStands, PartsArePlaced, Stands, Texts, placed_certificate};
 ghost use Rattle.relying_questions.specs.Seen.{seen_asked};
 
 use crate::asked::Asked;
@@ -16,7 +16,7 @@ use statements_ocsp::Response;
 
 /// The key of a certificate.
 fn key_of<'a>(signer: &Placed<'_, 'a>) -> Part<'a>
-    ensures octets { result.octets.now ≡ (seen_placed signer.now).key_info.value.octets }
+    ensures octets { result.octets.now ≡ (placed_certificate signer.now).key_info.value.octets }
     ensures places { (texts : Texts) → PartsArePlaced texts signer.now → Stands texts result }
 {
     signer.whole(signer.certificate.subject_public_key_info.value)
@@ -25,7 +25,7 @@ fn key_of<'a>(signer: &Placed<'_, 'a>) -> Part<'a>
 /// Whether the certificate is signed under the issuer's key.
 pub(crate) fn of_certificate<'a>(issuer: &Placed<'_, 'a>, placed: &Placed<'_, 'a>) -> Asked<'a>
     ensures asked { seen_asked result
-        ≡ of_certificate (seen_placed issuer.now) (seen_placed placed.now) }
+        ≡ of_certificate (placed_certificate issuer.now) (placed_certificate placed.now) }
     ensures places { (texts : Texts) → PartsArePlaced texts issuer.now
         → PartsArePlaced texts placed.now → AreInTexts texts result }
 {
@@ -45,7 +45,7 @@ pub(crate) fn of_revocations<'a>(
     signed: &SignedAt,
 ) -> Asked<'a>
     ensures asked { seen_asked result
-        ≡ of_revocations (seen_placed issuer.now) (seen_list list.now) }
+        ≡ of_revocations (placed_certificate issuer.now) (seen_list list.now) }
     ensures places { (texts : Texts) → PartsArePlaced texts issuer.now
         → ListStands texts list.now signed.now → AreInTexts texts result }
 {
@@ -64,7 +64,7 @@ pub(crate) fn of_answers<'a>(
     signed: &SignedAt,
 ) -> Asked<'a>
     ensures asked { seen_asked result
-        ≡ of_answers (seen_placed signer.now) (seen_response response.now) }
+        ≡ of_answers (placed_certificate signer.now) (seen_response response.now) }
     ensures places { (texts : Texts) → PartsArePlaced texts signer.now
         → AnswersStand texts response.now signed.now → AreInTexts texts result }
 {

@@ -12,7 +12,7 @@ use Rattle.relying_questions.specs.declared.asked.Asked.{Asked}
 use Rattle.relying_rows.specs.Contents.{IsSomePath}
 use Rattle.relying_rows.specs.Places.{AllInRows, octets_of_each, seen_row_questions}
 use Rattle.relying_rows.specs.Reading.{AreCertificates}
-use Rattle.relying_rows.specs.Row.{joined}
+use Rattle.relying_rows.specs.Row.{in_one_row}
 use Rattle.relying_rows.specs.RowQuestions.{AreQuestionsBy, AreQuestionsInRows, AreQuestionsOn, AreTextsOn, IsFaultOfStatements, IsQuestionFault, PlacedIfRead, query_about}
 use Rattle.relying_rows.specs.Starts.{ValuesStand, starts_from}
 use Rattle.relying_rows.specs.declared.places.RowQuestion.{RowQuestion}
@@ -57,7 +57,7 @@ placed_at : (anchor : Certificate) (path : List Certificate) (statements : List 
     → starts.certificates.items ≡ starts_from 0 (octets_of_each (anchor ∷ path)) → starts.statements.items ≡ starts_from 0 statements
     → Places starts asked placed → PlacedIfRead (anchor ∷ path) statements placed
 placed_at anchor path statements starts asked placed stand one other places fits too were =
-    places (joined (octets_of_each (anchor ∷ path))) (joined statements) (texts_in (query_about anchor path (pos 0) None) statements)
+    places (in_one_row (octets_of_each (anchor ∷ path))) (in_one_row statements) (texts_in (query_about anchor path (pos 0) None) statements)
     (stand_in_rows anchor path statements starts one other fits too) (stand were)
 
 pub placed_in : {E : Type 0} (certificates : List Certificate) (statements : List (List ℕ)) (starts : Starts) (asked : List Asked) (result : Result (Vec RowQuestion Global) E)
@@ -90,9 +90,9 @@ places_of : (certificates statements : List ℕ) (these : List Certificate) (ask
     → AreCertificates certificates these → AreQuestionsBy statements these asked → AllInRows certificates statements asked
 places_of certificates statements these asked octets fits too are by =
     let read = row_read certificates are.0 these octets are.1 in
-    let row : statements ≡ joined by.texts = by.are_statements.1.row_is in
+    let row : statements ≡ in_one_row by.texts = by.are_statements.1.row_is in
     let placed = by.are_placed (subst (λ (text : List ℕ). length text < 2 ^ 64) read.1 fits) (subst (λ (text : List ℕ). length text < 2 ^ 64) row too) read.0 in
-    subst (λ (text : List ℕ). AllInRows certificates text asked) (sym row) (subst (λ (text : List ℕ). AllInRows text (joined by.texts) asked) (sym read.1) placed)
+    subst (λ (text : List ℕ). AllInRows certificates text asked) (sym row) (subst (λ (text : List ℕ). AllInRows text (in_one_row by.texts) asked) (sym read.1) placed)
 
 pub places_of_rows : {E : Type 0} (certificates statements : List ℕ) (these : List Certificate) (result : Result (Vec RowQuestion Global) E) → AreOctets certificates
     → length certificates < 2 ^ 64 → length statements < 2 ^ 64 → AreCertificates certificates these

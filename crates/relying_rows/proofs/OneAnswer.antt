@@ -15,7 +15,7 @@ use Rattle.relying_questions.specs.Seen.{print_of}
 use Rattle.relying_texts.specs.Texts.{IsVerdictByTexts, party_told}
 use Rattle.relying_rows.specs.declared.rows.RowFault.{RowFault}
 use Rattle.relying_rows.specs.declared.rows.RowFault.TheVariants.{Certificates, Statements, Fingerprints, Memory}
-use Rattle.relying_rows.specs.Row.{joined}
+use Rattle.relying_rows.specs.Row.{in_one_row}
 use Rattle.relying_rows.specs.Fingerprints.{AcceptsPrints, ArePrints, IsCutShort, IsFingerprint}
 use Rattle.relying_rows.specs.Rows.{Rows, IsVerdictInRows, IsRowFault, query_in}
 use Rattle.relying_rows.specs.Laws.{AnswersAreOne, PrintsDecide}
@@ -47,22 +47,22 @@ same_behind : (print behind other : List ℕ) → print ++ behind ≡ print ++ o
 same_behind [] behind other same = same
 same_behind (octet ∷ print) behind other same = same_behind print behind other (ap (drop 1) same)
 
-same_prints : (prints others : List (List ℕ)) → All IsFingerprint prints → All IsFingerprint others → joined prints ≡ joined others → prints ≡ others
+same_prints : (prints others : List (List ℕ)) → All IsFingerprint prints → All IsFingerprint others → in_one_row prints ≡ in_one_row others → prints ≡ others
 same_prints [] [] all too same = refl
-same_prints [] (other ∷ others) all too same = absurd (omega (arith, ap length same, length-append other (joined others), first_print other others too))
-same_prints (print ∷ prints) [] all too same = absurd (omega (arith, ap length same, length-append print (joined prints), first_print print prints all))
+same_prints [] (other ∷ others) all too same = absurd (omega (arith, ap length same, length-append other (in_one_row others), first_print other others too))
+same_prints (print ∷ prints) [] all too same = absurd (omega (arith, ap length same, length-append print (in_one_row prints), first_print print prints all))
 same_prints (print ∷ prints) (other ∷ others) all too same =
-    let first : print ≡ other = sym (front print (joined prints) (first_print print prints all)) ∙ ap (take 32) same ∙ front other (joined others) (first_print other others too) in
-    let rest = same_behind print (joined prints) (joined others) (same ∙ ap (λ (it : List ℕ). it ++ joined others) (sym first)) in
+    let first : print ≡ other = sym (front print (in_one_row prints) (first_print print prints all)) ∙ ap (take 32) same ∙ front other (in_one_row others) (first_print other others too) in
+    let rest = same_behind print (in_one_row prints) (in_one_row others) (same ∙ ap (λ (it : List ℕ). it ++ in_one_row others) (sym first)) in
     ap (λ (it : List ℕ). it ∷ prints) first ∙ ap (λ (them : List (List ℕ)). other ∷ them) (same_prints prints others (All-tail IsFingerprint print prints all) (All-tail IsFingerprint other others too) rest)
 
-whole_length : (prints : List (List ℕ)) → All IsFingerprint prints → length (joined prints) ≡ 32 * length prints
+whole_length : (prints : List (List ℕ)) → All IsFingerprint prints → length (in_one_row prints) ≡ 32 * length prints
 whole_length [] all = refl
-whole_length (print ∷ prints) all = omega (arith, length-append print (joined prints), first_print print prints all, whole_length prints (All-tail IsFingerprint print prints all))
+whole_length (print ∷ prints) all = omega (arith, length-append print (in_one_row prints), first_print print prints all, whole_length prints (All-tail IsFingerprint print prints all))
 
 not_cut_short : (row : List ℕ) (prints : List (List ℕ)) (at : ℕ) → ArePrints row prints → IsCutShort row at → ⊥
 not_cut_short row prints at are cut =
-    absurd (omega (arith, ap length (sym are.row_is ∙ cut.begins.row_is), length-append (joined cut.before) cut.left, whole_length prints are.each, whole_length cut.before cut.begins.each, cut.some, cut.few))
+    absurd (omega (arith, ap length (sym are.row_is ∙ cut.begins.row_is), length-append (in_one_row cut.before) cut.left, whole_length prints are.each, whole_length cut.before cut.begins.each, cut.some, cut.few))
 
 -- ---- verdicts
 

@@ -3,7 +3,7 @@ use Rattle.std.proofs.Common.{◌≡◌, ◌≤◌, ℕ, zero, suc, List, ◌∷
 use Rattle.std.specs.Prelude.{All}
 use Rattle.std.proofs.lemmas.List.{take-append-drop, length-take-le}
 use Rattle.std.proofs.lemmas.List.Elements.{All-append}
-use Rattle.relying_rows.specs.Row.{joined}
+use Rattle.relying_rows.specs.Row.{in_one_row}
 use Rattle.relying_rows.specs.Fingerprints.{IsFingerprint, BeginsWithPrints}
 use Rattle.relying_rows.proofs.Values.{joined-more}
 
@@ -14,7 +14,7 @@ one_print print is (suc k) d within = absurd (omega (arith, within))
 pub one_more_print : (row : List ℕ) (prints : List (List ℕ)) (left print behind : List ℕ) → BeginsWithPrints row prints left
     → 32 ≤ length left → print ≡ take 32 left → behind ≡ drop 32 left → BeginsWithPrints row (prints ++ print ∷ []) behind
 one_more_print row prints left print behind begins long is rest = record {
-  row_is = begins.row_is ∙ ap (λ (octets : List ℕ). joined prints ++ octets) parts ∙ sym (append_assoc (joined prints) print behind) ∙ sym (joined-more prints print behind);
+  row_is = begins.row_is ∙ ap (λ (octets : List ℕ). in_one_row prints ++ octets) parts ∙ sym (append_assoc (in_one_row prints) print behind) ∙ sym (joined-more prints print behind);
   each = All-append IsFingerprint prints (print ∷ []) begins.each (one_print print (ap length is ∙ length-take-le 32 left long));
 }
   where

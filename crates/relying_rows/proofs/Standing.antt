@@ -12,7 +12,7 @@ use Rattle.relying_questions.specs.declared.part.Source.{Source}
 use Rattle.relying_questions.specs.declared.part.Source.TheVariants as source
 use Rattle.relying_rows.specs.Places.{octets_of_each, row_text}
 use Rattle.relying_rows.specs.RowQuestions.{query_about}
-use Rattle.relying_rows.specs.Row.{IsRow, joined}
+use Rattle.relying_rows.specs.Row.{IsRow, in_one_row}
 use Rattle.relying_rows.specs.Starts.{ValuesStand, row_of, start_of, starts_from}
 use Rattle.relying_rows.specs.declared.places.Row.{Row}
 use Rattle.relying_rows.specs.declared.places.Row.TheVariants.{Certificates, Statements}
@@ -69,19 +69,19 @@ row_fits certificates statements Statements one other = other
 next_start : (front value : List ℕ) (values row : List ℕ) → length row < 2 ^ 64 → row ≡ front ++ (value ++ values) → min (length front + length value) (2 ^ 64 - 1) ≡ length (front ++ value)
 next_start front value values row fits is = omega (arith, fits, ap length is, length-append front (value ++ values), length-append value values, length-append front value)
 
-pub starts_stand : (row front : List ℕ) (values : List (List ℕ)) (i : ℕ) (d : List ℕ) → length row < 2 ^ 64 → row ≡ front ++ joined values → IsPartOf row 0 d
+pub starts_stand : (row front : List ℕ) (values : List (List ℕ)) (i : ℕ) (d : List ℕ) → length row < 2 ^ 64 → row ≡ front ++ in_one_row values → IsPartOf row 0 d
     → IsPartOf row (slice_index_or (starts_from (length front) values) i 0) (slice_index_or values i d)
 starts_stand row front [] zero d fits is other = other
 starts_stand row front [] (suc i) d fits is other = other
 starts_stand row front (value ∷ values) zero d fits is other = record {
   before = front;
-  behind = joined values;
-  joined = is ∙ sym (append_assoc front value (joined values));
+  behind = in_one_row values;
+  joined = is ∙ sym (append_assoc front value (in_one_row values));
   place = refl;
 }
 starts_stand row front (value ∷ values) (suc i) d fits is other =
-    subst (λ (at : ℕ). IsPartOf row (slice_index_or (starts_from at values) i 0) (slice_index_or values i d)) (sym (next_start front value (joined values) row fits is))
-    (starts_stand row (front ++ value) values i d fits (is ∙ sym (append_assoc front value (joined values))) other)
+    subst (λ (at : ℕ). IsPartOf row (slice_index_or (starts_from at values) i 0) (slice_index_or values i d)) (sym (next_start front value (in_one_row values) row fits is))
+    (starts_stand row (front ++ value) values i d fits (is ∙ sym (append_assoc front value (in_one_row values))) other)
 
 -- nothing stands at the begin of a row
 nothing : (row : List ℕ) → IsPartOf row 0 []
@@ -95,27 +95,27 @@ octets_at [] (suc i) d = refl
 octets_at (c ∷ certificates) zero d = refl
 octets_at (c ∷ certificates) (suc i) d = octets_at certificates i d
 
-first_stands : (anchor : Certificate) (path : List Certificate) → IsPartOf (joined (octets_of_each (anchor ∷ path))) 0 anchor.octets
-first_stands anchor path = record { before = []; behind = joined (octets_of_each path); joined = refl; place = refl }
+first_stands : (anchor : Certificate) (path : List Certificate) → IsPartOf (in_one_row (octets_of_each (anchor ∷ path))) 0 anchor.octets
+first_stands anchor path = record { before = []; behind = in_one_row (octets_of_each path); joined = refl; place = refl }
 
 stand_one : (anchor : Certificate) (path : List Certificate) (statements : List (List ℕ)) (starts : Starts) (source : Source)
     → starts.certificates.items ≡ starts_from 0 (octets_of_each (anchor ∷ path)) → starts.statements.items ≡ starts_from 0 statements
-    → length (joined (octets_of_each (anchor ∷ path))) < 2 ^ 64 → length (joined statements) < 2 ^ 64
-    → IsPartOf (row_text (joined (octets_of_each (anchor ∷ path))) (joined statements) (row_of source)) (start_of starts source) (texts_in (query_about anchor path (pos 0) None) statements source)
+    → length (in_one_row (octets_of_each (anchor ∷ path))) < 2 ^ 64 → length (in_one_row statements) < 2 ^ 64
+    → IsPartOf (row_text (in_one_row (octets_of_each (anchor ∷ path))) (in_one_row statements) (row_of source)) (start_of starts source) (texts_in (query_about anchor path (pos 0) None) statements source)
 stand_one anchor path statements starts (source.Certificate number) one other fits too =
     let values = octets_of_each (anchor ∷ path) in
-    subst (λ (them : List ℕ). IsPartOf (joined values) (slice_index_or them number 0) (slice_index_or (anchor ∷ path) number anchor).octets) (sym one)
-    (subst (IsPartOf (joined values) (slice_index_or (starts_from 0 values) number 0)) (sym (octets_at (anchor ∷ path) number anchor))
-    (starts_stand (joined values) [] values number anchor.octets fits refl (first_stands anchor path)))
+    subst (λ (them : List ℕ). IsPartOf (in_one_row values) (slice_index_or them number 0) (slice_index_or (anchor ∷ path) number anchor).octets) (sym one)
+    (subst (IsPartOf (in_one_row values) (slice_index_or (starts_from 0 values) number 0)) (sym (octets_at (anchor ∷ path) number anchor))
+    (starts_stand (in_one_row values) [] values number anchor.octets fits refl (first_stands anchor path)))
 stand_one anchor path statements starts (source.Statement index) one other fits too =
-    subst (λ (them : List ℕ). IsPartOf (joined statements) (slice_index_or them index 0) (slice_index_or statements index [])) (sym other)
-    (starts_stand (joined statements) [] statements index [] too refl (nothing (joined statements)))
+    subst (λ (them : List ℕ). IsPartOf (in_one_row statements) (slice_index_or them index 0) (slice_index_or statements index [])) (sym other)
+    (starts_stand (in_one_row statements) [] statements index [] too refl (nothing (in_one_row statements)))
 
 -- the texts of certificates and statements stand in the rows that these make
 pub stand_in_rows : (anchor : Certificate) (path : List Certificate) (statements : List (List ℕ)) (starts : Starts)
     → starts.certificates.items ≡ starts_from 0 (octets_of_each (anchor ∷ path)) → starts.statements.items ≡ starts_from 0 statements
-    → length (joined (octets_of_each (anchor ∷ path))) < 2 ^ 64 → length (joined statements) < 2 ^ 64
-    → ValuesStand (joined (octets_of_each (anchor ∷ path))) (joined statements) (texts_in (query_about anchor path (pos 0) None) statements) starts
+    → length (in_one_row (octets_of_each (anchor ∷ path))) < 2 ^ 64 → length (in_one_row statements) < 2 ^ 64
+    → ValuesStand (in_one_row (octets_of_each (anchor ∷ path))) (in_one_row statements) (texts_in (query_about anchor path (pos 0) None) statements) starts
 stand_in_rows anchor path statements starts one other fits too = record {
   stand = λ source. stand_one anchor path statements starts source one other fits too;
   certificates_fit = fits;
@@ -124,24 +124,24 @@ stand_in_rows anchor path statements starts one other fits too = record {
 
 -- ---- certificates that were read from a row
 
-pub were_read : (values : List (List ℕ)) (these : List Certificate) (left : List ℕ) → AreOctets (joined values ++ left) → map certificate values ≡ map Ok these
+pub were_read : (values : List (List ℕ)) (these : List Certificate) (left : List ℕ) → AreOctets (in_one_row values ++ left) → map certificate values ≡ map Ok these
     → AllByRecursion WasRead these × (octets_of_each these ≡ values)
 were_read [] [] left octets each = (tt, refl)
 were_read [] (it ∷ these) left octets each = absurd (omega (arith, ap length each))
 were_read (value ∷ values) [] left octets each = absurd (omega (arith, ap length each))
 were_read (value ∷ values) (it ∷ these) left octets each =
-    let parts : AreOctets (value ++ (joined values ++ left)) = subst AreOctets (append_assoc value (joined values) left) octets in
-    let front = front_octets value (joined values ++ left) parts in
+    let parts : AreOctets (value ++ (in_one_row values ++ left)) = subst AreOctets (append_assoc value (in_one_row values) left) octets in
+    let front = front_octets value (in_one_row values ++ left) parts in
     let read = head_read certificate value values it these each in
-    let rest = were_read values these left (behind_octets value (joined values ++ left) parts) (tail_read certificate value values it these each) in
+    let rest = were_read values these left (behind_octets value (in_one_row values ++ left) parts) (tail_read certificate value values it these each) in
     let same : it.octets ≡ value = ap (λ (c : Certificate). c.octets) ((certificate_is_exact value it front).0 read).layout.fields_are in (
       (record { octets = value; are_octets = front; reads = read }, rest.0),
       ap (λ (octets : List ℕ). octets ∷ octets_of_each these) same ∙ ap (λ (others : List (List ℕ)). value ∷ others) rest.1,
     )
 
 pub row_read : (row : List ℕ) (values : List (List ℕ)) (these : List Certificate) → AreOctets row → IsRow certificate row values these
-    → AllByRecursion WasRead these × (row ≡ joined (octets_of_each these))
+    → AllByRecursion WasRead these × (row ≡ in_one_row (octets_of_each these))
 row_read row values these octets is =
-    let whole : AreOctets (joined values ++ []) = subst AreOctets (is.row_is ∙ sym (append-nil (joined values))) octets in
+    let whole : AreOctets (in_one_row values ++ []) = subst AreOctets (is.row_is ∙ sym (append-nil (in_one_row values))) octets in
     let read = were_read values these [] whole is.each in
-    (read.0, is.row_is ∙ ap joined (sym read.1))
+    (read.0, is.row_is ∙ ap in_one_row (sym read.1))

@@ -11,7 +11,7 @@ use Rattle.der.specs.FirstFault.{Breaks, itself}
 use Rattle.der.specs.Header.{IsSound}
 use Rattle.der.specs.Laws.{AreOctets}
 use Rattle.der.proofs.Laws.{clean_in, encoded_long, one_value, read_front}
-use Rattle.relying_rows.specs.Row.{joined, IsFirst, IsRow}
+use Rattle.relying_rows.specs.Row.{in_one_row, IsFirstValue, IsRow}
 use Rattle.relying_rows.specs.Laws.{IsReadOneWay}
 
 -- the octets are the encoding of a value
@@ -51,7 +51,7 @@ sound front behind (value, is) =
     let octets = encoded_long 1 (front ++ behind) front behind value refl is in
     record { keeps = keeps front behind value is; whole = (omega (arith, octets.0, octets.1), omega (arith, ends, octets.1)); within = omega (arith, ends, octets.1) }
 
-first_is : (front behind value : List ℕ) → IsDer front → IsFirst (front ++ behind) value → value ≡ front
+first_is : (front behind value : List ℕ) → IsDer front → IsFirstValue (front ++ behind) value → value ≡ front
 first_is front behind value (it, encodes) (inl (sound, is)) =
     let ends = (read_front 1 (front ++ behind) front behind it refl encodes).1 in
     is ∙ ap (λ (n : ℕ). take n (front ++ behind)) ends ∙ take-append-le (length front) front behind (omega arith) ∙ take_all (length front) front (omega arith)
@@ -73,29 +73,29 @@ pub tail_read : {A F : Type 0} (read : List ℕ → Result A (F × ℕ)) (value 
 tail_read read value values it these each = cc
 
 are_der : {A F : Type 0} (read : List ℕ → Result A (F × ℕ)) → ReadsDer read → (values : List (List ℕ)) (these : List A) (left : List ℕ)
-    → AreOctets (joined values ++ left) → map read values ≡ map Ok these → AllByRecursion IsDer values
+    → AreOctets (in_one_row values ++ left) → map read values ≡ map Ok these → AllByRecursion IsDer values
 are_der read reads [] these left octets each = tt
 are_der read reads (value ∷ values) [] left octets each = absurd (omega (arith, ap length each))
 are_der read reads (value ∷ values) (it ∷ these) left octets each =
-    let parts : AreOctets (value ++ (joined values ++ left)) = subst AreOctets (append_assoc value (joined values) left) octets in (
-      reads value it (front_octets value (joined values ++ left) parts) (head_read read value values it these each),
-      are_der read reads values these left (behind_octets value (joined values ++ left) parts) (tail_read read value values it these each),
+    let parts : AreOctets (value ++ (in_one_row values ++ left)) = subst AreOctets (append_assoc value (in_one_row values) left) octets in (
+      reads value it (front_octets value (in_one_row values ++ left) parts) (head_read read value values it these each),
+      are_der read reads values these left (behind_octets value (in_one_row values ++ left) parts) (tail_read read value values it these each),
     )
 
-same_values : (values others : List (List ℕ)) → AllByRecursion IsDer values → AllByRecursion IsDer others → joined values ≡ joined others → values ≡ others
+same_values : (values others : List (List ℕ)) → AllByRecursion IsDer values → AllByRecursion IsDer others → in_one_row values ≡ in_one_row others → values ≡ others
 same_values [] [] der also same = refl
-same_values [] (other ∷ others) der also same = absurd (omega (arith, ap length same, length-append other (joined others), long other also.0))
-same_values (value ∷ values) [] der also same = absurd (omega (arith, ap length same, length-append value (joined values), long value der.0))
+same_values [] (other ∷ others) der also same = absurd (omega (arith, ap length same, length-append other (in_one_row others), long other also.0))
+same_values (value ∷ values) [] der also same = absurd (omega (arith, ap length same, length-append value (in_one_row values), long value der.0))
 same_values (value ∷ values) (other ∷ others) der also same =
-    let first = same_first value (joined values) other (joined others) der.0 also.0 same in
+    let first = same_first value (in_one_row values) other (in_one_row others) der.0 also.0 same in
     ap (λ (it : List ℕ). it ∷ values) first.0 ∙ ap (λ (rest : List (List ℕ)). other ∷ rest) (same_values values others der.1 also.1 first.1)
 
 -- a row of which something is read has octets
 pub some_octets : {A F : Type 0} (read : List ℕ → Result A (F × ℕ)) → ReadsDer read → (row : List ℕ) (values : List (List ℕ)) (it : A) (these : List A) → AreOctets row → IsRow read row values (it ∷ these) → 0 < length row
 some_octets read reads row [] it these octets is = absurd (omega (arith, ap length is.each))
 some_octets read reads row (value ∷ values) it these octets is =
-    let der = are_der read reads (value ∷ values) (it ∷ these) [] (subst AreOctets (is.row_is ∙ sym (append-nil (joined (value ∷ values)))) octets) is.each in
-    omega (arith, ap length is.row_is, length-append value (joined values), long value der.0)
+    let der = are_der read reads (value ∷ values) (it ∷ these) [] (subst AreOctets (is.row_is ∙ sym (append-nil (in_one_row (value ∷ values)))) octets) is.each in
+    omega (arith, ap length is.row_is, length-append value (in_one_row values), long value der.0)
 
 abbrev oks : {A E : Type 0} → List A → List (Result A E)
 oks these = map Ok these
@@ -114,44 +114,44 @@ err_is r s x y same is too = cc
 
 -- behind values that are read, the first of the rest is read, where the whole is
 next_read : {A F : Type 0} (read : List ℕ → Result A (F × ℕ)) (values : List (List ℕ)) (these : List A) → map read values ≡ map Ok these → AllByRecursion IsDer values
-    → (before : List (List ℕ)) → AllByRecursion IsDer before → (left value : List ℕ) → joined values ≡ joined before ++ left → 0 < length left → IsFirst left value
+    → (before : List (List ℕ)) → AllByRecursion IsDer before → (left value : List ℕ) → in_one_row values ≡ in_one_row before ++ left → 0 < length left → IsFirstValue left value
     → (it : A) × (read value ≡ Ok it)
-next_read read [] these each der before also left value same some first = absurd (omega (arith, some, ap length same, length-append (joined before) left))
+next_read read [] these each der before also left value same some first = absurd (omega (arith, some, ap length same, length-append (in_one_row before) left))
 next_read read (one ∷ values) [] each der before also left value same some first = absurd (omega (arith, ap length each))
 next_read read (one ∷ values) (it ∷ these) each der [] also left value same some first =
-    let is = first_is one (joined values) value der.0 (subst (λ (octets : List ℕ). IsFirst octets value) (sym same) first) in
+    let is = first_is one (in_one_row values) value der.0 (subst (λ (octets : List ℕ). IsFirstValue octets value) (sym same) first) in
     (it, ap read is ∙ head_read read one values it these each)
 next_read read (one ∷ values) (it ∷ these) each der (other ∷ before) also left value same some first =
-    let rest = same_first one (joined values) other (joined before ++ left) der.0 also.0 (same ∙ append_assoc other (joined before) left) in
+    let rest = same_first one (in_one_row values) other (in_one_row before ++ left) der.0 also.0 (same ∙ append_assoc other (in_one_row before) left) in
     next_read read values these (tail_read read one values it these each) der.1 before also.1 left value rest.1 some first
 
 -- two refused values stand at the same place
 same_place : {A F : Type 0} (read : List ℕ → Result A (F × ℕ)) (before others : List (List ℕ)) (these those : List A) (left rest value other : List ℕ) (fault also : F × ℕ)
     → map read before ≡ map Ok these → map read others ≡ map Ok those → AllByRecursion IsDer before → AllByRecursion IsDer others
-    → joined before ++ left ≡ joined others ++ rest → IsFirst left value → IsFirst rest other → read value ≡ Err fault → read other ≡ Err also
+    → in_one_row before ++ left ≡ in_one_row others ++ rest → IsFirstValue left value → IsFirstValue rest other → read value ≡ Err fault → read other ≡ Err also
     → (before ≡ others) × (left ≡ rest)
 same_place read [] [] these those left rest value other fault also each all der too same first second refused again = (refl, same)
 same_place read [] (one ∷ others) these [] left rest value other fault also each all der too same first second refused again = absurd (omega (arith, ap length all))
 same_place read [] (one ∷ others) these (it ∷ those) left rest value other fault also each all der too same first second refused again =
-    let starts = same ∙ append_assoc one (joined others) rest in
-    let is = first_is one (joined others ++ rest) value too.0 (subst (λ (octets : List ℕ). IsFirst octets value) starts first) in
+    let starts = same ∙ append_assoc one (in_one_row others) rest in
+    let is = first_is one (in_one_row others ++ rest) value too.0 (subst (λ (octets : List ℕ). IsFirstValue octets value) starts first) in
     let found = sym refused ∙ ap read is ∙ head_read read one others it those all in
     absurd cc
 same_place read (one ∷ before) [] [] those left rest value other fault also each all der too same first second refused again = absurd (omega (arith, ap length each))
 same_place read (one ∷ before) [] (it ∷ these) those left rest value other fault also each all der too same first second refused again =
-    let starts = sym same ∙ append_assoc one (joined before) left in
-    let is = first_is one (joined before ++ left) other der.0 (subst (λ (octets : List ℕ). IsFirst octets other) starts second) in
+    let starts = sym same ∙ append_assoc one (in_one_row before) left in
+    let is = first_is one (in_one_row before ++ left) other der.0 (subst (λ (octets : List ℕ). IsFirstValue octets other) starts second) in
     let found = sym again ∙ ap read is ∙ head_read read one before it these each in
     absurd cc
 same_place read (one ∷ before) (two ∷ others) [] those left rest value other fault also each all der too same first second refused again = absurd (omega (arith, ap length each))
 same_place read (one ∷ before) (two ∷ others) (it ∷ these) [] left rest value other fault also each all der too same first second refused again = absurd (omega (arith, ap length all))
 same_place read (one ∷ before) (two ∷ others) (it ∷ these) (that ∷ those) left rest value other fault also each all der too same first second refused again =
-    let starts = sym (append_assoc one (joined before) left) ∙ same ∙ append_assoc two (joined others) rest in
-    let front = same_first one (joined before ++ left) two (joined others ++ rest) der.0 too.0 starts in
+    let starts = sym (append_assoc one (in_one_row before) left) ∙ same ∙ append_assoc two (in_one_row others) rest in
+    let front = same_first one (in_one_row before ++ left) two (in_one_row others ++ rest) der.0 too.0 starts in
     let more = same_place read before others these those left rest value other fault also (tail_read read one before it these each) (tail_read read two others that those all) der.1 too.1 front.1 first second refused again in
     (ap (λ (x : List ℕ). x ∷ before) front.0 ∙ ap (λ (xs : List (List ℕ)). two ∷ xs) more.0, more.1)
 
-first_is_one : (octets value other : List ℕ) → IsFirst octets value → IsFirst octets other → value ≡ other
+first_is_one : (octets value other : List ℕ) → IsFirstValue octets value → IsFirstValue octets other → value ≡ other
 first_is_one octets value other (inl (sound, is)) (inl (also, too)) = is ∙ sym too
 first_is_one octets value other (inl (sound, is)) (inr (none, too)) = absurd (none sound)
 first_is_one octets value other (inr (none, is)) (inl (sound, too)) = absurd (none sound)
@@ -160,12 +160,12 @@ first_is_one octets value other (inr (none, is)) (inr (also, too)) = is ∙ sym 
 pub read_one_way : {A F : Type 0} (read : List ℕ → Result A (F × ℕ)) → ReadsDer read → IsReadOneWay read
 read_one_way {A} {F} read reads = record {
   one = λ row values others these those octets is also.
-      let der = are_der read reads values these [] (subst AreOctets (is.row_is ∙ sym (append-nil (joined values))) octets) is.each in
-      let too = are_der read reads others those [] (subst AreOctets (also.row_is ∙ sym (append-nil (joined others))) octets) also.each in
+      let der = are_der read reads values these [] (subst AreOctets (is.row_is ∙ sym (append-nil (in_one_row values))) octets) is.each in
+      let too = are_der read reads others those [] (subst AreOctets (also.row_is ∙ sym (append-nil (in_one_row others))) octets) also.each in
       let same = same_values values others der too (sym is.row_is ∙ also.row_is) in
       (same, same_these {A = A} {E = F × ℕ} these those (sym is.each ∙ ap (map read) same ∙ also.each));
   never_both = λ row values these fault at octets is refused.
-      let der = are_der read reads values these [] (subst AreOctets (is.row_is ∙ sym (append-nil (joined values))) octets) is.each in
+      let der = are_der read reads values these [] (subst AreOctets (is.row_is ∙ sym (append-nil (in_one_row values))) octets) is.each in
       let too = are_der read reads refused.before refused.these refused.left (subst AreOctets refused.begins.row_is octets) refused.begins.each in
       let found = next_read read values these is.each der refused.before too refused.left refused.value (sym is.row_is ∙ refused.begins.row_is) refused.some refused.first in
       never read refused.value found.0 (fault, refused.offset) found.1 refused.refused;
@@ -174,9 +174,9 @@ read_one_way {A} {F} read reads = record {
       let too = are_der read reads also.before also.these also.left (subst AreOctets also.begins.row_is octets) also.begins.each in
       let same = same_place read refused.before also.before refused.these also.these refused.left also.left refused.value also.value (fault, refused.offset) (other, also.offset)
       refused.begins.each also.begins.each der too (sym refused.begins.row_is ∙ also.begins.row_is) refused.first also.first refused.refused also.refused in
-      let value = first_is_one also.left refused.value also.value (subst (λ (octets : List ℕ). IsFirst octets refused.value) same.1 refused.first) also.first in
+      let value = first_is_one also.left refused.value also.value (subst (λ (octets : List ℕ). IsFirstValue octets refused.value) same.1 refused.first) also.first in
       let fault_is = same_fault read refused.value also.value fault other refused.offset also.offset value refused.refused also.refused in
-      (fault_is.0, refused.at_is ∙ ap (λ (n : ℕ). length (joined refused.before) + n) fault_is.1 ∙ ap (λ (before : List (List ℕ)). length (joined before) + also.offset) same.0 ∙ sym also.at_is);
+      (fault_is.0, refused.at_is ∙ ap (λ (n : ℕ). length (in_one_row refused.before) + n) fault_is.1 ∙ ap (λ (before : List (List ℕ)). length (in_one_row before) + also.offset) same.0 ∙ sym also.at_is);
 }
   where
     never : (read : List ℕ → Result A (F × ℕ)) (value : List ℕ) (it : A) (fault : F × ℕ) → read value ≡ Ok it → read value ≡ Err fault → ⊥

@@ -5,7 +5,7 @@ use Rattle.cert.specs.Certificate.{Certificate, certificate}
 use Rattle.cert.specs.declared.fault.CertRule.{CertRule}
 use Rattle.cert.specs.declared.fault.CertRule.TheVariants.{Der}
 use Rattle.relying_rows.specs.Row.{IsRow, IsRefusedAt}
-use Rattle.relying_rows.specs.Statement.{Statement, statement}
+use Rattle.relying_rows.specs.Statement.{RowStatement, statement}
 
 -- the row is the anchor and the certificates of the path, in order
 abbrev pub IsPath : List ℕ → Certificate → List Certificate → Type 0
@@ -13,7 +13,7 @@ IsPath row anchor path = (values : List (List ℕ)) × IsRow certificate row val
 
 -- the row is these statements, each a list or a response
 abbrev pub AreStatements : List ℕ → List (List ℕ) → Type 0
-AreStatements row statements = (these : List Statement) × IsRow statement row statements these
+AreStatements row statements = (these : List RowStatement) × IsRow statement row statements these
 
 abbrev pub IsSomePath : List ℕ → Type 0
 IsSomePath row = (anchor : Certificate) × (path : List Certificate) × IsPath row anchor path

@@ -6,7 +6,7 @@ use Rattle.statements_parts.specs.declared.fault.StatementFault.TheVariants as S
 use Rattle.relying_rows.specs.declared.rows.RowFault.{RowFault}
 use Rattle.relying_rows.specs.declared.rows.RowFault.TheVariants.{Certificates, Statements, Fingerprints, Memory}
 use Rattle.relying_rows.specs.Row.{IsRow, IsRefusedAt}
-use Rattle.relying_rows.specs.Statement.{Statement, statement}
+use Rattle.relying_rows.specs.Statement.{RowStatement, statement}
 use Rattle.relying_rows.specs.Fingerprints.{IsCutShort}
 use Rattle.relying_rows.specs.Contents.{IsPathRefusedAt}
 
@@ -34,7 +34,7 @@ IsPathFault row (Fingerprints at) = ⊥
 IsPathFault row Memory = Unit {0}
 
 abbrev pub IsStatement : List ℕ → Type 0
-IsStatement octets = (it : Statement) × (statement octets ≡ Ok it)
+IsStatement octets = (it : RowStatement) × (statement octets ≡ Ok it)
 
 -- why octets are no statement
 abbrev pub FailsAsStatement : List ℕ → StatementFault → Type 0

@@ -10,7 +10,7 @@ use Rattle.relying_questions.specs.declared.asked.Asked.{Asked}
 use Rattle.relying_rows.specs.declared.places.RowQuestion.{RowQuestion}
 use Rattle.relying_rows.specs.declared.rows.RowFault.{RowFault}
 use Rattle.relying_rows.specs.declared.rows.RowFault.TheVariants as F
-use Rattle.relying_rows.specs.Row.{IsRefusedAt, joined}
+use Rattle.relying_rows.specs.Row.{IsRefusedAt, in_one_row}
 use Rattle.relying_rows.specs.Statement.{statement}
 use Rattle.relying_rows.specs.Contents.{IsPath, IsSomePath, IsPathRefusedAt, AreStatements}
 use Rattle.relying_rows.specs.Places.{AllInRows, octets_of_each, seen_row_questions}
@@ -56,8 +56,8 @@ AreTextsOn certificates statements asked =
 -- if they were read, the parts of the questions stand in the rows that certificates and statements make
 abbrev pub PlacedIfRead : List Certificate → List (List ℕ) → List RowQuestion → Type 0
 PlacedIfRead certificates statements asked =
-    length (joined (octets_of_each certificates)) < 2 ^ 64 → length (joined statements) < 2 ^ 64
-    → AllByRecursion WasRead certificates → AllInRows (joined (octets_of_each certificates)) (joined statements) asked
+    length (in_one_row (octets_of_each certificates)) < 2 ^ 64 → length (in_one_row statements) < 2 ^ 64
+    → AllByRecursion WasRead certificates → AllInRows (in_one_row (octets_of_each certificates)) (in_one_row statements) asked
 
 -- by the statements of a row
 pub record AreQuestionsBy (row : List ℕ) (certificates : List Certificate) (asked : List RowQuestion) : Type 0 where

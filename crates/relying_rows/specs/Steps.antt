@@ -15,8 +15,8 @@ use Rattle.relying_rows.specs.Fingerprints.{ArePrints, IsCutShort, AcceptsPrints
 use Rattle.relying_rows.specs.Contents.{AreStatements, AreSomeStatements}
 use Rattle.relying_rows.specs.Rows.{Rows, query_in}
 
-abbrev pub listed : ListVerifier → Accepts
-listed verifier = λ algorithm key message signature. is_listed verifier (fingerprint_of algorithm key message signature)
+abbrev pub accepted_by_list : ListVerifier → Accepts
+accepted_by_list verifier = λ algorithm key message signature. is_listed verifier (fingerprint_of algorithm key message signature)
 
 abbrev pub IsVerdictOn : Accepts → Rows → List Certificate → List (List ℕ) → Verdict → Type 0
 IsVerdictOn accepts rows certificates statements verdict =

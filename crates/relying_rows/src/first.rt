@@ -1,7 +1,7 @@
 //! The value with which octets begin.
 
 ghost use Rattle.std.specs.Prelude.{◌≡◌, ◌++◌, ◌<◌, length};
-ghost use Rattle.relying_rows.specs.Row.{IsFirst};
+ghost use Rattle.relying_rows.specs.Row.{IsFirstValue};
 
 use der::Header;
 
@@ -10,7 +10,7 @@ use der::Header;
 pub(crate) fn first_value(octets: &[u8]) -> (&[u8], &[u8])
     requires { 0 < length octets.now }
     ensures parts { octets.now ≡ result.0.now ++ result.1.now }
-    ensures first { IsFirst octets.now result.0.now }
+    ensures first { IsFirstValue octets.now result.0.now }
     ensures some { 0 < length result.0.now }
 {
     match Header::read(octets) {

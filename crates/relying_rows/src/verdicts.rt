@@ -5,7 +5,7 @@ ghost use Rattle.cert.specs.Certificate.{seen_certificate};
 ghost use Rattle.relying_texts.specs.View.{seen_question, texts_of};
 ghost use Rattle.relying_rows.specs.Rows.{IsVerdictInRows, IsRowFault, query_in, seen_rows};
 ghost use Rattle.relying_rows.specs.Reading.{IsPrintFault};
-ghost use Rattle.relying_rows.specs.Steps.{IsFaultBehindPath, IsVerdictByPrints, IsVerdictByStatements, IsVerdictOn, listed};
+ghost use Rattle.relying_rows.specs.Steps.{IsFaultBehindPath, IsVerdictByPrints, IsVerdictByStatements, IsVerdictOn, accepted_by_list};
 
 use crate::certificate_row::read_path;
 use crate::print_row::read_prints;
@@ -41,7 +41,7 @@ fn verdict_on(
     certificates: &[Certificate<'_>],
     statements: &[&[u8]],
 ) -> Result<Verdict, AllocError>
-    ensures { IfOk result (IsVerdictOn (listed verifier.now) (seen_rows rows.now)
+    ensures { IfOk result (IsVerdictOn (accepted_by_list verifier.now) (seen_rows rows.now)
         (map seen_certificate certificates.now) (texts_of statements.now)) }
 {
     match certificates.split_first() {

@@ -14,7 +14,7 @@ use Rattle.statements_ocsp.specs.OcspResponse.{OcspResponse, ocsp_response}
 use Rattle.statements_ocsp.specs.Kind.{is_response}
 use Rattle.statements_facts.specs.Fact.{Fact}
 use Rattle.statements_facts.specs.Single.{SingleFact}
-use Rattle.statements.specs.Genuine.{Accepts, ◌then◌, as_refused, FailsUnlessFull}
+use Rattle.statements.specs.Genuine.{Accepts, ◌then◌, as_refused, RefusesUnlessFull}
 use Rattle.statements.specs.Issuer.{identity_of}
 use Rattle.statements.specs.CrlFact.{genuine_list, list_said, of_issuer, slot_of}
 use Rattle.statements.specs.OcspFact.{genuine_response, genuine_statement, response_said, fact_with}
@@ -54,7 +54,7 @@ listed_so : (accepts : Accepts) (issuer : Certificate) (list : CertificateList) 
 listed_so accepts issuer list (Ok x) e = rw e refl
 listed_so accepts issuer list (Err fault) e = rw e refl
 
-none_said : (answer : Result (List SingleFact) StatementFault) (fault : StatementFault) → FailsUnlessFull fault answer → fault ≢ Memory → answer ≡ Err fault
+none_said : (answer : Result (List SingleFact) StatementFault) (fault : StatementFault) → RefusesUnlessFull fault answer → fault ≢ Memory → answer ≡ Err fault
 none_said answer (Refused rule at) fails other = fails
 none_said answer OtherIssuer fails other = fails
 none_said answer BadSignature fails other = fails
@@ -65,7 +65,7 @@ none_said answer Memory fails other = absurd (other refl)
 abbrev facts_given : Certificate → Result (List SingleFact) StatementFault → List Fact
 facts_given issuer said = facts_or_none (said then λ singles. Ok (map (fact_with (identity_of issuer)) singles))
 
-pub response_tells_nothing : (accepts : Accepts) (issuer : Certificate) (response : OcspResponse) (fault : StatementFault) → FailsUnlessFull fault (response_said accepts issuer response) → fault ≢ Memory → [] ≡ facts_of_response accepts issuer response
+pub response_tells_nothing : (accepts : Accepts) (issuer : Certificate) (response : OcspResponse) (fault : StatementFault) → RefusesUnlessFull fault (response_said accepts issuer response) → fault ≢ Memory → [] ≡ facts_of_response accepts issuer response
 response_tells_nothing accepts issuer response fault fails other =
     sym (ap (facts_given issuer) (none_said (response_said accepts issuer response) fault fails other))
 

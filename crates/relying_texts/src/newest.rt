@@ -100,8 +100,6 @@ pub(crate) fn list_answer(
         (held_after newer_crl None
         (filter_map (crl_for (crl_slot_of issuer.now scope)) (facts_in_all genuine.now))) }
 {
-    match newest_list(genuine, issuer, scope) {
-        None => None,
-        Some(list) => Some(answer_of(list, serial)),
-    }
+    let list = newest_list(genuine, issuer, scope)?;
+    Some(answer_of(list, serial))
 }

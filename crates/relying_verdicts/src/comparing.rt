@@ -141,14 +141,9 @@ fn compare_held<S: Alter, D: Alter>(
     ensures survives { CommitsNothing (inside S.Store one.old) (inside S.Store one.new) }
     ensures other_survives { CommitsNothing (inside D.Store other.old) (inside D.Store other.new) }
 {
-    let held = match evidence_on(alloc, one, query) {
-        Ok(held) => held,
-        Err(fault) => return Err(fault),
-    };
-    match evidence_on(alloc, other, query) {
-        Ok(others) => Ok(compare_at(query, held.as_slice(), others.as_slice())),
-        Err(fault) => Err(fault),
-    }
+    let held = evidence_on(alloc, one, query)?;
+    let others = evidence_on(alloc, other, query)?;
+    Ok(compare_at(query, held.as_slice(), others.as_slice()))
 }
 
 /// Compares the verdicts on a path by what two stores hold, under one relation of signatures. The path is validated first; the stores are
@@ -173,10 +168,7 @@ pub fn compare<V: Verifier, S: Alter, D: Alter>(
     ensures survives { CommitsNothing (inside S.Store one.old) (inside S.Store one.new) }
     ensures other_survives { CommitsNothing (inside D.Store other.old) (inside D.Store other.new) }
 {
-    let outcome = match outcome_of(alloc, verifier, query) {
-        Ok(outcome) => outcome,
-        Err(_) => return Err(Fault::Memory),
-    };
+    let outcome = outcome_of(alloc, verifier, query)?;
     match outcome {
         Outcome::Bad(number, reason) => Ok(Comparison::Same(Verdict::Invalid(number, reason))),
         Outcome::Good => compare_held(alloc, one, other, query),

@@ -43,15 +43,11 @@ fn has_list(crl: Option<HeldCrl>, may_sign: bool, moment: i64) -> bool
 fn crl_reason(crl: Option<HeldCrl>, may_sign: bool, moment: i64) -> Option<u8>
     ensures { result ≡ crl_reason moment may_sign (option_map seen_crl crl) }
 {
-    match crl {
-        None => None,
-        Some(crl) => {
-            if is_list_counted(&crl, may_sign, moment) {
-                crl.reason
-            } else {
-                None
-            }
-        }
+    let crl = crl?;
+    if is_list_counted(&crl, may_sign, moment) {
+        crl.reason
+    } else {
+        None
     }
 }
 
@@ -76,15 +72,11 @@ fn reason_of(status: Status) -> Option<u8>
 fn ocsp_reason(said: Option<HeldStatus>, moment: i64) -> Option<u8>
     ensures { result ≡ ocsp_reason moment (option_map seen_held_status said) }
 {
-    match said {
-        None => None,
-        Some(said) => {
-            if is_response_counted(&said, moment) {
-                reason_of(said.status)
-            } else {
-                None
-            }
-        }
+    let said = said?;
+    if is_response_counted(&said, moment) {
+        reason_of(said.status)
+    } else {
+        None
     }
 }
 

@@ -3,7 +3,7 @@
 ghost use Rattle.std.specs.Prelude.{◌≡◌, ◌≢◌, [], IsTrue, IfOk, length, map, vec_len};
 ghost use Rattle.sqlite.specs.State.{HasCleanDisk};
 ghost use Rattle.cert.specs.Certificate.{seen_certificate};
-ghost use Rattle.statements_facts.specs.Fact.{issuer_of as seen_issuer};
+ghost use Rattle.statements_facts.specs.Fact.{seen_issuer};
 ghost use Rattle.store_sql.specs.Inside.{IsInTransaction, KeepsReference, SucceedsOnlyIfOpen, inside};
 ghost use Rattle.store_sql.specs.Statements.{CommitsNothing};
 ghost use Rattle.store_maps.specs.LooksUp.{LooksUpInside, CausedOverStore};
@@ -103,18 +103,13 @@ fn evidence_of<S: Alter>(
     ensures open { SucceedsOnlyIfOpen S.Store tx.old tx.new result }
     ensures survives { CommitsNothing (inside S.Store tx.old) (inside S.Store tx.new) }
 {
-    let issuer = match issuer_of(alloc, link.issuer) {
-        Ok(issuer) => issuer,
-        Err(_) => return Err(Fault::Memory),
-    };
-    match look_up(tx, &issuer, link.certificate) {
-        Ok(answers) => Ok(Evidence {
-            number: link.number,
-            may_sign_crls: may_sign_crls(link),
-            answers,
-        }),
-        Err(fault) => Err(Fault::Store(fault)),
-    }
+    let issuer = issuer_of(alloc, link.issuer)?;
+    let answers = look_up(tx, &issuer, link.certificate)?;
+    Ok(Evidence {
+        number: link.number,
+        may_sign_crls: may_sign_crls(link),
+        answers,
+    })
 }
 
 /// What bears on the certificates of a path, one after the other: of each one look-up in a slot, and the key of the issuer's name once.
@@ -141,13 +136,8 @@ pub(crate) fn evidence_on<S: Alter>(
             issuer,
             certificate,
         };
-        let it = match evidence_of(alloc, tx, &link) {
-            Ok(it) => it,
-            Err(fault) => return Err(fault),
-        };
-        if all.push(it).is_err() {
-            return Err(Fault::Memory);
-        }
+        let it = evidence_of(alloc, tx, &link)?;
+        all.push(it)?;
         issuer = certificate;
     }
     Ok(all)

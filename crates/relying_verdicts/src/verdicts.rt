@@ -57,15 +57,12 @@ pub fn verdict<V: Verifier, S: Alter>(
         (inside S.Store tx.old).is_open) }
     ensures survives { CommitsNothing (inside S.Store tx.old) (inside S.Store tx.new) }
 {
-    let outcome = match outcome_of(alloc, verifier, query) {
-        Ok(outcome) => outcome,
-        Err(_) => return Err(Fault::Memory),
-    };
+    let outcome = outcome_of(alloc, verifier, query)?;
     match outcome {
         Outcome::Bad(number, reason) => Ok(Verdict::Invalid(number, reason)),
-        Outcome::Good => match evidence_on(alloc, tx, query) {
-            Ok(evidence) => Ok(verdict_at(query, evidence.as_slice())),
-            Err(fault) => Err(fault),
-        },
+        Outcome::Good => {
+            let evidence = evidence_on(alloc, tx, query)?;
+            Ok(verdict_at(query, evidence.as_slice()))
+        }
     }
 }

@@ -14,10 +14,10 @@ use Rattle.statements.specs.Issuer.{identity_of}
 use Rattle.statements.specs.CrlFact.{genuine_list}
 use Rattle.statements.specs.Responder.{Signer, signer_of}
 use Rattle.statements.specs.OcspFact.{signer_or_fault, or_nothing, singles_of, genuine_response, response_said, genuine_statement, fact_with}
-use Rattle.statements.specs.Genuine.{Accepts, ◌then◌, as_refused, FailsUnlessFull, AnswersUnlessFull}
+use Rattle.statements.specs.Genuine.{Accepts, ◌then◌, as_refused, RefusesUnlessFull, AnswersUnlessFull}
 
 -- what is not read is refused so
-pub not_read : {Y Z : Type 0} (fault : StatementFault) (walk : Result Y (StatementRule × ℕ)) (next : Y → Result Z StatementFault) → reading.FailsUnlessFull fault walk → FailsUnlessFull fault (as_refused walk then next)
+pub not_read : {Y Z : Type 0} (fault : StatementFault) (walk : Result Y (StatementRule × ℕ)) (next : Y → Result Z StatementFault) → reading.FailsUnlessFull fault walk → RefusesUnlessFull fault (as_refused walk then next)
 not_read (Refused rule at) walk next fails = rw fails refl
 not_read OtherIssuer walk next fails = absurd fails
 not_read BadSignature walk next fails = absurd fails
@@ -26,7 +26,7 @@ not_read NothingForIssuer walk next fails = absurd fails
 not_read Memory walk next fails = tt
 
 -- the first fails
-pub first_fails : {Y Z : Type 0} (fault : StatementFault) (first : Result Y StatementFault) (next : Y → Result Z StatementFault) → FailsUnlessFull fault first → FailsUnlessFull fault (first then next)
+pub first_fails : {Y Z : Type 0} (fault : StatementFault) (first : Result Y StatementFault) (next : Y → Result Z StatementFault) → RefusesUnlessFull fault first → RefusesUnlessFull fault (first then next)
 first_fails (Refused rule at) first next fails = rw fails refl
 first_fails OtherIssuer first next fails = rw fails refl
 first_fails BadSignature first next fails = rw fails refl
@@ -39,7 +39,7 @@ pub was_read : {Y : Type 0} (walk : Result Y (StatementRule × ℕ)) (x : Y) →
 was_read walk x e = rw e refl
 
 -- the second fails
-pub next_fails : {Y Z : Type 0} (fault : StatementFault) (first : Result Y StatementFault) (x : Y) (next : Y → Result Z StatementFault) → first ≡ Ok x → FailsUnlessFull fault (next x) → FailsUnlessFull fault (first then next)
+pub next_fails : {Y Z : Type 0} (fault : StatementFault) (first : Result Y StatementFault) (x : Y) (next : Y → Result Z StatementFault) → first ≡ Ok x → RefusesUnlessFull fault (next x) → RefusesUnlessFull fault (first then next)
 next_fails fault first x next e fails = rw e fails
 
 -- what is answered as it is
@@ -54,7 +54,7 @@ same_answer (Err Memory) walk e = tt
 
 -- ---- responses
 
-pub signer_refused : (accepts : Accepts) (issuer : Certificate) (response : OcspResponse) (fault : StatementFault) → FailsUnlessFull fault (signer_or_fault (signer_of accepts issuer response)) → FailsUnlessFull fault (response_said accepts issuer response)
+pub signer_refused : (accepts : Accepts) (issuer : Certificate) (response : OcspResponse) (fault : StatementFault) → RefusesUnlessFull fault (signer_or_fault (signer_of accepts issuer response)) → RefusesUnlessFull fault (response_said accepts issuer response)
 signer_refused accepts issuer response fault fails =
     first_fails fault (signer_or_fault (signer_of accepts issuer response)) (λ signer. or_nothing (some_singles (singles_of issuer response signer))) fails
 
@@ -62,7 +62,7 @@ pub singles_are : (accepts : Accepts) (issuer : Certificate) (response : OcspRes
 singles_are accepts issuer response signer singles found are = rw (found, are) refl
 
 module _ (accepts : Accepts) (issuer : Certificate) (octets : List ℕ) where
-  pub response_refused : (fault : StatementFault) → reading.FailsUnlessFull fault (ocsp_response octets) → FailsUnlessFull fault (genuine_response accepts issuer octets)
+  pub response_refused : (fault : StatementFault) → reading.FailsUnlessFull fault (ocsp_response octets) → RefusesUnlessFull fault (genuine_response accepts issuer octets)
   unfolding genuine_response
   response_refused fault fails = not_read fault (ocsp_response octets) (λ response. signer_or_fault (signer_of accepts issuer response) then λ signer. or_nothing (some_singles (singles_of issuer response signer))) fails
 
@@ -73,11 +73,11 @@ module _ (accepts : Accepts) (issuer : Certificate) (octets : List ℕ) where
 
   -- ---- statements of both kinds
 
-  pub response_fails : (fault : StatementFault) → is_response octets ≡ true → FailsUnlessFull fault (genuine_response accepts issuer octets) → FailsUnlessFull fault (genuine_statement accepts issuer octets)
+  pub response_fails : (fault : StatementFault) → is_response octets ≡ true → RefusesUnlessFull fault (genuine_response accepts issuer octets) → RefusesUnlessFull fault (genuine_statement accepts issuer octets)
   unfolding genuine_statement
   response_fails fault kind fails = rw kind (first_fails fault (genuine_response accepts issuer octets) (λ singles. Ok (map (fact_with (identity_of issuer)) singles)) fails)
 
-  pub list_fails : (fault : StatementFault) → is_response octets ≡ false → FailsUnlessFull fault (genuine_list accepts issuer octets) → FailsUnlessFull fault (genuine_statement accepts issuer octets)
+  pub list_fails : (fault : StatementFault) → is_response octets ≡ false → RefusesUnlessFull fault (genuine_list accepts issuer octets) → RefusesUnlessFull fault (genuine_statement accepts issuer octets)
   unfolding genuine_statement
   list_fails fault kind fails = rw kind (first_fails fault (genuine_list accepts issuer octets) (λ said. Ok (Fact.OfCrl said.0 said.1 ∷ [])) fails)
 

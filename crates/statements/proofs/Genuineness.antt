@@ -9,7 +9,7 @@ use Rattle.statements_parts.specs.declared.fault.StatementFault.{StatementFault}
 use Rattle.statements_parts.specs.declared.fault.StatementFault.TheVariants.{Refused, OtherIssuer, BadSignature, NoSigner, NothingForIssuer, Memory}
 use Rattle.statements_facts.specs.Statement.{CrlSlot, CrlFact}
 use Rattle.statements_parts.specs.Fault as reading
-use Rattle.statements.specs.Genuine.{Accepts, ◌then◌, as_refused, or_else, FailsUnlessFull, OnFull}
+use Rattle.statements.specs.Genuine.{Accepts, ◌then◌, as_refused, or_else, RefusesUnlessFull, OnFull}
 use Rattle.statements.specs.CrlFact.{IsCrlFact, GenuineListsAreFacts, genuine_list, list_said, of_issuer, is_signed, slot_of, fact_of_list}
 
 pub then_ok : {A B : Type 0} (r : Result A StatementFault) (f : A → Result B StatementFault) (y : B) → (r then f) ≡ Ok y → (x : A) × (r ≡ Ok x) × (f x ≡ Ok y)
@@ -66,7 +66,7 @@ lists_are_facts accepts issuer octets slot fact = (is_fact accepts issuer octets
 
 -- ---- what the code answers
 
-pub list_refused : (accepts : Accepts) (issuer : Certificate) (octets : List ℕ) (fault : StatementFault) → reading.FailsUnlessFull fault (certificate_list octets) → FailsUnlessFull fault (genuine_list accepts issuer octets)
+pub list_refused : (accepts : Accepts) (issuer : Certificate) (octets : List ℕ) (fault : StatementFault) → reading.FailsUnlessFull fault (certificate_list octets) → RefusesUnlessFull fault (genuine_list accepts issuer octets)
 unfolding genuine_list
 list_refused accepts issuer octets (Refused rule at) fails = rw fails refl
 list_refused accepts issuer octets OtherIssuer fails = absurd fails
@@ -75,7 +75,7 @@ list_refused accepts issuer octets NoSigner fails = absurd fails
 list_refused accepts issuer octets NothingForIssuer fails = absurd fails
 list_refused accepts issuer octets Memory fails = tt
 
-pub issuer_refused : (accepts : Accepts) (issuer : Certificate) (list : CertificateList) (fault : StatementFault) → of_issuer accepts issuer list ≡ Err fault → FailsUnlessFull fault (list_said accepts issuer list)
+pub issuer_refused : (accepts : Accepts) (issuer : Certificate) (list : CertificateList) (fault : StatementFault) → of_issuer accepts issuer list ≡ Err fault → RefusesUnlessFull fault (list_said accepts issuer list)
 issuer_refused accepts issuer list (Refused rule at) fails = rw fails refl
 issuer_refused accepts issuer list OtherIssuer fails = rw fails refl
 issuer_refused accepts issuer list BadSignature fails = rw fails refl

@@ -22,13 +22,13 @@ or_else true fault = Ok tt
 or_else false fault = Err fault
 
 -- What a function that takes memory returned, seen by view, is this, unless memory was refused.
-abbrev pub FailsUnlessFull : {Y : Type 0} → StatementFault → Result Y StatementFault → Type 0
-FailsUnlessFull Memory answer = Unit {0}
-FailsUnlessFull fault answer = answer ≡ Err fault
+abbrev pub RefusesUnlessFull : {Y : Type 0} → StatementFault → Result Y StatementFault → Type 0
+RefusesUnlessFull Memory answer = Unit {0}
+RefusesUnlessFull fault answer = answer ≡ Err fault
 
 abbrev pub AnswersUnlessFull : {X Y : Type 0} → (X → Y) → Result X StatementFault → Result Y StatementFault → Type 0
 AnswersUnlessFull view (Ok x) answer = answer ≡ Ok (view x)
-AnswersUnlessFull view (Err fault) answer = FailsUnlessFull fault answer
+AnswersUnlessFull view (Err fault) answer = RefusesUnlessFull fault answer
 
 -- this holds if memory was refused
 abbrev pub OnFull : {X : Type 0} → Result X StatementFault → Type 0 → Type 0

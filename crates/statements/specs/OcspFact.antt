@@ -37,16 +37,16 @@ abbrev pub day : ℤ
 day = pos 86400
 
 -- A single response without nextUpdate counts for a day from thisUpdate on, which is a choice of the profile.
-abbrev pub end_of : SingleResponse → ℤ
-end_of single = end_in single.this_update single.next_update where
+abbrev pub counts_until : SingleResponse → ℤ
+counts_until single = end_in single.this_update single.next_update where
   end_in : ℤ → Option ℤ → ℤ
   end_in this_update None = this_update +ℤ day
   end_in this_update (Some next_update) = next_update
 
 -- It counts while both the statement and the delegate's certificate do.
 abbrev pub window_of : Signer → SingleResponse → Window
-window_of the_issuer single = record { from = single.this_update; until = end_of single }
-window_of (delegate c) single = record { from = int_max single.this_update c.validity.not_before; until = int_min (end_of single) c.validity.not_after }
+window_of the_issuer single = record { from = single.this_update; until = counts_until single }
+window_of (delegate c) single = record { from = int_max single.this_update c.validity.not_before; until = int_min (counts_until single) c.validity.not_after }
 
 abbrev pub status_of : CertStatus → Status
 status_of said.Good = Good

@@ -9,12 +9,12 @@ use Rattle.statements_crl.specs.declared.entry_list.Entries as entries
 use Rattle.statements_crl.specs.declared.list.Crl as list
 use Rattle.statements_ocsp.specs.OcspResponse.{certs_left, seen_response}
 use Rattle.statements_ocsp.specs.Responder.{seen_responder}
-use Rattle.statements_ocsp.specs.Single.{seen_single}
+use Rattle.statements_ocsp.specs.Single.{seen_single_response}
 use Rattle.statements_ocsp.specs.declared.responder.ResponderId as responder
 use Rattle.statements_ocsp.specs.declared.response.Response as response
 use Rattle.statements_ocsp.specs.declared.single.SingleResponse as single
 use Rattle.statements_parts.specs.declared.fault.StatementFault.{StatementFault}
-use Rattle.statements_facts.specs.Fact.{issuer_of}
+use Rattle.statements_facts.specs.Fact.{seen_issuer}
 use Rattle.statements_facts.specs.Listed.{ListedSerial}
 use Rattle.statements_facts.specs.Single.{SingleFact}
 use Rattle.statements_facts.specs.Statement.{CrlSlot, Window}
@@ -29,7 +29,7 @@ use Rattle.statements.specs.declared.signer.Signer as signer
 
 -- the issuer of facts is whom the certificate is of
 abbrev pub IsSubjectOf : certificate.Certificate → facts.Issuer → Type 0
-IsSubjectOf certificate issuer = issuer_of issuer ≡ identity_of (seen_certificate certificate)
+IsSubjectOf certificate issuer = seen_issuer issuer ≡ identity_of (seen_certificate certificate)
 
 -- ---- lists
 
@@ -76,7 +76,7 @@ MayBeSigned accepts issuer response =
     DoesNotSign accepts issuer response → certs_left response.certs ≢ []
 
 abbrev pub window_of_seen : signer.Signer → single.SingleResponse → Window
-window_of_seen signer single = window_of (seen_signer signer) (seen_single single)
+window_of_seen signer single = window_of (seen_signer signer) (seen_single_response single)
 
 abbrev pub single_fact_seen : signer.Signer → ℤ → single.SingleResponse → SingleFact
-single_fact_seen signer produced_at single = single_fact (seen_signer signer) produced_at (seen_single single)
+single_fact_seen signer produced_at single = single_fact (seen_signer signer) produced_at (seen_single_response single)

@@ -4,8 +4,8 @@ ghost use Rattle.std.specs.Prelude.{◌≡◌, IfOk, map};
 ghost use Rattle.cert.specs.Certificate.{seen_certificate};
 ghost use Rattle.statements_facts.specs.Single.{seen_single};
 ghost use Rattle.statements_ocsp.specs.OcspResponse.{seen_response};
-ghost use Rattle.statements_ocsp.specs.Single.{seen_single as seen_response_to};
-ghost use Rattle.statements.specs.OcspFact.{end_of, singles_of, speaks_with, status_of};
+ghost use Rattle.statements_ocsp.specs.Single.{seen_single_response as seen_response_to};
+ghost use Rattle.statements.specs.OcspFact.{counts_until, singles_of, speaks_with, status_of};
 ghost use Rattle.statements.specs.Seen.{single_fact_seen, window_of_seen};
 ghost use Rattle.statements.specs.SignerView.{seen_signer};
 
@@ -33,7 +33,7 @@ fn speaks_of_issuer(key_hash: &[u8], single: &SingleResponse<'_>) -> bool
 
 /// Until when the single response counts.
 fn end(single: &SingleResponse<'_>) -> i64
-    ensures { result ≡ end_of (seen_response_to single.now) }
+    ensures { result ≡ counts_until (seen_response_to single.now) }
 {
     match single.next_update {
         Some(next_update) => next_update,

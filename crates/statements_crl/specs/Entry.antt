@@ -75,12 +75,12 @@ entries_again [] = []
 entries_again (value ∷ values) = and_then (entry_again value) (entries_again values)
 
 -- the entries that are still to be handed out
-abbrev pub entries_in : Option Cursor → List Entry
-entries_in None = []
-entries_in (Some cursor) = entries_again (left cursor).values
+abbrev pub entries_to_come : Option Cursor → List Entry
+entries_to_come None = []
+entries_to_come (Some cursor) = entries_again (left cursor).values
 
 abbrev pub entries_left : walk.Entries → List Entry
-entries_left walk = entries_in walk.members
+entries_left walk = entries_to_come walk.members
 
 -- the first of the entries with this serial number, where there is one: its reason
 abbrev pub reason_listed : List Entry → List ℕ → Option ℕ

@@ -7,7 +7,7 @@ use Rattle.statements_facts.specs.declared.counts.TakenAs.{TakenAs}
 use Rattle.statements_facts.specs.declared.counts.TakenAs.TheVariants.{Stored, Kept, Contradicted}
 use Rattle.statements_facts.specs.declared.counts.Counts.{Counts}
 use Rattle.statements_facts.specs.Newest.{newer_crl, newer_ocsp}
-use Rattle.statements_facts.specs.Coming.{is_stored, IsTakenAs, ComeTo, after_one, after_all, same_outcome, how_often, number_of, AreCounts, KeptLeaveAll}
+use Rattle.statements_facts.specs.Coming.{is_stored, IsTakenAs, ComeTo, after_one, after_all, same_outcome, how_often, count_taken_as, AreCounts, KeptLeaveAll}
 use Rattle.statements_facts.proofs.ComingLaws.{comes_as_one, takes_both}
 
 pub one_more_taken : (held : Holdings) (facts : List Fact) (fact : Fact) → after_one (after_all held facts) fact ≡ after_all held (facts ++ fact ∷ [])
@@ -29,11 +29,11 @@ one_more_often each (o ∷ outcomes) outcome =
     turned : (a b c : ℕ) → (a + b) + c ≡ (a + c) + b
     turned a b c = omega arith
 
-pub nothing_counted : (held : Holdings) (counts : Counts) → ((outcome : TakenAs) → number_of outcome counts ≡ 0) → AreCounts held [] counts
+pub nothing_counted : (held : Holdings) (counts : Counts) → ((outcome : TakenAs) → count_taken_as outcome counts ≡ 0) → AreCounts held [] counts
 nothing_counted held counts none = record { outcomes = []; come = tt; counted = none }
 
 pub one_more_counted : (held : Holdings) (facts : List Fact) (counts after : Counts) (fact : Fact) (outcome : TakenAs) → AreCounts held facts counts → IsTakenAs (after_all held facts) fact outcome
-    → ((each : TakenAs) → number_of each after ≡ number_of each counts + (if same_outcome each outcome then 1 else 0)) → AreCounts held (facts ++ fact ∷ []) after
+    → ((each : TakenAs) → count_taken_as each after ≡ count_taken_as each counts + (if same_outcome each outcome then 1 else 0)) → AreCounts held (facts ++ fact ∷ []) after
 one_more_counted held facts counts after fact outcome so one added = record {
   outcomes = so.outcomes ++ outcome ∷ [];
   come = comes_then held facts so.outcomes fact outcome so.come one;

@@ -77,14 +77,14 @@ abbrev pub how_often : TakenAs → List TakenAs → ℕ
 how_often outcome [] = 0
 how_often outcome (other ∷ others) = how_often outcome others + (if same_outcome outcome other then 1 else 0)
 
-abbrev pub number_of : TakenAs → Counts → ℕ
-number_of Stored counts = counts.stored
-number_of Kept counts = counts.kept
-number_of Contradicted counts = counts.contradicted
+abbrev pub count_taken_as : TakenAs → Counts → ℕ
+count_taken_as Stored counts = counts.stored
+count_taken_as Kept counts = counts.kept
+count_taken_as Contradicted counts = counts.contradicted
 
 -- the counts after one more of these outcomes, whose number is one greater, while the others stay
 abbrev pub HaveOneMore : TakenAs → Counts → Counts → Type 0
-HaveOneMore outcome before after = (each : TakenAs) → number_of each after ≡ number_of each before + (if same_outcome each outcome then 1 else 0)
+HaveOneMore outcome before after = (each : TakenAs) → count_taken_as each after ≡ count_taken_as each before + (if same_outcome each outcome then 1 else 0)
 
 abbrev pub total_of : Counts → ℕ
 total_of counts = counts.stored + counts.kept + counts.contradicted
@@ -93,7 +93,7 @@ total_of counts = counts.stored + counts.kept + counts.contradicted
 pub record AreCounts (held : Holdings) (facts : List Fact) (counts : Counts) : Type 0 where
   pub outcomes : List TakenAs
   pub come : ComeTo held facts outcomes
-  pub counted : (outcome : TakenAs) → number_of outcome counts ≡ how_often outcome outcomes
+  pub counted : (outcome : TakenAs) → count_taken_as outcome counts ≡ how_often outcome outcomes
 
 -- ---- what is held then
 

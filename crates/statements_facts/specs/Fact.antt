@@ -8,8 +8,8 @@ use Rattle.statements_facts.specs.Listed.{first_reason}
 use Rattle.statements_facts.specs.Single.{SingleFact}
 use Rattle.statements_facts.specs.Statement.{IssuerIdentity, CrlSlot, CrlFact, OcspSlot, OcspFact}
 
-abbrev pub issuer_of : Issuer → IssuerIdentity
-issuer_of issuer = record { name = issuer.name; key_info = issuer.key_info.now }
+abbrev pub seen_issuer : Issuer → IssuerIdentity
+seen_issuer issuer = record { name = issuer.name; key_info = issuer.key_info.now }
 
 -- a fact with the slot that it is for
 pub data Fact : Type 0 where
@@ -17,7 +17,7 @@ pub data Fact : Type 0 where
   OfResponse : OcspSlot → OcspFact → Fact
 
 abbrev pub crl_slot : CrlFacts → CrlSlot
-crl_slot facts = record { issuer = issuer_of facts.issuer; scope = facts.scope }
+crl_slot facts = record { issuer = seen_issuer facts.issuer; scope = facts.scope }
 
 abbrev pub crl_fact : CrlFacts → CrlFact
 crl_fact facts = record {
@@ -32,4 +32,4 @@ ocsp_slot issuer single = record { issuer = issuer; name_hash = single.name_hash
 -- the facts of a statement, in order
 abbrev pub facts_in : Facts → List Fact
 facts_in (Crl facts) = Fact.OfCrl (crl_slot facts) (crl_fact facts) ∷ []
-facts_in (Ocsp facts) = map (λ single. Fact.OfResponse (ocsp_slot (issuer_of facts.issuer) single) single.fact) facts.singles
+facts_in (Ocsp facts) = map (λ single. Fact.OfResponse (ocsp_slot (seen_issuer facts.issuer) single) single.fact) facts.singles

@@ -1,7 +1,7 @@
 //! What becomes of the facts of a delivery.
 
 ghost use Rattle.std.specs.Prelude.{◌≡◌, ◌+◌, ◌<◌};
-ghost use Rattle.statements_facts.specs.Coming.{HaveOneMore, number_of, total_of};
+ghost use Rattle.statements_facts.specs.Coming.{HaveOneMore, count_taken_as, total_of};
 
 /// What becomes of a fact that comes to a store.
 #[derive(Clone, Copy, Debug, PartialEq, Eq)]
@@ -25,7 +25,7 @@ pub struct Counts {
 impl Counts {
     /// The counts of no facts.
     pub fn none() -> Counts
-        ensures counted { (outcome : _) → number_of outcome result ≡ 0 }
+        ensures counted { (outcome : _) → count_taken_as outcome result ≡ 0 }
         ensures total { total_of result ≡ 0 }
     {
         Counts {

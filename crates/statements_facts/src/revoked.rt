@@ -6,7 +6,7 @@ ghost use Rattle.statements_facts.specs.Listed.{IsAscending, first_reason, seen_
 use crate::by_prefix::{
     arranged_by_prefix, beside_prefixes, prefixes_ascend, sorted_by_prefix, without_prefixes,
 };
-use std::alloc::AllocError;
+use std::alloc::{AllocError, Global};
 use std::marker::Model;
 
 /// A serial number that a list revokes, with the number of its reason (RFC 5280, 5.3.1).
@@ -103,6 +103,11 @@ impl<'a> RevokedSerials<'a> {
     {
         let listed = each_once(listed)?;
         Ok(RevokedSerials { listed })
+    }
+
+    /// Where the entries lie.
+    pub fn allocator(&self) -> Global {
+        *self.listed.allocator()
     }
 
     /// The entries, ascending by serial number.

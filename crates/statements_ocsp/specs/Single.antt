@@ -23,12 +23,12 @@ pub record SingleResponse : Type 0 where
   pub this_update : ℤ
   pub next_update : Option ℤ
 
-abbrev pub seen_single : code.SingleResponse → SingleResponse
-seen_single read = record { id = seen_id read.id; status = read.status; this_update = read.this_update; next_update = read.next_update }
+abbrev pub seen_single_response : code.SingleResponse → SingleResponse
+seen_single_response read = record { id = seen_id read.id; status = read.status; this_update = read.this_update; next_update = read.next_update }
 
 -- the fields that were read, and what is left behind them
 abbrev pub seen_fields : code.SingleResponse × Cursor → SingleResponse × Members
-seen_fields read = (seen_single read.0, left read.1)
+seen_fields read = (seen_single_response read.0, left read.1)
 
 -- nextUpdate [0] EXPLICIT GeneralizedTime OPTIONAL
 abbrev pub next_update_of : Option Place → Members → Result (Option ℤ × Members) (StatementRule × ℕ)

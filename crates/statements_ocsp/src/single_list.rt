@@ -7,7 +7,7 @@ ghost use Rattle.statements_parts.specs.Fault.{GivesUnlessFull};
 ghost use Rattle.statements_parts.specs.Steps.{HandsOutFirst, StepGivesUnlessFull};
 ghost use Rattle.statements_parts.specs.declared.fault.StatementRule.TheVariants.{TooManySingles};
 ghost use Rattle.statements_ocsp.specs.OcspResponse.{next_singles};
-ghost use Rattle.statements_ocsp.specs.Single.{checked, seen_single, single_after, singles, singles_left};
+ghost use Rattle.statements_ocsp.specs.Single.{checked, seen_single_response, single_after, singles, singles_left};
 
 use crate::single::SingleResponse;
 use asn::{Cursor, SEQUENCE, Tlv};
@@ -26,7 +26,8 @@ pub struct Singles<'a> {
 impl<'a> Singles<'a> {
     /// Takes the next single response; `None` if none is left.
     pub fn next(&mut self) -> Option<SingleResponse<'a>>
-        ensures { HandsOutFirst seen_single (singles_left self.old) (singles_left self.new) result }
+        ensures { HandsOutFirst seen_single_response (singles_left self.old)
+            (singles_left self.new) result }
     {
         let mut behind = self.members;
         let value = behind.next()?;
@@ -56,7 +57,8 @@ fn read_after<'a>(
     before: usize,
     value: Tlv<'a>,
 ) -> Result<SingleResponse<'a>, StatementFault>
-    ensures walk { GivesUnlessFull seen_single result (single_after before (seen_tlv value.entry)) }
+    ensures walk { GivesUnlessFull seen_single_response result
+        (single_after before (seen_tlv value.entry)) }
     ensures room { OnOk result (before < 256) }
 {
     value.is_a(SEQUENCE, StatementRule::Layout)?;

@@ -5,7 +5,7 @@ ghost use Rattle.statements_parts.specs.Fault.{GivesUnlessFull};
 ghost use Rattle.statements_parts.specs.Parts.{next_read};
 ghost use Rattle.asn.specs.Walk.{StepGives};
 ghost use Rattle.statements_ocsp.specs.CertificateId.{cert_id, seen_id};
-ghost use Rattle.statements_ocsp.specs.Single.{next_update, seen_fields, seen_single, single, single_again, single_fields};
+ghost use Rattle.statements_ocsp.specs.Single.{next_update, seen_fields, seen_single_response, single, single_again, single_fields};
 
 use crate::cert_id::CertId;
 use crate::cert_status::CertStatus;
@@ -61,7 +61,7 @@ impl<'a> SingleResponse<'a> {
     /// The single response that the value is, or the first fault.
     #[tactic(auto, unfolding(crate::specs::Single::single))]
     pub(crate) fn read(alloc: Global, value: Tlv<'a>) -> Result<SingleResponse<'a>, StatementFault>
-        ensures { GivesUnlessFull seen_single result (single (seen_tlv value.entry)) }
+        ensures { GivesUnlessFull seen_single_response result (single (seen_tlv value.entry)) }
     {
         let (read, behind) = SingleResponse::fields(value)?;
         let mut members = behind;
@@ -73,7 +73,7 @@ impl<'a> SingleResponse<'a> {
     /// The same of a single response that was read once, without memory.
     #[tactic(auto, unfolding(crate::specs::Single::single_again))]
     pub(crate) fn again(value: Tlv<'a>) -> Result<SingleResponse<'a>, Refusal>
-        ensures { Gives seen_single result (single_again (seen_tlv value.entry)) }
+        ensures { Gives seen_single_response result (single_again (seen_tlv value.entry)) }
     {
         let (read, _) = SingleResponse::fields(value)?;
         Ok(read)

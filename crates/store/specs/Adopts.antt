@@ -20,9 +20,10 @@ use Rattle.store_maps.specs.LooksUp.{IsCausedOverStore}
 use Rattle.sqlite_trees.specs.Tree.{Trees}
 use Rattle.store_taking.specs.Delivery.{PutsFacts, AllOrNothing}
 use Rattle.store_taking.specs.Room.{PutsForCause}
-use Rattle.store_adoption.specs.Creates.{IsCreated, MayLeaveEmptyStore}
+use Rattle.store_adoption.specs.Creates.{CreateIsCaused, IsCreated, MayLeaveEmptyStore}
 use Rattle.store_adoption.specs.Inspects.{HasTooMany, IsStore, TablesAreInOrder, LacksVersion1, LacksVersion2}
 use Rattle.store_adoption.specs.Version1.{IsVersion1Of, IsVersion1}
+use Rattle.store_migration.specs.Migrates.{FitsVersion2}
 
 -- nothing changes and the database is a store; or a fault, which is for the tables and rows only where it is none
 abbrev pub Adopts : {A : Type 0} → State → State → Result A StoreFault → Type 0
@@ -116,12 +117,12 @@ module _ {D : Type 0} {g : Ghosts D} (old new : Held (FileStore D g)) where
   abbrev pub AdoptsForCause : {A : Type 0} → Result A StoreFault → Type 0
   AdoptsForCause result = HasCleanDisk (file_state new) → IfErr result (AdoptIsCaused (file_state old) (file_state new))
 
-  -- the same where nothing is migrated
+  -- the same if what is migrated fits
   abbrev pub TakesOverForCause : {A : Type 0} → Result A StoreFault → Type 0
-  TakesOverForCause result = HasCleanDisk (file_state new) → LacksVersion1 (file_state old).now → IfErr result (AdoptIsCaused (file_state old) (file_state new))
+  TakesOverForCause result = HasCleanDisk (file_state new) → FitsVersion2 (file_state old).now → IfErr result (AdoptIsCaused (file_state old) (file_state new))
 
   abbrev pub IsRefusedForCause : StoreFault → Type 0
-  IsRefusedForCause fault = HasCleanDisk (file_state new) → LacksVersion1 (file_state old).now → AdoptIsCaused (file_state old) (file_state new) fault
+  IsRefusedForCause fault = HasCleanDisk (file_state new) → FitsVersion2 (file_state old).now → AdoptIsCaused (file_state old) (file_state new) fault
 
   abbrev pub TakesOverOn : {A : Type 0} → Result A StoreFault → Type 0
   TakesOverOn result = HasCleanDisk (file_state new) → TakesOver (file_state old) (file_state new) result
@@ -139,6 +140,10 @@ module _ {D : Type 0} {g : Ghosts D} (old new : Held (FileStore D g)) where
   -- The connection is as it was, if it is still open, and the fault is not for the tables.
   abbrev pub IsNotCreatedOn : StoreFault → Type 0
   IsNotCreatedOn fault = HasCleanDisk (file_state new) → StaysIfOpen (file_state old) (file_state new) × (fault ≢ Schema)
+
+  -- over an empty database the fault `Store` has a cause
+  abbrev pub IsNotCreatedForCause : StoreFault → Type 0
+  IsNotCreatedForCause fault = HasCleanDisk (file_state new) → CreateIsCaused (file_state old) (file_state new) fault
 
   -- The connection is as it was, if it is still open, and the fault is for the tables and rows only where they are those of no store.
   abbrev pub IsNotAdoptedOn : StoreFault → Type 0

@@ -1,5 +1,5 @@
 -- Why no store is opened or made at a path, or opened again, and what is left then.
-use Rattle.std.specs.Prelude.{◌≡◌, ◌≢◌, IsTrue}
+use Rattle.std.specs.Prelude.{◌≡◌, ◌≢◌, ⊤, IsTrue}
 use Rattle.sqlite_disk.specs.declared.Disk.{Ghosts}
 use Rattle.sqlite_disk.specs.declared.Files.{Files}
 use Rattle.sqlite_store.specs.declared.store.FileStore.{FileStore}
@@ -15,6 +15,8 @@ use Rattle.statements_facts.specs.Statement.{Holdings}
 use Rattle.store_sql.specs.declared.fault.StoreFault.{StoreFault}
 use Rattle.store_sql.specs.declared.fault.StoreFault.TheVariants.{Schema}
 use Rattle.store_maps.specs.Held.{IsStoreOf}
+use Rattle.store_adoption.specs.Creates.{CreateIsCaused}
+use Rattle.store_migration.specs.Migrates.{FitsVersion2}
 use Rattle.store.specs.declared.refusal.Refused as refusal
 use Rattle.store.specs.declared.refusal.ReopenFault.{ReopenFault}
 use Rattle.store.specs.declared.refusal.ReopenFault.TheVariants.{Close, Open, Adopt}
@@ -40,6 +42,26 @@ IsNotOpened (Refused refused) =
 abbrev pub IsNotMade : OpenFault → Type 0
 IsNotMade (Unconnected fault) = fault ≢ Schema
 IsNotMade (Refused refused) = HasCleanDisk (file_state refused.conn) → refused.fault ≢ Schema
+
+-- Why a connection that was opened is not taken for a store, if what is migrated fits. Why none could be opened is not said.
+pub record RefusesForCause {D : Type 0} {g : Ghosts D} (refused : refusal.Refused D g) : Type 0 where
+  pub conn : Held (FileStore D g)
+  pub opened : IsOpened conn
+  pub caused : FitsVersion2 (file_state conn).now → AdoptIsCaused (file_state conn) (file_state refused.conn) refused.fault
+
+abbrev pub IsNotOpenedForCause : OpenFault → Type 0
+IsNotOpenedForCause (Unconnected fault) = ⊤
+IsNotOpenedForCause (Refused refused) = HasCleanDisk (file_state refused.conn) → RefusesForCause refused
+
+-- the same where a store is made in an empty database
+pub record CreatesForCause {D : Type 0} {g : Ghosts D} (refused : refusal.Refused D g) : Type 0 where
+  pub conn : Held (FileStore D g)
+  pub opened : IsOpened conn
+  pub caused : CreateIsCaused (file_state conn) (file_state refused.conn) refused.fault
+
+abbrev pub IsNotMadeForCause : OpenFault → Type 0
+IsNotMadeForCause (Unconnected fault) = ⊤
+IsNotMadeForCause (Refused refused) = HasCleanDisk (file_state refused.conn) → CreatesForCause refused
 
 -- ---- again
 

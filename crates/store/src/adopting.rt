@@ -1,14 +1,14 @@
 //! A database that is taken for a store.
 
-ghost use Rattle.std.specs.Prelude.{◌≡◌, false, IfErr, OnOk, Err};
+ghost use Rattle.std.specs.Prelude.{◌≡◌, false, OnOk, Err};
 ghost use Rattle.sqlite.specs.Files.{file_state};
 ghost use Rattle.store_sql.specs.Statements.{CommitsNothing, IsDurable};
 ghost use Rattle.store_adoption.specs.Creates.{IsSettled};
 ghost use Rattle.store.specs.Adopts.{AdoptsForCause, AdoptsOn, TakesOverForCause, HasOtherTables, TakesOverOn, MayLeaveVersion2, TakesOverInOrder};
-ghost use Rattle.store_migration.specs.Migrates.{MayLeaveMigrated};
-ghost use Rattle.sqlite.specs.State.{HasCleanDisk, IsLive};
+ghost use Rattle.store_migration.specs.Migrates.{MayLeaveMigrated, MigratesForCause};
+ghost use Rattle.sqlite.specs.State.{IsLive};
 ghost use Rattle.sqlite.specs.Held.{state};
-ghost use Rattle.store_adoption.specs.Inspects.{CheckIsCaused, ChecksForCause, InspectsOn, LacksVersion1, LacksVersion2};
+ghost use Rattle.store_adoption.specs.Inspects.{ChecksForCause, InspectsOn, LacksVersion2};
 
 use sqlite::{Alter, Connection, FileStore};
 use sqlite_disk::Disk;
@@ -59,9 +59,7 @@ fn migrate_or_inspect<S: Alter>(alloc: Global, conn: &mut Connection<S>) -> Resu
     ensures live { IsLive (state S.Store conn.old) }
     ensures tables { HasOtherTables (state S.Store conn.old).now → result ≡ Err StoreFault.Schema }
     ensures takes { TakesOverInOrder (state S.Store conn.old) (state S.Store conn.new) result }
-    ensures caused { HasCleanDisk (state S.Store conn.new)
-        → LacksVersion1 (state S.Store conn.old).now
-        → IfErr result (CheckIsCaused (state S.Store conn.old) (state S.Store conn.new)) }
+    ensures caused { MigratesForCause S.Store conn.old conn.new result }
     ensures settled { IsSettled (state S.Store conn.old) × IsSettled (state S.Store conn.new) }
     ensures durable { IsDurable (state S.Store conn.new) }
     ensures crash { MayLeaveMigrated (state S.Store conn.old) (state S.Store conn.new) }

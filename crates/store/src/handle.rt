@@ -2,10 +2,10 @@
 
 ghost use Rattle.std.specs.Prelude.{◌≡◌, ◌≢◌, false, IfErr, IfOk, OnOk};
 ghost use Rattle.sqlite.specs.Files.{IsClosed, file_state};
-ghost use Rattle.statements_facts.specs.Fact.{issuer_of};
+ghost use Rattle.statements_facts.specs.Fact.{seen_issuer};
 ghost use Rattle.store_sql.specs.Statements.{CommitsNothing, IsDurable};
 ghost use Rattle.store_adoption.specs.Creates.{IsSettled, HasTables};
-ghost use Rattle.store.specs.Adopts.{CausedOn, IsRefusedForCause, Reopens, HasOtherTables, MayLeaveVersion2, IsCreatedOn, IsEmptyStoreOn, IsNotAdoptedOn, IsNotCreatedOn, IsOpenOn, MayLeaveEmpty, WasStoreOn, KeepsStoreOn, MigratesStoreOn, IsStoreOn, PutsOn, PutsForCauseOn, AllOrNothingOn, FindsHeldOn, AreUsable, CopiesTo, RestartsOn};
+ghost use Rattle.store.specs.Adopts.{CausedOn, IsRefusedForCause, Reopens, HasOtherTables, MayLeaveVersion2, IsCreatedOn, IsEmptyStoreOn, IsNotAdoptedOn, IsNotCreatedForCause, IsNotCreatedOn, IsOpenOn, MayLeaveEmpty, WasStoreOn, KeepsStoreOn, MigratesStoreOn, IsStoreOn, PutsOn, PutsForCauseOn, AllOrNothingOn, FindsHeldOn, AreUsable, CopiesTo, RestartsOn};
 ghost use Rattle.store.specs.Opens.{ClosesForCause, FailsToReopen, ReopensForCause, reopen_fault};
 ghost use Rattle.store_migration.specs.Migrates.{MayLeaveMigrated};
 ghost use Rattle.store_maps.specs.Held.{IsCrlHeld, IsOcspHeld};
@@ -61,6 +61,8 @@ impl<D: Disk + Drop> Store<D> {
         ensures free { OnOk result (HasTables (file_state conn).now → ⊥) }
         ensures tables { IfErr result (λ refused.
             HasTables (file_state conn).now → refused.fault ≡ StoreFault.Store) }
+        ensures caused { IfErr result (λ refused.
+            IsNotCreatedForCause conn refused.conn refused.fault) }
         ensures refused { IfErr result (λ refused. IsNotCreatedOn conn refused.conn refused.fault) }
         ensures refused_durable { IfErr result (λ refused. IsDurable (file_state refused.conn)) }
         ensures refused_crash { IfErr result (λ refused. MayLeaveEmpty conn refused.conn) }
@@ -120,7 +122,7 @@ impl<D: Disk + Drop> Store<D> {
         serial: &[u8],
     ) -> Result<Option<HeldCrl>, StoreFault>
         ensures looks_up { FindsHeldOn self.old.conn self.new.conn
-            (IsCrlHeld (issuer_of issuer.now) scope serial.now) result }
+            (IsCrlHeld (seen_issuer issuer.now) scope serial.now) result }
         ensures caused { CausedOn (file_state self.old.conn) (file_state self.new.conn) result }
         ensures durable { IsDurable (file_state self.new.conn) }
         ensures survives { CommitsNothing (file_state self.old.conn) (file_state self.new.conn) }
@@ -137,7 +139,7 @@ impl<D: Disk + Drop> Store<D> {
         serial: &'x [u8],
     ) -> Result<Option<HeldStatus>, StoreFault>
         ensures looks_up { FindsHeldOn self.old.conn self.new.conn
-            (IsOcspHeld (issuer_of issuer.now) name_hash.now serial.now) result }
+            (IsOcspHeld (seen_issuer issuer.now) name_hash.now serial.now) result }
         ensures caused { CausedOn (file_state self.old.conn) (file_state self.new.conn) result }
         ensures durable { IsDurable (file_state self.new.conn) }
         ensures survives { CommitsNothing (file_state self.old.conn) (file_state self.new.conn) }

@@ -2,7 +2,7 @@
 
 ghost use Rattle.std.specs.Prelude.{◌≡◌, false};
 ghost use Rattle.sqlite.specs.Held.{state};
-ghost use Rattle.statements_facts.specs.Fact.{issuer_of};
+ghost use Rattle.statements_facts.specs.Fact.{seen_issuer};
 ghost use Rattle.store_sql.specs.Statements.{CommitsNothing, IsDurable};
 ghost use Rattle.store_adoption.specs.Creates.{IsSettled};
 ghost use Rattle.store.specs.Adopts.{CausedOn, FindsHeld, StaysIfOpen};
@@ -24,7 +24,7 @@ fn crl_in_transaction<S: Alter>(
     requires idle { conn.old.in_transaction ≡ false }
     ensures idle { conn.new.in_transaction ≡ false }
     ensures looks_at { FindsHeld KeepsCommit (state S.Store conn.old) (state S.Store conn.new)
-        (IsCrlHeld (issuer_of issuer.now) scope serial.now) result }
+        (IsCrlHeld (seen_issuer issuer.now) scope serial.now) result }
     ensures caused { CausedOn (state S.Store conn.old) (state S.Store conn.new) result }
     ensures survives { CommitsNothing (state S.Store conn.old) (state S.Store conn.new) }
 {
@@ -46,7 +46,7 @@ pub fn look_up_crl<S: Alter>(
     requires idle { conn.old.in_transaction ≡ false }
     ensures idle { conn.new.in_transaction ≡ false }
     ensures looks_up { FindsHeld StaysIfOpen (state S.Store conn.old) (state S.Store conn.new)
-        (IsCrlHeld (issuer_of issuer.now) scope serial.now) result }
+        (IsCrlHeld (seen_issuer issuer.now) scope serial.now) result }
     ensures caused { CausedOn (state S.Store conn.old) (state S.Store conn.new) result }
     ensures settled { IsSettled (state S.Store conn.old) × IsSettled (state S.Store conn.new) }
     ensures durable { IsDurable (state S.Store conn.new) }
@@ -67,7 +67,7 @@ fn ocsp_in_transaction<'x, S: Alter>(
     requires idle { conn.old.in_transaction ≡ false }
     ensures idle { conn.new.in_transaction ≡ false }
     ensures looks_at { FindsHeld KeepsCommit (state S.Store conn.old) (state S.Store conn.new)
-        (IsOcspHeld (issuer_of issuer.now) name_hash.now serial.now) result }
+        (IsOcspHeld (seen_issuer issuer.now) name_hash.now serial.now) result }
     ensures caused { CausedOn (state S.Store conn.old) (state S.Store conn.new) result }
     ensures survives { CommitsNothing (state S.Store conn.old) (state S.Store conn.new) }
 {
@@ -88,7 +88,7 @@ pub fn look_up_ocsp<'x, S: Alter>(
     requires idle { conn.old.in_transaction ≡ false }
     ensures idle { conn.new.in_transaction ≡ false }
     ensures looks_up { FindsHeld StaysIfOpen (state S.Store conn.old) (state S.Store conn.new)
-        (IsOcspHeld (issuer_of issuer.now) name_hash.now serial.now) result }
+        (IsOcspHeld (seen_issuer issuer.now) name_hash.now serial.now) result }
     ensures caused { CausedOn (state S.Store conn.old) (state S.Store conn.new) result }
     ensures settled { IsSettled (state S.Store conn.old) × IsSettled (state S.Store conn.new) }
     ensures durable { IsDurable (state S.Store conn.new) }

@@ -5,7 +5,7 @@ ghost use Rattle.sqlite.specs.Files.{file_state};
 ghost use Rattle.store_adoption.specs.Creates.{IsSettled};
 ghost use Rattle.store.specs.Adopts.{IsEmptyStoreOn, IsOpenOn, IsStoreOn};
 ghost use Rattle.store_sql.specs.Statements.{IsDurable};
-ghost use Rattle.store.specs.Opens.{IsNotMade, IsNotOpened, fault_of};
+ghost use Rattle.store.specs.Opens.{IsNotMade, IsNotMadeForCause, IsNotOpened, IsNotOpenedForCause, fault_of};
 
 use crate::connecting::connect;
 use crate::handle::Store;
@@ -36,6 +36,7 @@ impl Store<File> {
         ensures settled { IfOk result (λ store. IsSettled (file_state store.conn)) }
         ensures durable { IfOk result (λ store. IsDurable (file_state store.conn)) }
         ensures fails { IfErr result IsNotOpened }
+        ensures caused { IfErr result IsNotOpenedForCause }
     {
         if fs::open(rt, path).is_err() {
             return Err(OpenFault::Unconnected(StoreFault::Store));
@@ -56,6 +57,7 @@ impl Store<File> {
         ensures is_open { IfOk result (λ store. IsOpenOn store.conn) }
         ensures durable { IfOk result (λ store. IsDurable (file_state store.conn)) }
         ensures fails { IfErr result IsNotMade }
+        ensures caused { IfErr result IsNotMadeForCause }
     {
         if fs::open(rt, path).is_ok() {
             return Err(OpenFault::Unconnected(StoreFault::Store));

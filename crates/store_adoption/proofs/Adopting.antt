@@ -29,8 +29,8 @@ use Rattle.sqlite_trees.specs.View.{IsShaped, is_int}
 use Rattle.store_sql.proofs.Laws.{less_is}
 use Rattle.store_rows.proofs.Laws.{value_back}
 use Rattle.store_maps.specs.Held.{held_in}
-use Rattle.store_adoption.specs.Cells.{natural_in, HasNumber, IsIssuerCells, IsCrlCells, IsSingleCells, IsEntryCells, IsVersionCells, AreChained, entry_in, next_after}
-use Rattle.store_adoption.specs.Inspects.{TablesAreInOrder, InOrder, IsStore, HasHeads, HasEntries, version_cells, issuer_cells, crl_cells, single_cells, entry_cells}
+use Rattle.store_adoption.specs.Cells.{cell_natural, HasNumber, IsIssuerCells, IsCrlCells, IsSingleCells, IsEntryCells, IsVersionCells, AreChained, entry_of_row, next_after}
+use Rattle.store_adoption.specs.Inspects.{TablesAreInOrder, InOrder, IsStore, HasHeads, HasEntries, version_cells, issuer_cells, crl_columns, single_cells, entry_cells}
 use Rattle.store_adoption.proofs.Chained.{placed_of_chain, chain_of_placed}
 use Rattle.store_adoption.proofs.Typed.{IsKeyed, HasId, keyed_rows, rows_with_id}
 use Rattle.store_adoption.proofs.Decoded.{all_is, all_read, all_shown, issuer_in, issuer_is, crl_in, crl_is, single_in, single_is, entry_is, reason_fits}
@@ -93,14 +93,14 @@ module _ (Form Cells : Row → Type 0) where
 pub read_issuer : IsRead (HasId issuer_spec) IsIssuerCells issuer_cells issuer_row issuer_in
 read_issuer r h cells = h.row_is ∙ issuer_is h.id h.cells h.are (subst (λ row. IsIssuerCells (issuer_cells row)) h.row_is cells) ∙ ap (λ row. issuer_row (issuer_in row)) (sym h.row_is)
 
-read_crl : (next : ℕ) → IsRead (IsKeyed crl_spec) (IsCrlCells next) crl_cells crl_row crl_in
-read_crl next r h cells = h.row_is ∙ crl_is next h.id h.cells h.are (subst (λ row. IsCrlCells next (crl_cells row)) h.row_is cells) ∙ ap (λ row. crl_row (crl_in row)) (sym h.row_is)
+read_crl : (next : ℕ) → IsRead (IsKeyed crl_spec) (IsCrlCells next) crl_columns crl_row crl_in
+read_crl next r h cells = h.row_is ∙ crl_is next h.id h.cells h.are (subst (λ row. IsCrlCells next (crl_columns row)) h.row_is cells) ∙ ap (λ row. crl_row (crl_in row)) (sym h.row_is)
 
 pub read_single : (next : ℕ) → IsRead (IsKeyed single_spec) (IsSingleCells next) single_cells single_row single_in
 read_single next r h cells = h.row_is ∙ single_is next h.id h.cells h.are (subst (λ row. IsSingleCells next (single_cells row)) h.row_is cells) ∙ ap (λ row. single_row (single_in row)) (sym h.row_is)
 
 abbrev stored_entry : Row → EntryRow
-stored_entry row = entry_in (entry_cells row)
+stored_entry row = entry_of_row (entry_cells row)
 
 read_entry : IsRead (HasId entry_spec) IsEntryCells entry_cells entry_row stored_entry
 read_entry r h cells = h.row_is ∙ entry_is h.id h.cells h.are (subst (λ row. IsEntryCells (entry_cells row)) h.row_is cells) ∙ ap (λ row. entry_row (stored_entry row)) (sym h.row_is)
@@ -155,9 +155,9 @@ module _ {X : Type 0} (key : X → ℕ) where
 pub next_same : (rows : List Row) → next_after (map issuer_cells rows) ≡ next_id (map issuer_in rows)
 next_same rows = go 1 rows
   where
-    go : (start : ℕ) (rows : List Row) → fold (λ next row. natural_in (column row 0) + 1) start (map issuer_cells rows) ≡ fold (λ id row. row.id + 1) start (map issuer_in rows)
+    go : (start : ℕ) (rows : List Row) → fold (λ next row. cell_natural (column row 0) + 1) start (map issuer_cells rows) ≡ fold (λ id row. row.id + 1) start (map issuer_in rows)
     go start [] = refl
-    go start (r ∷ rs) = go (natural_in (column r 0) + 1) rs
+    go start (r ∷ rs) = go (cell_natural (column r 0) + 1) rs
 
 pub store_of : (origin : Origin) (db : Database) → db.schema ≡ store_schema origin → IsDatabase db → TablesAreInOrder db → HasHeads origin db → HasEntries origin db → IsStore db
 store_of origin db has sound ordered heads entries =
@@ -170,7 +170,7 @@ store_of origin db has sound ordered heads entries =
     let placed = map stored_entry (db.trees (entries_tree origin)) in
     let it : Contents = record { issuers = issuers; crls = crls; entries = placed; singles = singles } in
     let issuers_are = all_is (HasId issuer_spec) IsIssuerCells issuer_cells issuer_row issuer_in read_issuer (db.trees 1) t.issuers heads.issuers in
-    let crls_are = all_is (IsKeyed crl_spec) (IsCrlCells next) crl_cells crl_row crl_in (read_crl next) (db.trees (crls_tree origin)) t.crls heads.crls in
+    let crls_are = all_is (IsKeyed crl_spec) (IsCrlCells next) crl_columns crl_row crl_in (read_crl next) (db.trees (crls_tree origin)) t.crls heads.crls in
     let singles_are = all_is (IsKeyed single_spec) (IsSingleCells next) single_cells single_row single_in (read_single next) (db.trees 3) t.singles heads.singles in
     let entries_are = all_is (HasId entry_spec) IsEntryCells entry_cells entry_row stored_entry read_entry (db.trees (entries_tree origin)) t.entries entries.0 in (
       held_in it,
@@ -192,14 +192,14 @@ store_of origin db has sound ordered heads entries =
         };
         form = record {
           ids = all_read IsIssuerCells _ issuer_cells issuer_in (λ r h. h.1) (db.trees 1) heads.issuers;
-          numbers = all_read (IsCrlCells next) _ crl_cells crl_in (λ r h. h.2.1) (db.trees (crls_tree origin)) heads.crls;
+          numbers = all_read (IsCrlCells next) _ crl_columns crl_in (λ r h. h.2.1) (db.trees (crls_tree origin)) heads.crls;
           reasons = all_read IsEntryCells _ entry_cells stored_entry (λ r h. h.4.1) (db.trees (entries_tree origin)) entries.0;
-          statuses = all_read (IsSingleCells next) _ single_cells single_in (λ r h. reason_fits (natural_in (column r 8)) (natural_in (column r 9)) h.2.1) (db.trees 3) heads.singles;
-          placed = placed_of_chain placed (subst (AreChained None) (map_map entry_in entry_cells (db.trees (entries_tree origin))) entries.1);
+          statuses = all_read (IsSingleCells next) _ single_cells single_in (λ r h. reason_fits (cell_natural (column r 8)) (cell_natural (column r 9)) h.2.1) (db.trees 3) heads.singles;
+          placed = placed_of_chain placed (subst (AreChained None) (map_map entry_of_row entry_cells (db.trees (entries_tree origin))) entries.1);
         };
         owned = record {
-          crls = all_read (IsCrlCells next) _ crl_cells crl_in (λ r h. subst (λ n. natural_in (column r 1) < n) (next_same (db.trees 1)) h.0.1) (db.trees (crls_tree origin)) heads.crls;
-          singles = all_read (IsSingleCells next) _ single_cells single_in (λ r h. subst (λ n. natural_in (column r 1) < n) (next_same (db.trees 1)) h.0.1) (db.trees 3) heads.singles;
+          crls = all_read (IsCrlCells next) _ crl_columns crl_in (λ r h. subst (λ n. cell_natural (column r 1) < n) (next_same (db.trees 1)) h.0.1) (db.trees (crls_tree origin)) heads.crls;
+          singles = all_read (IsSingleCells next) _ single_cells single_in (λ r h. subst (λ n. cell_natural (column r 1) < n) (next_same (db.trees 1)) h.0.1) (db.trees 3) heads.singles;
         };
         held_is = refl;
       },
@@ -240,7 +240,7 @@ both_all P Q (x ∷ xs) p q = ((p.0, q.0), both_all P Q xs p.1 q.1)
 pub next_back : (xs : List IssuerRow) → next_id xs ≡ next_after (map issuer_cells (map issuer_row xs))
 next_back xs = go 1 xs
   where
-    go : (start : ℕ) (xs : List IssuerRow) → fold (λ id row. row.id + 1) start xs ≡ fold (λ next row. natural_in (column row 0) + 1) start (map issuer_cells (map issuer_row xs))
+    go : (start : ℕ) (xs : List IssuerRow) → fold (λ id row. row.id + 1) start xs ≡ fold (λ next row. cell_natural (column row 0) + 1) start (map issuer_cells (map issuer_row xs))
     go start [] = refl
     go start (x ∷ xs) = go (x.id + 1) xs
 
@@ -258,8 +258,8 @@ heads_of origin db has it =
     record {
       version = subst (λ rows. AllByRecursion (IsVersionCells 2) (map version_cells rows) × (length (map version_cells rows) ≡ 1)) (sym r.version) (((refl, refl), tt), refl);
       issuers = subst (λ rows. AllByRecursion IsIssuerCells (map issuer_cells rows)) (sym r.issuers) (all_shown (λ (x : IssuerRow). HasRoom x.id) IsIssuerCells issuer_row issuer_cells (λ x room. (refl, room)) s.contents.issuers s.form.ids);
-      crls = subst (λ rows. AllByRecursion (IsCrlCells next) (map crl_cells rows)) (sym crls_are)
-          (all_shown (λ (x : CrlRow). IsNumbered (head_of x) × (x.issuer < next_id s.contents.issuers)) (IsCrlCells next) crl_row crl_cells
+      crls = subst (λ rows. AllByRecursion (IsCrlCells next) (map crl_columns rows)) (sym crls_are)
+          (all_shown (λ (x : CrlRow). IsNumbered (head_of x) × (x.issuer < next_id s.contents.issuers)) (IsCrlCells next) crl_row crl_columns
           (λ x h. ((refl, subst (λ n. x.issuer < n) next_is h.1), (refl, few_scopes x.scope), numbered x.number h.0)) s.contents.crls (both_all _ _ s.contents.crls s.form.numbers s.owned.crls));
       singles = subst (λ rows. AllByRecursion (IsSingleCells next) (map single_cells rows)) (sym r.singles)
           (all_shown (λ (x : SingleRow). IsSaid x.fact × (x.issuer < next_id s.contents.issuers)) (IsSingleCells next) single_row single_cells
@@ -272,11 +272,11 @@ entries_of origin db has it =
     let r = s.rows in
     let same : s.origin ≡ origin = one_origin s.origin origin (sym r.schema_is ∙ has) in
     let are : db.trees (entries_tree origin) ≡ map entry_row s.contents.entries = ap (λ o. db.trees (entries_tree o)) (sym same) ∙ r.entries in
-    let back : map entry_in (map entry_cells (map entry_row s.contents.entries)) ≡ s.contents.entries =
-    ap (map entry_in) (map_map entry_cells entry_row s.contents.entries) ∙ map_map entry_in (λ e. entry_cells (entry_row e)) s.contents.entries ∙ map_itself s.contents.entries in (
+    let back : map entry_of_row (map entry_cells (map entry_row s.contents.entries)) ≡ s.contents.entries =
+    ap (map entry_of_row) (map_map entry_cells entry_row s.contents.entries) ∙ map_map entry_of_row (λ e. entry_cells (entry_row e)) s.contents.entries ∙ map_itself s.contents.entries in (
       subst (λ rows. AllByRecursion IsEntryCells (map entry_cells rows)) (sym are)
           (all_shown (λ (x : EntryRow). IsInside x × HasByte x.listed) IsEntryCells entry_row entry_cells (λ x h. ((refl, fits x h.0), (refl, h.0.issuer), (refl, h.0.scope), refl, (refl, h.1))) s.contents.entries (both_all _ _ s.contents.entries s.form.placed.inside s.form.reasons)),
-      subst (λ rows. AreChained None (map entry_in (map entry_cells rows))) (sym are) (subst (AreChained None) (sym back) (chain_of_placed s.contents.entries s.form.placed)),
+      subst (λ rows. AreChained None (map entry_of_row (map entry_cells rows))) (sym are) (subst (AreChained None) (sym back) (chain_of_placed s.contents.entries s.form.placed)),
     )
   where
     fits : (x : EntryRow) → IsInside x → x.place < 18446744073709551616

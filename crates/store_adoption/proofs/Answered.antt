@@ -13,7 +13,7 @@ use Rattle.store_sql.specs.declared.origin.Origin.{Origin}
 use Rattle.store_sql.specs.declared.origin.Origin.TheVariants.{Made, Migrated}
 use Rattle.store_sql.specs.Tables.{version_1_schema, store_schema, crls_tree, entries_tree}
 use Rattle.store_sql.proofs.Laws.{IsWhole}
-use Rattle.store_adoption.specs.Texts.{all_versions, all_issuers, all_crls, all_singles, all_entries, all_unscoped_crls, all_unscoped_entries}
+use Rattle.store_adoption.specs.Texts.{all_versions, all_issuers, all_crls, all_ocsp, all_entries, all_unscoped_crls, all_unscoped_entries}
 use Rattle.store_adoption.specs.Tests.{IsTableQuery, IsSafeQuery}
 use Rattle.store_adoption.proofs.Ordered.{in_order_of_ids}
 use Rattle.store_adoption.proofs.Meaning.{shows_versions, shows_issuers, shows_crls, shows_singles, shows_entries, shows_old_versions, shows_old_issuers, shows_old_singles, shows_unscoped_crls, shows_unscoped_entries}
@@ -71,7 +71,7 @@ typed_crls Migrated = refl
 pub answers_crls : (origin : Origin) → IsTableQuery (store_schema origin) all_crls (understood (store_schema origin) all_crls)
 answers_crls origin = let it = shows_crls origin in answered (store_schema origin) all_crls (crls_tree origin) (col 1 1 ∷ col 1 2 ∷ col 1 3 ∷ []) _ (understood (store_schema origin) all_crls) it.0 it.1 it.2 (whole_crls origin) (typed_crls origin)
 
-whole_singles : (origin : Origin) → IsWhole all_singles 0 (understood (store_schema origin) all_singles)
+whole_singles : (origin : Origin) → IsWhole all_ocsp 0 (understood (store_schema origin) all_ocsp)
 unfolding understood everything
 whole_singles Made = (refl, refl)
 whole_singles Migrated = (refl, refl)
@@ -80,8 +80,8 @@ typed_singles : (origin : Origin) → accepts_program (store_schema origin) [] (
 typed_singles Made = refl
 typed_singles Migrated = refl
 
-pub answers_singles : (origin : Origin) → IsTableQuery (store_schema origin) all_singles (understood (store_schema origin) all_singles)
-answers_singles origin = let it = shows_singles origin in answered (store_schema origin) all_singles 3 (col 1 1 ∷ col 1 8 ∷ col 1 9 ∷ []) _ (understood (store_schema origin) all_singles) it.0 it.1 it.2 (whole_singles origin) (typed_singles origin)
+pub answers_singles : (origin : Origin) → IsTableQuery (store_schema origin) all_ocsp (understood (store_schema origin) all_ocsp)
+answers_singles origin = let it = shows_singles origin in answered (store_schema origin) all_ocsp 3 (col 1 1 ∷ col 1 8 ∷ col 1 9 ∷ []) _ (understood (store_schema origin) all_ocsp) it.0 it.1 it.2 (whole_singles origin) (typed_singles origin)
 
 whole_entries : (origin : Origin) → IsWhole all_entries 0 (understood (store_schema origin) all_entries)
 unfolding understood everything
@@ -111,12 +111,12 @@ whole_old_issuers = (refl, refl)
 pub answers_old_issuers : IsTableQuery version_1_schema all_issuers (understood version_1_schema all_issuers)
 answers_old_issuers = let it = shows_old_issuers in answered version_1_schema all_issuers 1 (col 1 0 ∷ []) _ (understood version_1_schema all_issuers) it.0 it.1 it.2 whole_old_issuers refl
 
-whole_old_singles : IsWhole all_singles 0 (understood version_1_schema all_singles)
+whole_old_singles : IsWhole all_ocsp 0 (understood version_1_schema all_ocsp)
 unfolding understood everything
 whole_old_singles = (refl, refl)
 
-pub answers_old_singles : IsTableQuery version_1_schema all_singles (understood version_1_schema all_singles)
-answers_old_singles = let it = shows_old_singles in answered version_1_schema all_singles 3 (col 1 1 ∷ col 1 8 ∷ col 1 9 ∷ []) _ (understood version_1_schema all_singles) it.0 it.1 it.2 whole_old_singles refl
+pub answers_old_singles : IsTableQuery version_1_schema all_ocsp (understood version_1_schema all_ocsp)
+answers_old_singles = let it = shows_old_singles in answered version_1_schema all_ocsp 3 (col 1 1 ∷ col 1 8 ∷ col 1 9 ∷ []) _ (understood version_1_schema all_ocsp) it.0 it.1 it.2 whole_old_singles refl
 
 whole_unscoped_crls : IsWhole all_unscoped_crls 0 (understood version_1_schema all_unscoped_crls)
 unfolding understood everything

@@ -6,7 +6,7 @@ use Rattle.std.specs.Cmp.Lexicographic.{nat_list_cmp_total}
 use Rattle.sqlite_trees.specs.Tree.{IsAscending}
 use Rattle.statements_facts.specs.Listed.{ListedSerial}
 use Rattle.store_rows.specs.Contents.{EntryRow}
-use Rattle.store_rows.specs.Places.{IsBelow, is_under, base_of, StandFrom, IsInside, ArePlaced}
+use Rattle.store_rows.specs.Places.{IsBelow, is_under, list_base, StandFrom, IsInside, ArePlaced}
 use Rattle.store_rows.proofs.Laws.{Under, under, is_under_of, not_under, in_room}
 use Rattle.store_adoption.specs.Cells.{Begins, Continues, Follows, IsListed, AreChained, last_of}
 
@@ -42,9 +42,9 @@ record Behind (a : EntryRow) (es : List EntryRow) : Type 0 where
   rise : IsAscending (λ x y. x.place < y.place) es
   inside : AllByRecursion IsInside es
   own : (i s : ℕ) → Under i s a → StandFrom (a.place + 1) (of_list i s es) × IsAscending IsBelow (a.listed ∷ serials (of_list i s es))
-  other : (i s : ℕ) → (¬ Under i s a) → StandFrom (base_of i s) (of_list i s es) × IsAscending IsBelow (serials (of_list i s es))
+  other : (i s : ℕ) → (¬ Under i s a) → StandFrom (list_base i s) (of_list i s es) × IsAscending IsBelow (serials (of_list i s es))
 
-same_base : (i s j t : ℕ) → i ≡ j → s ≡ t → base_of i s ≡ base_of j t
+same_base : (i s j t : ℕ) → i ≡ j → s ≡ t → list_base i s ≡ list_base j t
 same_base i s j t a b = omega (arith, a, b)
 
 inside_of : (a e : EntryRow) → IsInside a → IsListed e → Follows (Some a) e → IsInside e
@@ -65,7 +65,7 @@ continued i s a e ia ua ue (inr b) =
     let at = b.0 in let up = b.1 in let low = ia.low in absurd (omega arith)
 
 -- of another list, the second is its first
-first : (i s : ℕ) (a e : EntryRow) → (¬ Under i s a) → Under i s e → Follows (Some a) e → e.place ≡ base_of i s
+first : (i s : ℕ) (a e : EntryRow) → (¬ Under i s a) → Under i s e → Follows (Some a) e → e.place ≡ list_base i s
 first i s a e far ue (inl k) = absurd (far (record { issuer = sym k.issuer ∙ ue.issuer; scope = sym k.scope ∙ ue.scope }))
 first i s a e far ue (inr b) = b.0 ∙ same_base e.issuer e.scope i s ue.issuer ue.scope
 
@@ -77,7 +77,7 @@ none_left : (i s : ℕ) (a e : EntryRow) (es : List EntryRow) → IsInside a →
     → AllByRecursion (λ x. e.place < x.place) es → AllByRecursion IsInside es → of_list i s es ≡ []
 none_left i s a e es ia ie ua far up low inside = none_of i s es (each es low inside)
   where
-    base : base_of a.issuer a.scope ≡ base_of i s
+    base : list_base a.issuer a.scope ≡ list_base i s
     base = same_base a.issuer a.scope i s ua.issuer ua.scope
 
     no_more : (x : EntryRow) → e.place < x.place → IsInside x → ¬ Under i s x
@@ -122,9 +122,9 @@ from_chain a (e ∷ es) ia c =
         | inl ue ↦
             let at = first i s a e far ue c.1 in
             let more = rest.own i s ue in
-            subst (λ xs. StandFrom (base_of i s) xs × IsAscending IsBelow (serials xs)) (sym (kept i s e es ue))
-            ((at, subst (λ n. StandFrom n (of_list i s es)) (let is : e.place + 1 ≡ suc (base_of i s) = omega (arith, at) in is) more.0), more.1)
-        | inr out ↦ subst (λ xs. StandFrom (base_of i s) xs × IsAscending IsBelow (serials xs)) (sym (dropped i s e es out)) (rest.other i s out)
+            subst (λ xs. StandFrom (list_base i s) xs × IsAscending IsBelow (serials xs)) (sym (kept i s e es ue))
+            ((at, subst (λ n. StandFrom n (of_list i s es)) (let is : e.place + 1 ≡ suc (list_base i s) = omega (arith, at) in is) more.0), more.1)
+        | inr out ↦ subst (λ xs. StandFrom (list_base i s) xs × IsAscending IsBelow (serials xs)) (sym (dropped i s e es out)) (rest.other i s out)
       ];
     }
 
@@ -147,13 +147,13 @@ to_chain a (e ∷ es) ia b =
               let at : e.place ≡ a.place + 1 = more.0.0 in
               (subst (λ n. StandFrom n (of_list i s es)) (let is : suc (a.place + 1) ≡ e.place + 1 = omega (arith, at) in is) more.0.1, more.1.1)
           | inr far ↦
-              let more = subst (λ xs. StandFrom (base_of i s) xs × IsAscending IsBelow (serials xs)) (kept i s e es ue) (b.other i s far) in
-              let at : e.place ≡ base_of i s = more.0.0 in
-              (subst (λ n. StandFrom n (of_list i s es)) (let is : suc (base_of i s) ≡ e.place + 1 = omega (arith, at) in is) more.0.1, more.1)
+              let more = subst (λ xs. StandFrom (list_base i s) xs × IsAscending IsBelow (serials xs)) (kept i s e es ue) (b.other i s far) in
+              let at : e.place ≡ list_base i s = more.0.0 in
+              (subst (λ n. StandFrom n (of_list i s es)) (let is : suc (list_base i s) ≡ e.place + 1 = omega (arith, at) in is) more.0.1, more.1)
         ];
         other = λ i s out. elim (either i s a) [
-          | inl ua ↦ subst (λ xs. StandFrom (base_of i s) xs × IsAscending IsBelow (serials xs)) (sym (none_left i s a e es ia ie ua out b.low.0 b.rise.0 b.inside.1)) (tt, tt)
-          | inr far ↦ subst (λ xs. StandFrom (base_of i s) xs × IsAscending IsBelow (serials xs)) (dropped i s e es out) (b.other i s far)
+          | inl ua ↦ subst (λ xs. StandFrom (list_base i s) xs × IsAscending IsBelow (serials xs)) (sym (none_left i s a e es ia ie ua out b.low.0 b.rise.0 b.inside.1)) (tt, tt)
+          | inr far ↦ subst (λ xs. StandFrom (list_base i s) xs × IsAscending IsBelow (serials xs)) (dropped i s e es out) (b.other i s far)
         ];
       }),
     )
@@ -164,7 +164,7 @@ to_chain a (e ∷ es) ia b =
           let more = subst (λ xs. StandFrom (a.place + 1) xs × IsAscending IsBelow (a.listed ∷ serials xs)) (kept e.issuer e.scope e es (itself e)) (b.own e.issuer e.scope ua) in
           inl (record { issuer = sym ua.issuer; scope = sym ua.scope; place = more.0.0; room = b.inside.0.high; serial = more.1.0.0 })
       | inr far ↦
-          let more = subst (λ xs. StandFrom (base_of e.issuer e.scope) xs × IsAscending IsBelow (serials xs)) (kept e.issuer e.scope e es (itself e)) (b.other e.issuer e.scope far) in
+          let more = subst (λ xs. StandFrom (list_base e.issuer e.scope) xs × IsAscending IsBelow (serials xs)) (kept e.issuer e.scope e es (itself e)) (b.other e.issuer e.scope far) in
           inr (more.0.0, b.low.0)
     ]
 
@@ -178,32 +178,32 @@ placed_of_chain (e ∷ es) c =
     let rest = from_chain e es ie c.2 in
     record { rise = (rest.low, rest.rise); inside = (ie, rest.inside); stand = λ i s. (each rest i s).0; serials = λ i s. (each rest i s).1 }
   where
-    each : Behind e es → (i s : ℕ) → StandFrom (base_of i s) (of_list i s (e ∷ es)) × IsAscending IsBelow (serials (of_list i s (e ∷ es)))
+    each : Behind e es → (i s : ℕ) → StandFrom (list_base i s) (of_list i s (e ∷ es)) × IsAscending IsBelow (serials (of_list i s (e ∷ es)))
     each rest i s = elim (either i s e) [
       | inl ue ↦
           let more = rest.own i s ue in
-          let at : e.place ≡ base_of i s = c.1 ∙ same_base e.issuer e.scope i s ue.issuer ue.scope in
-          subst (λ xs. StandFrom (base_of i s) xs × IsAscending IsBelow (serials xs)) (sym (kept i s e es ue))
-          ((at, subst (λ n. StandFrom n (of_list i s es)) (let is : e.place + 1 ≡ suc (base_of i s) = omega (arith, at) in is) more.0), more.1)
-      | inr out ↦ subst (λ xs. StandFrom (base_of i s) xs × IsAscending IsBelow (serials xs)) (sym (dropped i s e es out)) (rest.other i s out)
+          let at : e.place ≡ list_base i s = c.1 ∙ same_base e.issuer e.scope i s ue.issuer ue.scope in
+          subst (λ xs. StandFrom (list_base i s) xs × IsAscending IsBelow (serials xs)) (sym (kept i s e es ue))
+          ((at, subst (λ n. StandFrom n (of_list i s es)) (let is : e.place + 1 ≡ suc (list_base i s) = omega (arith, at) in is) more.0), more.1)
+      | inr out ↦ subst (λ xs. StandFrom (list_base i s) xs × IsAscending IsBelow (serials xs)) (sym (dropped i s e es out)) (rest.other i s out)
     ]
 
 pub chain_of_placed : (es : List EntryRow) → ArePlaced es → AreChained None es
 chain_of_placed [] p = tt
 chain_of_placed (e ∷ es) p = (
   (p.inside.0.issuer, p.inside.0.scope),
-  (subst (StandFrom (base_of e.issuer e.scope)) (kept e.issuer e.scope e es (itself e)) (p.stand e.issuer e.scope)).0,
+  (subst (StandFrom (list_base e.issuer e.scope)) (kept e.issuer e.scope e es (itself e)) (p.stand e.issuer e.scope)).0,
   to_chain e es p.inside.0 (record {
     low = p.rise.0;
     rise = p.rise.1;
     inside = p.inside.1;
     own = λ i s ue.
-        let more = subst (StandFrom (base_of i s)) (kept i s e es ue) (p.stand i s) in
-        let at : e.place ≡ base_of i s = more.0 in (
-          subst (λ n. StandFrom n (of_list i s es)) (let is : suc (base_of i s) ≡ e.place + 1 = omega (arith, at) in is) more.1,
+        let more = subst (StandFrom (list_base i s)) (kept i s e es ue) (p.stand i s) in
+        let at : e.place ≡ list_base i s = more.0 in (
+          subst (λ n. StandFrom n (of_list i s es)) (let is : suc (list_base i s) ≡ e.place + 1 = omega (arith, at) in is) more.1,
           subst (λ xs. IsAscending IsBelow (serials xs)) (kept i s e es ue) (p.serials i s),
         );
-    other = λ i s out. (subst (StandFrom (base_of i s)) (dropped i s e es out) (p.stand i s), subst (λ xs. IsAscending IsBelow (serials xs)) (dropped i s e es out) (p.serials i s));
+    other = λ i s out. (subst (StandFrom (list_base i s)) (dropped i s e es out) (p.stand i s), subst (λ xs. IsAscending IsBelow (serials xs)) (dropped i s e es out) (p.serials i s));
   }),
 )
 

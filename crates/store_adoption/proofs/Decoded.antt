@@ -12,16 +12,16 @@ use Rattle.statements_facts.specs.declared.single.Status.{Status}
 use Rattle.statements_facts.specs.declared.single.Status.TheVariants.{Good, Revoked, Unknown}
 use Rattle.store_rows.specs.Contents.{IssuerRow, CrlRow, SingleRow, issuer_row, crl_row, entry_row, single_row, scope_number, status_number, reason_number}
 use Rattle.store_rows.specs.Holding.{HasReason}
-use Rattle.store_adoption.specs.Cells.{integer_in, natural_in, octets_in, number_in, HasNatural, IsIssuerCells, IsCrlCells, IsSingleCells, IsEntryCells, entry_in}
-use Rattle.store_adoption.specs.Inspects.{issuer_cells, crl_cells, single_cells, entry_cells}
+use Rattle.store_adoption.specs.Cells.{cell_integer, cell_natural, cell_octets, cell_number, HasNatural, IsIssuerCells, IsCrlCells, IsSingleCells, IsEntryCells, entry_of_row}
+use Rattle.store_adoption.specs.Inspects.{issuer_cells, crl_columns, single_cells, entry_cells}
 use Rattle.store_adoption.proofs.Typed.{IsOf, AreOf}
 
 -- a value as its kind has it
 abbrev pub put_in : Kind → Value → Value
-put_in kind.Integer v = Int (integer_in v)
+put_in kind.Integer v = Int (cell_integer v)
 put_in kind.Real v = v
 put_in kind.Text v = v
-put_in kind.Blob v = Blob (octets_in v)
+put_in kind.Blob v = Blob (cell_octets v)
 put_in kind.Any v = v
 
 abbrev pub shape : List Kind → (ℕ → Value) → Row
@@ -29,8 +29,8 @@ shape [] cell = []
 shape (k ∷ ks) cell = put_in k (cell 0) ∷ shape ks (λ n. cell (suc n))
 
 put_back : (k : Kind) (v : Value) → IsOf k v → v ≡ put_in k v
-put_back kind.Integer v h = h.1 ∙ ap (λ w. Int (integer_in w)) (sym h.1)
-put_back kind.Blob v h = h.1 ∙ ap (λ w. Blob (octets_in w)) (sym h.1)
+put_back kind.Integer v h = h.1 ∙ ap (λ w. Int (cell_integer w)) (sym h.1)
+put_back kind.Blob v h = h.1 ∙ ap (λ w. Blob (cell_octets w)) (sym h.1)
 put_back kind.Real v h = refl
 put_back kind.Text v h = refl
 put_back kind.Any v h = refl
@@ -41,8 +41,8 @@ canonical [] (v ∷ vs) h = absurd h
 canonical (k ∷ ks) [] h = absurd h
 canonical (k ∷ ks) (v ∷ vs) h = ap₂ (λ a b. a ∷ b) (put_back k v h.0) (canonical ks vs h.1)
 
-pub natural_back : (bound : ℕ) (v : Value) → HasNatural bound v → integer_in v ≡ pos (natural_in v)
-natural_back bound v h = ap integer_in h.0
+pub natural_back : (bound : ℕ) (v : Value) → HasNatural bound v → cell_integer v ≡ pos (cell_natural v)
+natural_back bound v h = ap cell_integer h.0
 
 -- ---- scopes and statuses
 
@@ -78,38 +78,38 @@ reason_fits (suc (suc n)) reason low = tt
 -- ---- rows
 
 abbrev pub issuer_in : Row → IssuerRow
-issuer_in row = record { id = natural_in (column row 0); identity = record { name = octets_in (column row 2); key_info = octets_in (column row 3) } }
+issuer_in row = record { id = cell_natural (column row 0); identity = record { name = cell_octets (column row 2); key_info = cell_octets (column row 3) } }
 
 pub issuer_is : (id : ℤ) (cells : Row) → AreOf (kind.Blob ∷ kind.Blob ∷ []) cells → IsIssuerCells (issuer_cells (Int id ∷ Null ∷ cells)) → Int id ∷ Null ∷ cells ≡ issuer_row (issuer_in (Int id ∷ Null ∷ cells))
 issuer_is id cells are h = ap₂ (λ v vs. v ∷ Null ∷ vs) h.0 (canonical (kind.Blob ∷ kind.Blob ∷ []) cells are)
 
 abbrev pub crl_in : Row → CrlRow
 crl_in row = record {
-  id = integer_in (column row 0);
-  issuer = natural_in (column row 1);
-  scope = scope_in (natural_in (column row 2));
-  number = number_in (column row 3);
-  window = record { from = integer_in (column row 4); until = integer_in (column row 5) };
+  id = cell_integer (column row 0);
+  issuer = cell_natural (column row 1);
+  scope = scope_in (cell_natural (column row 2));
+  number = cell_number (column row 3);
+  window = record { from = cell_integer (column row 4); until = cell_integer (column row 5) };
 }
 
-pub crl_is : (next : ℕ) (id : ℤ) (cells : Row) → AreOf (kind.Integer ∷ kind.Integer ∷ kind.Blob ∷ kind.Integer ∷ kind.Integer ∷ []) cells → IsCrlCells next (crl_cells (Int id ∷ cells)) → Int id ∷ cells ≡ crl_row (crl_in (Int id ∷ cells))
+pub crl_is : (next : ℕ) (id : ℤ) (cells : Row) → AreOf (kind.Integer ∷ kind.Integer ∷ kind.Blob ∷ kind.Integer ∷ kind.Integer ∷ []) cells → IsCrlCells next (crl_columns (Int id ∷ cells)) → Int id ∷ cells ≡ crl_row (crl_in (Int id ∷ cells))
 crl_is next id cells are h =
     let c = λ (n : ℕ). column cells n in
     let issuer = natural_back next (c 0) h.0 in
-    let scope = natural_back 3 (c 1) h.1 ∙ ap pos (sym (scope_back (natural_in (c 1)) h.1.1)) in
-    let number = ap octets_in h.2.0 in
-    ap (λ vs. Int id ∷ vs) (canonical (kind.Integer ∷ kind.Integer ∷ kind.Blob ∷ kind.Integer ∷ kind.Integer ∷ []) cells are ∙ (λ i. Int (issuer i) ∷ Int (scope i) ∷ Blob (number i) ∷ Int (integer_in (c 3)) ∷ Int (integer_in (c 4)) ∷ []))
+    let scope = natural_back 3 (c 1) h.1 ∙ ap pos (sym (scope_back (cell_natural (c 1)) h.1.1)) in
+    let number = ap cell_octets h.2.0 in
+    ap (λ vs. Int id ∷ vs) (canonical (kind.Integer ∷ kind.Integer ∷ kind.Blob ∷ kind.Integer ∷ kind.Integer ∷ []) cells are ∙ (λ i. Int (issuer i) ∷ Int (scope i) ∷ Blob (number i) ∷ Int (cell_integer (c 3)) ∷ Int (cell_integer (c 4)) ∷ []))
 
 abbrev pub single_in : Row → SingleRow
 single_in row = record {
-  id = integer_in (column row 0);
-  issuer = natural_in (column row 1);
-  name_hash = octets_in (column row 2);
-  serial = octets_in (column row 3);
+  id = cell_integer (column row 0);
+  issuer = cell_natural (column row 1);
+  name_hash = cell_octets (column row 2);
+  serial = cell_octets (column row 3);
   fact = record {
-    times = record { this_update = integer_in (column row 4); produced_at = integer_in (column row 5) };
-    window = record { from = integer_in (column row 6); until = integer_in (column row 7) };
-    status = status_in (natural_in (column row 8)) (natural_in (column row 9));
+    times = record { this_update = cell_integer (column row 4); produced_at = cell_integer (column row 5) };
+    window = record { from = cell_integer (column row 6); until = cell_integer (column row 7) };
+    status = status_in (cell_natural (column row 8)) (cell_natural (column row 9));
   };
 }
 
@@ -120,18 +120,18 @@ pub single_is : (next : ℕ) (id : ℤ) (cells : Row) → AreOf single_kinds cel
 single_is next id cells are h =
     let c = λ (n : ℕ). column cells n in
     let issuer = natural_back next (c 0) h.0 in
-    let back = status_back (natural_in (c 7)) (natural_in (c 8)) h.1.1 h.3 in
+    let back = status_back (cell_natural (c 7)) (cell_natural (c 8)) h.1.1 h.3 in
     let status = natural_back 3 (c 7) h.1 ∙ ap pos (sym back.0) in
     let reason = natural_back 256 (c 8) h.2 ∙ ap pos (sym back.1) in
-    ap (λ vs. Int id ∷ vs) (canonical single_kinds cells are ∙ (λ i. Int (issuer i) ∷ Blob (octets_in (c 1)) ∷ Blob (octets_in (c 2)) ∷ Int (integer_in (c 3)) ∷ Int (integer_in (c 4)) ∷ Int (integer_in (c 5)) ∷ Int (integer_in (c 6)) ∷ Int (status i) ∷ Int (reason i) ∷ []))
+    ap (λ vs. Int id ∷ vs) (canonical single_kinds cells are ∙ (λ i. Int (issuer i) ∷ Blob (cell_octets (c 1)) ∷ Blob (cell_octets (c 2)) ∷ Int (cell_integer (c 3)) ∷ Int (cell_integer (c 4)) ∷ Int (cell_integer (c 5)) ∷ Int (cell_integer (c 6)) ∷ Int (status i) ∷ Int (reason i) ∷ []))
 
-pub entry_is : (id : ℤ) (cells : Row) → AreOf (kind.Integer ∷ kind.Integer ∷ kind.Blob ∷ kind.Integer ∷ []) cells → IsEntryCells (entry_cells (Int id ∷ Null ∷ cells)) → Int id ∷ Null ∷ cells ≡ entry_row (entry_in (entry_cells (Int id ∷ Null ∷ cells)))
+pub entry_is : (id : ℤ) (cells : Row) → AreOf (kind.Integer ∷ kind.Integer ∷ kind.Blob ∷ kind.Integer ∷ []) cells → IsEntryCells (entry_cells (Int id ∷ Null ∷ cells)) → Int id ∷ Null ∷ cells ≡ entry_row (entry_of_row (entry_cells (Int id ∷ Null ∷ cells)))
 entry_is id cells are h =
     let c = λ (n : ℕ). column cells n in
     let issuer = natural_back 536870911 (c 0) h.1 in
     let scope = natural_back 3 (c 1) h.2 in
     let reason = natural_back 256 (c 3) h.4 in
-    ap₂ (λ v vs. v ∷ Null ∷ vs) h.0.0 (canonical (kind.Integer ∷ kind.Integer ∷ kind.Blob ∷ kind.Integer ∷ []) cells are ∙ (λ i. Int (issuer i) ∷ Int (scope i) ∷ Blob (octets_in (c 2)) ∷ Int (reason i) ∷ []))
+    ap₂ (λ v vs. v ∷ Null ∷ vs) h.0.0 (canonical (kind.Integer ∷ kind.Integer ∷ kind.Blob ∷ kind.Integer ∷ []) cells are ∙ (λ i. Int (issuer i) ∷ Int (scope i) ∷ Blob (cell_octets (c 2)) ∷ Int (reason i) ∷ []))
 
 -- ---- all rows of a table
 

@@ -8,7 +8,7 @@ use Rattle.sqlite.proofs.Callers.{IsPlain, command_of}
 use Rattle.store_sql.specs.declared.origin.Origin.{Origin}
 use Rattle.store_sql.specs.declared.origin.Origin.TheVariants.{Made, Migrated}
 use Rattle.store_sql.specs.Tables.{version_1_schema, store_schema, crls_tree, entries_tree}
-use Rattle.store_adoption.specs.Texts.{all_versions, all_issuers, all_crls, all_singles, all_entries, all_unscoped_crls, all_unscoped_entries}
+use Rattle.store_adoption.specs.Texts.{all_versions, all_issuers, all_crls, all_ocsp, all_entries, all_unscoped_crls, all_unscoped_entries}
 use Rattle.store_adoption.proofs.Ordered.{in_order_of_ids}
 
 pub shows_versions : (origin : Origin) → (command_of (understood (store_schema origin) all_versions) ≡ Select (record { lets = []; body = in_order_of_ids 0 (col 1 0 ∷ col 1 2 ∷ []) }) (codes "id" ∷ codes "version" ∷ [])) × (reads_listing (store_schema origin) all_versions ≡ false) × IsPlain (understood (store_schema origin) all_versions)
@@ -26,7 +26,7 @@ unfolding understood everything
 shows_crls Made = (refl, refl, (refl, refl))
 shows_crls Migrated = (refl, refl, (refl, refl))
 
-pub shows_singles : (origin : Origin) → (command_of (understood (store_schema origin) all_singles) ≡ Select (record { lets = []; body = in_order_of_ids 3 (col 1 1 ∷ col 1 8 ∷ col 1 9 ∷ []) }) (codes "issuer" ∷ codes "status" ∷ codes "reason" ∷ [])) × (reads_listing (store_schema origin) all_singles ≡ false) × IsPlain (understood (store_schema origin) all_singles)
+pub shows_singles : (origin : Origin) → (command_of (understood (store_schema origin) all_ocsp) ≡ Select (record { lets = []; body = in_order_of_ids 3 (col 1 1 ∷ col 1 8 ∷ col 1 9 ∷ []) }) (codes "issuer" ∷ codes "status" ∷ codes "reason" ∷ [])) × (reads_listing (store_schema origin) all_ocsp ≡ false) × IsPlain (understood (store_schema origin) all_ocsp)
 unfolding understood everything
 shows_singles Made = (refl, refl, (refl, refl))
 shows_singles Migrated = (refl, refl, (refl, refl))
@@ -46,7 +46,7 @@ pub shows_old_issuers : (command_of (understood version_1_schema all_issuers) �
 unfolding understood everything
 shows_old_issuers = (refl, refl, (refl, refl))
 
-pub shows_old_singles : (command_of (understood version_1_schema all_singles) ≡ Select (record { lets = []; body = in_order_of_ids 3 (col 1 1 ∷ col 1 8 ∷ col 1 9 ∷ []) }) (codes "issuer" ∷ codes "status" ∷ codes "reason" ∷ [])) × (reads_listing version_1_schema all_singles ≡ false) × IsPlain (understood version_1_schema all_singles)
+pub shows_old_singles : (command_of (understood version_1_schema all_ocsp) ≡ Select (record { lets = []; body = in_order_of_ids 3 (col 1 1 ∷ col 1 8 ∷ col 1 9 ∷ []) }) (codes "issuer" ∷ codes "status" ∷ codes "reason" ∷ [])) × (reads_listing version_1_schema all_ocsp ≡ false) × IsPlain (understood version_1_schema all_ocsp)
 unfolding understood everything
 shows_old_singles = (refl, refl, (refl, refl))
 

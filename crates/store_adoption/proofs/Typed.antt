@@ -13,7 +13,7 @@ use Rattle.sqlite.specs.Kind.TheVariants as kind
 use Rattle.sqlite_schema.specs.declared.schema.Column.{Column}
 use Rattle.sqlite_schema.specs.Names.{is_key}
 use Rattle.sqlite_schema.specs.Rules.{is_of, are_typed, are_present}
-use Rattle.store_sql.specs.Tables.{required, id_column}
+use Rattle.store_sql.specs.Tables.{required_column, id_column}
 
 both : (a b : Bool) → (a && b) ≡ true → (a ≡ true) × (b ≡ true)
 both true true e = (refl, refl)
@@ -50,7 +50,7 @@ of_kind kind.Text v e some = tt
 of_kind kind.Any v e some = tt
 
 abbrev pub columns_of : List (List ℕ × Kind) → List Column
-columns_of specs = map (λ s. required s.0 s.1) specs
+columns_of specs = map (λ s. required_column s.0 s.1) specs
 
 abbrev pub kinds_of : List (List ℕ × Kind) → List Kind
 kinds_of specs = map (λ s. s.1) specs

@@ -18,7 +18,7 @@ use Rattle.store_sql.specs.Tables.{version_1_schema, meta_table, issuers_table, 
 use Rattle.store_rows.specs.Contents.{IssuerRow, SingleRow, issuer_row, single_row}
 use Rattle.store_rows.specs.Holding.{HasRoom, HasByte, IsSaid, IsNumbered, next_id}
 use Rattle.store_adoption.specs.Version1.{UnscopedCrl, UnscopedEntry, UnscopedEntryRow, UnscopedContents, unscoped_crl_row, unscoped_entry_row, HoldsVersion1, AreUnscopedInForm, IsVersion1, AreLists, HasLists, held_in_version_1}
-use Rattle.store_adoption.specs.Cells.{natural_in, octets_in, integer_in, IsVersionCells, IsIssuerCells, IsSingleCells, IsUnscopedCrlCells, IsUnscopedEntryCells, unscoped_crl_in, unscoped_entry_in, next_after}
+use Rattle.store_adoption.specs.Cells.{cell_natural, cell_octets, cell_integer, IsVersionCells, IsIssuerCells, IsSingleCells, IsUnscopedCrlCells, IsUnscopedEntryCells, unscoped_crl_in, unscoped_entry_in, next_after}
 use Rattle.store_adoption.specs.Inspects.{TablesAreInOrder, InOrderOfVersion1, HasVersion, HasIssuers, HasNext, HasUnder, HasIds, ShowsLists, version_cells, issuer_cells, single_cells, unscoped_crl_cells, unscoped_entry_cells}
 use Rattle.store_adoption.proofs.Typed.{IsKeyed, HasId, AreOf, keyed_rows, rows_with_id}
 use Rattle.store_adoption.proofs.Decoded.{all_is, all_read, all_shown, canonical, natural_back, issuer_in, single_in, reason_fits}
@@ -57,20 +57,20 @@ abbrev stored_crl : Row → UnscopedCrl
 stored_crl row = unscoped_crl_in (unscoped_crl_cells row)
 
 abbrev stored_entry : Row → UnscopedEntryRow
-stored_entry row = record { id = integer_in (column row 0); entry = unscoped_entry_in (unscoped_entry_cells row) }
+stored_entry row = record { id = cell_integer (column row 0); entry = unscoped_entry_in (unscoped_entry_cells row) }
 
 crl_is : (next : ℕ) (id : ℤ) (cells : Row) → AreOf (kind.Blob ∷ kind.Integer ∷ kind.Integer ∷ []) cells → IsUnscopedCrlCells next (unscoped_crl_cells (Int id ∷ Null ∷ cells)) → Int id ∷ Null ∷ cells ≡ unscoped_crl_row (stored_crl (Int id ∷ Null ∷ cells))
 crl_is next id cells are h =
     let c = λ (n : ℕ). column cells n in
-    let number = ap octets_in h.1.0.0 in
-    ap₂ (λ v vs. v ∷ Null ∷ vs) h.0.0 (canonical (kind.Blob ∷ kind.Integer ∷ kind.Integer ∷ []) cells are ∙ (λ i. Blob (number i) ∷ Int (integer_in (c 1)) ∷ Int (integer_in (c 2)) ∷ []))
+    let number = ap cell_octets h.1.0.0 in
+    ap₂ (λ v vs. v ∷ Null ∷ vs) h.0.0 (canonical (kind.Blob ∷ kind.Integer ∷ kind.Integer ∷ []) cells are ∙ (λ i. Blob (number i) ∷ Int (cell_integer (c 1)) ∷ Int (cell_integer (c 2)) ∷ []))
 
 entry_is : (next : ℕ) (id : ℤ) (cells : Row) → AreOf (kind.Integer ∷ kind.Blob ∷ kind.Integer ∷ []) cells → IsUnscopedEntryCells next (unscoped_entry_cells (Int id ∷ cells)) → Int id ∷ cells ≡ unscoped_entry_row (stored_entry (Int id ∷ cells))
 entry_is next id cells are h =
     let c = λ (n : ℕ). column cells n in
     let issuer = natural_back next (c 0) h.0 in
     let reason = natural_back 256 (c 2) h.2 in
-    ap (λ vs. Int id ∷ vs) (canonical (kind.Integer ∷ kind.Blob ∷ kind.Integer ∷ []) cells are ∙ (λ i. Int (issuer i) ∷ Blob (octets_in (c 1)) ∷ Int (reason i) ∷ []))
+    ap (λ vs. Int id ∷ vs) (canonical (kind.Integer ∷ kind.Blob ∷ kind.Integer ∷ []) cells are ∙ (λ i. Int (issuer i) ∷ Blob (cell_octets (c 1)) ∷ Int (reason i) ∷ []))
 
 read_crl : (next : ℕ) → IsRead (HasId crl_spec) (IsUnscopedCrlCells next) unscoped_crl_cells unscoped_crl_row stored_crl
 read_crl next r h cells = h.row_is ∙ crl_is next h.id h.cells h.are (subst (λ row. IsUnscopedCrlCells next (unscoped_crl_cells row)) h.row_is cells) ∙ ap (λ row. unscoped_crl_row (stored_crl row)) (sym h.row_is)
@@ -135,9 +135,9 @@ lists_of db next shown_crls shown_entries has sound ordered ids under shows =
           };
           form = record {
             ids = all_read IsIssuerCells _ issuer_cells issuer_in (λ r h. h.1) (db.trees 1) ids.1;
-            crls = all_read (IsUnscopedCrlCells next) _ unscoped_crl_cells stored_crl (λ r h. (subst (λ n. natural_in (column r 0) < n) last h.0.1, h.1.0.1)) (db.trees 5) under.1.0;
-            entries = all_read (IsUnscopedEntryCells next) _ unscoped_entry_cells stored_entry (λ r h. (subst (λ n. natural_in (column r 1) < n) last h.0.1, h.2.1)) (db.trees 6) under.1.1;
-            singles = all_read (IsSingleCells next) _ single_cells single_in (λ r h. (subst (λ n. natural_in (column r 1) < n) last h.0.1, reason_fits (natural_in (column r 8)) (natural_in (column r 9)) h.2.1)) (db.trees 3) under.0;
+            crls = all_read (IsUnscopedCrlCells next) _ unscoped_crl_cells stored_crl (λ r h. (subst (λ n. cell_natural (column r 0) < n) last h.0.1, h.1.0.1)) (db.trees 5) under.1.0;
+            entries = all_read (IsUnscopedEntryCells next) _ unscoped_entry_cells stored_entry (λ r h. (subst (λ n. cell_natural (column r 1) < n) last h.0.1, h.2.1)) (db.trees 6) under.1.1;
+            singles = all_read (IsSingleCells next) _ single_cells single_in (λ r h. (subst (λ n. cell_natural (column r 1) < n) last h.0.1, reason_fits (cell_natural (column r 8)) (cell_natural (column r 9)) h.2.1)) (db.trees 3) under.0;
           };
           held_is = refl;
         },

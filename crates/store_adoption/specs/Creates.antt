@@ -1,12 +1,13 @@
 -- A store is made, and what a crash leaves.
-use Rattle.std.specs.Prelude.{◌≡◌, ◌≢◌, Result, Ok, Err, IsTrue}
+use Rattle.std.specs.Prelude.{◌≡◌, ◌≢◌, Result, Ok, Err, IfErr, IsTrue}
 use Rattle.sqlite_trees.specs.declared.store.Store.{Ghosts}
 use Rattle.sqlite.specs.Effect.{Database}
 use Rattle.sqlite.specs.Held.{Held, state}
 use Rattle.sqlite.specs.State.{State, HasCleanDisk, KeepsCommit, Survives}
 use Rattle.statements_facts.specs.Statement.{empty_holdings}
 use Rattle.store_sql.specs.declared.fault.StoreFault.{StoreFault}
-use Rattle.store_sql.specs.declared.fault.StoreFault.TheVariants.{Schema}
+use Rattle.store_sql.specs.declared.fault.StoreFault.TheVariants.{Store, Schema}
+use Rattle.store_sql.specs.Cause.{MayRefuse}
 use Rattle.store_sql.specs.Tables.{no_schema}
 use Rattle.store_maps.specs.Held.{IsStoreOf, AreTreesOf}
 
@@ -30,9 +31,16 @@ abbrev pub Creates : {A : Type 0} → State → State → Result A StoreFault �
 Creates old new (Ok done) = IsCreated old new
 Creates old new (Err fault) = KeepsCommit old new × (fault ≢ Schema)
 
+-- over an empty database the fault `Store` has a cause: the database may refuse
+abbrev pub CreateIsCaused : State → State → StoreFault → Type 0
+CreateIsCaused old new fault = fault ≡ Store → old.now.schema ≡ no_schema → MayRefuse old new
+
 -- the same of a call on a connection, if the disk has returned what was written
 abbrev pub CreatesOn : {S A : Type 0} → Ghosts S → Held S → Held S → Result A StoreFault → Type 0
 CreatesOn g old new result = HasCleanDisk (state g new) → Creates (state g old) (state g new) result
+
+abbrev pub CreatesForCause : {S A : Type 0} → Ghosts S → Held S → Held S → Result A StoreFault → Type 0
+CreatesForCause g old new result = HasCleanDisk (state g new) → IfErr result (CreateIsCaused (state g old) (state g new))
 
 -- a crash leaves what it could leave before, or a store that holds nothing
 abbrev pub MayLeaveEmptyStore : State → State → Type 0

@@ -17,7 +17,7 @@ use Rattle.store_sql.specs.declared.fault.StoreFault.TheVariants.{Store, Schema}
 use Rattle.store_sql.specs.Tables.{version_1_schema, store_schema, crls_tree, entries_tree}
 use Rattle.store_maps.specs.Held.{IsStoreOf}
 use Rattle.store_adoption.specs.Version1.{UnscopedCrl, UnscopedEntry, IsVersion1, HasLists}
-use Rattle.store_adoption.specs.Cells.{IsVersionCells, IsIssuerCells, IsUnscopedCrlCells, IsUnscopedEntryCells, unscoped_crl_in, unscoped_entry_in, next_after, IsCrlCells, IsSingleCells, IsEntryCells, AreChained, entry_in}
+use Rattle.store_adoption.specs.Cells.{IsVersionCells, IsIssuerCells, IsUnscopedCrlCells, IsUnscopedEntryCells, unscoped_crl_in, unscoped_entry_in, next_after, IsCrlCells, IsSingleCells, IsEntryCells, AreChained, entry_of_row}
 
 -- the rows of each table stand in the order of their ids
 pub record InOrder (origin : Origin) (db : Database) : Type 0 where
@@ -118,11 +118,11 @@ HasVersionAndIssuers version db = HasVersion version db × HasIssuers db
 abbrev pub HasIds : ℕ → ℕ → Database → Type 0
 HasIds version next db = HasVersion version db × HasIssuers db × HasNext next db
 
-abbrev pub crl_cells : Row → Row
-crl_cells row = column row 1 ∷ column row 2 ∷ column row 3 ∷ []
+abbrev pub crl_columns : Row → Row
+crl_columns row = column row 1 ∷ column row 2 ∷ column row 3 ∷ []
 
 abbrev pub HasCrls : Origin → ℕ → Database → Type 0
-HasCrls origin next db = AllByRecursion (IsCrlCells next) (map crl_cells (db.trees (crls_tree origin)))
+HasCrls origin next db = AllByRecursion (IsCrlCells next) (map crl_columns (db.trees (crls_tree origin)))
 
 abbrev pub single_cells : Row → Row
 single_cells row = column row 1 ∷ column row 8 ∷ column row 9 ∷ []
@@ -138,7 +138,7 @@ abbrev pub entry_cells : Row → Row
 entry_cells row = column row 0 ∷ column row 2 ∷ column row 3 ∷ column row 4 ∷ column row 5 ∷ []
 
 abbrev pub HasEntries : Origin → Database → Type 0
-HasEntries origin db = AllByRecursion IsEntryCells (map entry_cells (db.trees (entries_tree origin))) × AreChained None (map entry_in (map entry_cells (db.trees (entries_tree origin))))
+HasEntries origin db = AllByRecursion IsEntryCells (map entry_cells (db.trees (entries_tree origin))) × AreChained None (map entry_of_row (map entry_cells (db.trees (entries_tree origin))))
 
 -- issuers, and what stands under their ids
 pub record HasHeads (origin : Origin) (db : Database) : Type 0 where

@@ -10,8 +10,8 @@ all_issuers = codes "SELECT id FROM issuers ORDER BY id"
 abbrev pub all_crls : List ℕ
 all_crls = codes "SELECT issuer, scope, number FROM scoped_crls ORDER BY rowid"
 
-abbrev pub all_singles : List ℕ
-all_singles = codes "SELECT issuer, status, reason FROM ocsp ORDER BY rowid"
+abbrev pub all_ocsp : List ℕ
+all_ocsp = codes "SELECT issuer, status, reason FROM ocsp ORDER BY rowid"
 
 abbrev pub all_entries : List ℕ
 all_entries = codes "SELECT id, issuer, scope, serial, reason FROM scoped_entries ORDER BY id"

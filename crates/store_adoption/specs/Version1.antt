@@ -90,12 +90,12 @@ for_all_certificates Ca fact = None
 abbrev pub without_lists : UnscopedContents → Contents
 without_lists it = record { issuers = it.issuers; crls = []; entries = []; singles = it.singles }
 
-abbrev pub entries_in : UnscopedContents → List UnscopedEntry
-entries_in it = map (λ row. row.entry) it.entries
+abbrev pub unscoped_entries : UnscopedContents → List UnscopedEntry
+unscoped_entries it = map (λ row. row.entry) it.entries
 
 abbrev pub held_in_version_1 : UnscopedContents → Holdings
 held_in_version_1 it = record {
-  crl = λ slot. for_all_certificates slot.scope (option_and_then (unscoped_crl_under it.crls (entries_in it)) (id_of it.issuers slot.issuer));
+  crl = λ slot. for_all_certificates slot.scope (option_and_then (unscoped_crl_under it.crls (unscoped_entries it)) (id_of it.issuers slot.issuer));
   ocsp = (held_in (without_lists it)).ocsp;
 }
 
@@ -111,7 +111,7 @@ IsVersion1 db = (held : Holdings) × IsVersion1Of db held
 
 -- these are the lists, and their entries
 abbrev pub AreLists : List UnscopedCrl → List UnscopedEntry → UnscopedContents → Type 0
-AreLists crls entries it = (it.crls ≡ crls) × (entries_in it ≡ entries)
+AreLists crls entries it = (it.crls ≡ crls) × (unscoped_entries it ≡ entries)
 
 -- the database is of version 1, and these are its lists and their entries
 pub record HasLists (crls : List UnscopedCrl) (entries : List UnscopedEntry) (db : Database) : Type 0 where

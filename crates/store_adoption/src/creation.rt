@@ -2,7 +2,7 @@
 
 ghost use Rattle.std.specs.Prelude.{◌≡◌, false, Err};
 ghost use Rattle.sqlite.specs.Held.{state};
-ghost use Rattle.store_adoption.specs.Creates.{IsSettled, HasTables, CreatesOn, MayLeaveEmptyStore};
+ghost use Rattle.store_adoption.specs.Creates.{IsSettled, HasTables, CreatesOn, CreatesForCause, MayLeaveEmptyStore};
 ghost use Rattle.store_sql.specs.Statements.{IsDurable};
 
 use sqlite::{Alter, Connection};
@@ -14,6 +14,7 @@ fn make_committed<S: Alter>(conn: &mut Connection<S>) -> Result<(), StoreFault>
     ensures idle { conn.new.in_transaction ≡ false }
     ensures tables { HasTables (state S.Store conn.old).now → result ≡ Err StoreFault.Store }
     ensures creates { CreatesOn S.Store conn.old conn.new result }
+    ensures caused { CreatesForCause S.Store conn.old conn.new result }
     ensures crash { MayLeaveEmptyStore (state S.Store conn.old) (state S.Store conn.new) }
 {
     if !is_empty(conn.schema()) {
@@ -36,6 +37,7 @@ pub fn create<S: Alter>(conn: &mut Connection<S>) -> Result<(), StoreFault>
     ensures idle { conn.new.in_transaction ≡ false }
     ensures tables { HasTables (state S.Store conn.old).now → result ≡ Err StoreFault.Store }
     ensures creates { CreatesOn S.Store conn.old conn.new result }
+    ensures caused { CreatesForCause S.Store conn.old conn.new result }
     ensures settled { IsSettled (state S.Store conn.old) × IsSettled (state S.Store conn.new) }
     ensures durable { IsDurable (state S.Store conn.new) }
     ensures crash { MayLeaveEmptyStore (state S.Store conn.old) (state S.Store conn.new) }

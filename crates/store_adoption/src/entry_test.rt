@@ -1,9 +1,9 @@
 //! Entries of revocation lists, at their places.
 
 ghost use Rattle.std.specs.Prelude.{◌≡◌, ◌<◌, ◌↔◌, ◌+◌, Err, IfOk, IsTrue, option_map, ◌≢◌};
-ghost use Rattle.store_adoption.specs.Cells.{Begins, Continues, Follows, IsEntryCells, IsListed, entry_in, IsInRoom, IsOfSameList};
+ghost use Rattle.store_adoption.specs.Cells.{Begins, Continues, Follows, IsEntryCells, IsListed, entry_of_row, IsInRoom, IsOfSameList};
 ghost use Rattle.store_adoption.specs.Seen.{seen_placed, IsPlacedIn};
-ghost use Rattle.store_rows.specs.Places.{IsBelow, base_of};
+ghost use Rattle.store_rows.specs.Places.{IsBelow, list_base};
 
 use crate::cell::{below, blob, place};
 use crate::row_test::RowTest;
@@ -28,7 +28,7 @@ pub(crate) struct Placed {
 /// Where the entries of its list begin.
 fn base(entry: &Placed) -> u64
     requires { IsListed (seen_placed entry.now) }
-    ensures value { result ≡ base_of entry.now.issuer entry.now.scope }
+    ensures value { result ≡ list_base entry.now.issuer entry.now.scope }
     ensures room { result + 4294967296 < 18446744073709551616 }
 {
     (u64::from(entry.issuer) * 4 + u64::from(entry.scope)) * ROOM
@@ -123,12 +123,12 @@ pub(crate) struct EntryTest {
 impl RowTest for EntryTest {
     ghost use Rattle.std.specs.Prelude.{◌≡◌, map, None, option_map};
     ghost use Rattle.std.specs.List.{AllByRecursion};
-    ghost use Rattle.store_adoption.specs.Cells.{IsEntryCells, AreChained, entry_in, last_of};
+    ghost use Rattle.store_adoption.specs.Cells.{IsEntryCells, AreChained, entry_of_row, last_of};
     ghost use Rattle.store_adoption.specs.Seen.{seen_placed};
 
-    ghost passed = { λ test rows. AllByRecursion IsEntryCells rows × AreChained None (map entry_in rows) × (option_map seen_placed test.last ≡ last_of (map entry_in rows)) };
+    ghost passed = { λ test rows. AllByRecursion IsEntryCells rows × AreChained None (map entry_of_row rows) × (option_map seen_placed test.last ≡ last_of (map entry_of_row rows)) };
 
-    ghost are_formed = { λ test rows. AllByRecursion IsEntryCells rows × AreChained None (map entry_in rows) };
+    ghost are_formed = { λ test rows. AllByRecursion IsEntryCells rows × AreChained None (map entry_of_row rows) };
 
     fn take(&mut self, row: &Row) -> Result<(), StoreFault> {
         let entry = match read_placed(row) {

@@ -2,7 +2,7 @@
 
 ghost use Rattle.std.specs.Prelude.{◌≡◌, Err, IfOk, ◌≢◌};
 ghost use Rattle.store_adoption.specs.Cells.{IsUnscopedCrlCells, IsUnscopedEntryCells, HasHead, head_in, unscoped_crl_in, unscoped_entry_in};
-ghost use Rattle.store_adoption.specs.Seen.{seen_list, seen_own, IsListIn, IsOwnIn};
+ghost use Rattle.store_adoption.specs.Seen.{seen_unscoped_list, seen_own, IsListIn, IsOwnIn};
 ghost use Rattle.store_rows.specs.Seen.{seen_head};
 
 use crate::cell::{below, blob, number, whole};
@@ -49,9 +49,9 @@ impl RowTest for ListTest {
     ghost use Rattle.std.specs.Prelude.{◌≡◌, map};
     ghost use Rattle.std.specs.List.{AllByRecursion};
     ghost use Rattle.store_adoption.specs.Cells.{IsUnscopedCrlCells, unscoped_crl_in};
-    ghost use Rattle.store_adoption.specs.Seen.{seen_list};
+    ghost use Rattle.store_adoption.specs.Seen.{seen_unscoped_list};
 
-    ghost passed = { λ test rows. AllByRecursion (IsUnscopedCrlCells test.next) rows × (map seen_list test.lists.items ≡ map unscoped_crl_in rows) };
+    ghost passed = { λ test rows. AllByRecursion (IsUnscopedCrlCells test.next) rows × (map seen_unscoped_list test.lists.items ≡ map unscoped_crl_in rows) };
 
     ghost are_formed = { λ test rows. AllByRecursion (IsUnscopedCrlCells test.next) rows };
 

@@ -2,6 +2,8 @@
 
 ghost use Rattle.store_sql.specs.Statements.{CommitsNothing};
 ghost use Rattle.store_sql.specs.Inside.{inside, IsInTransaction, KeepsReference};
+ghost use Rattle.store_sql.specs.Tables.{no_schema};
+ghost use Rattle.store_rows.specs.Making.{BuildsForCauseIn};
 ghost use Rattle.store_maps.specs.Creation.{MakesStoreIn};
 
 use sqlite::{Alter, Transaction};
@@ -13,10 +15,9 @@ pub fn make<S: Alter>(tx: &mut Transaction<'_, S>) -> Result<(), StoreFault>
     requires inside { IsInTransaction S.Store tx.old }
     ensures same_reference { KeepsReference tx.old tx.new }
     ensures makes { MakesStoreIn S.Store tx.old tx.new result }
+    ensures caused { BuildsForCauseIn S.Store tx.old tx.new no_schema result }
     ensures survives { CommitsNothing (inside S.Store tx.old) (inside S.Store tx.new) }
 {
-    match make_tables(tx) {
-        Ok(()) => Ok(()),
-        Err(fault) => Err(fault),
-    }
+    make_tables(tx)?;
+    Ok(())
 }

@@ -1,6 +1,6 @@
 //! Look-ups of what responses say.
 
-ghost use Rattle.statements_facts.specs.Fact.{issuer_of};
+ghost use Rattle.statements_facts.specs.Fact.{seen_issuer};
 ghost use Rattle.store_sql.specs.Statements.{CommitsNothing};
 ghost use Rattle.store_sql.specs.Inside.{inside, IsInTransaction, KeepsReference, SucceedsOnlyIfOpen};
 ghost use Rattle.store_maps.specs.LooksUp.{LooksUpInside, CausedOverStore};
@@ -22,7 +22,7 @@ pub fn ocsp<'x, S: Alter>(
     requires inside { IsInTransaction S.Store tx.old }
     ensures same_reference { KeepsReference tx.old tx.new }
     ensures looks_up { LooksUpInside S.Store tx.old tx.new
-        (IsOcspHeld (issuer_of issuer.now) name_hash.now serial.now) result }
+        (IsOcspHeld (seen_issuer issuer.now) name_hash.now serial.now) result }
     ensures caused { CausedOverStore S.Store tx.old tx.new result }
     ensures open { SucceedsOnlyIfOpen S.Store tx.old tx.new result }
     ensures survives { CommitsNothing (inside S.Store tx.old) (inside S.Store tx.new) }

@@ -1,7 +1,7 @@
 //! Look-ups of all that is held of one certificate.
 
 ghost use Rattle.std.specs.Prelude.{◌<◌};
-ghost use Rattle.statements_facts.specs.Fact.{issuer_of};
+ghost use Rattle.statements_facts.specs.Fact.{seen_issuer};
 ghost use Rattle.store_sql.specs.Statements.{CommitsNothing};
 ghost use Rattle.store_sql.specs.Inside.{inside, IsInTransaction, KeepsReference, SucceedsOnlyIfOpen};
 ghost use Rattle.store_rows.specs.Steps.{FindsIn, CausedIn};
@@ -98,7 +98,7 @@ pub fn answers_on<S: Alter>(
     requires inside { IsInTransaction S.Store tx.old }
     ensures same_reference { KeepsReference tx.old tx.new }
     ensures looks_up { LooksUpInside S.Store tx.old tx.new
-        (AreAnswersHeld (issuer_of issuer.now) key.now) result }
+        (AreAnswersHeld (seen_issuer issuer.now) key.now) result }
     ensures caused { CausedOverStore S.Store tx.old tx.new result }
     ensures open { SucceedsOnlyIfOpen S.Store tx.old tx.new result }
     ensures survives { CommitsNothing (inside S.Store tx.old) (inside S.Store tx.new) }

@@ -10,21 +10,22 @@ use Rattle.sqlite_rules.specs.Cast.{as_integer}
 use Rattle.sqlite.specs.State.{State, ExecutesInside}
 use Rattle.statements_facts.specs.declared.scope.Scope.{Scope}
 use Rattle.statements_facts.specs.declared.scope.Scope.TheVariants.{All, User, Ca}
+use Rattle.statements_facts.specs.Statement.{Holdings}
 use Rattle.store_sql.specs.declared.origin.Origin.TheVariants.{Migrated}
 use Rattle.store_sql.specs.Texts.{create_scoped_crls, create_scoped_entries, delete_version, insert_version}
 use Rattle.store_sql.specs.Queries.{is_param}
 use Rattle.store_sql.specs.Tables.{version_1_schema, half_schema, store_schema, scoped_crls_table, scoped_entries_table}
-use Rattle.store_sql.proofs.Laws.{makes, makes_crls, makes_entries, deletes_version, inserts_version, deletes_by, inserts_at, passing, equal_ints}
+use Rattle.store_sql.proofs.Laws.{Leaves, makes, makes_crls, makes_entries, deletes_version, inserts_version, deletes_by, inserts_at, passing, equal_ints}
 use Rattle.store_rows.specs.Contents.{SingleRow}
 use Rattle.store_rows.specs.Holding.{IsSaid, next_id}
 use Rattle.store_adoption.specs.Version1.{UnscopedCrl, UnscopedEntry, without_lists, unscoped_crl_under, for_all_certificates, version_1_row}
 use Rattle.store_taking.specs.Passing.{HasStepped}
-use Rattle.store_migration.specs.Moved.{IsOld, HasTables, HasMoved}
+use Rattle.store_migration.specs.Moved.{IsOld, HasNewTables, HasMoved}
 
 -- ---- the tables
 
 pub tables_made : (old mid new : State) (one two : ℕ) (crls : List UnscopedCrl) (entries : List UnscopedEntry) → ExecutesInside 0 create_scoped_crls [] old mid (Ok one) → ExecutesInside 0 create_scoped_entries [] mid new (Ok two)
-    → HasStepped old new (IsOld crls entries) (HasTables crls entries)
+    → HasStepped old new (IsOld crls entries) (HasNewTables crls entries)
 tables_made old mid new one two crls entries a b = record {
   keeps = record { was_open = λ _. a.1.was_open; committed = λ _. b.1.committed_is ∙ a.1.committed_is };
   mode = rw b.1.mode refl;
@@ -79,15 +80,20 @@ no_list entries id All = refl
 no_list entries id User = refl
 no_list entries id Ca = refl
 
+pub version_gone : (old new : State) (count : ℕ) (crls : List UnscopedCrl) (entries : List UnscopedEntry) (held : Holdings) → HasNewTables crls entries old.now held → ExecutesInside 0 delete_version (Int (pos 1) ∷ []) old new (Ok count)
+    → Leaves (store_schema Migrated) 0 old new []
+version_gone old new count crls entries held t a =
+    let x = deletes_version Migrated in
+    deletes_by (store_schema Migrated) 0 _ 0 _ _ _ _ _ refl (λ keys lost news. refl) (λ (u : Unit {0}). version_1_row) (λ u. pos 1) (λ u. refl)
+    delete_version (Int (pos 1) ∷ []) (is_param 0 0 ∷ []) (λ u. true) x.0 x.1 passes_1 (λ u. refl) old new (tt ∷ []) count t.schema_is t.version (tt, tt) a.0
+
 pub version_set : (old mid new : State) (one two : ℕ) (crls : List UnscopedCrl) (entries : List UnscopedEntry) → ExecutesInside 0 delete_version (Int (pos 1) ∷ []) old mid (Ok one) → ExecutesInside 0 insert_version (Int (pos 1) ∷ Int (pos 2) ∷ []) mid new (Ok two)
-    → HasStepped old new (HasTables crls entries) (HasMoved crls entries [])
+    → HasStepped old new (HasNewTables crls entries) (HasMoved crls entries [])
 version_set old mid new one two crls entries a b = record {
   keeps = record { was_open = λ _. a.1.was_open; committed = λ _. b.1.committed_is ∙ a.1.committed_is };
   mode = rw b.1.mode refl;
   held = λ held t.
-      let x = deletes_version Migrated in
-      let gone = deletes_by (store_schema Migrated) 0 _ 0 _ _ _ _ _ refl (λ keys lost news. refl) (λ (u : Unit {0}). version_1_row) (λ u. pos 1) (λ u. refl)
-      delete_version (Int (pos 1) ∷ []) (is_param 0 0 ∷ []) (λ u. true) x.0 x.1 passes_1 (λ u. refl) old mid (tt ∷ []) one t.schema_is t.version (tt, tt) a.0 in
+      let gone = version_gone old mid one crls entries held t a in
       let y = inserts_version Migrated in
       let left = inserts_at (store_schema Migrated) 0 _ 0 _ _ _ _ _ refl (λ keys lost news. refl) (λ (n : ℤ). Int n ∷ Null ∷ Int (pos 2) ∷ []) (λ n. n) (λ n. refl) insert_version (Int (pos 1) ∷ Int (pos 2) ∷ []) _ 3 (pos 1) (Null ∷ Int (pos 2) ∷ []) y.0 y.1
       (rw (as_int (pos 1), cast_null, cast_int (pos 2)) refl) mid new [] two gone.schema_is gone.rows_are b.0 in
@@ -124,5 +130,6 @@ version_set old mid new one two crls entries a b = record {
         issuers_are = refl;
         singles_are = refl;
         lists = no_list entries;
+        ids = tt;
       };
 }

@@ -14,11 +14,11 @@ use Rattle.store_maps.proofs.HeldLaws.{eq_of, is_eq_of}
 use Rattle.statements_facts.specs.Listed.{seen_listed}
 use Rattle.store_adoption.specs.Version1.{listed_under}
 use Rattle.store_migration.specs.declared.grouped.IssuersEntry.{IssuersEntry}
-use Rattle.store_migration.specs.Grouped.{HasSameLists, seen_entry}
+use Rattle.store_migration.specs.Grouped.{HasSameLists, seen_unscoped_entry}
 
 -- ---- the entries of an issuer
 
-pub under : (all : List IssuersEntry) (id : ℕ) → listed_under (map seen_entry all) id ≡ map (λ entry. seen_listed entry.listed) (filter (λ entry. entry.issuer == id) all)
+pub under : (all : List IssuersEntry) (id : ℕ) → listed_under (map seen_unscoped_entry all) id ≡ map (λ entry. seen_listed entry.listed) (filter (λ entry. entry.issuer == id) all)
 under [] id = refl
 under (entry ∷ all) id = elim (cases_Bool (entry.issuer == id)) [
   | inl is ↦ rw is (ap (λ rest. seen_listed entry.listed ∷ rest) (under all id))
@@ -66,7 +66,7 @@ same_run [] [] stable id = refl
 same_run [] (y ∷ ys) stable id = at_issuer [] (y ∷ ys) stable id y
 same_run (x ∷ xs) ys stable id = at_issuer (x ∷ xs) ys stable id x
 
-pub same_lists : (xs ys : List IssuersEntry) → IsStableByKey (λ entry. entry.issuer) nat_cmp xs ys → HasSameLists (map seen_entry ys) (map seen_entry xs)
+pub same_lists : (xs ys : List IssuersEntry) → IsStableByKey (λ entry. entry.issuer) nat_cmp xs ys → HasSameLists (map seen_unscoped_entry ys) (map seen_unscoped_entry xs)
 same_lists xs ys stable id = under ys id ∙ ap (map (λ entry. seen_listed entry.listed)) (same_run xs ys stable id) ∙ sym (under xs id)
 
 -- ---- those of one issuer stand behind one another

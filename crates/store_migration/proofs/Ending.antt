@@ -1,19 +1,21 @@
 -- The transaction ends.
-use Rattle.std.proofs.Common.{◌≡◌, true, List, subst, inr}
+use Rattle.std.proofs.Common.{◌≡◌, true, List, subst, sym, inr}
 use Rattle.sqlite.specs.Effect.{Database}
 use Rattle.sqlite.specs.Held.{Held, state}
-use Rattle.sqlite.specs.State.{State, KeepsCommit, IsRolledBack}
+use Rattle.sqlite.specs.State.{State, KeepsCommit, IsRolledBack, Survives}
 use Rattle.sqlite.specs.Tree.{Trees}
 use Rattle.sqlite.specs.Store.{Ghosts}
 use Rattle.sqlite.proofs.InsideLemmas.{unchanged_keeps, keeps_then}
 use Rattle.statements_facts.specs.Statement.{Holdings}
 use Rattle.store_sql.specs.declared.fault.StoreFault.{StoreFault}
+use Rattle.store_sql.proofs.Laws.{begun_refuses, sooner_refuses}
 use Rattle.store_maps.specs.Held.{IsStoreOf}
 use Rattle.store_maps.proofs.HeldLaws.{trees_of}
 use Rattle.store_adoption.specs.Version1.{UnscopedCrl, UnscopedEntry, IsVersion1Of, HasLists}
 use Rattle.store_taking.specs.Passing.{HasStepped, StepFails}
 use Rattle.store_migration.specs.Moved.{IsOld}
 use Rattle.store_migration.specs.Migrates.{LeavesMoved}
+use Rattle.store_migration.specs.Moves.{StopIsCaused}
 
 pub old_of : (crls : List UnscopedCrl) (entries : List UnscopedEntry) (db : Database) (held : Holdings) → HasLists crls entries db → IsVersion1Of db held → IsOld crls entries db held
 old_of crls entries db held has it = record {
@@ -40,3 +42,7 @@ module _ {S : Type 0} (g : Ghosts S) (old begun : Held S) (is : begun ≡ record
   stops_moved last new fault stops back =
       let h = subst (λ b. StepFails (state g b) last (IsOld crls entries) fault) is stops in
       (keeps_then (state g old) last new (record { was_open = h.keeps.was_open; committed = h.keeps.committed }) (unchanged_keeps last new (inr back)), λ ours held it. h.formed ours held it)
+
+  pub stop_ends : (last new : State) (fault : StoreFault) (P : Trees → Type 0) → StopIsCaused (IsOld crls entries) (state g begun) last fault → Survives last new P → StopIsCaused (IsOld crls entries) (state g old) new fault
+  stop_ends last new fault P caused second e held was =
+      sooner_refuses (state g old) last new P second (begun_refuses g old begun is last (caused e held (subst (λ h. IsOld crls entries (state g h).now held) (sym is) was)))

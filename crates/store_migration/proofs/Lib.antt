@@ -1,5 +1,8 @@
 mod Old
 mod Beside
 mod ByIssuer
+mod Fitting
+mod Counting
 mod Moving
+mod Stopping
 mod Ending

@@ -3,7 +3,7 @@ use Rattle.std.proofs.Common.{◌≡◌, ◌≢◌, ◌⊎◌, ◌<◌, ◌+◌,
 use Rattle.std.proofs.Math.Path.{fun_ext}
 use Rattle.std.proofs.Math.Seq.{take-length}
 use Rattle.std.proofs.lemmas.Bool.{cases_Bool}
-use Rattle.std.proofs.lemmas.List.{map_more, take-append-drop, map-append}
+use Rattle.std.proofs.lemmas.List.{map_more, take-append-drop, map-append, length-append}
 use Rattle.std.specs.List.{AllByRecursion}
 use Rattle.sqlite.specs.Effect.{Database}
 use Rattle.sqlite.specs.Edit.{next_rowid}
@@ -17,18 +17,19 @@ use Rattle.store_sql.specs.declared.fault.StoreFault.{StoreFault}
 use Rattle.store_sql.specs.declared.origin.Origin.TheVariants.{Migrated}
 use Rattle.store_rows.specs.Contents.{CrlRow, CrlHead, Contents, crl_row, id_of, is_crl_of, scope_number}
 use Rattle.store_rows.specs.Places.{Replaces, replaced}
-use Rattle.store_rows.specs.Holding.{AreInForm, FitInList, HasRoom, IsNumbered, next_id, with_crl}
+use Rattle.store_rows.specs.Holding.{AreInForm, FitInList, HasRoom, IsNumbered, crls_and, next_id, with_crl}
 use Rattle.store_rows.specs.Steps.{Moves, Fails}
 use Rattle.store_rows.proofs.Laws.{replaces, ascends}
 use Rattle.store_maps.specs.Held.{crl_under, held_in, IsStoreOf}
 use Rattle.store_maps.proofs.HeldLaws.{eq_of, is_eq_of, and_parts}
 use Rattle.store_adoption.specs.declared.unscoped.UnscopedList.{UnscopedList}
-use Rattle.store_adoption.specs.Seen.{seen_list}
-use Rattle.store_adoption.specs.Version1.{UnscopedCrl, UnscopedEntry, UnscopedContents, entries_in, held_in_version_1, listed_under, unscoped_crl_under, for_all_certificates}
+use Rattle.store_adoption.specs.Seen.{seen_unscoped_list}
+use Rattle.store_adoption.specs.Version1.{UnscopedCrl, UnscopedEntry, UnscopedContents, unscoped_entries, held_in_version_1, listed_under, unscoped_crl_under, for_all_certificates}
 use Rattle.store_taking.specs.Lists.{with_list}
 use Rattle.store_taking.specs.Passing.{HasStepped, StepFails}
-use Rattle.store_taking.proofs.Laws.{crl_in_form, entries_in_form, list_owned}
-use Rattle.store_migration.specs.Moved.{HasMoved, IsNext}
+use Rattle.store_taking.proofs.Laws.{all_and, all_as, all_filtered, crl_in_form, entries_in_form, list_owned}
+use Rattle.store_migration.specs.Moved.{HasMoved, IsAmongFirst, IsNext}
+use Rattle.store_migration.proofs.Counting.{among_more, next_is_among}
 
 module _ {X : Type 0} (p q : X → Bool) where
   -- what is put behind the others is found where they are gone
@@ -90,11 +91,11 @@ module _ (it : Contents) (id : ℕ) (head : CrlHead) (listed : List ListedSerial
 
 -- ---- lists so far, and one more
 
-abbrev Before : UnscopedCrl → UnscopedCrl → Type 0
+abbrev pub Before : UnscopedCrl → UnscopedCrl → Type 0
 Before one other = one.issuer < other.issuer
 
 -- a list is behind those of lesser ids
-lost : (moved : List UnscopedCrl) (crl : UnscopedCrl) (rest : List UnscopedCrl) → IsAscending Before ((moved ++ crl ∷ []) ++ rest) → AllByRecursion (λ (c : UnscopedCrl). c.issuer < crl.issuer) moved
+pub lost : (moved : List UnscopedCrl) (crl : UnscopedCrl) (rest : List UnscopedCrl) → IsAscending Before ((moved ++ crl ∷ []) ++ rest) → AllByRecursion (λ (c : UnscopedCrl). c.issuer < crl.issuer) moved
 lost [] crl rest up = tt
 lost (c ∷ moved) crl rest up = (here moved up.0, lost moved crl rest up.1)
   where
@@ -102,7 +103,7 @@ lost (c ∷ moved) crl rest up = (here moved up.0, lost moved crl rest up.1)
     here [] h = h.0
     here (d ∷ moved) h = here moved h.1
 
-member : (P : UnscopedCrl → Type 0) (moved : List UnscopedCrl) (crl : UnscopedCrl) (rest : List UnscopedCrl) → AllByRecursion P ((moved ++ crl ∷ []) ++ rest) → P crl
+pub member : (P : UnscopedCrl → Type 0) (moved : List UnscopedCrl) (crl : UnscopedCrl) (rest : List UnscopedCrl) → AllByRecursion P ((moved ++ crl ∷ []) ++ rest) → P crl
 member P [] crl rest h = h.0
 member P (c ∷ moved) crl rest h = member P moved crl rest h.1
 
@@ -143,6 +144,15 @@ module _ (entries : List UnscopedEntry) (moved : List UnscopedCrl) (crl : Unscop
 
 -- ---- a list in its place
 
+-- the id of its row is the next one
+one_more_id : (moved : List UnscopedCrl) (crl : UnscopedCrl) (rows : List CrlRow) → AllByRecursion (λ (row : CrlRow). IsAmongFirst (length moved) row.id) rows
+    → AllByRecursion (λ (row : CrlRow). IsAmongFirst (length (moved ++ crl ∷ [])) row.id) (crls_and crl.issuer All crl.head.number crl.head.window (filter (λ row. not (is_crl_of crl.issuer All row)) rows))
+one_more_id moved crl rows ids =
+    let others = filter (λ row. not (is_crl_of crl.issuer All row)) rows in
+    let left = all_filtered (λ (row : CrlRow). IsAmongFirst (length moved) row.id) (λ row. not (is_crl_of crl.issuer All row)) rows ids in
+    subst (λ n. AllByRecursion (λ (row : CrlRow). IsAmongFirst n row.id) (crls_and crl.issuer All crl.head.number crl.head.window others)) (sym (length-append moved (crl ∷ [])))
+    (all_and (λ (row : CrlRow). IsAmongFirst (length moved + 1) row.id) others _ (all_as (λ (row : CrlRow). IsAmongFirst (length moved) row.id) (λ (row : CrlRow). IsAmongFirst (length moved + 1) row.id) others (λ row h. among_more (length moved) row.id h) left) (next_is_among (length moved) others left))
+
 pub list_moves : (old new : State) (crls : List UnscopedCrl) (entries : List UnscopedEntry) (moved : List UnscopedCrl) (crl : UnscopedCrl) (listed : List ListedSerial) → Moves old new (with_list crl.issuer All crl.head listed) → FitInList listed → HasRoom crl.issuer
     → ((serial : List ℕ) → first_reason listed serial ≡ first_reason (listed_under entries crl.issuer) serial) → IsNext crls moved crl → HasStepped old new (HasMoved crls entries moved) (HasMoved crls entries (moved ++ crl ∷ []))
 list_moves old new crls entries moved crl listed moves formed room reasons next = record {
@@ -164,6 +174,7 @@ list_moves old new crls entries moved crl listed moves formed room reasons next 
         issuers_are = m.issuers_are;
         singles_are = m.singles_are;
         lists = stands entries moved crl listed formed room reasons low it m.form m.lists;
+        ids = one_more_id moved crl it.crls m.ids;
       };
 }
 
@@ -179,21 +190,21 @@ pub nothing_passes : (s : State) (P : Database → Holdings → Type 0) → IsTr
 nothing_passes s P inside = record { keeps = record { was_open = λ h. h; committed = λ _. refl }; mode = inside; held = λ held was. was }
 
 -- the lists so far with the next, and what is left
-pub next_of : (all : List UnscopedList) (k : ℕ) (d : UnscopedList) → k < length all → IsNext (map seen_list all) (map seen_list (take k all)) (seen_list (get_or all k d))
+pub next_of : (all : List UnscopedList) (k : ℕ) (d : UnscopedList) → k < length all → IsNext (map seen_unscoped_list all) (map seen_unscoped_list (take k all)) (seen_unscoped_list (get_or all k d))
 next_of all k d low = (
-  map seen_list (drop (k + 1) all),
-  ap (map seen_list) (sym (take-append-drop (k + 1) all)) ∙ map-append seen_list (take (k + 1) all) (drop (k + 1) all) ∙ ap (λ xs. xs ++ map seen_list (drop (k + 1) all)) (map_more seen_list all k d low),
+  map seen_unscoped_list (drop (k + 1) all),
+  ap (map seen_unscoped_list) (sym (take-append-drop (k + 1) all)) ∙ map-append seen_unscoped_list (take (k + 1) all) (drop (k + 1) all) ∙ ap (λ xs. xs ++ map seen_unscoped_list (drop (k + 1) all)) (map_more seen_unscoped_list all k d low),
 )
 
-pub more_moved : (all : List UnscopedList) (k : ℕ) (d : UnscopedList) → k < length all → map seen_list (take (k + 1) all) ≡ map seen_list (take k all) ++ seen_list (get_or all k d) ∷ []
-more_moved all k d low = map_more seen_list all k d low
+pub more_moved : (all : List UnscopedList) (k : ℕ) (d : UnscopedList) → k < length all → map seen_unscoped_list (take (k + 1) all) ≡ map seen_unscoped_list (take k all) ++ seen_unscoped_list (get_or all k d) ∷ []
+more_moved all k d low = map_more seen_unscoped_list all k d low
 
-pub all_moved : (all : List UnscopedList) (k : ℕ) → k ≡ length all → map seen_list (take k all) ≡ map seen_list all
-all_moved all k at = ap (λ n. map seen_list (take n all)) at ∙ ap (map seen_list) (take-length all)
+pub all_moved : (all : List UnscopedList) (k : ℕ) → k ≡ length all → map seen_unscoped_list (take k all) ≡ map seen_unscoped_list all
+all_moved all k at = ap (λ n. map seen_unscoped_list (take n all)) at ∙ ap (map seen_unscoped_list) (take-length all)
 
 -- ---- the end
 
-slots : (it : UnscopedContents) (contents : Contents) (entries : List UnscopedEntry) → entries_in it ≡ entries → contents.issuers ≡ it.issuers → ((id : ℕ) (scope : Scope) → crl_under contents scope id ≡ for_all_certificates scope (unscoped_crl_under it.crls entries id))
+slots : (it : UnscopedContents) (contents : Contents) (entries : List UnscopedEntry) → unscoped_entries it ≡ entries → contents.issuers ≡ it.issuers → ((id : ℕ) (scope : Scope) → crl_under contents scope id ≡ for_all_certificates scope (unscoped_crl_under it.crls entries id))
     → (slot : CrlSlot) → (held_in contents).crl slot ≡ (held_in_version_1 it).crl slot
 slots it contents entries entries_are issuers lists slot =
     ap (λ rows. option_and_then (crl_under contents slot.scope) (id_of rows slot.issuer)) issuers

@@ -1,5 +1,6 @@
 -- How far the lists of a store of version 1 have come, inside the transaction.
-use Rattle.std.specs.Prelude.{◌≡◌, ◌<◌, ◌<ℤ◌, ◌++◌, ℕ, List, [], ◌∷◌, map}
+use Rattle.std.specs.Prelude.{◌≡◌, ◌<◌, ◌<ℤ◌, ◌≤ℤ◌, ◌++◌, ℕ, ℤ, pos, List, [], ◌∷◌, length, map}
+use Rattle.std.specs.List.{AllByRecursion}
 use Rattle.sqlite.specs.Effect.{Database, IsDatabase}
 use Rattle.sqlite_trees.specs.Tree.{IsAscending}
 use Rattle.statements_facts.specs.declared.scope.Scope.{Scope}
@@ -27,7 +28,7 @@ pub record IsOld (crls : List UnscopedCrl) (entries : List UnscopedEntry) (db : 
   pub rows : HoldsVersion1 db it
 
 -- the tables of version 2 stand beside those of version 1, and nothing is in them
-pub record HasTables (crls : List UnscopedCrl) (entries : List UnscopedEntry) (db : Database) (held : Holdings) : Type 0 where
+pub record HasNewTables (crls : List UnscopedCrl) (entries : List UnscopedEntry) (db : Database) (held : Holdings) : Type 0 where
   pub it : UnscopedContents
   pub was : HeldBefore crls entries it held
   pub schema_is : db.schema ≡ store_schema Migrated
@@ -37,6 +38,10 @@ pub record HasTables (crls : List UnscopedCrl) (entries : List UnscopedEntry) (d
   pub singles : db.trees 3 ≡ map single_row it.singles
   pub no_crls : db.trees 8 ≡ []
   pub no_entries : db.trees 10 ≡ []
+
+-- SQLite has given so many ids at most, from 1 on
+abbrev pub IsAmongFirst : ℕ → ℤ → Type 0
+IsAmongFirst count id = (pos 1 ≤ℤ id) × (id ≤ℤ pos count)
 
 -- the database is of version 2, and these lists are there, each for all certificates
 pub record HasMoved (crls : List UnscopedCrl) (entries : List UnscopedEntry) (moved : List UnscopedCrl) (db : Database) (held : Holdings) : Type 0 where
@@ -48,6 +53,7 @@ pub record HasMoved (crls : List UnscopedCrl) (entries : List UnscopedEntry) (mo
   pub owned : IsOwned contents
   pub issuers_are : contents.issuers ≡ it.issuers
   pub singles_are : contents.singles ≡ it.singles
+  pub ids : AllByRecursion (λ row. IsAmongFirst (length moved) row.id) contents.crls
   pub lists : (id : ℕ) (scope : Scope) → crl_under contents scope id ≡ for_all_certificates scope (unscoped_crl_under moved entries id)
 
 -- the list is the one behind these

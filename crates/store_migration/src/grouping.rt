@@ -3,7 +3,7 @@
 ghost use Rattle.std.specs.Prelude.{◌≡◌, ◌==◌, IfOk, filter, map};
 ghost use Rattle.std.specs.List.Sorted.{IsNonDecreasingBy};
 ghost use Rattle.store_adoption.specs.Seen.{seen_own};
-ghost use Rattle.store_migration.specs.Grouped.{seen_entry, KeepsLists, AreListedUnder};
+ghost use Rattle.store_migration.specs.Grouped.{seen_unscoped_entry, KeepsLists, AreListedUnder};
 
 use crate::grouped::IssuersEntry;
 use statements_facts::Listed;
@@ -12,7 +12,7 @@ use store_adoption::OwnEntry;
 
 /// The entries as they stand.
 fn in_place<'a>(alloc: Global, entries: &'a [OwnEntry]) -> Result<Vec<IssuersEntry<'a>>, AllocError>
-    ensures { IfOk result (λ all. map seen_entry all.items ≡ map seen_own entries.now) }
+    ensures { IfOk result (λ all. map seen_unscoped_entry all.items ≡ map seen_own entries.now) }
 {
     let mut all = Vec::with_capacity(alloc, entries.len())?;
     'each: for entry in entries {
@@ -30,7 +30,7 @@ fn in_place<'a>(alloc: Global, entries: &'a [OwnEntry]) -> Result<Vec<IssuersEnt
 /// The entries by the ids of their issuers; those of one issuer stay in their order.
 fn sorted_by_issuer(all: Vec<IssuersEntry<'_>>) -> Result<Vec<IssuersEntry<'_>>, AllocError>
     ensures rise { IfOk result (λ sorted. IsNonDecreasingBy (λ entry. entry.issuer) sorted.items) }
-    ensures same { IfOk result (KeepsLists (map seen_entry all.entry.items)) }
+    ensures same { IfOk result (KeepsLists (map seen_unscoped_entry all.entry.items)) }
 {
     let mut all = all;
     all.sort_by_key(|entry| entry.issuer)?;

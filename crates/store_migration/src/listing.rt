@@ -2,12 +2,13 @@
 
 ghost use Rattle.std.specs.Prelude.{◌≢◌, ◌<◌, ◌^◌, Err, IfOk, OnOk};
 ghost use Rattle.std.specs.List.Sorted.{IsNonDecreasingBy};
+ghost use Rattle.statements_facts.specs.Listed.{IsAscending};
 ghost use Rattle.store_sql.specs.Statements.{CommitsNothing};
 ghost use Rattle.store_rows.specs.Holding.{FitInList};
 ghost use Rattle.store_sql.specs.Inside.{inside, IsInTransaction, KeepsReference};
 ghost use Rattle.store_migration.specs.Grouped.{HasReasonsOf};
-ghost use Rattle.store_migration.specs.Moves.{with_unscoped, MovesList, MovesLists, MovesAll};
-ghost use Rattle.store_rows.specs.Steps.{ChangesIn};
+ghost use Rattle.store_migration.specs.Moves.{with_unscoped, HasRoomForList, MovesAll, MovesAllForCause, MovesList, MovesListForCause, MovesLists, MovesListsForCause};
+ghost use Rattle.store_rows.specs.Steps.{CausedIfRoomIn, ChangesIn};
 
 use crate::grouped::IssuersEntry;
 use crate::grouping::{by_issuer, entries_of};
@@ -26,7 +27,9 @@ fn revoked_of<'a>(
 ) -> Result<RevokedSerials<'a>, StoreFault>
     requires { IsNonDecreasingBy (λ entry. entry.issuer) sorted.now }
     ensures reasons { IfOk result (HasReasonsOf sorted.now issuer) }
+    ensures ascend { IfOk result (λ revoked. IsAscending revoked) }
     ensures memory { result ≢ Err StoreFault.Schema }
+    ensures no_store { result ≢ Err StoreFault.Store }
 {
     let listed = match entries_of(alloc, sorted, issuer) {
         Ok(listed) => listed,
@@ -56,6 +59,7 @@ fn put_revoked<S: Alter>(
     ensures same_reference { KeepsReference tx.old tx.new }
     ensures formed { OnOk result (FitInList revoked.now) }
     ensures changes { ChangesIn S.Store tx.old tx.new (with_unscoped list.now revoked.now) result }
+    ensures caused { CausedIfRoomIn S.Store tx.old tx.new (HasRoomForList revoked.now) result }
     ensures survives { CommitsNothing (inside S.Store tx.old) (inside S.Store tx.new) }
 {
     let head = list.head;
@@ -84,6 +88,7 @@ fn put_list<S: Alter>(
     requires inside { IsInTransaction S.Store tx.old }
     ensures same_reference { KeepsReference tx.old tx.new }
     ensures puts { MovesList S.Store tx.old tx.new list.now sorted.now result }
+    ensures caused { MovesListForCause S.Store tx.old tx.new list.now sorted.now result }
     ensures survives { CommitsNothing (inside S.Store tx.old) (inside S.Store tx.new) }
 {
     if list.issuer >= ID_LIMIT {
@@ -110,6 +115,7 @@ fn put_each<S: Alter>(
     requires inside { IsInTransaction S.Store tx.old }
     ensures same_reference { KeepsReference tx.old tx.new }
     ensures puts { MovesLists S.Store tx.old tx.new lists.now sorted.now result }
+    ensures caused { MovesListsForCause S.Store tx.old tx.new lists.now sorted.now result }
     ensures survives { CommitsNothing (inside S.Store tx.old) (inside S.Store tx.new) }
 {
     'each: for list in lists {
@@ -130,6 +136,7 @@ pub(crate) fn put_lists<S: Alter>(
     requires inside { IsInTransaction S.Store tx.old }
     ensures same_reference { KeepsReference tx.old tx.new }
     ensures puts { MovesAll S.Store tx.old tx.new all.now result }
+    ensures caused { MovesAllForCause S.Store tx.old tx.new all.now result }
     ensures survives { CommitsNothing (inside S.Store tx.old) (inside S.Store tx.new) }
 {
     let sorted = match by_issuer(alloc, all.entries.as_slice()) {

@@ -6,8 +6,8 @@ ghost use Rattle.store_sql.specs.Statements.{CommitsNothing, IsDurable};
 ghost use Rattle.store_adoption.specs.Creates.{IsSettled};
 ghost use Rattle.store_adoption.specs.Inspects.{LacksVersion1};
 ghost use Rattle.store_sql.specs.Inside.{inside, IsInTransaction, KeepsReference};
-ghost use Rattle.store_migration.specs.Moves.{BecomesStore};
-ghost use Rattle.store_migration.specs.Migrates.{MigratesListsOn, MayLeaveMoved, MigratesOn, MayLeaveMigrated};
+ghost use Rattle.store_migration.specs.Moves.{BecomesStore, BecomesStoreForCause};
+ghost use Rattle.store_migration.specs.Migrates.{MayLeaveMigrated, MayLeaveMoved, MigratesForCause, MigratesListsForCause, MigratesListsOn, MigratesOn};
 
 use crate::listing::put_lists;
 use crate::preparing::prepare;
@@ -24,6 +24,7 @@ fn move_lists<S: Alter>(
     requires inside { IsInTransaction S.Store tx.old }
     ensures same_reference { KeepsReference tx.old tx.new }
     ensures moves { BecomesStore S.Store tx.old tx.new all.now result }
+    ensures caused { BecomesStoreForCause S.Store tx.old tx.new all.now result }
     ensures survives { CommitsNothing (inside S.Store tx.old) (inside S.Store tx.new) }
 {
     if let Err(fault) = prepare(tx) {
@@ -44,6 +45,7 @@ fn move_committed<S: Alter>(
     requires idle { conn.old.in_transaction ≡ false }
     ensures idle { conn.new.in_transaction ≡ false }
     ensures moves { MigratesListsOn S.Store conn.old conn.new all.now result }
+    ensures caused { MigratesListsForCause S.Store conn.old conn.new all.now result }
     ensures crash { MayLeaveMoved (state S.Store conn.old) (state S.Store conn.new) all.now }
 {
     let mut tx = conn.transaction();
@@ -61,6 +63,7 @@ fn migrate_idle<S: Alter>(alloc: Global, conn: &mut Connection<S>) -> Result<(),
     ensures idle { conn.new.in_transaction ≡ false }
     ensures tables { LacksVersion1 (state S.Store conn.old).now → result ≡ Err StoreFault.Schema }
     ensures migrates { MigratesOn S.Store conn.old conn.new result }
+    ensures caused { MigratesForCause S.Store conn.old conn.new result }
     ensures crash { MayLeaveMigrated (state S.Store conn.old) (state S.Store conn.new) }
 {
     let all = match read_version_1(alloc, conn) {
@@ -80,6 +83,7 @@ pub fn migrate<S: Alter>(alloc: Global, conn: &mut Connection<S>) -> Result<(), 
     ensures idle { conn.new.in_transaction ≡ false }
     ensures tables { LacksVersion1 (state S.Store conn.old).now → result ≡ Err StoreFault.Schema }
     ensures migrates { MigratesOn S.Store conn.old conn.new result }
+    ensures caused { MigratesForCause S.Store conn.old conn.new result }
     ensures settled { IsSettled (state S.Store conn.old) × IsSettled (state S.Store conn.new) }
     ensures durable { IsDurable (state S.Store conn.new) }
     ensures crash { MayLeaveMigrated (state S.Store conn.old) (state S.Store conn.new) }

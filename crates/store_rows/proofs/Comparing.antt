@@ -13,7 +13,7 @@ use Rattle.store_sql.specs.declared.fault.StoreFault.{StoreFault}
 use Rattle.store_rows.specs.declared.beside.SerialAtPlace.{SerialAtPlace}
 use Rattle.store_rows.specs.declared.beside.SerialAtPlace.TheVariants.{Nothing, Same}
 use Rattle.store_rows.specs.Contents.{Contents}
-use Rattle.store_rows.specs.Places.{compared, beside_of, entries_under}
+use Rattle.store_rows.specs.Places.{beside_serial, beside_of, entries_under}
 use Rattle.store_rows.specs.Holding.{HasContents, AreInForm}
 use Rattle.store_rows.specs.Steps.{Stays, Fails, Finds, HasFound}
 use Rattle.store_rows.proofs.Halving.{is_same}
@@ -41,7 +41,7 @@ stands_there (Some there) listed e =
     ap Some (λ i. record { serial = serial i; reason = reason i })
 
 beside_itself : (listed : ListedSerial) → beside_of (Some listed) listed.serial ≡ Same listed.reason
-beside_itself listed = ap (λ o. compared o listed.reason) (itself listed.serial)
+beside_itself listed = ap (λ o. beside_serial o listed.reason) (itself listed.serial)
 
 pub there_is : (there : _) (found : Option ListedSerial) (beside : SerialAtPlace) (listed : ListedSerial) → (IsTrue there ↔ (beside ≡ Same listed.reason)) → beside ≡ beside_of found listed.serial
     → IsTrue there ↔ (found ≡ Some listed)
@@ -50,7 +50,7 @@ there_is there found beside listed tests is = (
   λ e. tests.1 (is ∙ ap (λ o. beside_of o listed.serial) e ∙ beside_itself listed),
 )
 
-never_nothing : (o : Ordering) (reason : ℕ) → compared o reason ≡ Nothing → ⊥
+never_nothing : (o : Ordering) (reason : ℕ) → beside_serial o reason ≡ Nothing → ⊥
 never_nothing Less reason e = cc
 never_nothing Equal reason e = cc
 never_nothing Greater reason e = cc

@@ -23,7 +23,7 @@ still_empty : (old new : Trees) (tables : List Table) → KeepsRows tables old n
 still_empty old new [] same h = tt
 still_empty old new (t ∷ tables) same h = (same.0 ∙ h.0, still_empty old new tables same.1 h.1)
 
-one_more : (old new : State) (schema after : Schema) (table : Table) → MakesTable old new schema table → created schema table ≡ after → IsEmptyWith old.now schema → IsEmptyWith new.now after
+pub one_more : (old new : State) (schema after : Schema) (table : Table) → MakesTable old new schema table → created schema table ≡ after → IsEmptyWith old.now schema → IsEmptyWith new.now after
 one_more old new schema after table made is was = subst (IsEmptyWith new.now) is (record {
   schema_is = made.schema_is;
   empty = appended (λ t. new.now.trees t.tree ≡ []) schema.tables (record table { tree = next_tree schema }) (still_empty old.now.trees new.now.trees schema.tables made.others was.empty) made.empty;

@@ -14,7 +14,7 @@ use Rattle.store_sql.proofs.Laws.{selects_entry}
 use Rattle.store_rows.specs.declared.beside.SerialAtPlace.{SerialAtPlace}
 use Rattle.store_rows.specs.declared.beside.SerialAtPlace.TheVariants.{Nothing, Below, Same, Above}
 use Rattle.store_rows.specs.Contents.{EntryRow, Contents, listed_cells, shown, scope_number}
-use Rattle.store_rows.specs.Places.{base_of, beside_of, is_under, entries_under}
+use Rattle.store_rows.specs.Places.{list_base, beside_of, is_under, entries_under}
 use Rattle.store_rows.specs.Holding.{HasContents, AreInForm, HasByte}
 use Rattle.store_rows.specs.Steps.{Stays, Fails, Finds, HasFound}
 use Rattle.store_rows.proofs.Placing.{slot_fits}
@@ -38,11 +38,11 @@ has_at P (x ∷ xs) (suc k) h = has_at P xs k h.1
 pub stands : (old new : State) (issuer scope k place : ℕ) (serial : List ℕ) (rows : List Row) (result : Result SerialAtPlace StoreFault)
     → IfOk result (λ beside. (listed : Option ListedSerial) → IfSome listed HasByte → rows ≡ shown listed_cells listed → beside ≡ beside_of listed serial)
     → (result ≡ Err StoreFault.Schema → (listed : Option ListedSerial) → IfSome listed HasByte → rows ≡ shown listed_cells listed → ⊥)
-    → scope < 3 → k < 4294967296 → place ≡ base_of issuer scope + k
+    → scope < 3 → k < 4294967296 → place ≡ list_base issuer scope + k
     → IsTrue old.in_transaction → Shown select_entry (Int (pos place) ∷ []) old new rows
     → Finds old new (λ it beside. beside ≡ beside_of (slice_get (entries_under it.entries issuer scope) k) serial) result
 stands old new issuer scope k place serial rows result ok schema few low at inside h =
-    let params = Int (pos (base_of issuer scope + k)) ∷ [] in
+    let params = Int (pos (list_base issuer scope + k)) ∷ [] in
     let there = subst (λ n. Shown select_entry (Int (pos n) ∷ []) old new rows) at h in
     finds_shown old new select_entry params rows result listed_cells (λ beside listed. beside ≡ beside_of listed serial) HasByte (λ it. slice_get (entries_under it.entries issuer scope) k) (λ it beside. beside ≡ beside_of (slice_get (entries_under it.entries issuer scope) k) serial)
     ok schema inside there (λ origin. (selects_entry origin).2)

@@ -12,7 +12,7 @@ use Rattle.std.specs.declared.cmp.Ordering.{Ordering}
 use Rattle.sqlite_trees.specs.Tree.{IsAscending}
 use Rattle.store_rows.specs.declared.beside.SerialAtPlace.TheVariants.{Nothing, Below, Same, Above}
 use Rattle.statements_facts.specs.Listed.{ListedSerial, first_reason}
-use Rattle.store_rows.specs.Places.{IsBelow, beside_of, compared}
+use Rattle.store_rows.specs.Places.{IsBelow, beside_of, beside_serial}
 
 -- all before this place are below the serial
 pub record AreBelow (ps : List ListedSerial) (serial : List ℕ) (low : ℕ) : Type 0 where
@@ -36,17 +36,17 @@ rising_get (x ∷ ps) (suc j) (suc k) p q up low a b = rising_get ps j k p q up.
 one_of : {X : Type 0} (o : Option X) (a b : X) → o ≡ Some a → o ≡ Some b → a ≡ b
 one_of o a b e f = cc
 
-is_below : (o : Ordering) (r : ℕ) → compared o r ≡ Below → o ≡ Less
+is_below : (o : Ordering) (r : ℕ) → beside_serial o r ≡ Below → o ≡ Less
 is_below Less r e = refl
 is_below Equal r e = cc
 is_below Greater r e = cc
 
-is_above : (o : Ordering) (r : ℕ) → compared o r ≡ Above → o ≡ Greater
+is_above : (o : Ordering) (r : ℕ) → beside_serial o r ≡ Above → o ≡ Greater
 is_above Less r e = cc
 is_above Equal r e = cc
 is_above Greater r e = refl
 
-pub is_same : (o : Ordering) (r x : ℕ) → compared o r ≡ Same x → (o ≡ Equal) × (r ≡ x)
+pub is_same : (o : Ordering) (r x : ℕ) → beside_serial o r ≡ Same x → (o ≡ Equal) × (r ≡ x)
 is_same Less r x e = cc
 is_same Equal r x e = (refl, cc)
 is_same Greater r x e = cc
@@ -92,7 +92,7 @@ above_here ps serial m up e = elim ((slice_get_cases ps m).1) [
     split : (k m : ℕ) → m ≤ k → (m < k) ⊎ (k ≡ m)
     split k m h = grind arith
 
-never : (o : Ordering) (r : ℕ) → compared o r ≡ Nothing → ⊥
+never : (o : Ordering) (r : ℕ) → beside_serial o r ≡ Nothing → ⊥
 never Less r e = cc
 never Equal r e = cc
 never Greater r e = cc

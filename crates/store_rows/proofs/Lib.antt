@@ -8,6 +8,7 @@ mod Steps
 mod EntrySteps
 mod NewRows
 mod Refused
+mod GroupSteps
 mod Numbers
 mod Finding
 mod Issuers
@@ -15,6 +16,9 @@ mod Crls
 mod Singles
 mod Entries
 mod Refills
+mod Columns
 mod Comparing
 mod Creating
+mod Versions
+mod Unmade
 pub mod Laws

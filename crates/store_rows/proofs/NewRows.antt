@@ -1,9 +1,8 @@
 -- A row whose key no other row has, and which is not too long, breaks no rule of its table.
-use Rattle.std.proofs.Common.{◌≡◌, ◌≢◌, ◌<◌, ◌≤◌, ◌+◌, ℕ, ℤ, pos, List, [], ◌∷◌, map, find, filter, length, sum_by, Bool, true, false, not, ◌&&◌, ◌==◌, Option, Some, None, option_map, refl, sym, ap, subst, ◌∙◌, inl, inr, arith, true≢false}
+use Rattle.std.proofs.Common.{◌≡◌, ◌+◌, ℕ, ℤ, pos, List, [], ◌∷◌, map, find, filter, length, Bool, true, false, not, ◌&&◌, ◌==◌, Option, Some, None, option_map, refl, sym, ap, subst, ◌∙◌, inl, inr, arith, true≢false}
 use Rattle.std.proofs.lemmas.Bool.{cases_Bool, false_from_ne_true}
 use Rattle.std.specs.List.{AllByRecursion}
 use Rattle.std.specs.Str.{bytes_eq}
-use Rattle.asn.specs.NumberLaws.{number_octets}
 use Rattle.sqlite_schema.specs.declared.schema.Index.{Index}
 use Rattle.sqlite_schema.specs.Rules.{agree, index_reals, table_reals}
 use Rattle.sqlite_rules.specs.Edit.{IsOversized}
@@ -13,9 +12,7 @@ use Rattle.sqlite_trees.specs.View.{IsStorable}
 use Rattle.sqlite.specs.Order.{Row}
 use Rattle.sqlite.specs.Table.{Table}
 use Rattle.sqlite.specs.declared.types.Value.TheVariants.{Null, Int, Blob}
-use Rattle.statements_facts.specs.declared.scope.Scope.{Scope}
-use Rattle.statements_facts.specs.Statement.{IssuerIdentity, Window, OcspFact}
-use Rattle.statements_facts.specs.Listed.{ListedSerial}
+use Rattle.statements_facts.specs.Statement.{IssuerIdentity}
 use Rattle.store_sql.specs.declared.origin.Origin.{Origin}
 use Rattle.store_sql.specs.declared.origin.Origin.TheVariants.{Made, Migrated}
 use Rattle.store_sql.specs.Tables.{store_schema, issuers_table, ocsp_table, scoped_crls_table, scoped_entries_table, issuers_key, ocsp_key, scoped_crls_key, crls_tree, entries_tree}

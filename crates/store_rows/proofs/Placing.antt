@@ -6,7 +6,7 @@ use Rattle.std.proofs.lemmas.List.{map-append}
 use Rattle.std.specs.List.{AllByRecursion}
 use Rattle.sqlite_trees.specs.Tree.{IsAscending}
 use Rattle.store_rows.specs.Contents.{EntryRow}
-use Rattle.store_rows.specs.Places.{IsBelow, is_under, entries_under, base_of, StandFrom, IsInside, ArePlaced, is_at, at_most, put_entry, without}
+use Rattle.store_rows.specs.Places.{IsBelow, is_under, entries_under, list_base, StandFrom, IsInside, ArePlaced, is_at, at_most, put_entry, without}
 
 -- ---- lists
 
@@ -105,7 +105,7 @@ is_under_of i s e u = rw (is_eq_of e.issuer i u.issuer, is_eq_of e.scope s u.sco
 same_number : (q r p : ℕ) → q * 4294967296 ≤ p → p < q * 4294967296 + 4294967296 → r * 4294967296 ≤ p → p < r * 4294967296 + 4294967296 → q ≡ r
 same_number q r p a b c d = omega arith
 
-pub in_room : (i s : ℕ) (e : EntryRow) → s < 3 → IsInside e → base_of i s ≤ e.place → e.place < base_of i s + 4294967296 → Under i s e
+pub in_room : (i s : ℕ) (e : EntryRow) → s < 3 → IsInside e → list_base i s ≤ e.place → e.place < list_base i s + 4294967296 → Under i s e
 in_room i s e few it low high =
     let same : e.issuer * 4 + e.scope ≡ i * 4 + s = same_number (e.issuer * 4 + e.scope) (i * 4 + s) e.place it.low it.high low high in
     let scope = it.scope in
@@ -123,13 +123,13 @@ found_at n zero p (x ∷ es) e h = rw (is_eq_of x.place p (let is = h.0 in omega
 found_at n (suc k) p (x ∷ es) e h = rw (apart_of x.place p (λ same. let is = h.0 in omega arith)) (found_at (suc n) k p es (omega arith) h.1)
 
 -- a SELECT by id finds what its entries_under has at that place, and no more
-pub at_place : (es : List EntryRow) (i s k : ℕ) → ArePlaced es → s < 3 → k < 4294967296 → filter (is_at (base_of i s + k)) es ≡ at_most (slice_get (filter (is_under i s) es) k)
+pub at_place : (es : List EntryRow) (i s k : ℕ) → ArePlaced es → s < 3 → k < 4294967296 → filter (is_at (list_base i s + k)) es ≡ at_most (slice_get (filter (is_under i s) es) k)
 at_place es i s k placed few low =
-    sym (kept_twice (is_at (base_of i s + k)) (is_under i s) es (all_of IsInside (λ e. is_at (base_of i s + k) e ≡ true → is_under i s e ≡ true) inside es placed.inside))
-    ∙ found_at (base_of i s) k (base_of i s + k) (filter (is_under i s) es) refl (placed.stand i s)
+    sym (kept_twice (is_at (list_base i s + k)) (is_under i s) es (all_of IsInside (λ e. is_at (list_base i s + k) e ≡ true → is_under i s e ≡ true) inside es placed.inside))
+    ∙ found_at (list_base i s) k (list_base i s + k) (filter (is_under i s) es) refl (placed.stand i s)
   where
-    inside : (e : EntryRow) → IsInside e → is_at (base_of i s + k) e ≡ true → is_under i s e ≡ true
-    inside e it at = let is : e.place ≡ base_of i s + k = eq_of e.place (base_of i s + k) at in is_under_of i s e (in_room i s e few it (omega arith) (omega arith))
+    inside : (e : EntryRow) → IsInside e → is_at (list_base i s + k) e ≡ true → is_under i s e ≡ true
+    inside e it at = let is : e.place ≡ list_base i s + k = eq_of e.place (list_base i s + k) at in is_under_of i s e (in_room i s e few it (omega arith) (omega arith))
 
 -- ---- a entries_under is emptied
 
@@ -159,7 +159,7 @@ pub placed_without : (es : List EntryRow) (i s : ℕ) → ArePlaced es → ArePl
 placed_without es i s placed = record {
   rise = ascends_kept (λ a b. a.place < b.place) (λ e. not (is_under i s e)) es placed.rise;
   inside = all_kept IsInside (λ e. not (is_under i s e)) es placed.inside;
-  stand = λ j t. either (λ xs. StandFrom (base_of j t) xs) j t (placed.stand j t) tt;
+  stand = λ j t. either (λ xs. StandFrom (list_base j t) xs) j t (placed.stand j t) tt;
   serials = λ j t. either (λ xs. IsAscending IsBelow (map (λ e. e.listed) xs)) j t (placed.serials j t) tt;
 }
   where
@@ -241,7 +241,7 @@ stand_pushed n (x ∷ xs) new h e = (h.0, stand_pushed (suc n) xs new h.1 (omega
 -- the row comes next in its entries_under
 pub record IsNext (es : List EntryRow) (new : EntryRow) : Type 0 where
   pub inside : IsInside new
-  pub next : new.place ≡ base_of new.issuer new.scope + length (filter (is_under new.issuer new.scope) es)
+  pub next : new.place ≡ list_base new.issuer new.scope + length (filter (is_under new.issuer new.scope) es)
   pub above : AllByRecursion (λ p. IsBelow p new.listed) (entries_under es new.issuer new.scope)
 
 pub own_slot : (new : EntryRow) → is_under new.issuer new.scope new ≡ true
@@ -249,8 +249,8 @@ own_slot new = is_under_of new.issuer new.scope new (record { issuer = refl; sco
 
 pub lows : (es : List EntryRow) (new : EntryRow) → ArePlaced es → IsNext es new → AllByRecursion (λ e. is_under new.issuer new.scope e ≡ true → e.place < new.place) es
 lows es new placed is = lifted (λ e. e.place < new.place) (is_under new.issuer new.scope) es
-    (all_of (λ e. e.place < base_of new.issuer new.scope + length (filter (is_under new.issuer new.scope) es)) (λ e. e.place < new.place) (λ e low. let next = is.next in omega arith) (filter (is_under new.issuer new.scope) es)
-    (stand_below (base_of new.issuer new.scope) (filter (is_under new.issuer new.scope) es) (placed.stand new.issuer new.scope)))
+    (all_of (λ e. e.place < list_base new.issuer new.scope + length (filter (is_under new.issuer new.scope) es)) (λ e. e.place < new.place) (λ e low. let next = is.next in omega arith) (filter (is_under new.issuer new.scope) es)
+    (stand_below (list_base new.issuer new.scope) (filter (is_under new.issuer new.scope) es) (placed.stand new.issuer new.scope)))
 
 both : {X : Type 0} (P Q R : X → Type 0) → ((x : X) → P x → Q x → R x) → (xs : List X) → AllByRecursion P xs → AllByRecursion Q xs → AllByRecursion R xs
 both P Q R f [] h k = tt
@@ -286,9 +286,9 @@ placed_put es new placed is = record {
   rise = rises_put new es placed.rise (fars es new placed is);
   inside = all_put IsInside new es is.inside placed.inside;
   stand = λ j t. elim (cases_Bool (is_under j t new)) [
-    | inl own ↦ let u = under j t new own in subst (λ a. StandFrom (base_of a t) (filter (is_under a t) (put_entry new es))) u.issuer
-        (subst (λ b. StandFrom (base_of new.issuer b) (filter (is_under new.issuer b) (put_entry new es))) u.scope
-        (rw (own_put es new placed is) (stand_pushed (base_of new.issuer new.scope) (filter (is_under new.issuer new.scope) es) new (placed.stand new.issuer new.scope) is.next)))
+    | inl own ↦ let u = under j t new own in subst (λ a. StandFrom (list_base a t) (filter (is_under a t) (put_entry new es))) u.issuer
+        (subst (λ b. StandFrom (list_base new.issuer b) (filter (is_under new.issuer b) (put_entry new es))) u.scope
+        (rw (own_put es new placed is) (stand_pushed (list_base new.issuer new.scope) (filter (is_under new.issuer new.scope) es) new (placed.stand new.issuer new.scope) is.next)))
     | inr out ↦ rw (put_other (is_under j t) new es out) (placed.stand j t)
   ];
   serials = λ j t. elim (cases_Bool (is_under j t new)) [
@@ -307,9 +307,9 @@ stand_fits n m (e ∷ xs) h low fits = let is = h.0 in let less = low.0 in let m
 
 pub slot_fits : (es : List EntryRow) (i s : ℕ) → ArePlaced es → length (filter (is_under i s) es) ≤ 4294967296
 slot_fits es i s placed =
-    let all = stand_fits (base_of i s) (base_of i s + 4294967296) (filter (is_under i s) es) (placed.stand i s)
-    (all_of (λ e. IsInside e × (is_under i s e ≡ true)) (λ e. e.place < base_of i s + 4294967296) high (filter (is_under i s) es) (all_with IsInside (is_under i s) es placed.inside)) (omega arith) in
+    let all = stand_fits (list_base i s) (list_base i s + 4294967296) (filter (is_under i s) es) (placed.stand i s)
+    (all_of (λ e. IsInside e × (is_under i s e ≡ true)) (λ e. e.place < list_base i s + 4294967296) high (filter (is_under i s) es) (all_with IsInside (is_under i s) es placed.inside)) (omega arith) in
     omega arith
   where
-    high : (e : EntryRow) → (IsInside e × (is_under i s e ≡ true)) → e.place < base_of i s + 4294967296
-    high e h = let u = under i s e h.1 in subst (λ a. e.place < base_of a s + 4294967296) u.issuer (subst (λ b. e.place < base_of e.issuer b + 4294967296) u.scope (h.0).high)
+    high : (e : EntryRow) → (IsInside e × (is_under i s e ≡ true)) → e.place < list_base i s + 4294967296
+    high e h = let u = under i s e h.1 in subst (λ a. e.place < list_base a s + 4294967296) u.issuer (subst (λ b. e.place < list_base e.issuer b + 4294967296) u.scope (h.0).high)

@@ -1,5 +1,5 @@
 -- Why rows are not written: over rows in form, if there is room for more, because the database may refuse.
-use Rattle.std.proofs.Common.{◌≡◌, ◌≢◌, ◌<◌, ◌≤◌, ◌+◌, ℕ, ℤ, pos, negsuc, ◌<ℤ◌, ◌≤ℤ◌, List, [], ◌∷◌, map, filter, length, true, false, not, None, Result, Ok, Err, IfErr, IsErrAnd, refl, sym, ap, subst, ◌∙◌, inl, inr, arith}
+use Rattle.std.proofs.Common.{◌≡◌, ◌≢◌, ◌<◌, ◌+◌, ℕ, ℤ, pos, negsuc, ◌<ℤ◌, ◌≤ℤ◌, List, [], ◌∷◌, map, filter, length, true, false, not, Result, Ok, Err, IfErr, IsErrAnd, refl, sym, subst, arith}
 use Rattle.std.proofs.lemmas.Int.{ints}
 use Rattle.std.specs.List.{AllByRecursion}
 use Rattle.asn.specs.NumberLaws.{number_octets}
@@ -20,20 +20,20 @@ use Rattle.store_sql.specs.declared.fault.StoreFault.TheVariants.{Store}
 use Rattle.store_sql.specs.declared.origin.Origin.{Origin}
 use Rattle.store_sql.specs.Cause.{MayRefuse}
 use Rattle.store_sql.specs.Fault.{fault_from}
-use Rattle.store_sql.specs.Tables.{store_schema, crls_at, crls_tree, entries_at, entries_tree}
+use Rattle.store_sql.specs.Tables.{store_schema, crls_position, crls_tree, entries_position, entries_tree}
 use Rattle.store_sql.specs.Texts.{insert_issuer, delete_crl, insert_crl, delete_entries, insert_entry, delete_single, insert_single}
 use Rattle.store_sql.proofs.Laws.{IsNewKey, delete_caused, chosen_caused, given_caused, below_next, fits_between, next_fits, apart_below, later_refuses, inserts_issuer, deletes_crl, inserts_crl, deletes_entries, inserts_entry, deletes_single, inserts_single, insert_issuer_whole, delete_crl_whole, insert_crl_whole, delete_entries_whole, insert_entry_whole, delete_single_whole, insert_single_whole, crl_deletion_typed, entries_deletion_typed, single_deletion_typed, issuer_insertion_typed, crl_insertion_typed, entry_insertion_typed, single_insertion_typed}
-use Rattle.store_rows.specs.Contents.{IssuerRow, CrlRow, EntryRow, SingleRow, Contents, issuer_row, crl_row, entry_row, single_row, crl_cells, listed_cells, said_cells, status_number, reason_number, scope_number, is_crl_of, is_single_of, id_of}
+use Rattle.store_rows.specs.Contents.{IssuerRow, CrlRow, EntryRow, SingleRow, Contents, issuer_row, crl_row, entry_row, single_row, crl_cells, listed_cells, said_cells, status_number, reason_number, scope_number, is_crl_of, is_single_of}
 use Rattle.store_rows.specs.Holding.{HasContents, AreInForm, HasRoom, next_id}
-use Rattle.store_rows.specs.Places.{base_of}
-use Rattle.store_rows.specs.Room.{FitRow, IssuerFitsRow, LeavesIds, CrlsLeaveAnId, SinglesLeaveIds, CanAddIssuer}
+use Rattle.store_rows.specs.Places.{list_base}
+use Rattle.store_rows.specs.Room.{FitRow, LeavesIds, CrlsLeaveAnId, SinglesLeaveIds, CanAddIssuer}
 use Rattle.store_rows.proofs.EntrySteps.{entries_stand, entries_alone, entry_cells}
 use Rattle.store_rows.proofs.Naturals.{rise_pos}
 use Rattle.store_rows.proofs.NewRows.{no_references, issuer_small, crl_small, entry_small, single_small, new_issuer_key, new_crl_key, new_single_key, no_entries_key, no_issuer, not_kept}
 use Rattle.store_rows.proofs.Steps.{issuers_stand, issuers_alone, singles_stand, singles_alone, crls_stand, crls_alone, next_is, crl_deleted, single_deleted}
 use Rattle.store_rows.proofs.Terms.{cast_null, cast_int, as_int}
 
-all_as : {X : Type 0} (P Q : X → Type 0) (xs : List X) → ((x : X) → P x → Q x) → AllByRecursion P xs → AllByRecursion Q xs
+pub all_as : {X : Type 0} (P Q : X → Type 0) (xs : List X) → ((x : X) → P x → Q x) → AllByRecursion P xs → AllByRecursion Q xs
 all_as P Q [] f h = tt
 all_as P Q (x ∷ xs) f h = (f x h.0, all_as P Q xs f h.1)
 
@@ -46,14 +46,14 @@ leaves_one id it = (it.low, (let h = it.high in grind (arith, ints)))
 room_below : (id : ℕ) → HasRoom id → (negsuc 9223372036854775807 ≤ℤ pos id) × (pos id <ℤ pos 9223372036854775807)
 room_below id low = (grind (arith, ints), grind (arith, ints))
 
-place_fits : (place : ℕ) → place < 9223372036854775808 → fits_i64 (pos place) ≡ true
+pub place_fits : (place : ℕ) → place < 9223372036854775808 → fits_i64 (pos place) ≡ true
 place_fits place low = fits_between (pos place) (grind (arith, ints)) (grind (arith, ints))
 
-other_place : (a b : ℕ) → a ≢ b → ¬ (pos a ≡ pos b)
+pub other_place : (a b : ℕ) → a ≢ b → ¬ (pos a ≡ pos b)
 other_place a b far e = far (let same : pos a ≡ pos b = e in grind (arith, ints))
 
 module _ (origin : Origin) (old new : State) (it : Contents) (held : HasContents old.now origin it) where
-  keeps : Keeps Unique (store_schema origin) old.now.trees
+  pub keeps : Keeps Unique (store_schema origin) old.now.trees
   keeps = subst (λ s. Keeps Unique s old.now.trees) held.schema_is (held.sound.obeys.rules Unique)
 
   pub issuer_not_added : (identity : IssuerIdentity) → AreInForm it → CanAddIssuer identity it
@@ -78,7 +78,7 @@ module _ (origin : Origin) (old new : State) (it : Contents) (held : HasContents
   pub crl_not_deleted : (issuer : ℕ) (scope : Scope) (error : Error) → ExecutesInside 0 delete_crl (Int (pos issuer) ∷ Int (pos (scope_number scope)) ∷ []) old new (Err error) → fault_from error ≡ Store → MayRefuse old new
   crl_not_deleted issuer scope =
       let text = deletes_crl origin in
-      delete_caused (store_schema origin) (crls_at origin) _ (crls_tree origin) _ _ _ _ _ (crls_stand origin) (crls_alone origin) (no_references origin)
+      delete_caused (store_schema origin) (crls_position origin) _ (crls_tree origin) _ _ _ _ _ (crls_stand origin) (crls_alone origin) (no_references origin)
       delete_crl (Int (pos issuer) ∷ Int (pos (scope_number scope)) ∷ []) text.1 (delete_crl_whole origin) old new held.schema_is _ text.0 (crl_deletion_typed origin (pos issuer) (pos (scope_number scope))) keeps
 
   pub crl_not_added : (issuer : ℕ) (scope : Scope) (number : ℕ) (window : Window) → ((x : CrlRow) → Has it.crls x → is_crl_of issuer scope x ≡ false) → CrlsLeaveAnId it
@@ -86,7 +86,7 @@ module _ (origin : Origin) (old new : State) (it : Contents) (held : HasContents
   crl_not_added issuer scope number window none room =
       let added : CrlRow = record { id = next_rowid (map crl_row it.crls); issuer = issuer; scope = scope; number = number; window = window } in
       let text = inserts_crl origin in
-      chosen_caused (store_schema origin) (crls_at origin) _ (crls_tree origin) _ _ _ _ _ (crls_stand origin) (crls_alone origin) (no_references origin) crl_row (λ x. x.id) (λ x. refl)
+      chosen_caused (store_schema origin) (crls_position origin) _ (crls_tree origin) _ _ _ _ _ (crls_stand origin) (crls_alone origin) (no_references origin) crl_row (λ x. x.id) (λ x. refl)
       insert_crl (Int (pos issuer) ∷ Int (pos (scope_number scope)) ∷ crl_cells number window) _ 6 (Int (pos issuer) ∷ Int (pos (scope_number scope)) ∷ crl_cells number window) text.0 text.1 (insert_crl_whole origin) (crl_insertion_typed (pos issuer) (pos (scope_number scope)) window.from window.until (number_octets 20 number))
       old new it.crls held.schema_is held.crls keeps (rw (cast_null, cast_int (pos issuer), cast_int (pos (scope_number scope)), cast_int window.from, cast_int window.until) refl)
       (record {
@@ -122,17 +122,17 @@ module _ (origin : Origin) (old new : State) (it : Contents) (held : HasContents
         small = single_small origin added short;
       })
 
-  pub entries_not_deleted : (issuer scope : ℕ) (error : Error) → ExecutesInside 0 delete_entries (Int (pos (base_of issuer scope)) ∷ Int (pos (base_of issuer scope + 4294967296)) ∷ []) old new (Err error) → fault_from error ≡ Store → MayRefuse old new
+  pub entries_not_deleted : (issuer scope : ℕ) (error : Error) → ExecutesInside 0 delete_entries (Int (pos (list_base issuer scope)) ∷ Int (pos (list_base issuer scope + 4294967296)) ∷ []) old new (Err error) → fault_from error ≡ Store → MayRefuse old new
   entries_not_deleted issuer scope =
       let text = deletes_entries origin in
-      delete_caused (store_schema origin) (entries_at origin) _ (entries_tree origin) _ _ _ _ _ (entries_stand origin) (entries_alone origin) (no_references origin)
-      delete_entries (Int (pos (base_of issuer scope)) ∷ Int (pos (base_of issuer scope + 4294967296)) ∷ []) text.1 (delete_entries_whole origin) old new held.schema_is _ text.0 (entries_deletion_typed origin (pos (base_of issuer scope)) (pos (base_of issuer scope + 4294967296))) keeps
+      delete_caused (store_schema origin) (entries_position origin) _ (entries_tree origin) _ _ _ _ _ (entries_stand origin) (entries_alone origin) (no_references origin)
+      delete_entries (Int (pos (list_base issuer scope)) ∷ Int (pos (list_base issuer scope + 4294967296)) ∷ []) text.1 (delete_entries_whole origin) old new held.schema_is _ text.0 (entries_deletion_typed origin (pos (list_base issuer scope)) (pos (list_base issuer scope + 4294967296))) keeps
 
   pub entry_not_added : (e : EntryRow) → AllByRecursion (λ x. x.place ≢ e.place) it.entries → e.place < 9223372036854775808 → FitRow (length e.listed.serial)
       → (error : Error) → ExecutesInside 0 insert_entry (entry_cells e) old new (Err error) → fault_from error ≡ Store → MayRefuse old new
   entry_not_added e apart low short =
       let text = inserts_entry origin in
-      given_caused (store_schema origin) (entries_at origin) _ (entries_tree origin) _ _ _ _ _ (entries_stand origin) (entries_alone origin) (no_references origin) entry_row (λ x. pos x.place) (λ x. refl)
+      given_caused (store_schema origin) (entries_position origin) _ (entries_tree origin) _ _ _ _ _ (entries_stand origin) (entries_alone origin) (no_references origin) entry_row (λ x. pos x.place) (λ x. refl)
       insert_entry (entry_cells e) _ 6 (Null ∷ Int (pos e.issuer) ∷ Int (pos e.scope) ∷ listed_cells e.listed) text.0 text.1 (insert_entry_whole origin) (entry_insertion_typed (pos e.place) (pos e.issuer) (pos e.scope) (pos e.listed.reason) e.listed.serial)
       old new it.entries held.schema_is held.entries keeps (pos e.place)
       (rw (as_int (pos e.place), cast_null, cast_int (pos e.issuer), cast_int (pos e.scope), cast_int (pos e.listed.reason)) refl)

@@ -21,7 +21,7 @@ use Rattle.statements_facts.specs.declared.scope.Scope.{Scope}
 use Rattle.statements_facts.specs.Statement.{IssuerIdentity, Window, OcspFact}
 use Rattle.store_sql.specs.declared.origin.Origin.{Origin}
 use Rattle.store_sql.specs.declared.origin.Origin.TheVariants.{Made, Migrated}
-use Rattle.store_sql.specs.Tables.{store_schema, issuers_table, ocsp_table, scoped_crls_table, crls_at, crls_tree, issuers_key, ocsp_key, scoped_crls_key}
+use Rattle.store_sql.specs.Tables.{store_schema, issuers_table, ocsp_table, scoped_crls_table, crls_position, crls_tree, issuers_key, ocsp_key, scoped_crls_key}
 use Rattle.store_sql.specs.Texts.{select_issuer, insert_issuer, select_crl, delete_crl, insert_crl, select_single, delete_single, insert_single}
 use Rattle.store_sql.specs.Queries.{is_param}
 use Rattle.store_sql.proofs.Laws.{deletes_by, inserts_one, finds_by, at_most, one_row, one_passes, equal_blobs, equal_ints, below_next, rises_kept, rises_pushed, selects_issuer, inserts_issuer, selects_crl, deletes_crl, inserts_crl, selects_single, deletes_single, inserts_single}
@@ -41,7 +41,7 @@ pub singles_stand : (origin : Origin) → slice_get (store_schema origin).tables
 singles_stand Made = refl
 singles_stand Migrated = refl
 
-pub crls_stand : (origin : Origin) → slice_get (store_schema origin).tables (crls_at origin) ≡ Some (scoped_crls_table (crls_tree origin))
+pub crls_stand : (origin : Origin) → slice_get (store_schema origin).tables (crls_position origin) ≡ Some (scoped_crls_table (crls_tree origin))
 crls_stand Made = refl
 crls_stand Migrated = refl
 
@@ -131,7 +131,7 @@ module _ (origin : Origin) (db : Database) (it : Contents) (held : HasContents d
   pub one_crl : (issuer : ℕ) (scope : Scope) → filter (is_crl_of issuer scope) it.crls ≡ at_most (find (is_crl_of issuer scope) it.crls)
   one_crl issuer scope = one_passes crl_row (λ x. x.id) (λ x. refl) (is_crl_of issuer scope) it.crls held.crls_rise (λ x y hx hy px py.
       let a = and_parts _ _ px in let b = and_parts _ _ py in
-      one_row crl_row (λ x. x.id) (λ x. refl) (store_schema origin) (crls_at origin) (scoped_crls_table (crls_tree origin)) (crls_stand origin) (crls_key_at origin) (scoped_crls_key (crls_tree origin)) (crls_key_stands origin) (is_eq_of (crls_tree origin) (crls_tree origin) refl)
+      one_row crl_row (λ x. x.id) (λ x. refl) (store_schema origin) (crls_position origin) (scoped_crls_table (crls_tree origin)) (crls_stand origin) (crls_key_at origin) (scoped_crls_key (crls_tree origin)) (crls_key_stands origin) (is_eq_of (crls_tree origin) (crls_tree origin) refl)
       db.trees it.crls sound held.crls x y hx hy
       (crls_agree x y ∙ both _ _ (ap₂ (λ p q. p && q) (tied_numbers x.issuer y.issuer issuer a.0 b.0) (tied_numbers _ _ (scope_number scope) a.1 b.1))))
 
@@ -170,7 +170,7 @@ module _ (origin : Origin) (old new : State) (it : Contents) (held : HasContents
   crl_shown issuer scope rows h =
       let text = selects_crl origin in
       shows_one (λ (row : CrlRow). crl_cells row.number row.window) (filter (is_crl_of issuer scope) it.crls) (find (is_crl_of issuer scope) it.crls) rows (one_crl origin old.now it held issuer scope)
-      (finds_by (store_schema origin) (crls_at origin) _ (crls_tree origin) _ _ _ _ _ (crls_stand origin) (crls_alone origin) crl_row (λ x. x.id) (λ x. refl)
+      (finds_by (store_schema origin) (crls_position origin) _ (crls_tree origin) _ _ _ _ _ (crls_stand origin) (crls_alone origin) crl_row (λ x. x.id) (λ x. refl)
       select_crl (Int (pos issuer) ∷ Int (pos (scope_number scope)) ∷ []) _ _ _ (is_crl_of issuer scope) (λ x. crl_cells x.number x.window) text.0 text.1 text.2 (passes_crl issuer scope) (λ x. refl)
       old new it.crls rows held.schema_is held.crls h)
 
@@ -207,7 +207,7 @@ module _ (origin : Origin) (old new : State) (it : Contents) (held : HasContents
       → HasContents new.now origin (record it { crls = filter (λ row. not (is_crl_of issuer scope row)) it.crls })
   crl_deleted issuer scope count h =
       let text = deletes_crl origin in
-      let left = deletes_by (store_schema origin) (crls_at origin) _ (crls_tree origin) _ _ _ _ _ (crls_stand origin) (crls_alone origin) crl_row (λ x. x.id) (λ x. refl)
+      let left = deletes_by (store_schema origin) (crls_position origin) _ (crls_tree origin) _ _ _ _ _ (crls_stand origin) (crls_alone origin) crl_row (λ x. x.id) (λ x. refl)
       delete_crl (Int (pos issuer) ∷ Int (pos (scope_number scope)) ∷ []) (is_param 1 0 ∷ is_param 2 1 ∷ []) (is_crl_of issuer scope) text.0 text.1 (passes_crl issuer scope) (λ x. refl)
       old new it.crls count held.schema_is held.crls held.crls_rise h in
       crls_change origin old new it held (filter (λ row. not (is_crl_of issuer scope row)) it.crls) (rises_kept crl_row (λ x. x.id) (λ x. refl) (λ row. not (is_crl_of issuer scope row)) it.crls held.crls_rise) left
@@ -217,7 +217,7 @@ module _ (origin : Origin) (old new : State) (it : Contents) (held : HasContents
   crl_added issuer scope number window count h =
       let added : CrlRow = record { id = next_rowid (map crl_row it.crls); issuer = issuer; scope = scope; number = number; window = window } in
       let text = inserts_crl origin in
-      let left = inserts_one (store_schema origin) (crls_at origin) _ (crls_tree origin) _ _ _ _ _ (crls_stand origin) (crls_alone origin) crl_row (λ x. x.id) (λ x. refl)
+      let left = inserts_one (store_schema origin) (crls_position origin) _ (crls_tree origin) _ _ _ _ _ (crls_stand origin) (crls_alone origin) crl_row (λ x. x.id) (λ x. refl)
       insert_crl (Int (pos issuer) ∷ Int (pos (scope_number scope)) ∷ crl_cells number window) _ 6 (Int (pos issuer) ∷ Int (pos (scope_number scope)) ∷ crl_cells number window) text.0 text.1
       (rw (cast_null, cast_int (pos issuer), cast_int (pos (scope_number scope)), cast_int window.from, cast_int window.until) refl) old new it.crls count held.schema_is held.crls held.crls_rise h in
       crls_change origin old new it held (it.crls ++ added ∷ []) (rises_pushed crl_row (λ x. x.id) (λ x. refl) it.crls added held.crls_rise (below_next crl_row (λ x. x.id) (λ x. refl) it.crls held.crls_rise))

@@ -1,5 +1,5 @@
 -- The tables of a new store.
-use Rattle.std.specs.Prelude.{◌≡◌, ◌≢◌, [], Result, Ok, Err, IsTrue}
+use Rattle.std.specs.Prelude.{◌≡◌, ◌≢◌, [], Result, Ok, Err, IfErr, IsTrue}
 use Rattle.std.specs.List.{AllByRecursion}
 use Rattle.sqlite.specs.Effect.{Database}
 use Rattle.sqlite.specs.Schema.{Schema}
@@ -7,6 +7,7 @@ use Rattle.sqlite_trees.specs.declared.store.Store.{Ghosts}
 use Rattle.sqlite.specs.declared.transaction.Transaction.{Transaction}
 use Rattle.sqlite.specs.State.{State, HasCleanDisk, KeepsCommit}
 use Rattle.store_sql.specs.Inside.{inside}
+use Rattle.store_sql.specs.Cause.{MayRefuse}
 use Rattle.store_sql.specs.declared.origin.Origin.TheVariants.{Made}
 use Rattle.store_sql.specs.declared.fault.StoreFault.{StoreFault}
 use Rattle.store_rows.specs.Holding.{HasContents, no_contents}
@@ -37,6 +38,10 @@ abbrev pub Makes : {A : Type 0} → State → State → Schema → Result A Stor
 Makes old new before (Ok done) = Advances old new × (IsEmptyWith old.now before → HasContents new.now Made no_contents)
 Makes old new before (Err fault) = FailsOverStore old new fault
 
+-- over these tables, without a row, the fault `Store` has a cause
+abbrev pub IsCausedOverEmpty : Schema → State → State → StoreFault → Type 0
+IsCausedOverEmpty before old new fault = fault ≡ StoreFault.Store → IsEmptyWith old.now before → MayRefuse old new
+
 -- ---- the same of a call on a transaction, if the disk has returned what was written
 
 abbrev pub BuildsIn : {S A : Type 0} → Ghosts S → Transaction S → Transaction S → Schema → Schema → Result A StoreFault → Type 0
@@ -44,3 +49,6 @@ BuildsIn g old new before after result = HasCleanDisk (inside g new) → Builds 
 
 abbrev pub MakesIn : {S A : Type 0} → Ghosts S → Transaction S → Transaction S → Schema → Result A StoreFault → Type 0
 MakesIn g old new before result = HasCleanDisk (inside g new) → Makes (inside g old) (inside g new) before result
+
+abbrev pub BuildsForCauseIn : {S A : Type 0} → Ghosts S → Transaction S → Transaction S → Schema → Result A StoreFault → Type 0
+BuildsForCauseIn g old new before result = HasCleanDisk (inside g new) → IfErr result (IsCausedOverEmpty before (inside g old) (inside g new))

@@ -16,14 +16,14 @@ abbrev pub IsBelow : ListedSerial → ListedSerial → Type 0
 IsBelow one other = slice_cmp nat_cmp one.serial other.serial ≡ Less
 
 -- what stands at a place, beside a serial number
-abbrev pub compared : Ordering → ℕ → SerialAtPlace
-compared Less reason = Below
-compared Equal reason = Same reason
-compared Greater reason = Above
+abbrev pub beside_serial : Ordering → ℕ → SerialAtPlace
+beside_serial Less reason = Below
+beside_serial Equal reason = Same reason
+beside_serial Greater reason = Above
 
 abbrev pub beside_of : Option ListedSerial → List ℕ → SerialAtPlace
 beside_of None serial = Nothing
-beside_of (Some listed) serial = compared (slice_cmp nat_cmp listed.serial serial) listed.reason
+beside_of (Some listed) serial = beside_serial (slice_cmp nat_cmp listed.serial serial) listed.reason
 
 abbrev pub is_under : ℕ → ℕ → EntryRow → Bool
 is_under i s e = (e.issuer == i) && (e.scope == s)
@@ -33,8 +33,8 @@ abbrev pub entries_under : List EntryRow → ℕ → ℕ → List ListedSerial
 entries_under es i s = map (λ e. e.listed) (filter (is_under i s) es)
 
 -- where the entries of an issuer and a scope begin
-abbrev pub base_of : ℕ → ℕ → ℕ
-base_of i s = (i * 4 + s) * 4294967296
+abbrev pub list_base : ℕ → ℕ → ℕ
+list_base i s = (i * 4 + s) * 4294967296
 
 -- they stand at this place and those after it
 abbrev pub StandFrom : ℕ → List EntryRow → Type 0
@@ -45,14 +45,14 @@ StandFrom n (e ∷ es) = (e.place ≡ n) × StandFrom (suc n) es
 pub record IsInside (e : EntryRow) : Type 0 where
   pub issuer : e.issuer < 536870911
   pub scope : e.scope < 3
-  pub low : base_of e.issuer e.scope ≤ e.place
-  pub high : e.place < base_of e.issuer e.scope + 4294967296
+  pub low : list_base e.issuer e.scope ≤ e.place
+  pub high : e.place < list_base e.issuer e.scope + 4294967296
 
 -- ids rise, each entry stands in the room of its list, and a list's entries stand from its base on, ascending by serial number
 pub record ArePlaced (es : List EntryRow) : Type 0 where
   pub rise : IsAscending (λ a b. a.place < b.place) es
   pub inside : AllByRecursion IsInside es
-  pub stand : (i s : ℕ) → StandFrom (base_of i s) (filter (is_under i s) es)
+  pub stand : (i s : ℕ) → StandFrom (list_base i s) (filter (is_under i s) es)
   pub serials : (i s : ℕ) → IsAscending IsBelow (entries_under es i s)
 
 abbrev pub is_at : ℕ → EntryRow → Bool
@@ -77,7 +77,7 @@ fill es i s n (p ∷ ps) = fill (put_entry (record { place = n; issuer = i; scop
 
 -- a list in the place of what stood there
 abbrev pub replaced : List EntryRow → ℕ → ℕ → List ListedSerial → List EntryRow
-replaced es i s ps = fill (without i s es) i s (base_of i s) ps
+replaced es i s ps = fill (without i s es) i s (list_base i s) ps
 
 -- a list stands in its places, and each other list where it stood
 pub record Replaces (old new : List EntryRow) (i s : ℕ) (ps : List ListedSerial) : Type 0 where

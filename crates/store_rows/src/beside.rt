@@ -3,7 +3,7 @@
 ghost use Rattle.std.specs.Prelude.{◌≡◌};
 ghost use Rattle.std.specs.Ordering.{nat_cmp};
 ghost use Rattle.std.specs.Cmp.Lexicographic.{slice_cmp};
-ghost use Rattle.store_rows.specs.Places.{compared};
+ghost use Rattle.store_rows.specs.Places.{beside_serial};
 
 use std::cmp::Ordering;
 
@@ -20,7 +20,7 @@ pub(crate) enum SerialAtPlace {
 
 /// What an entry is beside a serial number. Serial numbers are compared by their octets.
 pub(crate) fn compare(serial: &[u8], reason: u8, looked_for: &[u8]) -> SerialAtPlace
-    ensures { result ≡ compared (slice_cmp nat_cmp serial.now looked_for.now) reason }
+    ensures { result ≡ beside_serial (slice_cmp nat_cmp serial.now looked_for.now) reason }
 {
     match serial.cmp(looked_for) {
         Ordering::Less => SerialAtPlace::Below,

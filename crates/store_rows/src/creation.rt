@@ -4,7 +4,7 @@ ghost use Rattle.store_sql.specs.declared.origin.Origin.TheVariants.{Made};
 ghost use Rattle.store_sql.specs.Statements.{CommitsNothing};
 ghost use Rattle.store_sql.specs.Tables.{no_schema, meta_and_issuers, half_schema};
 ghost use Rattle.store_sql.specs.Inside.{inside, IsInTransaction, KeepsReference};
-ghost use Rattle.store_rows.specs.Making.{BuildsIn, MakesIn};
+ghost use Rattle.store_rows.specs.Making.{BuildsIn, BuildsForCauseIn, MakesIn};
 
 use sqlite::{Alter, Transaction};
 use store_sql::{
@@ -16,6 +16,7 @@ fn make_first<S: Alter>(tx: &mut Transaction<'_, S>) -> Result<(), StoreFault>
     requires inside { IsInTransaction S.Store tx.old }
     ensures same_reference { KeepsReference tx.old tx.new }
     ensures builds { BuildsIn S.Store tx.old tx.new no_schema meta_and_issuers result }
+    ensures caused { BuildsForCauseIn S.Store tx.old tx.new no_schema result }
     ensures survives { CommitsNothing (inside S.Store tx.old) (inside S.Store tx.new) }
 {
     create_meta(tx)?;
@@ -27,6 +28,7 @@ fn make_next<S: Alter>(tx: &mut Transaction<'_, S>) -> Result<(), StoreFault>
     requires inside { IsInTransaction S.Store tx.old }
     ensures same_reference { KeepsReference tx.old tx.new }
     ensures builds { BuildsIn S.Store tx.old tx.new meta_and_issuers (half_schema Made) result }
+    ensures caused { BuildsForCauseIn S.Store tx.old tx.new meta_and_issuers result }
     ensures survives { CommitsNothing (inside S.Store tx.old) (inside S.Store tx.new) }
 {
     create_ocsp(tx)?;
@@ -38,6 +40,7 @@ fn make_last<S: Alter>(tx: &mut Transaction<'_, S>) -> Result<(), StoreFault>
     requires inside { IsInTransaction S.Store tx.old }
     ensures same_reference { KeepsReference tx.old tx.new }
     ensures makes { MakesIn S.Store tx.old tx.new (half_schema Made) result }
+    ensures caused { BuildsForCauseIn S.Store tx.old tx.new (half_schema Made) result }
     ensures survives { CommitsNothing (inside S.Store tx.old) (inside S.Store tx.new) }
 {
     create_scoped_entries(tx)?;
@@ -50,6 +53,7 @@ pub fn make_tables<S: Alter>(tx: &mut Transaction<'_, S>) -> Result<(), StoreFau
     requires inside { IsInTransaction S.Store tx.old }
     ensures same_reference { KeepsReference tx.old tx.new }
     ensures makes { MakesIn S.Store tx.old tx.new no_schema result }
+    ensures caused { BuildsForCauseIn S.Store tx.old tx.new no_schema result }
     ensures survives { CommitsNothing (inside S.Store tx.old) (inside S.Store tx.new) }
 {
     make_first(tx)?;

@@ -2,7 +2,7 @@
 
 ghost use Rattle.std.specs.Prelude.{◌≢◌, Err, IfOk, IfSome};
 ghost use Rattle.store_sql.specs.Statements.{CommitsNothing};
-ghost use Rattle.statements_facts.specs.Fact.{issuer_of};
+ghost use Rattle.statements_facts.specs.Fact.{seen_issuer};
 ghost use Rattle.store_rows.specs.Contents.{id_cells};
 ghost use Rattle.store_rows.specs.Holding.{HasRoom, with_issuer};
 ghost use Rattle.store_sql.specs.Inside.{inside, IsInTransaction, KeepsReference};
@@ -39,8 +39,8 @@ pub fn find_issuer<S: Alter>(
 ) -> Result<Option<u32>, StoreFault>
     requires inside { IsInTransaction S.Store tx.old }
     ensures same_reference { KeepsReference tx.old tx.new }
-    ensures finds { FindsIn S.Store tx.old tx.new (IsIssuerId (issuer_of issuer.now)) result }
-    ensures known { KnowsIn S.Store tx.old tx.new (issuer_of issuer.now) result }
+    ensures finds { FindsIn S.Store tx.old tx.new (IsIssuerId (seen_issuer issuer.now)) result }
+    ensures known { KnowsIn S.Store tx.old tx.new (seen_issuer issuer.now) result }
     ensures room { IfOk result (λ id. IfSome id HasRoom) }
     ensures caused { CausedIn S.Store tx.old tx.new result }
     ensures survives { CommitsNothing (inside S.Store tx.old) (inside S.Store tx.new) }
@@ -56,9 +56,10 @@ pub fn add_issuer<S: Alter>(
 ) -> Result<(), StoreFault>
     requires inside { IsInTransaction S.Store tx.old }
     ensures same_reference { KeepsReference tx.old tx.new }
-    ensures changes { ChangesIn S.Store tx.old tx.new (with_issuer (issuer_of issuer.now)) result }
+    ensures changes { ChangesIn S.Store tx.old tx.new
+        (with_issuer (seen_issuer issuer.now)) result }
     ensures caused { CausedIfRoomIn S.Store tx.old tx.new
-        (CanAddIssuer (issuer_of issuer.now)) result }
+        (CanAddIssuer (seen_issuer issuer.now)) result }
     ensures survives { CommitsNothing (inside S.Store tx.old) (inside S.Store tx.new) }
 {
     insert_issuer(tx, issuer.name.as_slice(), issuer.key_info)?;

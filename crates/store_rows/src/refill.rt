@@ -1,20 +1,27 @@
 //! The entries of a list, in the place of those that stood there.
 
-ghost use Rattle.std.specs.Prelude.{◌≡◌, ◌<◌, ◌+◌, pos, OnOk};
+ghost use Rattle.std.specs.Prelude.{◌≡◌, ◌<◌, ◌≤◌, ◌+◌, pos, OnOk, length, map};
+ghost use Rattle.std.specs.List.{AllByRecursion};
+ghost use Rattle.sqlite.specs.Values.{bound};
 ghost use Rattle.statements_facts.specs.Listed.{seen_listed};
 ghost use Rattle.store_sql.specs.Statements.{CommitsNothing};
 ghost use Rattle.store_rows.specs.Contents.{scope_number};
 ghost use Rattle.store_rows.specs.Holding.{FitInList, HasByte, with_listed};
 ghost use Rattle.store_sql.specs.Inside.{inside, IsInTransaction, KeepsReference, RunsIn};
-ghost use Rattle.store_rows.specs.Bound.{first_place, room_deletion, insertion_at};
+ghost use Rattle.store_rows.specs.Bound.{first_place, room_deletion, insertion_at, columns_in};
 ghost use Rattle.store_rows.specs.Room.{EntriesFit};
 ghost use Rattle.store_rows.specs.Steps.{CausedIfRoomIn, ChangesIn};
 
 use crate::crl::scope_number;
 use crate::entry::{ListKey, ROOM, base_of, signed};
+use sqlite::types::ValueRef;
 use sqlite::{Alter, Error, Transaction};
 use statements_facts::{Listed, RevokedSerials};
-use store_sql::{EntryCells, Places, StoreFault, delete_entries, insert_entry};
+use std::alloc::AllocError;
+use store_sql::{
+    EntryCells, GROUP, Places, StoreFault, delete_entries, insert_entries, insert_entry,
+    push_columns,
+};
 
 fn places_of(list: &ListKey) -> Places
     requires { list.now.issuer < 536870911 }
@@ -74,7 +81,29 @@ fn add<S: Alter>(
     insert_entry(tx, &cells)
 }
 
-/// Puts the entries of a list in the place of those that stood there.
+/// The columns of a group of entries, which stand from this index on.
+fn fill_columns<'a>(
+    columns: &mut Vec<ValueRef<'a>>,
+    list: &ListKey,
+    index: u64,
+    group: &[Listed<'a>],
+) -> Result<(), AllocError>
+    requires issuer { list.now.issuer < 536870911 }
+    requires index { index + length group.now ≤ 4294967296 }
+    ensures columns { OnOk result
+        (bound columns.new.items ≡ columns_in list.now index (map seen_listed group.now)) }
+    ensures bytes { OnOk result (AllByRecursion HasByte (map seen_listed group.now)) }
+{
+    columns.clear();
+    let mut place = index;
+    'each: for listed in group {
+        push_columns(columns, &cells_of(list, place, listed))?;
+        place += 1;
+    }
+    Ok(())
+}
+
+/// Replaces the entries of a list. They are inserted in groups of eight; those that are left over, one at a time.
 pub fn replace_entries<S: Alter>(
     tx: &mut Transaction<'_, S>,
     list: &ListKey,
@@ -93,15 +122,20 @@ pub fn replace_entries<S: Alter>(
     if all.len() as u64 > ROOM {
         return Err(StoreFault::Store);
     }
-    if let Err(error) = empty(tx, list) {
-        return Err(StoreFault::from(error));
-    }
+    empty(tx, list)?;
+    let mut columns = Vec::new(revoked.allocator());
     let mut index = 0;
-    'each: for listed in all {
-        match add(tx, list, index, listed) {
-            Ok(_) => index += 1,
-            Err(error) => return Err(StoreFault::from(error)),
+    'groups: while all.len() - index >= GROUP {
+        let group = &all[index..index + GROUP];
+        if fill_columns(&mut columns, list, index as u64, group).is_err() {
+            return Err(StoreFault::Memory);
         }
+        insert_entries(tx, &columns)?;
+        index += GROUP;
+    }
+    'rest: while index < all.len() {
+        add(tx, list, index as u64, &all[index])?;
+        index += 1;
     }
     Ok(())
 }

@@ -13,5 +13,8 @@ mod Uniques
 mod RefusingWrites
 mod Storable
 mod RefusingRows
+mod Ending
+mod RefusingTables
+mod NewTables
 mod Typing
 pub mod Laws

@@ -1,6 +1,6 @@
 -- What the texts mean under the store's schemas.
-use Rattle.std.proofs.Common.{◌≡◌, [], ◌∷◌, codes, Ok, refl, false}
-use Rattle.sqlite.specs.Term.{lit, col}
+use Rattle.std.proofs.Common.{◌≡◌, ℕ, ◌+◌, List, [], ◌∷◌, codes, Ok, refl, false}
+use Rattle.sqlite.specs.Term.{Term, lit, col}
 use Rattle.sqlite.specs.Source.TheVariants.{Values}
 use Rattle.sqlite.specs.Command.TheVariants.{Insert, Select, CreateTable, Delete}
 use Rattle.sqlite.specs.declared.types.Value.TheVariants.{Null}
@@ -12,8 +12,8 @@ use Rattle.sqlite.proofs.Callers.{IsPlain, command_of, statement_of}
 use Rattle.store_sql.specs.declared.origin.Origin.{Origin}
 use Rattle.store_sql.specs.declared.origin.Origin.TheVariants.{Made, Migrated}
 use Rattle.store_sql.specs.Queries.{rows_of, is_param, from_param, below_param}
-use Rattle.store_sql.specs.Texts.{create_meta, create_issuers, create_ocsp, create_scoped_crls, create_scoped_entries, select_versions, delete_version, insert_version, select_issuer, insert_issuer, select_crl, delete_crl, insert_crl, select_entry, select_entries, delete_entries, insert_entry, select_single, delete_single, insert_single}
-use Rattle.store_sql.specs.Tables.{no_schema, meta_alone, meta_and_issuers, meta_table, issuers_table, ocsp_table, scoped_crls_table, scoped_entries_table, start_schema, half_schema, store_schema, crls_at, entries_at, crls_tree, entries_tree}
+use Rattle.store_sql.specs.Texts.{create_meta, create_issuers, create_ocsp, create_scoped_crls, create_scoped_entries, select_versions, delete_version, insert_version, select_issuer, insert_issuer, select_crl, delete_crl, insert_crl, select_entry, select_entries, delete_entries, insert_entry, insert_entries, select_single, delete_single, insert_single}
+use Rattle.store_sql.specs.Tables.{no_schema, meta_alone, meta_and_issuers, meta_table, issuers_table, ocsp_table, scoped_crls_table, scoped_entries_table, start_schema, half_schema, store_schema, crls_position, entries_position, crls_tree, entries_tree}
 
 -- ---- tables are made
 
@@ -75,12 +75,12 @@ unfolding understood everything
 selects_crl Made = (refl, refl, (refl, refl))
 selects_crl Migrated = (refl, refl, (refl, refl))
 
-pub deletes_crl : (origin : Origin) → (command_of (understood (store_schema origin) delete_crl) ≡ Delete (crls_at origin) (record { lets = []; body = rows_of (crls_tree origin) (is_param 1 0 ∷ is_param 2 1 ∷ []) (col 1 0 ∷ []) })) × IsPlain (understood (store_schema origin) delete_crl)
+pub deletes_crl : (origin : Origin) → (command_of (understood (store_schema origin) delete_crl) ≡ Delete (crls_position origin) (record { lets = []; body = rows_of (crls_tree origin) (is_param 1 0 ∷ is_param 2 1 ∷ []) (col 1 0 ∷ []) })) × IsPlain (understood (store_schema origin) delete_crl)
 unfolding understood everything
 deletes_crl Made = (refl, (refl, refl))
 deletes_crl Migrated = (refl, (refl, refl))
 
-pub inserts_crl : (origin : Origin) → (command_of (understood (store_schema origin) insert_crl) ≡ Insert (crls_at origin) (Values (lit Null ∷ col 0 0 ∷ col 0 1 ∷ col 0 2 ∷ col 0 3 ∷ col 0 4 ∷ []) 6)) × IsPlain (understood (store_schema origin) insert_crl)
+pub inserts_crl : (origin : Origin) → (command_of (understood (store_schema origin) insert_crl) ≡ Insert (crls_position origin) (Values (lit Null ∷ col 0 0 ∷ col 0 1 ∷ col 0 2 ∷ col 0 3 ∷ col 0 4 ∷ []) 6)) × IsPlain (understood (store_schema origin) insert_crl)
 unfolding understood everything
 inserts_crl Made = (refl, (refl, refl))
 inserts_crl Migrated = (refl, (refl, refl))
@@ -97,15 +97,27 @@ unfolding understood everything
 selects_entries Made = (refl, refl, (refl, refl))
 selects_entries Migrated = (refl, refl, (refl, refl))
 
-pub deletes_entries : (origin : Origin) → (command_of (understood (store_schema origin) delete_entries) ≡ Delete (entries_at origin) (record { lets = []; body = rows_of (entries_tree origin) (from_param 0 0 ∷ below_param 0 1 ∷ []) (col 1 0 ∷ []) })) × IsPlain (understood (store_schema origin) delete_entries)
+pub deletes_entries : (origin : Origin) → (command_of (understood (store_schema origin) delete_entries) ≡ Delete (entries_position origin) (record { lets = []; body = rows_of (entries_tree origin) (from_param 0 0 ∷ below_param 0 1 ∷ []) (col 1 0 ∷ []) })) × IsPlain (understood (store_schema origin) delete_entries)
 unfolding understood everything
 deletes_entries Made = (refl, (refl, refl))
 deletes_entries Migrated = (refl, (refl, refl))
 
-pub inserts_entry : (origin : Origin) → (command_of (understood (store_schema origin) insert_entry) ≡ Insert (entries_at origin) (Values (col 0 0 ∷ lit Null ∷ col 0 1 ∷ col 0 2 ∷ col 0 3 ∷ col 0 4 ∷ []) 6)) × IsPlain (understood (store_schema origin) insert_entry)
+pub inserts_entry : (origin : Origin) → (command_of (understood (store_schema origin) insert_entry) ≡ Insert (entries_position origin) (Values (col 0 0 ∷ lit Null ∷ col 0 1 ∷ col 0 2 ∷ col 0 3 ∷ col 0 4 ∷ []) 6)) × IsPlain (understood (store_schema origin) insert_entry)
 unfolding understood everything
 inserts_entry Made = (refl, (refl, refl))
 inserts_entry Migrated = (refl, (refl, refl))
+
+-- an entry, whose columns are the parameters from this one on
+abbrev entry_terms : ℕ → List Term → List Term
+entry_terms n more = col 0 n ∷ lit Null ∷ col 0 (n + 1) ∷ col 0 (n + 2) ∷ col 0 (n + 3) ∷ col 0 (n + 4) ∷ more
+
+abbrev pub group_terms : List Term
+group_terms = entry_terms 0 (entry_terms 5 (entry_terms 10 (entry_terms 15 (entry_terms 20 (entry_terms 25 (entry_terms 30 (entry_terms 35 [])))))))
+
+pub inserts_entries : (origin : Origin) → (command_of (understood (store_schema origin) insert_entries) ≡ Insert (entries_position origin) (Values group_terms 6)) × IsPlain (understood (store_schema origin) insert_entries)
+unfolding understood everything
+inserts_entries Made = (refl, (refl, refl))
+inserts_entries Migrated = (refl, (refl, refl))
 
 -- ---- what responses say
 

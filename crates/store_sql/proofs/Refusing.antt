@@ -1,6 +1,5 @@
 -- Why a query is refused.
-use Rattle.std.proofs.Common.{◌≡◌, ◌≢◌, ◌⊎◌, ℕ, List, [], ◌∷◌, Bool, true, false, ◌&&◌, ◌==◌, nat_le, length, Option, Some, None, Result, Ok, Err, IsSome, IfErr, refl, sym, ap, subst, subst₂, ◌∙◌, inl, inr, append-nil, arith, true≢false, ℤ, ap₂}
-use Rattle.sqlite_disk.specs.Disk.{MoreFaults}
+use Rattle.std.proofs.Common.{◌≡◌, ◌⊎◌, ℕ, List, [], ◌∷◌, true, false, length, None, Result, Ok, Err, IsSome, IfErr, refl, sym, ap, subst, ◌∙◌, inl, inr, append-nil, arith, true≢false, ℤ}
 use Rattle.sqlite_trees.specs.declared.error.StoreError.{StoreError}
 use Rattle.sqlite_trees.specs.declared.error.StoreError.TheVariants.{OutOfMemory, Io, Corrupt, Full, Broken, Unstorable}
 use Rattle.std.proofs.lemmas.Bool.{cases_Bool}

@@ -1,11 +1,10 @@
 -- Why a write to one table is refused: a table with any keys, and no CHECK, reference or computed default.
-use Rattle.std.proofs.Common.{◌≡◌, ◌≢◌, ℕ, zero, suc, List, [], ◌∷◌, map, drop, Bool, true, false, not, ◌&&◌, ◌||◌, length, length-append, ◌/◌, Option, Some, None, Result, Ok, Err, IsSome, slice_get, refl, sym, ap, subst, subst₂, ◌∙◌, inl, inr, append-nil, arith, true≢false, ◌++◌}
+use Rattle.std.proofs.Common.{◌≡◌, ◌≢◌, ℕ, zero, suc, List, [], ◌∷◌, map, drop, Bool, true, false, not, ◌&&◌, ◌||◌, length, length-append, nat_lt, ◌/◌, Option, Some, None, Ok, Err, IsSome, slice_get, refl, sym, ap, ap₂, subst, subst₂, ◌∙◌, inl, inr, append-nil, arith, true≢false, ◌++◌}
 use Rattle.std.proofs.lemmas.Bool.{or_right}
 use Rattle.std.specs.List.{AllByRecursion, list_all}
 use Rattle.sqlite_trees.specs.declared.error.StoreError.{StoreError}
 use Rattle.sqlite_trees.specs.declared.error.StoreError.TheVariants.{OutOfMemory, Io, Corrupt, Full, Broken, Unstorable}
-use Rattle.sqlite_trees.specs.Tree.{Trees, rowid, put_row, with_tree}
-use Rattle.sqlite_trees.specs.View.{is_int}
+use Rattle.sqlite_trees.specs.Tree.{Trees, rowid, with_tree}
 use Rattle.sqlite_sql.specs.Ops.{fits_i64}
 use Rattle.sqlite_typing.specs.Types.{accepts_program, accepts_terms}
 use Rattle.sqlite_resolve.specs.declared.compiled.Compiled.{Compiled}
@@ -13,14 +12,13 @@ use Rattle.sqlite_schema.specs.declared.schema.Among.{Among}
 use Rattle.sqlite_schema.specs.declared.schema.Column.{Column}
 use Rattle.sqlite_schema.specs.declared.schema.Constraint.TheVariants.{Datatype, NotNull, Check, PrimaryKey, Unique, ForeignKey}
 use Rattle.sqlite_schema.specs.declared.schema.Keys.{Keys}
-use Rattle.sqlite_schema.specs.declared.program.Program.{Program}
-use Rattle.sqlite_schema.specs.Rules.{are_typed, are_present, has_parent, is_among, is_key_if_to, references_fit, Keeps}
+use Rattle.sqlite_schema.specs.Rules.{are_typed, are_present, has_parent, is_among, is_key_if_to, passes, references_fit, Keeps}
 use Rattle.sqlite_rules.specs.declared.error.Refusal.{Refusal}
 use Rattle.sqlite_rules.specs.declared.error.Refusal.TheVariants.{Violates, Mismatch, NoRowid, BadReference, TooDeep}
 use Rattle.sqlite_rules.specs.Action.{works, Leads, Writes}
 use Rattle.sqlite_rules.specs.Calls.{ids_of}
 use Rattle.sqlite_rules.specs.Cast.{cast_row}
-use Rattle.sqlite_rules.specs.Edit.{Edit, id_in, is_off, is_taken, IsOversized, IsRefused, numbered, taken_by, without_all}
+use Rattle.sqlite_rules.specs.Edit.{Edit, are_fresh, have_rowids, id_in, is_off, IsOversized, IsRefused, numbered, put_all, taken_by, without_all}
 use Rattle.sqlite_rules.specs.Lists.{Has}
 use Rattle.sqlite_rules.proofs.ListLemmas.{all_from, has_filtered}
 use Rattle.sqlite_value.specs.declared.keys.Order.{Order}
@@ -146,6 +144,18 @@ never_writes schema keys db edit why none refused big (inr (inr h)) = settled h.
     settled zero l = let e = l.1 in cc
     settled (suc n) l = omega (arith, ap length l.2, length-append l.0 (l.1 ∷ []))
 
+all_pass : (p : Row → Bool) → ((row : Row) → p row ≡ true) → (rows : List Row) → list_all p rows ≡ true
+all_pass p each [] = refl
+all_pass p each (row ∷ rows) = rw (each row) (all_pass p each rows)
+
+and_true : (b : Bool) → b ≡ (b && true)
+and_true true = refl
+and_true false = refl
+
+same_tests : (p q : Row → Bool) → ((row : Row) → p row ≡ q row) → (rows : List Row) → list_all p rows ≡ list_all q rows
+same_tests p q each [] = refl
+same_tests p q each (row ∷ rows) = ap₂ (λ a b. a && b) (each row) (same_tests p q each rows)
+
 refused_limited : (limit : Option ℕ) (db : Database) (tree : ℕ) (terms project : List Term) (params : Row) (error : Error)
     → accepts_program db.schema [] (rows_of tree terms project) params ≡ true → RefusesQuery limit db (record { lets = []; body = rows_of tree terms project }) params error → IsSome limit
 refused_limited limit db tree terms project params error typed (inl wrong) = absurd (true≢false (sym typed ∙ wrong.1))
@@ -163,30 +173,30 @@ module _ (schema : Schema) (at : ℕ) (name : List ℕ) (tree : ℕ) (columns : 
   abbrev table : Table
   table = shaped name tree columns key primary uniques orders
 
-  -- the table may have this row beside those that it has
-  pub record MayPut (db : Trees) (new : Row) : Type 0 where
-    pub typed : are_typed key 0 columns (drop 1 new) ≡ true
-    pub present : are_present key 0 columns new ≡ true
-    pub integer : is_int (rowid new) ≡ true
-    pub fits : fits_i64 (id_in (rowid new)) ≡ true
-    pub free : is_taken (db tree) new ≡ false
-    pub unique : Keeps Unique schema (with_tree db tree (put_row new (db tree)))
-    pub small : ¬ IsOversized schema (shaped name tree columns key primary uniques orders) new
+  -- the table may have these rows beside those that it has
+  pub record MayPut (db : Trees) (news : List Row) : Type 0 where
+    pub typed : list_all (λ row. are_typed key 0 columns (drop 1 row)) news ≡ true
+    pub present : list_all (are_present key 0 columns) news ≡ true
+    pub integer : have_rowids news ≡ true
+    pub fits : list_all (λ row. fits_i64 (id_in (rowid row))) news ≡ true
+    pub free : are_fresh (db tree) news ≡ true
+    pub unique : Keeps Unique schema (with_tree db tree (put_all (db tree) news))
+    pub small : (row : Row) → Has news row → ¬ IsOversized schema (shaped name tree columns key primary uniques orders) row
 
   referred : (keys : Keys) (adds removes : Bool) → (is_off keys || references_fit schema table adds removes) ≡ true
   referred keys adds removes = or_right (is_off keys) (references_fit schema table adds removes) (linked schema table refl bare adds removes)
 
-  never_refused : (keys : Keys) (db : Trees) (new : Row) → MayPut db new → (why : Refusal) → IsRefused schema keys db (record { table = table; gone = []; news = new ∷ [] }) why → ⊥
-  never_refused keys db new it (Violates Datatype) h = true≢false (rw it.typed at h)
-  never_refused keys db new it (Violates NotNull) h = true≢false (rw it.present at h)
-  never_refused keys db new it (Violates Check) h = true≢false h
-  never_refused keys db new it (Violates PrimaryKey) h = true≢false (rw it.free at h)
-  never_refused keys db new it (Violates Unique) h = h it.unique
-  never_refused keys db new it (Violates ForeignKey) h = h
-  never_refused keys db new it Mismatch h = true≢false (rw it.integer at h)
-  never_refused keys db new it NoRowid h = true≢false (rw it.fits at h)
-  never_refused keys db new it BadReference h = true≢false (sym (referred keys true false) ∙ h)
-  never_refused keys db new it TooDeep h = h
+  never_refused : (keys : Keys) (db : Trees) (news : List Row) → MayPut db news → (why : Refusal) → IsRefused schema keys db (record { table = table; gone = []; news = news }) why → ⊥
+  never_refused keys db news it (Violates Datatype) h = true≢false (sym it.typed ∙ same_tests (λ row. are_typed key 0 columns (drop 1 row)) (passes Datatype schema db table) (λ row. and_true (are_typed key 0 columns (drop 1 row))) news ∙ h)
+  never_refused keys db news it (Violates NotNull) h = true≢false (sym it.present ∙ same_tests (are_present key 0 columns) (passes NotNull schema db table) (λ row. refl) news ∙ h)
+  never_refused keys db news it (Violates Check) h = true≢false (sym (all_pass (passes Check schema db table) (λ row. refl) news) ∙ h)
+  never_refused keys db news it (Violates PrimaryKey) h = true≢false (sym it.free ∙ h)
+  never_refused keys db news it (Violates Unique) h = h it.unique
+  never_refused keys db news it (Violates ForeignKey) h = h
+  never_refused keys db news it Mismatch h = true≢false (sym it.integer ∙ h)
+  never_refused keys db news it NoRowid h = true≢false (sym it.fits ∙ h)
+  never_refused keys db news it BadReference h = true≢false (sym (referred keys (nat_lt 0 (length news)) false) ∙ h)
+  never_refused keys db news it TooDeep h = h
 
   never_kept : (keys : Keys) (db : Trees) (ids : List _) → Keeps Unique schema db → (why : Refusal) → IsRefused schema keys db (record { table = table; gone = ids; news = [] }) why → ⊥
   never_kept keys db ids keeps (Violates Datatype) h = true≢false h
@@ -222,10 +232,10 @@ module _ (schema : Schema) (at : ℕ) (name : List ℕ) (tree : ℕ) (columns : 
     | inr tested ↦ elim tested.2 [ inl unshown ↦ absurd (let e = unshown.1 in cc) | inr shown ↦ absurd (let e = shown.2 in cc) ]
   ]
 
-  rows_inserted : (limit : Option ℕ) (mode : Mode) (params : Row) (trees : Trees) (terms : List Term) (width : ℕ) (new : Row) (stop : Option Error)
-      → accepts_terms terms params ≡ true → numbered Chosen (trees tree) (map (λ s. cast_row table (drop 0 s)) (value_rows params width (length terms / width) terms)) ≡ new ∷ [] → MayPut trees new
+  rows_inserted : (limit : Option ℕ) (mode : Mode) (params : Row) (trees : Trees) (terms : List Term) (width : ℕ) (news : List Row) (stop : Option Error)
+      → accepts_terms terms params ≡ true → numbered Chosen (trees tree) (map (λ s. cast_row table (drop 0 s)) (value_rows params width (length terms / width) terms)) ≡ news → MayPut trees news
       → OnRows (task_of limit mode params) mode None (Insert at (Values terms width)) trees (Err stop) → IsSome limit
-  rows_inserted limit mode params trees terms width new stop typed news may (inl h) = elim h.1 [
+  rows_inserted limit mode params trees terms width news stop typed are_news may (inl h) = elim h.1 [
     | inl unsourced ↦ sourced unsourced.0 unsourced.1
     | inr given ↦ elim given.2 [
       | inl uncounted ↦ absurd (let e = uncounted.1 in cc)
@@ -244,14 +254,10 @@ module _ (schema : Schema) (at : ℕ) (name : List ℕ) (tree : ℕ) (columns : 
       unwritten : (rows : List Row) → rows ≡ value_rows params width (length terms / width) terms → (why : Option Refusal)
           → Writes schema mode.keys trees (record { table = table; gone = []; news = numbered Chosen (trees tree) (map (λ s. cast_row table (drop 0 s)) rows) }) (Err why) → ⊥
       unwritten rows are why w =
-          let put : Writes schema mode.keys trees (record { table = table; gone = []; news = new ∷ [] }) (Err why) =
-          subst (λ all. Writes schema mode.keys trees (record { table = table; gone = []; news = all }) (Err why)) (ap (λ r. numbered Chosen (trees tree) (map (λ s. cast_row table (drop 0 s)) r)) are ∙ news) w in
-          never_writes schema mode.keys trees (record { table = table; gone = []; news = new ∷ [] }) why (alone mode.keys [] (new ∷ [])) (never_refused mode.keys trees new may) only put
-        where
-          only : (row : Row) → Has (new ∷ []) row → ¬ IsOversized schema table row
-          only row (inl same) = subst (λ r. ¬ IsOversized schema table r) (sym same) may.small
-          only row (inr none) = absurd none
-  rows_inserted limit mode params trees terms width new stop typed news may (inr h) = elim h.2 [
+          let put : Writes schema mode.keys trees (record { table = table; gone = []; news = news }) (Err why) =
+          subst (λ all. Writes schema mode.keys trees (record { table = table; gone = []; news = all }) (Err why)) (ap (λ r. numbered Chosen (trees tree) (map (λ s. cast_row table (drop 0 s)) r)) are ∙ are_news) w in
+          never_writes schema mode.keys trees (record { table = table; gone = []; news = news }) why (alone mode.keys [] news) (never_refused mode.keys trees news may) may.small put
+  rows_inserted limit mode params trees terms width news stop typed are_news may (inr h) = elim h.2 [
     | inl untested ↦ absurd (untested.1.0 (no_parents schema.tables h.0.trees _ schema.tables bare))
     | inr tested ↦ elim tested.2 [ inl unshown ↦ absurd (let e = unshown.1 in cc) | inr shown ↦ absurd (let e = shown.2 in cc) ]
   ]
@@ -266,11 +272,11 @@ module _ (schema : Schema) (at : ℕ) (name : List ℕ) (tree : ℕ) (columns : 
         (record { query = refl; pragma = refl; begin = λ e. cc; commit = λ e. cc; rollback = λ e. cc; release = λ n e. cc; back = λ n e. cc }) old new has
         (λ stop d. inr (inr (rows_deleted old.step_limit (mode_of old) params old.now.trees terms stop typed keeps (rw is at (subst (λ s. Does old.step_limit (mode_of old) params (record old.now { schema = s }) (statement_of sql (understood schema sql)) None (Delete at (record { lets = []; body = rows_of tree terms (col 1 0 ∷ []) })) (Err stop)) has d)))))
 
-    -- an INSERT of one row that the table may have
-    pub insert_caused : (terms : List Term) (width : ℕ) (row : Row) → command_of (understood schema sql) ≡ Insert at (Values terms width) → accepts_terms terms params ≡ true
-        → numbered Chosen (old.now.trees tree) (map (λ s. cast_row (shaped name tree columns key primary uniques orders) (drop 0 s)) (value_rows params width (length terms / width) terms)) ≡ row ∷ [] → MayPut old.now.trees row
+    -- an INSERT of rows that the table may have
+    pub insert_caused : (terms : List Term) (width : ℕ) (news : List Row) → command_of (understood schema sql) ≡ Insert at (Values terms width) → accepts_terms terms params ≡ true
+        → numbered Chosen (old.now.trees tree) (map (λ s. cast_row (shaped name tree columns key primary uniques orders) (drop 0 s)) (value_rows params width (length terms / width) terms)) ≡ news → MayPut old.now.trees news
         → (error : Error) → ExecutesInside 0 sql params old new (Err error) → fault_from error ≡ Store → MayRefuse old new
-    insert_caused terms width row command typed news may =
+    insert_caused terms width news command typed are_news may =
         write_caused schema sql params _ command plain whole
         (record { query = refl; pragma = refl; begin = λ e. cc; commit = λ e. cc; rollback = λ e. cc; release = λ n e. cc; back = λ n e. cc }) old new has
-        (λ stop d. inr (inr (rows_inserted old.step_limit (mode_of old) params old.now.trees terms width row stop typed news may (rw is at (subst (λ s. Does old.step_limit (mode_of old) params (record old.now { schema = s }) (statement_of sql (understood schema sql)) None (Insert at (Values terms width)) (Err stop)) has d)))))
+        (λ stop d. inr (inr (rows_inserted old.step_limit (mode_of old) params old.now.trees terms width news stop typed are_news may (rw is at (subst (λ s. Does old.step_limit (mode_of old) params (record old.now { schema = s }) (statement_of sql (understood schema sql)) None (Insert at (Values terms width)) (Err stop)) has d)))))

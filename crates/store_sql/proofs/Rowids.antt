@@ -13,7 +13,8 @@ use Rattle.sqlite_value.proofs.OrderLemmas.{value_cmp-Int}
 use Rattle.sqlite.specs.declared.types.Value.TheVariants.{Int}
 use Rattle.sqlite.specs.Order.{Row, value_cmp}
 use Rattle.sqlite.specs.Tree.{rowid, has_rowid, put_row, without_rowid, IsAscending}
-use Rattle.sqlite.specs.Edit.{id_in, next_rowid, without_all}
+use Rattle.sqlite.specs.Edit.{id_in, next_rowid, numbered, without_all}
+use Rattle.sqlite.specs.Rowids.TheVariants.{Chosen}
 use Rattle.sqlite_rules.specs.Calls.{ids_of}
 use Rattle.sqlite_rules.specs.Lists.{Has}
 use Rattle.sqlite_rules.proofs.ListLemmas.{all_has, all_from, has_filtered, has_kept}
@@ -72,6 +73,11 @@ any_ids r [] = refl
 any_ids r (f ∷ found) = ap (λ b. has_rowid (id_in (rowid f)) r || b) (any_ids r found)
 
 module _ {X : Type 0} (row : X → Row) (id : X → ℤ) (keyed : (x : X) → rowid (row x) ≡ Int (id x)) where
+  -- rows that have their rowids keep them
+  pub numbered_given : (all : List Row) (news : List X) → numbered Chosen all (map row news) ≡ map row news
+  numbered_given all [] = refl
+  numbered_given all (x ∷ news) = rw (keyed x) (ap (λ more. row x ∷ more) (numbered_given (put_row (row x) all) news))
+
   abbrev pub Rises : List X → Type 0
   Rises = IsAscending (λ a b. id a <ℤ id b)
 

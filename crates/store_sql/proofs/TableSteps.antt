@@ -28,7 +28,7 @@ use Rattle.store_sql.specs.Tables.{shaped}
 use Rattle.store_sql.proofs.TableWrites.{deletes, inserts}
 use Rattle.store_sql.proofs.Answering.{found_in, passing, shown_as}
 use Rattle.store_sql.proofs.Matching.{matched}
-use Rattle.store_sql.proofs.Rowids.{left_rows, put_last, below_next}
+use Rattle.store_sql.proofs.Rowids.{left_rows, put_last, below_next, numbered_given}
 
 drops_none : {X : Type 0} (xs : List X) → drop 0 xs ≡ xs
 drops_none [] = refl
@@ -103,6 +103,27 @@ module _ (schema : Schema) (at : ℕ) (name : List ℕ) (tree : ℕ) (columns : 
       let put : put_all (old.now.trees tree) (numbered Chosen (old.now.trees tree) (map (λ s. cast_row (shaped name tree columns key primary uniques orders) (drop 0 s)) (value_rows params width (length cells / width) cells)))
       ≡ put_row (Int n ∷ rest) (map row xs) =
       ap₂ (λ all news. put_all all (numbered Chosen all news)) are casts in
+      record {
+        schema_is = done.schema_is;
+        sound = w.sound;
+        rows_are = done.applies.rows ∙ put;
+        others = done.applies.tables;
+      }
+
+  -- the rows have their rowids with them
+  pub inserts_all : (sql : List ℕ) (params : Row) (cells : List Term) (width : ℕ) (news : List X)
+      → command_of (understood schema sql) ≡ Insert at (Values cells width) → IsPlain (understood schema sql)
+      → map (λ s. cast_row (shaped name tree columns key primary uniques orders) (drop 0 s)) (value_rows params width (length cells / width) cells) ≡ map row news
+      → (old new : State) (xs : List X) (count : ℕ) → old.now.schema ≡ schema → old.now.trees tree ≡ map row xs
+      → Executes sql params old new (Ok count) → Leaves schema tree old new (put_all (map row xs) (map row news))
+  inserts_all sql params cells width news command plain casts old new xs count has are h =
+      let w = runs_as sql params old new schema has (Insert at (Values cells width)) command plain count h in
+      let text = statement_of sql (understood schema sql) in
+      let change = subst (λ s. Does old.step_limit (mode_of old) params (record old.now { schema = s }) text None (Insert at (Values cells width)) (Ok (w.tally, new.now))) has w.changed in
+      let done = inserts schema at name tree columns key primary uniques orders is alone old.step_limit (mode_of old) params old.now.trees text cells width w.tally new.now change in
+      let put : put_all (old.now.trees tree) (numbered Chosen (old.now.trees tree) (map (λ s. cast_row (shaped name tree columns key primary uniques orders) (drop 0 s)) (value_rows params width (length cells / width) cells)))
+      ≡ put_all (map row xs) (map row news) =
+      ap₂ (λ all rows. put_all all (numbered Chosen all rows)) are casts ∙ ap (put_all (map row xs)) (numbered_given row id keyed (map row xs) news) in
       record {
         schema_is = done.schema_is;
         sound = w.sound;

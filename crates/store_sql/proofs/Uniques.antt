@@ -112,3 +112,30 @@ module _ (schema : Schema) (db : Trees) (tree : ℕ) (n : ℤ) (new : Row) (id :
           → AllByRecursion (λ (t : Table). AllByRecursion (λ row. passes Unique schema (with_tree db tree (put_row new (db tree))) t row ≡ true) (with_tree db tree (put_row new (db tree)) t.tree)) ts
       over [] h = tt
       over (t ∷ ts) h = (each t h.0, over ts h.1)
+
+without_guard : (guarded clash : Bool) → guarded ≡ false → not (guarded && clash) ≡ true
+without_guard true clash e = absurd (true≢false e)
+without_guard false clash e = refl
+
+-- a table without keys, whatever rows it has
+module _ (schema : Schema) (db : Trees) (tree : ℕ) (rows : List Row) where
+  pub keeps_keyless : ((i : Index) → Has schema.indexes i → ¬ (i.table ≡ tree)) → Keeps Unique schema db → Keeps Unique schema (with_tree db tree rows)
+  keeps_keyless keyless = over schema.tables
+    where
+      unguarded : (t : Table) → t.tree ≡ tree → (i : Index) → Has schema.indexes i → guards i t ≡ false
+      unguarded t same i listed = elim (cases_Bool (guards i t)) [
+        | inl guarded ↦ absurd (keyless i listed (same_tree i.table t.tree (and_parts i.is_unique (i.table == t.tree) guarded).1 ∙ same))
+        | inr free ↦ free
+      ]
+
+      each : (t : Table) → AllByRecursion (λ row. passes Unique schema db t row ≡ true) (db t.tree) → AllByRecursion (λ row. passes Unique schema (with_tree db tree rows) t row ≡ true) (with_tree db tree rows t.tree)
+      each t h = elim (cases_Bool (t.tree == tree)) [
+        | inl same ↦ all_from _ (with_tree db tree rows t.tree) (λ row there. test_from _ schema.indexes (λ i listed.
+            without_guard (guards i t) (clashes i.order i.columns (with_tree db tree rows t.tree) row) (unguarded t (same_tree t.tree tree same) i listed)))
+        | inr other ↦ rw other h
+      ]
+
+      over : (ts : List Table) → AllByRecursion (λ (t : Table). AllByRecursion (λ row. passes Unique schema db t row ≡ true) (db t.tree)) ts
+          → AllByRecursion (λ (t : Table). AllByRecursion (λ row. passes Unique schema (with_tree db tree rows) t row ≡ true) (with_tree db tree rows t.tree)) ts
+      over [] h = tt
+      over (t ∷ ts) h = (each t h.0, over ts h.1)

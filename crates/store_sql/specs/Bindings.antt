@@ -8,7 +8,7 @@ use Rattle.store_sql.specs.declared.entry.Places.{Places}
 use Rattle.store_sql.specs.declared.entry.EntryCells.{EntryCells}
 use Rattle.store_sql.specs.declared.single.SingleKey.{SingleKey}
 use Rattle.store_sql.specs.declared.single.SaidCells.{SaidCells}
-use Rattle.store_sql.specs.Texts.{select_versions, delete_version, insert_version, select_issuer, insert_issuer, select_crl, delete_crl, insert_crl, select_entry, select_entries, delete_entries, insert_entry, select_single, delete_single, insert_single}
+use Rattle.store_sql.specs.Texts.{select_versions, delete_version, insert_version, select_issuer, insert_issuer, select_crl, delete_crl, insert_crl, select_entry, select_entries, delete_entries, insert_entry, insert_entries, select_single, delete_single, insert_single}
 
 pub record SqlStatement : Type 0 where
   pub text : List ℕ
@@ -54,11 +54,16 @@ entries_query places = record { text = select_entries; params = Int places.first
 abbrev pub entries_deletion : Places → SqlStatement
 entries_deletion places = record { text = delete_entries; params = Int places.first ∷ Int places.end ∷ [] }
 
+-- an entry, column by column
+abbrev pub entry_columns : EntryCells → Row
+entry_columns entry = Int entry.place ∷ Int entry.issuer ∷ Int entry.scope ∷ Blob entry.serial.now ∷ Int entry.reason ∷ []
+
 abbrev pub entry_insertion : EntryCells → SqlStatement
-entry_insertion entry = record {
-  text = insert_entry;
-  params = Int entry.place ∷ Int entry.issuer ∷ Int entry.scope ∷ Blob entry.serial.now ∷ Int entry.reason ∷ [];
-}
+entry_insertion entry = record { text = insert_entry; params = entry_columns entry }
+
+-- a group of entries, each column by column
+abbrev pub entries_insertion : Row → SqlStatement
+entries_insertion columns = record { text = insert_entries; params = columns }
 
 abbrev pub single_query : SingleKey → SqlStatement
 single_query key = record { text = select_single; params = Int key.issuer ∷ Blob key.name_hash.now ∷ Blob key.serial.now ∷ [] }

@@ -24,8 +24,8 @@ abbrev pub id_column : List ℕ → Column
 id_column name = column_with name Integer false
 
 -- NOT NULL
-abbrev pub required : List ℕ → Kind → Column
-required name kind = column_with name kind true
+abbrev pub required_column : List ℕ → Kind → Column
+required_column name kind = column_with name kind true
 
 -- no column is computed
 abbrev pub no_stamps : Stamps
@@ -53,11 +53,11 @@ abbrev pub without_rules : Table → Table
 without_rules table = record table { checks = []; references = []; computed = []; stamps = no_stamps; is_counted = false }
 
 -- under this name, in this tree, with this PRIMARY KEY
-abbrev pub named : List ℕ → ℕ → Option ℕ → List ℕ → Table → Table
-named name tree key primary table = record table { name = name; tree = tree; key = key; primary = primary }
+abbrev pub table_named : List ℕ → ℕ → Option ℕ → List ℕ → Table → Table
+table_named name tree key primary table = record table { name = name; tree = tree; key = key; primary = primary }
 
 abbrev pub plainly_named : List ℕ → ℕ → Option ℕ → List ℕ → Table → Table
-plainly_named name tree key primary table = without_rules (named name tree key primary table)
+plainly_named name tree key primary table = without_rules (table_named name tree key primary table)
 
 -- one whose first column is the rowid, without another key
 abbrev pub keyed_by_id : List ℕ → ℕ → List Column → Table
@@ -79,32 +79,32 @@ key_of name table columns = record { name = name; tree = table + 1; table = tabl
 
 -- the version of the tables, in one row
 abbrev pub meta_table : ℕ → Table
-meta_table tree = keyed_by_id (codes "meta") tree (id_column (codes "id") ∷ required (codes "version") Integer ∷ [])
+meta_table tree = keyed_by_id (codes "meta") tree (id_column (codes "id") ∷ required_column (codes "version") Integer ∷ [])
 
 -- each issuer once: the key of its name, and its subjectPublicKeyInfo
 abbrev pub issuers_table : ℕ → Table
 issuers_table tree = keyed_twice (codes "issuers") tree
-    (id_column (codes "id") ∷ required (codes "name") Blob ∷ required (codes "spki") Blob ∷ []) (2 ∷ 3 ∷ [])
+    (id_column (codes "id") ∷ required_column (codes "name") Blob ∷ required_column (codes "spki") Blob ∷ []) (2 ∷ 3 ∷ [])
 
 -- what responses say of one certificate (RFC 6960, 4.2.1)
 abbrev pub status_columns : List Column
-status_columns = required (codes "until") Integer ∷ required (codes "status") Integer ∷ required (codes "reason") Integer ∷ []
+status_columns = required_column (codes "until") Integer ∷ required_column (codes "status") Integer ∷ required_column (codes "reason") Integer ∷ []
 
 abbrev pub said_columns : List Column
-said_columns = required (codes "this_update") Integer ∷ required (codes "produced_at") Integer ∷ required (codes "since") Integer ∷ status_columns
+said_columns = required_column (codes "this_update") Integer ∷ required_column (codes "produced_at") Integer ∷ required_column (codes "since") Integer ∷ status_columns
 
 abbrev pub ocsp_columns : List Column
-ocsp_columns = required (codes "issuer") Integer ∷ required (codes "name_hash") Blob ∷ required (codes "serial") Blob ∷ said_columns
+ocsp_columns = required_column (codes "issuer") Integer ∷ required_column (codes "name_hash") Blob ∷ required_column (codes "serial") Blob ∷ said_columns
 
 abbrev pub ocsp_table : ℕ → Table
 ocsp_table tree = keyed_by (codes "ocsp") tree ocsp_columns (1 ∷ 2 ∷ 3 ∷ [])
 
 -- what a list says (RFC 5280, 5.1), and an entry
 abbrev pub list_columns : List Column
-list_columns = required (codes "number") Blob ∷ required (codes "since") Integer ∷ required (codes "until") Integer ∷ []
+list_columns = required_column (codes "number") Blob ∷ required_column (codes "since") Integer ∷ required_column (codes "until") Integer ∷ []
 
 abbrev pub entry_columns : List Column
-entry_columns = required (codes "serial") Blob ∷ required (codes "reason") Integer ∷ []
+entry_columns = required_column (codes "serial") Blob ∷ required_column (codes "reason") Integer ∷ []
 
 -- version 1: the list of an issuer, and its entries
 abbrev pub crls_table : ℕ → Table
@@ -113,16 +113,16 @@ crls_table tree = keyed_by_id (codes "crls") tree
 
 abbrev pub entries_table : ℕ → Table
 entries_table tree = keyed_by (codes "entries") tree
-    (required (codes "issuer") Integer ∷ entry_columns) (1 ∷ 2 ∷ [])
+    (required_column (codes "issuer") Integer ∷ entry_columns) (1 ∷ 2 ∷ [])
 
 -- version 2: the list of an issuer and a scope (5.2.5), and its entries, whose ids are their places
 abbrev pub scoped_crls_table : ℕ → Table
 scoped_crls_table tree = keyed_by (codes "scoped_crls") tree
-    (required (codes "issuer") Integer ∷ required (codes "scope") Integer ∷ list_columns) (1 ∷ 2 ∷ [])
+    (required_column (codes "issuer") Integer ∷ required_column (codes "scope") Integer ∷ list_columns) (1 ∷ 2 ∷ [])
 
 abbrev pub scoped_entries_table : ℕ → Table
 scoped_entries_table tree = keyed_by_id (codes "scoped_entries") tree
-    (id_column (codes "id") ∷ required (codes "issuer") Integer ∷ required (codes "scope") Integer ∷ entry_columns)
+    (id_column (codes "id") ∷ required_column (codes "issuer") Integer ∷ required_column (codes "scope") Integer ∷ entry_columns)
 
 -- ---- the schemas
 
@@ -163,13 +163,13 @@ abbrev pub version_1_schema : Schema
 version_1_schema = start_schema Migrated
 
 -- where the two tables of version 2 stand among the tables, and in which trees
-abbrev pub crls_at : Origin → ℕ
-crls_at Made = 3
-crls_at Migrated = 5
+abbrev pub crls_position : Origin → ℕ
+crls_position Made = 3
+crls_position Migrated = 5
 
-abbrev pub entries_at : Origin → ℕ
-entries_at Made = 4
-entries_at Migrated = 6
+abbrev pub entries_position : Origin → ℕ
+entries_position Made = 4
+entries_position Migrated = 6
 
 abbrev pub crls_tree : Origin → ℕ
 crls_tree Made = 5

@@ -52,6 +52,9 @@ delete_entries = codes "DELETE FROM scoped_entries WHERE id >= ?1 AND id < ?2"
 abbrev pub insert_entry : List ℕ
 insert_entry = codes "INSERT INTO scoped_entries (id, issuer, scope, serial, reason) VALUES (?1, ?2, ?3, ?4, ?5)"
 
+abbrev pub insert_entries : List ℕ
+insert_entries = codes "INSERT INTO scoped_entries (id, issuer, scope, serial, reason) VALUES (?1, ?2, ?3, ?4, ?5), (?6, ?7, ?8, ?9, ?10), (?11, ?12, ?13, ?14, ?15), (?16, ?17, ?18, ?19, ?20), (?21, ?22, ?23, ?24, ?25), (?26, ?27, ?28, ?29, ?30), (?31, ?32, ?33, ?34, ?35), (?36, ?37, ?38, ?39, ?40)"
+
 abbrev pub select_single : List ℕ
 select_single = codes "SELECT this_update, produced_at, since, until, status, reason FROM ocsp WHERE issuer = ?1 AND name_hash = ?2 AND serial = ?3"
 

@@ -16,7 +16,10 @@ pub use creation::{
     create_issuers, create_meta, create_ocsp, create_scoped_crls, create_scoped_entries,
 };
 pub use crl::{CrlCells, CrlKey, crl_rows, delete_crl, insert_crl};
-pub use entry::{EntryCells, Places, delete_entries, entries_between, entry_rows, insert_entry};
+pub use entry::{
+    EntryCells, GROUP, Places, delete_entries, entries_between, entry_rows, insert_entries,
+    insert_entry, push_columns,
+};
 pub use fault::StoreFault;
 pub use issuer::{insert_issuer, issuer_rows};
 pub use origin::Origin;

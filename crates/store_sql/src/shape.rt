@@ -2,7 +2,7 @@
 
 ghost use Rattle.std.specs.Prelude.{◌≡◌, ◌↔◌, ◌<◌, ◌∷◌, [], IsTrue, true, false};
 ghost use Rattle.sqlite_value.specs.Keys.{plain};
-ghost use Rattle.store_sql.specs.Tables.{column_with, keyed_by_id, keyed_by, key_of, without_rules, no_stamps, named, plainly_named, keyed_twice};
+ghost use Rattle.store_sql.specs.Tables.{column_with, keyed_by_id, keyed_by, key_of, without_rules, no_stamps, table_named, plainly_named, keyed_twice};
 
 use sqlite_items::Items;
 use sqlite_schema::code::Terms;
@@ -66,7 +66,7 @@ fn has_no_rules(table: &Table) -> bool
 }
 
 fn is_named(table: &Table, name: &[u8], tree: u32, key: Option<usize>, primary: &[usize]) -> bool
-    ensures { IsTrue result ↔ (table.now ≡ named name.now tree key primary.now table.now) }
+    ensures { IsTrue result ↔ (table.now ≡ table_named name.now tree key primary.now table.now) }
 {
     table.name.as_slice() == name
         && table.tree == tree

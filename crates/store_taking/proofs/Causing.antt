@@ -1,6 +1,5 @@
 -- Why facts are not put into a store, and what room is left.
 use Rattle.std.proofs.Common.{◌≡◌, ◌≢◌, ◌<◌, ◌≤◌, ◌+◌, ℕ, ℤ, pos, negsuc, ◌+ℤ◌, ◌≤ℤ◌, suc, IsTrue, zero, true, List, [], ◌∷◌, ◌++◌, map, filter, fold, not, length, get_or, Option, Some, None, Result, Ok, Err, IfErr, IfOk, refl, sym, ap, subst, ◌∙◌, inl, inr, arith}
-use Rattle.std.proofs.lemmas.Bool.{both_ways}
 use Rattle.std.proofs.lemmas.Int.{ints}
 use Rattle.std.specs.List.{AllByRecursion}
 use Rattle.sqlite_trees.specs.Tree.{Trees, rowid}
@@ -23,7 +22,7 @@ use Rattle.store_sql.specs.Cause.{MayRefuse}
 use Rattle.store_sql.specs.declared.fault.StoreFault.{StoreFault}
 use Rattle.store_sql.specs.declared.fault.StoreFault.TheVariants.{Store, Schema, Memory}
 use Rattle.store_sql.specs.Fault.{fault_from}
-use Rattle.store_sql.proofs.Laws.{failure_caused, later_refuses, sooner_refuses}
+use Rattle.store_sql.proofs.Laws.{begun_refuses, commit_refuses, later_refuses, sooner_refuses}
 use Rattle.store_rows.specs.Contents.{IssuerRow, CrlRow, SingleRow, Contents, id_of, single_row, is_single_of}
 use Rattle.store_rows.specs.Holding.{AreInForm, HasRoom, IsSaid, next_id, with_issuer, with_single}
 use Rattle.store_rows.specs.Room.{CanPutSingle, IssuerFitsRow, SingleFitsRow, LeavesIds, CrlsLeaveAnId, SinglesLeaveIds, EntriesFit}
@@ -273,19 +272,11 @@ if_ok_then (Err fault) P Q h then = tt
 -- ---- the transaction ends
 
 module _ {S : Type 0} (g : Ghosts S) (old begun : Held S) (is : begun ≡ record old { in_transaction = true }) where
-  begun_refuses : (last : State) → MayRefuse (state g begun) last → MayRefuse (state g old) last
-  begun_refuses last cause = from (subst (λ h. MayRefuse (state g h) last) is cause)
-    where
-      from : MayRefuse (state g (record old { in_transaction = true })) last → MayRefuse (state g old) last
-      from cause = cause
-
   pub fault_ends : (last new : State) (facts : Facts) (fault : StoreFault) (P : Trees → Type 0) → IsCausedOver (HasRoomForFacts facts) (FactsFit facts) (state g begun) last fault → Survives last new P
       → IsCausedOver (HasRoomForFacts facts) (FactsFit facts) (state g old) new fault
   fault_ends last new facts fault P caused second e before fits =
-      sooner_refuses (state g old) last new P second (begun_refuses last (caused e (subst (λ h. HasRoomForFacts facts (state g h).now) (sym is) before) fits))
+      sooner_refuses (state g old) last new P second (begun_refuses g old begun is last (caused e (subst (λ h. HasRoomForFacts facts (state g h).now) (sym is) before) fits))
 
   pub commit_ends : (last new : State) (facts : Facts) (error : Error) (P Q : Trees → Type 0) → IsTrue last.in_transaction → FailsToCommit last new error → Survives (state g begun) last P → Survives last new Q → HasCleanDisk last
       → IsCausedOver (HasRoomForFacts facts) (FactsFit facts) (state g old) new (fault_from error)
-  commit_ends last new facts error P Q inside (inl fails) first second clean e before fits =
-      begun_refuses new (later_refuses (state g begun) last new P Q first second clean (failure_caused last new error fails e))
-  commit_ends last new facts error P Q inside (inr late) first second clean e before fits = absurd (both_ways _ late.1 inside)
+  commit_ends last new facts error P Q inside fails first second clean e before fits = commit_refuses g old begun is last new error P Q inside fails first second clean e

@@ -18,7 +18,7 @@ use Rattle.statements_facts.specs.Fact.{Fact}
 use Rattle.store_sql.specs.declared.fault.StoreFault.{StoreFault}
 use Rattle.statements_facts.specs.declared.counts.TakenAs.{TakenAs}
 use Rattle.statements_facts.specs.declared.counts.Counts.{Counts}
-use Rattle.statements_facts.specs.Coming.{after_all, same_outcome, number_of}
+use Rattle.statements_facts.specs.Coming.{after_all, same_outcome, count_taken_as}
 use Rattle.statements_facts.proofs.Laws.{one_more_taken, nothing_counted, one_more_counted}
 use Rattle.store_maps.specs.Held.{IsStoreOf}
 use Rattle.store_maps.proofs.HeldLaws.{trees_of}
@@ -29,7 +29,7 @@ use Rattle.store_sql.specs.Statements.{IsDurable}
 
 -- ---- facts in turn
 
-pub nothing_taken : (s : State) (counts : Counts) → ((outcome : TakenAs) → number_of outcome counts ≡ 0) → IsTrue s.in_transaction → HasStepped s s IsStoreOf (AreTaken [] counts)
+pub nothing_taken : (s : State) (counts : Counts) → ((outcome : TakenAs) → count_taken_as outcome counts ≡ 0) → IsTrue s.in_transaction → HasStepped s s IsStoreOf (AreTaken [] counts)
 nothing_taken s counts none inside = record {
   keeps = record { was_open = λ h. h; committed = λ _. refl };
   mode = inside;
@@ -37,7 +37,7 @@ nothing_taken s counts none inside = record {
 }
 
 pub one_more : (old mid new : State) (facts : List Fact) (fact : Fact) (counts after : Counts) (outcome : TakenAs) → HasStepped old mid IsStoreOf (AreTaken facts counts) → HasStepped mid new IsStoreOf (IsTaken fact outcome)
-    → ((each : TakenAs) → number_of each after ≡ number_of each counts + (if same_outcome each outcome then 1 else 0)) → HasStepped old new IsStoreOf (AreTaken (facts ++ fact ∷ []) after)
+    → ((each : TakenAs) → count_taken_as each after ≡ count_taken_as each counts + (if same_outcome each outcome then 1 else 0)) → HasStepped old new IsStoreOf (AreTaken (facts ++ fact ∷ []) after)
 one_more old mid new facts fact counts after outcome one two added = record {
   keeps = keeps_then old mid new one.keeps two.keeps;
   mode = two.mode;
@@ -57,8 +57,8 @@ stops_on_the_way old mid new facts counts fault one two = record {
 }
 
 -- a fact alone
-pub one_taken : (old new : State) (fact : Fact) (none counts : Counts) (outcome : TakenAs) → HasStepped old new IsStoreOf (IsTaken fact outcome) → ((each : TakenAs) → number_of each none ≡ 0)
-    → ((each : TakenAs) → number_of each counts ≡ number_of each none + (if same_outcome each outcome then 1 else 0)) → HasStepped old new IsStoreOf (AreTaken (fact ∷ []) counts)
+pub one_taken : (old new : State) (fact : Fact) (none counts : Counts) (outcome : TakenAs) → HasStepped old new IsStoreOf (IsTaken fact outcome) → ((each : TakenAs) → count_taken_as each none ≡ 0)
+    → ((each : TakenAs) → count_taken_as each counts ≡ count_taken_as each none + (if same_outcome each outcome then 1 else 0)) → HasStepped old new IsStoreOf (AreTaken (fact ∷ []) counts)
 one_taken old new fact none counts outcome one zero added = record {
   keeps = one.keeps;
   mode = one.mode;

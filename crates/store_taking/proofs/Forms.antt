@@ -128,7 +128,7 @@ pub entries_in_form : (it : Contents) (id scope : ℕ) (listed : List ListedSeri
 entries_in_form it id scope listed form room low few up bytes = record {
   ids = form.ids;
   numbers = form.numbers;
-  reasons = all_filled (without id scope it.entries) id scope (Rattle.store_rows.specs.Places.base_of id scope) listed (all_filtered (λ (e : EntryRow). HasByte e.listed) (λ e. not (Rattle.store_rows.specs.Places.is_under id scope e)) it.entries form.reasons) bytes;
+  reasons = all_filled (without id scope it.entries) id scope (Rattle.store_rows.specs.Places.list_base id scope) listed (all_filtered (λ (e : EntryRow). HasByte e.listed) (λ e. not (Rattle.store_rows.specs.Places.is_under id scope e)) it.entries form.reasons) bytes;
   statuses = form.statuses;
   placed = (replaces it.entries id scope listed form.placed room low few (ascends listed up)).placed;
 }

@@ -1,7 +1,7 @@
 //! The ids of issuers, who are added where they are new.
 
 ghost use Rattle.std.specs.Prelude.{◌≡◌, ◌≢◌, ℕ, suc, ⊤, IfOk};
-ghost use Rattle.statements_facts.specs.Fact.{issuer_of};
+ghost use Rattle.statements_facts.specs.Fact.{seen_issuer};
 ghost use Rattle.store_sql.specs.Statements.{CommitsNothing};
 ghost use Rattle.store_rows.specs.Holding.{HasRoom};
 ghost use Rattle.store_sql.specs.Inside.{inside, IsInTransaction, KeepsReference, SucceedsOnlyIfOpen};
@@ -32,9 +32,9 @@ fn id_of_added<S: Alter>(
 ) -> Result<u32, StoreFault>
     requires inside { IsInTransaction S.Store tx.old }
     ensures same_reference { KeepsReference tx.old tx.new }
-    ensures known { KnowsIdIn S.Store tx.old tx.new (issuer_of issuer.now) result }
+    ensures known { KnowsIdIn S.Store tx.old tx.new (seen_issuer issuer.now) result }
     ensures room { IfOk result HasRoom }
-    ensures caused { CausedOverIn S.Store tx.old tx.new (Knows (issuer_of issuer.now)) ⊤ result }
+    ensures caused { CausedOverIn S.Store tx.old tx.new (Knows (seen_issuer issuer.now)) ⊤ result }
     ensures survives { CommitsNothing (inside S.Store tx.old) (inside S.Store tx.new) }
 {
     match find_issuer(tx, issuer) {
@@ -47,14 +47,14 @@ fn id_of_added<S: Alter>(
 fn new_issuer<S: Alter>(tx: &mut Transaction<'_, S>, issuer: &Issuer<'_>) -> Result<u32, StoreFault>
     requires inside { IsInTransaction S.Store tx.old }
     ensures same_reference { KeepsReference tx.old tx.new }
-    ensures goes { AddsIssuer S.Store tx.old tx.new (issuer_of issuer.now) result }
+    ensures goes { AddsIssuer S.Store tx.old tx.new (seen_issuer issuer.now) result }
     ensures room { IfOk result HasRoom }
     ensures caused { (issuers rows : ℕ) → CausedOverIn S.Store tx.old tx.new
-        (LacksWithRoom (issuer_of issuer.now) (suc issuers) rows)
-        (IssuerFitsRow (issuer_of issuer.now)) result }
+        (LacksWithRoom (seen_issuer issuer.now) (suc issuers) rows)
+        (IssuerFitsRow (seen_issuer issuer.now)) result }
     ensures leaves { (issuers rows : ℕ) → LeavesRoomIn S.Store tx.old tx.new
-        (LacksWithRoom (issuer_of issuer.now) (suc issuers) rows)
-        (λ id. KnowsWithRoom (issuer_of issuer.now) id issuers rows) result }
+        (LacksWithRoom (seen_issuer issuer.now) (suc issuers) rows)
+        (λ id. KnowsWithRoom (seen_issuer issuer.now) id issuers rows) result }
     ensures survives { CommitsNothing (inside S.Store tx.old) (inside S.Store tx.new) }
 {
     if let Err(fault) = add_issuer(tx, issuer) {
@@ -73,11 +73,11 @@ pub(crate) fn issuer_id<S: Alter>(
 ) -> Result<u32, StoreFault>
     requires inside { IsInTransaction S.Store tx.old }
     ensures same_reference { KeepsReference tx.old tx.new }
-    ensures goes { FindsOrAddsIssuer S.Store tx.old tx.new (issuer_of issuer.now) result }
-    ensures caused { FindsIdForCause S.Store tx.old tx.new (issuer_of issuer.now) result }
+    ensures goes { FindsOrAddsIssuer S.Store tx.old tx.new (seen_issuer issuer.now) result }
+    ensures caused { FindsIdForCause S.Store tx.old tx.new (seen_issuer issuer.now) result }
     ensures leaves { (issuers rows : ℕ) → LeavesRoomIn S.Store tx.old tx.new
         (IsStoreWithRoom (suc issuers) rows)
-        (λ id. KnowsWithRoom (issuer_of issuer.now) id issuers rows) result }
+        (λ id. KnowsWithRoom (seen_issuer issuer.now) id issuers rows) result }
     ensures open { SucceedsOnlyIfOpen S.Store tx.old tx.new result }
     ensures room { IfOk result HasRoom }
     ensures survives { CommitsNothing (inside S.Store tx.old) (inside S.Store tx.new) }

@@ -1,14 +1,14 @@
 //! Revocation lists that are put into a store.
 
 ghost use Rattle.std.specs.Prelude.{◌≡◌, ◌<◌, ◌≤◌, ◌^◌, length, IfSome, IfNone, OnOk};
-ghost use Rattle.statements_facts.specs.Fact.{issuer_of};
+ghost use Rattle.statements_facts.specs.Fact.{seen_issuer};
 ghost use Rattle.statements_facts.specs.Listed.{IsAscending};
 ghost use Rattle.store_sql.specs.Statements.{CommitsNothing};
 ghost use Rattle.store_rows.specs.Holding.{IsNumbered, FitInList};
 ghost use Rattle.store_rows.specs.Seen.{seen_head};
 ghost use Rattle.store_taking.specs.Lists.{crl_head, with_crl_facts, HeadDecides, EntriesDecide, ListIsTakenAs};
 ghost use Rattle.store_sql.specs.Inside.{inside, IsInTransaction, KeepsReference, SucceedsOnlyIfOpen};
-ghost use Rattle.store_taking.specs.Taking.{fact_of_list, TakesFact, TakesUnder};
+ghost use Rattle.store_taking.specs.Taking.{fact_of_crl, TakesFact, TakesUnder};
 ghost use Rattle.store_rows.specs.Room.{CrlsLeaveAnId, EntriesFit};
 ghost use Rattle.store_rows.specs.Steps.{FindsIn, ChangesIn, CausedOrIn, CausedIfRoomIn};
 ghost use Rattle.store_taking.specs.Room.{ListFits, TakesForCause, TakesUnderForCause};
@@ -139,9 +139,9 @@ fn take_under<S: Alter>(
     requires issuer { id < 536870911 }
     requires inside { IsInTransaction S.Store tx.old }
     ensures same_reference { KeepsReference tx.old tx.new }
-    ensures goes { TakesUnder S.Store tx.old tx.new id (fact_of_list list.now) result }
+    ensures goes { TakesUnder S.Store tx.old tx.new id (fact_of_crl list.now) result }
     ensures caused { TakesUnderForCause S.Store tx.old tx.new
-        (issuer_of list.now.issuer) id (ListFits list.now) result }
+        (seen_issuer list.now.issuer) id (ListFits list.now) result }
     ensures survives { CommitsNothing (inside S.Store tx.old) (inside S.Store tx.new) }
 {
     let key = ListKey {
@@ -170,7 +170,7 @@ pub fn take_list<S: Alter>(
 ) -> Result<TakenAs, StoreFault>
     requires inside { IsInTransaction S.Store tx.old }
     ensures same_reference { KeepsReference tx.old tx.new }
-    ensures takes { TakesFact S.Store tx.old tx.new (fact_of_list list.now) result }
+    ensures takes { TakesFact S.Store tx.old tx.new (fact_of_crl list.now) result }
     ensures caused { TakesForCause S.Store tx.old tx.new (ListFits list.now) result }
     ensures open { SucceedsOnlyIfOpen S.Store tx.old tx.new result }
     ensures survives { CommitsNothing (inside S.Store tx.old) (inside S.Store tx.new) }

@@ -1,7 +1,7 @@
 //! What responses say of single certificates, put into a store.
 
 ghost use Rattle.std.specs.Prelude.{◌↔◌, ◌<◌, ℕ, suc, IsTrue};
-ghost use Rattle.statements_facts.specs.Fact.{issuer_of};
+ghost use Rattle.statements_facts.specs.Fact.{seen_issuer};
 ghost use Rattle.statements_facts.specs.Single.{seen_single};
 ghost use Rattle.store_sql.specs.Statements.{CommitsNothing};
 ghost use Rattle.store_rows.specs.Holding.{HasReason};
@@ -83,9 +83,9 @@ fn take_under<S: Alter>(
     ensures same_reference { KeepsReference tx.old tx.new }
     ensures goes { TakesUnder S.Store tx.old tx.new id (fact_from issuer.now single.now) result }
     ensures caused { TakesUnderForCause S.Store tx.old tx.new
-        (issuer_of issuer.now) id (SingleFitsRow (seen_single single.now)) result }
+        (seen_issuer issuer.now) id (SingleFitsRow (seen_single single.now)) result }
     ensures leaves { (issuers rows : ℕ) → LeavesRoomIn S.Store tx.old tx.new
-        (KnowsWithRoom (issuer_of issuer.now) id issuers (suc rows))
+        (KnowsWithRoom (seen_issuer issuer.now) id issuers (suc rows))
         (λ _. IsStoreWithRoom issuers rows) result }
     ensures survives { CommitsNothing (inside S.Store tx.old) (inside S.Store tx.new) }
 {
@@ -115,7 +115,7 @@ pub fn take_single<S: Alter>(
     ensures same_reference { KeepsReference tx.old tx.new }
     ensures takes { TakesFact S.Store tx.old tx.new (fact_from issuer.now single.now) result }
     ensures caused { TakesForCause S.Store tx.old tx.new
-        (IssuerFitsRow (issuer_of issuer.now) × SingleFitsRow (seen_single single.now)) result }
+        (IssuerFitsRow (seen_issuer issuer.now) × SingleFitsRow (seen_single single.now)) result }
     ensures leaves { (issuers rows : ℕ) → LeavesRoomIn S.Store tx.old tx.new
         (IsStoreWithRoom (suc issuers) (suc rows)) (λ _. IsStoreWithRoom issuers rows) result }
     ensures open { SucceedsOnlyIfOpen S.Store tx.old tx.new result }

@@ -8,4 +8,6 @@ mod migrations;
 #[cfg(test)]
 mod putting;
 #[cfg(test)]
+mod statements;
+#[cfg(test)]
 mod stores;

@@ -42,11 +42,17 @@ fn issuer(alloc: Global, key_info: &[u8]) -> Option<Issuer<'_>> {
     })
 }
 
-/// A list that revokes all of these serial numbers, for reason 1.
+/// The reason for which lists here revoke a serial number.
+fn given(serial: &[u8]) -> u8 {
+    serial.last().copied().unwrap_or(0) % 5 + 1
+}
+
+/// A list that revokes all of these serial numbers.
 fn list<'a>(alloc: Global, key_info: &'a [u8], serials: &'a [u8]) -> Option<Facts<'a>> {
     let mut listed = Vec::new(alloc);
     for serial in serials.chunks(4) {
-        listed.push(Listed { serial, reason: 1 }).ok()?;
+        let reason = given(serial);
+        listed.push(Listed { serial, reason }).ok()?;
     }
     Some(Facts::Crl(CrlFacts {
         issuer: issuer(alloc, key_info)?,
@@ -108,7 +114,30 @@ fn of_a_long_list(alloc: Global) -> Option<(Counts, u8, u8)> {
 
 #[test]
 fn a_list_of_200_000_entries(rt: HostRuntime) {
-    assert_eq!(rt; of_a_long_list(rt.alloc()), Some((stored(1), 1, 255)));
+    let last = given(&(LISTED - 1).to_be_bytes());
+    assert_eq!(rt; of_a_long_list(rt.alloc()), Some((stored(1), last, 255)));
+}
+
+/// Whether a store that took a list of so many entries tells the reason of each, and of no serial number behind them.
+fn tells_each(alloc: Global, count: u32) -> Option<bool> {
+    let octets = serials(alloc, count)?;
+    let mut store = made(alloc)?;
+    store.put(&list(alloc, KEY, &octets)?).ok()?;
+    for index in 0..count {
+        let told = reason(alloc, &mut store, KEY, FIRST | index)?;
+        if told != given(&index.to_be_bytes()) {
+            return Some(false);
+        }
+    }
+    Some(reason(alloc, &mut store, KEY, FIRST | count)? == 255)
+}
+
+/// Entries are written eight by a statement, and what is left one by one.
+#[test]
+fn lists_of_a_few_entries(rt: HostRuntime) {
+    for &count in &[0, 1, 7, 8, 9, 15, 16, 17] {
+        assert_eq!(rt; tells_each(rt.alloc(), count), Some(true));
+    }
 }
 
 fn of_a_long_response(alloc: Global) -> Option<(Counts, Option<Status>)> {

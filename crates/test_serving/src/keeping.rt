@@ -1,7 +1,7 @@
 //! A keeper that answers as it was told, files that are not there, and sessions over both.
 
 use cli_failures::{Failure, Source};
-use cli_keeping::{Asked, Keeper, KeeperFault};
+use cli_keeping::{Keeper, KeeperFault, PathQuestion};
 use cli_serving::{End, serve};
 use cli_session::Believed;
 use cli_steps::Party;
@@ -34,7 +34,7 @@ impl Keeper for Told {
         &mut self,
         _alloc: Global,
         _verifier: &V,
-        _asked: Asked<'_>,
+        _asked: PathQuestion<'_>,
     ) -> Result<Verdict, KeeperFault> {
         self.verdict
     }

@@ -114,10 +114,8 @@ impl<'a> Part<'a> {
     fn arcs(self, alloc: Global) -> Result<Vec<u32>, NotationFault> {
         let mut arcs = Vec::new(alloc);
         for text in self.text.split('.') {
-            match self.behind(0, text).number() {
-                Ok(arc) => arcs.push(arc)?,
-                Err(fault) => return Err(fault),
-            }
+            let arc = self.behind(0, text).number()?;
+            arcs.push(arc)?;
         }
         Ok(arcs)
     }

@@ -89,10 +89,7 @@ fn signed_part(alloc: Global, notation: &ResponseNotation<'_>) -> Result<Tree, N
     let produced_at = primitive(alloc, 0x18, notation.produced_at.as_bytes())?;
     let mut singles = Vec::new(alloc);
     for single in &notation.singles {
-        match single_tree(alloc, notation, single) {
-            Ok(tree) => singles.push(tree)?,
-            Err(fault) => return Err(fault),
-        }
+        singles.push(single_tree(alloc, notation, single)?)?;
     }
     let responses = Tree::Constructed(0x30, singles);
     Ok(Tree::Constructed(0x30, vec![in alloc; responder, produced_at, responses]?))
@@ -109,10 +106,7 @@ fn push_certificates(
     }
     let mut all = Vec::new(alloc);
     for text in certificates {
-        match tree(alloc, text) {
-            Ok(certificate) => all.push(certificate)?,
-            Err(fault) => return Err(fault),
-        }
+        all.push(tree(alloc, text)?)?;
     }
     members.push(explicit(alloc, 0xA0, Tree::Constructed(0x30, all))?)?;
     Ok(())

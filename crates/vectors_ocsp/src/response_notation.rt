@@ -75,10 +75,7 @@ fn time<'a>(part: Part<'a>) -> Result<&'a str, NotationFault> {
 fn singles(alloc: Global, text: Part<'_>) -> Result<Vec<Single>, NotationFault> {
     let mut singles = Vec::new(alloc);
     for one in text.text.split(',') {
-        match Single::read(alloc, text.behind(0, one)) {
-            Ok(single) => singles.push(single)?,
-            Err(fault) => return Err(fault),
-        }
+        singles.push(Single::read(alloc, text.behind(0, one))?)?;
     }
     Ok(singles)
 }

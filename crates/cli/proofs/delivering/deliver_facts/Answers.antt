@@ -5,10 +5,10 @@ use Rattle.cli.proofs.delivering.deliver_facts.Goals as goal
 
 pub returns-clause-delivered : goal.returns-clause-delivered
 returns-clause-delivered g c =
-    delivered_believed (g.S.Source.holds c.args.source.now) (g.S.Stores.stands c.args.source.now) (g.S.Stores.leaves c.args.source.now) (accepted_by c.new-verifier.result) c.args.words c.in-Ok.prints.items
-    c.deliver_for.result c.in-Ok.ensures.reads (believes_just c.new-verifier.result c.in-Ok.prints.items c.new-verifier.ensures) c.deliver_for.ensures.delivered
+    delivered_believed (g.S.Source.holds c.args.source.now) (g.S.Stores.stands c.args.source.now) (g.S.Stores.leaves c.args.source.now) (accepted_by c.new-verifier.result) c.args.words c.in_ok-prints.prints.items
+    c.deliver_for.result c.in_ok-prints.ensures.reads (believes_just c.new-verifier.result c.in_ok-prints.prints.items c.new-verifier.ensures) c.deliver_for.ensures.delivered
 
 pub returns-clause-fails : goal.returns-clause-fails
 returns-clause-fails g c =
-    fails_believed (g.S.Source.holds c.args.source.now) (g.S.Stores.stands c.args.source.now) (g.S.Stores.leaves c.args.source.now) (accepted_by c.new-verifier.result) c.args.words c.in-Ok.prints.items
-    c.deliver_for.result c.in-Ok.ensures.reads (believes_just c.new-verifier.result c.in-Ok.prints.items c.new-verifier.ensures) c.deliver_for.ensures.fails
+    fails_believed (g.S.Source.holds c.args.source.now) (g.S.Stores.stands c.args.source.now) (g.S.Stores.leaves c.args.source.now) (accepted_by c.new-verifier.result) c.args.words c.in_ok-prints.prints.items
+    c.deliver_for.result c.in_ok-prints.ensures.reads (believes_just c.new-verifier.result c.in_ok-prints.prints.items c.new-verifier.ensures) c.deliver_for.ensures.fails

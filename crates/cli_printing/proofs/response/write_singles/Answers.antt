@@ -1,5 +1,5 @@
 use Rattle.std.proofs.Common.{◌++◌, refl}
-use Rattle.statements_ocsp.specs.Single.{seen_single}
+use Rattle.statements_ocsp.specs.Single.{seen_single_response}
 use Rattle.cli_printing.specs.ResponseText.{single_line}
 use Rattle.cli_printing.proofs.Appending.{appends_both}
 use Rattle.cli_printing.proofs.Joining.{joined_more}
@@ -8,7 +8,7 @@ use Rattle.cli_printing.proofs.response.write_singles.Goals as goal
 pub loop-single-preserved : goal.loop-single-preserved
 loop-single-preserved g c =
     let was = c.loop-single.invariant in
-    let single = seen_single c.in-Some.single in
+    let single = seen_single_response c.in-Some.single in
     record {
       text = was.text ++ single_line single;
       whole = joined_more single_line _ was.text single _ _ c.in-Some.ensures was.whole;

@@ -1,7 +1,7 @@
 use Rattle.std.proofs.Common.{◌≡◌, [], ◌∷◌, ◌++◌, ◌∙◌, List, ℕ, ap, subst, sym}
 use Rattle.std.proofs.lemmas.List.{map-append}
 use denote.Ref.{Bor}
-use Rattle.relying_rows.specs.Row.{BeginsWith}
+use Rattle.relying_rows.specs.Row.{RowBeginsWith}
 use Rattle.relying_texts.specs.View.{texts_of}
 use Rattle.relying_rows.specs.Statement.{statement}
 use Rattle.relying_rows.proofs.Values.{one_more}
@@ -15,6 +15,6 @@ loop-left-preserved c =
     let is = c.in_ok-check_at.ensures.reads in
     let seen : texts_of c.push.new.self.items ≡ texts ++ value.now ∷ [] = ap texts_of c.in_ok-push.ensures.items ∙ map-append (λ (text : Bor (List ℕ)). text.now) c.loop-left.statements.items (value ∷ []) in (
       these ++ is.0 ∷ [],
-      subst (λ (texts : List (List ℕ)). BeginsWith statement c.args.row.now texts (these ++ is.0 ∷ []) c.first_value.result.1.now) (sym seen)
+      subst (λ (texts : List (List ℕ)). RowBeginsWith statement c.args.row.now texts (these ++ is.0 ∷ []) c.first_value.result.1.now) (sym seen)
           (one_more statement c.args.row.now texts these c.loop-left.left.now value.now c.first_value.result.1.now is.0 c.loop-left.invariant.1 c.first_value.ensures.parts is.1),
     )

@@ -14,14 +14,14 @@ returns-in-Good-clause-asks g c clean other_clean =
     both_as _ _ _ _ (λ held others answer. ComparesEvidence query.moment (evidence_on held query) (evidence_on others query) answer) _ c.compare_held.result
     (c.compare_held.ensures.asks clean other_clean)
     (λ one other answer is. is_comparison (g.V.Verifier.accepts c.args.verifier.now) query
-    (subst (IsOutcome (g.V.Verifier.accepts c.args.verifier.now) query) c.in-Good.is c.in-Ok.ensures) one other answer is)
+    (subst (IsOutcome (g.V.Verifier.accepts c.args.verifier.now) query) c.in-Good.is c.in_ok-outcome.ensures) one other answer is)
 
 pub returns-in-Good-clause-open : goal.returns-in-Good-clause-open
 returns-in-Good-clause-open g c clean other_clean =
-    let valid = subst (IsOutcome (g.V.Verifier.accepts c.args.verifier.now) (seen_query c.args.query.now)) c.in-Good.is c.in-Ok.ensures in
+    let valid = subst (IsOutcome (g.V.Verifier.accepts c.args.verifier.now) (seen_query c.args.query.now)) c.in-Good.is c.in_ok-outcome.ensures in
     are_open _ _ _ _ c.compare_held.result (c.compare_held.ensures.open clean other_clean (some_certificate c.args.query.now.path.items _ valid.served.some))
 
 pub returns-in-Bad-clause-open : goal.returns-in-Bad-clause-open
 returns-in-Bad-clause-open g c clean other_clean =
-    let fails = subst (IsOutcome (g.V.Verifier.accepts c.args.verifier.now) (seen_query c.args.query.now)) c.in-Bad.is c.in-Ok.ensures in
+    let fails = subst (IsOutcome (g.V.Verifier.accepts c.args.verifier.now) (seen_query c.args.query.now)) c.in-Bad.is c.in_ok-outcome.ensures in
     (fails, fails)

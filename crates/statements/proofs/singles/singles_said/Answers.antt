@@ -2,7 +2,7 @@ use Rattle.std.proofs.Common.{rules}
 use Rattle.cert.specs.Certificate.{seen_certificate}
 use Rattle.statements_facts.specs.Single.{seen_single}
 use Rattle.statements_ocsp.specs.OcspResponse.{seen_response}
-use Rattle.statements_ocsp.specs.Single.{singles_left, seen_single as seen_response_to}
+use Rattle.statements_ocsp.specs.Single.{singles_left, seen_single_response as seen_response_to}
 use Rattle.statements.specs.OcspFact.{single_fact, singles_of, speaks_for}
 use Rattle.statements.specs.SignerView.{seen_signer}
 use Rattle.statements.proofs.Responding.{one_more}

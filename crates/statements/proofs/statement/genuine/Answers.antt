@@ -1,6 +1,6 @@
 use Rattle.std.proofs.Common.{rules}
 use Rattle.cert.specs.Certificate.{seen_certificate}
-use Rattle.statements_facts.specs.Fact.{issuer_of as seen_issuer}
+use Rattle.statements_facts.specs.Fact.{seen_issuer}
 use Rattle.statements.proofs.Answering.{response_is}
 use Rattle.statements.proofs.statement.genuine.Goals as goal
 

@@ -46,9 +46,7 @@ returns-in-Err-inspect-clause-crash g c =
     survives_weaker old (state g.S.Store c.inspect.new.conn) (λ _. ⊥) (LeavesMigrated old) (λ clean db none. absurd none) c.inspect.ensures.survives
 
 pub returns-in-Err-clause-caused : goal.returns-in-Err-clause-caused
-returns-in-Err-clause-caused g c clean lacks =
-    let has : (state g.S.Store c.args.conn.now).now.schema ≡ version_1_schema = search rules in
-    absurd (lacks has)
+returns-in-Err-clause-caused g c clean = c.in-Err.ensures.caused clean
 
 pub returns-in-Err-inspect-clause-caused : goal.returns-in-Err-inspect-clause-caused
-returns-in-Err-inspect-clause-caused g c clean lacks = c.in-Err-inspect.ensures.caused clean
+returns-in-Err-inspect-clause-caused g c clean e ordered fits = c.in-Err-inspect.ensures.caused clean e ordered

@@ -17,4 +17,4 @@ returns-in-Ok-clause-left g c =
     (λ clean db leaves. let live = (c.in-Ok.ensures.takes clean).0 in (leaves.0 (open_in_order c.args.conn.now live (c.migrate_or_inspect.ensures.settled.0 live) (c.migrate_or_inspect.ensures.live live).0), leaves.1)) c.migrate_or_inspect.ensures.crash
 
 pub returns-in-Err-clause-caused : goal.returns-in-Err-clause-caused
-returns-in-Err-clause-caused g c clean lacks = adoption_caused c.args.conn.now (file_state c.migrate_or_inspect.new.conn) c.in-Err.fault c.migrate_or_inspect.ensures.settled.0 c.migrate_or_inspect.ensures.live (c.in-Err.ensures.caused clean lacks)
+returns-in-Err-clause-caused g c clean fits = adoption_caused c.args.conn.now (file_state c.migrate_or_inspect.new.conn) c.in-Err.fault c.migrate_or_inspect.ensures.settled.0 c.migrate_or_inspect.ensures.live (λ e ordered. c.in-Err.ensures.caused clean e ordered fits)

@@ -6,7 +6,7 @@ use Rattle.std.specs.List.{AllByRecursion}
 use Rattle.store_sql.specs.Tables.{store_schema, crls_tree}
 use Rattle.store_adoption.specs.Texts.{all_crls}
 use Rattle.store_adoption.specs.Cells.{IsCrlCells}
-use Rattle.store_adoption.specs.Inspects.{crl_cells}
+use Rattle.store_adoption.specs.Inspects.{crl_columns}
 use Rattle.store_adoption.specs.Tests.{IsTableQuery}
 use Rattle.store_adoption.proofs.Answered.{answers_crls}
 use Rattle.store_adoption.proofs.Meaning.{shows_crls}
@@ -23,7 +23,7 @@ returns-in-Ok-clause-checks g c clean =
     let step = c.test_rows.ensures.survives.clean in
     let ours = c.requires.ours (omega (arith, step, clean)) in
     let it = shows_crls c.args.origin in
-    let h = checked (store_schema c.args.origin) all_crls (crls_tree c.args.origin) _ _ crl_cells it.0 it.1 it.2 (λ r. refl) {A = Unit {0}} old _ _ (AllByRecursion (IsCrlCells c.args.next)) (Ok c.in-Ok.field-0) ours (λ ordered. (in_order c.args.origin old.now ours ordered).crls.0) (c.in-Ok.ensures.tests clean) in
+    let h = checked (store_schema c.args.origin) all_crls (crls_tree c.args.origin) _ _ crl_columns it.0 it.1 it.2 (λ r. refl) {A = Unit {0}} old _ _ (AllByRecursion (IsCrlCells c.args.next)) (Ok c.in-Ok.field-0) ours (λ ordered. (in_order c.args.origin old.now ours ordered).crls.0) (c.in-Ok.ensures.tests clean) in
     (h.0, λ ordered. (c.in-Ok.ensures.same _).1 (h.1 ordered))
 
 pub returns-in-Err-clause-checks : goal.returns-in-Err-clause-checks
@@ -32,7 +32,7 @@ returns-in-Err-clause-checks g c clean =
     let step = c.test_rows.ensures.survives.clean in
     let ours = c.requires.ours (omega (arith, step, clean)) in
     let it = shows_crls c.args.origin in
-    checked (store_schema c.args.origin) all_crls (crls_tree c.args.origin) _ _ crl_cells it.0 it.1 it.2 (λ r. refl) {A = Unit {0}} old _ (λ _. Unit {0}) (AllByRecursion (IsCrlCells c.args.next)) (Err c.in-Err.fault) ours (λ ordered. (in_order c.args.origin old.now ours ordered).crls.0) (c.in-Err.ensures.tests clean)
+    checked (store_schema c.args.origin) all_crls (crls_tree c.args.origin) _ _ crl_columns it.0 it.1 it.2 (λ r. refl) {A = Unit {0}} old _ (λ _. Unit {0}) (AllByRecursion (IsCrlCells c.args.next)) (Err c.in-Err.fault) ours (λ ordered. (in_order c.args.origin old.now ours ordered).crls.0) (c.in-Err.ensures.tests clean)
 
 pub returns-in-Err-clause-caused : goal.returns-in-Err-clause-caused
 returns-in-Err-clause-caused g c clean e ordered =
@@ -40,5 +40,5 @@ returns-in-Err-clause-caused g c clean e ordered =
     let step = c.test_rows.ensures.survives.clean in
     let ours = c.requires.ours (omega (arith, step, clean)) in
     let it = shows_crls c.args.origin in
-    stopped (store_schema c.args.origin) all_crls (crls_tree c.args.origin) _ _ crl_cells it.0 it.1 it.2 (λ r. refl) old (state g.S.Store c.test_rows.new.conn) ours (in_order c.args.origin old.now ours ordered).crls.0
+    stopped (store_schema c.args.origin) all_crls (crls_tree c.args.origin) _ _ crl_columns it.0 it.1 it.2 (λ r. refl) old (state g.S.Store c.test_rows.new.conn) ours (in_order c.args.origin old.now ours ordered).crls.0
     (c.in-Err.ensures.caused clean (subst (λ s. IsTableQuery s all_crls (understood s all_crls)) (sym ours) (answers_crls c.args.origin)) e)

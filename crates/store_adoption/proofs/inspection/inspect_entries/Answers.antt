@@ -5,7 +5,7 @@ use Rattle.sqlite.proofs.Callers.{IsPlain}
 use Rattle.std.specs.List.{AllByRecursion}
 use Rattle.store_sql.specs.Tables.{store_schema, entries_tree}
 use Rattle.store_adoption.specs.Texts.{all_entries}
-use Rattle.store_adoption.specs.Cells.{IsEntryCells, AreChained, entry_in}
+use Rattle.store_adoption.specs.Cells.{IsEntryCells, AreChained, entry_of_row}
 use Rattle.store_adoption.specs.Inspects.{entry_cells}
 use Rattle.store_adoption.specs.Tests.{IsTableQuery}
 use Rattle.store_adoption.proofs.Answered.{answers_entries}
@@ -23,7 +23,7 @@ returns-in-Ok-clause-checks g c clean =
     let step = c.test_rows.ensures.survives.clean in
     let ours = c.requires.ours (omega (arith, step, clean)) in
     let it = shows_entries c.args.origin in
-    let h = checked (store_schema c.args.origin) all_entries (entries_tree c.args.origin) _ _ entry_cells it.0 it.1 it.2 (λ r. refl) {A = Unit {0}} old _ _ (λ rows. AllByRecursion IsEntryCells rows × AreChained None (map entry_in rows)) (Ok c.in-Ok.field-0) ours (λ ordered. (in_order c.args.origin old.now ours ordered).entries.0) (c.in-Ok.ensures.tests clean) in
+    let h = checked (store_schema c.args.origin) all_entries (entries_tree c.args.origin) _ _ entry_cells it.0 it.1 it.2 (λ r. refl) {A = Unit {0}} old _ _ (λ rows. AllByRecursion IsEntryCells rows × AreChained None (map entry_of_row rows)) (Ok c.in-Ok.field-0) ours (λ ordered. (in_order c.args.origin old.now ours ordered).entries.0) (c.in-Ok.ensures.tests clean) in
     (h.0, λ ordered. let all = h.1 ordered in (all.0, all.1))
 
 pub returns-clause-checks : goal.returns-clause-checks
@@ -32,7 +32,7 @@ returns-clause-checks g c clean =
     let step = c.test_rows.ensures.survives.clean in
     let ours = c.requires.ours (omega (arith, step, clean)) in
     let it = shows_entries c.args.origin in
-    checked (store_schema c.args.origin) all_entries (entries_tree c.args.origin) _ _ entry_cells it.0 it.1 it.2 (λ r. refl) {A = Unit {0}} old _ (λ _. Unit {0}) (λ rows. AllByRecursion IsEntryCells rows × AreChained None (map entry_in rows)) (Err c.in-Err.fault) ours (λ ordered. (in_order c.args.origin old.now ours ordered).entries.0) (c.in-Err.ensures.tests clean)
+    checked (store_schema c.args.origin) all_entries (entries_tree c.args.origin) _ _ entry_cells it.0 it.1 it.2 (λ r. refl) {A = Unit {0}} old _ (λ _. Unit {0}) (λ rows. AllByRecursion IsEntryCells rows × AreChained None (map entry_of_row rows)) (Err c.in-Err.fault) ours (λ ordered. (in_order c.args.origin old.now ours ordered).entries.0) (c.in-Err.ensures.tests clean)
 
 pub returns-clause-caused : goal.returns-clause-caused
 returns-clause-caused g c clean e ordered =

@@ -4,7 +4,7 @@ use Rattle.sqlite.specs.Listing.{understood}
 use Rattle.sqlite.proofs.Callers.{IsPlain}
 use Rattle.std.specs.List.{AllByRecursion}
 use Rattle.store_sql.specs.Tables.{store_schema}
-use Rattle.store_adoption.specs.Texts.{all_singles}
+use Rattle.store_adoption.specs.Texts.{all_ocsp}
 use Rattle.store_adoption.specs.Cells.{IsSingleCells}
 use Rattle.store_adoption.specs.Inspects.{single_cells}
 use Rattle.store_adoption.specs.Tests.{IsTableQuery}
@@ -15,7 +15,7 @@ use Rattle.store_adoption.proofs.Placed.{in_order}
 use Rattle.store_adoption.proofs.inspection.inspect_singles.Goals as goal
 
 pub test_rows-requires-clause-plain : goal.test_rows-requires-clause-plain
-test_rows-requires-clause-plain g c clean = subst (λ s. IsPlain (understood s all_singles)) (sym (c.requires.ours clean)) (shows_singles c.args.origin).2
+test_rows-requires-clause-plain g c clean = subst (λ s. IsPlain (understood s all_ocsp)) (sym (c.requires.ours clean)) (shows_singles c.args.origin).2
 
 pub returns-in-Ok-clause-checks : goal.returns-in-Ok-clause-checks
 returns-in-Ok-clause-checks g c clean =
@@ -23,7 +23,7 @@ returns-in-Ok-clause-checks g c clean =
     let step = c.test_rows.ensures.survives.clean in
     let ours = c.requires.ours (omega (arith, step, clean)) in
     let it = shows_singles c.args.origin in
-    let h = checked (store_schema c.args.origin) all_singles 3 _ _ single_cells it.0 it.1 it.2 (λ r. refl) {A = Unit {0}} old _ _ (AllByRecursion (IsSingleCells c.args.next)) (Ok c.in-Ok.field-0) ours (λ ordered. (in_order c.args.origin old.now ours ordered).singles.0) (c.in-Ok.ensures.tests clean) in
+    let h = checked (store_schema c.args.origin) all_ocsp 3 _ _ single_cells it.0 it.1 it.2 (λ r. refl) {A = Unit {0}} old _ _ (AllByRecursion (IsSingleCells c.args.next)) (Ok c.in-Ok.field-0) ours (λ ordered. (in_order c.args.origin old.now ours ordered).singles.0) (c.in-Ok.ensures.tests clean) in
     (h.0, λ ordered. (c.in-Ok.ensures.same _).1 (h.1 ordered))
 
 pub returns-in-Err-clause-checks : goal.returns-in-Err-clause-checks
@@ -32,7 +32,7 @@ returns-in-Err-clause-checks g c clean =
     let step = c.test_rows.ensures.survives.clean in
     let ours = c.requires.ours (omega (arith, step, clean)) in
     let it = shows_singles c.args.origin in
-    checked (store_schema c.args.origin) all_singles 3 _ _ single_cells it.0 it.1 it.2 (λ r. refl) {A = Unit {0}} old _ (λ _. Unit {0}) (AllByRecursion (IsSingleCells c.args.next)) (Err c.in-Err.fault) ours (λ ordered. (in_order c.args.origin old.now ours ordered).singles.0) (c.in-Err.ensures.tests clean)
+    checked (store_schema c.args.origin) all_ocsp 3 _ _ single_cells it.0 it.1 it.2 (λ r. refl) {A = Unit {0}} old _ (λ _. Unit {0}) (AllByRecursion (IsSingleCells c.args.next)) (Err c.in-Err.fault) ours (λ ordered. (in_order c.args.origin old.now ours ordered).singles.0) (c.in-Err.ensures.tests clean)
 
 pub returns-in-Err-clause-caused : goal.returns-in-Err-clause-caused
 returns-in-Err-clause-caused g c clean e ordered =
@@ -40,5 +40,5 @@ returns-in-Err-clause-caused g c clean e ordered =
     let step = c.test_rows.ensures.survives.clean in
     let ours = c.requires.ours (omega (arith, step, clean)) in
     let it = shows_singles c.args.origin in
-    stopped (store_schema c.args.origin) all_singles 3 _ _ single_cells it.0 it.1 it.2 (λ r. refl) old (state g.S.Store c.test_rows.new.conn) ours (in_order c.args.origin old.now ours ordered).singles.0
-    (c.in-Err.ensures.caused clean (subst (λ s. IsTableQuery s all_singles (understood s all_singles)) (sym ours) (answers_singles c.args.origin)) e)
+    stopped (store_schema c.args.origin) all_ocsp 3 _ _ single_cells it.0 it.1 it.2 (λ r. refl) old (state g.S.Store c.test_rows.new.conn) ours (in_order c.args.origin old.now ours ordered).singles.0
+    (c.in-Err.ensures.caused clean (subst (λ s. IsTableQuery s all_ocsp (understood s all_ocsp)) (sym ours) (answers_singles c.args.origin)) e)

@@ -4,7 +4,7 @@ use Rattle.sqlite.specs.Held.{state}
 use Rattle.sqlite.proofs.StateLemmas.{survives_then}
 use Rattle.store_sql.specs.Tables.{version_1_schema}
 use Rattle.store_adoption.specs.declared.unscoped.UnscopedLists.{UnscopedLists}
-use Rattle.store_adoption.specs.Seen.{seen_list, seen_own}
+use Rattle.store_adoption.specs.Seen.{seen_unscoped_list, seen_own}
 use Rattle.store_adoption.specs.Version1.{HasLists, IsVersion1}
 use Rattle.store_adoption.specs.Inspects.{HasVersion, HasIssuers, HasIds, HasUnder, ShowsLists}
 use Rattle.store_adoption.proofs.Inspecting.{checks_then, first_fails, later_caused}
@@ -23,10 +23,10 @@ returns-in-Ok-read_under-clause-reads g c clean =
     let has : old.now.schema ≡ version_1_schema = search rules in
     let step = c.read_under.ensures.survives.clean in
     let first = c.in-Ok.ensures.checks (omega (arith, step, clean)) in
-    checks_then {A = ℕ} {B = UnscopedLists} old mid (state g.S.Store c.read_under.new.conn) (HasIds 1) (λ all db. HasUnder c.in-Ok.next db × ShowsLists (map seen_list all.lists.items) (map seen_own all.entries.items) db) (HasUnder c.in-Ok.next)
-    (λ all. HasLists (map seen_list all.lists.items) (map seen_own all.entries.items)) IsVersion1 c.in-Ok.next (Ok c.in-Ok-read_under.all)
+    checks_then {A = ℕ} {B = UnscopedLists} old mid (state g.S.Store c.read_under.new.conn) (HasIds 1) (λ all db. HasUnder c.in-Ok.next db × ShowsLists (map seen_unscoped_list all.lists.items) (map seen_own all.entries.items) db) (HasUnder c.in-Ok.next)
+    (λ all. HasLists (map seen_unscoped_list all.lists.items) (map seen_own all.entries.items)) IsVersion1 c.in-Ok.next (Ok c.in-Ok-read_under.all)
     first (c.in-Ok-read_under.ensures.checks clean)
-    (λ all ordered ids under. lists_of old.now c.in-Ok.next (map seen_list all.lists.items) (map seen_own all.entries.items) has (c.schema.ensures.live first.0.0.was_open).0 ordered ids under.0 under.1) (λ ordered ids it. under_of old.now c.in-Ok.next it ids.2)
+    (λ all ordered ids under. lists_of old.now c.in-Ok.next (map seen_unscoped_list all.lists.items) (map seen_own all.entries.items) has (c.schema.ensures.live first.0.0.was_open).0 ordered ids under.0 under.1) (λ ordered ids it. under_of old.now c.in-Ok.next it ids.2)
 
 pub returns-in-Err-read_under-clause-reads : goal.returns-in-Err-read_under-clause-reads
 returns-in-Err-read_under-clause-reads g c clean =
@@ -35,10 +35,10 @@ returns-in-Err-read_under-clause-reads g c clean =
     let has : old.now.schema ≡ version_1_schema = search rules in
     let step = c.read_under.ensures.survives.clean in
     let first = c.in-Ok.ensures.checks (omega (arith, step, clean)) in
-    checks_then {A = ℕ} {B = UnscopedLists} old mid (state g.S.Store c.read_under.new.conn) (HasIds 1) (λ all db. HasUnder c.in-Ok.next db × ShowsLists (map seen_list all.lists.items) (map seen_own all.entries.items) db) (HasUnder c.in-Ok.next)
-    (λ all. HasLists (map seen_list all.lists.items) (map seen_own all.entries.items)) IsVersion1 c.in-Ok.next (Err c.in-Err-read_under.fault)
+    checks_then {A = ℕ} {B = UnscopedLists} old mid (state g.S.Store c.read_under.new.conn) (HasIds 1) (λ all db. HasUnder c.in-Ok.next db × ShowsLists (map seen_unscoped_list all.lists.items) (map seen_own all.entries.items) db) (HasUnder c.in-Ok.next)
+    (λ all. HasLists (map seen_unscoped_list all.lists.items) (map seen_own all.entries.items)) IsVersion1 c.in-Ok.next (Err c.in-Err-read_under.fault)
     first (c.in-Err-read_under.ensures.checks clean)
-    (λ all ordered ids under. lists_of old.now c.in-Ok.next (map seen_list all.lists.items) (map seen_own all.entries.items) has (c.schema.ensures.live first.0.0.was_open).0 ordered ids under.0 under.1) (λ ordered ids it. under_of old.now c.in-Ok.next it ids.2)
+    (λ all ordered ids under. lists_of old.now c.in-Ok.next (map seen_unscoped_list all.lists.items) (map seen_own all.entries.items) has (c.schema.ensures.live first.0.0.was_open).0 ordered ids under.0 under.1) (λ ordered ids it. under_of old.now c.in-Ok.next it ids.2)
 
 pub returns-in-Err-read_under-clause-survives : goal.returns-in-Err-read_under-clause-survives
 returns-in-Err-read_under-clause-survives g c = survives_then (state g.S.Store c.args.conn.now) (state g.S.Store c.read_ids.new.conn) (state g.S.Store c.read_under.new.conn) _ _ (λ trees. ⊥) (λ clean db none. none) (λ clean db none. none) c.read_ids.ensures.survives c.read_under.ensures.survives

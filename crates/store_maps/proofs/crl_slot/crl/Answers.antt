@@ -1,5 +1,5 @@
 use Rattle.std.proofs.Common.{arith, option_map, sym, ap}
-use Rattle.statements_facts.specs.Fact.{issuer_of}
+use Rattle.statements_facts.specs.Fact.{seen_issuer}
 use Rattle.store_maps.specs.Held.{crl_under, seen_crl}
 use Rattle.statements_facts.specs.Statement.{answer_for}
 use Rattle.sqlite.specs.State.{HasCleanDisk}
@@ -16,8 +16,8 @@ returns-in-Ok-None-clause-looks_up g c clean =
 
 pub returns-clause-looks_up : goal.returns-clause-looks_up
 returns-clause-looks_up g c clean =
-    looks_up _ _ c.look_under.result (option_map seen_crl) (λ held. option_map (answer_for c.args.serial.now) (held.crl (record { issuer = issuer_of c.args.issuer.now; scope = c.args.scope })))
-    (looks_under _ _ _ (issuer_of c.args.issuer.now) c.in-Ok-Some.field-0 c.in-Ok-Some.id c.look_under.result (option_map seen_crl) (answer_for c.args.serial.now) (λ it. crl_under it c.args.scope) c.in-Ok-Some.field-0-is
+    looks_up _ _ c.look_under.result (option_map seen_crl) (λ held. option_map (answer_for c.args.serial.now) (held.crl (record { issuer = seen_issuer c.args.issuer.now; scope = c.args.scope })))
+    (looks_under _ _ _ (seen_issuer c.args.issuer.now) c.in-Ok-Some.field-0 c.in-Ok-Some.id c.look_under.result (option_map seen_crl) (answer_for c.args.serial.now) (λ it. crl_under it c.args.scope) c.in-Ok-Some.field-0-is
     (c.in-Ok-Some.ensures.finds (omega (arith, clean, c.look_under.ensures.survives.clean))) (c.look_under.ensures.finds clean))
 
 pub returns-in-Ok-None-clause-open : goal.returns-in-Ok-None-clause-open

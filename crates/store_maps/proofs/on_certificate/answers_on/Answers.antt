@@ -1,5 +1,5 @@
 use Rattle.std.proofs.Common.{arith, sym, refl, ◌∙◌}
-use Rattle.statements_facts.specs.Fact.{issuer_of}
+use Rattle.statements_facts.specs.Fact.{seen_issuer}
 use Rattle.store_maps.specs.Answers.{AreAnswersHeld, AreAnswersUnder}
 use Rattle.sqlite.specs.State.{HasCleanDisk}
 use Rattle.store_sql.specs.Inside.{inside}
@@ -11,14 +11,14 @@ use Rattle.store_maps.proofs.on_certificate.answers_on.Goals as goal
 pub returns-in-Ok-None-clause-looks_up : goal.returns-in-Ok-None-clause-looks_up
 returns-in-Ok-None-clause-looks_up g c clean =
     found_in _ _ _ _ (answered_as _ _ _ c.in-Ok-None.field-0 _ _ (c.in-Ok-None.ensures.finds clean)
-    (λ it is. no_answers it (issuer_of c.args.issuer.now) c.args.key.now _ (sym is ∙ c.in-Ok-None.field-0-is) refl refl refl))
+    (λ it is. no_answers it (seen_issuer c.args.issuer.now) c.args.key.now _ (sym is ∙ c.in-Ok-None.field-0-is) refl refl refl))
 
 pub returns-clause-looks_up : goal.returns-clause-looks_up
 returns-clause-looks_up g c clean =
-    looks_through _ _ _ (issuer_of c.args.issuer.now) c.in-Ok-Some.field-0 c.in-Ok-Some.id c.answers_under.result
-    (AreAnswersUnder c.in-Ok-Some.id c.args.key.now) (AreAnswersHeld (issuer_of c.args.issuer.now) c.args.key.now) c.in-Ok-Some.field-0-is
+    looks_through _ _ _ (seen_issuer c.args.issuer.now) c.in-Ok-Some.field-0 c.in-Ok-Some.id c.answers_under.result
+    (AreAnswersUnder c.in-Ok-Some.id c.args.key.now) (AreAnswersHeld (seen_issuer c.args.issuer.now) c.args.key.now) c.in-Ok-Some.field-0-is
     (c.in-Ok-Some.ensures.finds (omega (arith, clean, c.answers_under.ensures.survives.clean))) (c.answers_under.ensures.finds clean)
-    (λ it found is there. answers_of it (issuer_of c.args.issuer.now) c.args.key.now c.in-Ok-Some.id found is there)
+    (λ it found is there. answers_of it (seen_issuer c.args.issuer.now) c.args.key.now c.in-Ok-Some.id found is there)
 
 pub returns-in-Ok-None-clause-open : goal.returns-in-Ok-None-clause-open
 returns-in-Ok-None-clause-open g c clean = (c.in-Ok-None.ensures.known clean).was_open

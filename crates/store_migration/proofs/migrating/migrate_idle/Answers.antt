@@ -2,8 +2,11 @@ use Rattle.std.proofs.Common.{map, arith, sym, subst, inl}
 use Rattle.sqlite.specs.Held.{state}
 use Rattle.sqlite.proofs.InsideLemmas.{unchanged_keeps, keeps_then}
 use Rattle.sqlite.proofs.StateLemmas.{survives_then}
-use Rattle.store_adoption.specs.Seen.{seen_list, seen_own}
+use Rattle.store_adoption.specs.Seen.{seen_unscoped_list, seen_own}
 use Rattle.store_adoption.proofs.Laws.{order_of_version_1}
+use Rattle.sqlite.specs.State.{HasCleanDisk}
+use Rattle.store_sql.proofs.Laws.{later_refuses}
+use Rattle.store_migration.specs.Moves.{ListsFit}
 use Rattle.store_migration.specs.Moved.{IsOld}
 use Rattle.store_migration.specs.Migrates.{LeavesMoved, LeavesMigrated}
 use Rattle.store_migration.proofs.Ending.{old_of}
@@ -17,7 +20,7 @@ returns-in-Err-clause-migrates g c clean =
 pub returns-in-Ok-move_committed-clause-migrates : goal.returns-in-Ok-move_committed-clause-migrates
 returns-in-Ok-move_committed-clause-migrates g c clean =
     let old = state g.S.Store c.args.conn.now in
-    let crls = map seen_list c.in-Ok.all.lists.items in
+    let crls = map seen_unscoped_list c.in-Ok.all.lists.items in
     let entries = map seen_own c.in-Ok.all.entries.items in
     let read = c.in-Ok.ensures.reads (omega (arith, clean, c.move_committed.ensures.crash.clean)) in
     let moved = c.in-Ok-move_committed.ensures.moves clean in
@@ -33,7 +36,7 @@ pub returns-clause-migrates : goal.returns-clause-migrates
 returns-clause-migrates g c clean =
     let old = state g.S.Store c.args.conn.now in
     let mid = state g.S.Store c.read_version_1.new.conn in
-    let crls = map seen_list c.in-Ok.all.lists.items in
+    let crls = map seen_unscoped_list c.in-Ok.all.lists.items in
     let entries = map seen_own c.in-Ok.all.entries.items in
     let read = c.in-Ok.ensures.reads (omega (arith, clean, c.move_committed.ensures.crash.clean)) in
     let moved = c.in-Err-move_committed.ensures.moves clean in
@@ -43,7 +46,7 @@ pub returns-in-Ok-move_committed-clause-crash : goal.returns-in-Ok-move_committe
 returns-in-Ok-move_committed-clause-crash g c =
     let old = state g.S.Store c.args.conn.now in
     let mid = state g.S.Store c.read_version_1.new.conn in
-    let crls = map seen_list c.in-Ok.all.lists.items in
+    let crls = map seen_unscoped_list c.in-Ok.all.lists.items in
     let entries = map seen_own c.in-Ok.all.entries.items in
     survives_then old mid (state g.S.Store c.move_committed.new.conn) (λ _. ⊥) (LeavesMoved mid crls entries) (LeavesMigrated old) (λ _ db none. absurd none)
     (λ clean db leaves.
@@ -55,10 +58,25 @@ pub returns-clause-crash : goal.returns-clause-crash
 returns-clause-crash g c =
     let old = state g.S.Store c.args.conn.now in
     let mid = state g.S.Store c.read_version_1.new.conn in
-    let crls = map seen_list c.in-Ok.all.lists.items in
+    let crls = map seen_unscoped_list c.in-Ok.all.lists.items in
     let entries = map seen_own c.in-Ok.all.entries.items in
     survives_then old mid (state g.S.Store c.move_committed.new.conn) (λ _. ⊥) (LeavesMoved mid crls entries) (LeavesMigrated old) (λ _ db none. absurd none)
     (λ clean db leaves.
     let read = c.in-Ok.ensures.reads (omega (arith, clean, c.move_committed.ensures.crash.clean)) in
     (λ ordered. (read.1 ordered).version_1, λ held it. leaves held (subst (λ db. IsOld crls entries db held) (sym read.0.0.now_is) (old_of crls entries old.now held (read.1 (order_of_version_1 old.now (held, it))) it))))
     c.read_version_1.ensures.survives c.move_committed.ensures.crash
+
+pub returns-clause-caused : goal.returns-clause-caused
+returns-clause-caused g c clean e ordered fits =
+    let old = state g.S.Store c.args.conn.now in
+    let mid = state g.S.Store c.read_version_1.new.conn in
+    let crls = map seen_unscoped_list c.in-Ok.all.lists.items in
+    let entries = map seen_own c.in-Ok.all.entries.items in
+    let middle : HasCleanDisk mid = omega (arith, clean, c.move_committed.ensures.crash.clean) in
+    let read = c.in-Ok.ensures.reads middle in
+    let has = read.1 ordered in
+    let held = has.version_1.0 in
+    let was = has.version_1.1 in
+    let fit : ListsFit entries = subst ListsFit (has.lists was.contents was.rows was.form).1 (fits held was) in
+    inl (later_refuses old mid _ _ _ c.read_version_1.ensures.survives c.move_committed.ensures.crash middle
+    (c.in-Err-move_committed.ensures.caused clean fit e held (subst (λ db. IsOld crls entries db held) (sym read.0.0.now_is) (old_of crls entries old.now held has was))))

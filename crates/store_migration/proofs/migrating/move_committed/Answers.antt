@@ -4,18 +4,19 @@ use Rattle.sqlite.specs.State.{HasCleanDisk, Survives, KeepsCommit}
 use Rattle.sqlite.proofs.Callers.{survives_begin}
 use Rattle.sqlite.proofs.StateLemmas.{survives_then}
 use Rattle.statements_facts.specs.Statement.{Holdings}
-use Rattle.store_adoption.specs.Seen.{seen_list, seen_own}
+use Rattle.store_adoption.specs.Seen.{seen_unscoped_list, seen_own}
 use Rattle.store_migration.specs.Moved.{IsOld}
 use Rattle.store_migration.specs.Migrates.{LeavesMoved}
+use Rattle.store_migration.specs.Moves.{ListsFit, StopIsCaused}
 use Rattle.store_sql.specs.declared.fault.StoreFault.{StoreFault}
-use Rattle.store_migration.proofs.Ending.{leaves_moved, stops_moved}
+use Rattle.store_migration.proofs.Ending.{leaves_moved, stop_ends, stops_moved}
 use Rattle.store_migration.proofs.migrating.move_committed.Goals as goal
 
 pub returns-in-Err-clause-moves : goal.returns-in-Err-clause-moves
 returns-in-Err-clause-moves g c =
     let old = c.args.conn.now in
     let last = c.move_lists.new.tx.conn.now in
-    let crls = map seen_list c.args.all.now.lists.items in
+    let crls = map seen_unscoped_list c.args.all.now.lists.items in
     let entries = map seen_own c.args.all.now.entries.items in
     let same : c.drop-tx.new.self.0 ≡ c.conn-1.given.0 = search rules in
     subst (λ h. HasCleanDisk (state g.S.Store h) → KeepsCommit (state g.S.Store old) (state g.S.Store h) × (c.in-Err.fault ≡ StoreFault.Schema → (held : Holdings) → IsOld crls entries (state g.S.Store old).now held → ⊥)) same
@@ -27,7 +28,7 @@ returns-in-Ok-clause-crash g c =
     let old = c.args.conn.now in
     let last = c.move_lists.new.tx.conn.now in
     let begun = c.transaction-tx.ensures.begun in
-    let crls = map seen_list c.args.all.now.lists.items in
+    let crls = map seen_unscoped_list c.args.all.now.lists.items in
     let entries = map seen_own c.args.all.now.entries.items in
     let P = LeavesMoved (state g.S.Store old) crls entries in
     let whole = survives_then (state g.S.Store old) (state g.S.Store last) (state g.S.Store c.commit.new.self.0) (λ _. ⊥) (λ db. db ≡ (state g.S.Store last).now.trees) P (λ _ db none. absurd none)
@@ -41,7 +42,7 @@ returns-in-Err-commit-clause-crash g c =
     let old = c.args.conn.now in
     let last = c.move_lists.new.tx.conn.now in
     let begun = c.transaction-tx.ensures.begun in
-    let crls = map seen_list c.args.all.now.lists.items in
+    let crls = map seen_unscoped_list c.args.all.now.lists.items in
     let entries = map seen_own c.args.all.now.entries.items in
     let P = LeavesMoved (state g.S.Store old) crls entries in
     let whole = survives_then (state g.S.Store old) (state g.S.Store last) (state g.S.Store c.commit.new.self.0) (λ _. ⊥) (λ db. db ≡ (state g.S.Store last).now.trees) P (λ _ db none. absurd none)
@@ -49,3 +50,14 @@ returns-in-Err-commit-clause-crash g c =
     (survives_begin g.S.Store old (state g.S.Store last) _ (rw begun at c.move_lists.ensures.survives)) c.commit.ensures.survives in
     let same : c.commit.new.self.0 ≡ c.conn-2-1.given.0 = search rules in
     subst (λ h. Survives (state g.S.Store old) (state g.S.Store h) P) same whole
+
+pub returns-in-Err-clause-caused : goal.returns-in-Err-clause-caused
+returns-in-Err-clause-caused g c =
+    let old = c.args.conn.now in
+    let last = c.move_lists.new.tx.conn.now in
+    let crls = map seen_unscoped_list c.args.all.now.lists.items in
+    let entries = map seen_own c.args.all.now.entries.items in
+    let same : c.drop-tx.new.self.0 ≡ c.conn-1.given.0 = search rules in
+    subst (λ h. HasCleanDisk (state g.S.Store h) → ListsFit entries → StopIsCaused (IsOld crls entries) (state g.S.Store old) (state g.S.Store h) c.in-Err.fault) same
+    (λ clean fit. stop_ends g.S.Store old c.transaction-tx.result.conn.now c.transaction-tx.ensures.begun crls entries (state g.S.Store last) (state g.S.Store c.drop-tx.new.self.0) c.in-Err.fault _
+    (c.in-Err.ensures.caused fit (omega (arith, clean, c.drop-tx.ensures.survives.clean))) c.drop-tx.ensures.survives)

@@ -6,7 +6,7 @@ use Rattle.sqlite.proofs.StateLemmas.{survives_then}
 use Rattle.store_sql.proofs.Laws.{later_refuses}
 use Rattle.statements_facts.specs.declared.fact.Facts.{Facts}
 use Rattle.store_rows.specs.Room.{SingleFitsRow}
-use Rattle.statements_facts.specs.Fact.{facts_in, issuer_of}
+use Rattle.statements_facts.specs.Fact.{facts_in, seen_issuer}
 use Rattle.statements_facts.specs.Single.{seen_single}
 use Rattle.store_rows.proofs.Laws.{survives_itself}
 use Rattle.store_maps.specs.Held.{IsStoreOf}
@@ -30,7 +30,7 @@ each-init g c = (
 pub each-preserved : goal.each-preserved
 each-preserved g c =
     let l = c.each.invariant in
-    let issuer = issuer_of c.args.response.now.issuer in
+    let issuer = seen_issuer c.args.response.now.issuer in
     let all = c.as_slice-all.result.now in
     let k = c.each.single-index in (
       c.take_single.ensures.same_reference ∙ l.0,
@@ -53,7 +53,7 @@ returns-in-Err-clause-takes g c clean =
 pub returns-clause-takes : goal.returns-clause-takes
 returns-clause-takes g c clean =
     let at_end : c.each.single-index ≡ length c.as_slice-all.result.now = omega (arith, c.each-test.false, c.each.auto.single-index-end) in
-    let all = all_singles (issuer_of c.args.response.now.issuer) c.as_slice-all.result.now c.args.response.now.singles c.each.single-index at_end c.as_slice-all.ensures.singles in
+    let all = all_singles (seen_issuer c.args.response.now.issuer) c.as_slice-all.result.now c.args.response.now.singles c.each.single-index at_end c.as_slice-all.ensures.singles in
     subst (λ facts. HasStepped (state g.S.Store c.args.tx.now.conn.now) (state g.S.Store c.each.tx.conn.now) IsStoreOf (AreTaken facts c.each.counts)) all (c.each.invariant.3 clean)
 
 pub returns-clause-open : goal.returns-clause-open

@@ -1,5 +1,5 @@
 use Rattle.std.proofs.Common.{arith, suc}
-use Rattle.statements_facts.specs.Fact.{Fact, issuer_of, crl_slot, crl_fact}
+use Rattle.statements_facts.specs.Fact.{Fact, seen_issuer, crl_slot, crl_fact}
 use Rattle.store_maps.specs.Held.{IsStoreOf}
 use Rattle.store_taking.specs.Passing.{HasIssuer}
 use Rattle.store_taking.specs.Taking.{IsTaken}
@@ -11,7 +11,7 @@ use Rattle.store_taking.proofs.lists.take_list.Goals as goal
 
 pub returns-clause-takes : goal.returns-clause-takes
 returns-clause-takes g c clean =
-    goes_then _ _ _ IsStoreOf (HasIssuer (issuer_of c.args.list.now.issuer) c.in_ok-id.id) (IsTaken (Fact.OfCrl (crl_slot c.args.list.now) (crl_fact c.args.list.now))) c.take_under.result
+    goes_then _ _ _ IsStoreOf (HasIssuer (seen_issuer c.args.list.now.issuer) c.in_ok-id.id) (IsTaken (Fact.OfCrl (crl_slot c.args.list.now) (crl_fact c.args.list.now))) c.take_under.result
     (c.in_ok-id.ensures.goes (omega (arith, clean, c.take_under.ensures.survives.clean))) (c.take_under.ensures.goes clean)
 
 pub returns-clause-open : goal.returns-clause-open

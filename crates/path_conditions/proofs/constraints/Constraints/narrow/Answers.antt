@@ -1,8 +1,5 @@
-use Rattle.std.proofs.Common.{ap, ◌∙◌, Option, List}
+use Rattle.std.proofs.Common.{◌∙◌}
 use Rattle.std.proofs.lemmas.Bool.{false≢true}
-use Rattle.names.specs.GeneralLayout.{SubtreeBase}
-use Rattle.path_conditions.specs.Narrowing.{changed}
-use Rattle.path_conditions.specs.Constraints.{seen_constraints}
 use Rattle.path_conditions.proofs.NarrowedLists.{no_directory, no_dns, no_ip, constraints_are, excluded_are}
 use Rattle.path_conditions.proofs.constraints.Constraints.narrow.Goals as goal
 
@@ -21,9 +18,8 @@ returns-clause-ok c =
     let dns = rw c.deref-2.ensures.value at c.in_ok-dns.ensures.value in
     let ip = rw c.deref-3.ensures.value at c.in_ok-ip.ensures.value in
     let excluded = rw c.deref-4.ensures.value at c.in_ok-exclude.ensures.ok in
-    let held = seen_constraints c.args.self.now in
     constraints_are _ _
-    (c.replace.ensures ∙ ap (λ (o : Option (List SubtreeBase)). changed held.directory o) directory)
-    (c.replace-2.ensures ∙ ap (λ (o : Option (List SubtreeBase)). changed held.dns o) dns)
-    (c.replace-3.ensures ∙ ap (λ (o : Option (List SubtreeBase)). changed held.ip o) ip)
+    (c.replace.ensures ∙ directory)
+    (c.replace-2.ensures ∙ dns)
+    (c.replace-3.ensures ∙ ip)
     (excluded_are _ _ _ excluded)

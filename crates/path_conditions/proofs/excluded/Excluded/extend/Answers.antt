@@ -1,15 +1,20 @@
-use Rattle.std.proofs.Common.{refl}
-use Rattle.path_conditions.specs.Narrowing.{bases_of, all_of}
-use Rattle.path_conditions.proofs.Members.{recent_grown, recent_taken_in}
+use Rattle.std.proofs.Common.{sym, ◌∙◌, ◌++◌, ◌∷◌, [], List, take, ap}
+use Rattle.names.specs.GeneralCoverage.{is_covered}
+use Rattle.names.specs.GeneralLayout.{SubtreeBase}
+use Rattle.path_conditions.specs.Narrowing.{members_of}
+use Rattle.path_conditions.proofs.Members.{grown}
+use Rattle.path_conditions.proofs.Repeated.{added_if}
 use Rattle.path_conditions.proofs.excluded.Excluded.extend.Goals as goal
 
-pub invariant_of-self-then-subtrees-len : goal.invariant_of-self-then-subtrees-len
-invariant_of-self-then-subtrees-len c =
-    recent_grown (all_of c.self.inside.index) (all_of c.self.inside.recent) c.in_ok-recent.recent (bases_of c.self.inside.items.items) c.self.inside.items.items c.args.more.now c.extend_from_slice.new.self.items
-    refl c.in_ok-extend_from_slice.ensures.items c.self.invariant c.in_ok-recent.ensures
+pub invariant_of-self : goal.invariant_of-self
+invariant_of-self c =
+    added_if _ (members_of c.self.inside.indexes.items) c.self.inside.items.items c.args.more.now c.extend_from_slice.new.self.items
+    c.self.invariant (rw c.deref.ensures.value at (sym c.repeats_end.ensures ∙ c.if-repeats_end.true)) c.extend_from_slice.ensures.items
 
 pub invariant_of-self-2 : goal.invariant_of-self-2
-invariant_of-self-2 c =
-    let grown = recent_grown (all_of c.self.inside.index) (all_of c.self.inside.recent) c.in_ok-recent.recent (bases_of c.self.inside.items.items) c.self.inside.items.items c.args.more.now c.extend_from_slice-2.new.self.items
-    refl c.in_ok-extend_from_slice-2.ensures.items c.self.invariant c.in_ok-recent.ensures in
-    recent_taken_in (all_of c.self.inside.index) c.in_ok-index.index c.in_ok-recent.recent c.subtrees-2.result.now c.extend_from_slice-2.new.self.items c.subtrees-2.ensures c.in_ok-index.ensures grown
+invariant_of-self-2 c = λ name.
+    grown (λ (base : SubtreeBase). is_covered name base) c.count_lasting-lasting.result c.self.inside.indexes.items c.in_ok-index.index c.self.inside.items.items c.args.more.now c.extend_from_slice-2.new.self.items c.push.new.self.items
+    (rw c.deref-3.ensures.value at (c.in_ok-index.ensures (λ (base : SubtreeBase). is_covered name base))) (c.self.invariant name) c.in_ok-extend_from_slice.ensures.items
+    (c.in-Ok.ensures.items
+    ∙ ap (λ (l : List (List SubtreeBase)). l ++ c.in_ok-index.index ∷ [])
+    (c.truncate.ensures.items ∙ ap (λ (l : List (List SubtreeBase)). take c.count_lasting-lasting.result l) c.in_ok-reserve.ensures.items))

@@ -1,7 +1,7 @@
 use Rattle.sqlite.specs.Files.{file_state}
 use Rattle.statements_facts.specs.Fact.{facts_in}
 use Rattle.relying_agreement.specs.Run.{genuine_facts}
-use Rattle.relying.proofs.Delivered.{commits_nothing, may_commit, refused, refused_so}
+use Rattle.relying.proofs.Delivered.{commits_nothing, may_commit, refused, refused_for_cause, refused_so}
 use Rattle.relying.proofs.node.Node.deliver.Goals as goal
 
 pub returns-in-Err-clause-reason : goal.returns-in-Err-clause-reason
@@ -37,3 +37,10 @@ pub returns-clause-survives : goal.returns-clause-survives
 returns-clause-survives g c =
     may_commit (g.V.Verifier.accepts c.args.self.now.verifier) c.args.issuer.now c.args.statement.now (facts_in c.in-Ok.facts)
     (file_state c.args.self.now.store.conn) (file_state c.take.new.self.store.conn) c.in-Ok.ensures.says c.take.ensures.survives
+
+pub returns-in-Err-clause-caused : goal.returns-in-Err-clause-caused
+returns-in-Err-clause-caused g c =
+    refused_for_cause (g.V.Verifier.accepts c.args.self.now.verifier) c.args.issuer.now c.args.statement.now (file_state c.args.self.now.store.conn) c.in-Err.fault c.in-Err.ensures.refused
+
+pub returns-clause-caused : goal.returns-clause-caused
+returns-clause-caused g c clean = (c.in-Ok.facts, c.in-Ok.ensures.says, c.in-Err-take.ensures.caused clean)

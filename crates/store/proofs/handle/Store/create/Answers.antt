@@ -10,6 +10,7 @@ returns-in-Ok g c = record {
   crash = c.create.ensures.crash;
   free = λ has. absurd (let no = c.in-Ok.ensures.tables has in cc);
   tables = tt;
+  caused = tt;
   refused = tt;
   refused_durable = tt;
   refused_crash = tt;
@@ -24,6 +25,7 @@ returns-in-Err g c = record {
   crash = tt;
   free = tt;
   tables = λ has. let is = c.in-Err.ensures.tables has in cc;
+  caused = c.in-Err.ensures.caused;
   refused = λ clean. let h = c.in-Err.ensures.creates clean in (
     record {
       was_open = h.0.was_open;
