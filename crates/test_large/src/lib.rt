@@ -6,8 +6,8 @@ mod events;
 #[cfg(test)]
 mod migrations;
 #[cfg(test)]
-mod putting;
+mod octets;
 #[cfg(test)]
-mod statements;
+mod putting;
 #[cfg(test)]
 mod stores;
