@@ -4,7 +4,7 @@ ghost use Rattle.std.specs.Prelude.{◌≡◌, ◌↔◌, ◌<◌, ◌≤◌, �
 ghost use Rattle.std.specs.List.{list_any};
 ghost use Rattle.std.specs.Option.{option_copied};
 ghost use Rattle.std.specs.Str.{bytes_eq};
-ghost use Rattle.cert.specs.Certificate.{seen_certificate};
+ghost use Rattle.cert.specs.Certificate.{is_self_issued, seen_certificate};
 ghost use Rattle.path.specs.declared.reason.Reason.TheVariants as reason;
 ghost use Rattle.path.specs.Query.{count, certificate_at};
 ghost use Rattle.path.specs.Conditions.{AreNamesChecked};
@@ -90,33 +90,34 @@ impl<'p, 'c, V> Model for State<'p, 'c, V> {
         (name_contents s.issuer) s.key.now s.room (seen_constraints s.constraints) s.forms };
 }
 
-/// How many more certificates may follow that are not self-issued, behind one more and under its own path length.
-fn next_room(room: Option<u32>, self_issued: bool, path_length: Option<u32>) -> Option<u32>
-    ensures { result ≡ lesser (spent room self_issued) path_length }
+/// How many more certificates may follow that are not self-issued, behind this one and without its own path length. Subject and issuer
+/// are compared only if that is limited.
+fn room_behind(room: Option<u32>, certificate: &Certificate<'_>) -> Option<u32>
+    ensures { result ≡ spent room (is_self_issued (seen_certificate certificate.now)) }
 {
-    let left = match room {
+    match room {
         None => None,
-        Some(room) => Some(if self_issued {
-            room
-        } else {
-            room.saturating_sub(1)
-        }),
-    };
-    match (left, path_length) {
-        (None, path_length) => path_length,
-        (Some(left), None) => Some(left),
-        (Some(left), Some(path_length)) => Some(left.min(path_length)),
+        Some(room) if certificate.self_issued() => Some(room),
+        Some(room) => Some(room.saturating_sub(1)),
     }
 }
 
-/// Whether one more certificate may follow.
-fn has_room(room: Option<u32>, self_issued: bool) -> bool
-    ensures { IsTrue result ↔ (self_issued ≡ false → ¬ (room ≡ Some 0)) }
+/// The lesser of two path lengths.
+fn lesser_of(room: Option<u32>, path_length: Option<u32>) -> Option<u32>
+    ensures { result ≡ lesser room path_length }
 {
-    match room {
-        None => true,
-        Some(room) => self_issued || room != 0,
+    match (room, path_length) {
+        (None, path_length) => path_length,
+        (Some(room), None) => Some(room),
+        (Some(room), Some(path_length)) => Some(room.min(path_length)),
     }
+}
+
+/// Whether this certificate may follow. Subject and issuer are compared only if no more may that are not self-issued.
+fn has_room(room: Option<u32>, certificate: &Certificate<'_>) -> bool
+    ensures { IsTrue result ↔ (is_self_issued (seen_certificate certificate.now) ≡ false → ¬ (room ≡ Some 0)) }
+{
+    room != Some(0) || certificate.self_issued()
 }
 
 /// Whether one of the certificates has the same octets.
@@ -254,7 +255,7 @@ impl<'p, 'c, V: Verifier> State<'p, 'c, V> {
         requires { self.now.done < count self.now.query }
         ensures { IsTrue result ↔ NextMeets V.accepts self.now reason.PathLength }
     {
-        self.is_last() || has_room(self.room, self.certificate().self_issued())
+        self.is_last() || has_room(self.room, self.certificate())
     }
 
     /// Whether the certificate meets the condition whose breach is the reason.
@@ -310,8 +311,10 @@ impl<'p, 'c, V: Verifier> State<'p, 'c, V> {
         let carried = &certificate.extensions.name_constraints;
         self.constraints.narrow(self.alloc, carried)?;
         self.forms.insert_forms_of(carried);
-        let self_issued = certificate.self_issued();
-        self.room = next_room(self.room, self_issued, path_length(certificate));
+        self.room = lesser_of(
+            room_behind(self.room, certificate),
+            path_length(certificate),
+        );
         self.issuer = certificate.subject;
         self.key = certificate.subject_public_key_info.value.whole;
         self.done += 1;

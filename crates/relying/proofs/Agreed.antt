@@ -1,7 +1,6 @@
 -- Two parties agree, by what their public calls say.
-use Rattle.std.proofs.Common.{◌≡◌, ◌⊎◌, inl, inr, ◌++◌, ℕ, Bool, List, Result, Ok, IsTrue, refl, sym, subst, ◌∙◌}
+use Rattle.std.proofs.Common.{◌≡◌, ◌⊎◌, inl, inr, ◌++◌, ℕ, Bool, List, Result, IsTrue, refl, sym, subst}
 use Rattle.sqlite_disk.specs.declared.Disk.{Ghosts}
-use Rattle.sqlite.specs.State.{State}
 use Rattle.statements_facts.specs.Statement.{Holdings}
 use Rattle.statements_facts.specs.declared.counts.Counts.{Counts}
 use Rattle.path.specs.declared.reason.Outcome.TheVariants.{Bad}
@@ -15,11 +14,11 @@ use Rattle.relying_agreement.specs.declared.verdict.Verdict.{Verdict}
 use Rattle.relying_agreement.specs.declared.verdict.Verdict.TheVariants.{Invalid, Revoked, Unknown, Valid}
 use Rattle.relying_verdicts.specs.Asking.{IsInvalidOrOpen}
 use Rattle.relying.specs.Agreed.{GaveVerdict, NodesAgree, NodeIsExact, RunsFollow, party_of}
-use Rattle.relying.specs.Run.{IsEndOfRun, Ran, as_answered}
+use Rattle.relying.specs.Run.{IsEndOfRun}
 use Rattle.relying.specs.View.{stored}
 use Rattle.relying.specs.declared.fault.DeliverFault.{DeliverFault}
 use Rattle.relying.specs.declared.node.Node.{Node}
-use Rattle.relying.proofs.Happening.{runs_then, restart_in, runs_are_runs}
+use Rattle.relying.proofs.Happening.{runs_then, open_then, runs_are_runs}
 
 -- the verdict is Invalid, whatever is held, or the connection was open
 abbrev Fails : Accepts → Query → Verdict → Type 0
@@ -75,7 +74,7 @@ node_is_exact one_verdict valid accepts query events answers start held begun ra
 pub runs_follow : {V D : Type 0} {g : Ghosts D} → RunsFollow V D g
 runs_follow accepts events more answers more_answers begun middle last first second = record {
   was_open = λ live. first.was_open (second.was_open live);
-  began_open = λ one. elim (restart_in events more one) [ inl before ↦ first.began_open before | inr later ↦ first.was_open (second.began_open later) ];
+  at_restarts = open_then events more (stored begun).is_open (stored middle).is_open (stored last).is_open first.at_restarts second.at_restarts;
   ended = λ live start store.
       let before = first.ended (second.was_open live) start store in
       let after = second.ended live before.held before.store in

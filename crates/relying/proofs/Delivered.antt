@@ -1,9 +1,13 @@
 -- A delivery in two steps: what was read, and what the store made of it.
-use Rattle.std.proofs.Common.{◌≡◌, ℕ, List, Ok, Err, arith, inl, refl, sym, ap, subst, ◌∙◌}
+use Rattle.std.proofs.Common.{◌≡◌, ℕ, List, Result, IsErrAnd, MatchResult, Ok, Err, arith, inl, refl, sym, ap, subst, ◌∙◌}
 use Rattle.sqlite.specs.State.{State, Survives}
-use Rattle.statements_facts.specs.Fact.{Fact}
+use Rattle.statements_facts.specs.Fact.{Fact, facts_in}
+use Rattle.statements_facts.specs.declared.counts.Counts.{Counts}
+use Rattle.statements_facts.specs.declared.fact.Facts.{Facts}
+use Rattle.store_sql.specs.declared.fault.StoreFault.{StoreFault}
 use Rattle.store_sql.specs.Statements.{CommitsNothing}
 use Rattle.store_taking.specs.Delivery.{CommitsWhole}
+use Rattle.store_taking.specs.Room.{PutsForCause}
 use Rattle.path.specs.Query.{Accepts}
 use Rattle.relying_agreement.specs.Run.{facts_or_none, facts_under, genuine_facts}
 use Rattle.relying.specs.declared.fault.DeliverFault.{DeliverFault}
@@ -26,6 +30,15 @@ pub refused_for_cause : (accepts : Accepts) (issuer statement : List ℕ) (s : S
 refused_for_cause accepts issuer statement s (Issuer fault) why = tt
 refused_for_cause accepts issuer statement s (Statement fault) why = tt
 refused_for_cause accepts issuer statement s (Store fault) why = absurd why
+
+-- and what was read was not taken
+pub taken_for_cause : (accepts : Accepts) (issuer statement : List ℕ) (facts : Facts) (old new : State) (taken : Result Counts StoreFault) (answer : Result Counts DeliverFault)
+    → StatementSays accepts issuer statement (facts_in facts) → PutsForCause old new facts taken
+    → MatchResult taken (λ counts. answer ≡ Ok counts) (λ fault. IsErrAnd answer (λ told. told ≡ Store fault)) → DeliversForCause accepts issuer statement old new answer
+taken_for_cause accepts issuer statement facts old new (Ok counts) answer says caused same = subst (DeliversForCause accepts issuer statement old new) (sym same) tt
+taken_for_cause accepts issuer statement facts old new (Err fault) (Ok counts) says caused none = absurd none
+taken_for_cause accepts issuer statement facts old new (Err fault) (Err told) says caused same =
+    subst (λ e. DeliversForCause accepts issuer statement old new (Err e)) (sym same) (λ clean. (facts, says, caused clean))
 
 nothing_done : (s : State) → CommitsNothing s s
 nothing_done s = record { clean = omega arith; shield = λ h. h; counts = omega arith; limit = refl; closes = λ clean is. inl is; crash = λ clean db may. inl may }

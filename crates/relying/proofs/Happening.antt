@@ -1,7 +1,6 @@
 -- What one event does, and several one after the other.
-use Rattle.std.proofs.Common.{◌≡◌, is_ok, if◌then◌else◌, ℕ, append-nil, List, [], ◌∷◌, ◌++◌, map, Result, Ok, Err, ◌⊎◌, inl, inr, refl, sym, ap, subst, ◌∙◌}
+use Rattle.std.proofs.Common.{◌≡◌, Bool, true, is_ok, if◌then◌else◌, ℕ, append-nil, List, [], ◌∷◌, ◌++◌, map, Result, Ok, Err, refl, sym, ap, subst, ◌∙◌}
 use Rattle.sqlite.specs.State.{State}
-use Rattle.statements_facts.specs.Fact.{Fact}
 use Rattle.statements_facts.specs.Statement.{Holdings}
 use Rattle.store_sql.specs.declared.fault.StoreFault.TheVariants.{Schema as NotOurs}
 use Rattle.store_maps.specs.Held.{IsStoreOf}
@@ -13,9 +12,9 @@ use Rattle.relying_agreement.specs.Run.{Event, genuine_facts, facts_taken}
 use Rattle.store.specs.Adopts.{Restarts}
 use Rattle.relying.specs.declared.fault.DeliverFault.{DeliverFault}
 use Rattle.relying.specs.declared.fault.DeliverFault.TheVariants.{Issuer, Statement, Store}
-use Rattle.relying.specs.Delivery.{IsAnswerTo, IsDeliveryAnswer, StatementSays}
+use Rattle.relying.specs.Delivery.{IsAnswerTo, IsDeliveryAnswer}
 use Rattle.relying.proofs.Delivered.{facts_said}
-use Rattle.relying.specs.Run.{Runs, HasRestart, RanSoFar, Ran, HasHappened, RunsAreRuns, AddsAnswer, AreAnswersTo, as_answered}
+use Rattle.relying.specs.Run.{Runs, IsOpenAtRestarts, RanSoFar, Ran, HasHappened, RunsAreRuns, AddsAnswer, AreAnswersTo, as_answered}
 
 -- ---- one event
 
@@ -26,26 +25,26 @@ delivered accepts issuer statement before (Ok counts) old new (facts, says, it) 
   after_is = refl;
   ran = record {
     was_open = λ live. it.was_open;
-    began_open = λ none. absurd none;
+    at_restarts = (new.is_open, λ live. it.was_open, refl);
     so_far = λ live start store. let taken = it.taken start store in (after_all start facts, taken.hold, (after_all start facts, (facts, says, taken.counted, refl), refl));
   };
 }
 delivered accepts issuer statement before (Err (Issuer fault)) old new (why, kept) = record {
   added = Err (Issuer fault) ∷ [];
   after_is = refl;
-  ran = record { was_open = kept.was_open; began_open = λ none. absurd none; so_far = λ live start store. (start, subst (λ db. IsStoreOf db start) (sym (kept.now_is live)) store, (start, (why, λ e. cc, refl), refl)) };
+  ran = record { was_open = kept.was_open; at_restarts = (new.is_open, kept.was_open, refl); so_far = λ live start store. (start, subst (λ db. IsStoreOf db start) (sym (kept.now_is live)) store, (start, (why, λ e. cc, refl), refl)) };
 }
 delivered accepts issuer statement before (Err (Statement fault)) old new (why, kept) = record {
   added = Err (Statement fault) ∷ [];
   after_is = refl;
-  ran = record { was_open = kept.was_open; began_open = λ none. absurd none; so_far = λ live start store. (start, subst (λ db. IsStoreOf db start) (sym (kept.now_is live)) store, (start, (why, λ e. cc, refl), refl)) };
+  ran = record { was_open = kept.was_open; at_restarts = (new.is_open, kept.was_open, refl); so_far = λ live start store. (start, subst (λ db. IsStoreOf db start) (sym (kept.now_is live)) store, (start, (why, λ e. cc, refl), refl)) };
 }
 delivered accepts issuer statement before (Err (Store fault)) old new (why, gives) = record {
   added = Err (Store fault) ∷ [];
   after_is = refl;
   ran = record {
     was_open = gives.was_open;
-    began_open = λ none. absurd none;
+    at_restarts = (new.is_open, gives.was_open, refl);
     so_far = λ live start store. (start, subst (λ db. IsStoreOf db start) (sym (gives.same live)) store, (start, (why, λ e. gives.formed (let same : fault ≡ NotOurs = cc in same) start store, refl), refl));
   };
 }
@@ -54,7 +53,7 @@ restarted : (accepts : Accepts) (before : List (Result Counts DeliverFault)) (ol
 restarted accepts before old new it = record {
   added = [];
   after_is = sym (append-nil before);
-  ran = record { was_open = λ live. it.was_open; began_open = λ one. it.was_open; so_far = λ live start store. (start, it.holds start store, refl) };
+  ran = record { was_open = λ live. it.was_open; at_restarts = (it.was_open, it.is_open); so_far = λ live start store. (start, it.holds start store, refl) };
 }
 
 -- ---- one after the other
@@ -80,19 +79,19 @@ pub one_more_answered : (accepts : Accepts) (events : List Event) (event : Event
 one_more_answered accepts events event before after told it =
     subst (AreAnswersTo accepts (events ++ event ∷ [])) (sym it.after_is) (answers_then accepts events (event ∷ []) before it.added told it.answers)
 
-pub restart_in : (xs ys : List Event) → HasRestart (xs ++ ys) → HasRestart xs ⊎ HasRestart ys
-restart_in [] ys one = inr one
-restart_in (Event.Restart ∷ xs) ys one = inl tt
-restart_in (Event.Deliver issuer statement ∷ xs) ys one = restart_in xs ys one
+pub open_then : (xs ys : List Event) (before middle after : Bool) → IsOpenAtRestarts xs before middle → IsOpenAtRestarts ys middle after → IsOpenAtRestarts (xs ++ ys) before after
+open_then [] ys before middle after same rest = subst (λ b. IsOpenAtRestarts ys b after) same rest
+open_then (Event.Restart ∷ xs) ys before middle after (was, more) rest = (was, open_then xs ys true middle after more rest)
+open_then (Event.Deliver issuer statement ∷ xs) ys before middle after (next, was, more) rest = (next, was, open_then xs ys next middle after more rest)
 
 pub none_so_far : (accepts : Accepts) (s : State) → RanSoFar accepts [] [] s s
-none_so_far accepts s = record { was_open = λ live. live; began_open = λ none. absurd none; so_far = λ live start store. (start, store, refl) }
+none_so_far accepts s = record { was_open = λ live. live; at_restarts = refl; so_far = λ live start store. (start, store, refl) }
 
 pub one_more : (accepts : Accepts) (events : List Event) (event : Event) (before after : List (Result Counts DeliverFault)) (first mid new : State)
     → RanSoFar accepts events before first mid → HasHappened accepts event before after mid new → RanSoFar accepts (events ++ event ∷ []) after first new
 one_more accepts events event before after first mid new ran it = subst (λ told. RanSoFar accepts (events ++ event ∷ []) told first new) (sym it.after_is) (record {
   was_open = λ live. ran.was_open (it.ran.was_open live);
-  began_open = λ one. elim (restart_in events (event ∷ []) one) [ inl before ↦ ran.began_open before | inr last ↦ ran.was_open (it.ran.began_open last) ];
+  at_restarts = open_then events (event ∷ []) first.is_open mid.is_open new.is_open ran.at_restarts it.ran.at_restarts;
   so_far = λ live start store.
       let (middle, here, runs) = ran.so_far (it.ran.was_open live) start store in
       let (held, there, more) = it.ran.so_far live middle here in
@@ -123,7 +122,7 @@ runs_are_runs accepts events answers start held runs =
 pub ends : (accepts : Accepts) (events : List Event) (answers : List (Result Counts DeliverFault)) (old new : State) → RanSoFar accepts events answers old new → Ran accepts events answers old new
 ends accepts events answers old new ran = record {
   was_open = ran.was_open;
-  began_open = ran.began_open;
+  at_restarts = ran.at_restarts;
   ended = λ live start store.
       let (held, here, runs) = ran.so_far live start store in
       record { held = held; store = here; runs = runs; newest = runs_are_runs accepts events answers start held runs };

@@ -1,5 +1,5 @@
 -- What events do to a relying party, one after the other.
-use Rattle.std.specs.Prelude.{⊤, ◌≡◌, ◌≢◌, ℕ, List, [], ◌∷◌, ◌++◌, map, slice_get, take, Some, Result, Ok, Err, IsTrue}
+use Rattle.std.specs.Prelude.{◌≡◌, ◌≢◌, ℕ, Bool, true, List, [], ◌∷◌, ◌++◌, map, slice_get, take, Some, Result, Ok, Err, IsTrue}
 use Rattle.sqlite_disk.specs.declared.Disk.{Ghosts}
 use Rattle.sqlite_store.specs.declared.store.FileStore.{FileStore}
 use Rattle.sqlite.specs.Held.{Held}
@@ -64,17 +64,18 @@ pub record IsEndOfRun (accepts : Accepts) (events : List Event) (answers : List 
       HasRun genuine_facts events (map as_answered answers)
       (record { accepts = accepts; start = start; taken = facts_taken genuine_facts accepts events (map as_answered answers); held = held })
 
--- there is a restart among the events
-abbrev pub HasRestart : List Event → Type 0
-HasRestart [] = ⊥
-HasRestart (Event.Restart ∷ events) = ⊤
-HasRestart (Event.Deliver issuer statement ∷ events) = HasRestart events
+-- Whether the connection was open before the events, and after them: each restart was over an open one, and left one that is open; no
+-- delivery opens one that is shut.
+abbrev pub IsOpenAtRestarts : List Event → Bool → Bool → Type 0
+IsOpenAtRestarts [] before after = after ≡ before
+IsOpenAtRestarts (Event.Restart ∷ events) before after = IsTrue before × IsOpenAtRestarts events true after
+IsOpenAtRestarts (Event.Deliver issuer statement ∷ events) before after =
+    (next : Bool) × (IsTrue next → IsTrue before) × IsOpenAtRestarts events next after
 
--- Where the connection is open in the end it was from the start, and the run has ended so; no run comes past a restart that began over
--- one that was shut.
+-- Where the connection is open in the end it was from the start, and the run has ended so; it was open at each restart.
 pub record Ran (accepts : Accepts) (events : List Event) (answers : List (Result Counts DeliverFault)) (old new : State) : Type 0 where
   pub was_open : IsTrue new.is_open → IsTrue old.is_open
-  pub began_open : HasRestart events → IsTrue old.is_open
+  pub at_restarts : IsOpenAtRestarts events old.is_open new.is_open
   pub ended : IsTrue new.is_open → (start : Holdings) → IsStoreOf old.now start → IsEndOfRun accepts events answers start new
 
 -- ---- on the way
@@ -82,7 +83,7 @@ pub record Ran (accepts : Accepts) (events : List Event) (answers : List (Result
 -- the same of the events so far
 pub record RanSoFar (accepts : Accepts) (events : List Event) (answers : List (Result Counts DeliverFault)) (old new : State) : Type 0 where
   pub was_open : IsTrue new.is_open → IsTrue old.is_open
-  pub began_open : HasRestart events → IsTrue old.is_open
+  pub at_restarts : IsOpenAtRestarts events old.is_open new.is_open
   pub so_far :
       IsTrue new.is_open → (start : Holdings) → IsStoreOf old.now start →
       (held : Holdings) × IsStoreOf new.now held × Runs accepts events answers start held

@@ -43,10 +43,7 @@ fn compare_in_transactions<V: Verifier, S: Alter, D: Alter>(
 {
     let mut first = one.transaction();
     let mut second = other.transaction();
-    match relying_verdicts::compare(alloc, verifier, &mut first, &mut second, query) {
-        Ok(comparison) => Ok(comparison),
-        Err(fault) => Err(fault),
-    }
+    relying_verdicts::compare(alloc, verifier, &mut first, &mut second, query)
 }
 
 /// The comparison of the verdicts on a path by what two stores hold.

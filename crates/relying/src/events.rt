@@ -78,9 +78,6 @@ pub(crate) fn take_event<V: Verifier + Drop, D: Disk + Drop>(
             take_delivery(&mut node, alloc, issuer, statement, answers);
             Ok(node)
         }
-        Event::Restart => match node.restart(alloc) {
-            Ok(next) => Ok(next),
-            Err(fault) => Err(fault),
-        },
+        Event::Restart => node.restart(alloc),
     }
 }

@@ -73,14 +73,8 @@ impl<V: Verifier + Drop, D: Disk + Drop> Node<V, D> {
         ensures survives { MayCommitDelivery (V.accepts self.old.verifier) issuer.now statement.now
             (stored self.old) (stored self.new) result }
     {
-        let facts = match read_statement(alloc, &self.verifier, issuer, statement) {
-            Ok(facts) => facts,
-            Err(fault) => return Err(fault),
-        };
-        match self.take(&facts) {
-            Ok(counts) => Ok(counts),
-            Err(fault) => Err(DeliverFault::Store(fault)),
-        }
+        let facts = read_statement(alloc, &self.verifier, issuer, statement)?;
+        self.take(&facts).map_err(DeliverFault::Store)
     }
 
     /// Takes facts in one transaction: the second step of a delivery. They should be those of a statement that `read_statement` or
@@ -121,9 +115,7 @@ impl<V: Verifier + Drop, D: Disk + Drop> Node<V, D> {
         ensures fails { IfErr result (FailsToReopen self.store.conn) }
     {
         let Node { verifier, store } = self;
-        match store.reopen(alloc) {
-            Ok(store) => Ok(Node { verifier, store }),
-            Err(fault) => Err(fault),
-        }
+        let store = store.reopen(alloc)?;
+        Ok(Node { verifier, store })
     }
 }

@@ -28,10 +28,7 @@ fn verdict_in_transaction<V: Verifier, S: Alter>(
     ensures survives { CommitsNothing (state S.Store conn.old) (state S.Store conn.new) }
 {
     let mut tx = conn.transaction();
-    match verdict(alloc, verifier, &mut tx, query) {
-        Ok(verdict) => Ok(verdict),
-        Err(fault) => Err(fault),
-    }
+    verdict(alloc, verifier, &mut tx, query)
 }
 
 /// The verdict on a path by what the store on a connection holds, in a transaction that is dropped.

@@ -1,12 +1,10 @@
 -- What the code has at hand, as the definitions see it.
 use Rattle.std.specs.Prelude.{option_map}
 use Rattle.cert.specs.Certificate.{seen_certificate}
-use Rattle.statements_facts.specs.Statement.{CrlAnswer, OcspFact}
+use Rattle.statements_facts.specs.Answer.{seen_crl, seen_ocsp}
+use Rattle.statements_facts.specs.declared.answer.Answers as answered
 use Rattle.relying_agreement.specs.Link.{Link}
 use Rattle.relying_agreement.specs.Status.{Answers, Evidence}
-use Rattle.relying_evidence.specs.declared.answers.CrlAnswer as listed
-use Rattle.relying_evidence.specs.declared.answers.OcspAnswer as responded
-use Rattle.relying_evidence.specs.declared.answers.Answers as answered
 use Rattle.relying_evidence.specs.declared.evidence.Evidence as known
 use Rattle.relying_evidence.specs.declared.link.Link as linked
 
@@ -15,16 +13,6 @@ seen_link link = record {
   number = link.number;
   issuer = seen_certificate link.issuer.now;
   certificate = seen_certificate link.certificate.now;
-}
-
-abbrev pub seen_crl : listed.CrlAnswer → CrlAnswer
-seen_crl crl = record { number = crl.number; window = record { from = crl.from; until = crl.until }; reason = crl.reason }
-
-abbrev pub seen_ocsp : responded.OcspAnswer → OcspFact
-seen_ocsp ocsp = record {
-  times = record { this_update = ocsp.this_update; produced_at = ocsp.produced_at };
-  window = record { from = ocsp.from; until = ocsp.until };
-  status = ocsp.status;
 }
 
 abbrev pub seen_answers : answered.Answers → Answers

@@ -2,10 +2,10 @@
 
 ghost use Rattle.std.specs.Prelude.{◌≡◌, ◌&&◌, is_some, option_map};
 ghost use Rattle.relying_agreement.specs.Status.{crl_reason, crl_that_counts, deciding_reason, has_good_response, is_covered_by, is_current, is_good, kept_if, ocsp_reason, ocsp_that_counts, reason_of_status};
-ghost use Rattle.relying_evidence.specs.View.{seen_crl, seen_evidence, seen_ocsp};
+ghost use Rattle.relying_evidence.specs.View.{seen_evidence};
+ghost use Rattle.statements_facts.specs.Answer.{seen_crl, seen_ocsp};
 
-use crate::answers::{Answers, CrlAnswer, OcspAnswer};
-use statements_facts::Status;
+use statements_facts::{Answers, CrlAnswer, OcspAnswer, Status};
 
 /// What bears on a certificate of a path.
 #[derive(Clone, Copy)]
@@ -38,15 +38,11 @@ fn has_list(crl: Option<CrlAnswer>, may_sign: bool, moment: i64) -> bool
 fn crl_reason(crl: Option<CrlAnswer>, may_sign: bool, moment: i64) -> Option<u8>
     ensures { result ≡ crl_reason moment may_sign (option_map seen_crl crl) }
 {
-    match crl {
-        None => None,
-        Some(crl) => {
-            if is_list_counted(&crl, may_sign, moment) {
-                crl.reason
-            } else {
-                None
-            }
-        }
+    let crl = crl?;
+    if is_list_counted(&crl, may_sign, moment) {
+        crl.reason
+    } else {
+        None
     }
 }
 
@@ -71,15 +67,11 @@ fn reason_of(status: Status) -> Option<u8>
 fn ocsp_reason(said: Option<OcspAnswer>, moment: i64) -> Option<u8>
     ensures { result ≡ ocsp_reason moment (option_map seen_ocsp said) }
 {
-    match said {
-        None => None,
-        Some(said) => {
-            if is_response_counted(&said, moment) {
-                reason_of(said.status)
-            } else {
-                None
-            }
-        }
+    let said = said?;
+    if is_response_counted(&said, moment) {
+        reason_of(said.status)
+    } else {
+        None
     }
 }
 

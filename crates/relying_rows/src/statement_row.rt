@@ -19,16 +19,11 @@ fn check(alloc: Global, octets: &[u8]) -> Result<(), StatementFault>
     ensures refuses { IfErr result (FailsAsStatement octets.now) }
 {
     if is_response(octets) {
-        match Response::read(alloc, octets) {
-            Ok(_) => Ok(()),
-            Err(fault) => Err(fault),
-        }
+        Response::read(alloc, octets)?;
     } else {
-        match Crl::read(alloc, octets) {
-            Ok(_) => Ok(()),
-            Err(fault) => Err(fault),
-        }
+        Crl::read(alloc, octets)?;
     }
+    Ok(())
 }
 
 /// Whether the value is a statement, which stands at this place of the row.

@@ -6,15 +6,14 @@ ghost use Rattle.std.specs.Option.{option_to_list};
 ghost use Rattle.statements_facts.specs.Coming.{crl_for};
 ghost use Rattle.statements_facts.specs.Newest.{held_after, newer_crl};
 ghost use Rattle.statements_facts.specs.Statement.{answer_for};
-ghost use Rattle.relying_evidence.specs.View.{seen_crl};
+ghost use Rattle.statements_facts.specs.Answer.{seen_crl};
 ghost use Rattle.relying_texts.specs.View.{crl_slot_of, facts_in, facts_in_all, list_fact, list_fact_at};
 
 use crate::contents::{Contents, GenuineStatement};
 use crate::numbered::{NumberedCrl, number_of};
 use crate::same_issuer::is_same_issuer;
 use cert::Certificate;
-use relying_evidence::CrlAnswer;
-use statements_facts::Scope;
+use statements_facts::{CrlAnswer, Scope};
 
 /// The list, if it is one of the issuer and the scope.
 fn list_for<'t, 'a>(

@@ -5,14 +5,13 @@ ghost use Rattle.std.specs.List.{filter_map};
 ghost use Rattle.statements_facts.specs.Coming.{ocsp_for};
 ghost use Rattle.statements_facts.specs.Newest.{held_after, newer_ocsp, newer_of};
 ghost use Rattle.statements_facts.specs.Single.{seen_single};
-ghost use Rattle.relying_evidence.specs.View.{seen_ocsp};
+ghost use Rattle.statements_facts.specs.Answer.{seen_ocsp};
 ghost use Rattle.relying_texts.specs.View.{facts_in, facts_in_all, ocsp_slot_of, singles_for};
 
 use crate::contents::{Contents, GenuineStatement};
 use crate::same_issuer::is_same_issuer;
 use cert::Certificate;
-use relying_evidence::OcspAnswer;
-use statements_facts::Single;
+use statements_facts::{OcspAnswer, Single};
 
 /// What a single response says.
 fn answer_of(single: &Single<'_>) -> OcspAnswer

@@ -17,9 +17,9 @@ use crate::responses::response_answer;
 use path::{Outcome, validate};
 use path_verifiers::Verifier;
 use relying_agreement::Verdict;
-use relying_evidence::{Answers, Evidence, Link, links_of, may_sign_crls, own_scope};
+use relying_evidence::{Evidence, Link, links_of, may_sign_crls, own_scope};
 use sha1::Sha1;
-use statements_facts::Scope;
+use statements_facts::{Answers, Scope};
 use std::alloc::{AllocError, Global};
 
 /// What bears on the certificate by the newest statements.

@@ -8,8 +8,8 @@ use Rattle.path.specs.Query.{Query}
 use Rattle.relying_agreement.specs.Link.{Link, links_from}
 use Rattle.relying_agreement.specs.Status.{Evidence, evidence_of}
 use Rattle.relying_agreement.specs.Verdict.{evidence_on}
-use Rattle.relying_verdicts.specs.declared.evidence.Evidence as known
-use Rattle.relying_verdicts.specs.View.{seen_evidence}
+use Rattle.relying_evidence.specs.declared.evidence.Evidence as known
+use Rattle.relying_evidence.specs.View.{seen_evidence}
 use Rattle.relying_verdicts.proofs.Differing.{one_left, none_left}
 
 -- what was found, and what bears on the certificates that are left below the issuer, is what bears on the path

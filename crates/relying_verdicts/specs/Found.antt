@@ -6,9 +6,9 @@ use Rattle.path.specs.Query.{Query}
 use Rattle.relying_agreement.specs.Status.{answers_held}
 use Rattle.relying_agreement.specs.Verdict.{evidence_on}
 use Rattle.relying_agreement.specs.declared.verdict.Comparison.{Comparison}
-use Rattle.store_maps.specs.declared.on_certificate.Answers.{Answers}
+use Rattle.statements_facts.specs.declared.answer.Answers.{Answers}
 use Rattle.relying_verdicts.specs.Difference.{ComparesEvidence}
-use Rattle.relying_verdicts.specs.View.{seen_answers}
+use Rattle.relying_evidence.specs.View.{seen_answers}
 
 -- both lists and the response, as they speak of a certificate
 abbrev pub AreAnswersOn : IssuerIdentity → Certificate → Holdings → Answers → Type 0

@@ -2,30 +2,30 @@
 
 ghost use Rattle.std.specs.Prelude.{◌≡◌, ◌≢◌, ◌↔◌, [], IsTrue, IfOk, length, map, option_map};
 ghost use Rattle.sqlite.specs.State.{HasCleanDisk};
-ghost use Rattle.store_rows.specs.Seen.{seen_held_status};
+ghost use Rattle.statements_facts.specs.Answer.{seen_crl, seen_ocsp};
 ghost use Rattle.store_sql.specs.Inside.{IsInTransaction, KeepsReference, inside};
 ghost use Rattle.store_sql.specs.Statements.{CommitsNothing};
 ghost use Rattle.relying_agreement.specs.Comparison.{IsComparison};
 ghost use Rattle.relying_verdicts.specs.Asking.{AreAskedOpen, AreInvalidOrOpen, AsksStores, AsksBothForCause};
 ghost use Rattle.relying_verdicts.specs.Difference.{ComparesEvidence, IsFirstApart};
 ghost use Rattle.relying_verdicts.specs.Found.{ComparesHeld};
-ghost use Rattle.relying_verdicts.specs.View.{seen_answers, seen_evidence, seen_query};
-ghost use Rattle.store_maps.specs.Held.{seen_crl};
+ghost use Rattle.relying_evidence.specs.View.{seen_answers, seen_evidence};
+ghost use Rattle.relying_verdicts.specs.View.{seen_query};
 
-use crate::evidence::{Evidence, verdict_by};
+use crate::evidence::verdict_by;
 use crate::fault::Fault;
 use crate::looking::evidence_on;
 use crate::query::Query;
 use crate::verdicts::outcome_of;
 use path::{Outcome, Verifier};
 use relying_agreement::{Comparison, Verdict};
+use relying_evidence::Evidence;
 use sqlite::{Alter, Transaction};
+use statements_facts::{Answers, CrlAnswer, OcspAnswer};
 use std::alloc::Global;
-use store_maps::{Answers, HeldCrl};
-use store_rows::HeldStatus;
 
 /// Whether two lists have the same number, window and entry.
-fn same_list(one: &HeldCrl, other: &HeldCrl) -> bool
+fn same_list(one: &CrlAnswer, other: &CrlAnswer) -> bool
     ensures { IsTrue result ↔ (seen_crl one.now ≡ seen_crl other.now) }
 {
     one.number == other.number
@@ -33,7 +33,7 @@ fn same_list(one: &HeldCrl, other: &HeldCrl) -> bool
 }
 
 /// Whether nothing is held twice, or two lists of which the same is said.
-fn same_lists(one: Option<HeldCrl>, other: Option<HeldCrl>) -> bool
+fn same_lists(one: Option<CrlAnswer>, other: Option<CrlAnswer>) -> bool
     ensures { IsTrue result ↔ (option_map seen_crl one ≡ option_map seen_crl other) }
 {
     match (one, other) {
@@ -44,17 +44,17 @@ fn same_lists(one: Option<HeldCrl>, other: Option<HeldCrl>) -> bool
 }
 
 /// Whether two responses have the same times, window and status.
-fn same_said(one: &HeldStatus, other: &HeldStatus) -> bool
-    ensures { IsTrue result ↔ (seen_held_status one.now ≡ seen_held_status other.now) }
+fn same_said(one: &OcspAnswer, other: &OcspAnswer) -> bool
+    ensures { IsTrue result ↔ (seen_ocsp one.now ≡ seen_ocsp other.now) }
 {
     (one.this_update == other.this_update && one.produced_at == other.produced_at)
         && ((one.from == other.from && one.until == other.until) && one.status == other.status)
 }
 
 /// Whether nothing is held twice, or two responses that say the same.
-fn same_responses(one: Option<HeldStatus>, other: Option<HeldStatus>) -> bool
+fn same_responses(one: Option<OcspAnswer>, other: Option<OcspAnswer>) -> bool
     ensures { IsTrue result
-        ↔ (option_map seen_held_status one ≡ option_map seen_held_status other) }
+        ↔ (option_map seen_ocsp one ≡ option_map seen_ocsp other) }
 {
     match (one, other) {
         (None, None) => true,

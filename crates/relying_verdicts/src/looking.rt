@@ -7,64 +7,24 @@ ghost use Rattle.statements_facts.specs.Fact.{seen_issuer};
 ghost use Rattle.store_sql.specs.Inside.{IsInTransaction, KeepsReference, SucceedsOnlyIfOpen, inside};
 ghost use Rattle.store_sql.specs.Statements.{CommitsNothing};
 ghost use Rattle.store_maps.specs.LooksUp.{LooksUpInside, CausedOverStore};
-ghost use Rattle.relying_agreement.specs.Link.{own_scope};
-ghost use Rattle.relying_agreement.specs.Status.{may_sign_crls, evidence_of};
+ghost use Rattle.relying_agreement.specs.Status.{evidence_of};
 ghost use Rattle.relying_agreement.specs.Verdict.{evidence_on};
 ghost use Rattle.relying_verdicts.specs.Asking.{AsksStore, AsksForCause};
 ghost use Rattle.relying_verdicts.specs.Found.{AreAnswersOn};
-ghost use Rattle.relying_verdicts.specs.View.{seen_evidence, seen_link, seen_query};
+ghost use Rattle.relying_evidence.specs.View.{seen_evidence, seen_link};
+ghost use Rattle.relying_verdicts.specs.View.{seen_query};
 
-use crate::evidence::Evidence;
 use crate::fault::Fault;
 use crate::query::Query;
 use cert::Certificate;
+use relying_evidence::{Evidence, Link, may_sign_crls, own_scope};
 use sha1::Sha1;
 use sqlite::{Alter, Transaction};
 use statements::issuer_of;
-use statements_facts::{Issuer, Scope};
+use statements_facts::{Answers, Issuer};
 use std::alloc::Global;
-use store_maps::{Answers, CertificateKey, answers_on};
+use store_maps::{CertificateKey, answers_on};
 use store_sql::StoreFault;
-
-/// The bit of keyUsage that lets a key sign lists.
-const CRL_SIGN: u8 = 6;
-
-/// A certificate of a path with the one above it.
-#[derive(Clone, Copy)]
-pub(crate) struct Link<'p, 'c> {
-    pub number: usize,
-    pub issuer: &'p Certificate<'c>,
-    pub certificate: &'p Certificate<'c>,
-}
-
-/// Whether the certificate is that of an authority or of a user (RFC 5280, 5.2.5).
-fn own_scope(certificate: &Certificate<'_>) -> Scope
-    ensures { result ≡ own_scope (seen_certificate certificate.now) }
-{
-    match certificate.extensions.basic_constraints {
-        None => Scope::User,
-        Some(constraints) => {
-            if constraints.ca {
-                Scope::Ca
-            } else {
-                Scope::User
-            }
-        }
-    }
-}
-
-/// Whether lists of the issuer count: it is the anchor, or has no keyUsage, or one with cRLSign (RFC 5280, 6.3.3 (f)).
-fn may_sign_crls(link: &Link<'_, '_>) -> bool
-    ensures { result ≡ may_sign_crls (seen_link link.now) }
-{
-    if link.number == 1 {
-        return true;
-    }
-    match link.issuer.extensions.key_usage {
-        None => true,
-        Some(usage) => usage.has(CRL_SIGN),
-    }
-}
 
 /// What is held of a certificate of the issuer: the hash of its issuer field is that of the field as the certificate spells it.
 fn look_up<S: Alter>(

@@ -7,14 +7,16 @@ ghost use Rattle.sqlite.specs.State.{HasCleanDisk};
 ghost use Rattle.path.specs.Validity.{IsOutcome};
 ghost use Rattle.relying_agreement.specs.Verdict.{IsVerdict, verdict_by};
 ghost use Rattle.relying_verdicts.specs.Asking.{AsksStore, AsksForCause, IsInvalidOrOpen};
-ghost use Rattle.relying_verdicts.specs.View.{seen_evidence, seen_query};
+ghost use Rattle.relying_evidence.specs.View.{seen_evidence};
+ghost use Rattle.relying_verdicts.specs.View.{seen_query};
 
-use crate::evidence::{Evidence, verdict_by};
+use crate::evidence::verdict_by;
 use crate::fault::Fault;
 use crate::looking::evidence_on;
 use crate::query::Query;
 use path::{Outcome, Verifier, validate};
 use relying_agreement::Verdict;
+use relying_evidence::Evidence;
 use sqlite::{Alter, Transaction};
 use std::alloc::{AllocError, Global};
 

@@ -4,5 +4,6 @@ pub mod Prefixed
 pub mod Statement
 pub mod Single
 pub mod Fact
+pub mod Answer
 pub mod Newest
 pub mod Coming

@@ -2,6 +2,7 @@
 //! fact of a slot is the newest.
 #![tactic(auto)]
 
+mod answer;
 mod by_prefix;
 mod counts;
 mod fact;
@@ -13,6 +14,7 @@ mod revoked;
 mod scope;
 mod single;
 
+pub use answer::{Answers, CrlAnswer, OcspAnswer};
 pub use counts::{Counts, TakenAs};
 pub use fact::{CrlFacts, Facts, OcspFacts};
 pub use issuer::{Issuer, NameKey};

@@ -16,11 +16,9 @@ use crate::refusal::{Refused, ReopenFault};
 use crate::reopening::open_again;
 use sqlite::{Connection, FileStore, Files};
 use sqlite_disk::Disk;
-use statements_facts::{Counts, Facts, Issuer, Scope};
+use statements_facts::{Counts, CrlAnswer, Facts, Issuer, OcspAnswer, Scope};
 use std::alloc::Global;
 use store_adoption::create;
-use store_maps::HeldCrl;
-use store_rows::HeldStatus;
 use store_sql::StoreFault;
 use store_taking::put;
 
@@ -120,7 +118,7 @@ impl<D: Disk + Drop> Store<D> {
         issuer: &Issuer<'_>,
         scope: Scope,
         serial: &[u8],
-    ) -> Result<Option<HeldCrl>, StoreFault>
+    ) -> Result<Option<CrlAnswer>, StoreFault>
         ensures looks_up { FindsHeldOn self.old.conn self.new.conn
             (IsCrlHeld (seen_issuer issuer.now) scope serial.now) result }
         ensures caused { CausedOn (file_state self.old.conn) (file_state self.new.conn) result }
@@ -137,7 +135,7 @@ impl<D: Disk + Drop> Store<D> {
         issuer: &Issuer<'_>,
         name_hash: &'x [u8],
         serial: &'x [u8],
-    ) -> Result<Option<HeldStatus>, StoreFault>
+    ) -> Result<Option<OcspAnswer>, StoreFault>
         ensures looks_up { FindsHeldOn self.old.conn self.new.conn
             (IsOcspHeld (seen_issuer issuer.now) name_hash.now serial.now) result }
         ensures caused { CausedOn (file_state self.old.conn) (file_state self.new.conn) result }

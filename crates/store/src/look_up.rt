@@ -10,9 +10,8 @@ ghost use Rattle.store_maps.specs.Held.{IsCrlHeld, IsOcspHeld};
 ghost use Rattle.sqlite.specs.State.{KeepsCommit};
 
 use sqlite::{Alter, Connection};
-use statements_facts::{Issuer, Scope};
-use store_maps::{HeldCrl, crl, ocsp};
-use store_rows::HeldStatus;
+use statements_facts::{CrlAnswer, Issuer, OcspAnswer, Scope};
+use store_maps::{crl, ocsp};
 use store_sql::StoreFault;
 
 fn crl_in_transaction<S: Alter>(
@@ -20,7 +19,7 @@ fn crl_in_transaction<S: Alter>(
     issuer: &Issuer<'_>,
     scope: Scope,
     serial: &[u8],
-) -> Result<Option<HeldCrl>, StoreFault>
+) -> Result<Option<CrlAnswer>, StoreFault>
     requires idle { conn.old.in_transaction ≡ false }
     ensures idle { conn.new.in_transaction ≡ false }
     ensures looks_at { FindsHeld KeepsCommit (state S.Store conn.old) (state S.Store conn.new)
@@ -42,7 +41,7 @@ pub fn look_up_crl<S: Alter>(
     issuer: &Issuer<'_>,
     scope: Scope,
     serial: &[u8],
-) -> Result<Option<HeldCrl>, StoreFault>
+) -> Result<Option<CrlAnswer>, StoreFault>
     requires idle { conn.old.in_transaction ≡ false }
     ensures idle { conn.new.in_transaction ≡ false }
     ensures looks_up { FindsHeld StaysIfOpen (state S.Store conn.old) (state S.Store conn.new)
@@ -63,7 +62,7 @@ fn ocsp_in_transaction<'x, S: Alter>(
     issuer: &Issuer<'_>,
     name_hash: &'x [u8],
     serial: &'x [u8],
-) -> Result<Option<HeldStatus>, StoreFault>
+) -> Result<Option<OcspAnswer>, StoreFault>
     requires idle { conn.old.in_transaction ≡ false }
     ensures idle { conn.new.in_transaction ≡ false }
     ensures looks_at { FindsHeld KeepsCommit (state S.Store conn.old) (state S.Store conn.new)
@@ -84,7 +83,7 @@ pub fn look_up_ocsp<'x, S: Alter>(
     issuer: &Issuer<'_>,
     name_hash: &'x [u8],
     serial: &'x [u8],
-) -> Result<Option<HeldStatus>, StoreFault>
+) -> Result<Option<OcspAnswer>, StoreFault>
     requires idle { conn.old.in_transaction ≡ false }
     ensures idle { conn.new.in_transaction ≡ false }
     ensures looks_up { FindsHeld StaysIfOpen (state S.Store conn.old) (state S.Store conn.new)

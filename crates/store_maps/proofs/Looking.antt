@@ -10,13 +10,14 @@ use Rattle.store_rows.specs.Contents.{CrlRow, Contents, head_of, is_crl_of, id_o
 use Rattle.store_rows.specs.Places.{entries_under}
 use Rattle.store_rows.specs.Seen.{seen_head}
 use Rattle.store_rows.specs.Steps.{Finds, HasFound}
-use Rattle.store_maps.specs.declared.crl_slot.HeldCrl.{HeldCrl}
-use Rattle.store_rows.specs.Seen.{seen_held_status}
+use Rattle.statements_facts.specs.declared.answer.CrlAnswer as listed
+use Rattle.statements_facts.specs.Answer.{seen_ocsp}
 use Rattle.statements_facts.specs.declared.scope.Scope.TheVariants.{All}
-use Rattle.store_maps.specs.declared.on_certificate.Answers.{Answers}
+use Rattle.statements_facts.specs.declared.answer.Answers.{Answers}
 use Rattle.store_maps.specs.declared.on_certificate.CertificateKey.{CertificateKey}
 use Rattle.store_maps.specs.Answers.{AreAnswersHeld, AreAnswersUnder}
-use Rattle.store_maps.specs.Held.{crl_under, held_in, ocsp_under, seen_crl}
+use Rattle.store_maps.specs.Held.{crl_under, held_in, ocsp_under}
+use Rattle.statements_facts.specs.Answer.{seen_crl}
 use Rattle.store_maps.specs.LooksUp.{LooksUp}
 use Rattle.store_maps.proofs.Chains.{finds_then, fails_then, found_in, fails_in}
 
@@ -31,7 +32,7 @@ no_list it scope id serial answer none is = cases (find (is_crl_of id scope) it.
     cases None e = refl
     cases (Some row) e = absurd cc
 
-pub a_list : (it : Contents) (scope : Scope) (id : ℕ) (serial : List ℕ) (answer : Option Head) (head : Head) (reason : Option ℕ) (crl : HeldCrl) → answer ≡ Some head
+pub a_list : (it : Contents) (scope : Scope) (id : ℕ) (serial : List ℕ) (answer : Option Head) (head : Head) (reason : Option ℕ) (crl : listed.CrlAnswer) → answer ≡ Some head
     → seen_crl crl ≡ record { number = head.number; window = record { from = head.from; until = head.until }; reason = reason }
     → option_map seen_head answer ≡ option_map head_of (find (is_crl_of id scope) it.crls) → reason ≡ first_reason (entries_under it.entries id (scope_number scope)) serial
     → Some (seen_crl crl) ≡ option_map (answer_for serial) (crl_under it scope id)
@@ -118,5 +119,5 @@ pub no_answers : (it : Contents) (identity : IssuerIdentity) (key : CertificateK
 no_answers it identity key answers is all own ocsp = (
   ap (option_map seen_crl) all ∙ ap (option_map (answer_for key.serial.now)) (under_none (id_of it.issuers identity) (crl_under it All) is),
   ap (option_map seen_crl) own ∙ ap (option_map (answer_for key.serial.now)) (under_none (id_of it.issuers identity) (crl_under it key.kind) is),
-  ap (option_map seen_held_status) ocsp ∙ under_none (id_of it.issuers identity) (ocsp_under it key.name_hash.now key.serial.now) is,
+  ap (option_map seen_ocsp) ocsp ∙ under_none (id_of it.issuers identity) (ocsp_under it key.name_hash.now key.serial.now) is,
 )

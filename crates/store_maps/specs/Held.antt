@@ -10,12 +10,12 @@ use Rattle.store_sql.specs.declared.origin.Origin.{Origin}
 use Rattle.store_sql.specs.Tables.{store_schema}
 use Rattle.store_rows.specs.declared.crl.Head.{Head}
 use Rattle.store_rows.specs.declared.entry.ListKey.{ListKey}
-use Rattle.store_rows.specs.declared.single.HeldStatus.{HeldStatus}
+use Rattle.statements_facts.specs.declared.answer.OcspAnswer.{OcspAnswer}
 use Rattle.store_rows.specs.Contents.{Contents, is_crl_of, is_single_of, id_of, said_of, scope_number}
 use Rattle.store_rows.specs.Places.{entries_under}
 use Rattle.store_rows.specs.Holding.{HasContents, AreInForm, next_id}
-use Rattle.store_rows.specs.Seen.{seen_held_status}
-use Rattle.store_maps.specs.declared.crl_slot.HeldCrl.{HeldCrl}
+use Rattle.statements_facts.specs.Answer.{seen_crl, seen_ocsp}
+use Rattle.statements_facts.specs.declared.answer.CrlAnswer as listed
 
 -- ---- from rows to facts
 
@@ -54,21 +54,18 @@ AreTreesOf held trees = (origin : Origin) × IsStoreOf (record { schema = store_
 
 -- ---- look-ups
 
-abbrev pub seen_crl : HeldCrl → CrlAnswer
-seen_crl crl = record { number = crl.number; window = record { from = crl.from; until = crl.until }; reason = crl.reason }
-
 -- a list with its reason for one serial number
 abbrev pub seen_with_reason : Head → Option ℕ → CrlAnswer
 seen_with_reason head reason = record { number = head.number; window = record { from = head.from; until = head.until }; reason = reason }
 
 -- what a list of this scope that stands under an issuer's id says of a serial number
-abbrev pub IsCrlUnder : ListKey → List ℕ → Contents → Option HeldCrl → Type 0
+abbrev pub IsCrlUnder : ListKey → List ℕ → Contents → Option listed.CrlAnswer → Type 0
 IsCrlUnder list serial it crl = option_map seen_crl crl ≡ option_map (answer_for serial) (crl_under it list.scope list.issuer)
 
 -- what the list of an issuer and a scope says of a serial number
-abbrev pub IsCrlHeld : IssuerIdentity → Scope → List ℕ → Holdings → Option HeldCrl → Type 0
+abbrev pub IsCrlHeld : IssuerIdentity → Scope → List ℕ → Holdings → Option listed.CrlAnswer → Type 0
 IsCrlHeld issuer scope serial held crl = option_map seen_crl crl ≡ option_map (answer_for serial) (held.crl (record { issuer = issuer; scope = scope }))
 
 -- what a response says of a certificate
-abbrev pub IsOcspHeld : IssuerIdentity → List ℕ → List ℕ → Holdings → Option HeldStatus → Type 0
-IsOcspHeld issuer name_hash serial held said = option_map seen_held_status said ≡ held.ocsp (record { issuer = issuer; name_hash = name_hash; serial = serial })
+abbrev pub IsOcspHeld : IssuerIdentity → List ℕ → List ℕ → Holdings → Option OcspAnswer → Type 0
+IsOcspHeld issuer name_hash serial held said = option_map seen_ocsp said ≡ held.ocsp (record { issuer = issuer; name_hash = name_hash; serial = serial })

@@ -3,33 +3,21 @@
 ghost use Rattle.std.specs.Prelude.{◌≡◌, ◌<◌};
 ghost use Rattle.statements_facts.specs.Fact.{seen_issuer};
 ghost use Rattle.store_sql.specs.Statements.{CommitsNothing};
-ghost use Rattle.store_maps.specs.Held.{seen_crl, seen_with_reason, IsCrlUnder, IsCrlHeld};
+ghost use Rattle.store_maps.specs.Held.{seen_with_reason, IsCrlUnder, IsCrlHeld};
+ghost use Rattle.statements_facts.specs.Answer.{seen_crl};
 ghost use Rattle.store_sql.specs.Inside.{inside, IsInTransaction, KeepsReference, SucceedsOnlyIfOpen};
 ghost use Rattle.store_maps.specs.LooksUp.{LooksUpInside, CausedOverStore};
 ghost use Rattle.store_rows.specs.Steps.{FindsIn, CausedIn};
 
-use asn::Number20;
 use sqlite::{Alter, Transaction};
-use statements_facts::{Issuer, Scope};
+use statements_facts::{CrlAnswer, Issuer, Scope};
 use store_rows::{Head, ListKey, find_crl, find_entry, find_issuer};
 use store_sql::StoreFault;
 
-/// The list held of an issuer and a scope, and what it says of one serial number. Times are in seconds from 1970-01-01T00:00:00Z.
-#[derive(Clone, Copy)]
-pub struct HeldCrl {
-    pub number: Number20,
-    /// From when it counts.
-    pub from: i64,
-    /// Until when it counts.
-    pub until: i64,
-    /// The number of the reason, if the serial number is listed.
-    pub reason: Option<u8>,
-}
-
-fn with_reason(head: Head, reason: Option<u8>) -> HeldCrl
+fn with_reason(head: Head, reason: Option<u8>) -> CrlAnswer
     ensures { seen_crl result ≡ seen_with_reason head reason }
 {
-    HeldCrl {
+    CrlAnswer {
         number: head.number,
         from: head.from,
         until: head.until,
@@ -41,7 +29,7 @@ pub(crate) fn look_under<S: Alter>(
     tx: &mut Transaction<'_, S>,
     list: &ListKey,
     serial: &[u8],
-) -> Result<Option<HeldCrl>, StoreFault>
+) -> Result<Option<CrlAnswer>, StoreFault>
     requires issuer { list.now.issuer < 536870911 }
     requires inside { IsInTransaction S.Store tx.old }
     ensures same_reference { KeepsReference tx.old tx.new }
@@ -66,7 +54,7 @@ pub fn crl<S: Alter>(
     issuer: &Issuer<'_>,
     scope: Scope,
     serial: &[u8],
-) -> Result<Option<HeldCrl>, StoreFault>
+) -> Result<Option<CrlAnswer>, StoreFault>
     requires inside { IsInTransaction S.Store tx.old }
     ensures same_reference { KeepsReference tx.old tx.new }
     ensures looks_up { LooksUpInside S.Store tx.old tx.new

@@ -8,7 +8,7 @@ mod ocsp_slot;
 mod on_certificate;
 
 pub use creation::make;
-pub use crl_slot::{HeldCrl, crl};
+pub use crl_slot::crl;
 pub use laws::{issuer_laws, list_laws, single_laws};
 pub use ocsp_slot::ocsp;
-pub use on_certificate::{Answers, CertificateKey, answers_on};
+pub use on_certificate::{CertificateKey, answers_on};

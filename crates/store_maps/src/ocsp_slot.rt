@@ -7,8 +7,8 @@ ghost use Rattle.store_maps.specs.LooksUp.{LooksUpInside, CausedOverStore};
 ghost use Rattle.store_maps.specs.Held.{IsOcspHeld};
 
 use sqlite::{Alter, Transaction};
-use statements_facts::Issuer;
-use store_rows::{HeldStatus, find_issuer, find_single};
+use statements_facts::{Issuer, OcspAnswer};
+use store_rows::{find_issuer, find_single};
 use store_sql::StoreFault;
 
 /// What is held of one certificate of an issuer, by the hash of the issuer's name, as the certificate spells it, and the contents octets
@@ -18,7 +18,7 @@ pub fn ocsp<'x, S: Alter>(
     issuer: &Issuer<'_>,
     name_hash: &'x [u8],
     serial: &'x [u8],
-) -> Result<Option<HeldStatus>, StoreFault>
+) -> Result<Option<OcspAnswer>, StoreFault>
     requires inside { IsInTransaction S.Store tx.old }
     ensures same_reference { KeepsReference tx.old tx.new }
     ensures looks_up { LooksUpInside S.Store tx.old tx.new

@@ -8,10 +8,10 @@ ghost use Rattle.store_rows.specs.Steps.{FindsIn, CausedIn};
 ghost use Rattle.store_maps.specs.Answers.{AreAnswersHeld, AreAnswersUnder, AreListsUnder};
 ghost use Rattle.store_maps.specs.LooksUp.{LooksUpInside, CausedOverStore};
 
-use crate::crl_slot::{HeldCrl, look_under};
+use crate::crl_slot::look_under;
 use sqlite::{Alter, Transaction};
-use statements_facts::{Issuer, Scope};
-use store_rows::{HeldStatus, ListKey, find_issuer, find_single};
+use statements_facts::{Answers, CrlAnswer, Issuer, Scope};
+use store_rows::{ListKey, find_issuer, find_single};
 use store_sql::StoreFault;
 
 /// A certificate of an issuer, as statements name it.
@@ -25,22 +25,11 @@ pub struct CertificateKey<'x> {
     pub serial: &'x [u8],
 }
 
-/// What a store holds of a certificate.
-#[derive(Clone, Copy)]
-pub struct Answers {
-    /// The list of its issuer that is about all certificates, with its entry for this one.
-    pub all: Option<HeldCrl>,
-    /// The list that is about certificates of its kind.
-    pub own: Option<HeldCrl>,
-    /// What a response says of it.
-    pub ocsp: Option<HeldStatus>,
-}
-
 fn lists_under<S: Alter>(
     tx: &mut Transaction<'_, S>,
     issuer: u32,
     key: &CertificateKey<'_>,
-) -> Result<(Option<HeldCrl>, Option<HeldCrl>), StoreFault>
+) -> Result<(Option<CrlAnswer>, Option<CrlAnswer>), StoreFault>
     requires issuer { issuer < 536870911 }
     requires inside { IsInTransaction S.Store tx.old }
     ensures same_reference { KeepsReference tx.old tx.new }

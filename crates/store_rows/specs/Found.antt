@@ -7,10 +7,11 @@ use Rattle.statements_facts.specs.Statement.{IssuerIdentity}
 use Rattle.store_rows.specs.declared.beside.SerialAtPlace.{SerialAtPlace}
 use Rattle.store_rows.specs.declared.crl.Head.{Head}
 use Rattle.store_rows.specs.declared.entry.ListKey.{ListKey}
-use Rattle.store_rows.specs.declared.single.HeldStatus.{HeldStatus}
+use Rattle.statements_facts.specs.declared.answer.OcspAnswer.{OcspAnswer}
 use Rattle.store_rows.specs.Contents.{Contents, scope_number, id_of, head_of, is_crl_of, said_of, is_single_of}
 use Rattle.store_rows.specs.Places.{beside_of, entries_under}
-use Rattle.store_rows.specs.Seen.{seen_head, seen_held_status}
+use Rattle.store_rows.specs.Seen.{seen_head}
+use Rattle.statements_facts.specs.Answer.{seen_ocsp}
 
 -- the entries of a list
 abbrev pub entries_of_list : ListKey → Contents → List ListedSerial
@@ -41,8 +42,8 @@ abbrev pub IsHeadOf : ℕ → Scope → Contents → Option Head → Type 0
 IsHeadOf issuer scope it head = option_map seen_head head ≡ option_map head_of (find (is_crl_of issuer scope) it.crls)
 
 -- what a response says of a certificate of this issuer
-abbrev pub SaysOf : ℕ → List ℕ → List ℕ → Contents → Option HeldStatus → Type 0
-SaysOf issuer name_hash serial it said = option_map seen_held_status said ≡ option_map said_of (find (is_single_of issuer name_hash serial) it.singles)
+abbrev pub SaysOf : ℕ → List ℕ → List ℕ → Contents → Option OcspAnswer → Type 0
+SaysOf issuer name_hash serial it said = option_map seen_ocsp said ≡ option_map said_of (find (is_single_of issuer name_hash serial) it.singles)
 
 -- the id of an issuer
 abbrev pub IsIssuerId : IssuerIdentity → Contents → Option ℕ → Type 0

@@ -9,11 +9,11 @@ use Rattle.statements_facts.specs.Listed.{ListedSerial}
 use Rattle.statements_facts.specs.Statement.{OcspFact}
 use Rattle.store_sql.specs.declared.fault.StoreFault.{StoreFault}
 use Rattle.store_rows.specs.declared.beside.SerialAtPlace.{SerialAtPlace}
-use Rattle.store_rows.specs.declared.single.HeldStatus.{HeldStatus}
+use Rattle.statements_facts.specs.declared.answer.OcspAnswer.{OcspAnswer}
 use Rattle.store_rows.specs.Contents.{HasCell, shown, id_cells, listed_cells, said_cells, status_number, reason_number}
 use Rattle.store_rows.specs.Holding.{HasByte, HasReason}
 use Rattle.store_rows.specs.Places.{beside_of}
-use Rattle.store_rows.specs.Seen.{seen_held_status}
+use Rattle.statements_facts.specs.Answer.{seen_ocsp}
 
 -- ---- one cell
 
@@ -68,5 +68,5 @@ HasStatusCells row known = HasCell row 4 (Int (pos (status_number known))) × Ha
 abbrev pub RefusesStatus : {A : Type 0} → Row → Result A StoreFault → Type 0
 RefusesStatus row result = result ≡ Err StoreFault.Schema → (known : Status) → HasReason known → HasCell row 4 (Int (pos (status_number known))) → HasCell row 5 (Int (pos (reason_number known))) → ⊥
 
-abbrev pub IsSaidIn : Row → HeldStatus → Type 0
-IsSaidIn row found = (fact : OcspFact) → row ≡ said_cells fact → seen_held_status found ≡ fact
+abbrev pub IsSaidIn : Row → OcspAnswer → Type 0
+IsSaidIn row found = (fact : OcspFact) → row ≡ said_cells fact → seen_ocsp found ≡ fact

@@ -18,4 +18,4 @@ pub use crl::{Head, find_crl, number_of, replace_crl, scope_number};
 pub use entry::{ListKey, find_entry};
 pub use issuer::{ID_LIMIT, add_issuer, find_issuer};
 pub use refill::replace_entries;
-pub use single::{HeldStatus, find_single, replace_single};
+pub use single::{find_single, replace_single};

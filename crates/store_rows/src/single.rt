@@ -5,7 +5,7 @@ ghost use Rattle.statements_facts.specs.Single.{seen_single};
 ghost use Rattle.store_sql.specs.Statements.{CommitsNothing};
 ghost use Rattle.store_rows.specs.Contents.{said_cells, status_number, reason_number};
 ghost use Rattle.store_rows.specs.Holding.{IsSaid, with_said};
-ghost use Rattle.store_rows.specs.Seen.{seen_held_status};
+ghost use Rattle.statements_facts.specs.Answer.{seen_ocsp};
 ghost use Rattle.store_sql.specs.Inside.{inside, IsInTransaction, KeepsReference};
 ghost use Rattle.store_rows.specs.Found.{SaysOf};
 ghost use Rattle.store_rows.specs.Reading.{AreShown, RefusesRow, RefusesRows, HasNumbers, AreOfNoStatus, HasStatusCells, RefusesStatus, IsSaidIn};
@@ -15,20 +15,8 @@ ghost use Rattle.store_sql.specs.Bindings.{said_params};
 
 use crate::cell::{integer, natural};
 use sqlite::{Alter, Row, Transaction};
-use statements_facts::{Single, Status};
+use statements_facts::{OcspAnswer, Single, Status};
 use store_sql::{SaidCells, SingleKey, StoreFault, delete_single, insert_single, single_rows};
-
-/// What a response says of a certificate (RFC 6960, 4.2.1). Times are in seconds from 1970-01-01T00:00:00Z.
-#[derive(Clone, Copy)]
-pub struct HeldStatus {
-    pub this_update: i64,
-    pub produced_at: i64,
-    /// From when it counts.
-    pub from: i64,
-    /// Until when it counts.
-    pub until: i64,
-    pub status: Status,
-}
 
 /// The number of a status in the tables.
 fn status_number(status: Status) -> u8
@@ -76,7 +64,7 @@ fn read_status(row: &Row) -> Result<Status, StoreFault>
     }
 }
 
-fn read_said(row: &Row) -> Result<HeldStatus, StoreFault>
+fn read_said(row: &Row) -> Result<OcspAnswer, StoreFault>
     ensures ok { IfOk result (IsSaidIn row.now) }
     ensures schema { RefusesRow said_cells IsSaid row.now result }
     ensures cell { result ≢ Err StoreFault.Store }
@@ -86,7 +74,7 @@ fn read_said(row: &Row) -> Result<HeldStatus, StoreFault>
     let from = integer(row, 2)?;
     let until = integer(row, 3)?;
     let status = read_status(row)?;
-    Ok(HeldStatus {
+    Ok(OcspAnswer {
         this_update,
         produced_at,
         from,
@@ -95,8 +83,8 @@ fn read_said(row: &Row) -> Result<HeldStatus, StoreFault>
     })
 }
 
-fn read_all(rows: &[Row]) -> Result<Option<HeldStatus>, StoreFault>
-    ensures ok { IfOk result (AreShown seen_held_status said_cells IsSaid rows.now) }
+fn read_all(rows: &[Row]) -> Result<Option<OcspAnswer>, StoreFault>
+    ensures ok { IfOk result (AreShown seen_ocsp said_cells IsSaid rows.now) }
     ensures schema { RefusesRows said_cells IsSaid rows.now result }
     ensures cell { result ≢ Err StoreFault.Store }
 {
@@ -125,7 +113,7 @@ pub fn find_single<'x, S: Alter>(
     issuer: u32,
     name_hash: &'x [u8],
     serial: &'x [u8],
-) -> Result<Option<HeldStatus>, StoreFault>
+) -> Result<Option<OcspAnswer>, StoreFault>
     requires inside { IsInTransaction S.Store tx.old }
     ensures same_reference { KeepsReference tx.old tx.new }
     ensures finds { FindsIn S.Store tx.old tx.new (SaysOf issuer name_hash.now serial.now) result }

@@ -14,10 +14,11 @@ use Rattle.statements_facts.specs.declared.scope.Scope.{Scope}
 use Rattle.statements_facts.specs.Listed.{ListedSerial, first_reason}
 use Rattle.statements_facts.specs.Statement.{CrlFact, OcspFact}
 use Rattle.store_rows.specs.declared.crl.Head.{Head}
-use Rattle.store_rows.specs.declared.single.HeldStatus.{HeldStatus}
+use Rattle.statements_facts.specs.declared.answer.OcspAnswer.{OcspAnswer}
 use Rattle.store_rows.specs.Contents.{CrlHead, CrlRow, Contents, head_of, said_of, is_crl_of, is_single_of, scope_number}
 use Rattle.store_rows.specs.Places.{IsBelow, entries_under}
-use Rattle.store_rows.specs.Seen.{seen_head, seen_held_status}
+use Rattle.store_rows.specs.Seen.{seen_head}
+use Rattle.statements_facts.specs.Answer.{seen_ocsp}
 use Rattle.statements_facts.specs.declared.counts.TakenAs.{TakenAs}
 use Rattle.statements_facts.specs.declared.counts.TakenAs.TheVariants.{Stored, Kept, Contradicted}
 use Rattle.statements_facts.specs.Coming.{CrlIsTakenAs, OcspIsTakenAs}
@@ -126,10 +127,10 @@ entries_tell held listed head Contradicted up up2 tells = (
 
 -- ---- single responses
 
-pub no_single_comes : (it : Contents) (name_hash serial : List ℕ) (id : ℕ) (answer : Option HeldStatus) (fact : OcspFact) → answer ≡ None → option_map seen_held_status answer ≡ option_map said_of (find (is_single_of id name_hash serial) it.singles)
+pub no_single_comes : (it : Contents) (name_hash serial : List ℕ) (id : ℕ) (answer : Option OcspAnswer) (fact : OcspFact) → answer ≡ None → option_map seen_ocsp answer ≡ option_map said_of (find (is_single_of id name_hash serial) it.singles)
     → OcspIsTakenAs (ocsp_under it name_hash serial id) fact Stored
-no_single_comes it name_hash serial id answer fact none is = subst (λ held. OcspIsTakenAs held fact Stored) (sym (ap (option_map seen_held_status) none) ∙ is) refl
+no_single_comes it name_hash serial id answer fact none is = subst (λ held. OcspIsTakenAs held fact Stored) (sym (ap (option_map seen_ocsp) none) ∙ is) refl
 
-pub single_comes : (it : Contents) (name_hash serial : List ℕ) (id : ℕ) (answer : Option HeldStatus) (said : HeldStatus) (fact : OcspFact) (outcome : TakenAs) → answer ≡ Some said → OcspIsTakenAs (Some (seen_held_status said)) fact outcome
-    → option_map seen_held_status answer ≡ option_map said_of (find (is_single_of id name_hash serial) it.singles) → OcspIsTakenAs (ocsp_under it name_hash serial id) fact outcome
-single_comes it name_hash serial id answer said fact outcome some comes is = subst (λ held. OcspIsTakenAs held fact outcome) (sym (ap (option_map seen_held_status) some) ∙ is) comes
+pub single_comes : (it : Contents) (name_hash serial : List ℕ) (id : ℕ) (answer : Option OcspAnswer) (said : OcspAnswer) (fact : OcspFact) (outcome : TakenAs) → answer ≡ Some said → OcspIsTakenAs (Some (seen_ocsp said)) fact outcome
+    → option_map seen_ocsp answer ≡ option_map said_of (find (is_single_of id name_hash serial) it.singles) → OcspIsTakenAs (ocsp_under it name_hash serial id) fact outcome
+single_comes it name_hash serial id answer said fact outcome some comes is = subst (λ held. OcspIsTakenAs held fact outcome) (sym (ap (option_map seen_ocsp) some) ∙ is) comes

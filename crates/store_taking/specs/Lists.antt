@@ -9,11 +9,11 @@ use Rattle.statements_facts.specs.Listed.{ListedSerial}
 use Rattle.statements_facts.specs.Single.{seen_single}
 use Rattle.store_rows.specs.declared.crl.Head.{Head}
 use Rattle.store_rows.specs.declared.entry.ListKey.{ListKey}
-use Rattle.store_rows.specs.declared.single.HeldStatus.{HeldStatus}
+use Rattle.statements_facts.specs.declared.answer.OcspAnswer.{OcspAnswer}
 use Rattle.store_rows.specs.Contents.{CrlHead, Contents, scope_number}
 use Rattle.store_rows.specs.Holding.{with_crl, with_entries}
 use Rattle.store_rows.specs.Found.{entries_of_list}
-use Rattle.store_rows.specs.Seen.{seen_held_status}
+use Rattle.statements_facts.specs.Answer.{seen_ocsp}
 use Rattle.store_maps.specs.Held.{crl_under, ocsp_under}
 use Rattle.statements_facts.specs.declared.counts.TakenAs.{TakenAs}
 use Rattle.statements_facts.specs.declared.counts.TakenAs.TheVariants.{Stored, Kept, Contradicted}
@@ -50,11 +50,11 @@ ListIsTakenAs key list it outcome = CrlIsTakenAs (crl_under it key.scope key.iss
 -- ---- what responses say
 
 -- of a certificate, for the same time
-abbrev pub SaysSame : HeldStatus → Single → Type 0
-SaysSame held single = ((seen_single single).fact.window ≡ (seen_held_status held).window) × ((seen_single single).fact.status ≡ (seen_held_status held).status)
+abbrev pub SaysSame : OcspAnswer → Single → Type 0
+SaysSame held single = ((seen_single single).fact.window ≡ (seen_ocsp held).window) × ((seen_single single).fact.status ≡ (seen_ocsp held).status)
 
-abbrev pub SingleIsTakenBeside : HeldStatus → Single → TakenAs → Type 0
-SingleIsTakenBeside held single outcome = OcspIsTakenAs (Some (seen_held_status held)) (seen_single single).fact outcome
+abbrev pub SingleIsTakenBeside : OcspAnswer → Single → TakenAs → Type 0
+SingleIsTakenBeside held single outcome = OcspIsTakenAs (Some (seen_ocsp held)) (seen_single single).fact outcome
 
 -- under the id of its issuer
 abbrev pub SingleIsTakenAs : ℕ → Single → Contents → TakenAs → Type 0

@@ -14,20 +14,20 @@ ghost use Rattle.store_taking.specs.Room.{LeavesRoomIn, TakesForCause, TakesUnde
 
 use crate::known::issuer_id;
 use sqlite::{Alter, Transaction};
-use statements_facts::{Issuer, Single, Status, TakenAs};
+use statements_facts::{Issuer, OcspAnswer, Single, Status, TakenAs};
 use std::cmp::Ordering;
-use store_rows::{HeldStatus, find_single, replace_single};
+use store_rows::{find_single, replace_single};
 use store_sql::StoreFault;
 
 /// Whether the two say the same of a certificate for the same time.
-fn says_same(held: &HeldStatus, single: &Single<'_>) -> bool
+fn says_same(held: &OcspAnswer, single: &Single<'_>) -> bool
     ensures { IsTrue result ↔ SaysSame held.now single.now }
 {
     single.from == held.from && single.until == held.until && single.status == held.status
 }
 
 /// What becomes of a single response beside what is held of its certificate.
-fn outcome_beside(held: &HeldStatus, single: &Single<'_>) -> TakenAs
+fn outcome_beside(held: &OcspAnswer, single: &Single<'_>) -> TakenAs
     ensures { SingleIsTakenBeside held.now single.now result }
 {
     let this_update = single.this_update.cmp(&held.this_update);

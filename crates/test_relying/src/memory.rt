@@ -11,12 +11,12 @@ use der_stream::{ReadFault, path_octets};
 use relying::Comparison::Differ;
 use relying::DeliverFault::{Issuer, Statement, Store};
 use relying::Verdict::{Revoked, Valid};
-use relying::{Answer, DeliverFault, Fault, Node, Verdict};
+use relying::{Answer, DeliverFault, Fault, Node, Query, Verdict};
 use sqlite_disk::Disk;
 use statements_parts::StatementFault;
 use std::alloc::Global;
 use store_sql::StoreFault;
-use vectors::ToyVerifier;
+use vectors::{ToyVerifier, certificate};
 
 /// There is no memory for the call, or for its disk.
 fn is_want_of_store(fault: StoreFault) -> bool {
@@ -138,4 +138,28 @@ fn reads(alloc: Global) -> Option<bool> {
 #[test]
 fn path_files_want_memory_or_answer(rt: HostRuntime) {
     assert!(rt; reads(rt.alloc()) != Some(false));
+}
+
+/// The certificate of a question for which there was no memory, if there was none for it.
+fn lacking(alloc: Global, anchor: &[u8], path: &[&[u8]]) -> Option<usize> {
+    match Query::read(alloc, anchor, path, MIDDLE, None) {
+        Ok(_) => None,
+        Err(refusal) => Some(refusal.certificate),
+    }
+}
+
+/// Certificates without lists take no memory, so that the list of them alone does: the first below the anchor is told. An anchor with a
+/// list of subtrees is told itself.
+fn is_told_of_the_right_certificate(alloc: Global) -> Option<bool> {
+    let plain = certificate(alloc, "ee(T,R)").ok()?;
+    let constrained = certificate(alloc, "ca(R,R){permit dns a.example}").ok()?;
+    let of_three = lacking(alloc, &plain, &[&plain, &plain, &plain]).unwrap_or(1);
+    let of_anchor = lacking(alloc, &constrained, &[]).unwrap_or(0);
+    let behind = lacking(alloc, &plain, &[&constrained]).unwrap_or(1);
+    Some(of_three == 1 && of_anchor == 0 && behind == 1)
+}
+
+#[test]
+fn certificates_of_a_question_want_memory_or_answer(rt: HostRuntime) {
+    assert!(rt; is_told_of_the_right_certificate(rt.alloc()) != Some(false));
 }

@@ -3,11 +3,11 @@
 
 use asn::Number20;
 use sqlite::{Alter, Connection};
-use statements_facts::{Issuer, Listed, NameKey, RevokedSerials, Scope, Single};
+use statements_facts::{Issuer, Listed, NameKey, OcspAnswer, RevokedSerials, Scope, Single};
 use std::alloc::Global;
 use store_maps::{crl, ocsp};
 use store_rows::{
-    Head, HeldStatus, ListKey, add_issuer, find_issuer, make_tables, replace_crl, replace_entries,
+    Head, ListKey, add_issuer, find_issuer, make_tables, replace_crl, replace_entries,
     replace_single,
 };
 use store_sql::StoreFault;
@@ -142,7 +142,7 @@ pub fn said<S: Alter>(
     conn: &mut Connection<S>,
     issuer: &Issuer<'_>,
     single: &Single<'_>,
-) -> Option<Result<Option<HeldStatus>, StoreFault>> {
+) -> Option<Result<Option<OcspAnswer>, StoreFault>> {
     if !conn.is_autocommit() {
         return None;
     }

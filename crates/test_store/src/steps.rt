@@ -3,9 +3,9 @@
 use crate::putting::{add, found, issuer, listed, make, put_entries, put_list, put_single, said};
 use sqlite::{Alter, Connection, Files, Options};
 use sqlite_disk::{Disk, Memory};
-use statements_facts::{Issuer, Listed, Scope, Single};
+use statements_facts::{Issuer, Listed, OcspAnswer, Scope, Single};
 use std::alloc::Global;
-use store_rows::{HeldStatus, ListKey};
+use store_rows::ListKey;
 use store_sql::{Origin, StoreFault, is_empty, is_version_1, origin_of};
 
 /// What is done, or looked for.
@@ -42,7 +42,7 @@ fn has_tables<S: Alter>(
     origin_of(schema) == origin && is_version_1(schema) == is_old && is_empty(schema) == is_none
 }
 
-fn is_same(said: &HeldStatus, single: &Single<'_>) -> bool {
+fn is_same(said: &OcspAnswer, single: &Single<'_>) -> bool {
     said.this_update == single.this_update
         && said.produced_at == single.produced_at
         && said.from == single.from

@@ -144,7 +144,6 @@ pub mod rows {
 
 /// What a store holds, and how a connection is taken for a store and looked up.
 pub mod stores {
+    pub use statements_facts::{CrlAnswer, OcspAnswer};
     pub use store::{adopt, look_up_crl, look_up_ocsp, take_over};
-    pub use store_maps::HeldCrl;
-    pub use store_rows::HeldStatus;
 }

@@ -1,6 +1,6 @@
 use Rattle.std.proofs.Common.{map, option_map, sym, ◌∙◌}
 use Rattle.statements_facts.specs.Single.{seen_single}
-use Rattle.relying_evidence.specs.View.{seen_ocsp}
+use Rattle.statements_facts.specs.Answer.{seen_ocsp}
 use Rattle.relying_texts.specs.View.{identity_seen, ocsp_slot_of}
 use Rattle.relying_texts.proofs.Slots.{came_of_the_issuer, came_of_another}
 use Rattle.relying_texts.proofs.responses.newest_of.Goals as goal

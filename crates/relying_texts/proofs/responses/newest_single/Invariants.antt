@@ -1,7 +1,7 @@
 use Rattle.std.proofs.Common.{◌≡◌, drop, map, option_map}
 use Rattle.statements_facts.specs.Newest.{held_after, newer_ocsp}
 use Rattle.statements_facts.specs.Single.{seen_single}
-use Rattle.relying_evidence.specs.View.{seen_ocsp}
+use Rattle.statements_facts.specs.Answer.{seen_ocsp}
 use Rattle.relying_texts.specs.View.{singles_for}
 use Rattle.relying_texts.proofs.responses.newest_single.Given as goal
 

@@ -1,7 +1,7 @@
 use Rattle.std.proofs.Common.{◌+◌, None, drop, option_map, filter_map}
 use Rattle.statements_facts.specs.Coming.{ocsp_for}
 use Rattle.statements_facts.specs.Newest.{held_after, newer_ocsp}
-use Rattle.relying_evidence.specs.View.{seen_ocsp}
+use Rattle.statements_facts.specs.Answer.{seen_ocsp}
 use Rattle.relying_texts.specs.View.{facts_in, facts_in_all, ocsp_slot_of}
 use Rattle.relying_texts.proofs.Folding.{came, one_left}
 use Rattle.relying_texts.proofs.responses.response_answer.Goals as goal

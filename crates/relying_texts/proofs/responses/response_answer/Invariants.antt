@@ -1,7 +1,7 @@
 use Rattle.std.proofs.Common.{◌≡◌, drop, None, option_map, filter_map}
 use Rattle.statements_facts.specs.Coming.{ocsp_for}
 use Rattle.statements_facts.specs.Newest.{held_after, newer_ocsp}
-use Rattle.relying_evidence.specs.View.{seen_ocsp}
+use Rattle.statements_facts.specs.Answer.{seen_ocsp}
 use Rattle.relying_texts.specs.View.{facts_in_all, ocsp_slot_of}
 use Rattle.relying_texts.proofs.responses.response_answer.Given as goal
 

@@ -1,7 +1,8 @@
 use Rattle.std.proofs.Common.{◌≡◌, option_map}
 use Rattle.sha1.specs.Sha1.{sha1}
 use Rattle.cert.specs.Certificate.{seen_certificate}
-use Rattle.relying_evidence.specs.View.{seen_crl, seen_link, seen_ocsp}
+use Rattle.relying_evidence.specs.View.{seen_link}
+use Rattle.statements_facts.specs.Answer.{seen_crl, seen_ocsp}
 use Rattle.relying_texts.specs.View.{facts_in_all}
 use Rattle.relying_texts.proofs.Bearing.{bears}
 use Rattle.relying_texts.proofs.verdicts.evidence_of.Goals as goal

@@ -1,4 +1,4 @@
-use Rattle.relying_verdicts.specs.View.{seen_answers, seen_link}
+use Rattle.relying_evidence.specs.View.{seen_answers, seen_link}
 use Rattle.statements_facts.specs.Fact.{seen_issuer}
 use Rattle.relying_verdicts.proofs.Answering.{evidence_is}
 use Rattle.relying_verdicts.proofs.Chains.{found_as}

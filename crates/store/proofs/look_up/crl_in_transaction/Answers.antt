@@ -3,7 +3,8 @@ use Rattle.sqlite.specs.Held.{state}
 use Rattle.sqlite.specs.State.{HasCleanDisk, KeepsCommit}
 use Rattle.statements_facts.specs.Statement.{Holdings, answer_for}
 use Rattle.store_maps.specs.LooksUp.{IsCausedOverStore}
-use Rattle.store_maps.specs.Held.{IsStoreOf, seen_crl}
+use Rattle.store_maps.specs.Held.{IsStoreOf}
+use Rattle.statements_facts.specs.Answer.{seen_crl}
 use Rattle.std.specs.Option.{option_map}
 use Rattle.statements_facts.specs.Fact.{seen_issuer}
 use Rattle.store_sql.specs.declared.fault.StoreFault.{StoreFault}

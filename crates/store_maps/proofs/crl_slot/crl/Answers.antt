@@ -1,6 +1,7 @@
 use Rattle.std.proofs.Common.{arith, option_map, sym, ap}
 use Rattle.statements_facts.specs.Fact.{seen_issuer}
-use Rattle.store_maps.specs.Held.{crl_under, seen_crl}
+use Rattle.store_maps.specs.Held.{crl_under}
+use Rattle.statements_facts.specs.Answer.{seen_crl}
 use Rattle.statements_facts.specs.Statement.{answer_for}
 use Rattle.sqlite.specs.State.{HasCleanDisk}
 use Rattle.store_sql.specs.Inside.{inside}

@@ -1,6 +1,6 @@
 use Rattle.std.proofs.Common.{arith, option_map, sym}
 use Rattle.statements_facts.specs.Fact.{seen_issuer}
-use Rattle.store_rows.specs.Seen.{seen_held_status}
+use Rattle.statements_facts.specs.Answer.{seen_ocsp}
 use Rattle.store_maps.specs.Held.{ocsp_under}
 use Rattle.sqlite.specs.State.{HasCleanDisk}
 use Rattle.store_sql.specs.Inside.{inside}
@@ -16,8 +16,8 @@ returns-in-Ok-None-clause-looks_up g c clean =
 
 pub returns-clause-looks_up : goal.returns-clause-looks_up
 returns-clause-looks_up g c clean =
-    looks_up _ _ c.find_single.result (option_map seen_held_status) (λ held. held.ocsp (record { issuer = seen_issuer c.args.issuer.now; name_hash = c.args.name_hash.now; serial = c.args.serial.now }))
-    (looks_same _ _ _ (seen_issuer c.args.issuer.now) c.in-Ok-Some.field-0 c.in-Ok-Some.id c.find_single.result (option_map seen_held_status) (λ it. ocsp_under it c.args.name_hash.now c.args.serial.now) c.in-Ok-Some.field-0-is
+    looks_up _ _ c.find_single.result (option_map seen_ocsp) (λ held. held.ocsp (record { issuer = seen_issuer c.args.issuer.now; name_hash = c.args.name_hash.now; serial = c.args.serial.now }))
+    (looks_same _ _ _ (seen_issuer c.args.issuer.now) c.in-Ok-Some.field-0 c.in-Ok-Some.id c.find_single.result (option_map seen_ocsp) (λ it. ocsp_under it c.args.name_hash.now c.args.serial.now) c.in-Ok-Some.field-0-is
     (c.in-Ok-Some.ensures.finds (omega (arith, clean, c.find_single.ensures.survives.clean))) (c.find_single.ensures.finds clean))
 
 pub returns-in-Ok-None-clause-open : goal.returns-in-Ok-None-clause-open

@@ -1,7 +1,7 @@
-//! What statements say of one certificate. Times are in seconds from 1970-01-01T00:00:00Z.
+//! What the newest statements say of one certificate. Times are in seconds from 1970-01-01T00:00:00Z.
 
+use crate::single::Status;
 use asn::Number20;
-use statements_facts::Status;
 
 /// What a list says of one serial number.
 #[derive(Clone, Copy)]
@@ -16,7 +16,7 @@ pub struct CrlAnswer {
     pub reason: Option<u8>,
 }
 
-/// What a response says of one certificate.
+/// What a response says of one certificate (RFC 6960, 4.2.1).
 #[derive(Clone, Copy)]
 pub struct OcspAnswer {
     pub this_update: i64,
