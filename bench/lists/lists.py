@@ -43,7 +43,7 @@ def main(folder, count):
         with open(os.path.join(folder, kind + ".der"), "wb") as out:
             out.write(revocation_list(its))
     with open(os.path.join(folder, "issuer.der"), "wb") as out:
-        out.write(certificate(1, "Root", "Root", True, False))
+        out.write(certificate(1, name("Root"), name("Root"), []))
 
 
 if __name__ == "__main__":

@@ -1,7 +1,7 @@
 //! What the contents of a primitive value have to be.
 
 ghost use Rattle.std.specs.Prelude.{◌≡◌, ◌↔◌, IsTrue};
-ghost use Rattle.der.specs.Contents.{IsBoolean, IsInteger, IsBitString, IsObjectIdentifier, IsContents};
+ghost use Rattle.der.specs.Contents.{IsBoolean, IsInteger, IsBitString, AreArcs, IsObjectIdentifier, IsContents};
 
 // BOOLEAN (X.690, 8.2 and 11.1)
 fn is_boolean(contents: &[u8]) -> bool
@@ -34,18 +34,29 @@ fn is_bit_string(contents: &[u8]) -> bool
     }
 }
 
-// OBJECT IDENTIFIER (8.19)
+/// Whether no arc begins with 128.
+fn are_arcs(contents: &[u8]) -> bool
+    ensures { IsTrue result ↔ AreArcs contents.now }
+{
+    // an arc begins behind an octet below 128, and at the front
+    let mut before = 0;
+    for octet in contents {
+        if *octet == 128 && before < 128 {
+            return false;
+        }
+        before = *octet;
+    }
+    true
+}
+
+// OBJECT IDENTIFIER (8.19); most have no octet 128
 fn is_object_identifier(contents: &[u8]) -> bool
     ensures { IsTrue result ↔ IsObjectIdentifier contents.now }
 {
-    let mut begins_arc = true;
-    for octet in contents {
-        if begins_arc && *octet == 128 {
-            return false;
-        }
-        begins_arc = *octet < 128;
+    match contents {
+        [.., last] if *last < 128 => !contents.contains(&128) || are_arcs(contents),
+        _ => false,
     }
-    begins_arc && !contents.is_empty()
 }
 
 /// Whether a primitive value with this identifier octet may have these contents.

@@ -11,25 +11,22 @@ pub fn is_constructed_form(identifier: u8) -> bool
     identifier / 32 % 2 == 1
 }
 
+// A row for the identifier octets of each class and form, the universal class first, in which primitive ones stand before constructed
+// ones: a dot where no value may have the octet.
+static SERVED: [u8; 256] = *b"\
+    .ppppppppppppppp..ppppppppppppp.\
+    .......ccc.c.cccccc..c...ccc.c..\
+    ppppppppppppppppppppppppppppppp.\
+    ccccccccccccccccccccccccccccccc.\
+    ppppppppppppppppppppppppppppppp.\
+    ccccccccccccccccccccccccccccccc.\
+    ppppppppppppppppppppppppppppppp.\
+    ccccccccccccccccccccccccccccccc.";
+
 /// Whether no value may have this identifier octet.
 #[inline(always)]
 pub fn is_refused_identifier(identifier: u8) -> bool
     ensures { result ≡ is_refused identifier }
 {
-    // SEQUENCE and SET, which most constructed values are
-    if matches!(identifier, 0x30 | 0x31) {
-        return false;
-    }
-    let number = identifier % 32;
-    if number == 31 {
-        return true;
-    }
-    if identifier >= 64 {
-        return false;
-    }
-    if is_constructed_form(identifier) {
-        matches!(number, 0..=6 | 10 | 12 | 19 | 20 | 22..=24 | 28 | 30)
-    } else {
-        matches!(number, 0 | 16 | 17)
-    }
+    SERVED[identifier as usize] == b'.'
 }

@@ -8,7 +8,7 @@ mod grammar;
 mod header;
 mod identifier;
 mod length;
-mod quick;
+mod values;
 
 pub use contents::is_contents;
 pub use encoding::encoding_laws;

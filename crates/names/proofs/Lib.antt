@@ -1,3 +1,4 @@
+mod LabelWalk
 mod DnsNames
 mod Labels
 mod DomainLaws

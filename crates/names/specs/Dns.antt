@@ -60,6 +60,9 @@ IsInDomain name (D.Below base) = EndsInMore (labels name) (labels base.now)
 abbrev pub is_label_octet : ℕ → Bool
 is_label_octet octet = nat_le 33 octet && (nat_le octet 126 && not (octet == 46))
 
+abbrev pub is_label_length : ℕ → Bool
+is_label_length count = nat_lt 0 count && nat_le count 63
+
 abbrev pub is_label : List ℕ → Bool
 is_label label = nat_lt 0 (length label) && (nat_le (length label) 63 && list_all is_label_octet label)
 

@@ -2,7 +2,7 @@
 
 ghost use Rattle.std.specs.Prelude.{◌≡◌, ◌↔◌, IsTrue, IsSome, IfSome};
 ghost use Rattle.std.specs.List.{list_all, slice_split};
-ghost use Rattle.names.specs.Dns.{IsDnsName, IsBaseOf, IsInDomain, is_dot, is_label, is_label_octet, ends_in_labels, ends_in_more_labels, is_in_domain, is_domain_inside};
+ghost use Rattle.names.specs.Dns.{IsDnsName, IsBaseOf, IsInDomain, is_dot, is_label, is_label_length, is_label_octet, ends_in_labels, ends_in_more_labels, is_in_domain, is_domain_inside};
 ghost use Rattle.asn.specs.Reading.{seen};
 ghost use Rattle.names.specs.Bases.{is_dns_name, domain_names, names_of_base};
 ghost use Rattle.names.specs.Laws.{DomainTestIsExact, DomainInsideIsSound, SharedDomainsAreNested};
@@ -27,23 +27,32 @@ fn is_label_octet(octet: u8) -> bool
     b'!' <= octet && octet <= b'~' && octet != b'.'
 }
 
-fn has_label_octets(label: &[u8]) -> bool
-    ensures { result ≡ list_all is_label_octet label.now }
+/// Whether a label may have so many octets.
+fn is_label_length(count: usize) -> bool
+    ensures { result ≡ is_label_length count }
 {
-    label.iter().all(|octet| is_label_octet(*octet))
+    0 < count && count <= 63
 }
 
-fn is_label(label: &[u8]) -> bool
-    ensures { result ≡ is_label label.now }
-{
-    !label.is_empty() && label.len() <= 63 && has_label_octets(label)
-}
-
+/// Whether the octets are labels, joined by dots.
 fn has_labels(name: &[u8]) -> bool
     ensures { result ≡ list_all is_label (slice_split is_dot name.now) }
 {
-    name.split(|octet| *octet == b'.')
-        .all(|label| is_label(label))
+    // how many octets of its label stand before an octet
+    let mut count = 0;
+    for octet in name {
+        if *octet == b'.' {
+            if !is_label_length(count) {
+                return false;
+            }
+            count = 0;
+        } else if is_label_octet(*octet) {
+            count += 1;
+        } else {
+            return false;
+        }
+    }
+    is_label_length(count)
 }
 
 /// Whether the octets are a DNS name: labels of 1 to 63 octets, joined by dots, 253 octets at most. Time is linear.

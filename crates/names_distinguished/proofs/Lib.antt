@@ -18,6 +18,7 @@ mod Counting
 mod RunParts
 mod Agreement
 mod NewKinds
+mod OnlyAttribute
 mod Pointers
 pub mod Laws
 mod Sorting

@@ -64,6 +64,12 @@ attribute all before place = do
   string ← check_that (is_string (tag parts.value) (body parts.value)) Text parts.value.at
   Ok place.octets
 
+-- the only attribute of an RDN: none is there that it could repeat or come before
+unfoldable pub only_attribute : Place → Result (Unit {0}) (NameRule × ℕ)
+only_attribute place = do
+  parts ← attribute_members place
+  check_that (is_string (tag parts.value) (body parts.value)) Text parts.value.at
+
 -- the attributes of an RDN, in order
 unfoldable pub attributes : List Place → Result (Unit {0}) (NameRule × ℕ)
 attributes all = each (attribute all) [] all >>= λ last. Ok tt

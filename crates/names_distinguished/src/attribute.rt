@@ -6,7 +6,7 @@ ghost use Rattle.std.specs.Str.{is_utf8};
 ghost use Rattle.std.specs.Char.{is_ascii};
 ghost use Rattle.asn.specs.Reading.{seen_tlv, left, Gives};
 ghost use Rattle.names_distinguished.specs.AttributeValue.{compared_value, is_text};
-ghost use Rattle.names_distinguished.specs.NameLayout.{attribute_members, has_kind, has_kind_before, is_less, is_string};
+ghost use Rattle.names_distinguished.specs.NameLayout.{attribute_members, has_kind, has_kind_before, is_less, is_string, only_attribute};
 ghost use Rattle.names_distinguished.specs.AttributeView.{seen_members, order_among, attribute_among};
 ghost use Rattle.names_distinguished.specs.NameParts.{entry_of_parts};
 ghost use Rattle.names_distinguished.specs.NameView.{entry_of};
@@ -175,6 +175,19 @@ pub(crate) fn read_attribute<'a>(
     check_order(all, clear, before, members.kind.body, tlv)?;
     if is_well_formed_text(members.value.tag, members.value.body) {
         Ok(tlv.whole)
+    } else {
+        Err((NameRule::Text, members.value.at))
+    }
+}
+
+/// Reads the only attribute of an RDN.
+#[tactic(auto, unfolding(crate::specs::NameLayout::only_attribute, asn::specs::Walk::check_that))]
+pub(crate) fn read_only_attribute(tlv: Tlv<'_>) -> Result<(), Refusal>
+    ensures { Gives (λ _. tt) result (only_attribute (seen_tlv tlv.entry)) }
+{
+    let members = AttributeMembers::read(tlv)?;
+    if is_well_formed_text(members.value.tag, members.value.body) {
+        Ok(())
     } else {
         Err((NameRule::Text, members.value.at))
     }

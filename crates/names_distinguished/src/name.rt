@@ -14,7 +14,7 @@ ghost use Rattle.names_distinguished.specs.NameForms.{NameIsExact, NameHasLayout
 ghost use Rattle.names_distinguished.specs.NameComparison.{NameIsComparedByLayout};
 ghost use Rattle.names_distinguished.specs.Repetition.{kinds_left, AreNew, IsRest};
 
-use crate::attribute::read_attribute;
+use crate::attribute::{read_attribute, read_only_attribute};
 use crate::fault::{NameRule, Refusal};
 use crate::kinds::Kinds;
 use crate::rdn_sequence::RdnSequence;
@@ -48,8 +48,9 @@ fn clear_after(all: Cursor<'_>, clear: usize, at: usize, rest: Cursor<'_>) -> us
     new_until(Kinds { attributes: all }, Kinds { attributes: rest }, next)
 }
 
-/// Reads the attributes of an RDN.
-fn read_attributes(all: Cursor<'_>) -> Result<(), Refusal>
+/// Reads the attributes of an RDN, however many it has.
+#[inline(never)]
+fn read_several_attributes(all: Cursor<'_>) -> Result<(), Refusal>
     ensures { Gives (λ _. tt) result (attributes (left all.entry).values) }
 {
     let mut rest = all;
@@ -60,6 +61,17 @@ fn read_attributes(all: Cursor<'_>) -> Result<(), Refusal>
         clear = clear_after(all, clear, tlv.at, rest);
     }
     Ok(())
+}
+
+/// Reads the attributes of an RDN; most have one.
+fn read_attributes(all: Cursor<'_>) -> Result<(), Refusal>
+    ensures { Gives (λ _. tt) result (attributes (left all.entry).values) }
+{
+    let mut rest = all;
+    match rest.next() {
+        Some(tlv) if rest.end() => read_only_attribute(tlv),
+        _ => read_several_attributes(all),
+    }
 }
 
 /// RelativeDistinguishedName ::= SET SIZE (1..MAX) OF AttributeTypeAndValue

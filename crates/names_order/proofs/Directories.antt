@@ -1,9 +1,10 @@
 -- Directory names by their keys.
-use Rattle.std.proofs.Common.{◌≡◌, ℕ, List, [], ◌∷◌, Bool, false, ◌||◌, ◌&&◌, Option, Some, None, nat_eq, map, refl, ap, sym, ◌∙◌}
+use Rattle.std.proofs.Common.{◌≡◌, ℕ, List, [], ◌∷◌, Bool, false, ◌++◌, ◌||◌, ◌&&◌, Option, Some, None, nat_eq, map, refl, ap, ap₂, subst, sym, ◌∙◌}
 use Rattle.std.specs.Global.{Vec}
 use Rattle.std.specs.List.{list_any, cons_option, dedup, starts_with}
 use Rattle.std.specs.List.Sorted.{IsSortedBy, IsPermutation}
 use Rattle.std.proofs.lemmas.Cmp.{nat_list_cmp_total}
+use Rattle.std.proofs.lemmas.List.Folds.{list_any-append}
 use Rattle.std.proofs.lemmas.List.Sorted.{ranks_by, list_any-IsPermutation}
 use Rattle.names_distinguished.specs.NameKey.{rdns_key}
 use Rattle.names_distinguished.specs.NameOctets.{rdns_of}
@@ -11,11 +12,12 @@ use Rattle.names_distinguished.proofs.Laws.{keys_decide_within}
 use Rattle.names.specs.declared.subtree.Subtree.{Subtree}
 use Rattle.names.specs.declared.subtree.Subtree.TheVariants as S
 use Rattle.names.specs.GeneralView.{subtree_base}
+use Rattle.names.specs.GeneralLayout.{SubtreeBase}
 use Rattle.names.specs.GeneralCoverage.{is_base_inside}
-use Rattle.names_order.specs.Order.{begins_with}
-use Rattle.names_order.specs.Index.{is_in_one, directory_key, directory_keys, octets_in, is_key_before, AreOutermost, AreKeysOf}
+use Rattle.names_order.specs.Order.{begins_with, is_ordered}
+use Rattle.names_order.specs.Index.{is_in_one, lies_in_one, directory_key, directory_keys, octets_in, is_key_before, AreOutermost, AreKeysOf, Decide, AreUnorderedOf}
 use Rattle.names_order.proofs.KeyLists.{begins_with_each}
-use Rattle.names_order.proofs.Members.{any_mapped}
+use Rattle.names_order.proofs.Members.{any_mapped, any_map}
 use Rattle.names_order.proofs.Outermost.{outermost_pass, outermost_sorted, outermost_apart}
 
 pub begins_is : (xs ys : List ℕ) → starts_with nat_eq xs ys ≡ begins_with xs ys
@@ -70,4 +72,49 @@ keys_of_list list all keys are kept = record {
       kept.same octets
       ∙ (sym (any_mapped octets_in (begins_with octets) all)
       ∙ (ap (list_any (begins_with octets)) are ∙ sym (in_one_by_keys s octets e list)));
+}
+
+-- keys that decide
+
+unlike : (s : Subtree) (octets : List ℕ) → directory_key (subtree_base s) ≡ Some octets → is_ordered (subtree_base s) ≡ false
+unlike (S.Directory n) octets e = refl
+unlike (S.Dns t) octets e = cc
+unlike (S.Ip t) octets e = cc
+unlike (S.Other k t) octets e = refl
+
+by_bases : (base : SubtreeBase) (list : List Subtree) → is_in_one list base ≡ lies_in_one (map subtree_base list) base
+by_bases base list = sym (any_map (λ other. is_base_inside base other) list)
+
+pub keys_decide : (list : List Subtree) (keys : List (Vec ℕ)) → map octets_in keys ≡ directory_keys list → Decide keys (map subtree_base list)
+keys_decide list keys are s octets e =
+    sym (any_mapped octets_in (begins_with octets) keys)
+    ∙ (ap (list_any (begins_with octets)) are ∙ (sym (in_one_by_keys s octets e list) ∙ by_bases (subtree_base s) list))
+
+pub copies_decide : (rest : List Subtree) (keys copies : List (Vec ℕ)) → AreKeysOf rest keys → map octets_in copies ≡ map octets_in keys → Decide copies (map subtree_base rest)
+copies_decide rest keys copies of same s octets e =
+    sym (any_mapped octets_in (begins_with octets) copies)
+    ∙ (ap (list_any (begins_with octets)) same
+    ∙ (any_mapped octets_in (begins_with octets) keys ∙ (of.decide s octets e ∙ by_bases (subtree_base s) rest)))
+
+pub decide_same : (keys : List (Vec ℕ)) (one other : List SubtreeBase) → one ≡ other → Decide keys one → Decide keys other
+decide_same keys one other are decide = subst (Decide keys) are decide
+
+-- what has no order lies in one of all just if it lies in one of the rest
+pub rest_decides : (all rest : List Subtree) (keys : List (Vec ℕ)) → ((base : SubtreeBase) → is_ordered base ≡ false → is_in_one rest base ≡ is_in_one all base) → Decide keys (map subtree_base rest) → Decide keys (map subtree_base all)
+rest_decides all rest keys alike decide s octets e =
+    decide s octets e
+    ∙ (sym (by_bases (subtree_base s) rest) ∙ (alike (subtree_base s) (unlike s octets e) ∙ by_bases (subtree_base s) all))
+
+-- the keys of two lists
+pub two_decide : (front back all : List (Vec ℕ)) (one other bases : List SubtreeBase) → all ≡ front ++ back → one ++ other ≡ bases → Decide front one → Decide back other → Decide all bases
+two_decide front back all one other bases both are front_decide back_decide s octets e =
+    ap (list_any (λ key. begins_with octets (octets_in key))) both
+    ∙ (list_any-append (λ key. begins_with octets (octets_in key)) front back
+    ∙ (ap₂ ◌||◌ (front_decide s octets e) (back_decide s octets e)
+    ∙ (sym (list_any-append (λ base. is_base_inside (subtree_base s) base) one other) ∙ ap (λ (l : List SubtreeBase). lies_in_one l (subtree_base s)) are)))
+
+pub keys_kept : (rest : List Subtree) (all keys : List (Vec ℕ)) (bases : List SubtreeBase) → Decide all bases → AreUnorderedOf rest bases → AreOutermost all keys → AreKeysOf rest keys
+keys_kept rest all keys bases decide are kept = record {
+  searchable = kept.searchable;
+  decide = λ s octets e. kept.same octets ∙ (decide s octets e ∙ sym (are (subtree_base s) (unlike s octets e)));
 }

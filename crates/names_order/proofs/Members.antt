@@ -1,8 +1,9 @@
 -- Members of lists, sorted or selected, and tests that they pass.
-use Rattle.std.proofs.Common.{◌≡◌, ◌≤◌, ℕ, List, [], ◌∷◌, length, Bool, true, false, not, ◌&&◌, ◌||◌, ◌==◌, cond, map, refl, ap, sym, ◌∙◌, arith}
+use Rattle.std.proofs.Common.{◌≡◌, ◌<◌, ◌≤◌, ◌+◌, ℕ, zero, suc, get_or, take, append-nil, List, [], ◌∷◌, ◌++◌, length, Bool, true, false, not, ◌&&◌, ◌||◌, ◌==◌, cond, map, refl, ap, ap₂, sym, ◌∙◌, arith}
 use Rattle.std.specs.List.{list_any}
 use Rattle.std.specs.List.Sorted.{IsPermutation}
 use Rattle.std.proofs.lemmas.Bool.{false≢true, le-leb}
+use Rattle.std.proofs.lemmas.List.{map-append, append_assoc}
 use Rattle.std.proofs.lemmas.List.Sorted.{list_any-IsPermutation, IsPermutation-map}
 use Rattle.names.specs.declared.subtree.Subtree.{Subtree}
 use Rattle.names.specs.GeneralView.{subtree_base}
@@ -11,7 +12,7 @@ use Rattle.names.specs.Bases.{DomainNames, every_name, names_within, names_below
 use Rattle.names.specs.GeneralLayout.{SubtreeBase, NameContents, directory_name, dns_name, ip_address, other_name, directory_base, dns_base, ip_base, other_base}
 use Rattle.names.specs.GeneralCoverage.{is_covered, is_base_inside, is_among, are_among, is_address_of, is_range_of}
 use Rattle.names_order.specs.Order.{is_ordered}
-use Rattle.names_order.specs.Index.{HasSameMembers, lies_in_one, holds_name, is_in_one, unordered, prefix_in, HasNoLonger}
+use Rattle.names_order.specs.Index.{HasSameMembers, all_of, lies_in_one, holds_name, is_in_one, unordered, prefix_in, HasNoLonger}
 
 pub any_mapped : {X Y : Type 0} (f : X → Y) (test : Y → Bool) (list : List X) → list_any test (map f list) ≡ list_any (λ x. test (f x)) list
 any_mapped f test [] = refl
@@ -28,6 +29,26 @@ any_alike p q h (x ∷ list) = ap (λ a. a || list_any p list) (h x) ∙ ap (λ 
 
 pub permuted : (list all : List Subtree) → IsPermutation list all → HasSameMembers (map subtree_base all) (map subtree_base list)
 permuted list all same test = sym (list_any-IsPermutation test (map subtree_base list) (map subtree_base all) (IsPermutation-map subtree_base list all same))
+
+-- several lists
+
+all_next : (lists : List (List SubtreeBase)) (i : ℕ) (list : List SubtreeBase) → i < length lists → list ≡ get_or lists i list → all_of (take (suc i) lists) ≡ all_of (take i lists) ++ list
+all_next [] i list lt is = absurd (omega arith)
+all_next (first ∷ lists) zero list lt is = append-nil first ∙ sym is
+all_next (first ∷ lists) (suc i) list lt is =
+    ap (λ (l : List SubtreeBase). first ++ l) (all_next lists i list (omega arith) is) ∙ sym (append_assoc first (all_of (take i lists)) list)
+
+-- the first lists, and one more
+pub all_upto : (lists : List (List SubtreeBase)) (i : ℕ) (list : List SubtreeBase) → i < length lists → list ≡ get_or lists i list → all_of (take i lists) ++ list ≡ all_of (take (i + 1) lists)
+all_upto lists i list lt is =
+    let next : suc i ≡ i + 1 = omega arith in
+    sym (all_next lists i list lt is) ∙ ap (λ (n : ℕ). all_of (take n lists)) next
+
+-- the subtrees of the first lists, and of one more
+pub gathered : (lists : List (List SubtreeBase)) (i : ℕ) (list : List SubtreeBase) → i < length lists → list ≡ get_or lists i list
+    → (all more new : List Subtree) → map subtree_base all ≡ all_of (take i lists) → map subtree_base more ≡ list → new ≡ all ++ more → map subtree_base new ≡ all_of (take (i + 1) lists)
+gathered lists i list lt is all more new all_are more_are made =
+    ap (map subtree_base) made ∙ (map-append subtree_base all more ∙ (ap₂ ◌++◌ all_are more_are ∙ all_upto lists i list lt is))
 
 -- those that have no order
 

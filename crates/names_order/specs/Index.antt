@@ -1,5 +1,5 @@
 -- Lists of subtrees in which names are found by halving.
-use Rattle.std.specs.Prelude.{◌≡◌, ◌<◌, ◌≤◌, ◌+◌, ℕ, List, [], ◌∷◌, Bool, true, false, not, filter, length, Option, None, Some}
+use Rattle.std.specs.Prelude.{◌≡◌, ◌<◌, ◌≤◌, ◌+◌, ℕ, List, [], ◌∷◌, ◌++◌, Bool, true, false, not, filter, length, Option, None, Some}
 use Rattle.std.specs.Global.{Vec}
 use Rattle.std.specs.List.{list_any, dedup, cons_option, AllByRecursion, slice_index_or}
 use Rattle.std.specs.List.Sorted.{IsSortedBy}
@@ -15,6 +15,11 @@ use Rattle.names_order.specs.Order.{base_order, begins_with, is_ordered}
 -- each test that a member of the one passes, a member of the other passes
 abbrev pub HasSameMembers : List SubtreeBase → List SubtreeBase → Type 0
 HasSameMembers one other = (test : SubtreeBase → Bool) → list_any test one ≡ list_any test other
+
+-- the members of several lists
+abbrev pub all_of : List (List SubtreeBase) → List SubtreeBase
+all_of [] = []
+all_of (list ∷ lists) = list ++ all_of lists
 
 abbrev pub lies_in_one : List SubtreeBase → SubtreeBase → Bool
 lies_in_one bases base = list_any (λ other. is_base_inside base other) bases
@@ -44,6 +49,10 @@ lies_in_other s t = is_base_inside (subtree_base s) (subtree_base t)
 -- of subtrees in order, those that do not lie in the last one that is kept
 abbrev pub outermost : List Subtree → List Subtree
 outermost list = dedup lies_in_other list
+
+-- those that have an order
+abbrev pub ordered : List Subtree → List Subtree
+ordered list = filter (λ s. is_ordered (subtree_base s)) list
 
 -- those that have no order
 abbrev pub unordered : List Subtree → List Subtree
@@ -100,6 +109,15 @@ pub record AreKeysOf (list : List Subtree) (keys : List (Vec ℕ)) : Type 0 wher
   pub searchable : AreSearchable keys
   pub decide : (s : Subtree) (octets : List ℕ) → directory_key (subtree_base s) ≡ Some octets
       → begins_with_one keys octets ≡ is_in_one list (subtree_base s)
+
+-- the octets of a directory name's key begin with one of the keys just if the name lies in one of the subtrees
+abbrev pub Decide : List (Vec ℕ) → List SubtreeBase → Type 0
+Decide keys bases = (s : Subtree) (octets : List ℕ) → directory_key (subtree_base s) ≡ Some octets
+    → begins_with_one keys octets ≡ lies_in_one bases (subtree_base s)
+
+-- what has no order lies in one of the list just if it lies in one of the subtrees
+abbrev pub AreUnorderedOf : List Subtree → List SubtreeBase → Type 0
+AreUnorderedOf list bases = (base : SubtreeBase) → is_ordered base ≡ false → is_in_one list base ≡ lies_in_one bases base
 
 -- a few are gone over
 abbrev pub AreKeysIfMany : List Subtree → List (Vec ℕ) → Type 0

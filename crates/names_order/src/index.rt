@@ -1,15 +1,16 @@
 //! Lists of subtrees in which names are found by halving.
 
-ghost use Rattle.std.specs.Prelude.{◌≡◌, ◌++◌, ◌<◌, length, map, true, option_map, OnOk, IfOk};
+ghost use Rattle.std.specs.Prelude.{◌≡◌, ◌++◌, ◌<◌, ◌≤◌, length, map, true, option_map, OnOk, IfOk};
 ghost use Rattle.std.specs.List.Sorted.{IsPermutation, IsSortedBy};
 ghost use Rattle.names.specs.GeneralView.{general_name, subtree_base};
 ghost use Rattle.names_order.specs.Order.{begins_with, is_ordered};
-ghost use Rattle.names_order.specs.Index.{HasSameMembers, lies_in_one, holds_name, is_in_one, one_covers, lies_within, stands_before, lies_in, outermost, unordered, IsApart, HasNoLonger, prefix_in, directory_key, directory_keys, octets_in, begins_with_one, AreSearchable, AreOutermost, AreKeysIfMany};
+ghost use Rattle.names_order.specs.Index.{HasSameMembers, lies_in_one, holds_name, is_in_one, one_covers, lies_within, stands_before, lies_in, outermost, ordered, unordered, IsApart, HasNoLonger, prefix_in, directory_key, directory_keys, octets_in, begins_with_one, AreSearchable, AreOutermost, AreKeysIfMany, Decide, AreUnorderedOf, all_of};
 
 use crate::comparison::order;
 use names::{Domain, General, IpRange, Subtree, coverage_laws};
 use std::alloc::{AllocError, Global};
 use std::marker::Model;
+use std::slice::from_ref;
 
 /// The most subtrees that are gone over one by one.
 const SHORT: usize = 12;
@@ -84,15 +85,24 @@ fn sort(list: &mut Vec<Subtree<'_>>) -> Result<(), AllocError>
     list.sort_by(|one, other| order(one, other))
 }
 
-/// Of subtrees in order, those that do not lie in the last one that is kept.
+/// The subtrees that have an order.
+fn select_ordered<'a>(alloc: Global, list: &[Subtree<'a>]) -> Result<Vec<Subtree<'a>>, AllocError>
+    ensures { IfOk result (λ found. found.items ≡ ordered list.now) }
+{
+    list.iter()
+        .copied()
+        .filter(|base| has_order(base))
+        .collect(alloc)
+}
+
+/// Of subtrees in order, those that have an order and do not lie in the last one that is kept.
 fn select_outermost<'a>(
     alloc: Global,
     sorted: &[Subtree<'a>],
 ) -> Result<Vec<Subtree<'a>>, AllocError>
-    ensures { IfOk result (λ tops. tops.items ≡ outermost sorted.now) }
+    ensures { IfOk result (λ tops. tops.items ≡ outermost (ordered sorted.now)) }
 {
-    let mut tops = Vec::new(alloc);
-    tops.extend_from_slice(sorted)?;
+    let mut tops = select_ordered(alloc, sorted)?;
     tops.dedup_by(|base, last| is_inside(base, last));
     Ok(tops)
 }
@@ -138,24 +148,36 @@ fn goes_on(octets: &[u8], front: &[u8]) -> bool
     octets.starts_with(front)
 }
 
-/// Sorts the keys, and leaves out those that begin with another.
-fn keep_outermost(keys: &mut Vec<Vec<u8>>)
-    ensures { AreOutermost keys.old.items keys.new.items }
+/// Sorts the keys, and leaves out those that begin with another. Runs of many that are in order are merged.
+fn keep_outermost(keys: &mut Vec<Vec<u8>>) -> Result<(), AllocError>
+    ensures { OnOk result (AreOutermost keys.old.items keys.new.items) }
 {
-    keys.sort_unstable();
+    keys.sort()?;
     keys.dedup_by(|key, front| goes_on(key, front));
+    Ok(())
 }
 
 /// The keys by which directory names are looked for, if the subtrees are many.
-fn select_keys(alloc: Global, list: &[Subtree<'_>]) -> Result<Vec<Vec<u8>>, AllocError>
-    ensures { IfOk result (λ keys. AreKeysIfMany list.now keys.items) }
+fn select_keys(alloc: Global, bases: &[Subtree<'_>]) -> Result<Vec<Vec<u8>>, AllocError>
+    ensures { IfOk result (λ keys. AreKeysIfMany bases.now keys.items) }
 {
-    if list.len() <= SHORT {
+    if bases.len() <= SHORT {
         return Ok(Vec::new(alloc));
     }
-    let mut keys = keys_of(alloc, list)?;
-    keep_outermost(&mut keys);
+    let mut keys = keys_of(alloc, bases)?;
+    keep_outermost(&mut keys)?;
     Ok(keys)
+}
+
+/// The keys once more.
+fn copies_of(alloc: Global, keys: &[Vec<u8>]) -> Result<Vec<Vec<u8>>, AllocError>
+    ensures { IfOk result (λ copies. map octets_in copies.items ≡ map octets_in keys.now) }
+{
+    let mut copies = Vec::new(alloc);
+    for key in keys {
+        copies.push(Vec::from_slice(alloc, key)?)?;
+    }
+    Ok(copies)
 }
 
 /// The most bits of a range.
@@ -233,25 +255,35 @@ fn is_in_rest(alloc: Global, rest: &[Subtree<'_>], keys: &[Vec<u8>], base: &Subt
 }
 
 impl<'a> Index<'a> {
-    /// An index of the subtrees. Runs of many that are in order are not sorted again.
-    pub fn of(alloc: Global, list: Vec<Subtree<'a>>) -> Result<Index<'a>, AllocError>
+    /// An index of a few subtrees.
+    fn short(alloc: Global, all: Vec<Subtree<'a>>) -> Index<'a>
+        requires { length all.items ≤ 12 }
+        ensures { result ≡ map subtree_base all.entry.items }
+    {
+        Index {
+            all,
+            tops: Vec::new(alloc),
+            rest: Vec::new(alloc),
+            keys: Vec::new(alloc),
+            longest: 0,
+            alloc,
+        }
+    }
+
+    /// An index of many subtrees, from those that have no order and their keys.
+    fn long(
+        alloc: Global,
+        list: Vec<Subtree<'a>>,
+        rest: Vec<Subtree<'a>>,
+        keys: Vec<Vec<u8>>,
+    ) -> Result<Index<'a>, AllocError>
+        requires rest { rest.items ≡ unordered list.items }
+        requires keys { AreKeysIfMany rest.items keys.items }
         ensures { IfOk result (λ index. HasSameMembers index (map subtree_base list.entry.items)) }
     {
         let mut all = list;
-        if all.len() <= SHORT {
-            return Ok(Index {
-                all,
-                tops: Vec::new(alloc),
-                rest: Vec::new(alloc),
-                keys: Vec::new(alloc),
-                longest: 0,
-                alloc,
-            });
-        }
         sort(&mut all)?;
         let tops = select_outermost(alloc, &all)?;
-        let rest = select_unordered(alloc, &all)?;
-        let keys = select_keys(alloc, &rest)?;
         let longest = longest_prefix(&all);
         Ok(Index {
             all,
@@ -262,18 +294,64 @@ impl<'a> Index<'a> {
             alloc,
         })
     }
+
+    /// An index of the subtrees. Runs of many that are in order are not sorted again.
+    pub fn of(alloc: Global, list: Vec<Subtree<'a>>) -> Result<Index<'a>, AllocError>
+        ensures { IfOk result (λ index. HasSameMembers index (map subtree_base list.entry.items)) }
+    {
+        if list.len() <= SHORT {
+            return Ok(Index::short(alloc, list));
+        }
+        let rest = select_unordered(alloc, &list)?;
+        let keys = select_keys(alloc, &rest)?;
+        Index::long(alloc, list, rest, keys)
+    }
 }
 
 impl<'a> Index<'a> {
+    /// Keys with which the keys of names begin just if the names lie in one of the subtrees of directory names.
+    fn keys(&self, alloc: Global) -> Result<Vec<Vec<u8>>, AllocError>
+        ensures { IfOk result (λ keys. Decide keys.items self.now) }
+    {
+        if self.all.len() <= SHORT {
+            keys_of(alloc, &self.all)
+        } else if self.rest.len() <= SHORT {
+            keys_of(alloc, &self.rest)
+        } else {
+            copies_of(alloc, &self.keys)
+        }
+    }
+
+    /// An index of the subtrees of all of these, and of those of one more. What is in order is merged, and no key is made again.
+    pub fn joined(
+        alloc: Global,
+        indexes: &[Index<'a>],
+        more: Index<'a>,
+    ) -> Result<Index<'a>, AllocError>
+        ensures { IfOk result (λ index. HasSameMembers index (all_of indexes.now ++ more.entry)) }
+    {
+        if indexes.is_empty() {
+            return Ok(more);
+        }
+        let mut list = subtrees_of(alloc, indexes)?;
+        list.extend_from_slice(more.subtrees())?;
+        if list.len() <= SHORT {
+            return Ok(Index::short(alloc, list));
+        }
+        let rest = select_unordered(alloc, &list)?;
+        let keys = joined_keys(alloc, indexes, &more, &rest)?;
+        Index::long(alloc, list, rest, keys)
+    }
+
     /// An index of these and of more.
     pub fn with(&self, alloc: Global, more: &[Subtree<'a>]) -> Result<Index<'a>, AllocError>
         ensures { IfOk result (λ index.
             HasSameMembers index (self.now ++ map subtree_base more.now)) }
     {
         let mut list = Vec::new(alloc);
-        list.extend_from_slice(&self.all)?;
         list.extend_from_slice(more)?;
-        Index::of(alloc, list)
+        let other = Index::of(alloc, list)?;
+        Index::joined(alloc, from_ref(self), other)
     }
 
     /// The subtrees, in order if they are many.
@@ -322,4 +400,47 @@ impl<'a> Index<'a> {
             self.finds(name)
         }
     }
+}
+
+/// The subtrees of all.
+fn subtrees_of<'a>(alloc: Global, indexes: &[Index<'a>]) -> Result<Vec<Subtree<'a>>, AllocError>
+    ensures { IfOk result (λ list. map subtree_base list.items ≡ all_of indexes.now) }
+{
+    let mut list = Vec::new(alloc);
+    for index in indexes {
+        list.extend_from_slice(index.subtrees())?;
+    }
+    Ok(list)
+}
+
+/// Keys with which the keys of names begin just if the names lie in one of the subtrees of directory names of all.
+fn keys_of_all(alloc: Global, indexes: &[Index<'_>]) -> Result<Vec<Vec<u8>>, AllocError>
+    ensures { IfOk result (λ keys. Decide keys.items (all_of indexes.now)) }
+{
+    let mut keys = Vec::new(alloc);
+    for index in indexes {
+        let mut more = index.keys(alloc)?;
+        keys.append(&mut more)?;
+    }
+    Ok(keys)
+}
+
+/// The keys by which directory names are looked for in the subtrees of all of these and one more, if those that have no order are many.
+fn joined_keys(
+    alloc: Global,
+    indexes: &[Index<'_>],
+    more: &Index<'_>,
+    rest: &[Subtree<'_>],
+) -> Result<Vec<Vec<u8>>, AllocError>
+    requires { AreUnorderedOf rest.now (all_of indexes.now ++ more.now) }
+    ensures { IfOk result (λ keys. AreKeysIfMany rest.now keys.items) }
+{
+    if rest.len() <= SHORT {
+        return Ok(Vec::new(alloc));
+    }
+    let mut keys = keys_of_all(alloc, indexes)?;
+    let mut others = more.keys(alloc)?;
+    keys.append(&mut others)?;
+    keep_outermost(&mut keys)?;
+    Ok(keys)
 }

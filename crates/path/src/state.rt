@@ -115,7 +115,8 @@ fn lesser_of(room: Option<u32>, path_length: Option<u32>) -> Option<u32>
 
 /// Whether this certificate may follow. Subject and issuer are compared only if no more may that are not self-issued.
 fn has_room(room: Option<u32>, certificate: &Certificate<'_>) -> bool
-    ensures { IsTrue result ↔ (is_self_issued (seen_certificate certificate.now) ≡ false → ¬ (room ≡ Some 0)) }
+    ensures { IsTrue result
+        ↔ (is_self_issued (seen_certificate certificate.now) ≡ false → ¬ (room ≡ Some 0)) }
 {
     room != Some(0) || certificate.self_issued()
 }

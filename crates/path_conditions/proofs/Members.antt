@@ -1,17 +1,18 @@
 -- Lists with the same members pass the same tests.
-use Rattle.std.proofs.Common.{◌≡◌, ◌<◌, ◌+◌, ◌-◌, ℕ, zero, suc, arith, get_or, length, take, drop, ap₂, List, [], ◌∷◌, true, false, refl, append-nil, ◌++◌, Bool, ◌&&◌, ◌||◌, not, filter, ap, ◌∙◌, sym}
+use Rattle.std.proofs.Common.{◌≡◌, ◌-◌, ℕ, zero, suc, arith, length, take, drop, List, [], ◌∷◌, true, false, refl, append-nil, ◌++◌, Bool, ◌&&◌, ◌||◌, not, filter, ap, ◌∙◌, sym}
 use Rattle.std.specs.List.{list_any}
-use Rattle.std.proofs.lemmas.List.{map-append, append_assoc, take_all, length-drop}
+use Rattle.std.proofs.lemmas.List.{map-append, take_all, length-drop}
 use Rattle.names.specs.GeneralView.{subtree_base}
 use Rattle.std.proofs.lemmas.List.Folds.{list_any-append}
 use Rattle.names.specs.declared.subtree.Subtree.{Subtree}
 use Rattle.names.specs.declared.general.Form.{Form}
 use Rattle.names.specs.GeneralLayout.{SubtreeBase}
 use Rattle.names.specs.GeneralCoverage.{is_base_inside, is_of_form}
-use Rattle.names_order.specs.Index.{HasSameMembers}
+use Rattle.names_order.specs.Index.{HasSameMembers, all_of}
 use Rattle.path_conditions.specs.Narrowing.{bases_of, members_of, selected, is_inside_one_of, kept, enters, narrowed}
-use Rattle.path_conditions.proofs.Selecting.{list_any-filter}
+use Rattle.path_conditions.proofs.Selecting.{list_any-filter, list_any-map, none_fails, filter_all}
 use Rattle.path_conditions.proofs.NarrowedLists.{bases_of-selected}
+use Rattle.path_conditions.proofs.Repeated.{narrowed_kept}
 
 pub same_append : (index front back : List SubtreeBase) → HasSameMembers index front → HasSameMembers (index ++ back) (front ++ back)
 same_append index front back same test =
@@ -70,27 +71,24 @@ order_made kept_index held_index index subtrees in_order subtrees_are made same 
 pub of_items : (index list : List SubtreeBase) (items : List Subtree) → bases_of items ≡ list → HasSameMembers index list → HasSameMembers index (bases_of items)
 of_items index list items are same test = same test ∙ ap (λ (l : List SubtreeBase). list_any test l) (sym are)
 
+-- where as many are kept as are held, the list stays
+pub all_stay : (form : Form) (held_index index held carried : List SubtreeBase) (subtrees in_order : List Subtree) → bases_of subtrees ≡ held_index → in_order ≡ selected (λ base. is_inside_one_of index base) subtrees
+    → length in_order ≡ length subtrees → HasSameMembers held_index held → HasSameMembers index carried → narrowed form held carried ≡ held
+all_stay form held_index index held carried subtrees in_order subtrees_are made as_many same_held same_carried =
+    let fails = λ (base : SubtreeBase). not (is_inside_one_of index base) in
+    let none = none_fails (λ s. is_inside_one_of index (subtree_base s)) subtrees (sym (ap length made) ∙ as_many) in
+    let none_held = sym (same_held fails) ∙ (ap (list_any fails) (sym subtrees_are) ∙ (list_any-map fails subtree_base subtrees ∙ none)) in
+    narrowed_kept form held carried (sym (kept_same held index carried same_carried) ∙ filter_all (λ base. is_inside_one_of index base) held none_held)
+
 -- a list, of whose parts there are indexes
 
 pub any_members : (test : SubtreeBase → Bool) (lists : List (List SubtreeBase)) → list_any test (members_of lists) ≡ list_any (λ list. list_any test list) lists
 any_members test [] = refl
 any_members test (list ∷ lists) = list_any-append test list (members_of lists) ∙ ap (λ b. list_any test list || b) (any_members test lists)
 
-members_next : (lists : List (List SubtreeBase)) (i : ℕ) (list : List SubtreeBase) → i < length lists → list ≡ get_or lists i list → members_of (take (suc i) lists) ≡ members_of (take i lists) ++ list
-members_next [] i list lt is = absurd (omega arith)
-members_next (first ∷ lists) zero list lt is = append-nil first ∙ sym is
-members_next (first ∷ lists) (suc i) list lt is =
-    ap (λ (l : List SubtreeBase). first ++ l) (members_next lists i list (omega arith) is) ∙ sym (append_assoc first (members_of (take i lists)) list)
-
--- the subtrees of the first lists, and of one more
-pub members_upto : (lists : List (List SubtreeBase)) (i : ℕ) (list : List SubtreeBase) → i < length lists → list ≡ get_or lists i list
-    → (all more new : List Subtree) → bases_of all ≡ members_of (take i lists) → bases_of more ≡ list → new ≡ all ++ more → bases_of new ≡ members_of (take (i + 1) lists)
-members_upto lists i list lt is all more new all_are more_are made =
-    let next : suc i ≡ i + 1 = omega arith in
-    ap bases_of made
-    ∙ (map-append subtree_base all more
-    ∙ (ap₂ ◌++◌ all_are more_are
-    ∙ (sym (members_next lists i list lt is) ∙ ap (λ (n : ℕ). members_of (take n lists)) next)))
+all_are : (lists : List (List SubtreeBase)) → all_of lists ≡ members_of lists
+all_are [] = refl
+all_are (list ∷ lists) = ap (λ (l : List SubtreeBase). list ++ l) (all_are lists)
 
 or_or : (a b c : Bool) → ((a || b) || c) ≡ (a || (b || c))
 or_or true b c = refl
@@ -114,16 +112,17 @@ any_added test (first ∷ lists) list =
     ∙ ap (λ b. b || list_any test list) (sym (list_any-append test first (members_of lists)))))
 
 -- one index stands in place of all from a place on, and of more
-pub grown : (test : SubtreeBase → Bool) (k : ℕ) (lists : List (List SubtreeBase)) (index : List SubtreeBase) (list more new : List Subtree) (kept : List (List SubtreeBase))
-    → list_any test index ≡ list_any test (members_of (take (length lists - k) (drop k lists)) ++ bases_of more) → list_any test (members_of lists) ≡ list_any test (bases_of list) → new ≡ list ++ more → kept ≡ take k lists ++ index ∷ []
+pub grown : (test : SubtreeBase → Bool) (k : ℕ) (lists : List (List SubtreeBase)) (index coming : List SubtreeBase) (list more new : List Subtree) (kept : List (List SubtreeBase))
+    → list_any test index ≡ list_any test (all_of (take (length lists - k) (drop k lists)) ++ coming) → list_any test coming ≡ list_any test (bases_of more) → list_any test (members_of lists) ≡ list_any test (bases_of list) → new ≡ list ++ more → kept ≡ take k lists ++ index ∷ []
     → list_any test (members_of kept) ≡ list_any test (bases_of new)
-grown test k lists index list more new kept joined same made kept_are =
-    let rest = ap (λ (l : List (List SubtreeBase)). list_any test (members_of l ++ bases_of more)) (take_all (length lists - k) (drop k lists) (omega (arith, length-drop k lists))) in
+grown test k lists index coming list more new kept joined of_more same made kept_are =
+    let back = list_any test (members_of (drop k lists)) in
+    let whole = all_are (take (length lists - k) (drop k lists)) ∙ ap members_of (take_all (length lists - k) (drop k lists) (omega (arith, length-drop k lists))) in
     let front = list_any test (members_of (take k lists)) in
     ap (λ (l : List (List SubtreeBase)). list_any test (members_of l)) kept_are
     ∙ (any_added test (take k lists) index
-    ∙ (ap (λ b. front || b) (joined ∙ (rest ∙ list_any-append test (members_of (drop k lists)) (bases_of more)))
-    ∙ (sym (or_or front (list_any test (members_of (drop k lists))) (list_any test (bases_of more)))
+    ∙ (ap (λ b. front || b) (joined ∙ (ap (λ (l : List SubtreeBase). list_any test (l ++ coming)) whole ∙ list_any-append test (members_of (drop k lists)) coming ∙ ap (λ b. back || b) of_more))
+    ∙ (sym (or_or front back (list_any test (bases_of more)))
     ∙ (ap (λ b. b || list_any test (bases_of more)) (sym (any_parts test k lists) ∙ same)
     ∙ (sym (list_any-append test (bases_of list) (bases_of more))
     ∙ ap (λ (l : List SubtreeBase). list_any test l) (sym (ap bases_of made ∙ map-append subtree_base list more)))))))

@@ -1,5 +1,5 @@
 -- A narrowed list holds just the names that both lists hold, and is no longer than the two together.
-use Rattle.std.proofs.Common.{◌≡◌, ◌+◌, ◌≤◌, List, [], ◌∷◌, ◌++◌, Bool, true, false, not, ◌&&◌, ◌||◌, cond, filter, length, arith, refl, ap, ◌∙◌, sym, inl, inr, length-append, ◌↔◌, Option, Some}
+use Rattle.std.proofs.Common.{◌≡◌, ◌+◌, ◌≤◌, List, [], ◌∷◌, ◌++◌, Bool, true, false, not, ◌&&◌, ◌||◌, cond, filter, length, arith, refl, ap, ◌∙◌, sym, inl, inr, length-append, ◌↔◌, Option, Some, None}
 use Rattle.std.specs.List.{list_any}
 use Rattle.std.proofs.lemmas.List.Folds.{list_any-append}
 use Rattle.std.proofs.lemmas.Bool.{or_cases, or_left, or_right, and_parts, and_from}
@@ -12,7 +12,7 @@ use Rattle.names.specs.declared.general.Form.{Form}
 use Rattle.names.specs.declared.general.Form.TheVariants as F
 use Rattle.names.proofs.Laws.{coverage_test_is_exact, base_inside_is_sound, shared_bases_are_nested, covered_is_of_form, covered_is_processed, base_form_test_is_exact}
 use Rattle.path_conditions.specs.NamesOf.{IsInOneOf, AreAbout}
-use Rattle.path_conditions.specs.Narrowing.{bases_of, selected, is_in_one_of, are_about, is_inside_one_of, has_processed, is_processed_base, kept, enters, narrowed, of_form, joined, change_of}
+use Rattle.path_conditions.specs.Narrowing.{bases_of, selected, is_in_one_of, are_about, is_inside_one_of, has_processed, is_processed_base, kept, enters, narrowed, of_form, joined, changed, change_of}
 use Rattle.path_conditions.specs.Constraints.{Constraints}
 use Rattle.path_conditions.proofs.Selecting.{pick, list_any-weaker, none_weaker, any_decides, list_any-filter, map-filter, length-filter-le, length-filter-and, length-filter-cons}
 
@@ -48,9 +48,12 @@ bases_of-selected p list = map-filter p subtree_base list
 change_loud : (form : Form) (held : Option (List SubtreeBase)) (carried : List SubtreeBase) → are_about carried form ≡ true → Some (joined form held carried) ≡ change_of form held carried
 change_loud form held carried loud = rw loud refl
 
-pub list_changed : (form : Form) (list : List SubtreeBase) (held : Option (List SubtreeBase)) (carried : List SubtreeBase) → are_about carried form ≡ true
-    → list ≡ joined form held carried → Some list ≡ change_of form held carried
-list_changed form list held carried loud made = ap (λ (l : List SubtreeBase). Some l) made ∙ change_loud form held carried loud
+pub list_begun : (form : Form) (list carried : List SubtreeBase) → are_about carried form ≡ true → list ≡ of_form form carried → Some list ≡ changed None (change_of form None carried)
+list_begun form list carried loud made = ap (λ (l : List SubtreeBase). changed None (Some l)) made ∙ ap (changed None) (change_loud form None carried loud)
+
+pub list_narrowed : (form : Form) (held carried : List SubtreeBase) (change : Option (List SubtreeBase)) → are_about carried form ≡ true → changed (Some held) change ≡ Some (narrowed form held carried)
+    → changed (Some held) change ≡ changed (Some held) (change_of form (Some held) carried)
+list_narrowed form held carried change loud made = made ∙ ap (changed (Some held)) (change_loud form (Some held) carried loud)
 
 pub excluded_are : (list before : List SubtreeBase) (carried : List Subtree) → list ≡ before ++ bases_of (selected (λ base. is_processed_base base) carried)
     → list ≡ before ++ filter (λ base. is_processed_base base) (bases_of carried)

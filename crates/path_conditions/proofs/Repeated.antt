@@ -15,7 +15,7 @@ use Rattle.names.specs.GeneralLayout.{GeneralName, SubtreeBase, directory_name, 
 use Rattle.names.specs.GeneralView.{subtree_base}
 use Rattle.names.specs.GeneralCoverage.{is_covered, is_base_inside, is_among, are_among, is_address_of, is_range_of, is_of_form}
 use Rattle.names.proofs.Laws.{coverage_test_is_exact, matching_is_exact}
-use Rattle.path_conditions.specs.Narrowing.{bases_of, is_in_one_of, is_inside_one_of, are_about, of_form, enters, narrowed, changed, change_of}
+use Rattle.path_conditions.specs.Narrowing.{bases_of, is_in_one_of, is_inside_one_of, are_about, of_form, enters, kept, narrowed, changed, change_of}
 use Rattle.path_conditions.specs.Repetition.{are_same_names, are_same_ranges, is_same_base, begins_same, repeats, repeats_form, repeats_end, is_held_again, HoldSameNames}
 use Rattle.path_conditions.proofs.Selecting.{list_any-weaker, list_any-filter}
 
@@ -82,10 +82,14 @@ none_enter : (form : Form) (held carried : List SubtreeBase) → filter (λ base
 none_enter form held [] = refl
 none_enter form held (s ∷ carried) = rw (not_both (is_of_form s form) (is_inside_one_of held s)) (none_enter form held carried)
 
-narrowed_again : (form : Form) (held carried : List SubtreeBase) → repeats_form form held carried ≡ true → narrowed form held carried ≡ held
-narrowed_again form held carried h =
-    ap (λ (l : List SubtreeBase). l ++ filter (λ base. enters form held l base) carried) (all_kept held (of_form form carried) carried h (of_form_among form carried))
+-- where all that are held are kept, the list stays
+pub narrowed_kept : (form : Form) (held carried : List SubtreeBase) → kept held carried ≡ held → narrowed form held carried ≡ held
+narrowed_kept form held carried all =
+    ap (λ (l : List SubtreeBase). l ++ filter (λ base. enters form held l base) carried) all
     ∙ (ap (λ (l : List SubtreeBase). held ++ l) (none_enter form held carried) ∙ append-nil held)
+
+narrowed_again : (form : Form) (held carried : List SubtreeBase) → repeats_form form held carried ≡ true → narrowed form held carried ≡ held
+narrowed_again form held carried h = narrowed_kept form held carried (all_kept held (of_form form carried) carried h (of_form_among form carried))
 
 stays : (form : Form) (list carried : List SubtreeBase) → repeats_form form list carried ≡ true → (b : Bool) → are_about carried form ≡ b → Some list ≡ changed (Some list) (change_of form (Some list) carried)
 stays form list carried h true e = rw e (ap (λ (l : List SubtreeBase). Some l) (sym (narrowed_again form list carried h)))

@@ -1,8 +1,8 @@
 -- Lists whose members pass tests.
-use Rattle.std.proofs.Common.{◌≡◌, ◌+◌, ◌≤◌, List, [], ◌∷◌, map, Bool, true, false, ◌&&◌, ◌||◌, cond, filter, length, arith, refl, ap, inl, inr, ◌↔◌, Any}
+use Rattle.std.proofs.Common.{◌≡◌, ◌+◌, ◌≤◌, ℕ, List, [], ◌∷◌, map, Bool, true, false, not, ◌&&◌, ◌||◌, cond, filter, length, arith, refl, ap, sym, ◌∙◌, inl, inr, ◌↔◌, Any}
 use Rattle.std.specs.List.{list_any}
 use Rattle.std.proofs.lemmas.List.Folds.{Any-from_list_any, list_any-from_Any}
-use Rattle.std.proofs.lemmas.Bool.{or_cases, or_left, or_right, cases_Bool, or_parts}
+use Rattle.std.proofs.lemmas.Bool.{or_cases, or_left, or_right, cases_Bool, or_parts, false≢true}
 
 -- a member that passes a test, with what it is to be a member: each test that it passes is passed by some member
 pub record Member {X : Type 0} (p : X → Bool) (xs : List X) : Type 0 where
@@ -83,4 +83,27 @@ length-filter-and p q (x ∷ xs) =
     elim (cases_Bool (p x)) [
       | inl h ↦ elim (cases_Bool (q x)) [ inl k ↦ rw (h, k) (omega arith) | inr k ↦ rw (h, k) (omega arith) ]
       | inr h ↦ rw h (omega arith)
+    ]
+
+-- a filter that leaves as many is passed by all
+pub none_fails : {X : Type 0} (p : X → Bool) (xs : List X) → length (filter p xs) ≡ length xs → list_any (λ x. not (p x)) xs ≡ false
+none_fails p [] e = refl
+none_fails p (x ∷ xs) e =
+    let less = length-filter-le p xs in
+    let whole = length-filter-cons p x xs in
+    elim (cases_Bool (p x)) [
+      | inl h ↦ (let one : ◌≡◌ {A = ℕ} (cond (p x) 1 0) 1 = ap (λ (b : Bool). cond b 1 0) h in
+          let rest : length (filter p xs) ≡ length xs = omega (arith, e, whole, one) in
+          rw h (none_fails p xs rest))
+      | inr h ↦ (let no : ◌≡◌ {A = ℕ} (cond (p x) 1 0) 0 = ap (λ (b : Bool). cond b 1 0) h in absurd (omega (arith, e, whole, no, less)))
+    ]
+
+-- and leaves all
+pub filter_all : {X : Type 0} (p : X → Bool) (xs : List X) → list_any (λ x. not (p x)) xs ≡ false → filter p xs ≡ xs
+filter_all p [] h = refl
+filter_all p (x ∷ xs) h =
+    let parts = or_parts (not (p x)) (list_any (λ y. not (p y)) xs) h in
+    elim (cases_Bool (p x)) [
+      | inl e ↦ rw e (ap (λ l. x ∷ l) (filter_all p xs parts.1))
+      | inr e ↦ absurd (false≢true (sym parts.0 ∙ ap not e))
     ]

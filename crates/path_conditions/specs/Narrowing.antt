@@ -75,14 +75,6 @@ AreKept held carried list = list.items ≡ selected (λ base. is_inside_one_of c
 abbrev pub AreEntering : Form → List SubtreeBase → List SubtreeBase → List Subtree → Vec Subtree → Type 0
 AreEntering form held kept carried list = list.items ≡ selected (λ base. enters form held kept base) carried
 
--- the narrowed list
-abbrev pub IsNarrowed : Form → List SubtreeBase → List Subtree → List SubtreeBase → Type 0
-IsNarrowed form held carried list = list ≡ narrowed form held (bases_of carried)
-
--- the list of the form behind a certificate that carries these permitted subtrees, where it changes
-abbrev pub IsChangeOf : Form → Option (List SubtreeBase) → List Subtree → Option (List SubtreeBase) → Type 0
-IsChangeOf form held carried list = list ≡ change_of form held (bases_of carried)
-
 -- a new list stands in the place of the old one, where there is one
 abbrev pub IsReplacedBy : Option (List SubtreeBase) → Option (List SubtreeBase) → Option (List SubtreeBase) → Type 0
 IsReplacedBy change old new = new ≡ changed old change

@@ -8,7 +8,7 @@ use Rattle.names.specs.Bases.{DomainNames, every_name, names_within, names_below
 use Rattle.names.specs.DistinguishedName.{matching}
 use Rattle.names.specs.GeneralLayout.{GeneralName, SubtreeBase, directory_base, dns_base, ip_base}
 use Rattle.names.specs.GeneralView.{subtree_base}
-use Rattle.path_conditions.specs.Narrowing.{bases_of, of_form, is_in_one_of, changed, change_of}
+use Rattle.path_conditions.specs.Narrowing.{bases_of, of_form, is_in_one_of, narrowed, changed, change_of}
 
 -- DNS constraints with the same octets, and ranges with the same octets and as many bits
 unfoldable pub are_same_names : DomainNames → DomainNames → Bool
@@ -52,6 +52,10 @@ is_held_again form (Some held) carried = repeats_form form held carried
 -- with the change the list is the one behind a certificate that carries these permitted subtrees
 abbrev pub Renews : Form → Option (List SubtreeBase) → List Subtree → Option (List SubtreeBase) → Type 0
 Renews form held carried change = changed held change ≡ changed held (change_of form held (bases_of carried))
+
+-- the same of a list that is held, and of subtrees of which one is of the form
+abbrev pub Narrows : Form → List SubtreeBase → List Subtree → Option (List SubtreeBase) → Type 0
+Narrows form held carried change = changed (Some held) change ≡ Some (narrowed form held (bases_of carried))
 
 -- the same names lie in both lists
 abbrev pub HoldSameNames : List SubtreeBase → List SubtreeBase → Type 0

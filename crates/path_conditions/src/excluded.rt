@@ -1,11 +1,11 @@
 //! Subtrees that are excluded, of which each certificate may add more.
 
-ghost use Rattle.std.specs.Prelude.{◌≡◌, ◌≤◌, ◌++◌, [], length, OnOk, OnErr, IfOk};
+ghost use Rattle.std.specs.Prelude.{◌≡◌, ◌≤◌, ◌++◌, [], length, OnOk, OnErr};
 ghost use Rattle.names.specs.GeneralView.{general_name};
-ghost use Rattle.names_order.specs.Index.{HasSameMembers};
-ghost use Rattle.path_conditions.specs.Narrowing.{bases_of, is_in_one_of, members_of};
+ghost use Rattle.path_conditions.specs.Narrowing.{bases_of, is_in_one_of};
 
 use crate::repetition::repeats_end;
+use crate::subtree_list::index_of;
 use names::{General, Subtree};
 use names_order::Index;
 use std::alloc::{AllocError, Global};
@@ -54,23 +54,6 @@ fn count_lasting(indexes: &[Index<'_>], coming: usize) -> usize
     0
 }
 
-/// One index of the subtrees of all of these, and of more.
-fn joined<'a>(
-    alloc: Global,
-    indexes: &[Index<'a>],
-    more: &[Subtree<'a>],
-) -> Result<Index<'a>, AllocError>
-    ensures { IfOk result (λ index.
-        HasSameMembers index (members_of indexes.now ++ bases_of more.now)) }
-{
-    let mut list = Vec::new(alloc);
-    for index in indexes {
-        list.extend_from_slice(index.subtrees())?;
-    }
-    list.extend_from_slice(more)?;
-    Index::of(alloc, list)
-}
-
 impl<'a> Excluded<'a> {
     /// The empty list.
     pub(crate) fn none(alloc: Global) -> Excluded<'a>
@@ -90,8 +73,9 @@ impl<'a> Excluded<'a> {
         if repeats_end(&self.items, more) {
             return self.items.extend_from_slice(more);
         }
+        let coming = index_of(alloc, more)?;
         let lasting = count_lasting(&self.indexes, more.len());
-        let index = joined(alloc, &self.indexes[lasting..], more)?;
+        let index = Index::joined(alloc, &self.indexes[lasting..], coming)?;
         self.indexes.reserve(1)?;
         self.items.extend_from_slice(more)?;
         self.indexes.truncate(lasting);

@@ -2,8 +2,8 @@
 
 ghost use Rattle.std.specs.Prelude.{◌≡◌, IfOk, IsOk, false, true};
 ghost use Rattle.names.specs.GeneralView.{subtree_base};
-ghost use Rattle.path_conditions.specs.Narrowing.{bases_of, enters, of_form, are_about, AreOfForm, AreKept, AreEntering, IsNarrowed, IsChangeOf};
-ghost use Rattle.path_conditions.specs.Repetition.{is_held_again, Renews};
+ghost use Rattle.path_conditions.specs.Narrowing.{bases_of, enters, of_form, are_about, AreOfForm, AreKept, AreEntering};
+ghost use Rattle.path_conditions.specs.Repetition.{is_held_again, Renews, Narrows};
 
 use crate::coverage::{is_about, one_is_about};
 use crate::repetition::repeats_form;
@@ -66,23 +66,28 @@ fn select_entering<'a>(
 }
 
 /// Intersects two lists of subtrees of one form: of each list those inside one of the other, except those inside one that is kept. Two
-/// subtrees that share a name are nested, so these hold just the names that both lists hold; equal lists narrow to the same list. Each
-/// subtree is looked for at most three times in an index of the other list.
+/// subtrees that share a name are nested, so these hold just the names that both lists hold. If all that are held are kept, as where the
+/// lists are equal, none enters, and the list stays. Each subtree is looked for at most three times in an index of the other list.
 fn narrow<'a>(
     alloc: Global,
     form: Form,
     held: &SubtreeList<'a>,
     carried: &[Subtree<'a>],
-) -> Result<SubtreeList<'a>, AllocError>
-    ensures { IfOk result (IsNarrowed form held.now carried.now) }
+) -> Result<Option<SubtreeList<'a>>, AllocError>
+    ensures { IfOk result (Narrows form held.now carried.now) }
 {
     let carried_index = index_of(alloc, carried)?;
-    let kept = keep_parts(alloc, held.items(), &carried_index)?;
-    // these are in order, and so need not be sorted
-    let kept_in_order = keep_parts(alloc, held.index().subtrees(), &carried_index)?;
+    let in_order = held.index().subtrees();
+    // these are in order too, and so need not be sorted
+    let kept_in_order = keep_parts(alloc, in_order, &carried_index)?;
+    if kept_in_order.len() == in_order.len() {
+        return Ok(None);
+    }
     let kept_index = Index::of(alloc, kept_in_order)?;
+    let kept = keep_parts(alloc, held.items(), &carried_index)?;
     let entering = select_entering(alloc, form, held.index(), &kept_index, carried)?;
-    SubtreeList::joined(alloc, kept, &kept_index, &entering)
+    let list = SubtreeList::joined(alloc, kept, &kept_index, &entering)?;
+    Ok(Some(list))
 }
 
 /// The list of the subtrees of the form.
@@ -97,24 +102,23 @@ fn begin<'a>(
     SubtreeList::of(alloc, selected)
 }
 
-/// The list of the form behind a certificate that carries these permitted subtrees, if it changes.
+/// The new list of the form behind a certificate that carries these permitted subtrees, if it changes.
 fn narrowed_list<'a>(
     alloc: Global,
     form: Form,
     held: &Option<SubtreeList<'a>>,
     carried: &[Subtree<'a>],
 ) -> Result<Option<SubtreeList<'a>>, AllocError>
-    ensures value { IfOk result (IsChangeOf form held.now carried.now) }
+    ensures value { IfOk result (Renews form held.now carried.now) }
     ensures calm { are_about (bases_of carried.now) form ≡ false → IsOk result }
 {
     if !one_is_about(carried, form) {
         return Ok(None);
     }
-    let list = match held {
-        None => begin(alloc, form, carried)?,
-        Some(held) => narrow(alloc, form, held, carried)?,
-    };
-    Ok(Some(list))
+    match held {
+        None => Ok(Some(begin(alloc, form, carried)?)),
+        Some(held) => narrow(alloc, form, held, carried),
+    }
 }
 
 /// Whether the certificate carries just the subtrees of the form that are held.

@@ -44,24 +44,24 @@ IsNotMade (Unconnected fault) = fault ≢ Schema
 IsNotMade (Refused refused) = HasCleanDisk (file_state refused.conn) → refused.fault ≢ Schema
 
 -- Why a connection that was opened is not taken for a store, if what is migrated fits. Why none could be opened is not said.
-pub record RefusesForCause {D : Type 0} {g : Ghosts D} (refused : refusal.Refused D g) : Type 0 where
+pub record RefusesToOpenForCause {D : Type 0} {g : Ghosts D} (refused : refusal.Refused D g) : Type 0 where
   pub conn : Held (FileStore D g)
   pub opened : IsOpened conn
   pub caused : FitsVersion2 (file_state conn).now → AdoptIsCaused (file_state conn) (file_state refused.conn) refused.fault
 
 abbrev pub IsNotOpenedForCause : OpenFault → Type 0
 IsNotOpenedForCause (Unconnected fault) = ⊤
-IsNotOpenedForCause (Refused refused) = HasCleanDisk (file_state refused.conn) → RefusesForCause refused
+IsNotOpenedForCause (Refused refused) = HasCleanDisk (file_state refused.conn) → RefusesToOpenForCause refused
 
 -- the same where a store is made in an empty database
-pub record CreatesForCause {D : Type 0} {g : Ghosts D} (refused : refusal.Refused D g) : Type 0 where
+pub record RefusesToMakeForCause {D : Type 0} {g : Ghosts D} (refused : refusal.Refused D g) : Type 0 where
   pub conn : Held (FileStore D g)
   pub opened : IsOpened conn
   pub caused : CreateIsCaused (file_state conn) (file_state refused.conn) refused.fault
 
 abbrev pub IsNotMadeForCause : OpenFault → Type 0
 IsNotMadeForCause (Unconnected fault) = ⊤
-IsNotMadeForCause (Refused refused) = HasCleanDisk (file_state refused.conn) → CreatesForCause refused
+IsNotMadeForCause (Refused refused) = HasCleanDisk (file_state refused.conn) → RefusesToMakeForCause refused
 
 -- ---- again
 

@@ -46,10 +46,7 @@ pub fn adopt<D: Disk + Drop>(conn: &mut Connection<FileStore<D>>) -> Result<(), 
     ensures durable { IsDurable (file_state conn.new) }
     ensures survives { CommitsNothing (file_state conn.old) (file_state conn.new) }
 {
-    match inspect_live(conn) {
-        Ok(()) => Ok(()),
-        Err(fault) => Err(fault),
-    }
+    inspect_live(conn)
 }
 
 /// The calls that `take_over` makes, in a function that is generic in the store, as `inspect_live`.
@@ -65,15 +62,9 @@ fn migrate_or_inspect<S: Alter>(alloc: Global, conn: &mut Connection<S>) -> Resu
     ensures crash { MayLeaveMigrated (state S.Store conn.old) (state S.Store conn.new) }
 {
     if is_version_1(conn.schema()) {
-        match migrate(alloc, conn) {
-            Ok(()) => Ok(()),
-            Err(fault) => Err(fault),
-        }
+        migrate(alloc, conn)
     } else {
-        match inspect(conn) {
-            Ok(()) => Ok(()),
-            Err(fault) => Err(fault),
-        }
+        inspect(conn)
     }
 }
 
@@ -93,8 +84,5 @@ pub fn take_over<D: Disk + Drop>(
     ensures crash { MayLeaveMigrated (file_state conn.old) (file_state conn.new) }
     ensures left { OnOk result (MayLeaveVersion2 conn.old conn.new) }
 {
-    match migrate_or_inspect(alloc, conn) {
-        Ok(()) => Ok(()),
-        Err(fault) => Err(fault),
-    }
+    migrate_or_inspect(alloc, conn)
 }

@@ -25,10 +25,8 @@ pub(crate) fn options(seed: u64) -> Options {
 fn random_options(rt: &HostRuntime) -> Result<Options, StoreFault>
     ensures { IfErr result (λ fault. fault ≢ StoreFault.Schema) }
 {
-    match RandomState::new(rt) {
-        Ok(state) => Ok(options(state.hash_one(&0u8))),
-        Err(_) => Err(StoreFault::Store),
-    }
+    let state = RandomState::new(rt).map_err(|_| StoreFault::Store)?;
+    Ok(options(state.hash_one(&0u8)))
 }
 
 fn fault_of(error: &OpenError) -> StoreFault
@@ -59,10 +57,7 @@ pub(crate) fn connect(
         return Err(StoreFault::Store);
     }
     let options = random_options(rt)?;
-    let files = match sqlite_std_file::open(rt, path, Unknown) {
-        Ok(files) => files,
-        Err(error) => return Err(fault_of(&error)),
-    };
+    let files = sqlite_std_file::open(rt, path, Unknown).map_err(|error| fault_of(&error))?;
     match Connection::open_files(rt.alloc(), files, options) {
         Ok(conn) => Ok(conn),
         Err((error, _left)) => Err(StoreFault::from(error)),

@@ -170,12 +170,13 @@ impl<D: Disk + Drop> Store<D> {
         ensures cause { IfErr result (ReopensForCause self.conn) }
         ensures fails { IfErr result (FailsToReopen self.conn) }
     {
-        let mut conn = match self.into_files() {
-            Ok(files) => match open_again(alloc, files) {
-                Ok(conn) => conn,
-                Err((fault, left)) => return Err(ReopenFault::Open(fault, left)),
-            },
+        let files = match self.into_files() {
+            Ok(files) => files,
             Err((fault, left)) => return Err(ReopenFault::Close(fault, left)),
+        };
+        let mut conn = match open_again(alloc, files) {
+            Ok(conn) => conn,
+            Err((fault, left)) => return Err(ReopenFault::Open(fault, left)),
         };
         if let Err(fault) = adopt(&mut conn) {
             return Err(ReopenFault::Adopt(Refused { fault, conn }));

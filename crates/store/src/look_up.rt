@@ -28,10 +28,7 @@ fn crl_in_transaction<S: Alter>(
     ensures survives { CommitsNothing (state S.Store conn.old) (state S.Store conn.new) }
 {
     let mut tx = conn.transaction();
-    match crl(&mut tx, issuer, scope, serial) {
-        Ok(held) => Ok(held),
-        Err(fault) => Err(fault),
-    }
+    crl(&mut tx, issuer, scope, serial)
 }
 
 /// The list held of an issuer and a scope: its number and window, and its reason for one serial number; as `Store::crl`, over a
@@ -71,10 +68,7 @@ fn ocsp_in_transaction<'x, S: Alter>(
     ensures survives { CommitsNothing (state S.Store conn.old) (state S.Store conn.new) }
 {
     let mut tx = conn.transaction();
-    match ocsp(&mut tx, issuer, name_hash, serial) {
-        Ok(said) => Ok(said),
-        Err(fault) => Err(fault),
-    }
+    ocsp(&mut tx, issuer, name_hash, serial)
 }
 
 /// What is held of one certificate of an issuer; as `Store::ocsp`, over a connection.

@@ -41,13 +41,8 @@ impl Store<File> {
         if fs::open(rt, path).is_err() {
             return Err(OpenFault::Unconnected(StoreFault::Store));
         }
-        match connect(rt, path) {
-            Ok(conn) => match Store::adopt(rt.alloc(), conn) {
-                Ok(store) => Ok(store),
-                Err(refused) => Err(OpenFault::Refused(refused)),
-            },
-            Err(fault) => Err(OpenFault::Unconnected(fault)),
-        }
+        let conn = connect(rt, path)?;
+        Ok(Store::adopt(rt.alloc(), conn)?)
     }
 
     /// Makes a store that holds nothing at a path: `StoreFault::Store` if a file is there. A connection in which no store could be made
@@ -62,12 +57,7 @@ impl Store<File> {
         if fs::open(rt, path).is_ok() {
             return Err(OpenFault::Unconnected(StoreFault::Store));
         }
-        match connect(rt, path) {
-            Ok(conn) => match Store::create(conn) {
-                Ok(store) => Ok(store),
-                Err(refused) => Err(OpenFault::Refused(refused)),
-            },
-            Err(fault) => Err(OpenFault::Unconnected(fault)),
-        }
+        let conn = connect(rt, path)?;
+        Ok(Store::create(conn)?)
     }
 }

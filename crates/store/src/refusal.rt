@@ -60,3 +60,25 @@ impl fmt::Display for OpenFault {
         }
     }
 }
+
+impl From<StoreFault> for OpenFault {
+    ghost use Rattle.std.specs.Prelude.{◌≡◌};
+    ghost use Rattle.store.specs.declared.refusal.OpenFault.TheVariants.{Unconnected};
+
+    ghost from_gives = { λ fault unopened. unopened ≡ Unconnected fault };
+
+    fn from(fault: StoreFault) -> OpenFault {
+        OpenFault::Unconnected(fault)
+    }
+}
+
+impl From<Refused<File>> for OpenFault {
+    ghost use Rattle.std.specs.Prelude.{◌≡◌};
+    ghost use Rattle.store.specs.declared.refusal.OpenFault.TheVariants.{Refused as IsRefused};
+
+    ghost from_gives = { λ refused unopened. unopened ≡ IsRefused refused };
+
+    fn from(refused: Refused<File>) -> OpenFault {
+        OpenFault::Refused(refused)
+    }
+}

@@ -37,6 +37,10 @@ query_fails old new text params error (inr ran) = cases ran.0.returning ran.2
     cases (Some what) (inl refused) = inl refused.1
     cases (Some what) (inr failed) = inr failed.3
 
+-- a refusal of the database says nothing of the rows
+pub not_schema : (error : Error) → fault_from error ≢ StoreFault.Schema
+not_schema error = grind arith
+
 pub query_keeps : (old new : State) (text : List ℕ) (params : Row) (error : Error) → FailsToQuery text params old new error → KeepsCommit old new
 query_keeps old new text params error h = unchanged_keeps old new (query_fails old new text params error h)
 

@@ -59,14 +59,8 @@ pub(crate) fn number(row: &Row, at: usize) -> Result<Number20, StoreFault>
     ensures schema { SchemaRefutes result (HasNumber (column row.now at)) }
     ensures cell { result ≢ Err StoreFault.Store }
 {
-    let octets = match octets(row, at) {
-        Ok(octets) => octets,
-        Err(fault) => return Err(fault),
-    };
-    match number_of(octets.as_slice()) {
-        Some(number) => Ok(number),
-        None => Err(StoreFault::Schema),
-    }
+    let octets = octets(row, at)?;
+    number_of(octets.as_slice()).ok_or(StoreFault::Schema)
 }
 
 /// The cell holds a number in twenty octets.
@@ -75,8 +69,6 @@ pub(crate) fn has_number(row: &Row, at: usize) -> Result<(), StoreFault>
     ensures schema { SchemaRefutes result (HasNumber (column row.now at)) }
     ensures cell { result ≢ Err StoreFault.Store }
 {
-    match number(row, at) {
-        Ok(_) => Ok(()),
-        Err(fault) => Err(fault),
-    }
+    number(row, at)?;
+    Ok(())
 }

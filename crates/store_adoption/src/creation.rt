@@ -21,13 +21,9 @@ fn make_committed<S: Alter>(conn: &mut Connection<S>) -> Result<(), StoreFault>
         return Err(StoreFault::Store);
     }
     let mut tx = conn.transaction();
-    if let Err(fault) = make(&mut tx) {
-        return Err(fault);
-    }
-    match tx.commit() {
-        Ok(()) => Ok(()),
-        Err(error) => Err(StoreFault::from(error)),
-    }
+    make(&mut tx)?;
+    tx.commit()?;
+    Ok(())
 }
 
 /// Makes a store in an empty database, in one transaction. It holds nothing. Where a table stands there already, that is

@@ -19,12 +19,8 @@ fn is_crl(row: &Row, next: u32) -> Result<(), StoreFault>
     ensures schema { result ≡ Err StoreFault.Schema → IsCrlCells next row.now → ⊥ }
     ensures cell { result ≢ Err StoreFault.Store }
 {
-    if let Err(fault) = below(row, 0, next) {
-        return Err(fault);
-    }
-    if let Err(fault) = below(row, 1, 3) {
-        return Err(fault);
-    }
+    below(row, 0, next)?;
+    below(row, 1, 3)?;
     has_number(row, 2)
 }
 

@@ -131,10 +131,7 @@ impl RowTest for EntryTest {
     ghost are_formed = { λ test rows. AllByRecursion IsEntryCells rows × AreChained None (map entry_of_row rows) };
 
     fn take(&mut self, row: &Row) -> Result<(), StoreFault> {
-        let entry = match read_placed(row) {
-            Ok(entry) => entry,
-            Err(fault) => return Err(fault),
-        };
+        let entry = read_placed(row)?;
         if !follows(&self.last, &entry) {
             return Err(StoreFault::Schema);
         }

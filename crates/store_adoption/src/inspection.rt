@@ -28,9 +28,7 @@ fn inspect_version<S: Alter>(conn: &mut Connection<S>, origin: Origin) -> Result
         version: 2,
         found: false,
     };
-    if let Err(fault) = test_rows(conn, "SELECT id, version FROM meta ORDER BY id", &mut test) {
-        return Err(fault);
-    }
+    test_rows(conn, "SELECT id, version FROM meta ORDER BY id", &mut test)?;
     if test.found {
         Ok(())
     } else {
@@ -48,10 +46,8 @@ fn inspect_issuers<S: Alter>(conn: &mut Connection<S>, origin: Origin) -> Result
     ensures survives { CommitsNothing (state S.Store conn.old) (state S.Store conn.new) }
 {
     let mut test = IssuerTest { next: 1 };
-    match test_rows(conn, "SELECT id FROM issuers ORDER BY id", &mut test) {
-        Ok(()) => Ok(test.next),
-        Err(fault) => Err(fault),
-    }
+    test_rows(conn, "SELECT id FROM issuers ORDER BY id", &mut test)?;
+    Ok(test.next)
 }
 
 fn inspect_crls<S: Alter>(
@@ -67,14 +63,12 @@ fn inspect_crls<S: Alter>(
     ensures survives { CommitsNothing (state S.Store conn.old) (state S.Store conn.new) }
 {
     let mut test = CrlTest { next };
-    match test_rows(
+    test_rows(
         conn,
         "SELECT issuer, scope, number FROM scoped_crls ORDER BY rowid",
         &mut test,
-    ) {
-        Ok(()) => Ok(()),
-        Err(fault) => Err(fault),
-    }
+    )?;
+    Ok(())
 }
 
 fn inspect_singles<S: Alter>(
@@ -90,14 +84,12 @@ fn inspect_singles<S: Alter>(
     ensures survives { CommitsNothing (state S.Store conn.old) (state S.Store conn.new) }
 {
     let mut test = SingleTest { next };
-    match test_rows(
+    test_rows(
         conn,
         "SELECT issuer, status, reason FROM ocsp ORDER BY rowid",
         &mut test,
-    ) {
-        Ok(()) => Ok(()),
-        Err(fault) => Err(fault),
-    }
+    )?;
+    Ok(())
 }
 
 fn inspect_entries<S: Alter>(conn: &mut Connection<S>, origin: Origin) -> Result<(), StoreFault>
@@ -109,14 +101,12 @@ fn inspect_entries<S: Alter>(conn: &mut Connection<S>, origin: Origin) -> Result
     ensures survives { CommitsNothing (state S.Store conn.old) (state S.Store conn.new) }
 {
     let mut test = EntryTest { last: None };
-    match test_rows(
+    test_rows(
         conn,
         "SELECT id, issuer, scope, serial, reason FROM scoped_entries ORDER BY id",
         &mut test,
-    ) {
-        Ok(()) => Ok(()),
-        Err(fault) => Err(fault),
-    }
+    )?;
+    Ok(())
 }
 
 /// What stands under the ids of issuers: lists, and what responses say.
@@ -132,13 +122,8 @@ fn inspect_under<S: Alter>(
     ensures caused { ChecksForCause S.Store conn.old conn.new result }
     ensures survives { CommitsNothing (state S.Store conn.old) (state S.Store conn.new) }
 {
-    if let Err(fault) = inspect_crls(conn, origin, next) {
-        return Err(fault);
-    }
-    match inspect_singles(conn, origin, next) {
-        Ok(()) => Ok(()),
-        Err(fault) => Err(fault),
-    }
+    inspect_crls(conn, origin, next)?;
+    inspect_singles(conn, origin, next)
 }
 
 /// The version, and one more than the id of the last issuer.
@@ -150,13 +135,8 @@ fn inspect_ids<S: Alter>(conn: &mut Connection<S>, origin: Origin) -> Result<u32
     ensures caused { ChecksForCause S.Store conn.old conn.new result }
     ensures survives { CommitsNothing (state S.Store conn.old) (state S.Store conn.new) }
 {
-    if let Err(fault) = inspect_version(conn, origin) {
-        return Err(fault);
-    }
-    match inspect_issuers(conn, origin) {
-        Ok(next) => Ok(next),
-        Err(fault) => Err(fault),
-    }
+    inspect_version(conn, origin)?;
+    inspect_issuers(conn, origin)
 }
 
 fn inspect_heads<S: Alter>(conn: &mut Connection<S>, origin: Origin) -> Result<(), StoreFault>
@@ -167,14 +147,8 @@ fn inspect_heads<S: Alter>(conn: &mut Connection<S>, origin: Origin) -> Result<(
     ensures caused { ChecksForCause S.Store conn.old conn.new result }
     ensures survives { CommitsNothing (state S.Store conn.old) (state S.Store conn.new) }
 {
-    let next = match inspect_ids(conn, origin) {
-        Ok(next) => next,
-        Err(fault) => return Err(fault),
-    };
-    match inspect_under(conn, origin, next) {
-        Ok(()) => Ok(()),
-        Err(fault) => Err(fault),
-    }
+    let next = inspect_ids(conn, origin)?;
+    inspect_under(conn, origin, next)
 }
 
 fn inspect_all<S: Alter>(conn: &mut Connection<S>) -> Result<(), StoreFault>
@@ -188,13 +162,8 @@ fn inspect_all<S: Alter>(conn: &mut Connection<S>) -> Result<(), StoreFault>
     let Some(origin) = origin_of(conn.schema()) else {
         return Err(StoreFault::Schema);
     };
-    if let Err(fault) = inspect_heads(conn, origin) {
-        return Err(fault);
-    }
-    match inspect_entries(conn, origin) {
-        Ok(()) => Ok(()),
-        Err(fault) => Err(fault),
-    }
+    inspect_heads(conn, origin)?;
+    inspect_entries(conn, origin)
 }
 
 /// Reads all rows once: `StoreFault::Schema` if they are not those of a store.

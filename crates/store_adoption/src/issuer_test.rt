@@ -23,10 +23,7 @@ impl RowTest for IssuerTest {
     ghost are_formed = { λ test rows. AllByRecursion IsIssuerCells rows };
 
     fn take(&mut self, row: &Row) -> Result<(), StoreFault> {
-        let id = match below(row, 0, ID_LIMIT) {
-            Ok(id) => id,
-            Err(fault) => return Err(fault),
-        };
+        let id = below(row, 0, ID_LIMIT)?;
         self.next = id + 1;
         Ok(())
     }

@@ -1,15 +1,14 @@
 //! A table's rows, tested one after the other.
 
-ghost use Rattle.std.specs.Prelude.{◌≡◌, ◌≢◌, [], false, Err, OnOk};
+ghost use Rattle.std.specs.Prelude.{◌≡◌, [], false, OnOk};
 ghost use Rattle.sqlite.specs.Held.{state};
 ghost use Rattle.sqlite.specs.State.{HasCleanDisk};
 ghost use Rattle.sqlite.specs.Given.{IsPlain};
 ghost use Rattle.sqlite.specs.Listing.{understood};
-ghost use Rattle.store_sql.specs.Fault.{fault_from};
 ghost use Rattle.store_sql.specs.Statements.{CommitsNothing};
 ghost use Rattle.store_adoption.specs.Tests.{PassesOneMore, HoldsAlike, TestsOn, TestsForCause, SchemaBreaksForm};
 
-use sqlite::{Alter, Connection, Error, Row};
+use sqlite::{Alter, Connection, Row};
 use store_sql::StoreFault;
 
 /// A test of rows, one after the other.
@@ -31,14 +30,6 @@ pub(crate) trait RowTest {
         ensures cell { result ≢ Err StoreFault.Store };
 }
 
-/// A refusal of the database, which says nothing of the rows.
-fn fault_of(error: Error) -> StoreFault
-    ensures form { result ≢ StoreFault.Schema }
-    ensures from { result ≡ fault_from error }
-{
-    StoreFault::from(error)
-}
-
 /// Shows each row that the text asks for to the test.
 pub(crate) fn test_rows<S: Alter, T: RowTest>(
     conn: &mut Connection<S>,
@@ -57,20 +48,13 @@ pub(crate) fn test_rows<S: Alter, T: RowTest>(
         (HoldsAlike (T.RowTest.are_formed test.old) (T.RowTest.are_formed test.new)) }
     ensures survives { CommitsNothing (state S.Store conn.old) (state S.Store conn.new) }
 {
-    let mut rows = match conn.query(sql, &[]) {
-        Ok(rows) => rows,
-        Err(error) => return Err(fault_of(error)),
-    };
+    let mut rows = conn.query(sql, &[])?;
     'each: for _shown in 0..u64::MAX {
-        if let Err(error) = rows.advance() {
-            return Err(fault_of(error));
-        }
+        rows.advance()?;
         let Some(row) = rows.get() else {
             return Ok(());
         };
-        if let Err(fault) = test.take(row) {
-            return Err(fault);
-        }
+        test.take(row)?;
     }
     Err(StoreFault::Store)
 }

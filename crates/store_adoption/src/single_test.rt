@@ -20,14 +20,8 @@ fn has_status(row: &Row) -> Result<(), StoreFault>
     ensures schema { RefusesStatusCells row.now result }
     ensures cell { result ≢ Err StoreFault.Store }
 {
-    let status = match below(row, 1, 3) {
-        Ok(status) => status,
-        Err(fault) => return Err(fault),
-    };
-    let reason = match below(row, 2, 256) {
-        Ok(reason) => reason,
-        Err(fault) => return Err(fault),
-    };
+    let status = below(row, 1, 3)?;
+    let reason = below(row, 2, 256)?;
     if status == 1 || reason == 0 {
         Ok(())
     } else {
@@ -40,9 +34,7 @@ fn is_single(row: &Row, next: u32) -> Result<(), StoreFault>
     ensures schema { result ≡ Err StoreFault.Schema → IsSingleCells next row.now → ⊥ }
     ensures cell { result ≢ Err StoreFault.Store }
 {
-    if let Err(fault) = below(row, 0, next) {
-        return Err(fault);
-    }
+    below(row, 0, next)?;
     has_status(row)
 }
 

@@ -56,14 +56,9 @@ impl RowTest for ListTest {
     ghost are_formed = { λ test rows. AllByRecursion (IsUnscopedCrlCells test.next) rows };
 
     fn take(&mut self, row: &Row) -> Result<(), StoreFault> {
-        let list = match read_list(row, self.next) {
-            Ok(list) => list,
-            Err(fault) => return Err(fault),
-        };
-        match self.lists.push(list) {
-            Ok(()) => Ok(()),
-            Err(_) => Err(StoreFault::Memory),
-        }
+        let list = read_list(row, self.next)?;
+        self.lists.push(list)?;
+        Ok(())
     }
 }
 
@@ -101,13 +96,8 @@ impl RowTest for OwnTest {
     ghost are_formed = { λ test rows. AllByRecursion (IsUnscopedEntryCells test.next) rows };
 
     fn take(&mut self, row: &Row) -> Result<(), StoreFault> {
-        let entry = match read_own(row, self.next) {
-            Ok(entry) => entry,
-            Err(fault) => return Err(fault),
-        };
-        match self.entries.push(entry) {
-            Ok(()) => Ok(()),
-            Err(_) => Err(StoreFault::Memory),
-        }
+        let entry = read_own(row, self.next)?;
+        self.entries.push(entry)?;
+        Ok(())
     }
 }

@@ -31,9 +31,7 @@ fn read_version<S: Alter>(conn: &mut Connection<S>) -> Result<(), StoreFault>
         version: 1,
         found: false,
     };
-    if let Err(fault) = test_rows(conn, "SELECT id, version FROM meta ORDER BY id", &mut test) {
-        return Err(fault);
-    }
+    test_rows(conn, "SELECT id, version FROM meta ORDER BY id", &mut test)?;
     if test.found {
         Ok(())
     } else {
@@ -51,10 +49,8 @@ fn read_issuers<S: Alter>(conn: &mut Connection<S>) -> Result<u32, StoreFault>
     ensures survives { CommitsNothing (state S.Store conn.old) (state S.Store conn.new) }
 {
     let mut test = IssuerTest { next: 1 };
-    match test_rows(conn, "SELECT id FROM issuers ORDER BY id", &mut test) {
-        Ok(()) => Ok(test.next),
-        Err(fault) => Err(fault),
-    }
+    test_rows(conn, "SELECT id FROM issuers ORDER BY id", &mut test)?;
+    Ok(test.next)
 }
 
 fn read_singles<S: Alter>(conn: &mut Connection<S>, next: u32) -> Result<(), StoreFault>
@@ -66,14 +62,12 @@ fn read_singles<S: Alter>(conn: &mut Connection<S>, next: u32) -> Result<(), Sto
     ensures survives { CommitsNothing (state S.Store conn.old) (state S.Store conn.new) }
 {
     let mut test = SingleTest { next };
-    match test_rows(
+    test_rows(
         conn,
         "SELECT issuer, status, reason FROM ocsp ORDER BY rowid",
         &mut test,
-    ) {
-        Ok(()) => Ok(()),
-        Err(fault) => Err(fault),
-    }
+    )?;
+    Ok(())
 }
 
 fn read_lists<S: Alter>(
@@ -92,14 +86,12 @@ fn read_lists<S: Alter>(
         next,
         lists: Vec::new(alloc),
     };
-    match test_rows(
+    test_rows(
         conn,
         "SELECT issuer, number, since, until FROM crls ORDER BY issuer",
         &mut test,
-    ) {
-        Ok(()) => Ok(test.lists),
-        Err(fault) => Err(fault),
-    }
+    )?;
+    Ok(test.lists)
 }
 
 fn read_entries<S: Alter>(
@@ -118,14 +110,12 @@ fn read_entries<S: Alter>(
         next,
         entries: Vec::new(alloc),
     };
-    match test_rows(
+    test_rows(
         conn,
         "SELECT issuer, serial, reason FROM entries ORDER BY rowid",
         &mut test,
-    ) {
-        Ok(()) => Ok(test.entries),
-        Err(fault) => Err(fault),
-    }
+    )?;
+    Ok(test.entries)
 }
 
 /// The version, and one more than the id of the last issuer.
@@ -137,13 +127,8 @@ fn read_ids<S: Alter>(conn: &mut Connection<S>) -> Result<u32, StoreFault>
     ensures caused { ChecksForCause S.Store conn.old conn.new result }
     ensures survives { CommitsNothing (state S.Store conn.old) (state S.Store conn.new) }
 {
-    if let Err(fault) = read_version(conn) {
-        return Err(fault);
-    }
-    match read_issuers(conn) {
-        Ok(next) => Ok(next),
-        Err(fault) => Err(fault),
-    }
+    read_version(conn)?;
+    read_issuers(conn)
 }
 
 /// All lists, and their entries.
@@ -159,14 +144,9 @@ fn read_all_lists<S: Alter>(
     ensures caused { ChecksForCause S.Store conn.old conn.new result }
     ensures survives { CommitsNothing (state S.Store conn.old) (state S.Store conn.new) }
 {
-    let lists = match read_lists(alloc, conn, next) {
-        Ok(lists) => lists,
-        Err(fault) => return Err(fault),
-    };
-    match read_entries(alloc, conn, next) {
-        Ok(entries) => Ok(UnscopedLists { lists, entries }),
-        Err(fault) => Err(fault),
-    }
+    let lists = read_lists(alloc, conn, next)?;
+    let entries = read_entries(alloc, conn, next)?;
+    Ok(UnscopedLists { lists, entries })
 }
 
 /// What stands under the ids of issuers.
@@ -182,13 +162,8 @@ fn read_under<S: Alter>(
     ensures caused { ChecksForCause S.Store conn.old conn.new result }
     ensures survives { CommitsNothing (state S.Store conn.old) (state S.Store conn.new) }
 {
-    if let Err(fault) = read_singles(conn, next) {
-        return Err(fault);
-    }
-    match read_all_lists(alloc, conn, next) {
-        Ok(all) => Ok(all),
-        Err(fault) => Err(fault),
-    }
+    read_singles(conn, next)?;
+    read_all_lists(alloc, conn, next)
 }
 
 fn read_all<S: Alter>(alloc: Global, conn: &mut Connection<S>) -> Result<UnscopedLists, StoreFault>
@@ -202,14 +177,8 @@ fn read_all<S: Alter>(alloc: Global, conn: &mut Connection<S>) -> Result<Unscope
     if !is_version_1(conn.schema()) {
         return Err(StoreFault::Schema);
     }
-    let next = match read_ids(conn) {
-        Ok(next) => next,
-        Err(fault) => return Err(fault),
-    };
-    match read_under(alloc, conn, next) {
-        Ok(all) => Ok(all),
-        Err(fault) => Err(fault),
-    }
+    let next = read_ids(conn)?;
+    read_under(alloc, conn, next)
 }
 
 /// Reads all rows of a database of version 1 once, and answers its lists: `StoreFault::Schema` if it is none, or has a row that

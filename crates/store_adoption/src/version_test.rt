@@ -22,14 +22,8 @@ fn is_version(row: &Row, wanted: u32) -> Result<(), StoreFault>
     ensures schema { result ≡ Err StoreFault.Schema → IsVersionCells wanted row.now → ⊥ }
     ensures cell { result ≢ Err StoreFault.Store }
 {
-    let id = match below(row, 0, 2) {
-        Ok(id) => id,
-        Err(fault) => return Err(fault),
-    };
-    let version = match below(row, 1, 3) {
-        Ok(version) => version,
-        Err(fault) => return Err(fault),
-    };
+    let id = below(row, 0, 2)?;
+    let version = below(row, 1, 3)?;
     if id == 1 && version == wanted {
         Ok(())
     } else {
@@ -50,9 +44,7 @@ impl RowTest for VersionTest {
         if self.found {
             return Err(StoreFault::Schema);
         }
-        if let Err(fault) = is_version(row, self.version) {
-            return Err(fault);
-        }
+        is_version(row, self.version)?;
         self.found = true;
         Ok(())
     }

@@ -7,7 +7,6 @@ use Rattle.store_sql.specs.declared.origin.Origin.{Origin}
 use Rattle.store_sql.specs.declared.fault.StoreFault.{StoreFault}
 use Rattle.store_rows.specs.Contents.{Contents}
 use Rattle.store_rows.specs.Holding.{HasContents}
-use Rattle.store_sql.specs.Cause.{MayRefuse}
 use Rattle.store_sql.proofs.Laws.{later_refuses}
 use Rattle.store_rows.specs.Steps.{Stays, Fails, HasFound, IsCaused}
 use Rattle.store_maps.specs.Held.{held_in}

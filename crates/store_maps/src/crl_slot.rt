@@ -37,15 +37,11 @@ pub(crate) fn look_under<S: Alter>(
     ensures caused { CausedIn S.Store tx.old tx.new result }
     ensures survives { CommitsNothing (inside S.Store tx.old) (inside S.Store tx.new) }
 {
-    let head = match find_crl(tx, list.issuer, list.scope) {
-        Ok(Some(head)) => head,
-        Ok(None) => return Ok(None),
-        Err(fault) => return Err(fault),
+    let Some(head) = find_crl(tx, list.issuer, list.scope)? else {
+        return Ok(None);
     };
-    match find_entry(tx, list, serial) {
-        Ok(reason) => Ok(Some(with_reason(head, reason))),
-        Err(fault) => Err(fault),
-    }
+    let reason = find_entry(tx, list, serial)?;
+    Ok(Some(with_reason(head, reason)))
 }
 
 /// The list held of an issuer and a scope: its number and window, and its reason for one serial number.
@@ -63,10 +59,8 @@ pub fn crl<S: Alter>(
     ensures open { SucceedsOnlyIfOpen S.Store tx.old tx.new result }
     ensures survives { CommitsNothing (inside S.Store tx.old) (inside S.Store tx.new) }
 {
-    let id = match find_issuer(tx, issuer) {
-        Ok(Some(id)) => id,
-        Ok(None) => return Ok(None),
-        Err(fault) => return Err(fault),
+    let Some(id) = find_issuer(tx, issuer)? else {
+        return Ok(None);
     };
     let list = ListKey { issuer: id, scope };
     look_under(tx, &list, serial)

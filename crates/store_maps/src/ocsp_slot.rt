@@ -27,10 +27,8 @@ pub fn ocsp<'x, S: Alter>(
     ensures open { SucceedsOnlyIfOpen S.Store tx.old tx.new result }
     ensures survives { CommitsNothing (inside S.Store tx.old) (inside S.Store tx.new) }
 {
-    let id = match find_issuer(tx, issuer) {
-        Ok(Some(id)) => id,
-        Ok(None) => return Ok(None),
-        Err(fault) => return Err(fault),
+    let Some(id) = find_issuer(tx, issuer)? else {
+        return Ok(None);
     };
     find_single(tx, id, name_hash, serial)
 }

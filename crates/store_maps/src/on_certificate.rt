@@ -41,18 +41,13 @@ fn lists_under<S: Alter>(
         issuer,
         scope: Scope::All,
     };
-    let all = match look_under(tx, &list, key.serial) {
-        Ok(all) => all,
-        Err(fault) => return Err(fault),
-    };
+    let all = look_under(tx, &list, key.serial)?;
     let list = ListKey {
         issuer,
         scope: key.kind,
     };
-    match look_under(tx, &list, key.serial) {
-        Ok(own) => Ok((all, own)),
-        Err(fault) => Err(fault),
-    }
+    let own = look_under(tx, &list, key.serial)?;
+    Ok((all, own))
 }
 
 fn answers_under<S: Alter>(
@@ -67,14 +62,9 @@ fn answers_under<S: Alter>(
     ensures caused { CausedIn S.Store tx.old tx.new result }
     ensures survives { CommitsNothing (inside S.Store tx.old) (inside S.Store tx.new) }
 {
-    let (all, own) = match lists_under(tx, issuer, key) {
-        Ok(lists) => lists,
-        Err(fault) => return Err(fault),
-    };
-    match find_single(tx, issuer, key.name_hash, key.serial) {
-        Ok(ocsp) => Ok(Answers { all, own, ocsp }),
-        Err(fault) => Err(fault),
-    }
+    let (all, own) = lists_under(tx, issuer, key)?;
+    let ocsp = find_single(tx, issuer, key.name_hash, key.serial)?;
+    Ok(Answers { all, own, ocsp })
 }
 
 /// What is held of a certificate of an issuer: the lists of both scopes that may be about it, and what a response says of it. The
@@ -92,16 +82,12 @@ pub fn answers_on<S: Alter>(
     ensures open { SucceedsOnlyIfOpen S.Store tx.old tx.new result }
     ensures survives { CommitsNothing (inside S.Store tx.old) (inside S.Store tx.new) }
 {
-    let id = match find_issuer(tx, issuer) {
-        Ok(Some(id)) => id,
-        Ok(None) => {
-            return Ok(Answers {
-                all: None,
-                own: None,
-                ocsp: None,
-            });
-        }
-        Err(fault) => return Err(fault),
+    let Some(id) = find_issuer(tx, issuer)? else {
+        return Ok(Answers {
+            all: None,
+            own: None,
+            ocsp: None,
+        });
     };
     answers_under(tx, id, key)
 }

@@ -31,14 +31,8 @@ fn revoked_of<'a>(
     ensures memory { result ≢ Err StoreFault.Schema }
     ensures no_store { result ≢ Err StoreFault.Store }
 {
-    let listed = match entries_of(alloc, sorted, issuer) {
-        Ok(listed) => listed,
-        Err(_) => return Err(StoreFault::Memory),
-    };
-    match RevokedSerials::of_entries(listed) {
-        Ok(revoked) => Ok(revoked),
-        Err(_) => Err(StoreFault::Memory),
-    }
+    let listed = entries_of(alloc, sorted, issuer)?;
+    Ok(RevokedSerials::of_entries(listed)?)
 }
 
 /// A CRL number is below 2^160.
@@ -68,13 +62,8 @@ fn put_revoked<S: Alter>(
         issuer: list.issuer,
         scope: Scope::All,
     };
-    if let Err(fault) = replace_crl(tx, key.issuer, key.scope, &head) {
-        return Err(fault);
-    }
-    match replace_entries(tx, &key, revoked) {
-        Ok(()) => Ok(()),
-        Err(fault) => Err(fault),
-    }
+    replace_crl(tx, key.issuer, key.scope, &head)?;
+    replace_entries(tx, &key, revoked)
 }
 
 /// Puts a list in its place, with its entries.
@@ -94,14 +83,9 @@ fn put_list<S: Alter>(
     if list.issuer >= ID_LIMIT {
         return Err(StoreFault::Store);
     }
-    let revoked = match revoked_of(alloc, sorted, list.issuer) {
-        Ok(revoked) => revoked,
-        Err(fault) => return Err(fault),
-    };
-    match put_revoked(tx, list, &revoked) {
-        Ok(()) => Ok(()),
-        Err(fault) => Err(fault),
-    }
+    let revoked = revoked_of(alloc, sorted, list.issuer)?;
+    put_revoked(tx, list, &revoked)?;
+    Ok(())
 }
 
 /// Puts lists in their places, one after the other.
@@ -119,10 +103,7 @@ fn put_each<S: Alter>(
     ensures survives { CommitsNothing (inside S.Store tx.old) (inside S.Store tx.new) }
 {
     'each: for list in lists {
-        match put_list(alloc, tx, list, sorted) {
-            Ok(()) => {}
-            Err(fault) => return Err(fault),
-        }
+        put_list(alloc, tx, list, sorted)?;
     }
     Ok(())
 }
@@ -139,12 +120,6 @@ pub(crate) fn put_lists<S: Alter>(
     ensures caused { MovesAllForCause S.Store tx.old tx.new all.now result }
     ensures survives { CommitsNothing (inside S.Store tx.old) (inside S.Store tx.new) }
 {
-    let sorted = match by_issuer(alloc, all.entries.as_slice()) {
-        Ok(sorted) => sorted,
-        Err(_) => return Err(StoreFault::Memory),
-    };
-    match put_each(alloc, tx, all.lists.as_slice(), sorted.as_slice()) {
-        Ok(()) => Ok(()),
-        Err(fault) => Err(fault),
-    }
+    let sorted = by_issuer(alloc, all.entries.as_slice())?;
+    put_each(alloc, tx, all.lists.as_slice(), sorted.as_slice())
 }

@@ -27,13 +27,9 @@ fn move_lists<S: Alter>(
     ensures caused { BecomesStoreForCause S.Store tx.old tx.new all.now result }
     ensures survives { CommitsNothing (inside S.Store tx.old) (inside S.Store tx.new) }
 {
-    if let Err(fault) = prepare(tx) {
-        return Err(fault);
-    }
-    match put_lists(alloc, tx, all) {
-        Ok(()) => Ok(()),
-        Err(fault) => Err(fault),
-    }
+    prepare(tx)?;
+    put_lists(alloc, tx, all)?;
+    Ok(())
 }
 
 /// The lists move in one transaction, which begins and ends here.
@@ -49,13 +45,9 @@ fn move_committed<S: Alter>(
     ensures crash { MayLeaveMoved (state S.Store conn.old) (state S.Store conn.new) all.now }
 {
     let mut tx = conn.transaction();
-    if let Err(fault) = move_lists(alloc, &mut tx, all) {
-        return Err(fault);
-    }
-    match tx.commit() {
-        Ok(()) => Ok(()),
-        Err(error) => Err(StoreFault::from(error)),
-    }
+    move_lists(alloc, &mut tx, all)?;
+    tx.commit()?;
+    Ok(())
 }
 
 fn migrate_idle<S: Alter>(alloc: Global, conn: &mut Connection<S>) -> Result<(), StoreFault>
@@ -66,14 +58,9 @@ fn migrate_idle<S: Alter>(alloc: Global, conn: &mut Connection<S>) -> Result<(),
     ensures caused { MigratesForCause S.Store conn.old conn.new result }
     ensures crash { MayLeaveMigrated (state S.Store conn.old) (state S.Store conn.new) }
 {
-    let all = match read_version_1(alloc, conn) {
-        Ok(all) => all,
-        Err(fault) => return Err(fault),
-    };
-    match move_committed(alloc, conn, &all) {
-        Ok(()) => Ok(()),
-        Err(fault) => Err(fault),
-    }
+    let all = read_version_1(alloc, conn)?;
+    move_committed(alloc, conn, &all)?;
+    Ok(())
 }
 
 /// Makes a store of version 2 of one of version 1, in one transaction: each list of version 1 is then one for all certificates, and

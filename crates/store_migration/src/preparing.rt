@@ -41,11 +41,6 @@ pub(crate) fn prepare<S: Alter>(tx: &mut Transaction<'_, S>) -> Result<(), Store
     ensures caused { PreparesForCause S.Store tx.old tx.new result }
     ensures survives { CommitsNothing (inside S.Store tx.old) (inside S.Store tx.new) }
 {
-    if let Err(fault) = make_tables(tx) {
-        return Err(fault);
-    }
-    match set_version(tx) {
-        Ok(()) => Ok(()),
-        Err(fault) => Err(fault),
-    }
+    make_tables(tx)?;
+    set_version(tx)
 }

@@ -91,11 +91,10 @@ pub fn has_entries<S: Alter>(
     }
     let mut index = 0;
     'each: for listed in all {
-        match has_at(tx, list, index, listed) {
-            Ok(true) => index += 1,
-            Ok(false) => return Ok(false),
-            Err(fault) => return Err(fault),
+        if !has_at(tx, list, index, listed)? {
+            return Ok(false);
         }
+        index += 1;
     }
     ends_at(tx, list, count)
 }

@@ -115,10 +115,7 @@ pub fn find_entry<S: Alter>(
     let mut high: u64 = ROOM;
     while low < high {
         let middle = low + (high - low) / 2;
-        let beside = match stands_at(tx, list, middle, serial) {
-            Ok(beside) => beside,
-            Err(fault) => return Err(fault),
-        };
+        let beside = stands_at(tx, list, middle, serial)?;
         match beside {
             SerialAtPlace::Nothing => high = middle,
             SerialAtPlace::Below => low = middle + 1,

@@ -127,9 +127,7 @@ pub fn replace_entries<S: Alter>(
     let mut index = 0;
     'groups: while all.len() - index >= GROUP {
         let group = &all[index..index + GROUP];
-        if fill_columns(&mut columns, list, index as u64, group).is_err() {
-            return Err(StoreFault::Memory);
-        }
+        fill_columns(&mut columns, list, index as u64, group)?;
         insert_entries(tx, &columns)?;
         index += GROUP;
     }

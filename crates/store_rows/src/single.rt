@@ -58,10 +58,7 @@ fn read_status(row: &Row) -> Result<Status, StoreFault>
 {
     let status = natural(row, 4, 3)?;
     let reason = natural(row, 5, 256)?;
-    match status_of(status, reason as u8) {
-        Some(status) => Ok(status),
-        None => Err(StoreFault::Schema),
-    }
+    status_of(status, reason as u8).ok_or(StoreFault::Schema)
 }
 
 fn read_said(row: &Row) -> Result<OcspAnswer, StoreFault>

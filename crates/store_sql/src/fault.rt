@@ -4,6 +4,7 @@ ghost use Rattle.std.specs.Prelude.{◌≡◌, ◌≢◌};
 ghost use Rattle.store_sql.specs.Fault.{store_fault_number, store_fault_name, fault_from};
 
 use sqlite::{Error as SqlError, ErrorCode};
+use std::alloc::{AllocError, AllocFailed};
 use thiserror::Error;
 
 /// Why a store does not answer.
@@ -52,5 +53,27 @@ impl From<SqlError> for StoreFault {
             SqlError::SqliteFailure(ErrorCode::OutOfMemory) => StoreFault::Memory,
             _ => StoreFault::Store,
         }
+    }
+}
+
+impl From<AllocError> for StoreFault {
+    ghost use Rattle.std.specs.Prelude.{◌≡◌};
+    ghost use Rattle.store_sql.specs.declared.fault.StoreFault.{StoreFault};
+
+    ghost from_gives = { λ _ fault. fault ≡ StoreFault.Memory };
+
+    fn from(_: AllocError) -> StoreFault {
+        StoreFault::Memory
+    }
+}
+
+impl<T: Drop> From<AllocFailed<T>> for StoreFault {
+    ghost use Rattle.std.specs.Prelude.{◌≡◌};
+    ghost use Rattle.store_sql.specs.declared.fault.StoreFault.{StoreFault};
+
+    ghost from_gives = { λ _ fault. fault ≡ StoreFault.Memory };
+
+    fn from(_: AllocFailed<T>) -> StoreFault {
+        StoreFault::Memory
     }
 }

@@ -1,5 +1,5 @@
 -- Why facts are not put into a store, and what room is left.
-use Rattle.std.proofs.Common.{◌≡◌, ◌≢◌, ◌<◌, ◌≤◌, ◌+◌, ℕ, ℤ, pos, negsuc, ◌+ℤ◌, ◌≤ℤ◌, suc, IsTrue, zero, true, List, [], ◌∷◌, ◌++◌, map, filter, fold, not, length, get_or, Option, Some, None, Result, Ok, Err, IfErr, IfOk, refl, sym, ap, subst, ◌∙◌, inl, inr, arith}
+use Rattle.std.proofs.Common.{◌≡◌, ◌<◌, ◌≤◌, ◌+◌, ℕ, ℤ, pos, ◌+ℤ◌, suc, IsTrue, zero, true, List, [], ◌∷◌, map, filter, fold, not, length, get_or, Option, Some, None, Result, Ok, Err, IfOk, refl, sym, ap, subst, ◌∙◌, inl, inr, arith}
 use Rattle.std.proofs.lemmas.Int.{ints}
 use Rattle.std.specs.List.{AllByRecursion}
 use Rattle.sqlite_trees.specs.Tree.{Trees, rowid}
@@ -7,13 +7,10 @@ use Rattle.sqlite_trees.specs.declared.store.Store.{Ghosts}
 use Rattle.sqlite.specs.Held.{Held, state}
 use Rattle.sqlite.specs.Steps.{FailsToCommit}
 use Rattle.sqlite.specs.declared.error.Error.{Error}
-use Rattle.sqlite.specs.Edit.{next_rowid, id_in}
+use Rattle.sqlite.specs.Edit.{id_in}
 use Rattle.sqlite.specs.Effect.{Database}
-use Rattle.sqlite.specs.Order.{Row}
-use Rattle.sqlite.specs.declared.types.Value.TheVariants.{Int}
 use Rattle.sqlite.specs.State.{State, HasCleanDisk, Survives}
 use Rattle.statements_facts.specs.declared.fact.CrlFacts.{CrlFacts}
-use Rattle.statements_facts.specs.Listed.{ListedSerial}
 use Rattle.statements_facts.specs.declared.fact.Facts.{Facts}
 use Rattle.statements_facts.specs.declared.single.Single.{Single}
 use Rattle.statements_facts.specs.Single.{SingleFact, seen_single}
@@ -23,12 +20,12 @@ use Rattle.store_sql.specs.declared.fault.StoreFault.{StoreFault}
 use Rattle.store_sql.specs.declared.fault.StoreFault.TheVariants.{Store, Schema, Memory}
 use Rattle.store_sql.specs.Fault.{fault_from}
 use Rattle.store_sql.proofs.Laws.{begun_refuses, commit_refuses, later_refuses, sooner_refuses}
-use Rattle.store_rows.specs.Contents.{IssuerRow, CrlRow, SingleRow, Contents, id_of, single_row, is_single_of}
-use Rattle.store_rows.specs.Holding.{AreInForm, HasRoom, IsSaid, next_id, with_issuer, with_single}
+use Rattle.store_rows.specs.Contents.{CrlRow, SingleRow, Contents, id_of, single_row, is_single_of}
+use Rattle.store_rows.specs.Holding.{HasRoom, IsSaid, next_id, with_issuer, with_single}
 use Rattle.store_rows.specs.Room.{CanPutSingle, IssuerFitsRow, SingleFitsRow, LeavesIds, CrlsLeaveAnId, SinglesLeaveIds, EntriesFit}
-use Rattle.store_rows.specs.Steps.{Finds, HasFound, Fails, IsCaused, IsCausedOr, IsCausedIfRoom, IsKnown, Moves, Stays}
-use Rattle.store_maps.specs.Held.{IsStoreOf, held_in}
-use Rattle.store_taking.specs.Passing.{HasIssuer, LacksIssuer, IsIdOf, HasStepped}
+use Rattle.store_rows.specs.Steps.{HasFound, Fails, IsCaused, IsCausedOr, IsCausedIfRoom, Moves}
+use Rattle.store_maps.specs.Held.{held_in}
+use Rattle.store_taking.specs.Passing.{KnowsId}
 use Rattle.store_taking.specs.Room.{HasRoomFor, IsStoreWithRoom, KnowsWithRoom, LacksWithRoom, Knows, IsCausedOver, ListFits, FactsFit, HasRoomForFacts}
 use Rattle.store_taking.proofs.Chains.{still_holds}
 use Rattle.store_taking.proofs.Forms.{all_and, all_as, all_filtered, issuer_in_form, issuer_owned, id_below, last_is, new_id, single_in_form, single_owned}
@@ -166,8 +163,10 @@ added_knows old new identity issuers rows moves before =
       },
     )
 
-pub added_leaves : (old mid new : State) (identity : IssuerIdentity) (id issuers rows : ℕ) → Moves old mid (with_issuer identity) → IsIdOf mid new identity id → LacksWithRoom identity (suc issuers) rows old.now → KnowsWithRoom identity id issuers rows new.now
-added_leaves old mid new identity id issuers rows moves added before =
+pub added_leaves : (old mid new : State) (identity : IssuerIdentity) (result : Result ℕ StoreFault) (issuers rows : ℕ) → Moves old mid (with_issuer identity) → KnowsId mid new identity result
+    → IfOk result (λ id. LacksWithRoom identity (suc issuers) rows old.now → KnowsWithRoom identity id issuers rows new.now)
+added_leaves old mid new identity (Err fault) issuers rows moves fails = tt
+added_leaves old mid new identity (Ok id) issuers rows moves added = λ before.
     let store = before.was.store in
     let it = store.contents in
     let there = moves.rows store.origin it store.rows store.form in

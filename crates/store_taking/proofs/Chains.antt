@@ -8,7 +8,7 @@ use Rattle.store_sql.specs.declared.origin.Origin.{Origin}
 use Rattle.store_sql.specs.declared.fault.StoreFault.{StoreFault}
 use Rattle.store_rows.specs.Contents.{Contents}
 use Rattle.store_rows.specs.Holding.{HasContents, AreInForm}
-use Rattle.store_rows.specs.Steps.{Stays, Fails, Finds, HasFound, Moves}
+use Rattle.store_rows.specs.Steps.{Stays, Fails, Finds, HasFound, Moves, Changes}
 use Rattle.store_taking.specs.Passing.{HasStepped, StepFails, StepsTo}
 
 -- ---- rows
@@ -55,7 +55,7 @@ finds_then old mid new P a Q R (Err fault) one two leads = then_fails old mid ne
 moves_keep : (old new : State) (changed : Contents → Contents) → Moves old new changed → KeepsCommit old new
 moves_keep old new changed m = record { was_open = λ _. m.was_open; committed = λ _. m.committed_is }
 
-pub moves_then : (old mid new : State) (one two : Contents → Contents) → Moves old mid one → Moves mid new two → ((it : Contents) → AreInForm it → AreInForm (one it)) → Moves old new (λ it. two (one it))
+moves_then : (old mid new : State) (one two : Contents → Contents) → Moves old mid one → Moves mid new two → ((it : Contents) → AreInForm it → AreInForm (one it)) → Moves old new (λ it. two (one it))
 moves_then old mid new one two first second form = record {
   was_open = first.was_open;
   is_open = second.is_open;
@@ -64,11 +64,16 @@ moves_then old mid new one two first second form = record {
   rows = λ origin it held was. second.rows origin (one it) (first.rows origin it held was) (form it was);
 }
 
-pub moves_then_fails : (old mid new : State) (one : Contents → Contents) (fault : StoreFault) → Moves old mid one → Fails mid new fault → ((it : Contents) → AreInForm it → AreInForm (one it)) → Fails old new fault
+moves_then_fails : (old mid new : State) (one : Contents → Contents) (fault : StoreFault) → Moves old mid one → Fails mid new fault → ((it : Contents) → AreInForm it → AreInForm (one it)) → Fails old new fault
 moves_then_fails old mid new one fault first second form = record {
   keeps = keeps_then old mid new (moves_keep old mid one first) second.keeps;
   formed = λ e origin it held was. second.formed e origin (one it) (first.rows origin it held was) (form it was);
 }
+
+pub changes_then : {A : Type 0} (old mid new : State) (one two : Contents → Contents) (result : Result A StoreFault) → Moves old mid one → Changes mid new two result → ((it : Contents) → AreInForm it → AreInForm (one it))
+    → Changes old new (λ it. two (one it)) result
+changes_then old mid new one two (Ok done) first second form = moves_then old mid new one two first second form
+changes_then old mid new one two (Err fault) first second form = moves_then_fails old mid new one fault first second form
 
 -- ---- what is held
 

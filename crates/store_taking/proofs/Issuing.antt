@@ -1,14 +1,15 @@
 -- The id of an issuer, found or given.
-use Rattle.std.proofs.Common.{◌≡◌, ℕ, Option, Some, None, sym, subst, ◌∙◌}
+use Rattle.std.proofs.Common.{◌≡◌, ℕ, Option, Some, None, Result, Ok, Err, IfOk, sym, subst, ◌∙◌}
 use Rattle.sqlite.specs.State.{State}
 use Rattle.sqlite.proofs.InsideLemmas.{keeps_then}
 use Rattle.statements_facts.specs.Statement.{IssuerIdentity}
+use Rattle.store_sql.specs.declared.fault.StoreFault.{StoreFault}
 use Rattle.store_rows.specs.Contents.{id_of}
 use Rattle.store_rows.specs.Holding.{HasRoom, next_id, with_issuer}
 use Rattle.store_rows.specs.Steps.{HasFound, IsKnown, Moves}
 use Rattle.store_maps.specs.Held.{IsStoreOf}
 use Rattle.store_maps.proofs.HeldLaws.{same_held}
-use Rattle.store_taking.specs.Passing.{HasStepped, HasIssuer, LacksIssuer, IsIdOf}
+use Rattle.store_taking.specs.Passing.{HasStepped, StepsTo, HasIssuer, LacksIssuer, IsIdOf, KnowsId}
 use Rattle.store_taking.proofs.Chains.{still_holds}
 use Rattle.store_taking.proofs.Forms.{new_id, issuer_in_form, issuer_owned}
 
@@ -43,7 +44,7 @@ passes_unfound old new identity found is answer = record {
 }
 
 -- and is given one, which changes nothing that is held
-pub passes_added : (old mid new : State) (identity : IssuerIdentity) (id : ℕ) → Moves old mid (with_issuer identity) → IsIdOf mid new identity id → HasRoom id → HasStepped old new (LacksIssuer identity) (HasIssuer identity id)
+passes_added : (old mid new : State) (identity : IssuerIdentity) (id : ℕ) → Moves old mid (with_issuer identity) → IsIdOf mid new identity id → HasRoom id → HasStepped old new (LacksIssuer identity) (HasIssuer identity id)
 passes_added old mid new identity id moves added room = record {
   keeps = keeps_then old mid new (record { was_open = λ _. moves.was_open; committed = λ _. moves.committed_is }) added.keeps;
   mode = added.mode;
@@ -65,4 +66,12 @@ passes_added old mid new identity id moves added room = record {
         };
         known = sym there.1;
       };
+}
+
+pub adds_issuer : (old mid new : State) (identity : IssuerIdentity) (result : Result ℕ StoreFault) → Moves old mid (with_issuer identity) → KnowsId mid new identity result → IfOk result HasRoom
+    → StepsTo old new (LacksIssuer identity) (HasIssuer identity) result
+adds_issuer old mid new identity (Ok id) moves added room = passes_added old mid new identity id moves added room
+adds_issuer old mid new identity (Err fault) moves fails none = record {
+  keeps = keeps_then old mid new (record { was_open = λ _. moves.was_open; committed = λ _. moves.committed_is }) fails.keeps;
+  formed = λ e held was. fails.formed e;
 }

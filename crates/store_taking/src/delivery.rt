@@ -30,10 +30,8 @@ fn take_singles<S: Alter>(
     let all = response.singles.as_slice();
     let mut counts = Counts::none();
     'each: for single in all {
-        match take_single(tx, &response.issuer, single) {
-            Ok(outcome) => counts = counts.and(outcome),
-            Err(fault) => return Err(fault),
-        }
+        let outcome = take_single(tx, &response.issuer, single)?;
+        counts = counts.and(outcome);
     }
     Ok(counts)
 }
@@ -49,10 +47,10 @@ fn take_all<S: Alter>(tx: &mut Transaction<'_, S>, facts: &Facts<'_>) -> Result<
     ensures survives { CommitsNothing (inside S.Store tx.old) (inside S.Store tx.new) }
 {
     match facts {
-        Facts::Crl(list) => match take_list(tx, list) {
-            Ok(outcome) => Ok(Counts::none().and(outcome)),
-            Err(fault) => Err(fault),
-        },
+        Facts::Crl(list) => {
+            let outcome = take_list(tx, list)?;
+            Ok(Counts::none().and(outcome))
+        }
         Facts::Ocsp(response) => take_singles(tx, response),
     }
 }
@@ -68,14 +66,9 @@ fn deliver<S: Alter>(conn: &mut Connection<S>, facts: &Facts<'_>) -> Result<Coun
     ensures survives { AllOrNothing (state S.Store conn.old) (state S.Store conn.new) facts.now }
 {
     let mut tx = conn.transaction();
-    let counts = match take_all(&mut tx, facts) {
-        Ok(counts) => counts,
-        Err(fault) => return Err(fault),
-    };
-    match tx.commit() {
-        Ok(()) => Ok(counts),
-        Err(error) => Err(StoreFault::from(error)),
-    }
+    let counts = take_all(&mut tx, facts)?;
+    tx.commit()?;
+    Ok(counts)
 }
 
 /// Puts all facts of a statement into a store, in order and in one transaction; then each slot holds the newest. After a fault what is

@@ -57,13 +57,8 @@ fn new_issuer<S: Alter>(tx: &mut Transaction<'_, S>, issuer: &Issuer<'_>) -> Res
         (λ id. KnowsWithRoom (seen_issuer issuer.now) id issuers rows) result }
     ensures survives { CommitsNothing (inside S.Store tx.old) (inside S.Store tx.new) }
 {
-    if let Err(fault) = add_issuer(tx, issuer) {
-        return Err(fault);
-    }
-    match id_of_added(tx, issuer) {
-        Ok(id) => Ok(id),
-        Err(fault) => Err(fault),
-    }
+    add_issuer(tx, issuer)?;
+    id_of_added(tx, issuer)
 }
 
 /// The id of an issuer, who is added if it is new: that changes nothing that is held.
@@ -82,9 +77,8 @@ pub(crate) fn issuer_id<S: Alter>(
     ensures room { IfOk result HasRoom }
     ensures survives { CommitsNothing (inside S.Store tx.old) (inside S.Store tx.new) }
 {
-    match find_issuer(tx, issuer) {
-        Ok(Some(id)) => Ok(id),
-        Ok(None) => new_issuer(tx, issuer),
-        Err(fault) => Err(fault),
+    match find_issuer(tx, issuer)? {
+        Some(id) => Ok(id),
+        None => new_issuer(tx, issuer),
     }
 }

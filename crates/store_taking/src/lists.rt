@@ -73,10 +73,10 @@ fn outcome_by_entries<S: Alter>(
         (λ _. 4294967296 ≤ length list.now.revoked) result }
     ensures survives { CommitsNothing (inside S.Store tx.old) (inside S.Store tx.new) }
 {
-    match has_entries(tx, key, &list.revoked) {
-        Ok(true) => Ok(TakenAs::Kept),
-        Ok(false) => Ok(TakenAs::Contradicted),
-        Err(fault) => Err(fault),
+    if has_entries(tx, key, &list.revoked)? {
+        Ok(TakenAs::Kept)
+    } else {
+        Ok(TakenAs::Contradicted)
     }
 }
 
@@ -94,10 +94,8 @@ fn outcome_of_list<S: Alter>(
         (λ _. 4294967296 ≤ length list.now.revoked) result }
     ensures survives { CommitsNothing (inside S.Store tx.old) (inside S.Store tx.new) }
 {
-    let held = match find_crl(tx, key.issuer, key.scope) {
-        Ok(Some(held)) => held,
-        Ok(None) => return Ok(TakenAs::Stored),
-        Err(fault) => return Err(fault),
+    let Some(held) = find_crl(tx, key.issuer, key.scope)? else {
+        return Ok(TakenAs::Stored);
     };
     match outcome_by_head(&held, list) {
         Some(outcome) => Ok(outcome),
@@ -122,13 +120,8 @@ fn store_list<S: Alter>(
     ensures survives { CommitsNothing (inside S.Store tx.old) (inside S.Store tx.new) }
 {
     let head = head_of(list);
-    if let Err(fault) = replace_crl(tx, key.issuer, key.scope, &head) {
-        return Err(fault);
-    }
-    match replace_entries(tx, key, &list.revoked) {
-        Ok(()) => Ok(()),
-        Err(fault) => Err(fault),
-    }
+    replace_crl(tx, key.issuer, key.scope, &head)?;
+    replace_entries(tx, key, &list.revoked)
 }
 
 fn take_under<S: Alter>(
@@ -148,18 +141,13 @@ fn take_under<S: Alter>(
         issuer: id,
         scope: list.scope,
     };
-    let outcome = match outcome_of_list(tx, &key, list) {
-        Ok(outcome) => outcome,
-        Err(fault) => return Err(fault),
-    };
+    let outcome = outcome_of_list(tx, &key, list)?;
     match outcome {
         TakenAs::Stored => {}
         _ => return Ok(outcome),
     }
-    match store_list(tx, &key, list) {
-        Ok(()) => Ok(TakenAs::Stored),
-        Err(fault) => Err(fault),
-    }
+    store_list(tx, &key, list)?;
+    Ok(TakenAs::Stored)
 }
 
 /// Takes a list, inside a transaction: it is held if it is the first of its issuer and scope, or newer. A fault leaves what was written so

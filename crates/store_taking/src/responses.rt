@@ -65,10 +65,9 @@ fn outcome_of_single<S: Alter>(
     ensures caused { CausedIn S.Store tx.old tx.new result }
     ensures survives { CommitsNothing (inside S.Store tx.old) (inside S.Store tx.new) }
 {
-    match find_single(tx, id, single.name_hash, single.serial) {
-        Ok(Some(held)) => Ok(outcome_beside(&held, single)),
-        Ok(None) => Ok(TakenAs::Stored),
-        Err(fault) => Err(fault),
+    match find_single(tx, id, single.name_hash, single.serial)? {
+        Some(held) => Ok(outcome_beside(&held, single)),
+        None => Ok(TakenAs::Stored),
     }
 }
 
@@ -89,19 +88,14 @@ fn take_under<S: Alter>(
         (λ _. IsStoreWithRoom issuers rows) result }
     ensures survives { CommitsNothing (inside S.Store tx.old) (inside S.Store tx.new) }
 {
-    let outcome = match outcome_of_single(tx, id, single) {
-        Ok(outcome) => outcome,
-        Err(fault) => return Err(fault),
-    };
+    let outcome = outcome_of_single(tx, id, single)?;
     match outcome {
         TakenAs::Stored => {}
         _ => return Ok(outcome),
     }
     is_said(single.status);
-    match replace_single(tx, id, single) {
-        Ok(()) => Ok(TakenAs::Stored),
-        Err(fault) => Err(fault),
-    }
+    replace_single(tx, id, single)?;
+    Ok(TakenAs::Stored)
 }
 
 /// Takes what a response says of one certificate, inside a transaction: it is held if it is the first, or newer. A fault leaves what was

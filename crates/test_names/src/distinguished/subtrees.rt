@@ -3,6 +3,7 @@
 use super::*;
 use names::{General, Subtree};
 use names_order::Index;
+use std::slice::from_ref;
 
 const SWEDEN: Row<'_> = (1, COUNTRY, PRINTABLE, b"SE");
 
@@ -124,18 +125,43 @@ const FOUND: &[(&str, &[Row<'_>], bool)] = &[
     ),
 ];
 
+/// What is not answered right, if something is.
+fn mistake(alloc: Global, index: &Index<'_>) -> Result<Option<&'static str>, Fail> {
+    for (what, rows, want) in FOUND.iter() {
+        let octets = name_of(alloc, rows)?;
+        let name = read(&octets)?;
+        let covers = index.covers(&General::Directory(name));
+        let holds = index.holds(&Subtree::Directory(name));
+        if covers != *want || holds != *want {
+            return Ok(Some(*what));
+        }
+    }
+    Ok(None)
+}
+
 #[test]
 fn directory_names_are_found(rt: HostRuntime) -> Result<(), Fail> {
     let bases = bases(rt.alloc())?;
     let index = index_of(rt.alloc(), &bases)?;
-    for (what, rows, want) in FOUND.iter() {
-        let octets = name_of(rt.alloc(), rows)?;
-        let name = read(&octets)?;
-        let covers = index.covers(&General::Directory(name));
-        let holds = index.holds(&Subtree::Directory(name));
-        assert!(rt; covers == *want && holds == *want, "{what}");
-    }
+    assert_eq!(rt; mistake(rt.alloc(), &index)?, None);
     assert!(rt; !index.covers(&General::Dns(b"a.example")));
+    Ok(())
+}
+
+/// An index that is joined of a long one and a short one.
+fn joined_index_of<'a>(alloc: Global, bases: &'a [Vec<u8>]) -> Result<Index<'a>, Fail> {
+    let (front, back) = bases.split_at(bases.len() - bases.len() / 4);
+    let first = index_of(alloc, front)?;
+    let second = index_of(alloc, back)?;
+    Ok(Index::joined(alloc, from_ref(&first), second)?)
+}
+
+#[test]
+fn directory_names_are_found_in_joined_indexes(rt: HostRuntime) -> Result<(), Fail> {
+    let bases = bases(rt.alloc())?;
+    let index = joined_index_of(rt.alloc(), &bases)?;
+    assert_eq!(rt; index.subtrees().len(), bases.len());
+    assert_eq!(rt; mistake(rt.alloc(), &index)?, None);
     Ok(())
 }
 
@@ -167,16 +193,28 @@ fn short_names(alloc: Global) -> Result<Vec<Vec<u8>>, AllocError> {
     Ok(octets)
 }
 
-/// Whether a name in one of these is found, and one beside them is not.
-fn finds_and_misses(alloc: Global) -> Result<bool, AllocError> {
-    let octets = short_names(alloc)?;
+fn index_of_short<'a>(alloc: Global, octets: &'a [Vec<u8>]) -> Result<Index<'a>, AllocError> {
     let mut list = Vec::new(alloc);
-    for name in &octets {
+    for name in octets {
         if let Some(name) = name_in(name) {
             list.push(Subtree::Directory(name))?;
         }
     }
-    let index = Index::of(alloc, list)?;
+    Index::of(alloc, list)
+}
+
+/// An index that is joined of two of half of the names each.
+fn joined_of_short<'a>(alloc: Global, octets: &'a [Vec<u8>]) -> Result<Index<'a>, AllocError> {
+    let (front, back) = octets.split_at(octets.len() / 2);
+    let first = index_of_short(alloc, front)?;
+    let second = index_of_short(alloc, back)?;
+    Index::joined(alloc, from_ref(&first), second)
+}
+
+/// Whether a name in one of these is found, and one beside them is not.
+fn finds_and_misses(alloc: Global) -> Result<bool, AllocError> {
+    let octets = short_names(alloc)?;
+    let index = joined_of_short(alloc, &octets)?;
     let inside = short_name(alloc, 31)?;
     let beside = short_name(alloc, 41)?;
     Ok(is_found(&index, &inside) && !is_found(&index, &beside))

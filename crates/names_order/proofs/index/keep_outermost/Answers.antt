@@ -7,5 +7,5 @@ use Rattle.names_order.proofs.index.keep_outermost.Goals as goal
 
 pub returns : goal.returns
 returns c =
-    outermost_keys c.args.keys.now.items c.sort_unstable.new.self.items c.dedup_by.new.self.items c.sort_unstable.ensures.permutation c.sort_unstable.ensures.sorted
+    outermost_keys c.args.keys.now.items c.sort.new.self.items c.dedup_by.new.self.items c.sort.ensures.permutation c.in_ok-sort.ensures.sorted
     (dedup_same _ (λ one other. begins_with (octets_in one) (octets_in other)) _ (λ x y b f x' y' k. search rules) _ _ c.dedup_by.ensures.filtered)

@@ -1,4 +1,4 @@
-use Rattle.std.proofs.Common.{◌≡◌, ◌∙◌, ap, rules}
+use Rattle.std.proofs.Common.{◌∙◌, ap, rules}
 use Rattle.std.specs.List.{dedup}
 use Rattle.std.proofs.lemmas.Fn.{dedup_same}
 use Rattle.names_order.specs.Index.{lies_in_other}
@@ -6,5 +6,4 @@ use Rattle.names_order.proofs.index.select_outermost.Goals as goal
 
 pub returns : goal.returns
 returns c =
-    let copied : c.extend_from_slice.new.self.items ≡ c.args.sorted.now = search rules in
-    dedup_same _ lies_in_other _ (λ x y b f x' y' k. search rules) _ _ c.dedup_by.ensures.filtered ∙ ap (dedup lies_in_other) copied
+    dedup_same _ lies_in_other _ (λ x y b f x' y' k. search rules) _ _ c.dedup_by.ensures.filtered ∙ ap (dedup lies_in_other) c.in_ok-tops.ensures

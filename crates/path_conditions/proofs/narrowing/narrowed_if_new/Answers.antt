@@ -1,7 +1,5 @@
-use Rattle.std.proofs.Common.{sym, ◌∙◌, ap, Option, List}
-use Rattle.std.proofs.lemmas.Result.{IfOk-weaker}
-use Rattle.names.specs.GeneralLayout.{SubtreeBase}
-use Rattle.path_conditions.specs.Narrowing.{bases_of, changed}
+use Rattle.std.proofs.Common.{sym, ◌∙◌}
+use Rattle.path_conditions.specs.Narrowing.{bases_of}
 use Rattle.path_conditions.proofs.Repeated.{held_again}
 use Rattle.path_conditions.proofs.narrowing.narrowed_if_new.Goals as goal
 
@@ -10,5 +8,4 @@ returns-then-is_held_again-clause-value c =
     held_again c.args.form c.args.held.now (bases_of c.args.carried.now) (sym c.is_held_again.ensures ∙ c.if-is_held_again.true)
 
 pub returns-clause-value : goal.returns-clause-value
-returns-clause-value c =
-    IfOk-weaker c.narrowed_list.result _ _ (λ change is. ap (λ (o : Option (List SubtreeBase)). changed c.args.held.now o) is) c.narrowed_list.ensures.value
+returns-clause-value c = c.narrowed_list.ensures.value

@@ -1,4 +1,5 @@
 use Rattle.std.proofs.Common.{◌≡◌, length, refl, sym, subst, arith, Ok, Err, inl}
+use Rattle.std.proofs.lemmas.Result.{err_from_is_err_and}
 use Rattle.sqlite.specs.Held.{state}
 use Rattle.sqlite.specs.Listing.{understood}
 use Rattle.sqlite.proofs.Callers.{IsPlain}
@@ -18,13 +19,14 @@ use Rattle.store_adoption.proofs.inspection.inspect_version.Goals as goal
 pub test_rows-requires-clause-plain : goal.test_rows-requires-clause-plain
 test_rows-requires-clause-plain g c clean = subst (λ s. IsPlain (understood s all_versions)) (sym (c.requires.ours clean)) (shows_versions c.args.origin).2
 
-pub returns-in-Err-clause-checks : goal.returns-in-Err-clause-checks
-returns-in-Err-clause-checks g c clean =
+pub returns-in_err-test_rows-clause-checks : goal.returns-in_err-test_rows-clause-checks
+returns-in_err-test_rows-clause-checks g c clean =
+    let p = err_from_is_err_and c.from_residual.result c.from_residual.ensures.1 in
     let old = state g.S.Store c.args.conn.now in
     let step = c.test_rows.ensures.survives.clean in
     let ours = c.requires.ours (omega (arith, step, clean)) in
     let it = shows_versions c.args.origin in
-    checked (store_schema c.args.origin) all_versions 0 _ _ version_cells it.0 it.1 it.2 (λ r. refl) {A = Unit {0}} old _ (λ _. Unit {0}) (λ rows. AllByRecursion (IsVersionCells 2) rows × (length rows ≡ 1)) (Err c.in-Err.fault) ours (λ ordered. (in_order c.args.origin old.now ours ordered).versions.0) (c.in-Err.ensures.tests clean)
+    rw (p.1, p.2) (checked (store_schema c.args.origin) all_versions 0 _ _ version_cells it.0 it.1 it.2 (λ r. refl) {A = Unit {0}} old _ (λ _. Unit {0}) (λ rows. AllByRecursion (IsVersionCells 2) rows × (length rows ≡ 1)) (Err _) ours (λ ordered. (in_order c.args.origin old.now ours ordered).versions.0) (c.in_err-test_rows.ensures.tests clean))
 
 pub returns-then-test-clause-checks : goal.returns-then-test-clause-checks
 returns-then-test-clause-checks g c clean =
@@ -32,8 +34,8 @@ returns-then-test-clause-checks g c clean =
     let step = c.test_rows.ensures.survives.clean in
     let ours = c.requires.ours (omega (arith, step, clean)) in
     let it = shows_versions c.args.origin in
-    let h = checked (store_schema c.args.origin) all_versions 0 _ _ version_cells it.0 it.1 it.2 (λ r. refl) {A = Unit {0}} old _ _ (λ rows. AllByRecursion (IsVersionCells 2) rows × (length rows ≡ 1)) (Ok c.in_default.field-0) ours (λ ordered. (in_order c.args.origin old.now ours ordered).versions.0) (c.in_default.ensures.tests clean) in
-    (h.0, λ ordered. let all = h.1 ordered in (c.in_default.ensures.same _).1 (all.0, rw c.if-test.true at all.1))
+    let h = checked (store_schema c.args.origin) all_versions 0 _ _ version_cells it.0 it.1 it.2 (λ r. refl) {A = Unit {0}} old _ _ (λ rows. AllByRecursion (IsVersionCells 2) rows × (length rows ≡ 1)) (Ok c.in_ok-test_rows.field-0) ours (λ ordered. (in_order c.args.origin old.now ours ordered).versions.0) (c.in_ok-test_rows.ensures.tests clean) in
+    (h.0, λ ordered. let all = h.1 ordered in (c.in_ok-test_rows.ensures.same _).1 (all.0, rw c.if-test.true at all.1))
 
 pub returns-else-test-clause-checks : goal.returns-else-test-clause-checks
 returns-else-test-clause-checks g c clean =
@@ -41,14 +43,15 @@ returns-else-test-clause-checks g c clean =
     let step = c.test_rows.ensures.survives.clean in
     let ours = c.requires.ours (omega (arith, step, clean)) in
     let it = shows_versions c.args.origin in
-    let h = checked (store_schema c.args.origin) all_versions 0 _ _ version_cells it.0 it.1 it.2 (λ r. refl) {A = Unit {0}} old _ _ (λ rows. AllByRecursion (IsVersionCells 2) rows × (length rows ≡ 1)) (Ok c.in_default.field-0) ours (λ ordered. (in_order c.args.origin old.now ours ordered).versions.0) (c.in_default.ensures.tests clean) in
+    let h = checked (store_schema c.args.origin) all_versions 0 _ _ version_cells it.0 it.1 it.2 (λ r. refl) {A = Unit {0}} old _ _ (λ rows. AllByRecursion (IsVersionCells 2) rows × (length rows ≡ 1)) (Ok c.in_ok-test_rows.field-0) ours (λ ordered. (in_order c.args.origin old.now ours ordered).versions.0) (c.in_ok-test_rows.ensures.tests clean) in
     (unchanged_keeps old (state g.S.Store c.test_rows.new.conn) (inl h.0), λ same ordered formed. let all = h.1 ordered in let none = rw c.if-test.false at all.1 in let one = formed.1 in absurd (omega (arith, none, one)))
 
-pub returns-in-Err-clause-caused : goal.returns-in-Err-clause-caused
-returns-in-Err-clause-caused g c clean e ordered =
+pub returns-in_err-test_rows-clause-caused : goal.returns-in_err-test_rows-clause-caused
+returns-in_err-test_rows-clause-caused g c clean =
+    let p = err_from_is_err_and c.from_residual.result c.from_residual.ensures.1 in
     let old = state g.S.Store c.args.conn.now in
     let step = c.test_rows.ensures.survives.clean in
     let ours = c.requires.ours (omega (arith, step, clean)) in
     let it = shows_versions c.args.origin in
-    stopped (store_schema c.args.origin) all_versions 0 _ _ version_cells it.0 it.1 it.2 (λ r. refl) old (state g.S.Store c.test_rows.new.conn) ours (in_order c.args.origin old.now ours ordered).versions.0
-    (c.in-Err.ensures.caused clean (subst (λ s. IsTableQuery s all_versions (understood s all_versions)) (sym ours) (answers_versions c.args.origin)) e)
+    rw (p.1, p.2) (λ e ordered. stopped (store_schema c.args.origin) all_versions 0 _ _ version_cells it.0 it.1 it.2 (λ r. refl) old (state g.S.Store c.test_rows.new.conn) ours (in_order c.args.origin old.now ours ordered).versions.0
+    (c.in_err-test_rows.ensures.caused clean (subst (λ s. IsTableQuery s all_versions (understood s all_versions)) (sym ours) (answers_versions c.args.origin)) e))

@@ -10,22 +10,22 @@ use Rattle.store_maps.proofs.Chains.{answered_as, found_in, caused_then, caused_
 use Rattle.store_maps.proofs.Looking.{none_held, on_ok, looks_under, looks_up}
 use Rattle.store_maps.proofs.crl_slot.crl.Goals as goal
 
-pub returns-in-Ok-None-clause-looks_up : goal.returns-in-Ok-None-clause-looks_up
-returns-in-Ok-None-clause-looks_up g c clean =
-    found_in _ _ _ _ (answered_as _ _ _ c.in-Ok-None.field-0 _ _ (c.in-Ok-None.ensures.finds clean)
-    (λ it is. sym (ap (option_map (answer_for c.args.serial.now)) (none_held _ c.in-Ok-None.field-0 (crl_under it c.args.scope) c.in-Ok-None.field-0-is is))))
+pub returns-in_default-clause-looks_up : goal.returns-in_default-clause-looks_up
+returns-in_default-clause-looks_up g c clean =
+    found_in _ _ _ _ (answered_as _ _ _ c.in_ok-id.field-0 _ _ (c.in_ok-id.ensures.finds clean)
+    (λ it is. sym (ap (option_map (answer_for c.args.serial.now)) (none_held _ c.in_ok-id.field-0 (crl_under it c.args.scope) c.in_default.is is))))
 
 pub returns-clause-looks_up : goal.returns-clause-looks_up
 returns-clause-looks_up g c clean =
     looks_up _ _ c.look_under.result (option_map seen_crl) (λ held. option_map (answer_for c.args.serial.now) (held.crl (record { issuer = seen_issuer c.args.issuer.now; scope = c.args.scope })))
-    (looks_under _ _ _ (seen_issuer c.args.issuer.now) c.in-Ok-Some.field-0 c.in-Ok-Some.id c.look_under.result (option_map seen_crl) (answer_for c.args.serial.now) (λ it. crl_under it c.args.scope) c.in-Ok-Some.field-0-is
-    (c.in-Ok-Some.ensures.finds (omega (arith, clean, c.look_under.ensures.survives.clean))) (c.look_under.ensures.finds clean))
+    (looks_under _ _ _ (seen_issuer c.args.issuer.now) c.in_ok-id.field-0 c.in-Some.id c.look_under.result (option_map seen_crl) (answer_for c.args.serial.now) (λ it. crl_under it c.args.scope) c.in-Some.is
+    (c.in_ok-id.ensures.finds (omega (arith, clean, c.look_under.ensures.survives.clean))) (c.look_under.ensures.finds clean))
 
-pub returns-in-Ok-None-clause-open : goal.returns-in-Ok-None-clause-open
-returns-in-Ok-None-clause-open g c clean = (c.in-Ok-None.ensures.known clean).was_open
+pub returns-in_default-clause-open : goal.returns-in_default-clause-open
+returns-in_default-clause-open g c clean = (c.in_ok-id.ensures.known clean).was_open
 
 pub returns-clause-open : goal.returns-clause-open
-returns-clause-open g c clean = on_ok c.look_under.result (c.in-Ok-Some.ensures.known (omega (arith, clean, c.look_under.ensures.survives.clean))).was_open
+returns-clause-open g c clean = on_ok c.look_under.result (c.in_ok-id.ensures.known (omega (arith, clean, c.look_under.ensures.survives.clean))).was_open
 
 pub returns-clause-caused : goal.returns-clause-caused
 returns-clause-caused g c clean =
@@ -33,4 +33,4 @@ returns-clause-caused g c clean =
     let mid = inside g.S.Store c.find_issuer.new.tx in
     let new = inside g.S.Store c.look_under.new.tx in
     let before : HasCleanDisk mid = omega (arith, clean, c.look_under.ensures.survives.clean) in
-    if_err_then c.look_under.result _ _ (c.look_under.ensures.caused clean) (λ fault two. caused_held old new fault (caused_then old mid new _ c.in-Ok-Some.field-0 fault c.find_issuer.ensures.survives c.look_under.ensures.survives before (c.in-Ok-Some.ensures.finds before) two))
+    if_err_then c.look_under.result _ _ (c.look_under.ensures.caused clean) (λ fault two. caused_held old new fault (caused_then old mid new _ c.in_ok-id.field-0 fault c.find_issuer.ensures.survives c.look_under.ensures.survives before (c.in_ok-id.ensures.finds before) two))

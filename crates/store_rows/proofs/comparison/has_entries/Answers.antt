@@ -1,4 +1,5 @@
 use Rattle.std.proofs.Common.{arith, length, map, refl, ◌≡◌, ◌∙◌}
+use Rattle.std.proofs.lemmas.Result.{err_from_is_err_and}
 use Rattle.sqlite.specs.Held.{state}
 use Rattle.sqlite.proofs.StateLemmas.{survives_then}
 use Rattle.statements_facts.specs.Listed.{seen_listed}
@@ -25,21 +26,22 @@ each-preserved g c =
       l.3,
       λ clean.
           let so = l.4 (omega (arith, clean, c.has_at.ensures.survives.clean)) in
-          let there = rw (l.2, c.in-Ok-true.field-0-test) at (c.in-Ok-true.ensures.finds clean) in
+          let there = rw (l.2, c.if-not-branch.false) at (c.in_ok-has_at.ensures.finds clean) in
           comparison_goes_on _ _ _ c.args.list.now.issuer (scope_number c.args.list.now.scope) c.as_slice-all.result.now c.each.listed-index so _ c.each-test.true there,
     )
 
-pub returns-in-Ok-false-clause-finds : goal.returns-in-Ok-false-clause-finds
-returns-in-Ok-false-clause-finds g c clean =
+pub returns-then-not-branch-clause-finds : goal.returns-then-not-branch-clause-finds
+returns-then-not-branch-clause-finds g c clean =
     let l = c.each.invariant in
     let so = l.4 (omega (arith, clean, c.has_at.ensures.survives.clean)) in
-    let there = rw (l.2, c.in-Ok-false.field-0-test) at (c.in-Ok-false.ensures.finds clean) in
+    let there = rw (l.2, c.if-not-branch.true) at (c.in_ok-has_at.ensures.finds clean) in
     rw c.as_slice-all.ensures.entries at (comparison_stops _ _ _ c.args.list.now.issuer (scope_number c.args.list.now.scope) c.as_slice-all.result.now c.each.listed-index so _ c.each-test.true there)
 
-pub returns-in-Err-clause-finds : goal.returns-in-Err-clause-finds
-returns-in-Err-clause-finds g c clean =
+pub returns-in_err-has_at-clause-finds : goal.returns-in_err-has_at-clause-finds
+returns-in_err-has_at-clause-finds g c clean =
+    let p = err_from_is_err_and c.from_residual.result c.from_residual.ensures.1 in
     let so = c.each.invariant.4 (omega (arith, clean, c.has_at.ensures.survives.clean)) in
-    comparison_fails _ _ _ c.args.list.now.issuer (scope_number c.args.list.now.scope) c.as_slice-all.result.now c.each.listed-index so c.in-Err.fault (c.in-Err.ensures.finds clean)
+    rw (p.1, p.2) (comparison_fails _ _ _ c.args.list.now.issuer (scope_number c.args.list.now.scope) c.as_slice-all.result.now c.each.listed-index so _ (c.in_err-has_at.ensures.finds clean))
 
 pub returns-clause-finds : goal.returns-clause-finds
 returns-clause-finds g c clean =

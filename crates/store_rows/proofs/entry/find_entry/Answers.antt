@@ -1,4 +1,5 @@
 use Rattle.std.proofs.Common.{arith, ◌+◌, ◌-◌, ◌/◌, ◌∙◌, refl}
+use Rattle.std.proofs.lemmas.Result.{err_from_is_err_and}
 use Rattle.sqlite.specs.Held.{state}
 use Rattle.sqlite.specs.State.{HasCleanDisk}
 use Rattle.sqlite.proofs.StateLemmas.{survives_then}
@@ -18,7 +19,7 @@ loop-low-preserved-in-Nothing g c =
       c.stands_at.ensures.same_reference ∙ l.0,
       survives_then _ _ _ (λ _. ⊥) (λ _. ⊥) (λ _. ⊥) (λ _ _ none. none) (λ _ _ none. none) l.1 c.stands_at.ensures.survives,
       omega (arith, l.2, c.loop-low-test.true),
-      λ clean. search_back (state g.S.Store c.args.tx.now.conn.now) _ _ c.args.list.now.issuer (scope_number c.args.list.now.scope) c.args.serial.now c.loop-low.low c.loop-low.high middle c.in-Ok.beside (l.3 (omega (arith, clean, c.stands_at.ensures.survives.clean))) (c.in-Ok.ensures.finds clean) c.in-Nothing.is,
+      λ clean. search_back (state g.S.Store c.args.tx.now.conn.now) _ _ c.args.list.now.issuer (scope_number c.args.list.now.scope) c.args.serial.now c.loop-low.low c.loop-low.high middle c.in_ok-beside.beside (l.3 (omega (arith, clean, c.stands_at.ensures.survives.clean))) (c.in_ok-beside.ensures.finds clean) c.in-Nothing.is,
     )
 
 pub loop-low-preserved-in-Below : goal.loop-low-preserved-in-Below
@@ -28,7 +29,7 @@ loop-low-preserved-in-Below g c =
       c.stands_at.ensures.same_reference ∙ l.0,
       survives_then _ _ _ (λ _. ⊥) (λ _. ⊥) (λ _. ⊥) (λ _ _ none. none) (λ _ _ none. none) l.1 c.stands_at.ensures.survives,
       omega (arith, l.2, c.loop-low-test.true),
-      λ clean. search_up (state g.S.Store c.args.tx.now.conn.now) _ _ c.args.list.now.issuer (scope_number c.args.list.now.scope) c.args.serial.now c.loop-low.low c.loop-low.high middle c.in-Ok.beside (l.3 (omega (arith, clean, c.stands_at.ensures.survives.clean))) (c.in-Ok.ensures.finds clean) c.in-Below.is,
+      λ clean. search_up (state g.S.Store c.args.tx.now.conn.now) _ _ c.args.list.now.issuer (scope_number c.args.list.now.scope) c.args.serial.now c.loop-low.low c.loop-low.high middle c.in_ok-beside.beside (l.3 (omega (arith, clean, c.stands_at.ensures.survives.clean))) (c.in_ok-beside.ensures.finds clean) c.in-Below.is,
     )
 
 pub loop-low-preserved : goal.loop-low-preserved
@@ -38,25 +39,28 @@ loop-low-preserved g c =
       c.stands_at.ensures.same_reference ∙ l.0,
       survives_then _ _ _ (λ _. ⊥) (λ _. ⊥) (λ _. ⊥) (λ _ _ none. none) (λ _ _ none. none) l.1 c.stands_at.ensures.survives,
       omega (arith, l.2, c.loop-low-test.true),
-      λ clean. search_down (state g.S.Store c.args.tx.now.conn.now) _ _ c.args.list.now.issuer (scope_number c.args.list.now.scope) c.args.serial.now c.loop-low.low c.loop-low.high middle c.in-Ok.beside (l.3 (omega (arith, clean, c.stands_at.ensures.survives.clean))) (c.in-Ok.ensures.finds clean) c.in-Above.is,
+      λ clean. search_down (state g.S.Store c.args.tx.now.conn.now) _ _ c.args.list.now.issuer (scope_number c.args.list.now.scope) c.args.serial.now c.loop-low.low c.loop-low.high middle c.in_ok-beside.beside (l.3 (omega (arith, clean, c.stands_at.ensures.survives.clean))) (c.in_ok-beside.ensures.finds clean) c.in-Above.is,
     )
 
 pub returns-in-Same-clause-finds : goal.returns-in-Same-clause-finds
 returns-in-Same-clause-finds g c clean =
     let l = c.loop-low.invariant in
     let middle = c.loop-low.low + (c.loop-low.high - c.loop-low.low) / 2 in
-    search_ends (state g.S.Store c.args.tx.now.conn.now) _ _ c.args.list.now.issuer (scope_number c.args.list.now.scope) c.args.serial.now c.loop-low.low c.loop-low.high middle c.in-Ok.beside (l.3 (omega (arith, clean, c.stands_at.ensures.survives.clean))) (c.in-Ok.ensures.finds clean) c.in-Same.reason c.in-Same.is
+    search_ends (state g.S.Store c.args.tx.now.conn.now) _ _ c.args.list.now.issuer (scope_number c.args.list.now.scope) c.args.serial.now c.loop-low.low c.loop-low.high middle c.in_ok-beside.beside (l.3 (omega (arith, clean, c.stands_at.ensures.survives.clean))) (c.in_ok-beside.ensures.finds clean) c.in-Same.reason c.in-Same.is
 
-pub returns-in-Err-clause-finds : goal.returns-in-Err-clause-finds
-returns-in-Err-clause-finds g c clean =
-    search_fails (state g.S.Store c.args.tx.now.conn.now) _ _ c.args.list.now.issuer (scope_number c.args.list.now.scope) c.args.serial.now c.loop-low.low c.loop-low.high c.in-Err.fault (c.loop-low.invariant.3 (omega (arith, clean, c.stands_at.ensures.survives.clean))) (c.in-Err.ensures.finds clean)
+pub returns-in_err-beside-clause-finds : goal.returns-in_err-beside-clause-finds
+returns-in_err-beside-clause-finds g c clean =
+    let p = err_from_is_err_and c.from_residual.result c.from_residual.ensures.1 in
+    rw (p.1, p.2) (search_fails (state g.S.Store c.args.tx.now.conn.now) _ _ c.args.list.now.issuer (scope_number c.args.list.now.scope) c.args.serial.now c.loop-low.low c.loop-low.high _ (c.loop-low.invariant.3 (omega (arith, clean, c.stands_at.ensures.survives.clean))) (c.in_err-beside.ensures.finds clean))
 
-pub returns-in-Err-clause-caused : goal.returns-in-Err-clause-caused
-returns-in-Err-clause-caused g c clean e origin it held form =
+pub returns-in_err-beside-clause-caused : goal.returns-in_err-beside-clause-caused
+returns-in_err-beside-clause-caused g c clean =
+    let p = err_from_is_err_and c.from_residual.result c.from_residual.ensures.1 in
     let l = c.loop-low.invariant in
     let before : HasCleanDisk (state g.S.Store c.loop-low.tx.conn.now) = omega (arith, clean, c.stands_at.ensures.survives.clean) in
+    rw (p.1, p.2) (λ e origin it held form.
     let was = ((l.3 before).rows origin it held form).0 in
-    later_refuses _ _ _ (λ _. ⊥) (λ _. ⊥) l.1 c.stands_at.ensures.survives before (c.in-Err.ensures.caused clean e origin it (still_holds _ _ origin it was held) form)
+    later_refuses _ _ _ (λ _. ⊥) (λ _. ⊥) l.1 c.stands_at.ensures.survives before (c.in_err-beside.ensures.caused clean e origin it (still_holds _ _ origin it was held) form))
 
 pub returns-clause-finds : goal.returns-clause-finds
 returns-clause-finds g c clean =

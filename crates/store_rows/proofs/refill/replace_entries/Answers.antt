@@ -1,5 +1,4 @@
-use Rattle.std.proofs.Common.{◌≡◌, false, Result, Ok, Err, OnOk, arith, subst, sym, ap, ◌∙◌, true≢false}
-use Rattle.std.specs.Result.{is_err}
+use Rattle.std.proofs.Common.{arith, subst, sym, ap, ◌∙◌}
 use Rattle.sqlite.specs.Held.{state}
 use Rattle.sqlite.specs.State.{HasCleanDisk}
 use Rattle.sqlite.specs.Values.{bound}
@@ -11,10 +10,6 @@ use Rattle.store_rows.proofs.Entries.{scope_low}
 use Rattle.store_rows.proofs.Refills.{emptied_first, one_more, one_more_byte, one_more_group, group_bytes, all_written, not_one_more, not_one_more_group}
 use Rattle.store_rows.proofs.Refused.{as_refused, entries_not_deleted}
 use Rattle.store_rows.proofs.refill.replace_entries.Goals as goal
-
-where_ok : {A E P : Type 0} (result : Result A E) → is_err result ≡ false → OnOk result P → P
-where_ok (Ok value) fine p = p
-where_ok (Err error) fine p = absurd (true≢false fine)
 
 pub returns-in_err-empty-clause-caused : goal.returns-in_err-empty-clause-caused
 returns-in_err-empty-clause-caused g c clean =
@@ -42,30 +37,28 @@ groups-smaller g c = omega (arith, c.groups-test.true)
 
 pub groups-preserved : goal.groups-preserved
 groups-preserved g c =
-    let l = c.groups.invariant in
-    let fine : is_err c.fill_columns.result ≡ false = sym c.is_err.ensures.value ∙ c.if-is_err.false in (
+    let l = c.groups.invariant in (
       c.insert_entries.ensures.same_reference ∙ l.0,
       survives_then _ _ _ (λ _. ⊥) (λ _. ⊥) (λ _. ⊥) (λ _ _ none. none) (λ _ _ none. none) l.1 c.insert_entries.ensures.survives,
       omega (arith, c.groups-test.true),
       l.3,
-      group_bytes c.as_slice-all.result.now c.groups.index l.4 (where_ok c.fill_columns.result fine c.fill_columns.ensures.bytes),
+      group_bytes c.as_slice-all.result.now c.groups.index l.4 c.in_ok-fill_columns.ensures.bytes,
       λ clean.
           let so = l.5 (omega (arith, clean, c.insert_entries.ensures.survives.clean)) in
           one_more_group _ _ _ c.args.list.now.issuer (scope_number c.args.list.now.scope) c.groups.index c.as_slice-all.result.now (omega (arith, c.groups-test.true)) l.3
           (subst IsAscending (sym c.as_slice-all.ensures.entries) c.as_slice-all.ensures.ascend) c.requires.issuer (scope_low c.args.list.now.scope) so c.in_ok-insert_entries.field-0
-          (rw (ap bound c.deref.ensures.value ∙ where_ok c.fill_columns.result fine c.fill_columns.ensures.columns) at (c.in_ok-insert_entries.ensures.runs clean so.mode)),
+          (rw (ap bound c.deref.ensures.value ∙ c.in_ok-fill_columns.ensures.columns) at (c.in_ok-insert_entries.ensures.runs clean so.mode)),
     )
 
 pub returns-in_err-insert_entries-clause-caused : goal.returns-in_err-insert_entries-clause-caused
 returns-in_err-insert_entries-clause-caused g c clean =
     let l = c.groups.invariant in
-    let fine : is_err c.fill_columns.result ≡ false = sym c.is_err.ensures.value ∙ c.if-is_err.false in
     let middle : HasCleanDisk (state g.S.Store c.groups.tx.conn.now) = omega (arith, clean, c.insert_entries.ensures.survives.clean) in
     let so = l.5 middle in
     as_refused c.from_residual-in_err-insert_entries.result _ _ c.from_residual-in_err-insert_entries.ensures.1 (λ e origin it held form fit.
     not_one_more_group _ _ _ c.args.list.now.issuer (scope_number c.args.list.now.scope) c.groups.index c.as_slice-all.result.now (omega (arith, c.groups-test.true)) l.3
     (subst IsAscending (sym c.as_slice-all.ensures.entries) c.as_slice-all.ensures.ascend) c.requires.issuer (scope_low c.args.list.now.scope) so l.1 c.insert_entries.ensures.survives middle _
-    (rw (ap bound c.deref.ensures.value ∙ where_ok c.fill_columns.result fine c.fill_columns.ensures.columns) at (c.in_err-insert_entries.ensures.runs clean so.mode))
+    (rw (ap bound c.deref.ensures.value ∙ c.in_ok-fill_columns.ensures.columns) at (c.in_err-insert_entries.ensures.runs clean so.mode))
     e origin it held form (subst EntriesFit (sym c.as_slice-all.ensures.entries) fit))
 
 pub rest-init : goal.rest-init

@@ -1,3 +1,4 @@
+use Rattle.std.proofs.lemmas.Result.{err_from_is_err_and}
 use Rattle.std.proofs.Common.{arith, length, map, refl, subst, sym, ap, take, suc, ◌≡◌, ◌<◌, ◌∙◌, inl, inr}
 use Rattle.std.specs.List.{AllByRecursion}
 use Rattle.sqlite.specs.Held.{state}
@@ -40,15 +41,16 @@ each-preserved g c =
           let so = l.3 (omega (arith, clean, c.take_single.ensures.survives.clean)) in
           let more = single_more issuer all k _ c.each-test.true in
           subst (λ facts. HasStepped (state g.S.Store c.args.tx.now.conn.now) (state g.S.Store c.take_single.new.tx.conn.now) IsStoreOf (AreTaken facts c.and-counts.result)) (sym more)
-          (one_more _ _ _ (facts_of_singles issuer (map seen_single (take k all))) _ c.each.counts c.and-counts.result c.in-Ok.outcome so (c.in-Ok.ensures.takes clean) c.and-counts.ensures.counted),
-      λ clean. inr ((l.3 (omega (arith, clean, c.take_single.ensures.survives.clean))).keeps.was_open (c.in-Ok.ensures.open clean)),
-      λ left at clean before. c.in-Ok.ensures.leaves left left clean (l.5 (suc left) (omega (arith, at)) (omega (arith, clean, c.take_single.ensures.survives.clean)) before),
+          (one_more _ _ _ (facts_of_singles issuer (map seen_single (take k all))) _ c.each.counts c.and-counts.result c.in_ok-outcome.outcome so (c.in_ok-outcome.ensures.takes clean) c.and-counts.ensures.counted),
+      λ clean. inr ((l.3 (omega (arith, clean, c.take_single.ensures.survives.clean))).keeps.was_open (c.in_ok-outcome.ensures.open clean)),
+      λ left at clean before. c.in_ok-outcome.ensures.leaves left left clean (l.5 (suc left) (omega (arith, at)) (omega (arith, clean, c.take_single.ensures.survives.clean)) before),
     )
 
-pub returns-in-Err-clause-takes : goal.returns-in-Err-clause-takes
-returns-in-Err-clause-takes g c clean =
+pub returns-in_err-outcome-clause-takes : goal.returns-in_err-outcome-clause-takes
+returns-in_err-outcome-clause-takes g c clean =
+    let p = err_from_is_err_and c.from_residual.result c.from_residual.ensures.1 in
     let l = c.each.invariant in
-    stops_on_the_way _ _ _ _ c.each.counts c.in-Err.fault (l.3 (omega (arith, clean, c.take_single.ensures.survives.clean))) (c.in-Err.ensures.takes clean)
+    rw (p.1, p.2) (stops_on_the_way _ _ _ _ c.each.counts _ (l.3 (omega (arith, clean, c.take_single.ensures.survives.clean))) (c.in_err-outcome.ensures.takes clean))
 
 pub returns-clause-takes : goal.returns-clause-takes
 returns-clause-takes g c clean =
@@ -61,8 +63,9 @@ returns-clause-open g c clean =
     let at_end : c.each.single-index ≡ length c.as_slice-all.result.now = omega (arith, c.each-test.false, c.each.auto.single-index-end) in
     some_told c.as_slice-all.result.now c.each.single-index _ c.as_slice-all.ensures.some at_end (c.each.invariant.4 clean)
 
-pub returns-in-Err-clause-caused : goal.returns-in-Err-clause-caused
-returns-in-Err-clause-caused g c clean e before fits =
+pub returns-in_err-outcome-clause-caused : goal.returns-in_err-outcome-clause-caused
+returns-in_err-outcome-clause-caused g c clean =
+    let p = err_from_is_err_and c.from_residual.result c.from_residual.ensures.1 in
     let l = c.each.invariant in
     let all = c.as_slice-all.result.now in
     let k = c.each.single-index in
@@ -70,6 +73,6 @@ returns-in-Err-clause-caused g c clean e before fits =
     let size : length (facts_in (Facts.Ocsp c.args.response.now)) ≡ length all = as_many _ c.args.response.now.singles ∙ ap length (sym c.as_slice-all.ensures.singles) ∙ as_many seen_single all in
     let low : k < length (facts_in (Facts.Ocsp c.args.response.now)) = omega (arith, size, c.each-test.true) in
     let left = one_left k (length (facts_in (Facts.Ocsp c.args.response.now))) low in
-    later_refuses _ _ _ (λ _. ⊥) (λ _. ⊥) l.1 c.take_single.ensures.survives middle
-    (c.in-Err.ensures.caused left.0 left.0 clean e (l.5 (suc left.0) left.1 middle before)
-    (fits.issuer, fits_at all k _ c.each-test.true (subst (AllByRecursion SingleFitsRow) (sym c.as_slice-all.ensures.singles) fits.singles)))
+    rw (p.1, p.2) (λ e before fits. later_refuses _ _ _ (λ _. ⊥) (λ _. ⊥) l.1 c.take_single.ensures.survives middle
+    (c.in_err-outcome.ensures.caused left.0 left.0 clean e (l.5 (suc left.0) left.1 middle before)
+    (fits.issuer, fits_at all k _ c.each-test.true (subst (AllByRecursion SingleFitsRow) (sym c.as_slice-all.ensures.singles) fits.singles))))

@@ -1,22 +1,23 @@
 use Rattle.std.proofs.Common.{arith}
 use Rattle.statements_facts.specs.Fact.{seen_issuer}
-use Rattle.store_taking.proofs.Issuing.{passes_added}
+use Rattle.store_taking.proofs.Issuing.{adds_issuer}
 use Rattle.sqlite.specs.Held.{state}
 use Rattle.sqlite.specs.State.{HasCleanDisk}
-use Rattle.store_sql.proofs.Laws.{later_refuses}
+use Rattle.store_sql.proofs.Laws.{later_refuses, if_err_then}
 use Rattle.store_taking.proofs.Causing.{added_knows, added_leaves}
 use Rattle.store_taking.proofs.known.new_issuer.Goals as goal
 
-pub returns-in-Ok-clause-goes : goal.returns-in-Ok-clause-goes
-returns-in-Ok-clause-goes g c clean =
-    passes_added _ _ _ (seen_issuer c.args.issuer.now) c.in-Ok.id (c.in_default.ensures.changes (omega (arith, clean, c.id_of_added.ensures.survives.clean))) (c.in-Ok.ensures.known clean) c.in-Ok.ensures.room
+pub returns-clause-goes : goal.returns-clause-goes
+returns-clause-goes g c clean =
+    adds_issuer _ _ _ (seen_issuer c.args.issuer.now) c.id_of_added.result (c.in_ok-add_issuer.ensures.changes (omega (arith, clean, c.id_of_added.ensures.survives.clean))) (c.id_of_added.ensures.known clean) c.id_of_added.ensures.room
 
-pub returns-in-Ok-clause-leaves : goal.returns-in-Ok-clause-leaves
-returns-in-Ok-clause-leaves g c issuers rows clean before =
-    added_leaves _ _ _ (seen_issuer c.args.issuer.now) c.in-Ok.id issuers rows (c.in_default.ensures.changes (omega (arith, clean, c.id_of_added.ensures.survives.clean))) (c.in-Ok.ensures.known clean) before
+pub returns-clause-leaves : goal.returns-clause-leaves
+returns-clause-leaves g c issuers rows clean =
+    added_leaves _ _ _ (seen_issuer c.args.issuer.now) c.id_of_added.result issuers rows (c.in_ok-add_issuer.ensures.changes (omega (arith, clean, c.id_of_added.ensures.survives.clean))) (c.id_of_added.ensures.known clean)
 
-pub returns-in-Err-id_of_added-clause-caused : goal.returns-in-Err-id_of_added-clause-caused
-returns-in-Err-id_of_added-clause-caused g c issuers rows clean e before fits =
+pub returns-clause-caused : goal.returns-clause-caused
+returns-clause-caused g c issuers rows clean =
     let middle : HasCleanDisk (state g.S.Store c.add_issuer.new.tx.conn.now) = omega (arith, clean, c.id_of_added.ensures.survives.clean) in
+    if_err_then c.id_of_added.result _ _ (c.id_of_added.ensures.caused clean) (λ fault caused e before fits.
     later_refuses _ _ _ (λ _. ⊥) (λ _. ⊥) c.add_issuer.ensures.survives c.id_of_added.ensures.survives middle
-    (c.in-Err-id_of_added.ensures.caused clean e (added_knows _ _ (seen_issuer c.args.issuer.now) issuers rows (c.in_default.ensures.changes middle) before) tt)
+    (caused e (added_knows _ _ (seen_issuer c.args.issuer.now) issuers rows (c.in_ok-add_issuer.ensures.changes middle) before) tt))

@@ -13,8 +13,9 @@ invariant_of-self c =
 
 pub invariant_of-self-2 : goal.invariant_of-self-2
 invariant_of-self-2 c = λ name.
-    grown (λ (base : SubtreeBase). is_covered name base) c.count_lasting-lasting.result c.self.inside.indexes.items c.in_ok-index.index c.self.inside.items.items c.args.more.now c.extend_from_slice-2.new.self.items c.push.new.self.items
-    (rw c.deref-3.ensures.value at (c.in_ok-index.ensures (λ (base : SubtreeBase). is_covered name base))) (c.self.invariant name) c.in_ok-extend_from_slice.ensures.items
+    let test = λ (base : SubtreeBase). is_covered name base in
+    grown test c.count_lasting-lasting.result c.self.inside.indexes.items c.in_ok-index.index c.in_ok-coming.coming c.self.inside.items.items c.args.more.now c.extend_from_slice-2.new.self.items c.push.new.self.items
+    (rw c.deref-3.ensures.value at (c.in_ok-index.ensures test)) (c.in_ok-coming.ensures test) (c.self.invariant name) c.in_ok-extend_from_slice.ensures.items
     (c.in-Ok.ensures.items
     ∙ ap (λ (l : List (List SubtreeBase)). l ++ c.in_ok-index.index ∷ [])
     (c.truncate.ensures.items ∙ ap (λ (l : List (List SubtreeBase)). take c.count_lasting-lasting.result l) c.in_ok-reserve.ensures.items))

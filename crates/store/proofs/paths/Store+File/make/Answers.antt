@@ -1,9 +1,22 @@
 use Rattle.std.proofs.Common.{arith}
+use Rattle.std.proofs.lemmas.Result.{err_from_is_err_and}
 use Rattle.sqlite.specs.Files.{file_state}
 use Rattle.sqlite.specs.State.{HasCleanDisk}
 use Rattle.store.proofs.paths.Store+File.make.Goals as goal
 
-pub returns-in-Err-create-clause-caused : goal.returns-in-Err-create-clause-caused
-returns-in-Err-create-clause-caused c clean =
-    let before : HasCleanDisk (file_state c.in-Ok.conn) = let step = c.in-Err-create.ensures.refused_crash.clean in omega (arith, step, clean) in
-    record { conn = c.in-Ok.conn; opened = c.in-Ok.ensures.opened before; caused = c.in-Err-create.ensures.caused clean }
+pub returns-in_err-conn-clause-caused : goal.returns-in_err-conn-clause-caused
+returns-in_err-conn-clause-caused c =
+    let p = err_from_is_err_and c.from_residual.result c.from_residual.ensures.1 in
+    rw (p.1, p.2) tt
+
+pub returns-in_err-create-clause-fails : goal.returns-in_err-create-clause-fails
+returns-in_err-create-clause-fails c =
+    let p = err_from_is_err_and c.from_residual-in_err-create.result c.from_residual-in_err-create.ensures.1 in
+    rw (p.1, p.2) (λ clean. (c.in_err-create.ensures.refused clean).1)
+
+pub returns-in_err-create-clause-caused : goal.returns-in_err-create-clause-caused
+returns-in_err-create-clause-caused c =
+    let p = err_from_is_err_and c.from_residual-in_err-create.result c.from_residual-in_err-create.ensures.1 in
+    rw (p.1, p.2) (λ clean.
+    let before : HasCleanDisk (file_state c.in_ok-conn.conn) = let step = c.in_err-create.ensures.refused_crash.clean in omega (arith, step, clean) in
+    record { conn = c.in_ok-conn.conn; opened = c.in_ok-conn.ensures.opened before; caused = c.in_err-create.ensures.caused clean })

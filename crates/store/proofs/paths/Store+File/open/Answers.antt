@@ -1,15 +1,25 @@
 use Rattle.std.proofs.Common.{sym, subst, arith}
+use Rattle.std.proofs.lemmas.Result.{err_from_is_err_and}
 use Rattle.sqlite.specs.Files.{file_state}
 use Rattle.sqlite.specs.State.{HasCleanDisk}
 use Rattle.store.specs.Adopts.{IsNoStore}
 use Rattle.store.proofs.paths.Store+File.open.Goals as goal
 
-pub returns-in-Err-adopt-clause-fails : goal.returns-in-Err-adopt-clause-fails
-returns-in-Err-adopt-clause-fails c clean up schema =
-    let h = c.in-Err-adopt.ensures.refused clean in
-    subst IsNoStore (sym (h.0.now_is up)) (h.1 schema)
+pub returns-in_err-adopt-clause-fails : goal.returns-in_err-adopt-clause-fails
+returns-in_err-adopt-clause-fails c =
+    let p = err_from_is_err_and c.from_residual-in_err-adopt.result c.from_residual-in_err-adopt.ensures.1 in
+    rw (p.1, p.2) (λ clean up schema.
+    let h = c.in_err-adopt.ensures.refused clean in
+    subst IsNoStore (sym (h.0.now_is up)) (h.1 schema))
 
-pub returns-in-Err-adopt-clause-caused : goal.returns-in-Err-adopt-clause-caused
-returns-in-Err-adopt-clause-caused c clean =
-    let before : HasCleanDisk (file_state c.in-Ok.conn) = let step = c.in-Err-adopt.ensures.refused_crash.clean in omega (arith, step, clean) in
-    record { conn = c.in-Ok.conn; opened = c.in-Ok.ensures.opened before; caused = c.in-Err-adopt.ensures.caused clean }
+pub returns-in_err-conn-clause-caused : goal.returns-in_err-conn-clause-caused
+returns-in_err-conn-clause-caused c =
+    let p = err_from_is_err_and c.from_residual.result c.from_residual.ensures.1 in
+    rw (p.1, p.2) tt
+
+pub returns-in_err-adopt-clause-caused : goal.returns-in_err-adopt-clause-caused
+returns-in_err-adopt-clause-caused c =
+    let p = err_from_is_err_and c.from_residual-in_err-adopt.result c.from_residual-in_err-adopt.ensures.1 in
+    rw (p.1, p.2) (λ clean.
+    let before : HasCleanDisk (file_state c.in_ok-conn.conn) = let step = c.in_err-adopt.ensures.refused_crash.clean in omega (arith, step, clean) in
+    record { conn = c.in_ok-conn.conn; opened = c.in_ok-conn.ensures.opened before; caused = c.in_err-adopt.ensures.caused clean })
