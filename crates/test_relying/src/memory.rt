@@ -141,7 +141,7 @@ fn path_files_want_memory_or_answer(rt: HostRuntime) {
 }
 
 /// The certificate of a question for which there was no memory, if there was none for it.
-fn lacking(alloc: Global, anchor: &[u8], path: &[&[u8]]) -> Option<usize> {
+fn lacking<'a>(alloc: Global, anchor: &'a [u8], path: &[&'a [u8]]) -> Option<usize> {
     match Query::read(alloc, anchor, path, MIDDLE, None) {
         Ok(_) => None,
         Err(refusal) => Some(refusal.certificate),
