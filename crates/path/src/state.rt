@@ -121,11 +121,19 @@ fn has_room(room: Option<u32>, certificate: &Certificate<'_>) -> bool
     room != Some(0) || certificate.self_issued()
 }
 
+/// Whether two texts are the same. The last octet is looked at first: it is one of a signature, and mostly tells.
+#[inline(always)]
+fn is_same(one: &[u8], other: &[u8]) -> bool
+    ensures { result ≡ bytes_eq one.now other.now }
+{
+    one.last() == other.last() && one == other
+}
+
 /// Whether one of the certificates has the same octets.
 fn repeats(earlier: &[Certificate<'_>], later: &Certificate<'_>) -> bool
     ensures { result ≡ list_any (λ c. bytes_eq c.octets.now later.now.octets.now) earlier.now }
 {
-    earlier.iter().any(|c| c.octets == later.octets)
+    earlier.iter().any(|c| is_same(c.octets, later.octets))
 }
 
 impl<'p, 'c, V: Verifier> State<'p, 'c, V> {
