@@ -77,7 +77,9 @@ def shapes():
     yield "names_16_4096", 16, permit(LIMIT), none, [dns("www.n%d.example" % k) for k in range(LIMIT)]
     yield "spared_128_4096", 128, none, exclude, [dns("www.n%d.example" % k) for k in range(LIMIT)]
     ranges = [address(k, 64) for k in range(LIMIT)]
-    yield "addresses_16_4096", 16, lambda _: ranges, none, [address(k) for k in range(LIMIT)]
+    hosts = [address(k) for k in range(LIMIT)]
+    for depth in (16, 128):
+        yield "addresses_%d_4096" % depth, depth, lambda _: ranges, none, hosts
     people = [directory("Authority %d" % k) for k in range(LIMIT)]
 
     def strangers(number):
@@ -85,7 +87,12 @@ def shapes():
 
     for count in (16, 64, 1024):
         yield "directory_4_%d" % count, 4, lambda _: people[:count], none, one
-    yield "directory_16_4096", 16, lambda _: people, none, people
+    for depth in (16, 128):
+        yield "directory_%d_4096" % depth, depth, lambda _: people, none, people
+    third = LIMIT // 3
+    mixed = permit(third)(0) + ranges[:third] + people[:third]
+    names = [dns("www.n%d.example" % k) for k in range(third)] + hosts[:third] + people[:third]
+    yield "mixed_128_4096", 128, lambda _: mixed, none, names
     yield "strangers_128_4096", 128, none, strangers, one
 
 
