@@ -25,7 +25,7 @@ pub enum Event<'a> {
 }
 
 /// The answer to a delivery: how its facts were counted, or why none was taken.
-pub type Answer = Result<Counts, DeliverFault>;
+pub type DeliverAnswer = Result<Counts, DeliverFault>;
 
 /// A delivery. Its answer is added to the answers, for which there is room.
 fn take_delivery<V: Verifier + Drop, D: Disk + Drop>(
@@ -33,7 +33,7 @@ fn take_delivery<V: Verifier + Drop, D: Disk + Drop>(
     alloc: Global,
     issuer: &[u8],
     statement: &[u8],
-    answers: &mut Vec<Answer>,
+    answers: &mut Vec<DeliverAnswer>,
 )
     requires room { vec_len answers.old < vec_capacity answers.old }
     ensures verifier { node.new.verifier ≡ node.old.verifier }
@@ -57,7 +57,7 @@ pub(crate) fn take_event<V: Verifier + Drop, D: Disk + Drop>(
     node: Node<V, D>,
     alloc: Global,
     event: &Event<'_>,
-    answers: &mut Vec<Answer>,
+    answers: &mut Vec<DeliverAnswer>,
 ) -> Result<Node<V, D>, ReopenFault<D>>
     requires room { vec_len answers.old < vec_capacity answers.old }
     ensures verifier { IfOk result (λ next. next.verifier ≡ node.verifier) }

@@ -14,7 +14,7 @@ mod verdicts;
 pub use agreement::node_laws;
 pub use comparing::compare;
 pub use delivering::read_statement;
-pub use events::{Answer, Event};
+pub use events::{DeliverAnswer, Event};
 pub use fault::{DeliverFault, RunFault};
 pub use node::Node;
 pub use relying_verdicts::{Comparison, Fault, Query, QueryFault, Verdict};

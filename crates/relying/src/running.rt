@@ -6,7 +6,7 @@ ghost use Rattle.relying.specs.Run.{AreAnswersTo, Ran, RunsAreRuns, StopsAtResta
 ghost use Rattle.relying.specs.Stopping.{RunFails};
 ghost use Rattle.relying.specs.View.{stored};
 
-use crate::events::{Answer, Event, take_event};
+use crate::events::{DeliverAnswer, Event, take_event};
 use crate::fault::RunFault;
 use crate::node::Node;
 use path_verifiers::Verifier;
@@ -19,7 +19,7 @@ fn run_all<V: Verifier + Drop, D: Disk + Drop>(
     node: Node<V, D>,
     alloc: Global,
     events: &[Event<'_>],
-    answers: &mut Vec<Answer>,
+    answers: &mut Vec<DeliverAnswer>,
 ) -> Result<Node<V, D>, (usize, ReopenFault<D>)>
     requires none { answers.old.items ≡ [] }
     requires room { length events.now ≤ vec_capacity answers.old }
@@ -51,7 +51,7 @@ impl<V: Verifier + Drop, D: Disk + Drop> Node<V, D> {
         self,
         alloc: Global,
         events: &[Event<'_>],
-    ) -> Result<(Node<V, D>, Vec<Answer>), RunFault<V, D>>
+    ) -> Result<(Node<V, D>, Vec<DeliverAnswer>), RunFault<V, D>>
         ensures verifier { IfOk result (λ run. run.0.verifier ≡ self.verifier) }
         ensures clean { IfOk result (λ run.
             HasCleanDisk (stored run.0) → HasCleanDisk (stored self)) }

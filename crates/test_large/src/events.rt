@@ -1,7 +1,7 @@
 //! Runs of many events.
 
 use crate::stores::made;
-use relying::{Answer, Event, Node};
+use relying::{DeliverAnswer, Event, Node};
 use statements_facts::Counts;
 use std::alloc::Global;
 use vectors::{ToyVerifier, certificate, revocation_list};
@@ -25,7 +25,7 @@ fn events<'a>(alloc: Global, issuer: &'a [u8], list: &'a [u8]) -> Option<Vec<Eve
 }
 
 /// Whether the first list was stored, and no later one.
-fn are_kept(answers: &[Answer]) -> bool {
+fn are_kept(answers: &[DeliverAnswer]) -> bool {
     let Some((first, later)) = answers.split_first() else {
         return false;
     };

@@ -4,35 +4,35 @@ use crate::asking::{MIDDLE, verdict_on};
 use crate::telling::{Question, Told, asked};
 use relying::DeliverFault::Statement;
 use relying::Verdict::{Revoked, Unknown, Valid};
-use relying::{Answer, Node, Verdict};
+use relying::{DeliverAnswer, Node, Verdict};
 use sqlite_disk::Disk;
 use statements_facts::Counts;
 use statements_parts::StatementFault::BadSignature;
 use std::alloc::Global;
 use vectors::ToyVerifier;
 
-pub const STORED: Answer = Ok(Counts {
+pub const STORED: DeliverAnswer = Ok(Counts {
     stored: 1,
     kept: 0,
     contradicted: 0,
 });
 
-const KEPT: Answer = Ok(Counts {
+const KEPT: DeliverAnswer = Ok(Counts {
     stored: 0,
     kept: 1,
     contradicted: 0,
 });
 
-const CONTRADICTED: Answer = Ok(Counts {
+const CONTRADICTED: DeliverAnswer = Ok(Counts {
     stored: 0,
     kept: 0,
     contradicted: 1,
 });
 
-const REFUSED: Answer = Err(Statement(BadSignature));
+const REFUSED: DeliverAnswer = Err(Statement(BadSignature));
 
 /// Of two that say something else at the same time the first.
-const FIRST_OF_TWO: Answer = Ok(Counts {
+const FIRST_OF_TWO: DeliverAnswer = Ok(Counts {
     stored: 1,
     kept: 0,
     contradicted: 1,
@@ -43,7 +43,7 @@ type Judged = (&'static [&'static str], i64, Verdict);
 
 /// The answers of a party, and what it says then.
 #[derive(Clone, Copy)]
-struct Says(&'static [Answer], &'static [Judged]);
+struct Says(&'static [DeliverAnswer], &'static [Judged]);
 
 /// What reaches a party, and the rest.
 type Row = (&'static [Told], Says);
@@ -263,7 +263,7 @@ impl Question for Says {
         &self,
         alloc: Global,
         party: &mut Node<ToyVerifier, D>,
-        answers: &[Answer],
+        answers: &[DeliverAnswer],
     ) -> bool {
         for (path, moment, verdict) in self.1 {
             if verdict_on(alloc, party, path, *moment) != Some(Ok(*verdict)) {

@@ -5,7 +5,7 @@ use crate::asking::{MIDDLE, octets_of};
 use crate::telling::{Question, asked, pair_of};
 use cert::Certificate;
 use relying::Verdict::Revoked;
-use relying::{Answer, DeliverFault, Node, Query, Verdict, read_statement};
+use relying::{DeliverAnswer, DeliverFault, Node, Query, Verdict, read_statement};
 use sqlite_disk::Disk;
 use std::alloc::Global;
 use vectors::ToyVerifier;
@@ -33,7 +33,7 @@ impl Question for InSteps {
         &self,
         alloc: Global,
         party: &mut Node<ToyVerifier, D>,
-        _answers: &[Answer],
+        _answers: &[DeliverAnswer],
     ) -> bool {
         let Ok(facts) = read_statement(alloc, &ToyVerifier, &self.0, &self.1) else {
             return false;

@@ -11,7 +11,7 @@ use der_stream::{ReadFault, path_octets};
 use relying::Comparison::Differ;
 use relying::DeliverFault::{Issuer, Statement, Store};
 use relying::Verdict::{Revoked, Valid};
-use relying::{Answer, DeliverFault, Fault, Node, Query, Verdict};
+use relying::{DeliverAnswer, DeliverFault, Fault, Node, Query, Verdict};
 use sqlite_disk::Disk;
 use statements_parts::StatementFault;
 use std::alloc::Global;
@@ -39,7 +39,7 @@ fn is_want_of_delivery(fault: DeliverFault) -> bool {
 }
 
 /// The statement was stored, or there was no memory for it.
-fn is_stored_or_want(answer: &Answer) -> bool {
+fn is_stored_or_want(answer: &DeliverAnswer) -> bool {
     match answer {
         Ok(_) => *answer == STORED,
         Err(fault) => is_want_of_delivery(*fault),
@@ -64,7 +64,7 @@ impl Question for Taken {
         &self,
         alloc: Global,
         party: &mut Node<ToyVerifier, D>,
-        answers: &[Answer],
+        answers: &[DeliverAnswer],
     ) -> bool {
         let [first, second] = answers else {
             return false;
@@ -89,7 +89,7 @@ impl Question for Delivered {
         &self,
         alloc: Global,
         party: &mut Node<ToyVerifier, D>,
-        answers: &[Answer],
+        answers: &[DeliverAnswer],
     ) -> bool {
         if answers != [STORED].as_slice() {
             return true;

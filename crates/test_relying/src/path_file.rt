@@ -4,7 +4,7 @@ use crate::asking::{MIDDLE, octets_of, slices_of, verdict_below};
 use crate::telling::{Question, Told, asked};
 use der_stream::path_octets;
 use relying::Verdict::Valid;
-use relying::{Answer, Node};
+use relying::{DeliverAnswer, Node};
 use sqlite_disk::Disk;
 use std::alloc::Global;
 use vectors::ToyVerifier;
@@ -28,7 +28,7 @@ impl Question for IsValid {
         &self,
         alloc: Global,
         party: &mut Node<ToyVerifier, D>,
-        _answers: &[Answer],
+        _answers: &[DeliverAnswer],
     ) -> bool {
         let read = path_octets(alloc, &mut self.0.as_slice(), 129);
         match slices_of(alloc, &read.values) {

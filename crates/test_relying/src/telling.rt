@@ -1,6 +1,6 @@
 //! Relying parties, and what reaches them. `None` is answered where there is no memory.
 
-use relying::{Answer, Event, Node};
+use relying::{DeliverAnswer, Event, Node};
 use sqlite::{Connection, Files, Options};
 use sqlite_disk::{Disk, Memory};
 use std::alloc::Global;
@@ -69,7 +69,7 @@ fn events_of<'a>(alloc: Global, pairs: &'a [(Vec<u8>, Vec<u8>)]) -> Option<Vec<E
 }
 
 /// A party after all of it, and its answers.
-pub fn after(alloc: Global, told: &[Told]) -> Option<(Party, Vec<Answer>)> {
+pub fn after(alloc: Global, told: &[Told]) -> Option<(Party, Vec<DeliverAnswer>)> {
     let pairs = pairs_of(alloc, told)?;
     let events = events_of(alloc, &pairs)?;
     party(alloc)?.run(alloc, &events).ok()
@@ -81,7 +81,7 @@ pub trait Question {
         &self,
         alloc: Global,
         party: &mut Node<ToyVerifier, D>,
-        answers: &[Answer],
+        answers: &[DeliverAnswer],
     ) -> bool;
 }
 

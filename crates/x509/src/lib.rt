@@ -71,8 +71,8 @@ pub use store_sql::StoreFault;
 // ---- relying parties
 
 pub use relying::{
-    Answer, Comparison, DeliverFault, Event, Fault, Node, Query, QueryFault, ReopenFault, RunFault,
-    Verdict, compare, node_laws, read_statement, run_laws,
+    Comparison, DeliverAnswer, DeliverFault, Event, Fault, Node, Query, QueryFault, ReopenFault,
+    RunFault, Verdict, compare, node_laws, read_statement, run_laws,
 };
 pub use relying_agreement::{
     agreement_examples, agreement_laws, comparison_laws, taking_laws, verdict_laws,
