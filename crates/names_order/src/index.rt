@@ -322,7 +322,7 @@ impl<'a> Index<'a> {
         }
     }
 
-    /// An index of the subtrees of all of these, and of those of one more. What is in order is merged, and no key is made again.
+    /// An index of the subtrees of all of these, and of those of one more. What is in order is merged, and keys that they keep are copied.
     pub fn joined(
         alloc: Global,
         indexes: &[Index<'a>],
