@@ -28,6 +28,7 @@ KINDS = (
     ("subtrees", ((8,),)),
     ("people", ((), PEOPLE)),
     ("spelled", ((), PEOPLE, 0x13)),
+    ("domains", ((32,), PEOPLE)),
     ("mixed", ((32, 8), PEOPLE)),
 )
 
