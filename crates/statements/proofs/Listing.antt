@@ -5,20 +5,12 @@ use Rattle.std.specs.Str.{bytes_eq}
 use Rattle.std.proofs.Math.Path.{fun_ext}
 use Rattle.asn.specs.DerLaws.{AreOctets}
 use Rattle.asn.specs.Integer.{IsNumber20, binary_value}
-use Rattle.statements_crl.proofs.Laws.{is_binary}
-use Rattle.statements_crl.specs.Entry.{Entry, reason_listed}
+use Rattle.statements_crl.proofs.Laws.{is_binary, reason_at}
+use Rattle.statements_crl.specs.Entry.{Entry, listed_serial, reason_listed}
 use Rattle.statements_facts.specs.Listed.{ListedSerial, first_reason}
 use Rattle.statements_crl.specs.CertificateList.{CertificateList}
 use Rattle.statements_facts.specs.Statement.{CrlFact}
-use Rattle.statements.specs.CrlFact.{listed_serial, fact_of_list}
-
--- what the listed serial numbers say first, the entries say first
-reason_at : (serial : List ℕ) (entries : List Entry) → first_reason (map listed_serial entries) serial ≡ reason_listed entries serial
-reason_at serial [] = refl
-reason_at serial (entry ∷ entries) = by (reason_at serial entries) (bytes_eq entry.serial serial) refl where
-  by : first_reason (map listed_serial entries) serial ≡ reason_listed entries serial → (b : Bool) → bytes_eq entry.serial serial ≡ b → first_reason (map listed_serial (entry ∷ entries)) serial ≡ reason_listed (entry ∷ entries) serial
-  by rest true e = rw e refl
-  by rest false e = rw e rest
+use Rattle.statements.specs.CrlFact.{fact_of_list}
 
 pub reasons_are : (revoked : List ListedSerial) (entries : List Entry) → ((serial : List ℕ) → first_reason revoked serial ≡ first_reason (map listed_serial entries) serial) → first_reason revoked ≡ reason_listed entries
 reasons_are revoked entries same = fun_ext (λ serial. same serial ∙ reason_at serial entries)

@@ -4,17 +4,12 @@ use Rattle.asn.specs.Integer.{binary_value}
 use Rattle.names.specs.DistinguishedName.{NamesMatch, matching}
 use Rattle.cert.specs.Certificate.{Certificate}
 use Rattle.statements_crl.specs.CertificateList.{CertificateList, certificate_list}
-use Rattle.statements_crl.specs.Entry.{Entry, reason_listed}
+use Rattle.statements_crl.specs.Entry.{reason_listed}
 use Rattle.statements_parts.specs.declared.fault.StatementFault.{StatementFault}
 use Rattle.statements_parts.specs.declared.fault.StatementFault.TheVariants.{OtherIssuer, BadSignature}
-use Rattle.statements_facts.specs.Listed.{ListedSerial}
 use Rattle.statements_facts.specs.Statement.{CrlSlot, CrlFact}
 use Rattle.statements.specs.Issuer.{identity_of}
 use Rattle.statements.specs.Genuine.{Accepts, ◌then◌, as_refused, or_else}
-
--- the serial number of an entry, with the number of the reason
-abbrev pub listed_serial : Entry → ListedSerial
-listed_serial entry = record { serial = entry.serial; reason = entry.reason }
 
 -- the list is of the issuer by its name
 abbrev pub IsNamed : Certificate → CertificateList → Type 0

@@ -1,11 +1,9 @@
 -- Tests and facts of certificates, lists and responses as the code has them: each has the name of what it says of their fields, with
 -- `_seen` behind it.
-use Rattle.std.specs.Prelude.{◌≡◌, ◌≢◌, ℤ, Bool, false, List, [], Result, Ok, map}
+use Rattle.std.specs.Prelude.{◌≡◌, ◌≢◌, ℤ, Bool, false, [], Result, Ok}
 use Rattle.cert.specs.Certificate.{seen_certificate}
 use Rattle.cert.specs.declared.certificate.Certificate as certificate
 use Rattle.statements_crl.specs.CertificateList.{seen_list}
-use Rattle.statements_crl.specs.Entry.{entries_left}
-use Rattle.statements_crl.specs.declared.entry_list.Entries as entries
 use Rattle.statements_crl.specs.declared.list.Crl as list
 use Rattle.statements_ocsp.specs.OcspResponse.{certs_left, seen_response}
 use Rattle.statements_ocsp.specs.Responder.{seen_responder}
@@ -15,11 +13,10 @@ use Rattle.statements_ocsp.specs.declared.response.Response as response
 use Rattle.statements_ocsp.specs.declared.single.SingleResponse as single
 use Rattle.statements_parts.specs.declared.fault.StatementFault.{StatementFault}
 use Rattle.statements_facts.specs.Fact.{seen_issuer}
-use Rattle.statements_facts.specs.Listed.{ListedSerial}
 use Rattle.statements_facts.specs.Single.{SingleFact}
 use Rattle.statements_facts.specs.Statement.{CrlSlot, Window}
 use Rattle.statements_facts.specs.declared.issuer.Issuer as facts
-use Rattle.statements.specs.CrlFact.{listed_serial, of_issuer, slot_of}
+use Rattle.statements.specs.CrlFact.{of_issuer, slot_of}
 use Rattle.statements.specs.Genuine.{Accepts}
 use Rattle.statements.specs.Issuer.{identity_of}
 use Rattle.statements.specs.OcspFact.{single_fact, window_of}
@@ -42,10 +39,6 @@ IsOfIssuer accepts issuer list = of_issuer_seen accepts issuer list ≡ Ok tt
 
 abbrev pub slot_of_seen : certificate.Certificate → list.Crl → CrlSlot
 slot_of_seen issuer list = slot_of (seen_certificate issuer) (seen_list list)
-
--- the serial numbers and reasons of the entries that are still to be handed out
-abbrev pub serials_left : entries.Entries → List ListedSerial
-serials_left entries = map listed_serial (entries_left entries)
 
 -- ---- responses
 

@@ -4,7 +4,7 @@ ghost use Rattle.std.specs.Prelude.{◌≡◌, ◌++◌, IfOk, IsTrue, map};
 ghost use Rattle.asn.specs.Integer.{binary_value};
 ghost use Rattle.statements_crl.specs.CrlNumber.{is_crl_number};
 ghost use Rattle.statements_facts.specs.Listed.{seen_listed};
-ghost use Rattle.statements.specs.Seen.{serials_left};
+ghost use Rattle.statements_crl.specs.Entry.{serials_left};
 
 use asn::Number20;
 use statements_crl::Entries;
@@ -25,11 +25,8 @@ pub(crate) fn listed_by(alloc: Global, entries: Entries<'_>) -> Result<Vec<Liste
 {
     let mut entries = entries;
     let mut listed = Vec::new(alloc);
-    while let Some(entry) = entries.next() {
-        listed.push(Listed {
-            serial: entry.serial,
-            reason: entry.reason,
-        })?;
+    while let Some(serial) = entries.next_listed() {
+        listed.push(serial)?;
     }
     Ok(listed)
 }

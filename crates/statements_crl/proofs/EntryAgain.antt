@@ -2,7 +2,7 @@
 use Rattle.std.proofs.Common.{◌≡◌, ℕ, ℤ, List, [], ◌∷◌, Option, Some, None, not, Result, Ok, Err, refl, sym, ap, ◌∙◌}
 use Rattle.std.specs.FinSet.{contains, insert}
 use Rattle.asn.specs.Place.{Place}
-use Rattle.asn.specs.Members.{Members, members}
+use Rattle.asn.specs.Members.{Members, members, with_first}
 use Rattle.asn.specs.Walk.{◌>>=◌, check_that, each, some, optional, ended}
 use Rattle.asn.proofs.Laws.{bind_ok, ok_is}
 use Rattle.statements_parts.specs.declared.fault.StatementRule.{StatementRule}
@@ -95,3 +95,13 @@ are_refused (Err other) fault e = ap (λ f. Err f) err
 
 pub refused_entries : (values : List Place) (fault : StatementRule × ℕ) → checked (entries values) ≡ Err fault → entries values ≡ Err fault
 refused_entries values fault e = are_refused (entries values) fault e
+
+-- the first of values that were read is an entry, and the others were read
+pub first_entry : (value : Place) (values : List Place) → checked (entries (value ∷ values)) ≡ Ok tt → (fields : Entry) × (entry value ≡ Ok fields) × (checked (entries values) ≡ Ok tt)
+first_entry value values done = by (entry value) refl where
+  by : (read : Result Entry (StatementRule × ℕ)) → entry value ≡ read → (fields : Entry) × (entry value ≡ Ok fields) × (checked (entries values) ≡ Ok tt)
+  by (Ok fields) e = (fields, e, next_checked value values fields e ∙ done)
+  by (Err fault) e = let never : Err fault ≡ Ok tt = sym (first_refused value values fault e) ∙ done in absurd cc
+
+pub others_read : (old new : Members) (value : Place) → old ≡ with_first value new → checked (entries old.values) ≡ Ok tt → checked (entries new.values) ≡ Ok tt
+others_read old new value first done = (first_entry value new.values (sym (ap (λ (m : Members). checked (entries m.values)) first) ∙ done)).2

@@ -1,4 +1,7 @@
 mod EntryAgain
+mod OneExtension
+mod ListedAgain
+mod FirstReason
 mod Numbers
 mod Numbered
 mod ExtensionTypes

@@ -77,6 +77,14 @@ one_extension earlier value = do
 abbrev pub all_extensions : Members → Result TakenOfEntry (StatementRule × ℕ)
 all_extensions left = each one_extension nothing_taken left.values
 
+-- the reason that they give
+abbrev pub reason_of_all : Members → Result ℕ (StatementRule × ℕ)
+reason_of_all left = all_extensions left >>= λ taken. Ok taken.reason
+
+-- the reason that an extension gives which is the only one: no other has its type
+abbrev pub reason_of_one : Place → Result ℕ (StatementRule × ℕ)
+reason_of_one value = extension Layout value >>= λ read. reason_with read 0
+
 -- crlEntryExtensions Extensions OPTIONAL: the reason that they give
 abbrev pub reason_of_list : Option Place → Members → Result (ℕ × Members) (StatementRule × ℕ)
 reason_of_list None left = Ok (0, left)

@@ -2,6 +2,7 @@ pub mod Parts
 pub mod CrlNumber
 pub mod IssuerScope
 pub mod EntryExtension
+pub mod EntryWalk
 pub mod Entry
 pub mod ListExtension
 pub mod CertificateList

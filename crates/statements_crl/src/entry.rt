@@ -1,11 +1,13 @@
 //! Entries of a list (RFC 5280, 5.1.2.6).
 
 ghost use Rattle.asn.specs.Reading.{seen_tlv, Gives};
-ghost use Rattle.statements_crl.specs.Entry.{entry, entry_again, entry_fields, seen_entry, seen_fields};
+ghost use Rattle.statements_crl.specs.Entry.{entry, entry_again, entry_fields, listed_again, seen_entry, seen_fields};
+ghost use Rattle.statements_facts.specs.Listed.{seen_listed};
 ghost use Rattle.statements_parts.specs.Fault.{GivesUnlessFull};
 
 use crate::entry_extension::{reason_in_list, take_reason};
 use asn::{Cursor, SEQUENCE, Tlv};
+use statements_facts::Listed;
 use statements_parts::{Refusal, StatementFault, StatementRule, take_serial};
 use std::alloc::Global;
 
@@ -22,7 +24,7 @@ pub struct Entry<'a> {
 
 impl<'a> Entry<'a> {
     /// The components up to revocationDate, with no reason yet, and what stands behind them.
-    #[tactic(auto, unfolding(crate::specs::Entry::entry_fields))]
+    #[tactic(auto, unfolding(crate::specs::EntryWalk::entry_fields))]
     fn fields(value: Tlv<'a>) -> Result<(Entry<'a>, Cursor<'a>), Refusal>
         ensures { Gives seen_fields result (entry_fields (seen_tlv value.entry)) }
     {
@@ -39,7 +41,7 @@ impl<'a> Entry<'a> {
     }
 
     /// The entry that the value is, or the first fault.
-    #[tactic(auto, unfolding(crate::specs::Entry::entry))]
+    #[tactic(auto, unfolding(crate::specs::EntryWalk::entry))]
     pub(crate) fn read(alloc: Global, value: Tlv<'a>) -> Result<Entry<'a>, StatementFault>
         ensures { GivesUnlessFull seen_entry result (entry (seen_tlv value.entry)) }
     {
@@ -59,5 +61,19 @@ impl<'a> Entry<'a> {
         let mut members = behind;
         let reason = reason_in_list(members.optional(SEQUENCE));
         Ok(Entry { reason, ..read })
+    }
+    /// The serial number and the reason of an entry that was read once, without memory. The date is passed over.
+    #[tactic(auto, unfolding(crate::specs::Entry::listed_again))]
+    pub(crate) fn listed(value: Tlv<'a>) -> Result<Listed<'a>, Refusal>
+        ensures { Gives seen_listed result (listed_again (seen_tlv value.entry)) }
+    {
+        value.is_a(SEQUENCE, StatementRule::Layout)?;
+        let mut members = value.members();
+        let serial = members.next_or(StatementRule::Layout)?;
+        members.next_or(StatementRule::Layout)?;
+        Ok(Listed {
+            serial: serial.body,
+            reason: reason_in_list(members.optional(SEQUENCE)),
+        })
     }
 }

@@ -4,7 +4,7 @@ ghost use Rattle.std.specs.Prelude.{◌≡◌, IfSome};
 ghost use Rattle.asn.specs.Reading.{seen_tlv, left, Gives, seen};
 ghost use Rattle.asn.specs.Oid.{oid_contents};
 ghost use Rattle.cert.specs.Extension.{seen_extension};
-ghost use Rattle.statements_crl.specs.EntryExtension.{all_extensions, entry_extension_kind, one_extension, optional_reason, reason_after, reason_code, reason_behind, reason_given, encoded_reason, reason_with, seen_taken};
+ghost use Rattle.statements_crl.specs.EntryExtension.{entry_extension_kind, one_extension, optional_reason, reason_after, reason_code, reason_behind, reason_given, encoded_reason, reason_of_all, reason_of_one, reason_with, seen_taken};
 ghost use Rattle.statements_parts.specs.Fault.{GivesUnlessFull};
 ghost use Rattle.statements_parts.specs.Steps.{StepGivesUnlessFull, TakesUnlessFull};
 
@@ -107,9 +107,9 @@ impl<'a> TakenOfEntry<'a> {
     }
 }
 
-/// Takes the extensions that the values are.
-fn take_all<'a>(alloc: Global, members: Cursor<'a>) -> Result<TakenOfEntry<'a>, StatementFault>
-    ensures { GivesUnlessFull seen_taken result (all_extensions (left members.entry)) }
+/// The reason that the extensions give, whose types are kept in a set.
+fn reason_of_several(alloc: Global, members: Cursor<'_>) -> Result<u8, StatementFault>
+    ensures { GivesUnlessFull (λ code. code) result (reason_of_all (left members.entry)) }
 {
     let mut members = members;
     let mut taken = TakenOfEntry {
@@ -119,7 +119,30 @@ fn take_all<'a>(alloc: Global, members: Cursor<'a>) -> Result<TakenOfEntry<'a>, 
     while let Some(value) = members.next() {
         taken.take(value)?;
     }
-    Ok(taken)
+    Ok(taken.reason)
+}
+
+/// The reason that an extension gives which is the only one of its entry.
+fn reason_of_one(value: Tlv<'_>) -> Result<u8, Refusal>
+    ensures { Gives (λ code. code) result (reason_of_one (seen_tlv value.entry)) }
+{
+    tell_reason(Extension::read(value, StatementRule::Layout)?, 0)
+}
+
+/// The reason that the extensions give. An entry has one extension as a rule: then no set of types is made.
+#[tactic(auto, using(crate::proofs::OneExtension::reason_alone))]
+fn reason_in(alloc: Global, members: Cursor<'_>) -> Result<u8, StatementFault>
+    ensures { GivesUnlessFull (λ code. code) result (reason_of_all (left members.entry)) }
+{
+    let mut behind = members;
+    let Some(value) = behind.next() else {
+        return Ok(0);
+    };
+    if behind.end() {
+        Ok(reason_of_one(value)?)
+    } else {
+        reason_of_several(alloc, members)
+    }
 }
 
 /// Takes crlEntryExtensions Extensions OPTIONAL, and gives the number of the reason in them: 0 if there is none. Memory is
@@ -133,8 +156,7 @@ pub(crate) fn take_reason(alloc: Global, members: &mut Cursor<'_>) -> Result<u8,
     };
     let extensions = list.members();
     extensions.some(StatementRule::Layout)?;
-    let taken = take_all(alloc, extensions)?;
-    Ok(taken.reason)
+    reason_in(alloc, extensions)
 }
 
 /// The reason once one more extension was read, of an entry that was read once.

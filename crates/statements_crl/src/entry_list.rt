@@ -2,32 +2,48 @@
 
 ghost use Rattle.asn.specs.Reading.{left};
 ghost use Rattle.statements_crl.specs.CertificateList.{revoked};
-ghost use Rattle.statements_crl.specs.Entry.{checked, entries, entries_left, seen_entry};
+ghost use Rattle.statements_crl.specs.Entry.{checked, entries, entries_left, seen_entry, serials_left};
+ghost use Rattle.statements_facts.specs.Listed.{seen_listed};
 ghost use Rattle.statements_parts.specs.Fault.{GivesUnlessFull};
 ghost use Rattle.statements_parts.specs.Steps.{HandsOutFirst, StepGivesUnlessFull};
 
 use crate::entry::Entry;
+use crate::entry_walk::Entries;
 use asn::{Cursor, SEQUENCE};
+use statements_facts::Listed;
 use statements_parts::StatementFault;
 use std::alloc::Global;
 
-/// The entries of a list that was read, in order. Each is read again from its octets, without memory.
-#[derive(Clone, Copy)]
-pub struct Entries<'a> {
-    /// `None` if revokedCertificates is not there.
-    members: Option<Cursor<'a>>,
-}
-
 impl<'a> Entries<'a> {
-    /// Takes the next entry; `None` if none is left.
+    /// Takes the next entry; `None` if none is left. The date is read again.
+    #[tactic(auto, using(crate::proofs::EntryAgain::others_read))]
     pub fn next(&mut self) -> Option<Entry<'a>>
         ensures { HandsOutFirst seen_entry (entries_left self.old) (entries_left self.new) result }
     {
         let mut behind = self.members?;
         let value = behind.next()?;
         let entry = Entry::again(value).ok()?;
-        self.members = Some(behind);
+        *self = Entries {
+            members: Some(behind),
+        };
         Some(entry)
+    }
+
+    /// Takes the next entry, and gives its serial number and its reason; `None` if none is left. This costs less than `next`, since the
+    /// date is passed over.
+    #[tactic(auto, using(crate::proofs::EntryAgain::others_read, crate::proofs::ListedAgain::first_listed, crate::proofs::ListedAgain::none_refused))]
+    pub fn next_listed(&mut self) -> Option<Listed<'a>>
+        ensures { HandsOutFirst seen_listed (serials_left self.old) (serials_left self.new) result }
+    {
+        let mut behind = self.members?;
+        let first = behind.next()?;
+        let Ok(listed) = Entry::listed(first) else {
+            return None;
+        };
+        *self = Entries {
+            members: Some(behind),
+        };
+        Some(listed)
     }
 }
 

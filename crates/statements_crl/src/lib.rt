@@ -4,6 +4,7 @@
 mod entry;
 mod entry_extension;
 mod entry_list;
+mod entry_walk;
 mod issuer_scope;
 mod layout;
 mod list;
@@ -12,7 +13,7 @@ mod number;
 mod parts;
 
 pub use entry::Entry;
-pub use entry_list::Entries;
+pub use entry_walk::Entries;
 pub use layout::list_laws;
 pub use list::Crl;
 pub use number::number_laws;

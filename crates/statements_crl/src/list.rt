@@ -7,7 +7,8 @@ ghost use Rattle.statements_crl.specs.Entry.{entries_left, reason_listed};
 ghost use Rattle.statements_parts.specs.Fault.{GivesUnlessFull};
 ghost use Rattle.asn.specs.Walk.{StepGives};
 
-use crate::entry_list::{Entries, take_entries};
+use crate::entry_list::take_entries;
+use crate::entry_walk::Entries;
 use crate::list_extension::NumberAndScope;
 use crate::parts::{take_issuer, take_same_algorithm};
 use asn::{Cursor, INTEGER, SEQUENCE, Tlv};
@@ -150,13 +151,14 @@ impl<'a> Crl<'a> {
 
     /// The number of the reason of the first entry with this serial number (its contents octets); `None` if no entry has it. Time is
     /// linear in the list; no memory is taken.
+    #[tactic(auto, using(crate::proofs::FirstReason::reason_at))]
     pub fn lists(&self, serial: &[u8]) -> Option<u8>
         ensures { result ≡ reason_listed (seen_list self.now).entries serial.now }
     {
         let mut entries = self.revoked;
-        while let Some(entry) = entries.next() {
-            if entry.serial == serial {
-                return Some(entry.reason);
+        while let Some(listed) = entries.next_listed() {
+            if listed.serial == serial {
+                return Some(listed.reason);
             }
         }
         None

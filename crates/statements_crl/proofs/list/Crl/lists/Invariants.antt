@@ -1,9 +1,10 @@
 use Rattle.std.proofs.Common.{◌≡◌, length}
-use Rattle.statements_crl.specs.Entry.{entries_left, reason_listed}
+use Rattle.statements_facts.specs.Listed.{first_reason}
+use Rattle.statements_crl.specs.Entry.{serials_left}
 use Rattle.statements_crl.proofs.list.Crl.lists.Given as goal
 
-abbrev pub invariant-loop-entry : goal.invariant-loop-entry
-invariant-loop-entry l = reason_listed (entries_left l.entries) l.fn.serial ≡ reason_listed (entries_left l.fn.self.revoked) l.fn.serial
+abbrev pub invariant-loop-listed : goal.invariant-loop-listed
+invariant-loop-listed l = first_reason (serials_left l.entries) l.fn.serial ≡ first_reason (serials_left l.fn.self.revoked) l.fn.serial
 
-abbrev pub decreases-loop-entry : goal.decreases-loop-entry
-decreases-loop-entry l = length (entries_left l.entries)
+abbrev pub decreases-loop-listed : goal.decreases-loop-listed
+decreases-loop-listed l = length (serials_left l.entries)

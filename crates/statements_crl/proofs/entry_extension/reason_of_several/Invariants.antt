@@ -2,7 +2,7 @@ use Rattle.std.proofs.Common.{◌≡◌, length}
 use Rattle.asn.specs.Members.{left}
 use Rattle.asn.specs.Walk.{each}
 use Rattle.statements_crl.specs.EntryExtension.{nothing_taken, one_extension, seen_taken}
-use Rattle.statements_crl.proofs.entry_extension.take_all.Given as goal
+use Rattle.statements_crl.proofs.entry_extension.reason_of_several.Given as goal
 
 abbrev pub invariant-loop-value : goal.invariant-loop-value
 invariant-loop-value l =
