@@ -9,7 +9,7 @@ def run(folder, *words):
     """Seconds that a program takes, and what it prints."""
     begun = time.monotonic()
     done = subprocess.run(words, cwd=folder, capture_output=True, text=True, check=True)
-    return time.monotonic() - begun, done.stdout
+    return time.monotonic() - begun, done.stdout + done.stderr
 
 
 def times(folder, rounds):
