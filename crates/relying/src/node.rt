@@ -8,6 +8,7 @@ ghost use Rattle.relying.specs.Delivery.{AnswersDelivery, DeliversForCause, IsAn
 ghost use Rattle.relying.specs.Restart.{HasRestarted};
 ghost use Rattle.relying.specs.View.{stored};
 ghost use Rattle.relying_verdicts.specs.View.{seen_query};
+ghost use Rattle.store.specs.Adopts.{IsStoreOn};
 ghost use Rattle.store.specs.Opens.{FailsToReopen, ReopensForCause};
 ghost use Rattle.store_taking.specs.Delivery.{AllOrNothing, PutsFacts};
 ghost use Rattle.store_taking.specs.Room.{PutsForCause};
@@ -110,6 +111,7 @@ impl<V: Verifier + Drop, D: Disk + Drop> Node<V, D> {
     pub fn restart(self, alloc: Global) -> Result<Node<V, D>, ReopenFault<D>>
         ensures verifier { IfOk result (λ node. node.verifier ≡ self.verifier) }
         ensures restarts { IfOk result (HasRestarted self) }
+        ensures store { IfOk result (λ node. IsStoreOn node.store.conn) }
         ensures durable { IfOk result (λ node. IsDurable (stored node)) }
         ensures cause { IfErr result (ReopensForCause self.store.conn) }
         ensures fails { IfErr result (FailsToReopen self.store.conn) }

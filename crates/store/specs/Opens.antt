@@ -22,7 +22,7 @@ use Rattle.store.specs.declared.refusal.ReopenFault.{ReopenFault}
 use Rattle.store.specs.declared.refusal.ReopenFault.TheVariants.{Close, Open, Adopt}
 use Rattle.store.specs.declared.refusal.OpenFault.{OpenFault}
 use Rattle.store.specs.declared.refusal.OpenFault.TheVariants.{Unconnected, Refused}
-use Rattle.store.specs.Adopts.{AdoptIsCaused, CopiesTo, IsNoStore}
+use Rattle.store.specs.Adopts.{AdoptIsCaused, CopiesTo, IsNoStore, StaysIfOpen}
 
 -- ---- at a path
 
@@ -43,10 +43,12 @@ abbrev pub IsNotMade : OpenFault → Type 0
 IsNotMade (Unconnected fault) = fault ≢ Schema
 IsNotMade (Refused refused) = HasCleanDisk (file_state refused.conn) → refused.fault ≢ Schema
 
--- Why a connection that was opened is not taken for a store, if what is migrated fits. Why none could be opened is not said.
+-- Why a connection that was opened is not taken for a store, if what is migrated fits. It comes back as it was, if it is still open. Why
+-- none could be opened is not said.
 pub record RefusesToOpenForCause {D : Type 0} {g : Ghosts D} (refused : refusal.Refused D g) : Type 0 where
   pub conn : Held (FileStore D g)
   pub opened : IsOpened conn
+  pub stays : StaysIfOpen (file_state conn) (file_state refused.conn)
   pub caused : FitsVersion2 (file_state conn).now → AdoptIsCaused (file_state conn) (file_state refused.conn) refused.fault
 
 abbrev pub IsNotOpenedForCause : OpenFault → Type 0
@@ -57,6 +59,7 @@ IsNotOpenedForCause (Refused refused) = HasCleanDisk (file_state refused.conn) �
 pub record RefusesToMakeForCause {D : Type 0} {g : Ghosts D} (refused : refusal.Refused D g) : Type 0 where
   pub conn : Held (FileStore D g)
   pub opened : IsOpened conn
+  pub stays : StaysIfOpen (file_state conn) (file_state refused.conn)
   pub caused : CreateIsCaused (file_state conn) (file_state refused.conn) refused.fault
 
 abbrev pub IsNotMadeForCause : OpenFault → Type 0

@@ -166,6 +166,7 @@ impl<D: Disk + Drop> Store<D> {
     /// Closes the store's files and takes them for a store again, which reads each row once. If that fails, what is left comes back.
     pub fn reopen(self, alloc: Global) -> Result<Store<D>, ReopenFault<D>>
         ensures restarts { IfOk result (λ store. RestartsOn self.conn store.conn) }
+        ensures store { IfOk result (λ store. IsStoreOn store.conn) }
         ensures durable { IfOk result (λ store. IsDurable (file_state store.conn)) }
         ensures cause { IfErr result (ReopensForCause self.conn) }
         ensures fails { IfErr result (FailsToReopen self.conn) }

@@ -25,3 +25,6 @@ returns-in-Err-adopt-clause-cause g c clean =
       opened = c.in-Ok-open_again.ensures.opened before;
       caused = c.in-Err-adopt.ensures.caused clean;
     }
+
+pub returns-clause-store : goal.returns-clause-store
+returns-clause-store g c clean = (c.in_default.ensures.adopts clean).1
