@@ -1,6 +1,6 @@
 //! What is found in a database.
 
-use crate::putting::{Row, has_rows};
+use crate::putting::{Row, tells};
 use sqlite::{Alter, Connection};
 use std::alloc::Global;
 use store_sql::StoreFault;
@@ -27,7 +27,7 @@ fn count<S: Alter>(conn: &mut Connection<S>, query: &str) -> Option<i64> {
 }
 
 fn holds<S: Alter>(alloc: Global, conn: &mut Connection<S>, holding: &Holding) -> bool {
-    has_rows(alloc, conn, holding.rows)
+    tells(alloc, conn, holding.rows).is_ok()
         && count(conn, "SELECT count(*) FROM scoped_entries") == Some(holding.counts.0)
         && count(conn, "SELECT count(*) FROM ocsp") == Some(holding.counts.1)
 }

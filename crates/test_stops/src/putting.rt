@@ -8,6 +8,7 @@ use statements_facts::{
 };
 use std::alloc::Global;
 use store::{look_up_crl, look_up_ocsp};
+use store_sql::StoreFault;
 use store_taking::put;
 
 /// What a list or a response of the issuer says.
@@ -55,15 +56,19 @@ fn response(alloc: Global, singles: &[Single<'static>]) -> Option<Facts<'static>
     }))
 }
 
-/// Whether it is answered that the statement was put.
-pub fn puts<S: Alter>(alloc: Global, conn: &mut Connection<S>, statement: Statement) -> bool {
+/// The statement is put.
+pub fn puts<S: Alter>(
+    alloc: Global,
+    conn: &mut Connection<S>,
+    statement: Statement,
+) -> Result<(), StoreFault> {
     let facts = match statement {
         Statement::List(number, listed) => list(alloc, number, listed),
         Statement::Response(singles) => response(alloc, singles),
     };
     match facts {
-        Some(facts) => put(conn, &facts).is_ok(),
-        None => false,
+        Some(facts) => put(conn, &facts).map(|_| ()),
+        None => Err(StoreFault::Memory),
     }
 }
 
@@ -72,14 +77,14 @@ fn listed<S: Alter>(
     conn: &mut Connection<S>,
     issuer: &Issuer<'_>,
     serial: &[u8],
-) -> Option<(u8, u8)> {
+) -> Result<(u8, u8), StoreFault> {
     if !conn.is_autocommit() {
-        return None;
+        return Err(StoreFault::Schema);
     }
     match look_up_crl(conn, issuer, Scope::All, serial) {
-        Ok(None) => Some((0, 255)),
-        Ok(Some(held)) => Some((held.number.to_octets()[19], held.reason.unwrap_or(255))),
-        Err(_) => None,
+        Ok(None) => Ok((0, 255)),
+        Ok(Some(held)) => Ok((held.number.to_octets()[19], held.reason.unwrap_or(255))),
+        Err(fault) => Err(fault),
     }
 }
 
@@ -88,27 +93,40 @@ fn said<S: Alter>(
     conn: &mut Connection<S>,
     issuer: &Issuer<'_>,
     serial: &[u8],
-) -> Option<Option<Status>> {
+) -> Result<Option<Status>, StoreFault> {
     if !conn.is_autocommit() {
-        return None;
+        return Err(StoreFault::Schema);
     }
     match look_up_ocsp(conn, issuer, NAME_HASH, serial) {
-        Ok(said) => Some(said.map(|said| said.status)),
-        Err(_) => None,
+        Ok(said) => Ok(said.map(|said| said.status)),
+        Err(fault) => Err(fault),
     }
 }
 
-/// Whether these are found.
-pub fn has_rows<S: Alter>(alloc: Global, conn: &mut Connection<S>, rows: &[Row]) -> bool {
-    let Some(issuer) = issuer(alloc) else {
-        return false;
-    };
-    for (serial, list, status) in rows {
-        if listed(conn, &issuer, serial) != Some(*list)
-            || said(conn, &issuer, serial) != Some(*status)
-        {
-            return false;
-        }
+fn tells_of<S: Alter>(
+    conn: &mut Connection<S>,
+    issuer: &Issuer<'_>,
+    row: &Row,
+) -> Result<(), StoreFault> {
+    let (serial, list, status) = *row;
+    if listed(conn, issuer, serial)? == list && said(conn, issuer, serial)? == status {
+        Ok(())
+    } else {
+        Err(StoreFault::Schema)
     }
-    true
+}
+
+/// These are found; 72 if something else is.
+pub fn tells<S: Alter>(
+    alloc: Global,
+    conn: &mut Connection<S>,
+    rows: &[Row],
+) -> Result<(), StoreFault> {
+    let Some(issuer) = issuer(alloc) else {
+        return Err(StoreFault::Memory);
+    };
+    for row in rows {
+        tells_of(conn, &issuer, row)?;
+    }
+    Ok(())
 }

@@ -46,10 +46,11 @@ fn is_found(alloc: Global, octets: &Octets, wanted: &'static [Found]) -> Option<
     })
 }
 
-/// How far the work came, and whether what it left may be, where the process ends there and where the machine does.
+/// How far the work came, and whether it was told so, and what it left may be, where the process ends there and where the machine does.
 fn come(alloc: Global, before: &Octets, trial: &Trial, fuses: Fuses) -> Option<(Progress, bool)> {
     let (files, progress) = run(alloc, files(alloc, before, fuses)?, &trial.work);
     let wanted = match progress {
+        Progress::Mistold => return Some((progress, false)),
         Progress::Done | Progress::Closed => trial.done,
         _ => trial.stopped,
     };

@@ -1,7 +1,7 @@
 //! Stores that are made, statements that are delivered, and stores of version 1 that are migrated.
 
 use crate::finding::{Found, Holding};
-use crate::putting::{NAME_HASH, Statement};
+use crate::putting::{NAME_HASH, Row, Statement};
 use crate::stopping::{Trial, is_whole};
 use crate::working::{Then, Version, Work};
 use statements_facts::{Listed, Single, Status};
@@ -125,12 +125,14 @@ INSERT INTO ocsp (issuer, name_hash, serial, this_update, produced_at, since, un
 VALUES (1, x'6868686868686868686868686868686868686868', x'05', 1, 2, 3, 4, 1, 3);";
 
 /// What these rows say.
+const SAID_OF_ALL: &[Row] = &[
+    (b"\x04", (5, 255), None),
+    (b"\x05", (5, 1), Some(Status::Revoked(3))),
+    (b"\x06", (5, 4), None),
+];
+
 const ALL: Holding = Holding {
-    rows: &[
-        (b"\x04", (5, 255), None),
-        (b"\x05", (5, 1), Some(Status::Revoked(3))),
-        (b"\x06", (5, 4), None),
-    ],
+    rows: SAID_OF_ALL,
     counts: (2, 1),
 };
 
@@ -145,4 +147,20 @@ const MIGRATED: Trial = Trial {
 #[test]
 fn all_rows_in_either_version(rt: HostRuntime) {
     assert!(rt; is_whole(rt.alloc(), &MIGRATED) == Some(true));
+}
+
+/// Look-ups, which leave all as it was.
+const LOOKED_UP: Trial = Trial {
+    before: &[
+        Work::Make(Version::Old(ROWS)),
+        Work::TakeOver(Then::Nothing),
+    ],
+    work: Work::TakeOver(Then::Look(SAID_OF_ALL)),
+    stopped: &[Found::Store(ALL)],
+    done: &[Found::Store(ALL)],
+};
+
+#[test]
+fn look_ups_that_stop(rt: HostRuntime) {
+    assert!(rt; is_whole(rt.alloc(), &LOOKED_UP) == Some(true));
 }

@@ -1,7 +1,7 @@
 //! Work on a database over files, which may stop.
 
 use crate::finding::{Found, is_one_of};
-use crate::putting::{Statement, puts};
+use crate::putting::{Row, Statement, puts, tells};
 use sqlite::{Alter, Connection, FileStore, Files, Options};
 use sqlite_disk::Disk;
 use std::alloc::Global;
@@ -31,6 +31,8 @@ pub enum Version {
 pub enum Then {
     Nothing,
     Put(Statement),
+    /// It holds these.
+    Look(&'static [Row]),
     /// It is one of these.
     Find(&'static [Found]),
 }
@@ -39,6 +41,8 @@ pub enum Then {
 #[derive(Clone, Copy, PartialEq, Eq)]
 pub enum Progress {
     NotOpened,
+    /// It was refused with another fault than 71, which is that of a disk that fails.
+    Mistold,
     /// It was not answered that it was done.
     Stopped,
     /// It was, and then the files were not closed.
@@ -47,18 +51,28 @@ pub enum Progress {
     Closed,
 }
 
-/// Whether the rest is done to a database that was of version 1 or not, and was taken for a store or not.
+/// What is not so is told as what a disk that fails leaves.
+fn done_if(is_so: bool) -> Result<(), StoreFault> {
+    if is_so {
+        Ok(())
+    } else {
+        Err(StoreFault::Store)
+    }
+}
+
+/// The rest is done to a database that was of version 1 or not, and was taken for a store or not.
 fn follows<S: Alter>(
     alloc: Global,
     conn: &mut Connection<S>,
     then: Then,
     was_old: bool,
     taken: Result<(), StoreFault>,
-) -> bool {
+) -> Result<(), StoreFault> {
     match then {
-        Then::Nothing => taken.is_ok(),
-        Then::Put(statement) => taken.is_ok() && puts(alloc, conn, statement),
-        Then::Find(wanted) => is_one_of(alloc, conn, wanted, was_old, taken),
+        Then::Nothing => taken,
+        Then::Put(statement) => taken.and(puts(alloc, conn, statement)),
+        Then::Look(rows) => taken.and(tells(alloc, conn, rows)),
+        Then::Find(wanted) => done_if(is_one_of(alloc, conn, wanted, was_old, taken)),
     }
 }
 
@@ -73,18 +87,25 @@ fn take<D: Disk + Drop>(
     take_over(alloc, conn)
 }
 
-/// Whether it is answered that a store was made.
-fn makes<S: Alter>(conn: &mut Connection<S>, version: Version) -> bool {
+/// A store is made.
+fn makes<S: Alter>(conn: &mut Connection<S>, version: Version) -> Result<(), StoreFault> {
+    if !conn.is_autocommit() {
+        return Err(StoreFault::Store);
+    }
     match version {
-        Version::Old(rows) => {
-            conn.execute_batch(version_1_tables()).is_ok() && conn.execute_batch(rows).is_ok()
-        }
-        Version::New => conn.is_autocommit() && create(conn).is_ok(),
+        Version::Old(rows) => done_if(
+            conn.execute_batch(version_1_tables()).is_ok() && conn.execute_batch(rows).is_ok(),
+        ),
+        Version::New => create(conn),
     }
 }
 
-/// Whether it is answered that the work is done.
-fn does<D: Disk + Drop>(alloc: Global, conn: &mut Connection<FileStore<D>>, work: &Work) -> bool {
+/// The work is done, or the fault is answered.
+fn does<D: Disk + Drop>(
+    alloc: Global,
+    conn: &mut Connection<FileStore<D>>,
+    work: &Work,
+) -> Result<(), StoreFault> {
     match *work {
         Work::Make(version) => makes(conn, version),
         Work::TakeOver(then) => {
@@ -95,13 +116,17 @@ fn does<D: Disk + Drop>(alloc: Global, conn: &mut Connection<FileStore<D>>, work
     }
 }
 
-fn progress_of(is_done: bool, is_closed: bool) -> Progress {
-    if !is_done {
-        Progress::Stopped
-    } else if !is_closed {
-        Progress::Done
-    } else {
-        Progress::Closed
+fn progress_of(done: Result<(), StoreFault>, is_closed: bool) -> Progress {
+    match done {
+        Err(StoreFault::Store) => Progress::Stopped,
+        Err(_) => Progress::Mistold,
+        Ok(()) => {
+            if is_closed {
+                Progress::Closed
+            } else {
+                Progress::Done
+            }
+        }
     }
 }
 
@@ -112,10 +137,10 @@ pub fn run<D: Disk + Drop>(alloc: Global, files: Files<D>, work: &Work) -> (File
     }
     match Connection::open_files(alloc, files, Options::new(7)) {
         Ok(mut conn) => {
-            let is_done = does(alloc, &mut conn, work);
+            let done = does(alloc, &mut conn, work);
             match conn.close_files() {
-                Ok(files) => (files, progress_of(is_done, true)),
-                Err((_error, store)) => (store.close(), progress_of(is_done, false)),
+                Ok(files) => (files, progress_of(done, true)),
+                Err((_error, store)) => (store.close(), progress_of(done, false)),
             }
         }
         Err((_error, left)) => (left.into_files(), Progress::NotOpened),
