@@ -127,14 +127,17 @@ fn wants_memory_or_answers(rt: HostRuntime) {
     }
 }
 
-/// Without memory a value past the limit is still told as that, and the end as the end.
+/// Without memory a value past the limit is still told as that, and the end as the end: memory is taken for its first octet, and none for
+/// its contents.
 #[test]
 fn the_limit_wants_memory_or_answers(rt: HostRuntime) {
     let mut source: &[u8] = &[0x02, 0x02, 0x00, 0x80];
     match read_one(rt.alloc(), &mut source, 3) {
         Ok(_) => assert!(rt; false),
+        Err(ReadFault::Limit) => assert_eq!(rt; source.len(), 2),
         Err(fault) => {
-            assert!(rt; fault == ReadFault::Limit || fault == ReadFault::Fault(Fault::Memory));
+            assert_eq!(rt; fault, ReadFault::Fault(Fault::Memory));
+            assert_eq!(rt; source.len(), 3);
         }
     }
     let mut source: &[u8] = &[];

@@ -3,9 +3,13 @@
 #![tactic(auto)]
 
 #[cfg(test)]
+mod asked;
+#[cfg(test)]
 mod built;
 #[cfg(test)]
 mod fingerprints;
+#[cfg(test)]
+mod forged;
 #[cfg(test)]
 mod judged;
 #[cfg(test)]

@@ -7,3 +7,5 @@ mod accepted;
 mod reading;
 #[cfg(test)]
 mod refused;
+#[cfg(test)]
+mod sixteen;

@@ -11,6 +11,8 @@ mod reading;
 mod refused;
 #[cfg(test)]
 mod refusing;
+#[cfg(test)]
+mod sixteen;
 
 #[cfg(test)]
 use std::alloc::Global;

@@ -1,5 +1,7 @@
 //! `==` of public values: it answers whether the two are the same, so no field is left out.
 ghost use Rattle.std.specs.Prelude.{◌≡◌, ◌↔◌, IsTrue};
+ghost use Rattle.statements_crl.specs.Entry.{seen_entry};
+ghost use Rattle.statements_ocsp.specs.CertificateId.{seen_id};
 
 use cert::{BasicConstraints, CertFault, CertRule, ExtensionKind, Validity, Version};
 use der::{Fault, Header, Rule};
@@ -12,8 +14,9 @@ use relying_agreement::Verdict;
 use relying_questions::Source;
 use relying_rows::{Row, RowFault};
 use relying_verdicts::{Fault as PartyFault, QueryFault};
+use statements_crl::Entry;
 use statements_facts::{Counts, Scope, Status, TakenAs};
-use statements_ocsp::CertStatus;
+use statements_ocsp::{CertId, CertStatus};
 use statements_parts::{StatementFault, StatementRule};
 use store_sql::{Origin, StoreFault};
 
@@ -187,6 +190,19 @@ pub fn same_taken_as(one: TakenAs, other: TakenAs) -> bool
 
 pub fn same_cert_status(one: CertStatus, other: CertStatus) -> bool
     ensures { IsTrue result ↔ (one ≡ other) }
+{
+    one == other
+}
+
+/// Of the octets that the parts of a text hold, and not of where they stand.
+pub fn same_entry(one: Entry<'_>, other: Entry<'_>) -> bool
+    ensures { IsTrue result ↔ (seen_entry one.entry ≡ seen_entry other.entry) }
+{
+    one == other
+}
+
+pub fn same_cert_id(one: CertId<'_>, other: CertId<'_>) -> bool
+    ensures { IsTrue result ↔ (seen_id one.entry ≡ seen_id other.entry) }
 {
     one == other
 }

@@ -135,3 +135,13 @@ fn refuses_bad_lines(rt: HostRuntime) -> Result<(), Fail> {
     }
     Ok(())
 }
+
+#[test]
+fn faults_are_printed_and_compared(rt: HostRuntime) -> Result<(), Fail> {
+    let (third, memory) = (FingerprintsFault::Line(3), FingerprintsFault::Memory);
+    let printed = format!(in rt.alloc(); "{third}; {memory}")?;
+    assert!(rt; printed.as_str() == "line 3 is bad; no memory");
+    assert!(rt; third != FingerprintsFault::Line(4));
+    assert!(rt; third != memory);
+    Ok(())
+}
