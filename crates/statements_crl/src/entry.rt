@@ -62,6 +62,7 @@ impl<'a> Entry<'a> {
         let reason = reason_in_list(members.optional(SEQUENCE));
         Ok(Entry { reason, ..read })
     }
+
     /// The serial number and the reason of an entry that was read once, without memory. The date is passed over.
     #[tactic(auto, unfolding(crate::specs::Entry::listed_again))]
     pub(crate) fn listed(value: Tlv<'a>) -> Result<Listed<'a>, Refusal>
