@@ -65,7 +65,7 @@ fn comparison_below<D: Disk + Drop>(
     }
 }
 
-fn comparison_on<D: Disk + Drop>(
+pub fn comparison_on<D: Disk + Drop>(
     alloc: Global,
     one: &mut Node<ToyVerifier, D>,
     other: &mut Node<ToyVerifier, D>,

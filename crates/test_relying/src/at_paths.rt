@@ -1,6 +1,6 @@
 //! Stores at paths of the system's files.
 
-use sqlite::Connection;
+use sqlite::{Alter, Connection};
 use std::fs;
 use std::test::Fail;
 use store::{OpenFault, Store};
@@ -71,6 +71,21 @@ fn is_filled(rt: &HostRuntime, path: &str) -> bool {
     }
 }
 
+fn count<S: Alter>(conn: &mut Connection<S>) -> Option<i64> {
+    conn.query_row("SELECT count(*) FROM sqlite_schema", &[])
+        .ok()?
+        .get(0)
+        .ok()
+}
+
+/// How many tables and indexes a database has.
+fn tables(rt: &HostRuntime, path: &str) -> Option<i64> {
+    match Connection::open(rt, path) {
+        Ok(mut conn) => count(&mut conn),
+        Err(_) => None,
+    }
+}
+
 #[test]
 fn a_database_of_another_program_comes_back(rt: HostRuntime) -> Result<(), Fail> {
     let path = "at_paths.other";
@@ -78,6 +93,31 @@ fn a_database_of_another_program_comes_back(rt: HostRuntime) -> Result<(), Fail>
     assert!(rt; is_filled(&rt, path));
     assert_eq!(rt; opened(&rt, path), Answer::Refused(StoreFault::Schema));
     assert_eq!(rt; made(&rt, path), Answer::Unconnected(StoreFault::Store));
+    assert_eq!(rt; tables(&rt, path), Some(1));
     fs::remove_file(&rt, path)?;
+    Ok(())
+}
+
+/// An empty file is an empty database, and opening makes no store of it.
+#[test]
+fn an_empty_file_is_left(rt: HostRuntime) -> Result<(), Fail> {
+    let path = "at_paths.empty";
+    fs::write(&rt, path, b"".as_slice())?;
+    assert_eq!(rt; opened(&rt, path), Answer::Refused(StoreFault::Schema));
+    assert_eq!(rt; made(&rt, path), Answer::Unconnected(StoreFault::Store));
+    assert_eq!(rt; opened(&rt, path), Answer::Refused(StoreFault::Schema));
+    fs::remove_file(&rt, path)?;
+    Ok(())
+}
+
+/// Paths at which there can be no file, or which SQLite reads as other things than the name of one.
+const NO_FILES: &[&str] = &["at_paths.none/store", ":memory:", "file:at_paths.uri"];
+
+#[test]
+fn no_store_is_made_of_another_thing_than_a_file(rt: HostRuntime) -> Result<(), Fail> {
+    for path in NO_FILES {
+        assert_eq!(rt; made(&rt, path), Answer::Unconnected(StoreFault::Store));
+        assert_eq!(rt; opened(&rt, path), Answer::Unconnected(StoreFault::Store));
+    }
     Ok(())
 }

@@ -13,6 +13,8 @@ mod at_paths;
 #[cfg(test)]
 mod in_steps;
 #[cfg(test)]
+mod limited;
+#[cfg(test)]
 mod memory;
 #[cfg(test)]
 mod path_file;
