@@ -4,7 +4,8 @@ ghost use Rattle.std.specs.Prelude.{◌≡◌, IfSome};
 ghost use Rattle.asn.specs.Reading.{seen_tlv, left, Gives, seen};
 ghost use Rattle.asn.specs.Oid.{oid_contents};
 ghost use Rattle.cert.specs.Extension.{seen_extension};
-ghost use Rattle.statements_crl.specs.EntryExtension.{entry_extension_kind, one_extension, optional_reason, reason_after, reason_code, reason_behind, reason_given, encoded_reason, reason_of_all, reason_of_one, reason_with, seen_taken};
+ghost use Rattle.statements_crl.specs.EntryExtension.{entry_extension_kind, one_extension, optional_reason, reason_of_all, reason_of_one, seen_taken};
+ghost use Rattle.statements_crl.specs.EntryExtension.{encoded_reason, reason_after, reason_behind, reason_code, reason_given, reason_with};
 ghost use Rattle.statements_parts.specs.Fault.{GivesUnlessFull};
 ghost use Rattle.statements_parts.specs.Steps.{StepGivesUnlessFull, TakesUnlessFull};
 

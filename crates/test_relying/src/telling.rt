@@ -47,7 +47,7 @@ pub fn pair_of(alloc: Global, told: &Told) -> Option<(Vec<u8>, Vec<u8>)> {
     Some((issuer, statement))
 }
 
-pub fn pairs_of(alloc: Global, told: &[Told]) -> Option<Vec<(Vec<u8>, Vec<u8>)>> {
+fn pairs_of(alloc: Global, told: &[Told]) -> Option<Vec<(Vec<u8>, Vec<u8>)>> {
     let mut all = Vec::new(alloc);
     for it in told {
         all.push(pair_of(alloc, it)?).ok()?;
@@ -55,7 +55,7 @@ pub fn pairs_of(alloc: Global, told: &[Told]) -> Option<Vec<(Vec<u8>, Vec<u8>)>>
     Some(all)
 }
 
-pub fn events_of<'a>(alloc: Global, pairs: &'a [(Vec<u8>, Vec<u8>)]) -> Option<Vec<Event<'a>>> {
+fn events_of<'a>(alloc: Global, pairs: &'a [(Vec<u8>, Vec<u8>)]) -> Option<Vec<Event<'a>>> {
     let mut events = Vec::new(alloc);
     for (issuer, statement) in pairs {
         let event = if issuer.is_empty() {

@@ -37,7 +37,7 @@ fn questions_about(alloc: Global, issuer: &str, statement: &[u8]) -> Result<u32,
     Ok(verifier.asked.get())
 }
 
-/// A list, and how many questions there are about it under `ca(R,R)`: about one that names another issuer there is none.
+/// A list, and how often a verifier is asked about it under `ca(R,R)`. It is never asked about a list that names another issuer.
 const LISTS: &[(&str, u32)] = &[
     ("crl(R,5)", 1),
     ("crl(R,5){signed X}", 1),
@@ -63,8 +63,8 @@ const BY_KEY: &str = "ocsp(R,05 good){bykey D}{signed D}";
 
 const DELEGATE: &str = "ee(D,R){purpose 1.3.6.1.5.5.7.3.9}{nocheck}";
 
-/// A response, the certificates that come with it, and how many questions there are about it under `ca(R,R)`: one about a certificate only
-/// if the responder id names it, and it names the issuer as its own; and one about the response under each key that may have signed it.
+/// A response, the certificates that come with it, and how often a verifier is asked about it under `ca(R,R)`: once about each certificate
+/// that the responder id names, if `ca(R,R)` is its issuer, and once about the response under each key that may have signed it.
 const RESPONSES: &[(&str, &[&str], u32)] = &[
     (BY_ISSUER, &[], 1),
     (BY_ISSUER, &[DELEGATE], 1),
