@@ -7,6 +7,7 @@ ghost use Rattle.sqlite.specs.State.{HasCleanDisk};
 
 use sqlite::{Connection, FileStore, Options};
 use sqlite_std_file::{File, OpenError, Unknown};
+use std::fs;
 use std::hash::{BuildHasher, RandomState};
 use std::io::ErrorKind;
 use std::rt::HostRuntime;
@@ -44,16 +45,29 @@ fn is_no_file(path: &str) -> bool {
     path == ":memory:" || path.starts_with("file:")
 }
 
-/// Opens the database at the path, or makes an empty one.
+/// Whether there is a file at the path; a fault if that cannot be told.
+fn is_file(rt: &HostRuntime, path: &str) -> Result<bool, StoreFault>
+    ensures { IfErr result (λ fault. fault ≢ StoreFault.Schema) }
+{
+    match fs::open(rt, path) {
+        Ok(_) => Ok(true),
+        Err(error) if error.kind() == ErrorKind::NotFound => Ok(false),
+        Err(error) if error.kind() == ErrorKind::OutOfMemory => Err(StoreFault::Memory),
+        Err(_) => Err(StoreFault::Store),
+    }
+}
+
+/// Opens the database at the path, if a file is to be there, or else makes an empty one.
 pub(crate) fn connect(
     rt: &HostRuntime,
     path: &str,
+    is_there: bool,
 ) -> Result<Connection<FileStore<File>>, StoreFault>
     ensures fresh { IfOk result IsNew }
     ensures opened { IfOk result (λ conn. HasCleanDisk (file_state conn) → IsOpened conn) }
     ensures fault { IfErr result (λ fault. fault ≢ StoreFault.Schema) }
 {
-    if is_no_file(path) {
+    if is_no_file(path) || is_file(rt, path)? != is_there {
         return Err(StoreFault::Store);
     }
     let options = random_options(rt)?;

@@ -11,7 +11,6 @@ use crate::connecting::connect;
 use crate::handle::Store;
 use crate::refusal::OpenFault;
 use sqlite_std_file::File;
-use std::fs;
 use std::rt::HostRuntime;
 use store_sql::StoreFault;
 
@@ -38,10 +37,7 @@ impl Store<File> {
         ensures fails { IfErr result IsNotOpened }
         ensures caused { IfErr result IsNotOpenedForCause }
     {
-        if fs::open(rt, path).is_err() {
-            return Err(OpenFault::Unconnected(StoreFault::Store));
-        }
-        let conn = connect(rt, path)?;
+        let conn = connect(rt, path, true)?;
         Ok(Store::adopt(rt.alloc(), conn)?)
     }
 
@@ -54,10 +50,7 @@ impl Store<File> {
         ensures fails { IfErr result IsNotMade }
         ensures caused { IfErr result IsNotMadeForCause }
     {
-        if fs::open(rt, path).is_ok() {
-            return Err(OpenFault::Unconnected(StoreFault::Store));
-        }
-        let conn = connect(rt, path)?;
+        let conn = connect(rt, path, false)?;
         Ok(Store::create(conn)?)
     }
 }
