@@ -2,6 +2,7 @@
 
 use sqlite::{Alter, Connection};
 use std::fs;
+use std::io::ErrorKind;
 use std::test::Fail;
 use store::{OpenFault, Store};
 use store_sql::StoreFault;
@@ -120,4 +121,37 @@ fn no_store_is_made_of_another_thing_than_a_file(rt: HostRuntime) -> Result<(), 
         assert_eq!(rt; opened(&rt, path), Answer::Unconnected(StoreFault::Store));
     }
     Ok(())
+}
+
+fn is_answer_or_want(answer: Answer) -> bool {
+    match answer {
+        Answer::Store => true,
+        Answer::Unconnected(fault) | Answer::Refused(fault) => fault == StoreFault::Memory,
+    }
+}
+
+/// Whether there is no file at the path now.
+fn is_removed(rt: &HostRuntime, path: &str) -> bool {
+    match fs::remove_file(rt, path) {
+        Ok(()) => true,
+        Err(error) => error.kind() == ErrorKind::NotFound,
+    }
+}
+
+/// Whichever request for memory is refused, a store is made and opened, or memory ran out: no disk failed here.
+#[test]
+fn making_and_opening_want_memory_or_answer(rt: HostRuntime) {
+    let path = "at_paths.memory";
+    let made = if is_removed(&rt, path) {
+        made(&rt, path)
+    } else {
+        Answer::Refused(StoreFault::Memory)
+    };
+    let opened = if made == Answer::Store {
+        opened(&rt, path)
+    } else {
+        made
+    };
+    let _gone = is_removed(&rt, path);
+    assert!(rt; is_answer_or_want(made) && is_answer_or_want(opened));
 }

@@ -148,18 +148,54 @@ fn lacking<'a>(alloc: Global, anchor: &'a [u8], path: &[&'a [u8]]) -> Option<usi
     }
 }
 
+/// The certificates of a question: one without lists, for which no memory is taken, and one with a list of subtrees.
+#[derive(Drop)]
+struct Certificates {
+    plain: Vec<u8>,
+    constrained: Vec<u8>,
+}
+
+fn of_both_kinds(alloc: Global) -> Option<Certificates> {
+    Some(Certificates {
+        plain: certificate(alloc, "ee(T,R)").ok()?,
+        constrained: certificate(alloc, "ca(R,R){permit dns a.example}").ok()?,
+    })
+}
+
 /// Certificates without lists take no memory, so that the list of them alone does: the first below the anchor is told. An anchor with a
 /// list of subtrees is told itself.
 fn is_told_of_the_right_certificate(alloc: Global) -> Option<bool> {
-    let plain = certificate(alloc, "ee(T,R)").ok()?;
-    let constrained = certificate(alloc, "ca(R,R){permit dns a.example}").ok()?;
-    let of_three = lacking(alloc, &plain, &[&plain, &plain, &plain]).unwrap_or(1);
-    let of_anchor = lacking(alloc, &constrained, &[]).unwrap_or(0);
-    let behind = lacking(alloc, &plain, &[&constrained]).unwrap_or(1);
+    let both = of_both_kinds(alloc)?;
+    let (plain, constrained) = (both.plain.as_slice(), both.constrained.as_slice());
+    let of_three = lacking(alloc, plain, &[plain, plain, plain]).unwrap_or(1);
+    let of_anchor = lacking(alloc, constrained, &[]).unwrap_or(0);
+    let behind = lacking(alloc, plain, &[constrained]).unwrap_or(1);
     Some(of_three == 1 && of_anchor == 0 && behind == 1)
 }
 
 #[test]
 fn certificates_of_a_question_want_memory_or_answer(rt: HostRuntime) {
     assert!(rt; is_told_of_the_right_certificate(rt.alloc()) != Some(false));
+}
+
+/// The certificate that is told where the anchor and the second below it have lists of subtrees.
+fn lacking_of_two(alloc: Global) -> Option<usize> {
+    let both = of_both_kinds(alloc)?;
+    let (plain, constrained) = (both.plain.as_slice(), both.constrained.as_slice());
+    lacking(alloc, constrained, &[plain, constrained])
+}
+
+#[test]
+fn the_anchor_of_a_question_may_want_memory(rt: HostRuntime) {
+    assert!(rt; lacking_of_two(rt.alloc()) != Some(0));
+}
+
+#[test]
+fn the_first_certificate_of_a_question_may_want_memory(rt: HostRuntime) {
+    assert!(rt; lacking_of_two(rt.alloc()) != Some(1));
+}
+
+#[test]
+fn the_second_certificate_of_a_question_may_want_memory(rt: HostRuntime) {
+    assert!(rt; lacking_of_two(rt.alloc()) != Some(2));
 }

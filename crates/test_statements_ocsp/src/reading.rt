@@ -106,6 +106,26 @@ fn reads_the_fields(rt: HostRuntime) -> Result<(), Fail> {
     Ok(())
 }
 
+/// Whether none of the values in certs of the response in the line is taken for a certificate, and none is left.
+fn are_passed_over(alloc: Global, line: &str) -> Result<bool, Fail> {
+    let octets = octets_of(alloc, line.split(' ').nth(8).unwrap_or(""))?;
+    let response = Response::read(alloc, &octets).map_err(|_| "refused")?;
+    let mut certs = response.certs;
+    match certs.next_certificate(alloc) {
+        Ok(found) => Ok(found.is_none() && certs.next().is_none()),
+        Err(_) => Ok(false),
+    }
+}
+
+#[test]
+fn values_that_are_no_certificates_are_passed_over(rt: HostRuntime) -> Result<(), Fail> {
+    for line in ACCEPTED.lines() {
+        let are_passed = are_passed_over(rt.alloc(), line)?;
+        assert!(rt; are_passed, "{line}");
+    }
+    Ok(())
+}
+
 #[test]
 fn reads_what_openssl_wrote(rt: HostRuntime) -> Result<(), Fail> {
     for line in OF_OPENSSL.lines() {

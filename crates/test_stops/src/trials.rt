@@ -164,3 +164,16 @@ const LOOKED_UP: Trial = Trial {
 fn look_ups_that_stop(rt: HostRuntime) {
     assert!(rt; is_whole(rt.alloc(), &LOOKED_UP) == Some(true));
 }
+
+/// A restart, which leaves all as it was.
+const RESTARTED: Trial = Trial {
+    before: BEFORE,
+    work: Work::Reopen,
+    stopped: &[Found::Store(FIFTH)],
+    done: &[Found::Store(FIFTH)],
+};
+
+#[test]
+fn restarts_that_stop(rt: HostRuntime) {
+    assert!(rt; is_whole(rt.alloc(), &RESTARTED) == Some(true));
+}

@@ -5,7 +5,7 @@ use crate::putting::{Row, Statement, puts, tells};
 use sqlite::{Alter, Connection, FileStore, Files, Options};
 use sqlite_disk::Disk;
 use std::alloc::Global;
-use store::take_over;
+use store::{Refused, ReopenFault, Store, take_over};
 use store_adoption::create;
 use store_migration::version_1_tables;
 use store_sql::{StoreFault, is_version_1};
@@ -17,6 +17,8 @@ pub enum Work {
     Make(Version),
     /// It is taken for a store.
     TakeOver(Then),
+    /// It is taken for a store, whose files are closed and opened again.
+    Reopen,
 }
 
 #[derive(Clone, Copy)]
@@ -100,20 +102,15 @@ fn makes<S: Alter>(conn: &mut Connection<S>, version: Version) -> Result<(), Sto
     }
 }
 
-/// The work is done, or the fault is answered.
-fn does<D: Disk + Drop>(
+/// The database is taken for a store, and the rest is done to it.
+fn takes<D: Disk + Drop>(
     alloc: Global,
     conn: &mut Connection<FileStore<D>>,
-    work: &Work,
+    then: Then,
 ) -> Result<(), StoreFault> {
-    match *work {
-        Work::Make(version) => makes(conn, version),
-        Work::TakeOver(then) => {
-            let was_old = is_version_1(conn.schema());
-            let taken = take(alloc, conn);
-            follows(alloc, conn, then, was_old, taken)
-        }
-    }
+    let was_old = is_version_1(conn.schema());
+    let taken = take(alloc, conn);
+    follows(alloc, conn, then, was_old, taken)
 }
 
 fn progress_of(done: Result<(), StoreFault>, is_closed: bool) -> Progress {
@@ -130,19 +127,64 @@ fn progress_of(done: Result<(), StoreFault>, is_closed: bool) -> Progress {
     }
 }
 
+fn closed<D: Disk + Drop>(
+    conn: Connection<FileStore<D>>,
+    done: Result<(), StoreFault>,
+) -> (Files<D>, Progress) {
+    match conn.close_files() {
+        Ok(files) => (files, progress_of(done, true)),
+        Err((_error, store)) => (store.close(), progress_of(done, false)),
+    }
+}
+
+fn closed_store<D: Disk + Drop>(store: Store<D>) -> (Files<D>, Progress) {
+    match store.into_files() {
+        Ok(files) => (files, Progress::Closed),
+        Err((StoreFault::Store, left)) => (left.close(), Progress::Done),
+        Err((_, left)) => (left.close(), Progress::Mistold),
+    }
+}
+
+fn restarted<D: Disk + Drop>(alloc: Global, store: Store<D>) -> (Files<D>, Progress) {
+    match store.reopen(alloc) {
+        Ok(store) => closed_store(store),
+        Err(ReopenFault::Close(fault, left)) => (left.close(), progress_of(Err(fault), false)),
+        Err(ReopenFault::Open(fault, left)) => (left.into_files(), progress_of(Err(fault), false)),
+        Err(ReopenFault::Adopt(Refused { fault, conn })) => closed(conn, Err(fault)),
+    }
+}
+
+fn reopened<D: Disk + Drop>(alloc: Global, conn: Connection<FileStore<D>>) -> (Files<D>, Progress) {
+    if !conn.is_autocommit() {
+        return closed(conn, Err(StoreFault::Store));
+    }
+    match Store::adopt(alloc, conn) {
+        Ok(store) => restarted(alloc, store),
+        Err(Refused { fault, conn }) => closed(conn, Err(fault)),
+    }
+}
+
+/// The work is done, or the fault is answered, and the files are closed.
+fn works<D: Disk + Drop>(
+    alloc: Global,
+    mut conn: Connection<FileStore<D>>,
+    work: &Work,
+) -> (Files<D>, Progress) {
+    let done = match *work {
+        Work::Make(version) => makes(&mut conn, version),
+        Work::TakeOver(then) => takes(alloc, &mut conn, then),
+        Work::Reopen => return reopened(alloc, conn),
+    };
+    closed(conn, done)
+}
+
 /// A database over the files is opened, worked on and closed.
 pub fn run<D: Disk + Drop>(alloc: Global, files: Files<D>, work: &Work) -> (Files<D>, Progress) {
     if !files.may_be_used() {
         return (files, Progress::NotOpened);
     }
     match Connection::open_files(alloc, files, Options::new(7)) {
-        Ok(mut conn) => {
-            let done = does(alloc, &mut conn, work);
-            match conn.close_files() {
-                Ok(files) => (files, progress_of(done, true)),
-                Err((_error, store)) => (store.close(), progress_of(done, false)),
-            }
-        }
+        Ok(conn) => works(alloc, conn, work),
         Err((_error, left)) => (left.into_files(), Progress::NotOpened),
     }
 }
