@@ -106,6 +106,52 @@ fn reads_the_fields(rt: HostRuntime) -> Result<(), Fail> {
     Ok(())
 }
 
+/// Whether the single response is equal to those that another line spells in the same word, and to no others.
+fn is_equal_to_its_like(
+    alloc: Global,
+    single: SingleResponse<'_>,
+    word: &str,
+    line: &str,
+) -> Result<bool, Fail> {
+    let octets = octets_of(alloc, line.split(' ').nth(8).unwrap_or(""))?;
+    let response = Response::read(alloc, &octets).map_err(|_| "refused")?;
+    let mut others = response.responses;
+    let mut is_so = true;
+    for other_word in line.split(' ').skip(9) {
+        is_so = match others.next() {
+            Some(other) => is_so && (single == other) == (word == other_word),
+            None => false,
+        };
+    }
+    Ok(is_so)
+}
+
+/// The same of each single response of a line.
+fn are_equal_to_their_like(alloc: Global, line: &str, other_line: &str) -> Result<bool, Fail> {
+    let octets = octets_of(alloc, line.split(' ').nth(8).unwrap_or(""))?;
+    let response = Response::read(alloc, &octets).map_err(|_| "refused")?;
+    let mut singles = response.responses;
+    let mut is_so = true;
+    for word in line.split(' ').skip(9) {
+        is_so = match singles.next() {
+            Some(single) => is_so && is_equal_to_its_like(alloc, single, word, other_line)?,
+            None => false,
+        };
+    }
+    Ok(is_so)
+}
+
+#[test]
+fn single_responses_are_equal_if_all_fields_are(rt: HostRuntime) -> Result<(), Fail> {
+    for line in ACCEPTED.lines() {
+        for other_line in ACCEPTED.lines() {
+            let is_so = are_equal_to_their_like(rt.alloc(), line, other_line)?;
+            assert!(rt; is_so, "{line} {other_line}");
+        }
+    }
+    Ok(())
+}
+
 /// Whether none of the values in certs of the response in the line is taken for a certificate, and none is left.
 fn are_passed_over(alloc: Global, line: &str) -> Result<bool, Fail> {
     let octets = octets_of(alloc, line.split(' ').nth(8).unwrap_or(""))?;

@@ -2,7 +2,6 @@
 ghost use Rattle.std.specs.Prelude.{◌≡◌, ◌↔◌, IsTrue};
 ghost use Rattle.statements_crl.specs.Entry.{seen_entry};
 ghost use Rattle.statements_ocsp.specs.CertificateId.{seen_id};
-ghost use Rattle.statements_ocsp.specs.Single.{seen_single_response};
 
 use cert::{BasicConstraints, CertFault, CertRule, ExtensionKind, Validity, Version};
 use der::{Fault, Header, Rule};
@@ -17,7 +16,7 @@ use relying_rows::{Row, RowFault};
 use relying_verdicts::{Fault as PartyFault, QueryFault};
 use statements_crl::Entry;
 use statements_facts::{Counts, Scope, Status, TakenAs};
-use statements_ocsp::{CertId, CertStatus, SingleResponse};
+use statements_ocsp::{CertId, CertStatus};
 use statements_parts::{StatementFault, StatementRule};
 use store_sql::{Origin, StoreFault};
 
@@ -204,12 +203,6 @@ pub fn same_entry(one: Entry<'_>, other: Entry<'_>) -> bool
 
 pub fn same_cert_id(one: CertId<'_>, other: CertId<'_>) -> bool
     ensures { IsTrue result ↔ (seen_id one.entry ≡ seen_id other.entry) }
-{
-    one == other
-}
-
-pub fn same_single_response(one: SingleResponse<'_>, other: SingleResponse<'_>) -> bool
-    ensures { IsTrue result ↔ (seen_single_response one.entry ≡ seen_single_response other.entry) }
 {
     one == other
 }
