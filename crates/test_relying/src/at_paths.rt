@@ -1,5 +1,6 @@
 //! Stores at paths of the system's files.
 
+use crate::printing::is_printed;
 use sqlite::{Alter, Connection};
 use std::fs;
 use std::io::ErrorKind;
@@ -38,11 +39,21 @@ fn made(rt: &HostRuntime, path: &str) -> Answer {
     }
 }
 
+/// Whether a store at the path is not opened, which is told in these words.
+fn is_refused_as(rt: &HostRuntime, path: &str, text: &str) -> bool {
+    match Store::open(rt, path) {
+        Ok(_) => false,
+        Err(fault) => is_printed(rt.alloc(), &fault, text),
+    }
+}
+
 #[test]
 fn a_store_is_made_once_and_opened_again(rt: HostRuntime) -> Result<(), Fail> {
     let path = "at_paths.store";
     let _gone = fs::remove_file(&rt, path);
+    let text = "there is no database at the path: fault 71: the database refused";
     assert_eq!(rt; opened(&rt, path), Answer::Unconnected(StoreFault::Store));
+    assert!(rt; is_refused_as(&rt, path, text));
     assert_eq!(rt; made(&rt, path), Answer::Store);
     assert_eq!(rt; made(&rt, path), Answer::Unconnected(StoreFault::Store));
     assert_eq!(rt; opened(&rt, path), Answer::Store);
@@ -91,8 +102,11 @@ fn tables(rt: &HostRuntime, path: &str) -> Option<i64> {
 fn a_database_of_another_program_comes_back(rt: HostRuntime) -> Result<(), Fail> {
     let path = "at_paths.other";
     let _gone = fs::remove_file(&rt, path);
+    let text =
+        "the database is not taken for a store: fault 72: the tables are not those of a store";
     assert!(rt; is_filled(&rt, path));
     assert_eq!(rt; opened(&rt, path), Answer::Refused(StoreFault::Schema));
+    assert!(rt; is_refused_as(&rt, path, text));
     assert_eq!(rt; made(&rt, path), Answer::Unconnected(StoreFault::Store));
     assert_eq!(rt; tables(&rt, path), Some(1));
     fs::remove_file(&rt, path)?;

@@ -19,6 +19,8 @@ mod memory;
 #[cfg(test)]
 mod path_file;
 #[cfg(test)]
+mod printing;
+#[cfg(test)]
 mod telling;
 #[cfg(test)]
 mod version_1;

@@ -43,7 +43,7 @@ pub enum Then {
 #[derive(Clone, Copy, PartialEq, Eq)]
 pub enum Progress {
     NotOpened,
-    /// It was refused with another fault than 71, which is that of a disk that fails.
+    /// It was refused with another fault than 71, which is that of a disk that fails, or in other words.
     Mistold,
     /// It was not answered that it was done.
     Stopped,
@@ -145,12 +145,40 @@ fn closed_store<D: Disk + Drop>(store: Store<D>) -> (Files<D>, Progress) {
     }
 }
 
+/// Whether the fault is printed as that of its step.
+fn is_printed<D: Disk + Drop>(alloc: Global, fault: &ReopenFault<D>) -> bool {
+    let text = match fault {
+        ReopenFault::Close(_, _) => "the store cannot be closed: fault 71: the database refused",
+        ReopenFault::Open(_, _) =>
+            "the store cannot be opened again: fault 71: the database refused",
+        ReopenFault::Adopt(_) => {
+            "the database is not taken for a store: fault 71: the database refused"
+        }
+    };
+    match format!(in alloc; "{fault}") {
+        Ok(printed) => printed.as_str() == text,
+        Err(_) => false,
+    }
+}
+
+fn left_by<D: Disk + Drop>(fault: ReopenFault<D>) -> (Files<D>, Progress) {
+    match fault {
+        ReopenFault::Close(fault, left) => (left.close(), progress_of(Err(fault), false)),
+        ReopenFault::Open(fault, left) => (left.into_files(), progress_of(Err(fault), false)),
+        ReopenFault::Adopt(Refused { fault, conn }) => closed(conn, Err(fault)),
+    }
+}
+
+fn not_restarted<D: Disk + Drop>(alloc: Global, fault: ReopenFault<D>) -> (Files<D>, Progress) {
+    let is_told = is_printed(alloc, &fault);
+    let (files, progress) = left_by(fault);
+    (files, if is_told { progress } else { Progress::Mistold })
+}
+
 fn restarted<D: Disk + Drop>(alloc: Global, store: Store<D>) -> (Files<D>, Progress) {
     match store.reopen(alloc) {
         Ok(store) => closed_store(store),
-        Err(ReopenFault::Close(fault, left)) => (left.close(), progress_of(Err(fault), false)),
-        Err(ReopenFault::Open(fault, left)) => (left.into_files(), progress_of(Err(fault), false)),
-        Err(ReopenFault::Adopt(Refused { fault, conn })) => closed(conn, Err(fault)),
+        Err(fault) => not_restarted(alloc, fault),
     }
 }
 
