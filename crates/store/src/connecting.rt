@@ -52,8 +52,7 @@ fn is_file(rt: &HostRuntime, path: &str) -> Result<bool, StoreFault>
     match fs::open(rt, path) {
         Ok(_) => Ok(true),
         Err(error) if error.kind() == ErrorKind::NotFound => Ok(false),
-        Err(error) if error.kind() == ErrorKind::OutOfMemory => Err(StoreFault::Memory),
-        Err(_) => Err(StoreFault::Store),
+        Err(error) => Err(fault_of(&OpenError::Io(error))),
     }
 }
 

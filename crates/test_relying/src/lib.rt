@@ -1,5 +1,5 @@
 //! Tests of relying parties over disks in memory: what they take, what they say after it, also behind a restart and over a store of
-//! version 1, and where they agree; and of stores at paths of the system's files.
+//! version 1, and where they agree; of stores at paths of the system's files; and of faults of runs as they are printed.
 #![tactic(auto)]
 
 #[cfg(test)]
