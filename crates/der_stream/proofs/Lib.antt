@@ -1,2 +1,3 @@
 mod Streams
 mod Longest
+mod Fronts

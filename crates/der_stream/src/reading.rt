@@ -144,7 +144,7 @@ fn read_behind<R: Read>(
 }
 
 /// The same, with room made if there is none.
-fn read_more<R: Read>(
+pub(crate) fn read_more<R: Read>(
     source: &mut R,
     octets: &mut Vec<u8>,
     filled: usize,

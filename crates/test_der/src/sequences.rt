@@ -1,8 +1,9 @@
 //! Values one after the other, at the front of a source.
 
-use crate::source::Cut;
+use crate::source::{Cut, Endless};
 use asn::Fault;
-use der_stream::{ReadFault, path_octets};
+use der::check;
+use der_stream::{ReadFault, path_octets, read_front};
 use std::alloc::Global;
 
 /// How many octets sources hand out a call, at most.
@@ -87,5 +88,63 @@ fn a_path_wants_memory_or_answers(rt: HostRuntime) {
             assert_eq!(rt; read.values.len(), 1);
         }
         Some(_) => assert!(rt; false),
+    }
+}
+
+/// What a source has, and how many octets are read of it if one value is wanted.
+const FRONTS: &[(&[u8], usize)] = &[
+    (&[], 0),
+    (&[0x30], 1),
+    (&[0x30, 0x00], 2),
+    (&[0x30, 0x00, 0x05, 0x00], 3),
+    (&[0x05, 0x00, 0x00], 3),
+    (&[0x30, 0x80, 0x00, 0x00], 2),
+    (&[0x02, 0x81, 0x7F], 3),
+    (&[0x30, 0x84, 0xFF, 0xFF, 0xFF, 0xFF, 0x00], 6),
+    (&[0x1F, 0x00, 0x00], 1),
+    (&[0x02, 0x02, 0x00, 0x7F, 0x05], 5),
+    (&[0x02, 0x02, 0x00], 3),
+    (&[0x30, 0x03, 0x02, 0x02, 0x01], 5),
+    (&[0x30, 0x03, 0x02, 0x02, 0x01, 0x00, 0x00], 6),
+];
+
+/// What is read of a source has the fault that all of it has, and nothing behind that is read.
+#[test]
+fn a_front_has_the_first_fault(rt: HostRuntime) {
+    for row in FRONTS.iter() {
+        for most in CUTS.iter() {
+            let mut cut = Cut {
+                octets: row.0,
+                most: *most,
+            };
+            let front = read_front(rt.alloc(), &mut cut, 1).unwrap_or(Vec::new(rt.alloc()));
+            assert_eq!(rt; front.len(), row.1, "{row:?} {most}");
+            assert_eq!(rt;
+                cut.octets.len(),
+                row.0.len() - row.1.min(row.0.len()),
+                "{row:?}"
+            );
+            assert_eq!(rt; check(&front), check(row.0), "{row:?} {most}");
+        }
+    }
+}
+
+/// An octet that comes again and again, and how many are read of it if one value is wanted, and three.
+const ENDLESS: &[(u8, usize, usize)] = &[
+    (0x00, 1, 1),
+    (0x30, 51, 151),
+    (0x02, 5, 13),
+    (0xFF, 1, 1),
+];
+
+#[test]
+fn sources_without_an_end_are_read_no_further(rt: HostRuntime) {
+    for row in ENDLESS.iter() {
+        for (most, count) in [(1, row.1), (3, row.2)].iter() {
+            let mut source = Endless { octet: row.0 };
+            let front = read_front(rt.alloc(), &mut source, *most);
+            let front = front.unwrap_or(Vec::new(rt.alloc()));
+            assert_eq!(rt; front.len(), *count, "{row:?}");
+        }
     }
 }

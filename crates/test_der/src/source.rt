@@ -23,6 +23,19 @@ impl<'a> Read for Cut<'a> {
     }
 }
 
+/// A source without an end, of one octet again and again.
+#[derive(Drop)]
+pub(crate) struct Endless {
+    pub octet: u8,
+}
+
+impl Read for Endless {
+    fn read(&mut self, buf: &mut [u8]) -> io::Result<usize> {
+        buf.fill(self.octet);
+        Ok(buf.len())
+    }
+}
+
 /// A source that hands out one octet a call, and answers an error at the call with that number.
 #[derive(Drop)]
 pub(crate) struct Failing<'a> {

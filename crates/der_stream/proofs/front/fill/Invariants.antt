@@ -1,0 +1,10 @@
+use Rattle.std.proofs.Common.{◌-◌, length}
+use Rattle.der_stream.specs.Front.{ReadsBehind}
+use Rattle.der_stream.proofs.front.fill.Given as goal
+
+abbrev pub invariant-loop-source : goal.invariant-loop-source
+invariant-loop-source g l =
+    ReadsBehind (g.R.Read.remaining l.initial.source) (g.R.Read.remaining l.source) l.initial.octets l.octets
+
+abbrev pub decreases-loop-source : goal.decreases-loop-source
+decreases-loop-source g l = l.len - length l.octets.items
