@@ -32,15 +32,18 @@ extern "C" {
 /* The fault of fingerprints if the last has fewer than 32 octets. */
 #define X509CHECK_FAULT_CUT_SHORT 4
 
-/* The octets of a fingerprint. */
+/* The octets of a fingerprint, and of a SHA-256. */
 #define X509CHECK_FINGERPRINT_LENGTH 32
+#define X509CHECK_SHA256_LENGTH 32
 
-/* The verdict on a path. */
-#define X509CHECK_VALID 0
-#define X509CHECK_INVALID 1
-#define X509CHECK_REVOKED 2
-#define X509CHECK_UNKNOWN 3
-#define X509CHECK_REFUSED 4
+/* The verdict on a path. No call answers X509CHECK_NOT_FILLED, so a struct of zeros says nothing of a path. Compare with
+ * X509CHECK_VALID by ==: every other number, one that is not listed here too, is not valid. */
+#define X509CHECK_NOT_FILLED 0
+#define X509CHECK_VALID 1
+#define X509CHECK_INVALID 2
+#define X509CHECK_REVOKED 3
+#define X509CHECK_UNKNOWN 4
+#define X509CHECK_REFUSED 5
 
 /* The texts of a question that can be refused. */
 #define X509CHECK_CERTIFICATES 1
@@ -113,7 +116,7 @@ struct x509check_certificate {
 
 /* The verdict on a path, or why the question is refused. What has no number there is 0. */
 struct x509check_verdict {
-    uint32_t verdict;   /* X509CHECK_VALID to X509CHECK_REFUSED */
+    uint32_t verdict;   /* X509CHECK_VALID to X509CHECK_REFUSED, and never X509CHECK_NOT_FILLED */
     uint32_t reason;    /* invalid: the rank of the reason (docs/REFERENCE.md); revoked: the reason (RFC 5280, 5.3.1) */
     size_t certificate; /* which certificate decides: 1 is the first behind the anchor; 0 stands for the path itself */
     uint32_t text;      /* refused: X509CHECK_CERTIFICATES to X509CHECK_FINGERPRINTS; 0 if memory was refused */
@@ -226,6 +229,11 @@ struct x509check_certificate x509check_read_certificate(const uint8_t *octets, s
 void x509check_fingerprint(const uint8_t *algorithm, size_t algorithm_length, const uint8_t *key_info, size_t key_info_length,
                            const uint8_t *message, size_t message_length, const uint8_t *signature, size_t signature_length,
                            uint8_t fingerprint[X509CHECK_FINGERPRINT_LENGTH]);
+
+/* Writes 32 octets to `digest`: the SHA-256 of the octets. Of the DER of a certificate it is what `openssl x509 -fingerprint -sha256`
+ * prints, by which people and logs name that certificate; x509check_fingerprint is about a signature, and no name of a certificate.
+ * The octets may not overlap with `digest`. Takes no memory. */
+void x509check_sha256(const uint8_t *octets, size_t length, uint8_t digest[X509CHECK_SHA256_LENGTH]);
 
 /* The questions that a judge of signatures may be asked for the verdict on a path by statements, at whatever moment and for whatever
  * purpose. The two texts are those of x509check_validate, to which the fingerprints of the questions that are answered by yes are handed.

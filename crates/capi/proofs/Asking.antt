@@ -1,8 +1,7 @@
 -- Questions whose parts stand in rows, as places of two texts.
-use Rattle.std.proofs.Common.{◌≡◌, ◌+◌, ◌-◌, ◌<◌, ◌≤◌, min, ℕ, zero, suc, List, [], ◌∷◌, ◌++◌, length, map, take, drop, get_or, slice_range, set, refl, sym, ap, ◌∙◌, inl, inr, arith, take_all, append_assoc}
+use Rattle.std.proofs.Common.{◌≡◌, ◌+◌, ◌-◌, ◌<◌, min, ℕ, zero, suc, List, [], ◌∷◌, ◌++◌, length, map, take, drop, get_or, slice_range, set, refl, sym, ap, ◌∙◌, inl, inr, arith, take_all, append_assoc}
 use Rattle.std.proofs.lemmas.List.{length-append, length-map, take-append-le, take_more, take_more_set, drop-set, take_min, drop_min, length-set, take-append-drop}
 use Rattle.asn.specs.Part.{IsPartOf}
-use Rattle.relying_questions.specs.Questions.{Judgement}
 use Rattle.relying_rows.specs.Places.{AllInRows, AreInRows, PartStands, row_text, seen_row_question, seen_row_questions}
 use Rattle.relying_rows.specs.RowQuestions.{AreQuestionsInRows}
 use Rattle.relying_rows.specs.declared.places.Row.{Row}

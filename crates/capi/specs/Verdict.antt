@@ -14,7 +14,7 @@ use Rattle.relying_rows.specs.Rows.{Rows, IsVerdictInRows, IsRowFault}
 use Rattle.capi.specs.Fields.{der_number}
 use Rattle.capi.specs.declared.answer.VerdictAnswer.{VerdictAnswer}
 
--- the numbers of a verdict, the certificate that decides, and the reason
+-- the number of a verdict, the certificate that decides, and the reason; no verdict has the number 0
 abbrev pub verdict_numbers : ℕ → ℕ → ℕ → VerdictAnswer
 verdict_numbers verdict certificate reason = record {
   verdict = verdict;
@@ -27,15 +27,15 @@ verdict_numbers verdict certificate reason = record {
 }
 
 abbrev pub TellsVerdict : VerdictAnswer → Verdict → Type 0
-TellsVerdict answer Valid = answer ≡ verdict_numbers 0 0 0
-TellsVerdict answer (Invalid certificate reason) = answer ≡ verdict_numbers 1 certificate (reason_rank reason)
-TellsVerdict answer (Revoked certificate reason) = answer ≡ verdict_numbers 2 certificate reason
-TellsVerdict answer (Unknown certificate) = answer ≡ verdict_numbers 3 certificate 0
+TellsVerdict answer Valid = answer ≡ verdict_numbers 1 0 0
+TellsVerdict answer (Invalid certificate reason) = answer ≡ verdict_numbers 2 certificate (reason_rank reason)
+TellsVerdict answer (Revoked certificate reason) = answer ≡ verdict_numbers 3 certificate reason
+TellsVerdict answer (Unknown certificate) = answer ≡ verdict_numbers 4 certificate 0
 
 -- the numbers of a refusal: which text, its fault, the rule of DER that is broken, and the place
 abbrev pub refusal_answer : ℕ → ℕ → ℕ → ℕ → VerdictAnswer
 refusal_answer text fault der_fault offset = record {
-  verdict = 4;
+  verdict = 5;
   reason = 0;
   certificate = 0;
   text = text;

@@ -25,7 +25,7 @@ pub struct CertificateAnswer {
 #[derive(Clone, Copy, Debug, PartialEq, Eq, Default)]
 #[repr(C)]
 pub struct VerdictAnswer {
-    /// 0 valid, 1 invalid, 2 revoked, 3 unknown, 4 refused.
+    /// 1 valid, 2 invalid, 3 revoked, 4 unknown, 5 refused. No call answers 0, so a struct of zeros is no verdict.
     pub verdict: u32,
     /// The rank of the reason of an invalid path, or the reason of a revocation (RFC 5280, 5.3.1).
     pub reason: u32,

@@ -3,6 +3,7 @@
 
 mod answer;
 mod checking;
+mod digest_call;
 mod fields;
 mod fingerprint_call;
 mod questions;
@@ -11,6 +12,7 @@ mod validating;
 
 pub use answer::{Answer, CertificateAnswer, VerdictAnswer};
 pub use checking::x509check_check;
+pub use digest_call::x509check_sha256;
 pub use fields::{ExtensionFields, Fields, Part};
 pub use fingerprint_call::x509check_fingerprint;
 pub use questions::{Asked, Place, Question, x509check_questions};

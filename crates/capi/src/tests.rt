@@ -25,6 +25,13 @@ const CERTIFICATE: &[u8] = b"\
 const FINGERPRINT: &[u8] =
     b"\x72\x3A\xF5\x32\xED\xD9\xE4\xCA\xAE\x4A\x40\xA7\x3B\xAB\xAA\xD3\xEF\x9C\x8E\xD5\xDD\x67\x71\x40\x10\xE2\x74\x0F\x6F\x0B\xE4\xBC";
 
+/// What `sha256sum` prints of no octets, and of three.
+const DIGEST_OF_NOTHING: &[u8] =
+    b"\xE3\xB0\xC4\x42\x98\xFC\x1C\x14\x9A\xFB\xF4\xC8\x99\x6F\xB9\x24\x27\xAE\x41\xE4\x64\x9B\x93\x4C\xA4\x95\x99\x1B\x78\x52\xB8\x55";
+
+const DIGEST_OF_ABC: &[u8] =
+    b"\xBA\x78\x16\xBF\x8F\x01\xCF\xEA\x41\x41\x40\xDE\x5D\xAE\x22\x23\xB0\x03\x61\xA3\x96\x17\x7A\x9C\xB4\x10\xFF\x61\xF2\x00\x15\xAD";
+
 #[test]
 fn checks(rt: HostRuntime) {
     let rows: [(&[u8], u32, usize); 6] = [
@@ -127,6 +134,15 @@ fn prints(rt: HostRuntime) {
 }
 
 #[test]
+fn digests(rt: HostRuntime) {
+    let mut digest = [0; 32];
+    x509check_sha256(b"", &mut digest);
+    assert!(rt; digest.as_slice() == DIGEST_OF_NOTHING);
+    x509check_sha256(b"abc", &mut digest);
+    assert!(rt; digest.as_slice() == DIGEST_OF_ABC);
+}
+
+#[test]
 fn wants_memory_or_answers(rt: HostRuntime) {
     let fault = x509check_read_certificate(rt.alloc(), CERTIFICATE).fault;
     assert!(rt; fault == 0 || fault == 33);
@@ -151,7 +167,7 @@ fn verdict(verdict: u32, certificate: usize, reason: u32) -> VerdictAnswer {
 
 fn refused(text: u32, fault: u32, der_fault: u32, offset: usize) -> VerdictAnswer {
     VerdictAnswer {
-        verdict: 4,
+        verdict: 5,
         text,
         fault,
         der_fault,
@@ -163,11 +179,11 @@ fn refused(text: u32, fault: u32, der_fault: u32, offset: usize) -> VerdictAnswe
 #[test]
 fn validates(rt: HostRuntime) {
     let alloc = rt.alloc();
-    assert!(rt; asked(alloc, LISTS, GOOD, DECEMBER) == verdict(0, 0, 0));
-    assert!(rt; asked(alloc, LISTS, GOOD, 0) == verdict(1, 1, 3));
-    assert!(rt; asked(alloc, LISTS, b"", DECEMBER) == verdict(1, 1, 2));
-    assert!(rt; asked(alloc, REVOKING, GOOD, DECEMBER) == verdict(2, 2, 1));
-    assert!(rt; asked(alloc, b"", GOOD, DECEMBER) == verdict(3, 1, 0));
+    assert!(rt; asked(alloc, LISTS, GOOD, DECEMBER) == verdict(1, 0, 0));
+    assert!(rt; asked(alloc, LISTS, GOOD, 0) == verdict(2, 1, 3));
+    assert!(rt; asked(alloc, LISTS, b"", DECEMBER) == verdict(2, 1, 2));
+    assert!(rt; asked(alloc, REVOKING, GOOD, DECEMBER) == verdict(3, 2, 1));
+    assert!(rt; asked(alloc, b"", GOOD, DECEMBER) == verdict(4, 1, 0));
 }
 
 /// A purpose that the leaf's extKeyUsage does not have (id-kp-clientAuth).
@@ -175,7 +191,7 @@ fn validates(rt: HostRuntime) {
 fn validates_for_a_purpose(rt: HostRuntime) {
     let purpose = b"\x2B\x06\x01\x05\x05\x07\x03\x02";
     let answer = x509check_validate(rt.alloc(), PATH, LISTS, GOOD, DECEMBER, purpose);
-    assert!(rt; answer == verdict(1, 2, 14));
+    assert!(rt; answer == verdict(2, 2, 14));
 }
 
 /// The places count from the first octet of the row.
@@ -196,7 +212,7 @@ fn refuses_questions(rt: HostRuntime) {
 #[test]
 fn validation_wants_memory_or_answers(rt: HostRuntime) {
     let answer = asked(rt.alloc(), LISTS, GOOD, DECEMBER);
-    assert!(rt; answer == verdict(0, 0, 0) || answer == refused(0, 33, 0, 0));
+    assert!(rt; answer == verdict(1, 0, 0) || answer == refused(0, 33, 0, 0));
 }
 
 /// The questions about the path and statements, written to an array of five.

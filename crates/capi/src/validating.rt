@@ -1,6 +1,6 @@
 //! `x509check_validate`.
 
-ghost use Rattle.std.specs.Prelude.{◌≡◌};
+ghost use Rattle.std.specs.Prelude.{◌≡◌, ◌<◌};
 ghost use Rattle.std.specs.Option.{option_copied};
 ghost use Rattle.cert.specs.Fault.{cert_rule_number};
 ghost use Rattle.capi.specs.Fields.{der_number};
@@ -12,29 +12,41 @@ use relying_rows::{RowFault, Rows, Verdict, verdict_in_rows};
 use statements_parts::StatementRule;
 use std::alloc::Global;
 
-const REFUSED: u32 = 4;
+const VALID: u32 = 1;
+
+const INVALID: u32 = 2;
+
+const REVOKED: u32 = 3;
+
+const UNKNOWN: u32 = 4;
+
+const REFUSED: u32 = 5;
 
 /// The verdict as numbers.
 fn answer_of(verdict: Verdict) -> VerdictAnswer
-    ensures { TellsVerdict result verdict }
+    ensures tells { TellsVerdict result verdict }
+    ensures filled { 0 < result.verdict }
 {
     let answer = VerdictAnswer::default();
     match verdict {
-        Verdict::Valid => answer,
+        Verdict::Valid => VerdictAnswer {
+            verdict: VALID,
+            ..answer
+        },
         Verdict::Invalid(certificate, reason) => VerdictAnswer {
-            verdict: 1,
+            verdict: INVALID,
             reason: u32::from(reason.rank()),
             certificate,
             ..answer
         },
         Verdict::Revoked(certificate, reason) => VerdictAnswer {
-            verdict: 2,
+            verdict: REVOKED,
             reason: u32::from(reason),
             certificate,
             ..answer
         },
         Verdict::Unknown(certificate) => VerdictAnswer {
-            verdict: 3,
+            verdict: UNKNOWN,
             certificate,
             ..answer
         },
@@ -53,7 +65,8 @@ pub(crate) fn der_fault_of(rule: StatementRule) -> u32
 
 /// The refusal as numbers.
 fn refusal_of(fault: RowFault) -> VerdictAnswer
-    ensures { TellsRowFault result fault }
+    ensures tells { TellsRowFault result fault }
+    ensures filled { 0 < result.verdict }
 {
     let refused = VerdictAnswer {
         verdict: REFUSED,
@@ -109,8 +122,9 @@ pub extern "C" fn x509check_validate(
     moment: i64,
     purpose: &[u8],
 ) -> VerdictAnswer
-    ensures { TellsAnswer result (rows_asked certificates.now statements.now fingerprints.now
+    ensures tells { TellsAnswer result (rows_asked certificates.now statements.now fingerprints.now
         moment (purpose_asked purpose.now)) }
+    ensures filled { 0 < result.verdict }
 {
     let rows = Rows {
         certificates,

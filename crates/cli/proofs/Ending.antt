@@ -1,5 +1,5 @@
 -- How a run of a line ends, from what it did.
-use Rattle.std.proofs.Common.{◌≡◌, ◌⊎◌, inl, inr, refl, sym, subst, ℕ, List, Option, Result, Ok, Err, IfErr, IfOk}
+use Rattle.std.proofs.Common.{◌≡◌, ◌⊎◌, inl, inr, refl, sym, subst, ℕ, Bool, List, Option, Result, Ok, Err, IfErr, IfOk}
 use Rattle.clap.specs.Words.{Text}
 use Rattle.cli_words.specs.CommandLine.{Reads}
 use Rattle.cert.specs.SubjectPublicKeyInfo.{SubjectPublicKeyInfo}
@@ -48,17 +48,17 @@ shown holds Certificate file text is = (is.0, is.1)
 shown holds RevocationList file text is = (is.0, is.1)
 shown holds Response file text is = (is.0, is.1)
 
-printed : (holds : Holding) (key_info : SubjectPublicKeyInfo) (kind : Kind) (file text : List ℕ) → ArePrintLines holds key_info kind file text → HoldsKind holds kind file
-printed holds key_info Certificate file text are = (are.0, are.1)
-printed holds key_info RevocationList file text are = (are.0, are.1)
-printed holds key_info Response file text are = (are.0, are.1)
+printed : (holds : Holding) (key_info : SubjectPublicKeyInfo) (kind : Kind) (with_parts : Bool) (file text : List ℕ) → ArePrintLines holds key_info kind with_parts file text → HoldsKind holds kind file
+printed holds key_info Certificate with_parts file text are = (are.0, are.1)
+printed holds key_info RevocationList with_parts file text are = (are.0, are.1)
+printed holds key_info Response with_parts file text are = (are.0, are.1)
 
 pub unflushed : (holds : Holding) (stands : Standing) (leaves : Leaving) (line : Line) (input source old new : Option (List ℕ)) (status : ℕ) → IsDone holds stands leaves line input source old new status
     → IsLineFailure holds stands leaves line Unwritable
 unflushed holds stands leaves (Tree file) input source old new status (text, (zero, is), written) = inr ((is.0, is.1, is.2, is.3), refl)
 unflushed holds stands leaves (Show kind file) input source old new status (text, (zero, is), written) = inr (shown holds kind file.now text is, refl)
-unflushed holds stands leaves (Prints issuer kind file) input source old new status (text, (zero, (signer, held, are)), written) =
-    inr (((signer, held), printed holds signer.key_info kind file.now text are), refl)
+unflushed holds stands leaves (Prints issuer kind with_parts file) input source old new status (text, (zero, (signer, held, are)), written) =
+    inr (((signer, held), printed holds signer.key_info kind with_parts file.now text are), refl)
 unflushed holds stands leaves (Deliver store verdicts issuer file) input source old new status (text, (zero, (counts, is, line)), written) = inr ((counts, is), refl)
 unflushed holds stands leaves (Check question) input source old new status (text, (verdict, is, ends, said), written) = inr ((verdict, is), refl)
 unflushed holds stands leaves (Compare question other) input source old new status (text, (comparison, is, ends, said), written) = inr ((comparison, is), refl)

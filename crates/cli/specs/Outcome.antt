@@ -50,8 +50,8 @@ IsAnswer holds stands leaves (Tree file) input source status text =
     (status ≡ 0) × IsTreeText holds file.now text
 IsAnswer holds stands leaves (Show kind file) input source status text =
     (status ≡ 0) × IsShownText holds kind file.now text
-IsAnswer holds stands leaves (Prints issuer kind file) input source status text =
-    (status ≡ 0) × ArePrintsUnder holds issuer.now kind file.now text
+IsAnswer holds stands leaves (Prints issuer kind with_parts file) input source status text =
+    (status ≡ 0) × ArePrintsUnder holds issuer.now kind with_parts file.now text
 IsAnswer holds stands leaves (Deliver store verdicts issuer file) input source status text =
     (status ≡ 0)
     × IsDeliveredText holds stands leaves
@@ -79,7 +79,7 @@ IsLineFailure holds stands leaves (Tree file) =
     OrUnwritable (IsNoValue holds file.now) (HoldsValue holds file.now)
 IsLineFailure holds stands leaves (Show kind file) =
     OrUnwritable (IsNotShown holds kind file.now) (HoldsKind holds kind file.now)
-IsLineFailure holds stands leaves (Prints issuer kind file) =
+IsLineFailure holds stands leaves (Prints issuer kind with_parts file) =
     OrUnwritable (IsFailureOfPrints holds issuer.now kind file.now) (HoldUnder holds issuer.now kind file.now)
 IsLineFailure holds stands leaves (Deliver store verdicts issuer file) =
     OrUnwritable (IsFailureOfDelivery holds stands leaves

@@ -14,7 +14,7 @@ use crate::sharing::Shared;
 use crate::stores::{Stores, failed};
 use cert::Certificate;
 use cli_answers::counts_to;
-use cli_failures::{Failure, Source, read_certificate, read_facts};
+use cli_failures::{Extent, Failure, Source, read_certificate, read_facts};
 use cli_operands::read_fingerprints;
 use path_verifiers::{ListVerifier, Verifier};
 use relying::Node;
@@ -110,7 +110,7 @@ fn deliver_under<'a, D: Disk + Drop, S: Source + Stores<Store<D>>>(
         (S.leaves source.now) (accepted_by verifier.now) (seen_certificate issuer.now)
         words.entry) }
 {
-    let statement = source.octets_of(words.file)?;
+    let statement = source.octets_of(words.file, Extent::Value)?;
     take_statement(source, alloc, verifier, issuer, statement.as_slice(), words)
 }
 
@@ -126,7 +126,7 @@ fn deliver_for<'a, D: Disk + Drop, S: Source + Stores<Store<D>>>(
     ensures fails { IfErr result (IsFailureFor (S.holds source.now) (S.stands source.now)
         (S.leaves source.now) (accepted_by verifier.now) words.entry) }
 {
-    let octets = source.octets_of(words.issuer)?;
+    let octets = source.octets_of(words.issuer, Extent::Value)?;
     let issuer = read_certificate(alloc, words.issuer, octets.as_slice())?;
     deliver_under(source, alloc, verifier, &issuer, words)
 }

@@ -83,7 +83,7 @@ pub fn executed<D: Disk + Drop, S: Source + Stores<Store<D>>, I: Read, O: Write,
     }
 }
 
-fn finish<E: Write>(outcome: Result<u8, Failure<'_>>, err: &mut E) -> Ended
+pub(crate) fn finish<E: Write>(outcome: Result<u8, Failure<'_>>, err: &mut E) -> Ended
     ensures done { IfOk outcome.entry (λ status.
         (result.status ≡ status) × (err.new ≡ err.old)) }
     ensures failed { IfErr outcome.entry (λ failure. (result.status ≡ exit_status failure)
@@ -102,7 +102,7 @@ fn finish<E: Write>(outcome: Result<u8, Failure<'_>>, err: &mut E) -> Ended
     }
 }
 
-fn run<'a, D: Disk + Drop, S: Source + Stores<Store<D>>, I: Read, O: Write>(
+pub(crate) fn run<'a, D: Disk + Drop, S: Source + Stores<Store<D>>, I: Read, O: Write>(
     source: &S,
     alloc: Global,
     line: &Line<'a>,
@@ -142,7 +142,12 @@ fn answer<'a, D: Disk + Drop, S: Source + Stores<Store<D>>, I: Read, O: Write>(
     match line {
         Line::Tree { file } => tree(source, file, out)?,
         Line::Show { kind, file } => show(source, alloc, *kind, file, out)?,
-        Line::Prints { issuer, kind, file } => prints(source, alloc, issuer, *kind, file, out)?,
+        Line::Prints {
+            issuer,
+            kind,
+            with_parts,
+            file,
+        } => prints(source, alloc, issuer, *kind, *with_parts, file, out)?,
         Line::Deliver {
             store,
             verdicts,
@@ -180,7 +185,11 @@ fn answer<'a, D: Disk + Drop, S: Source + Stores<Store<D>>, I: Read, O: Write>(
 }
 
 // What clap answers in place of a line: help goes to standard output, what is wrong with the words to standard error.
-fn answer_of_clap<O: Write, E: Write>(error: &clap::Error, out: &mut O, err: &mut E) -> Ended
+pub(crate) fn answer_of_clap<O: Write, E: Write>(
+    error: &clap::Error,
+    out: &mut O,
+    err: &mut E,
+) -> Ended
     ensures help { (result.status ≡ 0) → IsHelp (kind_of error.now) × (err.new ≡ err.old) }
     ensures status { (result.status ≡ 0) ⊎ IsFailing result.status }
     ensures failed { IsFailing result.status → IsUnexplained (kind_of error.now) (out.new ≡ out.old)

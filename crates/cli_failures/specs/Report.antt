@@ -96,6 +96,21 @@ told_line NoMemory = codes "no memory\n"
 told_line Shut = codes "store fault 71\n"
 told_line NoInput = codes "cannot read standard input\n"
 
+-- the number of what is wrong with a statement
+abbrev pub printed_fault_number : StatementFault → ℕ
+printed_fault_number (Breaks rule at) = printed_statement_number rule
+printed_fault_number fault = statement_fault_number fault
+
+-- the number that the line prints of what is wrong; 0 if it prints none
+abbrev pub topic_of : Failure → ℕ
+topic_of (Refused file fault) = fault_number fault
+topic_of (NoCertificate file rule at) = printed_number rule
+topic_of (NoRevocationList file rule at) = printed_statement_number rule
+topic_of (NoResponse file rule at) = printed_statement_number rule
+topic_of (NotGenuine file fault) = printed_fault_number fault
+topic_of (StoreFailed number) = number
+topic_of failure = 0
+
 -- the same behind the name of the program
 abbrev pub report_line : Failure → List ℕ
 report_line failure = codes "x509check: " ++ told_line failure

@@ -1,7 +1,7 @@
 //! Why a run failed: the line on standard error and the exit status.
 ghost use Rattle.std.specs.Prelude.{◌≡◌, OnOk};
 ghost use Rattle.std.specs.Io.KnownBytes.{Appends};
-ghost use Rattle.cli_failures.specs.Report.{bad_line, line_words, place_text, printed_name, printed_number, printed_statement_name, printed_statement_number, refusal_line, report_line, response_line, statement_line, exit_status, store_fault_line, told_line, unreadable_line, unsuccessful_line, unsuccessful_words};
+ghost use Rattle.cli_failures.specs.Report.{bad_line, line_words, place_text, printed_fault_number, printed_name, printed_number, printed_statement_name, printed_statement_number, refusal_line, report_line, response_line, statement_line, exit_status, store_fault_line, told_line, topic_of, unreadable_line, unsuccessful_line, unsuccessful_words};
 
 use asn::Fault;
 use cert::CertRule;
@@ -134,6 +134,16 @@ fn printed_statement_name(rule: StatementRule) -> &'static str
     }
 }
 
+// The same of a statement that is not genuine.
+fn printed_fault_number(fault: StatementFault) -> u8
+    ensures { result ≡ printed_fault_number fault }
+{
+    match fault {
+        StatementFault::Refused(rule, _) => printed_statement_number(rule),
+        _ => fault.number(),
+    }
+}
+
 #[tactic(auto, unfolding(crate::specs::Report::unsuccessful_words))]
 fn write_unsuccessful_words<W: Write>(code: u8, writer: &mut W) -> io::Result<()>
     ensures { OnOk result (Appends (W.contents writer.old) (W.contents writer.new)
@@ -238,6 +248,22 @@ impl<'a> Failure<'a> {
             | Failure::NoMemory
             | Failure::Shut
             | Failure::NoInput => 6,
+        }
+    }
+
+    /// The number of what is wrong, as the line prints it; 0 if it prints none.
+    pub fn topic(&self) -> u8
+        ensures { result ≡ topic_of self.now }
+    {
+        match self {
+            Failure::Refused { fault, .. } => fault.number(),
+            Failure::NoCertificate { rule, .. } => printed_number(*rule),
+            Failure::NoRevocationList { rule, .. } | Failure::NoResponse { rule, .. } => {
+                printed_statement_number(*rule)
+            }
+            Failure::NotGenuine { fault, .. } => printed_fault_number(*fault),
+            Failure::StoreFailed { number } => *number,
+            _ => 0,
         }
     }
 

@@ -7,8 +7,10 @@ ghost use Rattle.statements.specs.OcspFact.{genuine_statement};
 ghost use Rattle.statements_facts.specs.Fact.{facts_in};
 ghost use Rattle.cli_failures.specs.Failures.{IsDenied, IsJust, IsNoCertificate, IsNoList, IsNoResponse, IsUnread};
 
+use crate::extent::{Extent, read_extent};
 use crate::failure::Failure;
 use cert::{CertFault, Certificate};
+use der_stream::ReadFault;
 use path_verifiers::Verifier;
 use statements::genuine;
 use statements_crl::Crl;
@@ -29,8 +31,8 @@ pub trait Source {
     /// Whether the file of this name holds these octets; of none, whether it cannot be read.
     ghost holds: { Self → List ℕ → Option (List ℕ) → Type 0 };
 
-    /// The octets of the file.
-    fn octets_of<'a>(&self, file: &'a str) -> Result<Vec<u8>, Failure<'a>>
+    /// The octets of the file, as far as they matter.
+    fn octets_of<'a>(&self, file: &'a str, extent: Extent) -> Result<Vec<u8>, Failure<'a>>
         ensures reads { IfOk result (λ octets. holds self.now file.entry.now (Some octets.items)) }
         ensures fails { IfErr result (IsUnread (holds self.now) file.entry.now) };
 }
@@ -41,10 +43,14 @@ impl<R: Files + AllocGlobal> Source for R {
 
     ghost holds = { λ _ _ _. ⊤ };
 
-    fn octets_of<'a>(&self, file: &'a str) -> Result<Vec<u8>, Failure<'a>> {
-        fs::read(self, file).map_err(|error| match error.kind() {
+    fn octets_of<'a>(&self, file: &'a str, extent: Extent) -> Result<Vec<u8>, Failure<'a>> {
+        let mut source = fs::open(self, file).map_err(|error| match error.kind() {
             io::ErrorKind::OutOfMemory => Failure::NoMemory,
             _ => Failure::Unreadable { file },
+        })?;
+        read_extent(self.alloc(), &mut source, extent).map_err(|fault| match fault {
+            ReadFault::Fault(_) => Failure::NoMemory,
+            ReadFault::Io | ReadFault::Limit => Failure::Unreadable { file },
         })
     }
 }

@@ -9,7 +9,7 @@ use crate::path_files::{certificates_of, read_files};
 use crate::prints::read_fingerprints;
 use crate::{moment_of, purpose_of};
 use cert::Certificate;
-use cli_failures::{Failure, Source, read_certificate};
+use cli_failures::{Extent, Failure, Source, read_certificate};
 use cli_words::Question;
 use path_verifiers::ListVerifier;
 use std::alloc::Global;
@@ -60,7 +60,7 @@ pub fn read_operands<'a, S: Source>(
     };
     let purpose = read_purpose(alloc, question.purpose)?;
     let prints = read_fingerprints(source, alloc, question.verdicts)?;
-    let anchor = source.octets_of(question.anchor)?;
+    let anchor = source.octets_of(question.anchor, Extent::Value)?;
     let path = read_files(source, alloc, question.files.as_slice());
     Ok(Operands {
         moment,

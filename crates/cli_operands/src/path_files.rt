@@ -8,7 +8,7 @@ ghost use Rattle.cli_operands.specs.PathFiles.{AreCertificatesIn, AreCertificate
 use crate::certificate_values::read_certificates;
 use crate::path_file::{PathFile, PathFiles};
 use cert::Certificate;
-use cli_failures::{Failure, Source};
+use cli_failures::{Extent, Failure, Source};
 use der::{Fault, Rule};
 use der_stream::{PathOctets, ReadFault, path_octets};
 use std::alloc::Global;
@@ -46,7 +46,7 @@ fn read_file<'a, S: Source>(
     ensures reads { IfOk result (IsFileRead (S.holds source.now) file.entry.now) }
     ensures fails { IfErr result (IsUnread (S.holds source.now) file.entry.now) }
 {
-    let octets = source.octets_of(file)?;
+    let octets = source.octets_of(file, Extent::Values(MOST))?;
     Ok(file_of(alloc, file, octets.as_slice()))
 }
 

@@ -5,7 +5,7 @@ ghost use Rattle.cli_failures.specs.Failures.{IsJust};
 ghost use Rattle.cli_operands.specs.Question.{HoldsFingerprints, IsFailureOnFingerprints};
 
 use crate::{FingerprintsFault, fingerprints_of};
-use cli_failures::{Failure, Source};
+use cli_failures::{Extent, Failure, Source};
 use std::alloc::Global;
 
 /// The fingerprints that the octets of the file name.
@@ -30,6 +30,6 @@ pub fn read_fingerprints<'a, S: Source>(
         HoldsFingerprints (S.holds source.now) file.entry.now prints.items) }
     ensures fails { IfErr result (IsFailureOnFingerprints (S.holds source.now) file.entry.now) }
 {
-    let octets = source.octets_of(file)?;
+    let octets = source.octets_of(file, Extent::Lines)?;
     prints_in(alloc, file, octets.as_slice())
 }

@@ -1,5 +1,5 @@
 -- The lines of the certificates that come with a response, joined in order.
-use Rattle.std.proofs.Common.{◌≡◌, ◌<◌, ◌+◌, ◌^◌, ℕ, List, ◌∷◌, ◌++◌, length, ap, sym, ◌∙◌, append_assoc, Option, Some, None, subst, arith}
+use Rattle.std.proofs.Common.{◌≡◌, ◌<◌, ◌+◌, ◌^◌, ℕ, Bool, List, ◌∷◌, ◌++◌, length, ap, sym, ◌∙◌, append_assoc, Option, Some, None, subst, arith}
 use Rattle.std.proofs.lemmas.List.{length-map}
 use Rattle.asn.specs.Members.{left, members_at}
 use Rattle.asn.specs.Place.{remaining}
@@ -14,10 +14,10 @@ use Rattle.cert.specs.declared.certificate.Certificate as read
 use Rattle.cli_printing.specs.FingerprintText.{both_lines, delegate_lines}
 
 -- one certificate more is behind
-pub delegates_more : (key_info : SubjectPublicKeyInfo) (response : OcspResponse) (n : ℕ) (all text : List ℕ) (c : Certificate) (old new : List Certificate) → old ≡ c ∷ new
-    → all ≡ text ++ delegate_lines key_info response n old → all ≡ (text ++ both_lines key_info response n c) ++ delegate_lines key_info response (n + 1) new
-delegates_more key_info response n all text c old new is whole =
-    whole ∙ ap (λ cs. text ++ delegate_lines key_info response n cs) is ∙ sym (append_assoc text (both_lines key_info response n c) (delegate_lines key_info response (n + 1) new))
+pub delegates_more : (with_parts : Bool) (key_info : SubjectPublicKeyInfo) (response : OcspResponse) (n : ℕ) (all text : List ℕ) (c : Certificate) (old new : List Certificate) → old ≡ c ∷ new
+    → all ≡ text ++ delegate_lines with_parts key_info response n old → all ≡ (text ++ both_lines with_parts key_info response n c) ++ delegate_lines with_parts key_info response (n + 1) new
+delegates_more with_parts key_info response n all text c old new is whole =
+    whole ∙ ap (λ cs. text ++ delegate_lines with_parts key_info response n cs) is ∙ sym (append_assoc text (both_lines with_parts key_info response n c) (delegate_lines with_parts key_info response (n + 1) new))
 
 values_short : (cursor : Cursor) → length (certs_in (Some cursor)) < 2 ^ 64
 unfolding members_at

@@ -1,5 +1,5 @@
--- The fingerprints of what a verifier is asked, a line each, as a file of verdicts has them.
-use Rattle.std.specs.Prelude.{ℕ, ◌+◌, List, [], ◌∷◌, ◌++◌, codes}
+-- What a verifier is asked, a line each: fingerprints, as a file of verdicts has them, and the texts themselves.
+use Rattle.std.specs.Prelude.{ℕ, Bool, true, false, ◌+◌, List, [], ◌∷◌, ◌++◌, codes}
 use Rattle.std.specs.Fmt.{decimal}
 use Rattle.hex.specs.Hex.{encode_lower}
 use Rattle.cert.specs.Certificate.{Certificate}
@@ -8,60 +8,117 @@ use Rattle.statements_crl.specs.CertificateList.{CertificateList}
 use Rattle.statements_ocsp.specs.Certificates.{certificates_in}
 use Rattle.statements_ocsp.specs.OcspResponse.{OcspResponse}
 use Rattle.path_verifiers.specs.Fingerprint.{fingerprint_of}
+use Rattle.cli_printing.specs.declared.fingerprint.SignatureQuestion as code
 
--- a fingerprint in hexadecimal, a space, and what it is of
-abbrev pub fingerprint_line : List ℕ → List ℕ → List ℕ
-fingerprint_line print words = encode_lower print ++ codes " " ++ words ++ codes "\n"
+-- what a verifier is asked: is this the signature of the message, under the key, by the algorithm?
+pub record SignatureQuestion : Type 0 where
+  pub algorithm : List ℕ
+  pub key_info : List ℕ
+  pub message : List ℕ
+  pub signature : List ℕ
+
+abbrev pub seen_question : code.SignatureQuestion → SignatureQuestion
+seen_question question = record {
+  algorithm = question.algorithm.now;
+  key_info = question.key_info.now;
+  message = question.message.now;
+  signature = question.signature.now;
+}
 
 -- of a certificate: is its signature one of its signed part under this key? (RFC 5280, 6.1.3 (a) (1))
-abbrev pub certificate_print : SubjectPublicKeyInfo → Certificate → List ℕ
-certificate_print key_info certificate =
-    fingerprint_of certificate.algorithm.value.octets key_info.value.octets certificate.tbs.octets certificate.signature.octets
-
--- the line of a certificate under its issuer's key
-abbrev pub certificate_print_line : SubjectPublicKeyInfo → Certificate → List ℕ
-certificate_print_line key_info certificate =
-    fingerprint_line (certificate_print key_info certificate) (codes "certificate issuer")
+abbrev pub certificate_question : SubjectPublicKeyInfo → Certificate → SignatureQuestion
+certificate_question key_info certificate = record {
+  algorithm = certificate.algorithm.value.octets;
+  key_info = key_info.value.octets;
+  message = certificate.tbs.octets;
+  signature = certificate.signature.octets;
+}
 
 -- of a revocation list, likewise (6.3.3 (g))
-abbrev pub crl_print : SubjectPublicKeyInfo → CertificateList → List ℕ
-crl_print key_info list = fingerprint_of list.algorithm key_info.value.octets list.tbs list.signature
-
-abbrev pub crl_print_line : SubjectPublicKeyInfo → CertificateList → List ℕ
-crl_print_line key_info list = fingerprint_line (crl_print key_info list) (codes "crl issuer")
+abbrev pub crl_question : SubjectPublicKeyInfo → CertificateList → SignatureQuestion
+crl_question key_info list = record {
+  algorithm = list.algorithm;
+  key_info = key_info.value.octets;
+  message = list.tbs;
+  signature = list.signature;
+}
 
 -- of a response, likewise (RFC 6960, 3.2)
-abbrev pub response_print : SubjectPublicKeyInfo → OcspResponse → List ℕ
-response_print key_info response =
-    fingerprint_of response.algorithm key_info.value.octets response.tbs response.signature
+abbrev pub response_question : SubjectPublicKeyInfo → OcspResponse → SignatureQuestion
+response_question key_info response = record {
+  algorithm = response.algorithm;
+  key_info = key_info.value.octets;
+  message = response.tbs;
+  signature = response.signature;
+}
 
--- the line of the n-th certificate that comes with a response, and that of the response under that certificate's key
+-- ---- its line
+
+-- the fingerprint of a question
+abbrev pub print_of : SignatureQuestion → List ℕ
+print_of question =
+    fingerprint_of question.algorithm question.key_info question.message question.signature
+
+-- ` NAME=HEX`
+abbrev pub part_text : List ℕ → List ℕ → List ℕ
+part_text name octets = codes " " ++ name ++ codes "=" ++ encode_lower octets
+
+-- the four texts in hexadecimal
+abbrev pub parts_text : SignatureQuestion → List ℕ
+parts_text question =
+    part_text (codes "algorithm") question.algorithm ++ part_text (codes "key") question.key_info
+    ++ part_text (codes "message") question.message ++ part_text (codes "signature") question.signature
+
+-- what stands behind the words of a line, which tells the four texts if they are asked for
+abbrev pub line_end : Bool → SignatureQuestion → List ℕ
+line_end false question = codes "\n"
+line_end true question = parts_text question ++ codes "\n"
+
+-- the fingerprint in hexadecimal, a space, and what it is of
+abbrev pub question_line : Bool → SignatureQuestion → List ℕ → List ℕ
+question_line with_parts question words =
+    encode_lower (print_of question) ++ codes " " ++ words ++ line_end with_parts question
+
+-- the line of a certificate under its issuer's key
+abbrev pub certificate_print_line : Bool → SubjectPublicKeyInfo → Certificate → List ℕ
+certificate_print_line with_parts key_info certificate =
+    question_line with_parts (certificate_question key_info certificate) (codes "certificate issuer")
+
+-- and of a revocation list
+abbrev pub crl_print_line : Bool → SubjectPublicKeyInfo → CertificateList → List ℕ
+crl_print_line with_parts key_info list =
+    question_line with_parts (crl_question key_info list) (codes "crl issuer")
+
+-- the words of the n-th certificate that comes with a response, and of the response under that certificate's key
 unfoldable pub delegate_words : ℕ → List ℕ
-delegate_words n = codes " certificate " ++ decimal n ++ codes " issuer\n"
+delegate_words n = codes " certificate " ++ decimal n ++ codes " issuer"
 
 unfoldable pub delegated_words : ℕ → List ℕ
-delegated_words n = codes " response certificate " ++ decimal n ++ codes "\n"
+delegated_words n = codes " response certificate " ++ decimal n
 
-abbrev pub delegate_line : List ℕ → ℕ → List ℕ
-delegate_line print n = encode_lower print ++ delegate_words n
+abbrev pub delegate_line : Bool → SignatureQuestion → ℕ → List ℕ
+delegate_line with_parts question n =
+    encode_lower (print_of question) ++ delegate_words n ++ line_end with_parts question
 
-abbrev pub delegated_line : List ℕ → ℕ → List ℕ
-delegated_line print n = encode_lower print ++ delegated_words n
+abbrev pub delegated_line : Bool → SignatureQuestion → ℕ → List ℕ
+delegated_line with_parts question n =
+    encode_lower (print_of question) ++ delegated_words n ++ line_end with_parts question
 
 -- of the n-th certificate under the issuer's key, and of the response under that certificate's
-abbrev pub both_lines : SubjectPublicKeyInfo → OcspResponse → ℕ → Certificate → List ℕ
-both_lines key_info response n certificate =
-    delegate_line (certificate_print key_info certificate) n
-    ++ delegated_line (response_print certificate.key_info response) n
+abbrev pub both_lines : Bool → SubjectPublicKeyInfo → OcspResponse → ℕ → Certificate → List ℕ
+both_lines with_parts key_info response n certificate =
+    delegate_line with_parts (certificate_question key_info certificate) n
+    ++ delegated_line with_parts (response_question certificate.key_info response) n
 
 -- both lines of each of these certificates, of which the first is the n-th
-abbrev pub delegate_lines : SubjectPublicKeyInfo → OcspResponse → ℕ → List Certificate → List ℕ
-delegate_lines key_info response n [] = []
-delegate_lines key_info response n (certificate ∷ certificates) =
-    both_lines key_info response n certificate ++ delegate_lines key_info response (n + 1) certificates
+abbrev pub delegate_lines : Bool → SubjectPublicKeyInfo → OcspResponse → ℕ → List Certificate → List ℕ
+delegate_lines with_parts key_info response n [] = []
+delegate_lines with_parts key_info response n (certificate ∷ certificates) =
+    both_lines with_parts key_info response n certificate
+    ++ delegate_lines with_parts key_info response (n + 1) certificates
 
 -- the lines of a response under its issuer's key, and of the certificates that come with it, counted from 1
-abbrev pub response_print_lines : SubjectPublicKeyInfo → OcspResponse → List ℕ
-response_print_lines key_info response =
-    fingerprint_line (response_print key_info response) (codes "response issuer")
-    ++ delegate_lines key_info response 1 (certificates_in response)
+abbrev pub response_print_lines : Bool → SubjectPublicKeyInfo → OcspResponse → List ℕ
+response_print_lines with_parts key_info response =
+    question_line with_parts (response_question key_info response) (codes "response issuer")
+    ++ delegate_lines with_parts key_info response 1 (certificates_in response)

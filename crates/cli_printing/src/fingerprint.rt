@@ -1,11 +1,11 @@
-//! The fingerprints of what a verifier is asked, a line each, as a file of verdicts has them.
+//! What a verifier is asked, a line each: fingerprints, as a file of verdicts has them, and the texts themselves for whoever judges.
 ghost use Rattle.std.specs.Prelude.{◌≡◌};
 ghost use Rattle.cert.specs.Certificate.{seen_certificate};
 ghost use Rattle.cert.specs.SubjectPublicKeyInfo.{seen_key_info};
 ghost use Rattle.statements_crl.specs.CertificateList.{seen_list};
 ghost use Rattle.statements_ocsp.specs.OcspResponse.{seen_response};
 ghost use Rattle.statements_ocsp.specs.Certificates.{certificates_left};
-ghost use Rattle.cli_printing.specs.FingerprintText.{both_lines, certificate_print, certificate_print_line, crl_print, crl_print_line, delegate_line, delegate_lines, delegate_words, delegated_line, delegated_words, fingerprint_line, response_print, response_print_lines};
+ghost use Rattle.cli_printing.specs.FingerprintText.{both_lines, certificate_print_line, certificate_question, crl_print_line, crl_question, delegate_line, delegate_lines, delegate_words, delegated_line, delegated_words, line_end, part_text, parts_text, print_of, question_line, response_print_lines, response_question, seen_question};
 ghost use Rattle.cli_printing.specs.Written.{Writes};
 
 use crate::text::write_hex;
@@ -41,102 +41,197 @@ impl From<AllocError> for PrintsFault {
     }
 }
 
-// A fingerprint and what it is of.
-fn write_fingerprint<W: Write>(print: &[u8; 32], words: &str, writer: &mut W) -> io::Result<()>
-    ensures { Writes W.contents writer.old writer.new result
-        (fingerprint_line print.now words.now) }
-{
-    write_hex(print, writer)?;
-    writeln!(writer, " {words}")
+// What a verifier is asked: whether this is the signature of the message, under the key, by the algorithm.
+#[derive(Clone, Copy)]
+struct SignatureQuestion<'m, 'k> {
+    algorithm: &'m [u8],
+    key_info: &'k [u8],
+    message: &'m [u8],
+    signature: &'m [u8],
 }
 
-// What a verifier is asked of the certificate's signature, under the key of its issuer.
-fn print_of(certificate: &Certificate<'_>, key_info: &SubjectPublicKeyInfo<'_>) -> [u8; 32]
-    ensures { result ≡ certificate_print (seen_key_info key_info.now)
-        (seen_certificate certificate.now) }
+// Its fingerprint.
+fn print_of(question: &SignatureQuestion<'_, '_>) -> [u8; 32]
+    ensures { result ≡ print_of (seen_question question.now) }
 {
     fingerprint(
-        certificate.algorithm.value.whole,
-        key_info.value.whole,
-        certificate.tbs.whole,
-        certificate.signature.octets(),
+        question.algorithm,
+        question.key_info,
+        question.message,
+        question.signature,
     )
 }
 
-/// Writes the line of the certificate's fingerprint under the key of its issuer. It takes no memory.
-pub fn certificate_print_to<W: Write>(
-    certificate: &Certificate<'_>,
-    key_info: &SubjectPublicKeyInfo<'_>,
+// ` NAME=HEX`
+fn write_part<W: Write>(name: &str, octets: &[u8], writer: &mut W) -> io::Result<()>
+    ensures { Writes W.contents writer.old writer.new result (part_text name.now octets.now) }
+{
+    write!(writer, " {name}=")?;
+    write_hex(octets, writer)
+}
+
+fn write_parts<W: Write>(question: &SignatureQuestion<'_, '_>, writer: &mut W) -> io::Result<()>
+    ensures { Writes W.contents writer.old writer.new result
+        (parts_text (seen_question question.now)) }
+{
+    write_part("algorithm", question.algorithm, writer)?;
+    write_part("key", question.key_info, writer)?;
+    write_part("message", question.message, writer)?;
+    write_part("signature", question.signature, writer)
+}
+
+// What stands behind the words of a line, and its end.
+fn end_line<W: Write>(
+    with_parts: bool,
+    question: &SignatureQuestion<'_, '_>,
     writer: &mut W,
 ) -> io::Result<()>
     ensures { Writes W.contents writer.old writer.new result
-        (certificate_print_line (seen_key_info key_info.now) (seen_certificate certificate.now)) }
+        (line_end with_parts (seen_question question.now)) }
 {
-    write_fingerprint(
-        &print_of(certificate, key_info),
-        "certificate issuer",
+    if with_parts {
+        write_parts(question, writer)?;
+    }
+    writer.write_all(b"\n")
+}
+
+// The line of a question, with these words.
+fn write_question<W: Write>(
+    with_parts: bool,
+    question: &SignatureQuestion<'_, '_>,
+    words: &str,
+    writer: &mut W,
+) -> io::Result<()>
+    ensures { Writes W.contents writer.old writer.new result
+        (question_line with_parts (seen_question question.now) words.now) }
+{
+    write_hex(&print_of(question), writer)?;
+    write!(writer, " {words}")?;
+    end_line(with_parts, question, writer)
+}
+
+// What a verifier is asked of the certificate's signature, under the key of its issuer.
+fn question_about<'m, 'k>(
+    certificate: &Certificate<'m>,
+    key_info: &SubjectPublicKeyInfo<'k>,
+) -> SignatureQuestion<'m, 'k>
+    ensures { seen_question result ≡ certificate_question (seen_key_info key_info.now)
+        (seen_certificate certificate.now) }
+{
+    SignatureQuestion {
+        algorithm: certificate.algorithm.value.whole,
+        key_info: key_info.value.whole,
+        message: certificate.tbs.whole,
+        signature: certificate.signature.octets(),
+    }
+}
+
+/// Writes the line of what a verifier is asked of the certificate, under the key of its issuer: the fingerprint and what it is of, and, with
+/// parts, the four texts in hexadecimal, so that whoever judges needs no reader of DER. It takes no memory.
+pub fn certificate_print_to<W: Write>(
+    certificate: &Certificate<'_>,
+    key_info: &SubjectPublicKeyInfo<'_>,
+    with_parts: bool,
+    writer: &mut W,
+) -> io::Result<()>
+    ensures { Writes W.contents writer.old writer.new result (certificate_print_line with_parts
+        (seen_key_info key_info.now) (seen_certificate certificate.now)) }
+{
+    let question = question_about(certificate, key_info);
+    write_question(with_parts, &question, "certificate issuer", writer)
+}
+
+// What a verifier is asked of the list's signature, under the key of its issuer.
+fn question_about_list<'m, 'k>(
+    list: &Crl<'m>,
+    key_info: &SubjectPublicKeyInfo<'k>,
+) -> SignatureQuestion<'m, 'k>
+    ensures { seen_question result
+        ≡ crl_question (seen_key_info key_info.now) (seen_list list.now) }
+{
+    SignatureQuestion {
+        algorithm: list.algorithm,
+        key_info: key_info.value.whole,
+        message: list.tbs,
+        signature: list.signature,
+    }
+}
+
+/// Writes the line of what a verifier is asked of the revocation list, under the key of its issuer, with parts or without. It takes no
+/// memory.
+pub fn crl_print_to<W: Write>(
+    list: &Crl<'_>,
+    key_info: &SubjectPublicKeyInfo<'_>,
+    with_parts: bool,
+    writer: &mut W,
+) -> io::Result<()>
+    ensures { Writes W.contents writer.old writer.new result
+        (crl_print_line with_parts (seen_key_info key_info.now) (seen_list list.now)) }
+{
+    write_question(
+        with_parts,
+        &question_about_list(list, key_info),
+        "crl issuer",
         writer,
     )
 }
 
-// What a verifier is asked of the list's signature, under the key of its issuer.
-fn print_of_list(list: &Crl<'_>, key_info: &SubjectPublicKeyInfo<'_>) -> [u8; 32]
-    ensures { result ≡ crl_print (seen_key_info key_info.now) (seen_list list.now) }
-{
-    let key_info = key_info.value.whole;
-    fingerprint(list.algorithm, key_info, list.tbs, list.signature)
-}
-
-/// Writes the line of the revocation list's fingerprint under the key of its issuer. It takes no memory.
-pub fn crl_print_to<W: Write>(
-    list: &Crl<'_>,
-    key_info: &SubjectPublicKeyInfo<'_>,
-    writer: &mut W,
-) -> io::Result<()>
-    ensures { Writes W.contents writer.old writer.new result
-        (crl_print_line (seen_key_info key_info.now) (seen_list list.now)) }
-{
-    write_fingerprint(&print_of_list(list, key_info), "crl issuer", writer)
-}
-
 // What a verifier is asked of the response's signature, under a key that may have signed it.
-fn print_of_response(response: &Response<'_>, key_info: &SubjectPublicKeyInfo<'_>) -> [u8; 32]
-    ensures { result ≡ response_print (seen_key_info key_info.now) (seen_response response.now) }
+fn question_about_response<'m, 'k>(
+    response: &Response<'m>,
+    key_info: &SubjectPublicKeyInfo<'k>,
+) -> SignatureQuestion<'m, 'k>
+    ensures { seen_question result
+        ≡ response_question (seen_key_info key_info.now) (seen_response response.now) }
 {
-    fingerprint(
-        response.algorithm,
-        key_info.value.whole,
-        response.tbs,
-        response.signature,
-    )
+    SignatureQuestion {
+        algorithm: response.algorithm,
+        key_info: key_info.value.whole,
+        message: response.tbs,
+        signature: response.signature,
+    }
 }
 
 #[tactic(auto, unfolding(crate::specs::FingerprintText::delegate_words))]
 fn write_delegate_words<W: Write>(number: usize, writer: &mut W) -> io::Result<()>
     ensures { Writes W.contents writer.old writer.new result (delegate_words number) }
 {
-    writeln!(writer, " certificate {number} issuer")
+    write!(writer, " certificate {number} issuer")
 }
 
 #[tactic(auto, unfolding(crate::specs::FingerprintText::delegated_words))]
 fn write_delegated_words<W: Write>(number: usize, writer: &mut W) -> io::Result<()>
     ensures { Writes W.contents writer.old writer.new result (delegated_words number) }
 {
-    writeln!(writer, " response certificate {number}")
+    write!(writer, " response certificate {number}")
 }
 
-fn write_delegate_line<W: Write>(print: &[u8; 32], number: usize, writer: &mut W) -> io::Result<()>
-    ensures { Writes W.contents writer.old writer.new result (delegate_line print.now number) }
+fn write_delegate_line<W: Write>(
+    with_parts: bool,
+    question: &SignatureQuestion<'_, '_>,
+    number: usize,
+    writer: &mut W,
+) -> io::Result<()>
+    ensures { Writes W.contents writer.old writer.new result
+        (delegate_line with_parts (seen_question question.now) number) }
 {
-    write_hex(print, writer)?;
-    write_delegate_words(number, writer)
+    write_hex(&print_of(question), writer)?;
+    write_delegate_words(number, writer)?;
+    end_line(with_parts, question, writer)
 }
 
-fn write_delegated_line<W: Write>(print: &[u8; 32], number: usize, writer: &mut W) -> io::Result<()>
-    ensures { Writes W.contents writer.old writer.new result (delegated_line print.now number) }
+fn write_delegated_line<W: Write>(
+    with_parts: bool,
+    question: &SignatureQuestion<'_, '_>,
+    number: usize,
+    writer: &mut W,
+) -> io::Result<()>
+    ensures { Writes W.contents writer.old writer.new result
+        (delegated_line with_parts (seen_question question.now) number) }
 {
-    write_hex(print, writer)?;
-    write_delegated_words(number, writer)
+    write_hex(&print_of(question), writer)?;
+    write_delegated_words(number, writer)?;
+    end_line(with_parts, question, writer)
 }
 
 // Both lines of the certificate that comes with the response under this number.
@@ -144,50 +239,56 @@ fn write_delegate<W: Write>(
     response: &Response<'_>,
     certificate: &Certificate<'_>,
     key_info: &SubjectPublicKeyInfo<'_>,
+    with_parts: bool,
     number: usize,
     writer: &mut W,
 ) -> io::Result<()>
     ensures { Writes W.contents writer.old writer.new result
-        (both_lines (seen_key_info key_info.now) (seen_response response.now) number
+        (both_lines with_parts (seen_key_info key_info.now) (seen_response response.now) number
         (seen_certificate certificate.now)) }
 {
-    write_delegate_line(&print_of(certificate, key_info), number, writer)?;
+    let issued = question_about(certificate, key_info);
+    write_delegate_line(with_parts, &issued, number, writer)?;
     let key_info = &certificate.subject_public_key_info;
-    write_delegated_line(&print_of_response(response, key_info), number, writer)
+    let signed = question_about_response(response, key_info);
+    write_delegated_line(with_parts, &signed, number, writer)
 }
 
 fn write_delegates<W: Write>(
     alloc: Global,
     response: &Response<'_>,
     key_info: &SubjectPublicKeyInfo<'_>,
+    with_parts: bool,
     writer: &mut W,
 ) -> Result<(), PrintsFault>
     ensures { Writes W.contents writer.old writer.new result
-        (delegate_lines (seen_key_info key_info.now) (seen_response response.now) 1
+        (delegate_lines with_parts (seen_key_info key_info.now) (seen_response response.now) 1
         (certificates_left response.now.certs)) }
 {
     let mut certs = response.certs;
     let mut number = 0;
     while let Some(certificate) = certs.next_certificate(alloc)? {
         number += 1;
-        write_delegate(response, &certificate, key_info, number, writer)?;
+        write_delegate(response, &certificate, key_info, with_parts, number, writer)?;
     }
     Ok(())
 }
 
-/// Writes the lines of the response's fingerprints: under the key of the issuer, and, for each certificate that comes with it,
-/// that certificate's under the key of the issuer and the response's under that certificate's key. Certificates are counted from 1; what
-/// else comes with the response is passed over. Memory is taken for one certificate at a time.
+/// Writes the lines of what a verifier is asked of the response, with parts or without: under the key of the issuer, and, for each certificate that comes with
+/// it, that certificate's under the key of the issuer and the response's under that certificate's key. Certificates are counted from 1;
+/// what else comes with the response is passed over. Memory is taken for one certificate at a time.
 pub fn response_prints_to<W: Write>(
     alloc: Global,
     response: &Response<'_>,
     key_info: &SubjectPublicKeyInfo<'_>,
+    with_parts: bool,
     writer: &mut W,
 ) -> Result<(), PrintsFault>
     ensures { Writes W.contents writer.old writer.new result
-        (response_print_lines (seen_key_info key_info.now) (seen_response response.now)) }
+        (response_print_lines with_parts (seen_key_info key_info.now)
+        (seen_response response.now)) }
 {
-    let print = print_of_response(response, key_info);
-    write_fingerprint(&print, "response issuer", writer)?;
-    write_delegates(alloc, response, key_info, writer)
+    let question = question_about_response(response, key_info);
+    write_question(with_parts, &question, "response issuer", writer)?;
+    write_delegates(alloc, response, key_info, with_parts, writer)
 }

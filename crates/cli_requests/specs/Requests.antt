@@ -27,7 +27,7 @@ pub data Request : Type 0 where
   believe : List ℕ → Request
   deliver : List ℕ → List ℕ → Request
   check : Path → Request
-  prints : Kind → List ℕ → List ℕ → Request
+  prints : Kind → Bool → List ℕ → List ℕ → Request
   forget : Request
   quit : Request
 
@@ -87,12 +87,18 @@ abbrev pub check_in : List (List ℕ) → Option Request
 check_in (moment ∷ first ∷ words) = path_behind moment (purpose_in first) first words
 check_in _ = None
 
--- `prints KIND ISSUER FILE`
-abbrev pub prints_in : List (List ℕ) → Option Request
-prints_in (kind ∷ issuer ∷ file ∷ []) =
+-- `KIND ISSUER FILE`
+abbrev pub prints_of : Bool → List (List ℕ) → Option Request
+prints_of with_parts (kind ∷ issuer ∷ file ∷ []) =
     if are_operands (issuer ∷ file ∷ [])
-    then option_map (λ named. prints named issuer file) (kind_named kind) else None
-prints_in _ = None
+    then option_map (λ named. prints named with_parts issuer file) (kind_named kind) else None
+prints_of with_parts _ = None
+
+-- `prints KIND ISSUER FILE`, or `prints parts KIND ISSUER FILE`
+abbrev pub prints_in : List (List ℕ) → Option Request
+prints_in [] = None
+prints_in (first ∷ words) =
+    if bytes_eq first (codes "parts") then prints_of true words else prints_of false (first ∷ words)
 
 -- `forget` and `quit`
 abbrev pub alone : Request → List (List ℕ) → Option Request
@@ -142,7 +148,7 @@ seen_request Nothing = nothing
 seen_request (Believe print) = believe print
 seen_request (Deliver issuer file) = deliver issuer.now file.now
 seen_request (Check path) = check (seen_path path)
-seen_request (Prints kind issuer file) = prints kind issuer.now file.now
+seen_request (Prints kind with_parts issuer file) = prints kind with_parts issuer.now file.now
 seen_request Forget = forget
 seen_request Quit = quit
 

@@ -1,6 +1,6 @@
 //! What a line of a session asks for.
 ghost use Rattle.std.specs.Prelude.{◌≡◌, IfErr, IfOk, OnOk, Some, map, option_map, true};
-ghost use Rattle.cli_requests.specs.Requests.{IsFalse, IsNone, alone, are_operands, believe_in, check_in, deliver_in, is_passed_over, kind_named, path_in, print_in, prints_in, purpose_in, request_in, request_named, request_on, seen_request, texts_of, words_of};
+ghost use Rattle.cli_requests.specs.Requests.{IsFalse, IsNone, alone, are_operands, believe_in, check_in, deliver_in, is_passed_over, kind_named, path_in, print_in, prints_in, prints_of, purpose_in, request_in, request_named, request_on, seen_request, texts_of, words_of};
 
 use crate::operand::is_operand;
 use cli_words::Kind;
@@ -35,9 +35,11 @@ pub enum Request<'a> {
     },
     /// Tell the verdict on a path.
     Check(PathRequest<'a>),
-    /// Tell the fingerprints of what a verifier is asked about a value of that kind, under the issuer's key.
+    /// Tell the fingerprints of what a verifier is asked about a value of that kind, under the issuer's key, and with parts what is
+    /// verified too: algorithm, key, message and signature.
     Prints {
         kind: Kind,
+        with_parts: bool,
         issuer: &'a str,
         file: &'a str,
     },
@@ -198,10 +200,14 @@ fn check_in<'a>(alloc: Global, words: &[&'a str]) -> Result<Request<'a>, Request
     }
 }
 
-fn prints_in<'a>(alloc: Global, words: &[&'a str]) -> Result<Request<'a>, RequestFault>
+fn prints_of<'a>(
+    alloc: Global,
+    with_parts: bool,
+    words: &[&'a str],
+) -> Result<Request<'a>, RequestFault>
     ensures reads { IfOk result (λ request.
-        prints_in (texts_of words.now) ≡ Some (seen_request request)) }
-    ensures refuses { IfErr result (IsNone (prints_in (texts_of words.now))) }
+        prints_of with_parts (texts_of words.now) ≡ Some (seen_request request)) }
+    ensures refuses { IfErr result (IsNone (prints_of with_parts (texts_of words.now))) }
 {
     let [kind, behind @ ..] = words else {
         return Err(RequestFault::Malformed);
@@ -211,8 +217,27 @@ fn prints_in<'a>(alloc: Global, words: &[&'a str]) -> Result<Request<'a>, Reques
     };
     check_operands(alloc, behind)?;
     match kind_named(kind) {
-        Some(kind) => Ok(Request::Prints { kind, issuer, file }),
+        Some(kind) => Ok(Request::Prints {
+            kind,
+            with_parts,
+            issuer,
+            file,
+        }),
         None => Err(RequestFault::Malformed),
+    }
+}
+
+fn prints_in<'a>(alloc: Global, words: &[&'a str]) -> Result<Request<'a>, RequestFault>
+    ensures reads { IfOk result (λ request.
+        prints_in (texts_of words.now) ≡ Some (seen_request request)) }
+    ensures refuses { IfErr result (IsNone (prints_in (texts_of words.now))) }
+{
+    let [first, behind @ ..] = words else {
+        return Err(RequestFault::Malformed);
+    };
+    match *first {
+        "parts" => prints_of(alloc, true, behind),
+        _ => prints_of(alloc, false, words),
     }
 }
 

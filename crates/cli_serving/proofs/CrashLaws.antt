@@ -62,7 +62,7 @@ step holds nothing old new answer (answered, is) so = same old new is so
 step holds (believe print) old new answer is so = believes print old new answer is so
 step holds (deliver issuer file) old new answer is so = delivers holds issuer file old new answer is so
 step holds (check path) old new answer (told, is) so = same old new is so
-step holds (prints kind issuer file) old new answer (told, is) so = same old new is so
+step holds (prints kind with_parts issuer file) old new answer (told, is) so = same old new is so
 step holds forget old new answer (answered, is) so = same (forgetting old) new is so
 step holds quit old new answer (answered, is) so = same old new is so
 

@@ -2,7 +2,7 @@
 ghost use Rattle.std.specs.Prelude.{IfErr, IfOk, Some};
 ghost use Rattle.cli_failures.specs.Failures.{IsUnread};
 
-use cli_failures::{Failure, Source};
+use cli_failures::{Extent, Failure, Source};
 use cli_requests::{Operand, operand_of};
 use std::alloc::Global;
 
@@ -17,12 +17,17 @@ pub struct OperandSource<'s, S> {
 }
 
 // The octets of the file of this name; a failure names the word.
-fn read_named<'a, S: Source>(source: &S, word: &'a str, name: &str) -> Result<Vec<u8>, Failure<'a>>
+fn read_named<'a, S: Source>(
+    source: &S,
+    word: &'a str,
+    name: &str,
+    extent: Extent,
+) -> Result<Vec<u8>, Failure<'a>>
     ensures reads { IfOk result (λ octets. S.holds source.now name.now (Some octets.items)) }
     ensures fails { IfErr result
         (IsUnread (λ file found. S.holds source.now name.now found) word.entry.now) }
 {
-    match source.octets_of(name) {
+    match source.octets_of(name, extent) {
         Ok(octets) => Ok(octets),
         Err(Failure::Unreadable { .. }) => Err(Failure::Unreadable { file: word }),
         Err(Failure::NoMemory) => Err(Failure::NoMemory),
@@ -35,10 +40,10 @@ impl<S: Source> Source for OperandSource<'_, S> {
 
     ghost holds = { λ operands. holding_of (S.holds operands.source.now) };
 
-    fn octets_of<'a>(&self, file: &'a str) -> Result<Vec<u8>, Failure<'a>> {
+    fn octets_of<'a>(&self, file: &'a str, extent: Extent) -> Result<Vec<u8>, Failure<'a>> {
         match operand_of(self.alloc, file.as_bytes()) {
             Ok(Some(Operand::Octets(octets))) => Ok(octets),
-            Ok(Some(Operand::File(name))) => read_named(self.source, file, name.as_str()),
+            Ok(Some(Operand::File(name))) => read_named(self.source, file, name.as_str(), extent),
             Ok(None) => Err(Failure::Unreadable { file }),
             Err(_) => Err(Failure::NoMemory),
         }

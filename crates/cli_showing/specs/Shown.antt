@@ -1,5 +1,5 @@
 -- What is written of a file.
-use Rattle.std.specs.Prelude.{◌≡◌, ◌⊎◌, ℕ, List, Some}
+use Rattle.std.specs.Prelude.{◌≡◌, ◌⊎◌, ℕ, Bool, List, Some}
 use Rattle.cli_words.specs.declared.line.Kind.{Kind}
 use Rattle.cli_words.specs.declared.line.Kind.TheVariants.{Certificate, RevocationList, Response}
 use Rattle.asn.specs.Value.{Value}
@@ -31,22 +31,23 @@ IsShownText holds RevocationList file text =
 IsShownText holds Response file text =
     (read : OcspResponse) × HoldsResponse holds file read × (text ≡ response_text read)
 
--- the fingerprints of the file under this key: of a certificate and of a revocation list, its line; of a response, its lines
-abbrev pub ArePrintLines : Holding → SubjectPublicKeyInfo → Kind → List ℕ → List ℕ → Type 0
-ArePrintLines holds key_info Certificate file text =
+-- what a verifier is asked about the file under this key, with the four texts of each question or without: of a certificate and of a
+-- revocation list, its line; of a response, its lines
+abbrev pub ArePrintLines : Holding → SubjectPublicKeyInfo → Kind → Bool → List ℕ → List ℕ → Type 0
+ArePrintLines holds key_info Certificate with_parts file text =
     (read : Fields) × HoldsCertificate holds file read
-    × (text ≡ certificate_print_line key_info read)
-ArePrintLines holds key_info RevocationList file text =
-    (read : CertificateList) × HoldsList holds file read × (text ≡ crl_print_line key_info read)
-ArePrintLines holds key_info Response file text =
+    × (text ≡ certificate_print_line with_parts key_info read)
+ArePrintLines holds key_info RevocationList with_parts file text =
+    (read : CertificateList) × HoldsList holds file read × (text ≡ crl_print_line with_parts key_info read)
+ArePrintLines holds key_info Response with_parts file text =
     (read : OcspResponse) × HoldsResponse holds file read
-    × (text ≡ response_print_lines key_info read)
+    × (text ≡ response_print_lines with_parts key_info read)
 
 -- the same under the key in the issuer's certificate
-abbrev pub ArePrintsUnder : Holding → List ℕ → Kind → List ℕ → List ℕ → Type 0
-ArePrintsUnder holds issuer kind file text =
+abbrev pub ArePrintsUnder : Holding → List ℕ → Kind → Bool → List ℕ → List ℕ → Type 0
+ArePrintsUnder holds issuer kind with_parts file text =
     (signer : Fields) × HoldsCertificate holds issuer signer
-    × ArePrintLines holds signer.key_info kind file text
+    × ArePrintLines holds signer.key_info kind with_parts file text
 
 -- ---- what is found
 

@@ -14,7 +14,7 @@ ghost use Rattle.cli_failures.specs.Report.{UnlessLate, WritesText};
 ghost use Rattle.cli_showing.specs.Shown.{ArePrintLines, ArePrintsUnder, HoldUnder, HoldsKind, HoldsValue, IsFailureOfPrints, IsNotShown, IsShownText, IsTreeText};
 
 use cert::SubjectPublicKeyInfo;
-use cli_failures::{Failure, Source, read_certificate, read_list, read_response};
+use cli_failures::{Extent, Failure, Source, read_certificate, read_list, read_response};
 use cli_printing::{
     PrintsFault, TreeFault, certificate_print_to, certificate_to, crl_print_to, crl_to,
     response_prints_to, response_to, tree_to,
@@ -35,7 +35,7 @@ pub fn tree<'a, S: Source, O: Write>(
         (HoldsValue (S.holds source.now) file.entry.now)) }
     ensures quiet { IfErr result (λ failure. UnlessLate failure (out.new ≡ out.old)) }
 {
-    let octets = source.octets_of(file)?;
+    let octets = source.octets_of(file, Extent::Value)?;
     match tree_to(octets.as_slice(), out) {
         Ok(()) => Ok(()),
         Err(TreeFault::Refused(fault)) => Err(Failure::Refused { file, fault }),
@@ -57,7 +57,7 @@ pub fn show<'a, S: Source, O: Write>(
         (HoldsKind (S.holds source.now) kind file.entry.now)) }
     ensures quiet { IfErr result (λ failure. UnlessLate failure (out.new ≡ out.old)) }
 {
-    let octets = source.octets_of(file)?;
+    let octets = source.octets_of(file, Extent::Value)?;
     match kind {
         Kind::Certificate => show_certificate(alloc, file, octets.as_slice(), out),
         Kind::RevocationList => show_list(alloc, file, octets.as_slice(), out),
@@ -113,18 +113,20 @@ fn show_response<'a, O: Write>(
     response_to(&response, out).map_err(|_| Failure::Unwritable)
 }
 
-/// Writes the fingerprints of what a verifier is asked about the file under the key of its issuer. The issuer's file comes first: the
-/// other is looked at only if it holds a certificate.
+/// Writes the lines of what a verifier is asked about the file under the key of its issuer, with the four texts behind each if these are
+/// asked for. The issuer's file comes first: the other is looked at only if it holds a certificate.
 pub fn prints<'a, S: Source, O: Write>(
     source: &S,
     alloc: Global,
     issuer: &'a str,
     kind: Kind,
+    with_parts: bool,
     file: &'a str,
     out: &mut O,
 ) -> Result<(), Failure<'a>>
     ensures done { OnOk result
-        (WritesText (ArePrintsUnder (S.holds source.now) issuer.entry.now kind file.entry.now)
+        (WritesText (ArePrintsUnder (S.holds source.now) issuer.entry.now kind with_parts
+        file.entry.now)
         (O.contents out.old) (O.contents out.new)) }
     ensures fails { IfErr result
         (OrUnwritable
@@ -132,10 +134,10 @@ pub fn prints<'a, S: Source, O: Write>(
         (HoldUnder (S.holds source.now) issuer.entry.now kind file.entry.now)) }
     ensures quiet { IfErr result (λ failure. UnlessLate failure (out.new ≡ out.old)) }
 {
-    let octets = source.octets_of(issuer)?;
+    let octets = source.octets_of(issuer, Extent::Value)?;
     let signer = read_certificate(alloc, issuer, octets.as_slice())?;
     let key_info = &signer.subject_public_key_info;
-    print_under(source, alloc, key_info, kind, file, out)
+    print_under(source, alloc, key_info, kind, with_parts, file, out)
 }
 
 // The fingerprints of the file under the key of its issuer.
@@ -144,77 +146,95 @@ fn print_under<'a, S: Source, O: Write>(
     alloc: Global,
     key_info: &SubjectPublicKeyInfo<'_>,
     kind: Kind,
+    with_parts: bool,
     file: &'a str,
     out: &mut O,
 ) -> Result<(), Failure<'a>>
     ensures done { OnOk result
-        (WritesText (ArePrintLines (S.holds source.now) (seen_key_info key_info.now) kind
+        (WritesText (ArePrintLines (S.holds source.now) (seen_key_info key_info.now) kind with_parts
         file.entry.now)
         (O.contents out.old) (O.contents out.new)) }
     ensures fails { IfErr result (OrUnwritable (IsNotShown (S.holds source.now) kind file.entry.now)
         (HoldsKind (S.holds source.now) kind file.entry.now)) }
     ensures quiet { IfErr result (λ failure. UnlessLate failure (out.new ≡ out.old)) }
 {
-    let octets = source.octets_of(file)?;
+    let octets = source.octets_of(file, Extent::Value)?;
     match kind {
-        Kind::Certificate => print_certificate(alloc, key_info, file, octets.as_slice(), out),
-        Kind::RevocationList => print_list(alloc, key_info, file, octets.as_slice(), out),
-        Kind::Response => print_response(alloc, key_info, file, octets.as_slice(), out),
+        Kind::Certificate => print_certificate(
+            alloc,
+            key_info,
+            with_parts,
+            file,
+            octets.as_slice(),
+            out,
+        ),
+        Kind::RevocationList => print_list(
+            alloc,
+            key_info,
+            with_parts,
+            file,
+            octets.as_slice(),
+            out,
+        ),
+        Kind::Response => print_response(alloc, key_info, with_parts, file, octets.as_slice(), out),
     }
 }
 
 fn print_certificate<'a, O: Write>(
     alloc: Global,
     key_info: &SubjectPublicKeyInfo<'_>,
+    with_parts: bool,
     file: &'a str,
     octets: &[u8],
     out: &mut O,
 ) -> Result<(), Failure<'a>>
     ensures done { OnOk result ((read : CertificateFields) × (certificate octets.now ≡ Ok read)
         × Appends (O.contents out.old) (O.contents out.new)
-        (certificate_print_line (seen_key_info key_info.now) read)) }
+        (certificate_print_line with_parts (seen_key_info key_info.now) read)) }
     ensures fails { IfErr result (OrUnwritable (IsNoCertificate (IsJust octets.now) file.entry.now)
         ((read : CertificateFields) × (certificate octets.now ≡ Ok read))) }
     ensures quiet { IfErr result (λ failure. UnlessLate failure (out.new ≡ out.old)) }
 {
     let certificate = read_certificate(alloc, file, octets)?;
-    certificate_print_to(&certificate, key_info, out).map_err(|_| Failure::Unwritable)
+    certificate_print_to(&certificate, key_info, with_parts, out).map_err(|_| Failure::Unwritable)
 }
 
 fn print_list<'a, O: Write>(
     alloc: Global,
     key_info: &SubjectPublicKeyInfo<'_>,
+    with_parts: bool,
     file: &'a str,
     octets: &[u8],
     out: &mut O,
 ) -> Result<(), Failure<'a>>
     ensures done { OnOk result ((read : CertificateList) × (certificate_list octets.now ≡ Ok read)
         × Appends (O.contents out.old) (O.contents out.new)
-        (crl_print_line (seen_key_info key_info.now) read)) }
+        (crl_print_line with_parts (seen_key_info key_info.now) read)) }
     ensures fails { IfErr result (OrUnwritable (IsNoList (IsJust octets.now) file.entry.now)
         ((read : CertificateList) × (certificate_list octets.now ≡ Ok read))) }
     ensures quiet { IfErr result (λ failure. UnlessLate failure (out.new ≡ out.old)) }
 {
     let list = read_list(alloc, file, octets)?;
-    crl_print_to(&list, key_info, out).map_err(|_| Failure::Unwritable)
+    crl_print_to(&list, key_info, with_parts, out).map_err(|_| Failure::Unwritable)
 }
 
 fn print_response<'a, O: Write>(
     alloc: Global,
     key_info: &SubjectPublicKeyInfo<'_>,
+    with_parts: bool,
     file: &'a str,
     octets: &[u8],
     out: &mut O,
 ) -> Result<(), Failure<'a>>
     ensures done { OnOk result ((read : OcspResponse) × (ocsp_response octets.now ≡ Ok read)
         × Appends (O.contents out.old) (O.contents out.new)
-        (response_print_lines (seen_key_info key_info.now) read)) }
+        (response_print_lines with_parts (seen_key_info key_info.now) read)) }
     ensures fails { IfErr result (OrUnwritable (IsNoResponse (IsJust octets.now) file.entry.now)
         ((read : OcspResponse) × (ocsp_response octets.now ≡ Ok read))) }
     ensures quiet { IfErr result (λ failure. UnlessLate failure (out.new ≡ out.old)) }
 {
     let response = read_response(alloc, file, octets)?;
-    match response_prints_to(alloc, &response, key_info, out) {
+    match response_prints_to(alloc, &response, key_info, with_parts, out) {
         Ok(()) => Ok(()),
         Err(PrintsFault::Io) => Err(Failure::Unwritable),
         Err(PrintsFault::Memory) => Err(Failure::NoMemory),

@@ -1,5 +1,5 @@
 -- What a request makes of a session's party, and how it is answered.
-use Rattle.std.specs.Prelude.{◌≡◌, ◌⊎◌, ℕ, ℤ, List, Option, Some, Ok}
+use Rattle.std.specs.Prelude.{◌≡◌, ◌⊎◌, ℕ, ℤ, Bool, List, Option, Some, Ok}
 use Rattle.cert.specs.Certificate.{Certificate}
 use Rattle.path.specs.Query.{Accepts, Query}
 use Rattle.relying_agreement.specs.Verdict.{IsVerdict}
@@ -107,12 +107,13 @@ BelievesMore print old new Believes = new ≡ believing print old
 BelievesMore print old new (Failed failure) = (failure ≡ NoMemory) × (new ≡ old)
 BelievesMore print old new answer = ⊥
 
--- the lines of the fingerprints, or a failure
-abbrev pub ShowsPrints : Holding → Kind → List ℕ → List ℕ → SessionAnswer → Type 0
-ShowsPrints holds kind issuer file (Prints text) = ArePrintsUnder holds issuer kind file text.items
-ShowsPrints holds kind issuer file (Failed failure) =
+-- the lines of what a verifier is asked, or a failure
+abbrev pub ShowsPrints : Holding → Kind → Bool → List ℕ → List ℕ → SessionAnswer → Type 0
+ShowsPrints holds kind with_parts issuer file (Prints text) =
+    ArePrintsUnder holds issuer kind with_parts file text.items
+ShowsPrints holds kind with_parts issuer file (Failed failure) =
     IsFailureOfPrints holds issuer kind file failure ⊎ (failure ≡ NoMemory)
-ShowsPrints holds kind issuer file answer = ⊥
+ShowsPrints holds kind with_parts issuer file answer = ⊥
 
 -- ---- requests
 
@@ -122,7 +123,7 @@ IsStep holds nothing old new answer = (answer ≡ Nothing) × (new ≡ old)
 IsStep holds (believe print) old new answer = BelievesMore print old new answer
 IsStep holds (deliver issuer file) old new answer = DeliversFile holds issuer file old new answer
 IsStep holds (check path) old new answer = ChecksPath holds path old answer × (new ≡ old)
-IsStep holds (prints kind issuer file) old new answer =
-    ShowsPrints holds kind issuer file answer × (new ≡ old)
+IsStep holds (prints kind with_parts issuer file) old new answer =
+    ShowsPrints holds kind with_parts issuer file answer × (new ≡ old)
 IsStep holds forget old new answer = (answer ≡ Forgets) × (new ≡ forgetting old)
 IsStep holds quit old new answer = (answer ≡ Ends) × (new ≡ old)

@@ -9,7 +9,7 @@ use crate::answer::SessionAnswer;
 use crate::kept::take_facts;
 use crate::party::Party;
 use cert::Certificate;
-use cli_failures::{Failure, Source, read_certificate, read_facts};
+use cli_failures::{Extent, Failure, Source, read_certificate, read_facts};
 use cli_keeping::Keeper;
 use cli_session::Judge;
 use path_verifiers::Verifier;
@@ -48,7 +48,7 @@ fn take_under<'a, K: Keeper, V: Verifier, S: Source>(
         (K.keeps keeper.old) (K.keeps keeper.new) (V.accepts verifier.now)
         (seen_certificate issuer.now) file.entry.now result }
 {
-    let statement = source.octets_of(file)?;
+    let statement = source.octets_of(file, Extent::Value)?;
     take_statement(keeper, alloc, verifier, issuer, statement.as_slice(), file)
 }
 
@@ -66,7 +66,7 @@ fn take_from<'a, K: Keeper, V: Verifier, S: Source>(
         (K.keeps keeper.old) (K.keeps keeper.new) (V.accepts verifier.now)
         issuer.entry.now file.entry.now result }
 {
-    let octets = source.octets_of(issuer)?;
+    let octets = source.octets_of(issuer, Extent::Value)?;
     let certificate = read_certificate(alloc, issuer, octets.as_slice())?;
     take_under(keeper, source, alloc, verifier, &certificate, file)
 }

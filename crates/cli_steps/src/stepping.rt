@@ -38,9 +38,12 @@ pub fn step<'a, K: Keeper, S: Source>(
         Request::Believe(print) => believe(party, print),
         Request::Deliver { issuer, file } => deliver(party, &operands, alloc, issuer, file),
         Request::Check(path) => check(party, &operands, alloc, path),
-        Request::Prints { kind, issuer, file } => {
-            show_prints(&operands, alloc, kind, issuer, file)
-        }
+        Request::Prints {
+            kind,
+            with_parts,
+            issuer,
+            file,
+        } => show_prints(&operands, alloc, kind, with_parts, issuer, file),
         Request::Forget => {
             forget(party);
             SessionAnswer::Forgets

@@ -8,5 +8,6 @@ pub mod CompareWords
 pub mod ExplainWords
 mod SessionWords
 pub mod Values
+mod Behind
 pub mod Outcomes
 pub mod Building

@@ -5,7 +5,7 @@ use Rattle.cli_words.specs.App.{program}
 use Rattle.clap.specs.Kinds.{Kinds, HasKind, IsAmong}
 use Rattle.clap.specs.declared.error.Error.{Error}
 use Rattle.clap.specs.declared.error.kind.ErrorKind.TheVariants.{OutOfMemory}
-use Rattle.cli_words.specs.CommandLine.{Ask, AreRefusedWith, HasNoLine, HasOtherKind, IsCheck, IsCompare, IsDeliver, IsExplain, IsQuestion, IsLine, IsLineOf, IsPlainWord, IsPrints, IsSession, IsShow, IsTree, LacksOneOf, Reads, TakesKind, kind_in_rows, kind_named, of_check, of_compare, of_deliver, of_file, of_prints, of_session, words_in}
+use Rattle.cli_words.specs.CommandLine.{Ask, AreRefusedWith, HasNoLine, HasOtherKind, IsCheck, IsCompare, IsDeliver, IsExplain, IsQuestion, IsLine, IsLineOf, IsPlainWord, IsPrints, IsSession, IsShow, IsTree, LacksOneOf, Reads, TakesKind, is_set, kind_in_rows, kind_named, of_check, of_compare, of_deliver, of_file, of_prints, of_session, words_in}
 use Rattle.cli_words.specs.declared.line.Kind.TheVariants.{Certificate}
 use Rattle.cli_words.specs.declared.line.Line.{Line}
 use Rattle.cli_words.specs.declared.line.Line.TheVariants.{Tree, Show, Prints, Deliver, Check, Compare, Explain, Session}
@@ -119,8 +119,8 @@ tree_means entered rows file found (Explain words) is line =
 tree_means entered rows file found (Session path known) is line =
     let letter : 116 ≡ 115 = ap (λ (text : Text). slice_index text 0) (line_in entered (codes "tree") rows (Session path known) is line).0 in
     absurd (omega (arith, letter))
-tree_means entered rows file found (Prints signer kind given) is line =
-    let letter : 116 ≡ 112 = ap (λ (text : Text). slice_index text 0) (line_in entered (codes "tree") rows (Prints signer kind given) is line).0 in
+tree_means entered rows file found (Prints signer kind parts given) is line =
+    let letter : 116 ≡ 112 = ap (λ (text : Text). slice_index text 0) (line_in entered (codes "tree") rows (Prints signer kind parts given) is line).0 in
     absurd (omega (arith, letter))
 tree_means entered rows file found (Deliver path prints signer given) is line =
     let letter : 116 ≡ 100 = ap (λ (text : Text). slice_index text 0) (line_in entered (codes "tree") rows (Deliver path prints signer given) is line).0 in
@@ -156,8 +156,8 @@ show_means entered rows file none found (Explain words) is line =
 show_means entered rows file none found (Session path known) is line =
     let letter : 104 ≡ 101 = ap (λ (text : Text). slice_index text 1) (line_in entered (codes "show") rows (Session path known) is line).0 in
     absurd (omega (arith, letter))
-show_means entered rows file none found (Prints signer kind given) is line =
-    let letter : 115 ≡ 112 = ap (λ (text : Text). slice_index text 0) (line_in entered (codes "show") rows (Prints signer kind given) is line).0 in
+show_means entered rows file none found (Prints signer kind parts given) is line =
+    let letter : 115 ≡ 112 = ap (λ (text : Text). slice_index text 0) (line_in entered (codes "show") rows (Prints signer kind parts given) is line).0 in
     absurd (omega (arith, letter))
 show_means entered rows file none found (Deliver path prints signer given) is line =
     let letter : 115 ≡ 100 = ap (λ (text : Text). slice_index text 0) (line_in entered (codes "show") rows (Deliver path prints signer given) is line).0 in
@@ -179,12 +179,12 @@ show_known name file r plain is =
 
 -- `prints`
 prints_means : (entered : Option (Text × List Row)) (rows : List Row) (issuer file : Text)
-    → Finds ((codes "as", None) ∷ (codes "issuer", Some issuer) ∷ (codes "file", Some file) ∷ []) rows
+    → Finds ((codes "as", None) ∷ (codes "issuer", Some issuer) ∷ (codes "file", Some file) ∷ (codes "parts", Some (codes "false")) ∷ []) rows
     → (line : Line) → entered ≡ Some (codes "prints", rows) → IsLineOf entered line → IsPrints issuer file line
-prints_means entered rows issuer file finds (Prints signer kind given) is line =
-    let says = line_in entered (codes "prints") rows (Prints signer kind given) is line in
+prints_means entered rows issuer file finds (Prints signer kind parts given) is line =
+    let says = line_in entered (codes "prints") rows (Prints signer kind parts given) is line in
     let certificate = sym (certificate_kind rows finds.0) ∙ says.2 in
-    (same_text (first_of (codes "issuer") rows) issuer signer.now finds.1.0 says.1, cc, same_text (first_of (codes "file") rows) file given.now finds.1.1.0 says.3)
+    (same_text (first_of (codes "issuer") rows) issuer signer.now finds.1.0 says.1, cc, sym says.3 ∙ ap is_set finds.1.1.1.0, same_text (first_of (codes "file") rows) file given.now finds.1.1.0 says.4)
 prints_means entered rows issuer file finds (Tree given) is line =
     let letter : 112 ≡ 116 = ap (λ (text : Text). slice_index text 0) (line_in entered (codes "prints") rows (Tree given) is line).0 in
     absurd (omega (arith, letter))
@@ -239,8 +239,8 @@ deliver_means entered rows store verdicts issuer file finds (Session path known)
 deliver_means entered rows store verdicts issuer file finds (Show kind given) is line =
     let letter : 100 ≡ 115 = ap (λ (text : Text). slice_index text 0) (line_in entered (codes "deliver") rows (Show kind given) is line).0 in
     absurd (omega (arith, letter))
-deliver_means entered rows store verdicts issuer file finds (Prints signer kind given) is line =
-    let letter : 100 ≡ 112 = ap (λ (text : Text). slice_index text 0) (line_in entered (codes "deliver") rows (Prints signer kind given) is line).0 in
+deliver_means entered rows store verdicts issuer file finds (Prints signer kind parts given) is line =
+    let letter : 100 ≡ 112 = ap (λ (text : Text). slice_index text 0) (line_in entered (codes "deliver") rows (Prints signer kind parts given) is line).0 in
     absurd (omega (arith, letter))
 deliver_means entered rows store verdicts issuer file finds (Check asked) is line =
     let letter : 100 ≡ 99 = ap (λ (text : Text). slice_index text 0) (line_in entered (codes "deliver") rows (Check asked) is line).0 in
@@ -311,8 +311,8 @@ check_means entered rows store verdicts moment anchor files found (Session path 
 check_means entered rows store verdicts moment anchor files found (Show kind given) is line =
     let letter : 99 ≡ 115 = ap (λ (text : Text). slice_index text 0) (line_in entered (codes "check") rows (Show kind given) is line).0 in
     absurd (omega (arith, letter))
-check_means entered rows store verdicts moment anchor files found (Prints signer kind given) is line =
-    let letter : 99 ≡ 112 = ap (λ (text : Text). slice_index text 0) (line_in entered (codes "check") rows (Prints signer kind given) is line).0 in
+check_means entered rows store verdicts moment anchor files found (Prints signer kind parts given) is line =
+    let letter : 99 ≡ 112 = ap (λ (text : Text). slice_index text 0) (line_in entered (codes "check") rows (Prints signer kind parts given) is line).0 in
     absurd (omega (arith, letter))
 check_means entered rows store verdicts moment anchor files found (Deliver path prints signer given) is line =
     let letter : 99 ≡ 100 = ap (λ (text : Text). slice_index text 0) (line_in entered (codes "check") rows (Deliver path prints signer given) is line).0 in
@@ -357,8 +357,8 @@ compare_means entered rows store verdicts moment anchor other files found there 
 compare_means entered rows store verdicts moment anchor other files found there (Show kind given) is line =
     let letter : 99 ≡ 115 = ap (λ (text : Text). slice_index text 0) (line_in entered (codes "compare") rows (Show kind given) is line).0 in
     absurd (omega (arith, letter))
-compare_means entered rows store verdicts moment anchor other files found there (Prints signer kind given) is line =
-    let letter : 99 ≡ 112 = ap (λ (text : Text). slice_index text 0) (line_in entered (codes "compare") rows (Prints signer kind given) is line).0 in
+compare_means entered rows store verdicts moment anchor other files found there (Prints signer kind parts given) is line =
+    let letter : 99 ≡ 112 = ap (λ (text : Text). slice_index text 0) (line_in entered (codes "compare") rows (Prints signer kind parts given) is line).0 in
     absurd (omega (arith, letter))
 compare_means entered rows store verdicts moment anchor other files found there (Deliver path prints signer given) is line =
     let letter : 99 ≡ 100 = ap (λ (text : Text). slice_index text 0) (line_in entered (codes "compare") rows (Deliver path prints signer given) is line).0 in
@@ -402,8 +402,8 @@ explain_means entered rows word found (Tree given) is line =
 explain_means entered rows word found (Show kind given) is line =
     let letter : 101 ≡ 115 = ap (λ (text : Text). slice_index text 0) (line_in entered (codes "explain") rows (Show kind given) is line).0 in
     absurd (omega (arith, letter))
-explain_means entered rows word found (Prints signer kind given) is line =
-    let letter : 101 ≡ 112 = ap (λ (text : Text). slice_index text 0) (line_in entered (codes "explain") rows (Prints signer kind given) is line).0 in
+explain_means entered rows word found (Prints signer kind parts given) is line =
+    let letter : 101 ≡ 112 = ap (λ (text : Text). slice_index text 0) (line_in entered (codes "explain") rows (Prints signer kind parts given) is line).0 in
     absurd (omega (arith, letter))
 explain_means entered rows word found (Deliver path prints signer given) is line =
     let letter : 101 ≡ 100 = ap (λ (text : Text). slice_index text 0) (line_in entered (codes "explain") rows (Deliver path prints signer given) is line).0 in
@@ -446,8 +446,8 @@ session_means entered rows store finds (Tree given) is line =
 session_means entered rows store finds (Show kind given) is line =
     let letter : 101 ≡ 104 = ap (λ (text : Text). slice_index text 1) (line_in entered (codes "session") rows (Show kind given) is line).0 in
     absurd (omega (arith, letter))
-session_means entered rows store finds (Prints signer kind given) is line =
-    let letter : 115 ≡ 112 = ap (λ (text : Text). slice_index text 0) (line_in entered (codes "session") rows (Prints signer kind given) is line).0 in
+session_means entered rows store finds (Prints signer kind parts given) is line =
+    let letter : 115 ≡ 112 = ap (λ (text : Text). slice_index text 0) (line_in entered (codes "session") rows (Prints signer kind parts given) is line).0 in
     absurd (omega (arith, letter))
 session_means entered rows store finds (Deliver path prints signer given) is line =
     let letter : 115 ≡ 100 = ap (λ (text : Text). slice_index text 0) (line_in entered (codes "session") rows (Deliver path prints signer given) is line).0 in

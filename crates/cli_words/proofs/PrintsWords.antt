@@ -61,12 +61,12 @@ no_fault name issuer file plain plain' =
 -- they enter the subcommand without a kind, and its files are theirs
 pub entered : (name issuer file : Text) → IsPlainWord issuer → IsPlainWord file
     → Enters (subcommand_of program (name ∷ codes "prints" ∷ prints_words issuer file)) (codes "prints")
-    ((codes "as", None) ∷ (codes "issuer", Some issuer) ∷ (codes "file", Some file) ∷ [])
+    ((codes "as", None) ∷ (codes "issuer", Some issuer) ∷ (codes "file", Some file) ∷ (codes "parts", Some (codes "false")) ∷ [])
 unfolding clap_on_literals
 entered name issuer file plain plain' =
     let are = rows_are shape (prints_words issuer file) _ (goes issuer file plain plain') in
     record {
       rows = rows_after shape.rules [] (prints_words issuer file);
       is = refl;
-      finds = (ap (first_of (codes "as")) are, (ap (first_of (codes "issuer")) are, (ap (first_of (codes "file")) are, tt)));
+      finds = (ap (first_of (codes "as")) are, (ap (first_of (codes "issuer")) are, (ap (first_of (codes "file")) are, (ap (first_of (codes "parts")) are, tt))));
     }

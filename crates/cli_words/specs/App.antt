@@ -1,6 +1,7 @@
 -- The command line of the program, in clap's terms.
 use Rattle.std.specs.Prelude.{Some, true, codes}
 use Rattle.clap.specs.Lexer.{usize_max}
+use Rattle.clap.specs.declared.builder.action.ArgAction.TheVariants.{SetTrue}
 use Rattle.clap.specs.Words.{App, Rule, new_app, new_rule, with_rule, with_subcommand}
 
 -- FILE
@@ -27,9 +28,15 @@ issuer_rule = record (new_rule (codes "issuer")) {
   value_names = 1;
 }
 
--- `prints --issuer ISSUER [--as KIND] FILE`
+-- `--parts`, which may be left out
+abbrev pub parts_rule : Rule
+parts_rule = record (new_rule (codes "parts")) { long = Some (codes "parts"); action = Some SetTrue }
+
+-- `prints --issuer ISSUER [--as KIND] [--parts] FILE`
 abbrev pub prints_app : App
-prints_app = with_rule (with_rule (with_rule (new_app (codes "prints")) issuer_rule) kind_rule) file_rule
+prints_app =
+    with_rule (with_rule (with_rule (with_rule (new_app (codes "prints")) issuer_rule) kind_rule) parts_rule)
+    file_rule
 
 -- `--store STORE`, which has to be there
 abbrev pub store_rule : Rule

@@ -1,5 +1,5 @@
 -- What a line is, by the matches that clap's definition of a simple command gives for the words.
-use Rattle.std.specs.Prelude.{◌≡◌, ◌≢◌, ◌⊎◌, [], ◌∷◌, List, Option, Some, None, codes, map, option_map, slice_index, if◌then◌else◌}
+use Rattle.std.specs.Prelude.{◌≡◌, ◌≢◌, ◌⊎◌, [], ◌∷◌, Bool, false, List, Option, Some, None, codes, map, option_map, slice_index, if◌then◌else◌}
 use Rattle.std.specs.Str.{bytes_eq}
 use Rattle.std.specs.Borrow.{Bor}
 use Rattle.clap.specs.Words.{IsAmong, Row, Text, all_of, fault_of, first_of, subcommand_of}
@@ -30,6 +30,14 @@ kind_named (Some name) =
 abbrev pub kind_in_rows : List Row → Option Kind
 kind_in_rows rows = kind_named (first_of (codes "as") rows)
 
+-- an option without a value was given: clap notes `true` for it, and `false` if it was left out
+abbrev pub is_set : Option Text → Bool
+is_set None = false
+is_set (Some noted) = bytes_eq noted (codes "true")
+
+abbrev pub flag_in : List Row → Text → Bool
+flag_in rows id = is_set (first_of id rows)
+
 -- the rows have what is asked of a path
 pub record Ask (rows : List Row) (question : Question) : Type 0 where
   pub store : GivesText rows (codes "store") question.store
@@ -49,9 +57,9 @@ abbrev pub IsLine : Text × List Row → Line → Type 0
 IsLine (name, rows) (Tree file) = (name ≡ codes "tree") × GivesText rows (codes "file") file
 IsLine (name, rows) (Show kind file) =
     (name ≡ codes "show") × (kind_in_rows rows ≡ Some kind) × GivesText rows (codes "file") file
-IsLine (name, rows) (Prints issuer kind file) =
+IsLine (name, rows) (Prints issuer kind with_parts file) =
     (name ≡ codes "prints") × GivesText rows (codes "issuer") issuer × (kind_in_rows rows ≡ Some kind)
-    × GivesText rows (codes "file") file
+    × (flag_in rows (codes "parts") ≡ with_parts) × GivesText rows (codes "file") file
 IsLine (name, rows) (Deliver store verdicts issuer file) =
     (name ≡ codes "deliver") × GivesText rows (codes "store") store
     × GivesText rows (codes "verdicts") verdicts × GivesText rows (codes "issuer") issuer
@@ -163,10 +171,10 @@ abbrev pub IsShow : Text → Line → Type 0
 IsShow text (Show kind file) = (kind ≡ Certificate) × (file.now ≡ text)
 IsShow text _ = ⊥
 
--- `prints --issuer ISSUER FILE`, of a certificate
+-- `prints --issuer ISSUER FILE`, of a certificate, without parts
 abbrev pub IsPrints : Text → Text → Line → Type 0
-IsPrints signer text (Prints issuer kind file) =
-    (issuer.now ≡ signer) × (kind ≡ Certificate) × (file.now ≡ text)
+IsPrints signer text (Prints issuer kind with_parts file) =
+    (issuer.now ≡ signer) × (kind ≡ Certificate) × (with_parts ≡ false) × (file.now ≡ text)
 IsPrints signer text _ = ⊥
 
 -- `deliver --store STORE --verdicts VERDICTS --issuer ISSUER FILE`

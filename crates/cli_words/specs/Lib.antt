@@ -1,2 +1,3 @@
 pub mod App
 pub mod CommandLine
+pub mod RunOptions

@@ -2,17 +2,37 @@
 ghost use Rattle.std.specs.Prelude.{◌≡◌, IfOk, false};
 ghost use Rattle.clap.specs.Words.{app_of, new_app, rule_of};
 ghost use Rattle.clap.specs.declared.builder.command.Command.TheViews.{out-Command as fields_of};
-ghost use Rattle.cli_words.specs.App.{anchor_rule, anchored as anchored_app, asking as asking_app, certificates_rule, file_rule, issuer_rule, kind_rule, moment_rule, other_rule, purpose_rule, store_rule, storing as storing_app, verdicts_rule, check_app, compare_app, deliver_app, delivering as delivering_app, looking as looking_app, program as program_app, prints_app, show_app, tree_app, topic_rule, explain_app, explaining as explaining_app, known_rule, session_app, validating as validating_app};
+ghost use Rattle.cli_words.specs.App.{anchor_rule, anchored as anchored_app, asking as asking_app, certificates_rule, file_rule, issuer_rule, kind_rule, moment_rule, other_rule, parts_rule, purpose_rule, store_rule, storing as storing_app, verdicts_rule, check_app, compare_app, deliver_app, delivering as delivering_app, looking as looking_app, program as program_app, prints_app, show_app, tree_app, topic_rule, explain_app, explaining as explaining_app, known_rule, session_app, validating as validating_app};
 
-use clap::{Arg, Command};
+use clap::{Arg, ArgAction, Command};
 use std::alloc::{AllocError, Global};
 
-// A subcommand with this name, with what it does and an example of a call in its help.
-fn described<'a>(alloc: Global, name: &'a str, about: &'a str, example: &'a str) -> Command<'a>
+const PROGRAM_HELP: &str = "In front of the command may stand:
+  --hints           Say what to do about a failure, in a second line on standard error
+  --wait SECONDS    How long to wait for a store that another process has open; 10 if left out
+
+Exit statuses:
+  0 done, valid     1 invalid     2 revoked     3 unknown     4 refused input
+  5 bad command line     6 a file, a store, memory or the output failed     7 the verdicts differ
+  'x509check explain status 3' says what one means, 'x509check explain 4' the same of a fault.";
+
+const SESSION_HELP: &str = "Requests, a line each:
+  believe HEX                              A signature with this fingerprint is good from now on
+  forget                                   Forget what came by 'believe'
+  deliver ISSUER FILE                      Put a list or a response into the store
+  check TIME [purpose=OID] ANCHOR FILE..   The verdict on a path
+  prints [parts] KIND ISSUER FILE          What a verifier is asked; with parts, the texts too
+  quit                                     End the session
+ISSUER, ANCHOR and FILE are files, or 'hex:' and the octets.
+
+Example: echo quit | x509check session --store store";
+
+// A command with this name, with what it does and what stands behind its options in its help.
+fn described<'a>(alloc: Global, name: &'a str, about: &'a str, behind: &'a str) -> Command<'a>
     ensures app { app_of result ≡ new_app name.entry.now }
     ensures local { (fields_of result).has_globals ≡ false }
 {
-    Command::new(alloc, name).about(about).after_help(example)
+    Command::new(alloc, name).about(about).after_help(behind)
 }
 
 // FILE: it has to be there.
@@ -75,6 +95,17 @@ fn issuer<'a>(alloc: Global) -> Arg<'a>
         .help("The file of the issuer's certificate")
 }
 
+// --parts: it may be left out.
+fn parts<'a>(alloc: Global) -> Arg<'a>
+    ensures rule { rule_of result ≡ parts_rule }
+    ensures local { result.global ≡ false }
+{
+    Arg::new(alloc, "parts")
+        .long("parts")
+        .action(ArgAction::SetTrue)
+        .help("Also prints what is verified: algorithm, key, message and signature, in hexadecimal")
+}
+
 fn prints<'a>(alloc: Global) -> Result<Command<'a>, AllocError>
     ensures app { IfOk result (λ c. app_of c ≡ prints_app) }
     ensures local { IfOk result (λ c. (fields_of c).has_globals ≡ false) }
@@ -87,6 +118,7 @@ fn prints<'a>(alloc: Global) -> Result<Command<'a>, AllocError>
     )
     .arg(issuer(alloc))?
     .arg(kind(alloc))?
+    .arg(parts(alloc))?
     .arg(file(alloc))
 }
 
@@ -252,13 +284,15 @@ fn looking<'a>(alloc: Global) -> Result<Command<'a>, AllocError>
     ensures app { IfOk result (λ c. app_of c ≡ looking_app) }
     ensures local { IfOk result (λ c. (fields_of c).has_globals ≡ false) }
 {
-    Command::new(alloc, "x509check")
-        .about(
-            "Looks at DER values, certificates, revocation lists and OCSP responses, and validates paths of certificates",
-        )
-        .subcommand_required(true)
-        .subcommand(tree(alloc)?)?
-        .subcommand(show(alloc)?)
+    described(
+        alloc,
+        "x509check",
+        "Looks at DER values, certificates, revocation lists and OCSP responses, and validates paths of certificates",
+        PROGRAM_HELP,
+    )
+    .subcommand_required(true)
+    .subcommand(tree(alloc)?)?
+    .subcommand(show(alloc)?)
 }
 
 // The same, with those that make and take fingerprints.
@@ -334,7 +368,7 @@ fn session<'a>(alloc: Global) -> Result<Command<'a>, AllocError>
         alloc,
         "session",
         "Answers requests on standard input, a line each, over a store that stays open",
-        "Example: echo quit | x509check session --store store",
+        SESSION_HELP,
     )
     .arg(store(alloc))?
     .arg(known(alloc))

@@ -4,7 +4,7 @@ ghost use Rattle.std.specs.List.{All};
 ghost use Rattle.clap.specs.Words.{Text, first_of, found_of, kind_of, rows_of, subcommand_rows_of};
 ghost use Rattle.clap.specs.declared.error.kind.ErrorKind.TheVariants.{OutOfMemory};
 ghost use Rattle.cli_words.specs.declared.line.Flaw.TheVariants.{NoMemory, OtherKind};
-ghost use Rattle.cli_words.specs.CommandLine.{AreRefusedWith, HasFlaw, IsCheck, IsCompare, IsDeliver, IsExplain, IsFlaw, IsFlawOfQuestion, IsLine, IsLineOf, IsPlainWord, IsPrints, IsSession, IsShow, IsTree, LacksOneOf, Reads, kind_in_rows, kind_named, of_check, of_compare, of_deliver, of_file, of_prints, of_session};
+ghost use Rattle.cli_words.specs.CommandLine.{AreRefusedWith, HasFlaw, IsCheck, IsCompare, IsDeliver, IsExplain, IsFlaw, IsFlawOfQuestion, IsLine, IsLineOf, IsPlainWord, IsPrints, IsSession, IsShow, IsTree, LacksOneOf, Reads, flag_in, kind_in_rows, kind_named, of_check, of_compare, of_deliver, of_file, of_prints, of_session};
 
 use crate::app::program;
 use crate::question::{Question, asked};
@@ -41,6 +41,8 @@ pub enum Line<'a> {
     Prints {
         issuer: &'a str,
         kind: Kind,
+        /// Whether the texts that are verified are printed too.
+        with_parts: bool,
         file: &'a str,
     },
     /// Put the statement in the file into the store, if the key in the certificate in the issuer's file signed it, and a
@@ -83,6 +85,16 @@ pub(crate) fn text<'a>(matches: &ArgMatches<'a>, id: &str) -> Option<&'a str>
     ensures { option_map (λ s. s.now) result ≡ first_of id.now (rows_of (found_of matches.now)) }
 {
     matches.get_str(id)
+}
+
+// Whether the option of this id, which takes no value, was given.
+fn is_set(matches: &ArgMatches<'_>, id: &str) -> bool
+    ensures { result ≡ flag_in (rows_of (found_of matches.now)) id.now }
+{
+    match text(matches, id) {
+        Some("true") => true,
+        _ => false,
+    }
 }
 
 fn tree_line<'a>(matches: &ArgMatches<'a>) -> Option<Line<'a>>
@@ -134,7 +146,12 @@ fn prints_line<'a>(matches: &ArgMatches<'a>) -> Result<Line<'a>, Flaw>
     let (Some(issuer), Some(file)) = (text(matches, "issuer"), text(matches, "file")) else {
         return Err(Flaw::ArgumentMissing);
     };
-    Ok(Line::Prints { issuer, kind, file })
+    Ok(Line::Prints {
+        issuer,
+        kind,
+        with_parts: is_set(matches, "parts"),
+        file,
+    })
 }
 
 fn deliver_line<'a>(matches: &ArgMatches<'a>) -> Option<Line<'a>>

@@ -11,7 +11,7 @@ ghost use Rattle.store_sql.specs.Statements.{IsDurable};
 ghost use Rattle.cli.specs.Standing.{told_of};
 ghost use Rattle.test_program.specs.Shelves.{after_these, octets_under, statements_at};
 
-use cli::{Failure, Source, Stores};
+use cli::{Extent, Failure, Source, Stores};
 use sqlite::{Connection, FileStore, Files, Options};
 use sqlite_disk::{Fuse, Memory};
 use statements_facts::Facts;
@@ -220,7 +220,7 @@ impl Source for Shelf<'_> {
 
     ghost holds = { λ shelf. holding_in shelf.texts.items };
 
-    fn octets_of<'a>(&self, file: &'a str) -> Result<Vec<u8>, Failure<'a>> {
+    fn octets_of<'a>(&self, file: &'a str, _extent: Extent) -> Result<Vec<u8>, Failure<'a>> {
         match text_of(self.texts.as_slice(), file) {
             Some(octets) => Vec::from_slice(self.medium.alloc, octets).map_err(
                 |_| Failure::NoMemory,

@@ -78,7 +78,7 @@ fn a_failed_write_of_a_certificate_is_told(rt: HostRuntime) -> Result<(), Fail> 
         assert!(rt; is_told(text, LINES, has_ended), "after {left} writes");
 
         let mut writer = Output::failing(alloc, left);
-        let is_done = certificate_print_to(&read, key_info, &mut writer).is_ok();
+        let is_done = certificate_print_to(&read, key_info, false, &mut writer).is_ok();
         let text = writer.written.as_slice();
         assert!(rt; is_told(text, PRINT, is_done), "after {left} writes");
     }

@@ -11,6 +11,7 @@ use std::test::Fail;
 use walking::{octets_of, put, row_holds, run, walk, walk_rows, words_of};
 
 mod fingerprints;
+mod hints;
 mod lists;
 mod refused;
 mod responses;

@@ -1,6 +1,6 @@
 //! A keeper that answers as it was told, files that are not there, and sessions over both.
 
-use cli_failures::{Failure, Source};
+use cli_failures::{Extent, Failure, Source};
 use cli_keeping::{Keeper, KeeperFault, PathQuestion};
 use cli_serving::{End, serve};
 use cli_session::Believed;
@@ -53,7 +53,7 @@ impl Source for Nowhere {
 
     ghost holds = { λ _ _ _. ⊤ };
 
-    fn octets_of<'a>(&self, file: &'a str) -> Result<Vec<u8>, Failure<'a>> {
+    fn octets_of<'a>(&self, file: &'a str, _extent: Extent) -> Result<Vec<u8>, Failure<'a>> {
         Err(Failure::Unreadable { file })
     }
 }

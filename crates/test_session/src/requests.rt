@@ -84,6 +84,17 @@ fn reads_requests(rt: HostRuntime) -> Result<(), Fail> {
         prints
             == Request::Prints {
                 kind: Kind::Response,
+                with_parts: false,
+                issuer: "a",
+                file: "b"
+            }
+    );
+    let parts = request_of(alloc, b"prints parts crl a b")?;
+    assert!(rt;
+        parts
+            == Request::Prints {
+                kind: Kind::RevocationList,
+                with_parts: true,
                 issuer: "a",
                 file: "b"
             }

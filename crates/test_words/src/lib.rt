@@ -11,6 +11,8 @@ mod looking;
 #[cfg(test)]
 mod moments;
 #[cfg(test)]
+mod options;
+#[cfg(test)]
 mod purposes;
 #[cfg(test)]
 mod validating;

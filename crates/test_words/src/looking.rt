@@ -39,6 +39,11 @@ const ANSWERED: &[(&[&str], bool)] = &[
         true,
     ),
     (&["x509check", "prints", "a", "--issuer"], true),
+    (
+        &["x509check", "prints", "--issuer", "i", "--parts=yes", "a"],
+        true,
+    ),
+    (&["x509check", "show", "--parts", "a"], true),
     (&["x509check", "--version"], true),
     (&["x509check", "--help"], false),
     (&["x509check", "-h"], false),
@@ -52,6 +57,7 @@ fn prints<'a>(issuer: &'a str, file: &'a str) -> Line<'a> {
     Line::Prints {
         issuer,
         kind: Kind::Certificate,
+        with_parts: false,
         file,
     }
 }

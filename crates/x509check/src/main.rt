@@ -1,7 +1,7 @@
 //! `x509check`: looks at X.509 certificates and at what says that they are revoked.
 #![tactic(auto)]
 
-use cli::execute;
+use cli::start;
 use std::io::Write;
 use std::process::ExitCode;
 use std::{env, io};
@@ -33,6 +33,6 @@ fn run(rt: &HostRuntime) -> io::Result<u8> {
     let mut out = io::BufWriter::new(rt.alloc(), rt.stdout())?;
     let mut input = io::BufReader::new(rt.alloc(), rt.stdin())?;
     let (words, err) = (texts.as_slice(), &mut rt.stderr());
-    let status = execute(rt, rt.alloc(), words, &mut input, &mut out, err);
+    let status = start(rt, rt.alloc(), words, &mut input, &mut out, err);
     Ok(status)
 }

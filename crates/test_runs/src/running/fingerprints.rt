@@ -12,7 +12,7 @@ pub(crate) const ROOT: &str = "\
 1f232170559d";
 
 // `ee(T,R)`
-const LEAF: &str = "\
+pub(crate) const LEAF: &str = "\
 3081813056a003020102020105300406022a03300c310a30080603550403130152301e170d323530313031303030303030\
 5a170d3236303130313030303030305a300c310a30080603550403130154300a300406022a0303020054300406022a0303\
 210010ac851285f2074fd03ef685e5928a13e6f7d27118ae38a2526dc5c613b1da9c";
@@ -42,12 +42,60 @@ b532cd2704b43fd5132dd5f0f7ed30c09e4aaa0cb3ea3357dd140ba9ee7d4a4b certificate iss
 status 0
 ";
 
+// The same with what is verified: the algorithm and the signed part of the leaf, the root's key, and the signature.
+const PARTS: &str = "
+$ prints --parts --issuer prints_root.der prints_leaf.der
+5e93a427fe05c909221e49838e3521b357219976e9604e741ab17b004303fda5 certificate issuer algorithm=3004\
+06022a03 key=300a300406022a0303020052 message=3056a003020102020105300406022a03300c310a300806035504\
+03130152301e170d3235303130313030303030305a170d3236303130313030303030305a300c310a300806035504031301\
+54300a300406022a0303020054 signature=10ac851285f2074fd03ef685e5928a13e6f7d27118ae38a2526dc5c613b1d\
+a9c
+status 0
+$ prints --issuer prints_root.der --as cert --parts prints_leaf.der
+5e93a427fe05c909221e49838e3521b357219976e9604e741ab17b004303fda5 certificate issuer algorithm=3004\
+06022a03 key=300a300406022a0303020052 message=3056a003020102020105300406022a03300c310a300806035504\
+03130152301e170d3235303130313030303030305a170d3236303130313030303030305a300c310a300806035504031301\
+54300a300406022a0303020054 signature=10ac851285f2074fd03ef685e5928a13e6f7d27118ae38a2526dc5c613b1d\
+a9c
+status 0
+";
+
+// Files without an end.
+const ENDLESS: &str = "
+$ tree /dev/zero
+x509check: /dev/zero: refused 1 TagForm at 0
+status 4
+$ show --as crl /dev/zero
+x509check: /dev/zero: refused 1 TagForm at 0
+status 4
+$ prints --issuer prints_root.der /dev/zero
+x509check: /dev/zero: refused 1 TagForm at 0
+status 4
+$ check --store none --verdicts /dev/zero --at 20250601000000Z --anchor prints_root.der prints_leaf.der
+x509check: /dev/zero: line 1
+status 4
+$ check --store none --verdicts /dev/null --at 20250601000000Z --anchor /dev/zero prints_leaf.der
+x509check: /dev/zero: refused 1 TagForm at 0
+status 4
+$ check --store none --verdicts /dev/null --at 20250601000000Z --anchor prints_root.der /dev/zero
+x509check: /dev/zero: refused 1 TagForm at 0
+status 4
+";
+
+#[test]
+fn files_without_an_end_are_refused(rt: HostRuntime) -> Result<(), Fail> {
+    put(&rt, "prints_root.der", ROOT, "")?;
+    put(&rt, "prints_leaf.der", LEAF, "")?;
+    walk(&rt, ENDLESS)
+}
+
 #[test]
 fn a_certificate_has_one_line(rt: HostRuntime) -> Result<(), Fail> {
     put(&rt, "prints_root.der", ROOT, "")?;
     put(&rt, "prints_leaf.der", LEAF, "")?;
     put(&rt, "prints_other.der", OTHER, "")?;
-    walk(&rt, PRINTS)
+    walk(&rt, PRINTS)?;
+    walk(&rt, PARTS)
 }
 
 // The fingerprint at the front of what is printed of the leaf.

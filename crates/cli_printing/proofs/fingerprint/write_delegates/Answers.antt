@@ -23,8 +23,8 @@ loop-certificate-preserved g c =
     let certificate = seen_certificate c.in-Some.certificate in
     let number = c.loop-certificate.number + 1 in
     record {
-      text = was.text ++ both_lines key_info response number certificate;
-      whole = delegates_more key_info response number _ was.text certificate _ _ given.0 was.whole;
+      text = was.text ++ both_lines c.args.with_parts key_info response number certificate;
+      whole = delegates_more c.args.with_parts key_info response number _ was.text certificate _ _ given.0 was.whole;
       written = appends_both _ _ _ _ _ _ was.written c.in_ok-write_delegate.ensures refl;
       counted = (let less = given.1 in let counted = was.counted in omega (arith, less, counted));
     }

@@ -9,8 +9,8 @@ use Rattle.cli_printing.proofs.fingerprint.write_delegates.Given as goal
 abbrev pub invariant-loop-certificate : goal.invariant-loop-certificate
 invariant-loop-certificate g l = record {
   text : List ℕ;
-  whole : delegate_lines (seen_key_info l.fn.key_info) (seen_response l.fn.response) 1 (certificates_left l.fn.response.certs)
-      ≡ text ++ delegate_lines (seen_key_info l.fn.key_info) (seen_response l.fn.response) (l.number + 1) (certificates_left l.certs);
+  whole : delegate_lines l.fn.with_parts (seen_key_info l.fn.key_info) (seen_response l.fn.response) 1 (certificates_left l.fn.response.certs)
+      ≡ text ++ delegate_lines l.fn.with_parts (seen_key_info l.fn.key_info) (seen_response l.fn.response) (l.number + 1) (certificates_left l.certs);
   written : Appends (g.W.Write.contents l.fn.writer) (g.W.Write.contents l.writer) text;
   counted : l.number + length (certs_left l.certs) ≤ length (certs_left l.fn.response.certs);
 }

@@ -9,7 +9,7 @@ returns-clause-app c =
     ends_with_below _ _ _ _ _ c.subcommand-2.ensures
     (with_one_below _ _ _ _ _ c.in_ok-subcommand.ensures
     (ap app_of_fields c.subcommand_required.ensures
-    ∙ ap wanting_subcommand (ap app_of_fields c.about.ensures ∙ c.new.ensures.app))
+    ∙ ap wanting_subcommand c.described.ensures.app)
     c.in_ok-tree.ensures.app c.in_ok-tree.ensures.local)
     c.in_ok-show.ensures.app c.in_ok-show.ensures.local
 
@@ -17,6 +17,6 @@ pub returns-clause-local : goal.returns-clause-local
 returns-clause-local c =
     ends_local_above _ _ _ c.subcommand-2.ensures
     (still_local_above _ _ _ c.in_ok-subcommand.ensures
-    (described _ _ c.subcommand_required.ensures (described _ _ c.about.ensures c.new.ensures.local))
+    (described _ _ c.subcommand_required.ensures c.described.ensures.local)
     c.in_ok-tree.ensures.local)
     c.in_ok-show.ensures.local

@@ -1,0 +1,90 @@
+//! The machine on which a run takes place: its files, and its stores, for which a run waits if another process has them open.
+
+use crate::stores::Stores;
+use cli_failures::{Extent, Failure, Source};
+use cli_hints::is_in_use;
+use sqlite_std_file::File;
+use std::thread;
+use std::time::Duration;
+use store::Store;
+
+/// The system's files and stores. A store that another process has open is asked for again and again, for some seconds.
+#[derive(Clone, Copy)]
+pub struct Machine<'r> {
+    pub rt: &'r HostRuntime,
+    /// For how many seconds.
+    pub wait: u16,
+}
+
+// How often a second a store is asked for.
+const TRIES_A_SECOND: u32 = 20;
+
+const PAUSE: u64 = 50;
+
+// Whether no store was opened because another process has it open.
+fn is_kept_waiting(
+    rt: &HostRuntime,
+    path: &str,
+    opened: &Result<Store<File>, Failure<'_>>,
+) -> bool {
+    match opened {
+        Err(Failure::StoreFailed { number: 71 }) => is_in_use(rt, path),
+        _ => false,
+    }
+}
+
+impl Machine<'_> {
+    fn tries(&self) -> u32 {
+        self.wait as u32 * TRIES_A_SECOND
+    }
+
+    fn pause(&self) {
+        thread::sleep(self.rt, Duration::from_millis(PAUSE));
+    }
+}
+
+impl Source for Machine<'_> {
+    ghost use Rattle.std.specs.Prelude.{⊤};
+
+    ghost holds = { λ _ _ _. ⊤ };
+
+    fn octets_of<'a>(&self, file: &'a str, extent: Extent) -> Result<Vec<u8>, Failure<'a>> {
+        self.rt.octets_of(file, extent)
+    }
+}
+
+impl Stores<Store<File>> for Machine<'_> {
+    ghost use Rattle.std.specs.Prelude.{⊤};
+
+    ghost stands = { λ _ _ _. ⊤ };
+
+    ghost leaves = { λ _ _ _. ⊤ };
+
+    fn open_store<'a>(&self, path: &'a str) -> Result<Store<File>, Failure<'a>> {
+        let mut left = self.tries();
+        'tries: loop {
+            let opened = self.rt.open_store(path);
+            if left == 0 || !is_kept_waiting(self.rt, path, &opened) {
+                return opened;
+            }
+            left -= 1;
+            self.pause();
+        }
+    }
+
+    fn open_or_make_store<'a>(&self, path: &'a str) -> Result<Store<File>, Failure<'a>> {
+        let mut left = self.tries();
+        'tries: loop {
+            let opened = self.rt.open_or_make_store(path);
+            if left == 0 || !is_kept_waiting(self.rt, path, &opened) {
+                return opened;
+            }
+            left -= 1;
+            self.pause();
+        }
+    }
+
+    fn close_store(&self, path: &str, store: Store<File>) {
+        self.rt.close_store(path, store);
+    }
+}

@@ -1,0 +1,116 @@
+//! A run over the system's files, with what the words in front of the command ask of it.
+ghost use Rattle.std.specs.Prelude.{◌⊎◌};
+ghost use Rattle.cli.specs.Ended.{IsAnswering, IsFailing};
+
+use crate::execution::{answer_of_clap, finish, run};
+use crate::machine::Machine;
+use cli_failures::Failure;
+use cli_hints::{hint_after_delivery, hint_to};
+use cli_words::{Line, RunOptions, RunWords, command_of, run_options};
+use std::alloc::{AllocError, Global};
+use std::io::{Read, Write};
+
+const NO_MEMORY: u8 = 6;
+
+// The program's name and the words of the command.
+fn words_of<'a>(
+    alloc: Global,
+    name: &'a str,
+    command: &[&'a str],
+) -> Result<Vec<&'a str>, AllocError> {
+    let mut words = Vec::new(alloc);
+    words.push(name)?;
+    words.extend_from_slice(command)?;
+    Ok(words)
+}
+
+// What to do about the failure, behind the line that reports it; or what to know about a list that was delivered. Nothing tells that standard
+// error failed.
+fn give_hint<E: Write>(
+    rt: &HostRuntime,
+    line: &Line<'_>,
+    outcome: Result<u8, Failure<'_>>,
+    err: &mut E,
+) {
+    let _ = match (line, outcome) {
+        (_, Err(failure)) => hint_to(rt, line, &failure, err),
+        (Line::Deliver { file, .. }, Ok(_)) => hint_after_delivery(rt, file, err),
+        (_, Ok(_)) => Ok(()),
+    };
+}
+
+// The run of a line.
+fn run_line<I: Read, O: Write, E: Write>(
+    machine: &Machine<'_>,
+    alloc: Global,
+    hints: bool,
+    line: &Line<'_>,
+    input: &mut I,
+    out: &mut O,
+    err: &mut E,
+) -> u8
+    ensures { IsAnswering result ⊎ IsFailing result }
+{
+    let outcome = run(machine, alloc, line, input, out);
+    let status = finish(outcome, err).status;
+    if hints {
+        give_hint(machine.rt, line, outcome, err);
+    }
+    status
+}
+
+// The run of the words, which begin with the program's name.
+fn run_words<I: Read, O: Write, E: Write>(
+    rt: &HostRuntime,
+    alloc: Global,
+    options: RunOptions,
+    words: &[&str],
+    input: &mut I,
+    out: &mut O,
+    err: &mut E,
+) -> u8
+    ensures { IsAnswering result ⊎ IsFailing result }
+{
+    let machine = Machine {
+        rt,
+        wait: options.wait,
+    };
+    match command_of(alloc, words) {
+        Ok(line) => run_line(&machine, alloc, options.hints, &line, input, out, err),
+        Err(error) => answer_of_clap(&error, out, err).status,
+    }
+}
+
+/// Does what the words ask for, of which the first is the program's name, as `execute` does over the system's files. Behind the name may
+/// stand options for the whole run (`cli_words::run_options`): a store that another process has open is waited for, and with `--hints` a
+/// failure is followed by a line that says what to do.
+pub fn start<I: Read, O: Write, E: Write>(
+    rt: &HostRuntime,
+    alloc: Global,
+    words: &[&str],
+    input: &mut I,
+    out: &mut O,
+    err: &mut E,
+) -> u8
+    ensures { IsAnswering result ⊎ IsFailing result }
+{
+    let [name, behind @ ..] = words else {
+        return run_words(
+            rt,
+            alloc,
+            run_options(words).options,
+            words,
+            input,
+            out,
+            err,
+        );
+    };
+    let RunWords { options, words } = run_options(behind);
+    match words_of(alloc, name, words) {
+        Ok(command) => run_words(rt, alloc, options, command.as_slice(), input, out, err),
+        Err(_) => {
+            let _ = Failure::NoMemory.report(err);
+            NO_MEMORY
+        }
+    }
+}

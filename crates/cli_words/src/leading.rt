@@ -1,0 +1,83 @@
+//! What the words in front of the command ask of the whole run.
+ghost use Rattle.std.specs.Prelude.{◌≡◌, IfSome, false, map};
+ghost use Rattle.cli_words.specs.RunOptions.{BeginsWithNone, EndsWith};
+
+/// Options that stand in front of the command, as in `x509check --hints --wait 5 check ..`.
+#[derive(Clone, Copy, Debug, PartialEq, Eq)]
+pub struct RunOptions {
+    /// Whether a failure is followed by a second line on standard error, which says what to do.
+    pub hints: bool,
+    /// For how many seconds a store is waited for that another process has open.
+    pub wait: u16,
+}
+
+/// The options, and the words behind them.
+#[derive(Clone, Copy, Debug)]
+pub struct RunWords<'w, 'a> {
+    pub options: RunOptions,
+    pub words: &'w [&'a str],
+}
+
+const NO_HINTS: bool = false;
+
+const TEN_SECONDS: u16 = 10;
+
+// For how many seconds the words say to wait, and the words behind that.
+fn seconds_in<'w, 'a>(words: &'w [&'a str]) -> Option<(u16, &'w [&'a str])>
+    ensures { IfSome result (λ read. EndsWith words.now read.1.now) }
+{
+    let [seconds, rest @ ..] = words else {
+        return None;
+    };
+    match seconds.parse::<u16>() {
+        Ok(wait) => Some((wait, rest)),
+        Err(_) => None,
+    }
+}
+
+// The option that the words begin with is taken; words that begin with none stay.
+fn take_option<'w, 'a>(it: RunWords<'w, 'a>) -> RunWords<'w, 'a>
+    ensures rest { EndsWith it.entry.words.now result.words.now }
+    ensures none { BeginsWithNone (map (λ w. w.now) it.entry.words.now)
+        → (result.options ≡ it.entry.options) × (result.words.now ≡ it.entry.words.now) }
+{
+    let [first, rest @ ..] = it.words else {
+        return it;
+    };
+    match *first {
+        "--hints" => RunWords {
+            options: RunOptions {
+                hints: true,
+                wait: it.options.wait,
+            },
+            words: rest,
+        },
+        "--wait" => match seconds_in(rest) {
+            Some((wait, behind)) => RunWords {
+                options: RunOptions {
+                    hints: it.options.hints,
+                    wait,
+                },
+                words: behind,
+            },
+            None => it,
+        },
+        _ => it,
+    }
+}
+
+/// The options with which the words begin, and the words behind them, a command and what stands behind it. `--hints` and `--wait SECONDS` (0
+/// to 65535) stand in any order; without them there are no hints, and a store is waited for ten seconds. A word that is none of these
+/// stays, and so does a third.
+pub fn run_options<'w, 'a>(words: &'w [&'a str]) -> RunWords<'w, 'a>
+    ensures rest { EndsWith words.now result.words.now }
+    ensures none { BeginsWithNone (map (λ w. w.now) words.now)
+        → (result.options.hints ≡ false) × (result.options.wait ≡ 10)
+        × (result.words.now ≡ words.now) }
+{
+    let options = RunOptions {
+        hints: NO_HINTS,
+        wait: TEN_SECONDS,
+    };
+    take_option(take_option(RunWords { options, words }))
+}
