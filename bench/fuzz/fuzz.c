@@ -210,8 +210,8 @@ static const char *broken_by_validating(struct numbers *numbers, const uint8_t *
     answer = x509check_validate(at, length, NULL, 0, NULL, 0, 0, NULL, 0);
     if (memory.held != 0)
         return "memory is given back before a call returns";
-    if (answer.verdict > X509CHECK_REFUSED)
-        return "a verdict is 0 to 4";
+    if (answer.verdict == X509CHECK_NOT_FILLED || answer.verdict > X509CHECK_REFUSED)
+        return "a verdict is 1 to 5";
     run.verdicts[answer.verdict]++;
     if ((broken = broken_of_certificates(length, read, &answer)) != NULL)
         return broken;

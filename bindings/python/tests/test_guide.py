@@ -27,7 +27,7 @@ class Guide(unittest.TestCase):
         os.chdir(TOP)
         try:
             with contextlib.redirect_stdout(printed):
-                exec(compile(block_with(part, "import datetime"), "GUIDE.md", "exec"), {})
+                exec(compile(block_with(part, "import x509check"), "GUIDE.md", "exec"), {})
         finally:
             os.chdir(folder)
         for line in printed.getvalue().splitlines():
@@ -37,7 +37,7 @@ class Guide(unittest.TestCase):
     def test_the_code_for_rust_is_that_of_its_test(self):
         with open(os.path.join(TOP, "bindings", "rust", "src", "lib.rs"), encoding="utf-8") as file:
             shown = "\n".join(line[4:] for line in file.read().splitlines() if line.startswith("//! "))
-        self.assertIn(block_with(part_of_guide("From Rust"), "let question"), shown)
+        self.assertIn(block_with(part_of_guide("From Rust"), "let query"), shown)
 
 
 if __name__ == "__main__":

@@ -1,44 +1,18 @@
-"""Tests over examples/authority, whose signatures OpenSSL found good (testdata/good.txt holds what examples/verdicts printed)."""
+"""Certificates, verdicts and questions over examples/authority."""
 
-import base64
-import dataclasses
 import datetime
-import importlib.util
 import os
-import re
-import subprocess
-import tempfile
 import threading
 import unittest
 
 import x509check
-from x509check import Certificate, Fault, Reason, Result, RevocationReason, Text, Verdict
+from x509check import Certificate, Fault, Judgement, Reason, Result, RevocationReason, Text, Verdict
 
-HERE = os.path.dirname(os.path.realpath(__file__))
-AUTHORITY = os.path.join(HERE, "..", "..", "..", "examples", "authority")
-GOOD = os.path.join(HERE, "..", "..", "testdata", "good.txt")
+from .authority import (
+    DECEMBER, GOOD_PRINTS, LEAF, MIDDLE, MIDDLE_LIST, RESPONSE, REVOKING_LIST, ROOT, ROOT_LIST, octets_of,
+)
+
 SERVER_AUTH, CLIENT_AUTH = "1.3.6.1.5.5.7.3.1", "1.3.6.1.5.5.7.3.2"
-# 2026-12-01T00:00:00Z
-DECEMBER = datetime.datetime(2026, 12, 1, tzinfo=datetime.timezone.utc)
-
-
-def octets_of(name):
-    """The DER in a file of the authority."""
-    with open(os.path.join(AUTHORITY, name), "rb") as file:
-        octets = file.read()
-    pem = re.search(rb"-----BEGIN [^\n]*-----(.*?)-----END", octets, re.S)
-    return base64.b64decode(pem[1]) if pem else octets
-
-
-def prints_of():
-    with open(GOOD, encoding="ascii") as file:
-        return {name: bytes.fromhex(print) for print, name in (line.rstrip().split(" ", 1) for line in file)}
-
-
-ROOT, MIDDLE, LEAF = (octets_of(f"{name}.pem") for name in ("root", "middle", "leaf"))
-ROOT_LIST, MIDDLE_LIST, REVOKING_LIST = (octets_of(f"{name}.crl") for name in ("root", "middle", "middle2"))
-RESPONSE = octets_of("leaf.ocsp")
-GOOD_PRINTS = prints_of()
 
 
 def verdict_on(statements, at=DECEMBER, chain=(MIDDLE, LEAF), **words):
@@ -177,75 +151,40 @@ class Questions(unittest.TestCase):
 
 
 class Judges(unittest.TestCase):
-    """Each judge finds the signatures of the authority good, and forged ones not."""
-
-    JUDGES = [x509check.by_openssl] + ([x509check.by_cryptography] if importlib.util.find_spec("cryptography") else [])
-
-    def test_signatures_that_openssl_made(self):
-        asked = x509check.questions(ROOT, [MIDDLE, LEAF], [ROOT_LIST, MIDDLE_LIST, RESPONSE])
-        for judge in self.JUDGES:
-            with self.subTest(judge.__name__):
-                self.assertEqual([judge(one) for one in asked], [True] * 6)
-                self.assertEqual([judge(dataclasses.replace(one, key=asked[1].key)) for one in asked[:2]], [False, True])
-                self.assertFalse(judge(dataclasses.replace(asked[0], message=asked[1].message)))
-                self.assertFalse(judge(dataclasses.replace(asked[0], signature=b"")))
-                self.assertFalse(judge(dataclasses.replace(asked[0], algorithm=b"\x30\x00")))
-
-    def test_algorithms(self):
-        """A self-signed certificate of each kind, by OpenSSL."""
-        rsa, pss = ["rsa", "-pkeyopt", "rsa_keygen_bits:2048"], ["-sigopt", "rsa_padding_mode:pss", "-sigopt", "rsa_pss_saltlen:digest"]
-        rows = [
-            (["ec", "-pkeyopt", "ec_paramgen_curve:P-384"], ["-sha384"]), (["ec", "-pkeyopt", "ec_paramgen_curve:P-521"], ["-sha512"]),
-            (["ed25519"], []), (["ed448"], []), (rsa, ["-sha256"]), (rsa, ["-sha384"]), (rsa, ["-sha512"]), (rsa, ["-sha256", *pss]),
-            (rsa, ["-sha512", *pss]),
-        ]
-        for key, words in rows:
-            with self.subTest(" ".join(key[:1] + words)), tempfile.TemporaryDirectory() as folder:
-                path = os.path.join(folder, "root.pem")
-                subprocess.run(["openssl", "req", "-x509", "-newkey", *key, "-nodes", *words, "-subj", "/CN=Root", "-keyout", os.devnull,
-                                "-out", path], check=True, stderr=subprocess.DEVNULL)
-                root, = x509check.load(path)
-                asked, = x509check.questions(root, [root], [])
-                for judge in self.JUDGES:
-                    self.assertTrue(judge(asked), judge.__name__)
-                    self.assertFalse(judge(dataclasses.replace(asked, message=asked.message + b"\0")), judge.__name__)
-
-    def test_a_verdict_of_each_judge(self):
-        for judge in (None, *self.JUDGES):
-            result = x509check.validate(ROOT, [MIDDLE, LEAF], [ROOT_LIST, MIDDLE_LIST], DECEMBER, SERVER_AUTH, judge)
-            self.assertEqual(result, Result(Verdict.VALID))
+    def test_a_verdict_without_a_judge_of_ones_own(self):
+        result = x509check.validate(ROOT, [MIDDLE, LEAF], [ROOT_LIST, MIDDLE_LIST], DECEMBER, SERVER_AUTH)
+        self.assertEqual(result, Result(Verdict.VALID))
+        self.assertEqual([judgement for _, judgement in result.judgements], [Judgement.GOOD] * 4)
 
     def test_a_judge_of_ones_own_is_asked_each_question_once(self):
         asked = []
         refuses = x509check.validate(ROOT, [MIDDLE, LEAF], [ROOT_LIST] * 3, DECEMBER, verify=lambda one: asked.append(one) is not None)
         self.assertEqual(refuses, Result(Verdict.INVALID, 1, Reason.SIGNATURE))
         self.assertEqual(len(asked), 3)
+        self.assertEqual([question for question, _ in refuses.judgements], asked)
         self.assertEqual(x509check.validate(ROOT, [MIDDLE, LEAF], [], DECEMBER, verify=lambda one: True), Result(Verdict.UNKNOWN, 1))
         with self.assertRaises(ValueError):
             x509check.validate(ROOT, [MIDDLE], [], DECEMBER, verify=lambda one: True, fingerprints=[])
 
 
-class Files(unittest.TestCase):
-    def test_pem_and_der_and_several(self):
-        self.assertEqual(x509check.load(os.path.join(AUTHORITY, "leaf.pem")), [LEAF])
-        self.assertEqual(x509check.load(os.path.join(AUTHORITY, "leaf.ocsp")), [RESPONSE])
-        self.assertEqual(x509check.load(MIDDLE + LEAF), [MIDDLE, LEAF])
-        pem = b"".join(b"-----BEGIN X-----\n!!\n-----END X-----\n-----BEGIN CERTIFICATE-----\n" + base64.encodebytes(it)
-                       + b"-----END CERTIFICATE-----\n" for it in (LEAF, MIDDLE))
-        self.assertEqual(x509check.load(pem), [LEAF, MIDDLE])
-        for octets in (b"", LEAF[:-1], b"text"):
-            with self.subTest(octets[:4]), self.assertRaises(Fault):
-                x509check.load(octets)
-        with self.assertRaises(ValueError):
-            x509check.load(b"-----BEGIN CERTIFICATE-----\n!\n-----END CERTIFICATE-----\n")
-
+class Paths(unittest.TestCase):
     def test_a_path_is_put_in_order(self):
         other = octets_of(os.path.join("..", "issuer.pem"))
-        for chain in ([LEAF, MIDDLE], [LEAF, ROOT, other, MIDDLE]):
-            self.assertEqual([one.octets for one in x509check.path_to(ROOT, chain)], [MIDDLE, LEAF])
-        for chain in ([], [ROOT], [LEAF], [LEAF, other]):
-            with self.subTest(len(chain)), self.assertRaises(x509check.NoPath):
-                x509check.path_to(ROOT, chain)
+        for others in ([MIDDLE], [LEAF, ROOT, other, MIDDLE], iter([MIDDLE, MIDDLE])):
+            self.assertEqual([one.octets for one in x509check.path_to(ROOT, LEAF, others)], [MIDDLE, LEAF])
+        self.assertEqual([one.octets for one in x509check.path_to(ROOT, MIDDLE, [LEAF])], [MIDDLE])
+        for target, others in ((ROOT, []), (LEAF, []), (LEAF, [other]), (other, [LEAF, MIDDLE])):
+            with self.subTest(len(others)), self.assertRaises(x509check.NoPath):
+                x509check.path_to(ROOT, target, others)
+
+    def test_the_target_is_one_certificate(self):
+        for target in ([LEAF, MIDDLE], [], None):
+            with self.subTest(target is None), self.assertRaises(TypeError):
+                x509check.path_to(ROOT, target, [MIDDLE])
+        with self.assertRaises(TypeError):
+            x509check.path_to(ROOT, LEAF, MIDDLE)
+        with self.assertRaises(Fault):
+            x509check.path_to(ROOT, LEAF, [ROOT_LIST, MIDDLE])
 
 
 class Refusals(unittest.TestCase):

@@ -1,26 +1,32 @@
 """X.509 certificates, and whether a path of them may be believed at a moment (RFC 5280; RFC 6960).
 
-The work is done by the library for C of x509check, whose code is proved. This module calls it by ctypes; signatures are judged by a function
-of yours, by the package cryptography, or by OpenSSL's command line. It keeps no state, and any number of threads may call.
+The work is done by the library for C of x509check, whose code is proved. This module calls it by ctypes; signatures are judged by
+`x509check.signatures`, or by a function of yours. It keeps no state, and any number of threads may call.
 
     anchor, = x509check.load("root.pem")
-    chain = x509check.path_to(anchor, x509check.load("chain.pem"))
-    result = x509check.validate(anchor, chain, x509check.load("lists.pem"), at=moment)
-    if result.verdict is x509check.Verdict.VALID: ..
+    leaf, = x509check.load("leaf.pem")
+    chain = x509check.path_to(anchor, leaf, x509check.load("others.pem"))
+    result = x509check.validate(anchor, chain, x509check.load("lists.pem"), "now", "serverAuth", target=leaf)
+    result.require_valid()
+    print(result.target)
 
-Octets are DER. What cannot be read raises a Fault.
+What cannot be read is an error: NotLoaded for a file, and a Fault for a certificate, a list or a response.
 """
 
+from ._arguments import PURPOSES
 from ._certificates import Certificate, Extensions, check, fingerprint
 from ._faults import FAULT_NAMES, Fault, Text
 from ._files import NoPath, load, path_to
 from ._library import LibraryMissing
+from ._names import Identity
+from ._pem import Kind, Loaded, NotLoaded
+from ._program import ProgramMissing, explain
 from ._questions import Question, questions
-from ._signatures import JudgeMissing, by_cryptography, by_openssl, judge
-from ._verdicts import Reason, Result, RevocationReason, Verdict, validate
+from ._verdicts import NotValid, Reason, Result, RevocationReason, Verdict, validate
+from .signatures import Judgement, JudgeMissing, Opinion, Policy, judge, judge_all, opinions
 
 __all__ = [
-    "Certificate", "Extensions", "Fault", "FAULT_NAMES", "JudgeMissing", "LibraryMissing", "NoPath", "Question", "Reason", "Result",
-    "RevocationReason", "Text", "Verdict", "by_cryptography", "by_openssl", "check", "fingerprint", "judge", "load", "path_to", "questions",
-    "validate",
+    "Certificate", "Extensions", "Fault", "FAULT_NAMES", "Identity", "JudgeMissing", "Judgement", "Kind", "LibraryMissing", "Loaded", "NoPath",
+    "NotLoaded", "NotValid", "Opinion", "Policy", "ProgramMissing", "PURPOSES", "Question", "Reason", "Result", "RevocationReason", "Text",
+    "Verdict", "check", "explain", "fingerprint", "judge", "judge_all", "load", "opinions", "path_to", "questions", "validate",
 ]

@@ -3,10 +3,14 @@
 import ctypes
 import dataclasses
 import datetime
+import hashlib
 from typing import Optional, Tuple
 
+from ._arguments import Value, der_of, octets_of
 from ._faults import refusal
 from ._library import PARTS, ExtensionFields, library
+from ._names import Identity, name_text
+from ._pem import Encoded, Loaded
 
 _EPOCH = datetime.datetime(1970, 1, 1, tzinfo=datetime.timezone.utc)
 # The bits of keyUsage (RFC 5280, 4.2.1.3), from bit 0 on.
@@ -16,19 +20,28 @@ KEY_USAGES = (
 )
 
 
-def check(octets: bytes) -> None:
+def origin_of(one: Value) -> Optional[Loaded]:
+    """Where a value came from, if it was loaded."""
+    return one if isinstance(one, Loaded) else None
+
+
+def check_octets(octets: bytes, origin: Optional[Loaded] = None) -> None:
     """Raises a Fault if the octets are not the DER encoding of one value."""
-    octets = bytes(octets)
     answer = library().x509check_check(octets, len(octets))
     if answer.fault:
-        raise refusal(answer.fault, answer.offset)
+        raise refusal(answer.fault, answer.offset, origin=origin)
+
+
+def check(value: Value) -> None:
+    """Raises a Fault if a value is not the DER encoding of one value."""
+    check_octets(der_of(value), origin_of(value))
 
 
 def fingerprint(algorithm: bytes, key: bytes, message: bytes, signature: bytes) -> bytes:
     """The fingerprint of a signature, 32 octets: of its algorithm identifier and of the subjectPublicKeyInfo of the key, each the whole
     encoding, of the message that was signed, and of the octets of the signature."""
     written = ctypes.create_string_buffer(32)
-    texts = [bytes(text) for text in (algorithm, key, message, signature)]
+    texts = [octets_of(text, what) for text, what in zip((algorithm, key, message, signature), ("algorithm", "key", "message", "signature"))]
     library().x509check_fingerprint(*(argument for text in texts for argument in (text, len(text))), written)
     return written.raw
 
@@ -75,7 +88,7 @@ def _moment(seconds: int) -> Optional[datetime.datetime]:
 
 
 @dataclasses.dataclass(frozen=True)
-class Certificate:
+class Certificate(Encoded):
     """A certificate that was read. No signature is judged and no validity: one that is read is not one to be trusted.
 
     `serial` and `key` are contents; the others are whole encodings, and `signature` the octets of the signature.
@@ -97,12 +110,12 @@ class Certificate:
     extensions: Extensions
 
     @classmethod
-    def from_der(cls, octets: bytes) -> "Certificate":
-        """The certificate that the octets are. Raises a Fault."""
-        octets = bytes(octets)
+    def from_der(cls, value: Value) -> "Certificate":
+        """The certificate that a value is: octets, what was loaded, or an object of the package cryptography. Raises a Fault."""
+        octets = der_of(value)
         answer = library().x509check_read_certificate(octets, len(octets))
         if answer.fault:
-            raise refusal(answer.fault, answer.offset, answer.der_fault)
+            raise refusal(answer.fault, answer.offset, answer.der_fault, origin=origin_of(value))
         fields = answer.fields
         return cls(
             octets=octets,
@@ -113,6 +126,9 @@ class Certificate:
             **{name: getattr(fields, name).of(octets) for name in PARTS},
         )
 
+    def __bytes__(self) -> bytes:
+        return self.octets
+
     @property
     def begins(self) -> Optional[datetime.datetime]:
         """not_before, if datetime has it."""
@@ -122,6 +138,11 @@ class Certificate:
     def ends(self) -> Optional[datetime.datetime]:
         """not_after, if datetime has it."""
         return _moment(self.not_after)
+
+    @property
+    def identity(self) -> Identity:
+        """Which certificate it is: subject, serial number and SHA-256."""
+        return Identity(name_text(self.subject), self.serial.hex(), hashlib.sha256(self.octets).hexdigest())
 
     def fingerprint_under(self, issuer: "Certificate") -> bytes:
         """The fingerprint of its signature, as one by the issuer's key."""

@@ -1,7 +1,9 @@
 """Why octets are refused."""
 
 import enum
-from typing import Optional
+from typing import Optional, Tuple
+
+from ._pem import Loaded
 
 _RANGES = {
     1: "TagForm LengthForm TooLong Truncated TooDeep Content Trailing",
@@ -30,16 +32,22 @@ class Fault(ValueError):
     """Octets that are refused: the first fault, and where it is.
 
     `offset` counts from the first octet of the refused value. If the octets are no DER, `der` is the number of the rule that is broken.
-    Of a question, `text` tells what is refused, and `index` which of them: of the certificates the anchor has 0.
+    Of a question, `text` tells what is refused, and `index` which of them: of the certificates the anchor has 0. `origin` is the value
+    that was loaded, if it was.
     """
 
-    def __init__(self, number: int, offset: int, der: int = 0, text: Optional[Text] = None, index: Optional[int] = None):
+    def __init__(self, number: int, offset: int, der: Optional[int] = 0, text: Optional[Text] = None, index: Optional[int] = None,
+                 origin: Optional[Loaded] = None):
         self.number = number
         self.offset = offset
         self.der = der or None
         self.text = text
         self.index = index
+        self.origin = origin
         super().__init__(self._line())
+
+    def __reduce__(self) -> Tuple[object, ...]:
+        return type(self), (self.number, self.offset, self.der, self.text, self.index, self.origin)
 
     @property
     def name(self) -> str:
@@ -47,14 +55,15 @@ class Fault(ValueError):
 
     @property
     def der_name(self) -> Optional[str]:
-        return FAULT_NAMES[self.der] if self.der else None
+        return FAULT_NAMES.get(self.der, "Unknown") if self.der else None
 
     def _line(self) -> str:
         where = f"{self.text.name.lower()}[{self.index}]: " if self.text and self.index is not None else ""
         der = f" ({self.der} {self.der_name})" if self.der else ""
-        return f"{where}{self.number} {self.name}{der} at {self.offset}"
+        return f"{where if self.origin is None else f'{self.origin}: '}{self.number} {self.name}{der} at {self.offset}"
 
 
-def refusal(number: int, offset: int, der: int = 0, text: Optional[Text] = None, index: Optional[int] = None) -> Exception:
+def refusal(number: int, offset: int, der: int = 0, text: Optional[Text] = None, index: Optional[int] = None,
+            origin: Optional[Loaded] = None) -> Exception:
     """What is raised for a fault: want of memory is a MemoryError."""
-    return MemoryError("x509check was refused memory") if number == MEMORY else Fault(number, offset, der, text, index)
+    return MemoryError("x509check was refused memory") if number == MEMORY else Fault(number, offset, der, text, index, origin)

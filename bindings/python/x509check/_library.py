@@ -7,11 +7,18 @@ import os
 _HERE = os.path.dirname(os.path.realpath(__file__))
 _NAME = "libx509check.so"
 # Where `make bindings` puts it in the repository, and `make install` beside share, from this folder.
-_PLACES = (os.path.join(_HERE, "..", "..", "out", _NAME), os.path.join(_HERE, "..", "..", "..", "..", "lib", _NAME))
+_PLACES = (os.path.join(_HERE, "..", "..", "out", _NAME), os.path.join(_HERE, "..", "..", "..", "..", "lib", "x509check", _NAME))
+
+
+# What the numbers of a verdict mean (x509check.h).
+VERDICT_NUMBERS = {1: "valid", 2: "invalid", 3: "revoked", 4: "unknown", 5: "refused"}
+REFUSED = next(number for number, word in VERDICT_NUMBERS.items() if word == "refused")
+VERDICT_WORDS = {number: word for number, word in VERDICT_NUMBERS.items() if number != REFUSED}
+_TRUNCATED, _DER_OF_CERTIFICATE = 4, 21
 
 
 class LibraryMissing(ImportError):
-    """The shared object is at none of the places where it is looked for."""
+    """The shared object is at none of the places where it is looked for, or it is not of this version."""
 
 
 class Part(ctypes.Structure):
@@ -109,4 +116,12 @@ def library() -> ctypes.CDLL:
     ):
         call = getattr(opened, name)
         call.argtypes, call.restype = takes, answers
+    _check_numbers(opened)
     return opened
+
+
+def _check_numbers(opened: ctypes.CDLL) -> None:
+    """Whether the shared object answers in the numbers that stand here: one of another version could say by 1 what is another word here."""
+    answer = opened.x509check_validate(b"", 0, b"", 0, b"", 0, 0, b"", 0)
+    if (answer.verdict, answer.text, answer.fault, answer.der_fault) != (REFUSED, 1, _DER_OF_CERTIFICATE, _TRUNCATED):
+        raise LibraryMissing("the shared object is of another version than this module; build it by `make bindings`")

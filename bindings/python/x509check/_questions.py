@@ -1,11 +1,11 @@
 """What a judge of signatures may be asked (RFC 5280, 6; RFC 6960, 3.2)."""
 
 import dataclasses
-from typing import Iterable, List, Union
+from typing import Iterable, List
 
-from ._certificates import Certificate
+from ._arguments import Value
 from ._library import AskedAnswer, Place, QuestionFields, library
-from ._rows import Octets, Rows
+from ._rows import Rows
 
 _ROOM = 64
 
@@ -44,7 +44,7 @@ def ask(rows: Rows) -> List[Question]:
             for it in written[:answer.count]]
 
 
-def questions(anchor: Union[Certificate, Octets], chain: Iterable[Union[Certificate, Octets]], statements: Iterable[Octets]) -> List[Question]:
+def questions(anchor: Value, chain: Iterable[Value], statements: Iterable[Value]) -> List[Question]:
     """What a judge of signatures may be asked for the verdict on a path by statements, at whatever moment and for whatever purpose: about
     the certificates of the chain, in order, and then about each statement. One question may be there twice.
 

@@ -1,27 +1,35 @@
 """Verdicts on paths (RFC 5280, 6; RFC 6960, 3.2)."""
 
 import dataclasses
-import datetime
 import enum
-from typing import Iterable, List, Optional, Union
+import inspect
+from typing import Callable, Iterable, List, Optional, Sequence, Tuple, Union
 
+from ._arguments import Moment, Value, der_of, listed, octets_of, purpose_of, seconds_of
 from ._certificates import Certificate
-from ._library import library
-from ._questions import ask
-from ._rows import Octets, Rows
-from ._signatures import Judge, judge
+from ._library import REFUSED, VERDICT_WORDS, VerdictAnswer, library
+from ._names import Identity
+from ._questions import Question, ask
+from ._rows import Ignored, Rows
+from .signatures import Judgement, judge_all
 
-_REFUSED = 4
-_EPOCH = datetime.datetime(1970, 1, 1, tzinfo=datetime.timezone.utc)
+# A path has at most so many certificates.
+_MOST = 128
+Judge = Callable[[Question], Union[bool, Judgement]]
+Judged = Tuple[Question, Judgement]
 
-class Verdict(enum.IntEnum):
-    """What is said of a path."""
 
-    VALID = 0
-    INVALID = 1
-    REVOKED = 2
-    UNKNOWN = 3
+class Verdict(enum.Enum):
+    """What is said of a path, in the word that the program prints. VALID alone is true."""
+
+    VALID = "valid"
+    INVALID = "invalid"
+    REVOKED = "revoked"
+    UNKNOWN = "unknown"
     """It meets all conditions, none is revoked, and of some certificate no current statement speaks."""
+
+    def __bool__(self) -> bool:
+        return self is Verdict.VALID
 
 
 class Reason(enum.IntEnum):
@@ -60,87 +68,167 @@ class RevocationReason(enum.IntEnum):
     AA_COMPROMISE = 10
 
 
+class NotValid(ValueError):
+    """A path that is not valid; `result` says what it is."""
+
+    def __init__(self, result: "Result"):
+        self.result = result
+        super().__init__(str(result))
+
+    def __reduce__(self) -> Tuple[object, ...]:
+        return type(self), (self.result,)
+
+
+def _in_words(name: str) -> str:
+    return name.lower().replace("_", " ")
+
+
 @dataclasses.dataclass(frozen=True)
 class Result:
-    """The verdict, and of one that is not VALID the certificate that decides: the first of the chain has 1, and 0 is the path itself."""
+    """The verdict on a path, and whom it is about. A result is true if its verdict is VALID.
+
+    Two results are equal if verdict, certificate and reason are, whomever they are about.
+    """
 
     verdict: Verdict
     certificate: Optional[int] = None
+    """Of a verdict that is not VALID, which certificate decides: the first of the chain has 1, and 0 is the path itself."""
     reason: Union[Reason, RevocationReason, None] = None
+    target: Optional[Identity] = dataclasses.field(default=None, compare=False)
+    """The certificate in question, the last of the chain. A path without certificates, or with more than 128, has none."""
+    decides: Optional[Identity] = dataclasses.field(default=None, compare=False)
+    """The certificate that decides, if `certificate` is not 0."""
+    judgements: Tuple[Judged, ...] = dataclasses.field(default=(), compare=False, repr=False)
+    """What the judge said of each question that was asked."""
+    ignored: Tuple[Ignored, ...] = dataclasses.field(default=(), compare=False)
+    """The statements that could not be read and were left out (`ignore_unreadable`)."""
+
+    def __bool__(self) -> bool:
+        return bool(self.verdict)
+
+    def __str__(self) -> str:
+        reason = "" if self.reason is None else f" ({_in_words(self.reason.name)})"
+        about = "the path" if self.target is None else str(self.target)
+        by = "" if self.certificate is None else f", by certificate {self.certificate}: {self.decides}" if self.decides else ", by the path itself"
+        return f"{self.verdict.value}{reason}: {about}{by}"
+
+    def require_valid(self) -> "Result":
+        """The result itself; raises NotValid unless the verdict is VALID."""
+        if self.verdict is not Verdict.VALID:
+            raise NotValid(self)
+        return self
 
 
-def _oid(text: str) -> bytes:
-    """The contents of an OBJECT IDENTIFIER of this dotted form (X.690, 8.19)."""
-    arcs = [int(arc) if arc.isascii() and arc.isdigit() else -1 for arc in text.split(".")]
-    if len(arcs) < 2 or min(arcs) < 0 or arcs[0] > 2 or arcs[0] < 2 and arcs[1] > 39:
-        raise ValueError(f"{text!r} is no object identifier")
-    octets = bytearray()
-    for arc in (arcs[0] * 40 + arcs[1], *arcs[2:]):
-        groups = [arc & 0x7F]
-        while arc := arc >> 7:
-            groups.append(arc & 0x7F | 0x80)
-        octets += bytes(reversed(groups))
-    return bytes(octets)
-
-
-def _seconds(at: Union[datetime.datetime, int]) -> int:
-    """The moment in seconds from 1970. A datetime has to say its zone."""
-    if isinstance(at, datetime.datetime):
-        if at.tzinfo is None:
-            raise ValueError("the moment has no time zone")
-        at = (at - _EPOCH) // datetime.timedelta(seconds=1)
-    if not -2**63 <= at < 2**63:
-        raise ValueError("the moment is out of range")
-    return at
-
-
-def _prints(fingerprints: Iterable[Octets]) -> bytes:
-    values = [bytes(one) for one in fingerprints]
+def _prints(fingerprints: Iterable[Value]) -> bytes:
+    values = [octets_of(one, "fingerprint") for one in fingerprints]
     for index, value in enumerate(values):
         if len(value) != 32:
             raise ValueError(f"fingerprint {index} has {len(value)} octets and not 32")
     return b"".join(values)
 
 
-def _good(rows: Rows, verify: Judge) -> List[bytes]:
-    """The fingerprints of the good signatures. Each question is asked once."""
-    asked = {question.fingerprint: question for question in ask(rows)}
-    return [print for print, question in asked.items() if verify(question)]
+def _judgement(answer: object) -> Judgement:
+    """The answer of a judge. What is neither yes nor no is a mistake, and never counts as either."""
+    if isinstance(answer, Judgement):
+        return answer
+    if answer is True or answer is False:
+        return Judgement.GOOD if answer else Judgement.WRONG
+    if inspect.iscoroutine(answer):
+        answer.close()  # as nobody awaits it
+    raise TypeError(f"a judge answers True, False or a Judgement, not {type(answer).__name__}")
+
+
+def _judged(questions: Sequence[Question], verify: Optional[Judge]) -> Tuple[Judged, ...]:
+    """What the judge says of each question."""
+    if verify is not None:
+        return tuple((question, _judgement(verify(question))) for question in questions)
+    judgements = judge_all(questions)
+    if len(judgements) != len(questions):
+        raise RuntimeError(f"{len(judgements)} judgements for {len(questions)} questions")
+    return tuple((question, _judgement(judgement)) for question, judgement in zip(questions, judgements))
+
+
+def _different(questions: List[Question]) -> List[Question]:
+    """Each question once."""
+    return list({question.fingerprint: question for question in questions}.values())
+
+
+def _identity(octets: bytes) -> Identity:
+    return Certificate.from_der(octets).identity
+
+
+def _check_target(rows: Rows, target: Optional[Value]) -> None:
+    """Raises ValueError if the last certificate of the path is not the one that the caller names."""
+    path = rows.certificates[1:]
+    if target is None or len(path) > _MOST:
+        return
+    named = der_of(target, "target")
+    if path[-1:] != [named]:
+        there = f"that is {_identity(path[-1])}" if path else "the chain is empty"
+        raise ValueError(f"the target is not the last certificate of the chain: it is {_identity(named)}; {there}")
+
+
+def _result(answer: VerdictAnswer, rows: Rows) -> Result:
+    """The verdict of an answer, with its numbers in words. A number that has none raises."""
+    if answer.verdict not in VERDICT_WORDS:
+        raise RuntimeError(f"the library for C answered {answer.verdict}, which is no verdict")
+    verdict = Verdict(VERDICT_WORDS[answer.verdict])
+    if verdict is Verdict.VALID:
+        return Result(verdict)
+    reason: Union[Reason, RevocationReason, None] = None
+    if verdict is not Verdict.UNKNOWN:
+        reason = Reason(answer.reason) if verdict is Verdict.INVALID else RevocationReason(answer.reason)
+    decides = _identity(rows.certificates[answer.certificate]) if answer.certificate else None
+    return Result(verdict, answer.certificate, reason, decides=decides)
 
 
 def validate(
-    anchor: Union[Certificate, Octets],
-    chain: Iterable[Union[Certificate, Octets]],
-    statements: Iterable[Octets],
-    at: Union[datetime.datetime, int],
+    anchor: Value,
+    chain: Iterable[Value],
+    statements: Iterable[Value],
+    at: Moment,
     purpose: Optional[str] = None,
     verify: Optional[Judge] = None,
     *,
-    fingerprints: Optional[Iterable[Octets]] = None,
+    fingerprints: Optional[Iterable[Value]] = None,
+    target: Optional[Value] = None,
+    ignore_unreadable: bool = False,
 ) -> Result:
     """The verdict on a path by statements at hand, without a store.
 
-    Of the anchor the name and the key alone are used. The chain goes from the anchor's side to the certificate in question. Statements
-    are lists (CRLs) and OCSP responses in any order; one that no issuer of the path signed changes nothing. The purpose is an object
-    identifier in dotted form.
+    Of the anchor the name and the key alone are used. The chain goes from the anchor's side to the certificate in question, which is the
+    last; if a target is given, it has to be that one. `path_to` puts certificates in this order. Statements are lists (CRLs) and OCSP
+    responses in any order; one that no issuer of the path signed changes nothing. Values are octets of DER, what `load` or
+    `Certificate.from_der` answered, or objects of the package cryptography.
 
-    `verify` is called with each `Question` that counts, and answers whether the signature is good; it has to give one question one
-    answer. Without it the package cryptography judges where it is there, and else OpenSSL's command line. If fingerprints are given,
-    nobody is asked: they are those of the signatures that were found good elsewhere, and no other is accepted.
+    The moment is in seconds from 1970-01-01T00:00:00Z, a datetime with a zone, or a text: ISO 8601 with a zone, YYYYMMDDHHMMSSZ, or
+    `now`. The purpose is a name (`serverAuth`, `clientAuth`, `codeSigning`, `emailProtection`, `timeStamping`, `OCSPSigning`) or an object
+    identifier in dotted form; None asks for none.
 
-    Raises a Fault if a certificate or a statement cannot be read, and ValueError for a moment, a purpose or a fingerprint that is none.
+    `verify` is called with each `Question` that counts, once, and answers True or False or a `Judgement`; it has to give one question
+    one answer. Without it `signatures.judge_all` judges. If fingerprints are given, nobody is asked: they are those of the signatures
+    that were found good elsewhere, and no other is accepted.
+
+    A statement that cannot be read refuses the question. With `ignore_unreadable` it is left out, as if it had not been handed in, and
+    `Result.ignored` names it: the verdict may then rest on an older statement.
+
+    Raises a Fault if a certificate or a statement cannot be read, ValueError for a moment, a purpose, a target or a fingerprint that is
+    none, and TypeError for arguments and answers of a judge that are of another kind.
     """
     if verify is not None and fingerprints is not None:
         raise ValueError("verify and fingerprints exclude each other")
-    moment, asked_for = _seconds(at), b"" if purpose is None else _oid(purpose)
+    if not isinstance(ignore_unreadable, bool):
+        raise TypeError(f"ignore_unreadable: True or False is wanted, not {type(ignore_unreadable).__name__}")
+    moment, asked_for = seconds_of(at), purpose_of(purpose)
     given = None if fingerprints is None else _prints(fingerprints)
-    rows = Rows(anchor, chain, statements)
-    prints = b"".join(_good(rows, verify or judge)) if given is None else given
+    # Of a longer path so many certificates are handed on that the library says that it is too long.
+    rows = Rows(anchor, listed("chain", chain, _MOST + 1), statements, ignore_unreadable)
+    _check_target(rows, target)
+    judged = _judged(_different(ask(rows)), verify) if given is None else ()
+    good = b"".join(question.fingerprint for question, judgement in judged if judgement is Judgement.GOOD)
+    prints = good if given is None else given
     answer = library().x509check_validate(*rows.arguments(), prints, len(prints), moment, asked_for, len(asked_for))
-    if answer.verdict == _REFUSED:
+    if answer.verdict == REFUSED:
         raise rows.refused(answer)
-    verdict = Verdict(answer.verdict)
-    if verdict is Verdict.VALID:
-        return Result(verdict)
-    reasons = {Verdict.INVALID: Reason, Verdict.REVOKED: RevocationReason}
-    return Result(verdict, answer.certificate, reasons[verdict](answer.reason) if verdict in reasons else None)
+    about = _identity(rows.certificates[-1]) if 1 < len(rows.certificates) <= 1 + _MOST else None
+    return dataclasses.replace(_result(answer, rows), target=about, judgements=judged, ignored=rows.ignored)

@@ -1,0 +1,146 @@
+"""examples/validate names whom its answer is about, and never answers about another certificate than the one in question."""
+
+import os
+import shutil
+import subprocess
+import sys
+import tempfile
+import unittest
+
+from x509check import Certificate
+
+from . import authority
+from .authority import LEAF, MIDDLE, ROOT, ROOT_LIST
+from .test_loading import KEY, pem
+
+PROGRAM = os.path.join(authority.TOP, "crates", "x509check", "out", "x509check")
+STAND_IN = f"#!/bin/sh\nexec '{sys.executable}' -B '{os.path.join(authority.HERE, 'stand_in.py')}' \"$@\"\n"
+IDENTITIES = {name: Certificate.from_der(octets).identity for name, octets in (("leaf", LEAF), ("middle", MIDDLE))}
+AT = ["--at", "20261201000000Z"]
+
+
+class Validate(unittest.TestCase):
+    """By the program, where it is built, and else by a stand-in."""
+
+    def setUp(self):
+        self.folder = tempfile.mkdtemp()
+        self.addCleanup(shutil.rmtree, self.folder)
+        self.program = PROGRAM if os.path.exists(PROGRAM) else self.executable("program", STAND_IN)
+
+    def put(self, name, octets):
+        path = os.path.join(self.folder, name)
+        with open(path, "wb") as file:
+            file.write(octets)
+        return path
+
+    def executable(self, name, text):
+        path = self.put(name, text.encode())
+        os.chmod(path, 0o755)
+        return path
+
+    def run_script(self, *words, **environment):
+        words = [os.path.join(authority.FOLDER, word) if word.startswith(("root.", "middle", "leaf.")) else word for word in words]
+        script, environment = os.path.join(authority.TOP, "examples", "validate"), {**os.environ, "X509CHECK": self.program, **environment}
+        done = subprocess.run([sys.executable, "-B", script, *words], cwd=self.folder, env=environment, stdout=subprocess.PIPE,
+                              stderr=subprocess.PIPE, text=True, check=False)
+        return done.returncode, done.stdout, done.stderr
+
+    def answered(self, status, line, *words, target="leaf", decides=None, why=None):
+        found, out, err = self.run_script("--anchor", "root.pem", *words)
+        named = [] if decides is None else [f"certificate {line.split()[1]} {IDENTITIES[decides]}"]
+        self.assertEqual((found, out.splitlines()), (status, [line, f"target {IDENTITIES[target]}", *named]), err)
+        self.assertIn(why or "", err)
+
+    def stopped(self, status, why, *words, **environment):
+        found, out, err = self.run_script(*words, **environment)
+        self.assertEqual((found, out), (status, ""), err)
+        self.assertIn(why, err)
+        return err
+
+    def test_verdicts(self):
+        chain, lists = ["--chain", "middle.pem"], ["--crl", "root.crl", "--crl", "middle.crl"]
+        self.answered(0, "valid", *AT, *chain, *lists, "leaf.pem", why="root.crl: stored 1 kept 0 contradicted 0")
+        self.answered(2, "revoked 2 1", *AT, *chain, *lists, "--crl", "middle2.crl", "leaf.pem", decides="leaf")
+        self.answered(2, "revoked 2 1", "--keep", "a", *AT, *chain, "--crl", "root.crl", "--ocsp", "leaf.ocsp", "leaf.pem", decides="leaf")
+        self.answered(3, "unknown 2", "--keep", "b", *AT, *chain, "--crl", "root.crl", "leaf.pem", decides="leaf")
+        self.answered(0, "valid", "--keep", "c", "--at", "2026-12-01T01:00+01:00", "--purpose", "serverAuth", *chain, *lists, "leaf.pem")
+        self.answered(1, "invalid 2 14 Purpose", *AT, "--purpose", "1.3.6.1.5.5.7.3.2", *chain, *lists, "leaf.pem", decides="leaf")
+        self.answered(0, "valid", "--keep", "d", *AT, "--crl", "root.crl", "middle.pem", target="middle")
+
+    def test_a_path_is_checked_without_a_statement_too(self):
+        self.answered(1, "invalid 2 4 Expired", "--at", "2028-01-01T00:00:00Z", "--chain", "middle.pem", "leaf.pem", decides="leaf")
+        self.answered(3, "unknown 1", *AT, "--chain", "middle.pem", "leaf.pem", decides="middle")
+
+    def test_shapes_of_a_file_that_are_not_the_certificate_in_question(self):
+        words = ["--anchor", "root.pem", *AT, "--chain", "middle.pem", "--crl", "root.crl", "--crl", "middle2.crl"]
+        leaf = pem(LEAF)
+        for name, octets, why in (
+            ("trusted.pem", pem(LEAF, "TRUSTED CERTIFICATE") + pem(MIDDLE), "openssl x509"),
+            ("packed.pem", pem(LEAF, "PKCS7") + pem(MIDDLE), "openssl pkcs7"),
+            ("key.pem", KEY + pem(MIDDLE), "EC PRIVATE KEY"),
+            ("cut.pem", leaf[:-30] + pem(MIDDLE), "line"),
+            ("nothing.pem", b"-----BEGIN CERTIFICATE-----\n-----END CERTIFICATE-----\n" + pem(MIDDLE), "empty"),
+            ("bundle.pem", pem(ROOT) + pem(MIDDLE) + leaf, "--index 3: " + str(IDENTITIES["leaf"])),
+            ("older.pem", pem(LEAF, "X509 CERTIFICATE") + pem(MIDDLE), "--index 1: " + str(IDENTITIES["leaf"])),
+            ("list.pem", leaf + pem(ROOT_LIST, "X509 CRL"), "22 Layout"),
+            ("empty.pem", b"", "4 Truncated"),
+        ):
+            with self.subTest(name):
+                self.stopped(4, why, *words, self.put(name, octets))
+        bundle, older = os.path.join(self.folder, "bundle.pem"), os.path.join(self.folder, "older.pem")
+        for index, path in (("3", bundle), ("1", older)):
+            self.answered(2, "revoked 2 1", *words[2:], "--index", index, path, decides="leaf")
+        self.stopped(4, "--index 3: ", *words, "--index", "4", bundle)
+
+    def test_no_way_to_the_anchor(self):
+        self.stopped(4, str(IDENTITIES["leaf"]), "--anchor", "root.pem", *AT, "leaf.pem")
+        self.stopped(4, "one anchor", "--anchor", self.put("two.pem", pem(ROOT) + pem(ROOT)), *AT, "leaf.pem")
+        self.stopped(4, "key.pem", "--anchor", self.put("key.pem", KEY), *AT, "leaf.pem")
+
+    def test_statements_that_cannot_be_read(self):
+        words = [*AT, "--chain", "middle.pem", "--crl", "root.crl", "--crl", "middle.crl", "leaf.pem"]
+        for name, octets, why in (("cut.crl", pem(ROOT_LIST, "X509 CRL")[:-4], "cut.crl, line 6"), ("other.crl", pem(LEAF), "other.crl, value 1"),
+                                  ("empty.crl", b"", "empty.crl")):
+            bad = ["--crl", self.put(name, octets)]
+            with self.subTest(name):
+                self.stopped(4, why, "--anchor", "root.pem", *bad, *words)
+        self.answered(0, "valid", "--ignore-unreadable", *bad, *words, why=why)
+        self.answered(2, "revoked 2 1", "--keep", "other", "--crl", "middle2.crl", *bad, *words, decides="leaf", why=why)
+
+    def test_signatures_that_are_not_good(self):
+        octets = bytearray(MIDDLE)
+        octets[-1] ^= 1
+        forged = self.put("forged.pem", pem(bytes(octets)))
+        status, _, err = self.run_script("--anchor", "root.pem", *AT, "--chain", forged, "leaf.pem")
+        self.assertEqual(status, 1)
+        self.assertIn("certificate 1: not signed under the issuer's key", err)
+        octets = bytearray(ROOT_LIST)
+        octets[-1] ^= 1
+        bad = self.put("forged.crl", pem(bytes(octets), "X509 CRL"))
+        self.answered(3, "unknown 1", *AT, "--chain", "middle.pem", "--crl", bad, "leaf.pem", decides="middle",
+                      why="forged.crl, under the anchor, signature 1 of 1: not signed under the issuer's key")
+        other = os.path.join(authority.TOP, "examples", "list.pem")
+        self.answered(3, "unknown 1", *AT, "--chain", "middle.pem", "--crl", other, "leaf.pem", decides="middle", why="of no issuer of the path")
+
+    def test_words_that_are_none(self):
+        for words in (["--at", "noon"], ["--at", "0001-01-01T00:00+14:00"], ["--at", "2026-12-01T00:00:00"], ["--purpose", ""],
+                      ["--purpose", "server"], ["--index", "0"], ["--index", "-1"], ["--index", "x"], ["middle.pem"], ["--ignore"]):
+            with self.subTest(words):
+                self.stopped(5, "", "--anchor", "root.pem", *words, "leaf.pem")
+        self.stopped(5, "", "leaf.pem")
+        self.assertEqual(self.run_script("--help")[0], 0)
+
+    def test_what_is_not_there(self):
+        words = ["--anchor", "root.pem", *AT, "--chain", "middle.pem", "leaf.pem"]
+        self.stopped(6, "/nowhere", *words[:-1], "/nowhere")
+        self.stopped(6, "/nowhere", "--crl", "/nowhere", *words)
+        self.stopped(6, "/nowhere", *words, X509CHECK="/nowhere")
+        self.stopped(6, "libx", *words, X509CHECK_LIBRARY="/nowhere/libx.so")
+        self.stopped(6, "", "--keep", "/dev/null/x", *words)
+        for said in ("exit 0", "echo valid; exit 1", "exit 1", "echo 0 ended"):
+            with self.subTest(said):
+                self.stopped(6, "", *words, X509CHECK=self.executable("said", f"#!/bin/sh\n{said}\n"))
+
+
+if __name__ == "__main__":
+    unittest.main()
