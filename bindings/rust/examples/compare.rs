@@ -4,7 +4,7 @@
 //! of each question: the fingerprint and the four lengths.
 
 use std::{env, fs, process};
-use x509check::{Error, Fingerprints, Question, Text};
+use x509check::{Error, Fingerprints, Query, Text};
 
 /// What is left of a file.
 struct Left<'a>(&'a [u8]);
@@ -66,31 +66,31 @@ fn main() {
             .iter()
             .map(|print| (*print).try_into().unwrap())
             .collect();
-        let question = Question {
+        let query = Query {
             anchor: certificates[0],
             path: &certificates[1..],
             statements: &statements,
             moment,
             purpose: (!purpose.is_empty()).then_some(purpose),
         };
-        match question.verdict(&Fingerprints(&prints)) {
-            Ok(verdict) => println!("{verdict}"),
+        match query.answer(&Fingerprints(&prints)) {
+            Ok(answer) => println!("{}", answer.verdict),
             Err(error) => println!("{}", refused(error, &certificates, &statements)),
         }
-        let Ok(questions) = question.questions() else {
+        let Ok(questions) = query.signature_questions() else {
             continue;
         };
-        for asked in questions.iter() {
-            let print: String = asked
+        for question in questions.iter() {
+            let print: String = question
                 .fingerprint
                 .iter()
                 .map(|octet| format!("{octet:02x}"))
                 .collect();
             let parts = [
-                asked.algorithm,
-                asked.key_info,
-                asked.message,
-                asked.signature,
+                question.algorithm,
+                question.key_info,
+                question.message,
+                question.signature,
             ];
             let lengths: String = parts
                 .iter()

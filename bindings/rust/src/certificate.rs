@@ -1,6 +1,7 @@
-//! Certificates (RFC 5280, 4), and the fingerprints of signatures.
+//! Certificates (RFC 5280, 4), the fingerprints of signatures, and SHA-256.
 
 use crate::fault::{error_of, Error};
+use crate::identity::Identity;
 use crate::library::{self, ExtensionFields, Fields, Part};
 
 /// Whether the octets are the DER encoding of one value, or the first fault.
@@ -39,6 +40,14 @@ pub fn fingerprint(algorithm: &[u8], key: &[u8], message: &[u8], signature: &[u8
     print
 }
 
+/// The SHA-256 of the octets. Of the DER of a certificate it is what `openssl x509 -fingerprint -sha256` prints.
+pub fn sha256(octets: &[u8]) -> [u8; 32] {
+    let mut digest = [0; 32];
+    // The call reads the slice and writes the 32 octets of the array, which lies apart from it.
+    unsafe { library::x509check_sha256(octets.as_ptr(), octets.len(), digest.as_mut_ptr()) };
+    digest
+}
+
 /// A certificate that was read. No signature is judged and no validity: one that is read is not one to be trusted.
 #[derive(Clone, Copy)]
 pub struct Certificate<'a> {
@@ -51,14 +60,17 @@ pub struct Certificate<'a> {
 pub struct KeyUsage(pub u32);
 
 impl KeyUsage {
+    /// Whether the bit of this number is there; 0 is digitalSignature.
     pub fn has(self, bit: u32) -> bool {
         bit < 32 && self.0 >> bit & 1 == 1
     }
 
+    /// Whether the key may sign certificates.
     pub fn key_cert_sign(self) -> bool {
         self.has(5)
     }
 
+    /// Whether the key may sign lists.
     pub fn crl_sign(self) -> bool {
         self.has(6)
     }
@@ -69,13 +81,21 @@ impl KeyUsage {
 pub struct Extensions {
     /// cA, if there are basicConstraints.
     pub is_authority: Option<bool>,
+    /// pathLenConstraint, if it is there; 4294967295 if it is that or more.
     pub path_length: Option<u32>,
+    /// keyUsage, if it is there.
     pub key_usage: Option<KeyUsage>,
+    /// Whether policyMappings, policyConstraints or inhibitAnyPolicy is there.
     pub needs_policy_processing: bool,
+    /// Whether id-pkix-ocsp-nocheck is there.
     pub no_check: bool,
+    /// How many names subjectAltName has.
     pub alternative_names: usize,
+    /// How many subtrees nameConstraints permits.
     pub permitted_subtrees: usize,
+    /// How many subtrees nameConstraints excludes.
     pub excluded_subtrees: usize,
+    /// How many purposes extKeyUsage has.
     pub purposes: usize,
     /// How many critical extensions are not recognised.
     pub unrecognised: usize,
@@ -104,33 +124,44 @@ impl<'a> Certificate<'a> {
         // As in `check`.
         let answer = unsafe { library::x509check_read_certificate(octets.as_ptr(), octets.len()) };
         match answer.fault {
-            0 => Ok(Certificate {
-                octets,
-                fields: answer.fields,
-            }),
+            0 => Certificate::of(octets, answer.fields),
             number => Err(error_of(number, answer.der_fault, answer.offset, None)),
         }
     }
 
-    fn part(&self, part: Part) -> &'a [u8] {
-        &self.octets[part.offset..part.offset + part.length]
+    /// The certificate of these fields, whose parts have to lie inside the octets.
+    fn of(octets: &'a [u8], fields: Fields) -> Result<Certificate<'a>, Error> {
+        let outside = fields
+            .parts()
+            .into_iter()
+            .find(|part| part.of(octets).is_none());
+        match outside {
+            Some(part) => Err(Error::Unexpected("a part at the offset", part.offset)),
+            None => Ok(Certificate { octets, fields }),
+        }
     }
 
+    fn part(&self, part: Part) -> &'a [u8] {
+        part.of(self.octets)
+            .expect("each part was looked at as the certificate was read")
+    }
+
+    /// The whole encoding of the certificate.
     pub fn octets(&self) -> &'a [u8] {
         self.octets
     }
 
-    /// 1 to 3.
+    /// The version: 1 to 3.
     pub fn version(&self) -> u32 {
         self.fields.version
     }
 
-    /// In seconds from 1970-01-01T00:00:00Z.
+    /// When it begins to hold, in seconds from 1970-01-01T00:00:00Z.
     pub fn not_before(&self) -> i64 {
         self.fields.not_before
     }
 
-    /// In seconds from 1970-01-01T00:00:00Z.
+    /// When it holds for the last time, in seconds from 1970-01-01T00:00:00Z.
     pub fn not_after(&self) -> i64 {
         self.fields.not_after
     }
@@ -140,7 +171,7 @@ impl<'a> Certificate<'a> {
         self.part(self.fields.tbs)
     }
 
-    /// The contents of the INTEGER.
+    /// The serial number: the contents of the INTEGER, the highest octet first.
     pub fn serial(&self) -> &'a [u8] {
         self.part(self.fields.serial)
     }
@@ -150,17 +181,17 @@ impl<'a> Certificate<'a> {
         self.part(self.fields.algorithm)
     }
 
-    /// The whole encoding of the name.
+    /// The issuer: the whole encoding of the name.
     pub fn issuer(&self) -> &'a [u8] {
         self.part(self.fields.issuer)
     }
 
-    /// The whole encoding of the name.
+    /// The subject: the whole encoding of the name.
     pub fn subject(&self) -> &'a [u8] {
         self.part(self.fields.subject)
     }
 
-    /// The whole encoding.
+    /// The subjectPublicKeyInfo: the whole encoding.
     pub fn subject_public_key_info(&self) -> &'a [u8] {
         self.part(self.fields.subject_public_key_info)
     }
@@ -175,8 +206,19 @@ impl<'a> Certificate<'a> {
         self.part(self.fields.signature)
     }
 
+    /// What the extensions say.
     pub fn extensions(&self) -> Extensions {
         Extensions::of(&self.fields.extensions)
+    }
+
+    /// The SHA-256 of the whole encoding, by which people and logs name the certificate.
+    pub fn sha256(&self) -> [u8; 32] {
+        sha256(self.octets)
+    }
+
+    /// Whom the certificate names, and by which numbers.
+    pub fn identity(&self) -> Result<Identity, Error> {
+        Identity::of(self)
     }
 
     /// The fingerprint of its signature, as one by the issuer's key.

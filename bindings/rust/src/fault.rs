@@ -53,10 +53,12 @@ const STATEMENTS: [&str; 12] = [
 /// The number of want of memory.
 const MEMORY: u32 = 33;
 
-/// Which octets of a question are refused.
+/// Which octets of a query are refused.
 #[derive(Clone, Copy, Debug, PartialEq, Eq)]
 pub enum Text {
+    /// The anchor, which has the index 0, and the path behind it.
     Certificates,
+    /// The lists and responses.
     Statements,
 }
 
@@ -69,15 +71,22 @@ pub struct Fault {
     pub der: Option<u32>,
     /// Counts from the first octet of the value that is refused.
     pub offset: usize,
-    /// Of a question: what is refused, and which of them; of the certificates the anchor has 0.
+    /// Of a query: what is refused, and which of them; of the certificates the anchor has 0.
     pub value: Option<(Text, usize)>,
 }
 
-/// Why there is no answer.
+/// Why there is no answer. None of these is a verdict.
 #[derive(Clone, Copy, Debug, PartialEq, Eq)]
+#[non_exhaustive]
 pub enum Error {
+    /// Octets that cannot be read.
     Refused(Fault),
+    /// The library was refused memory.
     Memory,
+    /// The purpose is not the contents of an OBJECT IDENTIFIER; so are no octets. Whoever asks for no purpose says `None`.
+    Purpose,
+    /// The library answered a number that this crate has no meaning for: what it is, and the number. The library is of another version.
+    Unexpected(&'static str, usize),
 }
 
 fn name_of(number: u32) -> &'static str {
@@ -89,7 +98,7 @@ fn name_of(number: u32) -> &'static str {
         55 => return "NotSuccessful",
         56 => return "ResponseType",
         59 => return "TooManySingles",
-        _ => return "Unknown",
+        _ => return "Unnamed",
     };
     names[(number - first) as usize]
 }
@@ -121,6 +130,13 @@ impl fmt::Display for Error {
         match self {
             Error::Refused(fault) => fault.fmt(out),
             Error::Memory => out.write_str("no memory"),
+            Error::Purpose => {
+                out.write_str("the purpose is not the contents of an object identifier")
+            }
+            Error::Unexpected(what, number) => write!(
+                out,
+                "the library answered {what} {number}, of which this crate knows nothing"
+            ),
         }
     }
 }

@@ -1,31 +1,117 @@
 //! Who judges signatures, and what is asked (RFC 5280, 6; RFC 6960, 3.2).
 
+use std::cell::RefCell;
+use std::collections::HashMap;
+use std::fmt;
+
 use crate::fault::Error;
-use crate::library::{Place, QuestionFields};
+use crate::library::{Part, Place, QuestionFields, CERTIFICATES, STATEMENTS};
 use crate::rows::Rows;
 
-/// A question to a judge: whether this is the signature of the message, under the key, by the algorithm.
+/// What a judge is asked: whether this is the signature of the message, under the key, by the algorithm.
 #[derive(Clone, Copy, Debug, PartialEq, Eq)]
-pub struct Asked<'a> {
+pub struct SignatureQuestion<'a> {
     /// The algorithm identifier: the whole encoding.
     pub algorithm: &'a [u8],
     /// The subjectPublicKeyInfo: the whole encoding.
     pub key_info: &'a [u8],
+    /// What was signed.
     pub message: &'a [u8],
+    /// The octets of the signature.
     pub signature: &'a [u8],
     /// That of these four.
     pub fingerprint: [u8; 32],
 }
 
-/// Who judges signatures. One question has to get one answer.
-pub trait Judge {
-    /// Whether the signature is good.
-    fn is_good(&self, asked: &Asked<'_>) -> bool;
+/// What a judge says of a signature. The verdict only sees whether it is `Good`; the others tell apart why it is not.
+#[derive(Clone, Copy, Debug, PartialEq, Eq, Hash)]
+#[must_use = "a signature counts only if it is Good"]
+pub enum Judgement {
+    /// It is the signature of the message under the key.
+    Good,
+    /// It is not.
+    Wrong,
+    /// The judge does not know the algorithm, its parameters or the form of the key.
+    NotServed,
+    /// The judge knows the algorithm and the key, and does not accept signatures of this kind.
+    RefusedByPolicy,
 }
 
-impl<F: Fn(&Asked<'_>) -> bool> Judge for F {
-    fn is_good(&self, asked: &Asked<'_>) -> bool {
-        self(asked)
+/// `true` is `Good`, `false` is `Wrong`.
+impl From<bool> for Judgement {
+    fn from(is_good: bool) -> Judgement {
+        if is_good {
+            Judgement::Good
+        } else {
+            Judgement::Wrong
+        }
+    }
+}
+
+impl fmt::Display for Judgement {
+    fn fmt(&self, out: &mut fmt::Formatter<'_>) -> fmt::Result {
+        out.write_str(match self {
+            Judgement::Good => "good",
+            Judgement::Wrong => "wrong",
+            Judgement::NotServed => "not served",
+            Judgement::RefusedByPolicy => "refused by policy",
+        })
+    }
+}
+
+/// Who judges signatures. One question has to get one answer, whenever it is asked.
+///
+/// A function or a closure that is called with the question and answers a [`Judgement`], or whether the signature is good, is a judge; one
+/// that changes what it captures becomes one by [`judge_by`].
+pub trait Judge {
+    /// What is to be said of the signature.
+    fn judge(&self, question: &SignatureQuestion<'_>) -> Judgement;
+}
+
+impl<F, A> Judge for F
+where
+    F: Fn(&SignatureQuestion<'_>) -> A,
+    A: Into<Judgement>,
+{
+    fn judge(&self, question: &SignatureQuestion<'_>) -> Judgement {
+        self(question).into()
+    }
+}
+
+/// The judge that [`judge_by`] makes.
+pub struct JudgeBy<F>(RefCell<F>);
+
+/// The judge that calls the closure, which may change what it captures.
+///
+/// ```
+/// use x509check::{judge_by, Judgement};
+///
+/// let mut messages = Vec::new();
+/// let judge = judge_by(|question| {
+///     messages.push(question.message.to_vec());
+///     Judgement::NotServed
+/// });
+/// # let _: &dyn x509check::Judge = &judge;
+/// ```
+pub fn judge_by<F, A>(ask: F) -> JudgeBy<F>
+where
+    F: FnMut(&SignatureQuestion<'_>) -> A,
+    A: Into<Judgement>,
+{
+    JudgeBy(RefCell::new(ask))
+}
+
+impl<F, A> Judge for JudgeBy<F>
+where
+    F: FnMut(&SignatureQuestion<'_>) -> A,
+    A: Into<Judgement>,
+{
+    /// A closure that is called while it runs does not serve.
+    fn judge(&self, question: &SignatureQuestion<'_>) -> Judgement {
+        match self.0.try_borrow_mut() {
+            Ok(mut ask) => ask(question).into(),
+            Err(_) => Judgement::NotServed,
+        }
     }
 }
 
@@ -34,62 +120,127 @@ impl<F: Fn(&Asked<'_>) -> bool> Judge for F {
 pub struct Fingerprints<'a>(pub &'a [[u8; 32]]);
 
 impl Judge for Fingerprints<'_> {
-    fn is_good(&self, asked: &Asked<'_>) -> bool {
-        self.0.contains(&asked.fingerprint)
+    fn judge(&self, question: &SignatureQuestion<'_>) -> Judgement {
+        self.0.contains(&question.fingerprint).into()
     }
 }
 
 /// What a judge may be asked for a verdict: about the certificates of the path, in order, and then about each statement. One question may
 /// be there twice.
-pub struct Questions {
+pub struct SignatureQuestions {
     certificates: Vec<u8>,
     statements: Vec<u8>,
     fields: Vec<QuestionFields>,
 }
 
-impl Questions {
-    pub(crate) fn of(rows: Rows<'_>) -> Result<Questions, Error> {
-        Ok(Questions {
+impl SignatureQuestions {
+    pub(crate) fn of(rows: Rows<'_>) -> Result<SignatureQuestions, Error> {
+        Ok(SignatureQuestions {
             fields: rows.questions()?,
             certificates: rows.certificates,
             statements: rows.statements,
         })
     }
 
+    /// How many questions there are.
     pub fn len(&self) -> usize {
         self.fields.len()
     }
 
+    /// Whether there is no question, as there is none about an empty path.
     pub fn is_empty(&self) -> bool {
         self.fields.is_empty()
     }
 
-    pub fn iter(&self) -> impl Iterator<Item = Asked<'_>> {
+    /// The questions, in order.
+    pub fn iter(&self) -> impl Iterator<Item = SignatureQuestion<'_>> {
         self.fields
             .iter()
-            .map(|fields| asked_in(&self.certificates, &self.statements, fields))
+            .map(|fields| question_in(&self.certificates, &self.statements, fields))
+    }
+}
+
+/// The octets of the place, if it lies inside its text.
+fn part_in<'a>(certificates: &'a [u8], statements: &'a [u8], place: Place) -> Option<&'a [u8]> {
+    let part = Part {
+        offset: place.offset,
+        length: place.length,
+    };
+    match place.text {
+        CERTIFICATES => part.of(certificates),
+        STATEMENTS => part.of(statements),
+        _ => None,
+    }
+}
+
+/// Refuses questions of which a part lies in neither text.
+pub(crate) fn check_places(
+    certificates: &[u8],
+    statements: &[u8],
+    fields: &[QuestionFields],
+) -> Result<(), Error> {
+    let places = fields.iter().flat_map(QuestionFields::places);
+    match places
+        .into_iter()
+        .find(|place| part_in(certificates, statements, *place).is_none())
+    {
+        Some(place) => Err(Error::Unexpected(
+            "a part of a question at the offset",
+            place.offset,
+        )),
+        None => Ok(()),
     }
 }
 
 /// The question as parts of the rows.
-pub(crate) fn asked_in<'a>(
+pub(crate) fn question_in<'a>(
     certificates: &'a [u8],
     statements: &'a [u8],
     fields: &QuestionFields,
-) -> Asked<'a> {
-    let part = |place: Place| {
-        let row = if place.text == 1 {
-            certificates
-        } else {
-            statements
-        };
-        &row[place.offset..place.offset + place.length]
+) -> SignatureQuestion<'a> {
+    let part = |place| {
+        part_in(certificates, statements, place)
+            .expect("each place was looked at as the questions were taken")
     };
-    Asked {
+    SignatureQuestion {
         algorithm: part(fields.algorithm),
         key_info: part(fields.key_info),
         message: part(fields.message),
         signature: part(fields.signature),
         fingerprint: fields.fingerprint,
+    }
+}
+
+/// What a judge said so far. It is asked about each signature once.
+pub(crate) struct Heard<'j> {
+    judge: &'j dyn Judge,
+    said: HashMap<[u8; 32], Judgement>,
+    /// The fingerprints of the good ones, one behind the other.
+    pub good: Vec<u8>,
+}
+
+impl<'j> Heard<'j> {
+    pub fn nothing(judge: &'j dyn Judge) -> Heard<'j> {
+        Heard {
+            judge,
+            said: HashMap::new(),
+            good: Vec::new(),
+        }
+    }
+
+    pub fn ask(&mut self, question: &SignatureQuestion<'_>) {
+        if self.said.contains_key(&question.fingerprint) {
+            return;
+        }
+        let judgement = self.judge.judge(question);
+        self.said.insert(question.fingerprint, judgement);
+        if judgement == Judgement::Good {
+            self.good.extend_from_slice(&question.fingerprint);
+        }
+    }
+
+    /// What was said of the signature with this fingerprint.
+    pub fn of(&self, fingerprint: &[u8; 32]) -> Option<Judgement> {
+        self.said.get(fingerprint).copied()
     }
 }

@@ -10,35 +10,47 @@
 //! # let (anchor, middle, leaf) = (read("root.der")?, read("middle.der")?, read("leaf.der")?);
 //! # let (lists, good) = ([read("root.crl")?, read("middle.crl")?], read("good")?);
 //! # let fingerprints: Vec<[u8; 32]> = good.chunks_exact(32).map(|print| print.try_into().unwrap()).collect();
-//! use x509check::{Asked, Certificate, Fingerprints, Question, Verdict};
+//! use x509check::{judge_by, Fingerprints, Judgement, Query, Verdict};
 //!
-//! let leaf_read = Certificate::read(&leaf)?;
-//! assert_eq!(leaf_read.serial(), [3]);
-//!
-//! let question = Question {
+//! let query = Query {
 //!     anchor: &anchor,
 //!     path: &[&middle, &leaf],
 //!     statements: &[&lists[0], &lists[1]],
 //!     moment: 1_796_083_200, // 2026-12-01T00:00:00Z
 //!     purpose: None,
 //! };
-//! let verdict = question.verdict(&Fingerprints(&fingerprints))?; // of signatures that were found good elsewhere
-//! assert_eq!(verdict, Verdict::Valid);
+//! let good = Fingerprints(&fingerprints); // of signatures that were found good elsewhere
+//! let answer = query.require_valid(&good)?; // an error unless the verdict is valid
+//! let target = answer.target.expect("a valid path ends in somebody");
+//! assert_eq!((&target.name[..], &target.serial[..]), ("CN=leaf,O=Example", &[3][..]));
 //!
-//! let nobody = |_: &Asked<'_>| false; // or ask a library for signatures
-//! assert_eq!(question.verdict(&nobody)?.to_string(), "invalid 1 2");
+//! let nobody = judge_by(|_| Judgement::NotServed); // or ask a library for signatures
+//! let answer = query.answer(&nobody)?; // whatever the verdict is
+//! assert_eq!(answer.verdict.to_string(), "invalid 1 2");
+//! assert_eq!(answer.decides.expect("a certificate decides").name, "CN=middle,O=Example");
+//! assert_ne!(answer.verdict, Verdict::Valid);
 //! # Ok(())
 //! # }
 //! ```
+#![deny(missing_docs)]
 
+mod answer;
 mod certificate;
 mod fault;
+mod identity;
 mod judge;
 mod library;
+mod name;
+mod query;
 mod rows;
 mod verdict;
 
-pub use certificate::{check, fingerprint, Certificate, Extensions, KeyUsage};
+pub use answer::{Answer, NotValid};
+pub use certificate::{check, fingerprint, sha256, Certificate, Extensions, KeyUsage};
 pub use fault::{Error, Fault, Text};
-pub use judge::{Asked, Fingerprints, Judge, Questions};
-pub use verdict::{Question, Reason, Verdict};
+pub use identity::Identity;
+pub use judge::{
+    judge_by, Fingerprints, Judge, JudgeBy, Judgement, SignatureQuestion, SignatureQuestions,
+};
+pub use query::Query;
+pub use verdict::{Reason, Verdict};

@@ -7,6 +7,13 @@ pub(crate) struct Part {
     pub length: usize,
 }
 
+impl Part {
+    /// The part of the octets, if it lies inside them.
+    pub(crate) fn of(self, octets: &[u8]) -> Option<&[u8]> {
+        octets.get(self.offset..self.offset.checked_add(self.length)?)
+    }
+}
+
 #[repr(C)]
 pub(crate) struct Answer {
     pub fault: u32,
@@ -48,6 +55,21 @@ pub(crate) struct Fields {
     pub extensions: ExtensionFields,
 }
 
+impl Fields {
+    pub(crate) fn parts(&self) -> [Part; 8] {
+        [
+            self.tbs,
+            self.serial,
+            self.algorithm,
+            self.issuer,
+            self.subject,
+            self.subject_public_key_info,
+            self.key,
+            self.signature,
+        ]
+    }
+}
+
 #[repr(C)]
 pub(crate) struct CertificateAnswer {
     pub fault: u32,
@@ -55,6 +77,13 @@ pub(crate) struct CertificateAnswer {
     pub offset: usize,
     pub fields: Fields,
 }
+
+/// The verdicts, by the numbers of the header. A struct of zeros is none of them.
+pub(crate) const VALID: u32 = 1;
+pub(crate) const INVALID: u32 = 2;
+pub(crate) const REVOKED: u32 = 3;
+pub(crate) const UNKNOWN: u32 = 4;
+pub(crate) const REFUSED: u32 = 5;
 
 #[repr(C)]
 pub(crate) struct VerdictAnswer {
@@ -67,7 +96,11 @@ pub(crate) struct VerdictAnswer {
     pub offset: usize,
 }
 
-/// `text` is 1 for the certificates, 2 for the statements.
+/// The texts of a question, by the numbers of the header.
+pub(crate) const CERTIFICATES: u32 = 1;
+pub(crate) const STATEMENTS: u32 = 2;
+
+/// `text` is one of the two above.
 #[repr(C)]
 #[derive(Clone, Copy, Default)]
 pub(crate) struct Place {
@@ -84,6 +117,12 @@ pub(crate) struct QuestionFields {
     pub message: Place,
     pub signature: Place,
     pub fingerprint: [u8; 32],
+}
+
+impl QuestionFields {
+    pub(crate) fn places(&self) -> [Place; 4] {
+        [self.algorithm, self.key_info, self.message, self.signature]
+    }
 }
 
 #[repr(C)]
@@ -110,6 +149,7 @@ extern "C" {
         signature_length: usize,
         fingerprint: *mut u8,
     );
+    pub(crate) fn x509check_sha256(octets: *const u8, length: usize, digest: *mut u8);
     pub(crate) fn x509check_questions(
         certificates: *const u8,
         certificates_length: usize,

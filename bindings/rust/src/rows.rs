@@ -2,7 +2,8 @@
 
 use crate::certificate::check;
 use crate::fault::{error_of, Error, Text};
-use crate::library::{x509check_questions, AskedAnswer, QuestionFields};
+use crate::judge::check_places;
+use crate::library::{x509check_questions, AskedAnswer, QuestionFields, CERTIFICATES, STATEMENTS};
 
 /// The first value that is not one value of DER, and why: such a value would take octets of the next.
 fn first_broken(text: Text, values: &[&[u8]]) -> Option<(usize, Error)> {
@@ -15,7 +16,7 @@ fn first_broken(text: Text, values: &[&[u8]]) -> Option<(usize, Error)> {
             Error::Refused(fault) => {
                 error_of(number, fault.number, fault.offset, Some((text, index)))
             }
-            Error::Memory => Error::Memory,
+            error => error,
         };
         Some((index, error))
     })
@@ -53,6 +54,7 @@ fn ask(certificates: &[u8], statements: &[u8], written: &mut [QuestionFields]) -
 }
 
 impl<'a> Rows<'a> {
+    /// The rows of these values, of which each is one value of DER.
     pub fn of(
         anchor: &'a [u8],
         path: &[&'a [u8]],
@@ -95,7 +97,7 @@ impl<'a> Rows<'a> {
         let mut written = vec![QuestionFields::default(); 64];
         loop {
             let answer = ask(&self.certificates, &self.statements, &mut written);
-            if answer.fault != 0 {
+            if answer.fault != 0 || answer.text != 0 {
                 return Err(self.refused(&Refusal {
                     text: answer.text,
                     fault: answer.fault,
@@ -106,6 +108,7 @@ impl<'a> Rows<'a> {
             let fits = answer.count <= written.len();
             written.resize(answer.count, QuestionFields::default());
             if fits {
+                check_places(&self.certificates, &self.statements, &written)?;
                 return Ok(written);
             }
         }
@@ -125,17 +128,22 @@ impl<'a> Rows<'a> {
     /// Whether the values of the text up to the index are refused without the others.
     fn refuses(&self, text: Text, index: usize) -> bool {
         let number = match text {
-            Text::Certificates => 1,
-            Text::Statements => 2,
+            Text::Certificates => CERTIFICATES,
+            Text::Statements => STATEMENTS,
         };
         self.ask_first(text, index + 1).text == number
+    }
+
+    /// The value of a certificate: 0 is the anchor.
+    pub fn certificate(&self, index: usize) -> Option<&'a [u8]> {
+        self.values.get(index).copied()
     }
 
     /// The refusal, with its place in the value that is refused.
     pub fn refused(&self, refusal: &Refusal) -> Error {
         let (text, values) = match refusal.text {
-            1 => (Text::Certificates, &self.values[..]),
-            2 => (Text::Statements, self.statement_values),
+            CERTIFICATES => (Text::Certificates, &self.values[..]),
+            STATEMENTS => (Text::Statements, self.statement_values),
             _ => return error_of(refusal.fault, 0, refusal.offset, None),
         };
         let (mut index, mut offset) = (0, refusal.offset);

@@ -1,39 +1,35 @@
 //! Verdicts on paths (RFC 5280, 6; RFC 6960, 3.2).
 
-use std::collections::HashSet;
 use std::fmt;
 
 use crate::fault::Error;
-use crate::judge::{asked_in, Judge, Questions};
-use crate::library::x509check_validate;
-use crate::rows::{Refusal, Rows};
-
-/// A question about a path.
-#[derive(Clone, Copy, Debug)]
-pub struct Question<'a> {
-    /// The anchor, of which the name and the key alone are used.
-    pub anchor: &'a [u8],
-    /// The certificates below it, to the one in question.
-    pub path: &'a [&'a [u8]],
-    /// Lists (CRLs) and OCSP responses in any order. One that no issuer of the path signed changes nothing.
-    pub statements: &'a [&'a [u8]],
-    /// In seconds from 1970-01-01T00:00:00Z.
-    pub moment: i64,
-    /// The contents of an OBJECT IDENTIFIER, if a purpose is asked for; empty contents ask for none.
-    pub purpose: Option<&'a [u8]>,
-}
+use crate::library::{VerdictAnswer, INVALID, REVOKED, UNKNOWN, VALID};
 
 /// What is said of a path. Certificates are numbered from 1 on; 0 is the path itself.
 #[derive(Clone, Copy, Debug, PartialEq, Eq)]
+#[must_use = "a path may be believed only if the verdict on it is Valid"]
 pub enum Verdict {
     /// It meets all conditions, and of each certificate a statement speaks, and none revokes it.
     Valid,
-    /// The first certificate that breaks a condition, and why.
-    Invalid { certificate: usize, reason: Reason },
-    /// The first certificate that is revoked, with the number of the reason (RFC 5280, 5.3.1).
-    Revoked { certificate: usize, reason: u32 },
-    /// The first certificate of which no current statement speaks; none is revoked.
-    Unknown { certificate: usize },
+    /// The path breaks a condition.
+    Invalid {
+        /// The first certificate that breaks one.
+        certificate: usize,
+        /// Which one.
+        reason: Reason,
+    },
+    /// The path meets all conditions, and a certificate of it is revoked.
+    Revoked {
+        /// The first certificate that is revoked.
+        certificate: usize,
+        /// The number of the reason (RFC 5280, 5.3.1).
+        reason: u32,
+    },
+    /// The path meets all conditions, and none of its certificates is revoked.
+    Unknown {
+        /// The first certificate of which no current statement speaks.
+        certificate: usize,
+    },
 }
 
 /// As the program prints it: a word, the certificate, and the number of the reason.
@@ -58,21 +54,37 @@ impl fmt::Display for Verdict {
 #[derive(Clone, Copy, Debug, PartialEq, Eq, PartialOrd, Ord)]
 #[repr(u32)]
 pub enum Reason {
+    /// The certificate stands in the path before.
     Repeated = 1,
+    /// Its signature under the issuer's key is not among the good ones.
     Signature = 2,
+    /// Its validity has not begun.
     NotYet = 3,
+    /// Its validity has ended.
     Expired = 4,
+    /// It names another issuer than the certificate before it.
     Issuer = 5,
+    /// A name of it lies in no permitted subtree.
     NotPermitted = 6,
+    /// A name of it lies in an excluded subtree.
     Excluded = 7,
+    /// A constraint speaks of a form of names that is not processed.
     ConstraintForm = 8,
+    /// It issues, and is no CA's.
     NotCa = 9,
+    /// More certificates follow than a path length allows.
     PathLength = 10,
+    /// It issues, and its key may not sign certificates.
     KeyCertSign = 11,
+    /// It needs policies to be processed.
     Policy = 12,
+    /// A critical extension is not recognised.
     CriticalUnknown = 13,
+    /// The purpose that is asked for is not among its purposes.
     Purpose = 14,
+    /// The path has no certificates.
     Empty = 15,
+    /// The path has more than 128 certificates.
     TooLong = 16,
 }
 
@@ -95,61 +107,146 @@ const REASONS: [Reason; 16] = [
     Reason::TooLong,
 ];
 
-impl Question<'_> {
-    /// What a judge may be asked, at whatever moment and for whatever purpose.
-    pub fn questions(&self) -> Result<Questions, Error> {
-        Questions::of(Rows::of(self.anchor, self.path, self.statements)?)
+/// The reason of this rank, which is one of the path itself or one of a certificate.
+fn reason_at(certificate: usize, rank: u32) -> Result<Reason, Error> {
+    let of_path = certificate == 0;
+    let found = REASONS.iter().find(|reason| **reason as u32 == rank);
+    match found {
+        Some(reason) if matches!(reason, Reason::Empty | Reason::TooLong) == of_path => Ok(*reason),
+        _ => Err(Error::Unexpected("the reason", rank as usize)),
     }
+}
 
-    /// The fingerprints of the signatures that the judge finds good. It is asked each question once.
-    fn good(&self, rows: &Rows<'_>, judge: &impl Judge) -> Result<Vec<u8>, Error> {
-        let (mut seen, mut good) = (HashSet::new(), Vec::new());
-        for fields in &rows.questions()? {
-            let asked = asked_in(&rows.certificates, &rows.statements, fields);
-            if seen.insert(asked.fingerprint) && judge.is_good(&asked) {
-                good.extend_from_slice(&asked.fingerprint);
-            }
-        }
-        Ok(good)
+/// The reason of a revocation, if it is one of RFC 5280, 5.3.1.
+fn revocation_reason(reason: u32) -> Result<u32, Error> {
+    match reason {
+        0..=6 | 8..=10 => Ok(reason),
+        _ => Err(Error::Unexpected(
+            "the reason of a revocation",
+            reason as usize,
+        )),
     }
+}
 
-    /// The verdict of who believes the judge, or the first fault of a certificate or a statement that cannot be read.
-    pub fn verdict(&self, judge: &impl Judge) -> Result<Verdict, Error> {
-        let rows = Rows::of(self.anchor, self.path, self.statements)?;
-        let good = self.good(&rows, judge)?;
-        let purpose = self.purpose.unwrap_or(&[]);
-        // The pointers and the lengths are those of the slices, and the call only reads them.
-        let answer = unsafe {
-            x509check_validate(
-                rows.certificates.as_ptr(),
-                rows.certificates.len(),
-                rows.statements.as_ptr(),
-                rows.statements.len(),
-                good.as_ptr(),
-                good.len(),
-                self.moment,
-                purpose.as_ptr(),
-                purpose.len(),
-            )
-        };
+impl Verdict {
+    /// The verdict of these numbers on a path of so many certificates. A number without a meaning is an error, as 0 is.
+    pub(crate) fn of(answer: &VerdictAnswer, certificates: usize) -> Result<Verdict, Error> {
         let certificate = answer.certificate;
-        match answer.verdict {
-            0 => Ok(Verdict::Valid),
-            1 => Ok(Verdict::Invalid {
+        if certificate > certificates {
+            return Err(Error::Unexpected("the certificate", certificate));
+        }
+        match (answer.verdict, certificate) {
+            (VALID, 0) => Ok(Verdict::Valid),
+            (INVALID, _) => Ok(Verdict::Invalid {
                 certificate,
-                reason: REASONS[answer.reason as usize - 1],
+                reason: reason_at(certificate, answer.reason)?,
             }),
-            2 => Ok(Verdict::Revoked {
+            (REVOKED, 1..) => Ok(Verdict::Revoked {
                 certificate,
-                reason: answer.reason,
+                reason: revocation_reason(answer.reason)?,
             }),
-            3 => Ok(Verdict::Unknown { certificate }),
-            _ => Err(rows.refused(&Refusal {
-                text: answer.text,
-                fault: answer.fault,
-                der_fault: answer.der_fault,
-                offset: answer.offset,
-            })),
+            (UNKNOWN, 1..) => Ok(Verdict::Unknown { certificate }),
+            _ => Err(Error::Unexpected("the verdict", answer.verdict as usize)),
+        }
+    }
+
+    /// The certificate that decides: none if the path is valid, 0 if the path itself does.
+    pub fn certificate(&self) -> Option<usize> {
+        match self {
+            Verdict::Valid => None,
+            Verdict::Invalid { certificate, .. }
+            | Verdict::Revoked { certificate, .. }
+            | Verdict::Unknown { certificate } => Some(*certificate),
+        }
+    }
+}
+
+#[cfg(test)]
+mod tests {
+    use super::*;
+    use crate::library::REFUSED;
+
+    fn verdict(verdict: u32, reason: u32, certificate: usize) -> Result<Verdict, Error> {
+        let answer = VerdictAnswer {
+            verdict,
+            reason,
+            certificate,
+            text: 0,
+            fault: 0,
+            der_fault: 0,
+            offset: 0,
+        };
+        Verdict::of(&answer, 2)
+    }
+
+    #[test]
+    fn numbers_of_the_header() {
+        let (certificate, reason) = (2, Reason::Purpose);
+        assert_eq!(verdict(1, 0, 0), Ok(Verdict::Valid));
+        assert_eq!(
+            verdict(2, 14, 2),
+            Ok(Verdict::Invalid {
+                certificate,
+                reason
+            })
+        );
+        let (certificate, reason) = (0, Reason::TooLong);
+        assert_eq!(
+            verdict(2, 16, 0),
+            Ok(Verdict::Invalid {
+                certificate,
+                reason
+            })
+        );
+        let certificate = 2;
+        assert_eq!(
+            verdict(3, 0, 2),
+            Ok(Verdict::Revoked {
+                certificate,
+                reason: 0
+            })
+        );
+        assert_eq!(verdict(4, 0, 2), Ok(Verdict::Unknown { certificate }));
+    }
+
+    #[test]
+    fn numbers_without_a_meaning() {
+        for number in [0, REFUSED, 6, u32::MAX] {
+            assert_eq!(
+                verdict(number, 0, 0),
+                Err(Error::Unexpected("the verdict", number as usize))
+            );
+        }
+        for rank in [0, 15, 16, 17, u32::MAX] {
+            assert_eq!(
+                verdict(2, rank, 1),
+                Err(Error::Unexpected("the reason", rank as usize))
+            );
+        }
+        assert_eq!(verdict(2, 14, 0), Err(Error::Unexpected("the reason", 14)));
+        for reason in [7, 11, u32::MAX] {
+            assert!(verdict(3, reason, 1).is_err());
+        }
+        for (number, certificate) in [
+            (1, 1),
+            (2, 3),
+            (3, 3),
+            (3, 0),
+            (4, 3),
+            (4, 0),
+            (4, usize::MAX),
+        ] {
+            assert!(
+                verdict(number, 1, certificate).is_err(),
+                "{number} {certificate}"
+            );
+        }
+    }
+
+    #[test]
+    fn reasons_stand_at_their_ranks() {
+        for (index, reason) in REASONS.iter().enumerate() {
+            assert_eq!(*reason as usize, index + 1);
         }
     }
 }

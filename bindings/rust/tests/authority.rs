@@ -3,7 +3,8 @@
 use std::cell::RefCell;
 use std::fs;
 use x509check::{
-    fingerprint, Asked, Certificate, Error, Fault, Fingerprints, Question, Reason, Text, Verdict,
+    fingerprint, judge_by, sha256, Answer, Certificate, Error, Fault, Fingerprints, Judge,
+    Judgement, NotValid, Query, Reason, SignatureQuestion, Text, Verdict,
 };
 
 /// 2026-12-01T00:00:00Z
@@ -11,6 +12,9 @@ const DECEMBER: i64 = 1_796_083_200;
 /// id-kp-clientAuth and id-kp-serverAuth (RFC 5280, 4.2.1.12).
 const CLIENT_AUTH: &[u8] = &[0x2B, 0x06, 0x01, 0x05, 0x05, 0x07, 0x03, 0x02];
 const SERVER_AUTH: &[u8] = &[0x2B, 0x06, 0x01, 0x05, 0x05, 0x07, 0x03, 0x01];
+
+/// The SHA-256 of leaf.der.
+const LEAF: &str = "a21bb633ad33f0f8110a2e4526a9bd1ac59cc9dab50e9d118bcf19baef433686";
 
 fn read(name: &str) -> Vec<u8> {
     fs::read(format!("{}/../testdata/{name}", env!("CARGO_MANIFEST_DIR"))).expect(name)
@@ -46,25 +50,41 @@ impl Authority {
         }
     }
 
+    fn path(&self) -> [&[u8]; 2] {
+        [&self.middle, &self.leaf]
+    }
+
+    fn query<'a>(&'a self, path: &'a [&'a [u8]], statements: &'a [&'a [u8]]) -> Query<'a> {
+        Query {
+            anchor: &self.root,
+            path,
+            statements,
+            moment: DECEMBER,
+            purpose: None,
+        }
+    }
+
+    fn answer(
+        &self,
+        statements: &[&[u8]],
+        change: impl FnOnce(&mut Query<'_>),
+    ) -> Result<Answer, Error> {
+        let path = self.path();
+        let mut query = self.query(&path, &[]);
+        change(&mut query);
+        Query {
+            statements,
+            ..query
+        }
+        .answer(&Fingerprints(&self.good))
+    }
+
     fn ask(
         &self,
         statements: &[&[u8]],
-        change: impl FnOnce(&mut Question<'_>),
+        change: impl FnOnce(&mut Query<'_>),
     ) -> Result<Verdict, Error> {
-        let path: [&[u8]; 2] = [&self.middle, &self.leaf];
-        let mut question = Question {
-            anchor: &self.root,
-            path: &path,
-            statements: &[],
-            moment: DECEMBER,
-            purpose: None,
-        };
-        change(&mut question);
-        Question {
-            statements,
-            ..question
-        }
-        .verdict(&Fingerprints(&self.good))
+        self.answer(statements, change).map(|answer| answer.verdict)
     }
 
     fn verdict(&self, statements: &[&[u8]]) -> Verdict {
@@ -95,6 +115,57 @@ fn fields_are_those_that_openssl_prints() {
     assert!(middle.extensions().key_usage.unwrap().key_cert_sign());
     assert!(middle.extensions().key_usage.unwrap().crl_sign());
     assert_eq!(leaf.extensions().is_authority, None);
+}
+
+fn hex(octets: &[u8]) -> String {
+    octets.iter().map(|octet| format!("{octet:02x}")).collect()
+}
+
+/// As `sha256sum` prints it of no octets, and of three.
+#[test]
+fn digests_are_those_of_sha256() {
+    let nothing = "e3b0c44298fc1c149afbf4c8996fb92427ae41e4649b934ca495991b7852b855";
+    let abc = "ba7816bf8f01cfea414140de5dae2223b00361a396177a9cb410ff61f20015ad";
+    assert_eq!(
+        (hex(&sha256(b"")), hex(&sha256(b"abc"))),
+        (nothing.into(), abc.into())
+    );
+}
+
+/// The number is what `openssl x509 -fingerprint -sha256` prints, and the name what `-subject -nameopt RFC2253` does.
+#[test]
+fn identities_are_those_that_openssl_prints() {
+    let authority = Authority::read();
+    let leaf = Certificate::read(&authority.leaf).unwrap();
+    let identity = leaf.identity().unwrap();
+    assert_eq!(identity.name, "CN=leaf,O=Example");
+    assert_eq!(identity.subject, leaf.subject());
+    assert_eq!(identity.serial, [3]);
+    assert_eq!(hex(&identity.sha256), LEAF);
+    assert_eq!(
+        identity.to_string(),
+        format!("serial 03 sha256 {LEAF} subject CN=leaf,O=Example")
+    );
+}
+
+/// The leaf with another common name of as many octets, which its signature does not cover.
+#[test]
+fn a_name_stays_in_its_place_on_the_line() {
+    let authority = Authority::read();
+    let is_name = |octets: &[u8]| octets == b"leaf";
+    let at = authority.leaf.windows(4).position(is_name).unwrap();
+    for (name, text) in [(b"a;\nb", r"a\3B\0Ab"), (b" \0,=", r"\20\00\2C\3D")] {
+        let mut leaf = authority.leaf.clone();
+        leaf[at..at + 4].copy_from_slice(name);
+        let path: [&[u8]; 2] = [&authority.middle, &leaf];
+        let query = authority.query(&path, &[]);
+        let answer = query.answer(&Fingerprints(&authority.good)).unwrap();
+        let ends = format!(
+            "; decided by serial 03 sha256 {} subject CN={text},O=Example",
+            hex(&sha256(&leaf))
+        );
+        assert!(answer.to_string().ends_with(&ends), "{answer}");
+    }
 }
 
 #[test]
@@ -140,6 +211,43 @@ fn verdicts_by_lists_and_responses() {
 }
 
 #[test]
+fn answers_name_whom_they_are_about() {
+    let authority = Authority::read();
+    let identity = |octets: &[u8]| Certificate::read(octets).unwrap().identity().ok();
+    let (leaf, middle) = (identity(&authority.leaf), identity(&authority.middle));
+    let lists = [&authority.root_list[..], &authority.middle_list];
+    let valid = authority.answer(&lists, |_| {}).unwrap();
+    assert_eq!(
+        (&valid.target, &valid.decides, valid.signature),
+        (&leaf, &None, None)
+    );
+    assert_eq!(
+        valid.to_string(),
+        format!("valid; target serial 03 sha256 {LEAF} subject CN=leaf,O=Example")
+    );
+    let unknown = authority.answer(&lists[1..], |_| {}).unwrap();
+    assert_eq!(unknown.verdict, Verdict::Unknown { certificate: 1 });
+    assert_eq!((&unknown.target, &unknown.decides), (&leaf, &middle));
+    assert!(unknown
+        .to_string()
+        .starts_with("unknown 1; target serial 03 "));
+    assert!(unknown
+        .to_string()
+        .ends_with(" subject CN=middle,O=Example"));
+    let revoked = authority
+        .answer(&[&authority.root_list, &authority.revoking_list], |_| {})
+        .unwrap();
+    assert_eq!((&revoked.target, &revoked.decides), (&leaf, &leaf));
+    let short = authority
+        .answer(&lists, |it| it.path = &it.path[..1])
+        .unwrap();
+    assert_eq!((&short.verdict, &short.target), (&Verdict::Valid, &middle));
+    let empty = authority.answer(&lists, |it| it.path = &[]).unwrap();
+    assert_eq!((&empty.target, &empty.decides), (&None, &None));
+    assert_eq!(empty.to_string(), "invalid 0 15");
+}
+
+#[test]
 fn invalid_paths() {
     let authority = Authority::read();
     let (root, middle) = (&authority.root_list[..], &authority.middle_list[..]);
@@ -165,66 +273,178 @@ fn invalid_paths() {
         authority.ask(&lists, |it| it.purpose = Some(SERVER_AUTH)),
         Ok(Verdict::Valid)
     );
-    let alone = Question {
-        anchor: &authority.root,
-        path: &leaf,
-        statements: &lists,
-        moment: DECEMBER,
-        purpose: None,
-    };
-    assert_eq!(
-        alone.verdict(&Fingerprints(&authority.good)),
-        invalid(1, Reason::Signature)
-    );
+    let alone = authority
+        .query(&leaf, &lists)
+        .answer(&Fingerprints(&authority.good))
+        .unwrap();
+    assert_eq!(Ok(alone.verdict), invalid(1, Reason::Signature));
+    assert_eq!(alone.signature, Some(Judgement::Wrong));
 }
 
 #[test]
-fn a_judge_is_asked_each_question_once() {
+fn a_purpose_that_is_none_is_an_error() {
     let authority = Authority::read();
-    let path: [&[u8]; 2] = [&authority.middle, &authority.leaf];
+    let lists = [&authority.root_list[..], &authority.middle_list];
+    for contents in [&[][..], &[0x80], &SERVER_AUTH[..2], &[0x2B, 0x86]] {
+        let answer = authority.ask(&lists, |it| it.purpose = Some(contents));
+        // The first two octets of a purpose are contents too, of another object identifier.
+        let expected = if contents == &SERVER_AUTH[..2] {
+            invalid(2, Reason::Purpose)
+        } else {
+            Err(Error::Purpose)
+        };
+        assert_eq!(answer, expected, "{contents:02X?}");
+    }
+}
+
+#[test]
+fn what_is_not_valid_is_an_error_where_valid_is_required() {
+    let authority = Authority::read();
+    let (path, good) = (authority.path(), Fingerprints(&authority.good));
+    let lists = [&authority.root_list[..], &authority.middle_list];
+    let valid = authority.query(&path, &lists).require_valid(&good).unwrap();
+    assert_eq!(valid.verdict, Verdict::Valid);
+    let Err(NotValid::Answer(answer)) = authority.query(&path, &lists[..1]).require_valid(&good)
+    else {
+        panic!("the leaf has no list");
+    };
+    assert_eq!(answer.verdict, Verdict::Unknown { certificate: 2 });
+    let error = authority
+        .query(&path, &[&[0x05]])
+        .require_valid(&good)
+        .unwrap_err();
+    assert_eq!(
+        error.to_string(),
+        "statements[0]: 41 Der (4 Truncated) at 0"
+    );
+    let boxed: Box<dyn std::error::Error> = error.into();
+    assert!(boxed.source().unwrap().downcast_ref::<Error>().is_some());
+}
+
+/// The octets of the questions that a judge is asked for the answer, in order, if it says this of each.
+fn asked_of(
+    query: &Query<'_>,
+    judgement: impl Fn(usize) -> Judgement,
+) -> (Result<Answer, Error>, Vec<Vec<u8>>) {
+    let asked = RefCell::new(Vec::new());
+    let judge = |one: &SignatureQuestion<'_>| {
+        let print = fingerprint(one.algorithm, one.key_info, one.message, one.signature);
+        assert_eq!(print, one.fingerprint);
+        asked.borrow_mut().push(one.message.to_vec());
+        judgement(asked.borrow().len())
+    };
+    let answer = query.answer(&judge);
+    (answer, asked.into_inner())
+}
+
+#[test]
+fn a_judge_is_asked_each_question_once_and_only_if_it_counts() {
+    let authority = Authority::read();
+    let path = authority.path();
     let statements: [&[u8]; 4] = [
         &authority.root_list,
         &authority.middle_list,
         &authority.response,
         &authority.root_list,
     ];
-    let question = Question {
-        anchor: &authority.root,
-        path: &path,
-        statements: &statements,
-        moment: DECEMBER,
-        purpose: None,
-    };
-    let questions = question.questions().unwrap();
+    let query = authority.query(&path, &statements);
+    let questions = query.signature_questions().unwrap();
     // Two about the path, one about each list, two about the delegate's certificate and the response.
-    assert_eq!(questions.len(), 7);
+    assert_eq!((questions.len(), questions.is_empty()), (7, false));
     assert!(questions
         .iter()
-        .all(|asked| authority.good.contains(&asked.fingerprint)));
+        .all(|question| authority.good.contains(&question.fingerprint)));
     let first = questions.iter().next().unwrap();
     let middle = Certificate::read(&authority.middle).unwrap();
     assert_eq!(
         (first.message, first.signature),
         (middle.tbs(), middle.signature())
     );
-    let asked = RefCell::new(Vec::new());
-    let judge = |one: &Asked<'_>| {
-        let print = fingerprint(one.algorithm, one.key_info, one.message, one.signature);
-        assert_eq!(print, one.fingerprint);
-        asked.borrow_mut().push(print);
-        true
+    let revoked = Verdict::Revoked {
+        certificate: 2,
+        reason: 1,
     };
+    let (answer, asked) = asked_of(&query, |_| Judgement::Good);
+    assert_eq!((answer.unwrap().verdict, asked.len()), (revoked, 6));
+    // The statements do not count once the path is invalid.
+    for (from, judgement) in [(1, Judgement::NotServed), (2, Judgement::RefusedByPolicy)] {
+        let (answer, asked) = asked_of(&query, |number| {
+            if number < from {
+                Judgement::Good
+            } else {
+                judgement
+            }
+        });
+        let answer = answer.unwrap();
+        assert_eq!(
+            (Ok(answer.verdict), asked.len()),
+            (invalid(from, Reason::Signature), 2)
+        );
+        assert_eq!(answer.signature, Some(judgement));
+    }
+    let (answer, asked) = asked_of(&Query { moment: 0, ..query }, |_| Judgement::Good);
     assert_eq!(
-        question.verdict(&judge),
-        Ok(Verdict::Revoked {
-            certificate: 2,
-            reason: 1
-        })
+        (answer.map(|it| it.verdict), asked.len()),
+        (invalid(1, Reason::NotYet), 2)
     );
-    assert_eq!(asked.borrow().len(), 6);
+    let (answer, asked) = asked_of(&Query { path: &[], ..query }, |_| Judgement::Good);
     assert_eq!(
-        question.verdict(&|_: &Asked<'_>| false),
-        invalid(1, Reason::Signature)
+        (answer.map(|it| it.verdict), asked.len()),
+        (invalid(0, Reason::Empty), 0)
+    );
+}
+
+#[test]
+fn judges_are_types_closures_and_objects() {
+    let authority = Authority::read();
+    let path = authority.path();
+    let query = authority.query(&path, &[]);
+    let unknown = Ok(Verdict::Unknown { certificate: 1 });
+    let verdict = |judge: &dyn Judge| query.answer(judge).map(|answer| answer.verdict);
+    let mut count = 0;
+    let counting = judge_by(|_| {
+        count += 1;
+        Judgement::Good
+    });
+    assert_eq!(verdict(&counting), unknown);
+    assert_eq!(count, 2);
+    let boxed: Box<dyn Judge> = Box::new(|_: &SignatureQuestion<'_>| true);
+    assert_eq!(verdict(&*boxed), unknown);
+    fn nobody(_: &SignatureQuestion<'_>) -> bool {
+        false
+    }
+    assert_eq!(verdict(&nobody), invalid(1, Reason::Signature));
+    assert_eq!(
+        (Judgement::from(true), Judgement::from(false)),
+        (Judgement::Good, Judgement::Wrong)
+    );
+}
+
+/// The library reads no more than 130 certificates: what stands behind them may be anything.
+#[test]
+fn paths_that_are_too_long() {
+    let authority = Authority::read();
+    let null: &[u8] = &[0x05, 0x00];
+    let most = vec![&authority.leaf[..]; 128];
+    let more = [&most[..], &[&authority.leaf]].concat();
+    let broken = [&more[..], &[null]].concat();
+    let (answer, asked) = asked_of(&authority.query(&most, &[]), |_| Judgement::Good);
+    assert_eq!(answer.map(|it| it.verdict), invalid(1, Reason::Issuer));
+    assert_eq!(asked.len(), 2); // the leaf by the root's key, and by its own
+    for path in [&more, &broken] {
+        let (answer, asked) = asked_of(&authority.query(path, &[]), |_| Judgement::Good);
+        let answer = answer.unwrap();
+        assert_eq!(Ok(answer.verdict), invalid(0, Reason::TooLong));
+        assert_eq!(
+            (answer.target, answer.decides, asked.len()),
+            (None, None, 0)
+        );
+    }
+    let unread = [&most[..], &[null]].concat();
+    let (answer, _) = asked_of(&authority.query(&unread, &[]), |_| Judgement::Good);
+    assert_eq!(
+        answer.map(|it| it.verdict),
+        refused(Text::Certificates, 129, 22, None, 0)
     );
 }
 
@@ -266,17 +486,16 @@ fn refusals_name_the_value_and_the_place_in_it() {
         authority.ask(&[unsuccessful], |_| {}),
         refused(Text::Statements, 0, 55, None, 2)
     );
+    // So is a statement of a path that is invalid whatever it says.
+    assert_eq!(
+        authority.ask(&[null], |it| it.moment = 0),
+        refused(Text::Statements, 0, 42, None, 0)
+    );
     // A fault at the end of a value is told of that value, though the next begins there.
     let ends: &[u8] = &[0x30, 0x02, 0x30, 0x00];
     let ask = |path: [&[u8]; 2]| {
-        Question {
-            anchor: &authority.root,
-            path: &path,
-            statements: &[],
-            moment: DECEMBER,
-            purpose: None,
-        }
-        .verdict(&Fingerprints(&[]))
+        let answer = authority.query(&path, &[]).answer(&Fingerprints(&[]));
+        answer.map(|it| it.verdict)
     };
     assert_eq!(
         ask([ends, &authority.leaf]),
@@ -289,6 +508,63 @@ fn refusals_name_the_value_and_the_place_in_it() {
 }
 
 #[test]
+fn statements_that_cannot_be_read_are_left_out_if_asked_for() {
+    let authority = Authority::read();
+    let (path, good) = (authority.path(), Fingerprints(&authority.good));
+    let cut = &authority.revoking_list[..100];
+    let statements = [
+        &[0x05, 0x00][..],
+        &authority.root_list,
+        cut,
+        &authority.middle_list,
+    ];
+    let query = authority.query(&path, &statements);
+    assert_eq!(
+        query.answer(&good).map(|it| it.verdict),
+        refused(Text::Statements, 0, 42, None, 0)
+    );
+    let answer = query.answer_by_readable(&good).unwrap();
+    assert_eq!(answer.verdict, Verdict::Valid);
+    let ignored: Vec<_> = answer.ignored.iter().map(Fault::to_string).collect();
+    assert_eq!(
+        ignored,
+        [
+            "statements[0]: 42 Layout at 0",
+            "statements[2]: 41 Der (4 Truncated) at 0"
+        ]
+    );
+    assert!(answer.to_string().ends_with(&format!(
+        "; left out {}; left out {}",
+        ignored[0], ignored[1]
+    )));
+    let none = authority
+        .query(&path, &statements[..1])
+        .answer_by_readable(&good)
+        .unwrap();
+    assert_eq!(
+        (none.verdict, none.ignored.len()),
+        (Verdict::Unknown { certificate: 1 }, 1)
+    );
+    // Certificates that cannot be read are refused as ever.
+    let broken: [&[u8]; 1] = [&[0x05, 0x00]];
+    let refusal = authority
+        .query(&broken, &statements)
+        .answer_by_readable(&good);
+    assert_eq!(
+        refusal.map(|it| it.verdict),
+        refused(Text::Certificates, 1, 22, None, 0)
+    );
+    let anchor = Query {
+        anchor: &[],
+        ..query
+    };
+    assert_eq!(
+        anchor.answer_by_readable(&good).map(|it| it.verdict),
+        refused(Text::Certificates, 0, 21, Some(4), 0)
+    );
+}
+
+#[test]
 fn errors_are_said_in_words() {
     let error = Certificate::read(&[0x30, 0x04, 0x05, 0x00, 0x03, 0x00])
         .err()
@@ -296,4 +572,8 @@ fn errors_are_said_in_words() {
     assert_eq!(error.to_string(), "21 Der (6 Content) at 4");
     let boxed: Box<dyn std::error::Error> = error.into();
     assert!(boxed.downcast_ref::<Error>().is_some());
+    assert_eq!(
+        Error::Purpose.to_string(),
+        "the purpose is not the contents of an object identifier"
+    );
 }

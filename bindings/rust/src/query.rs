@@ -1,0 +1,291 @@
+//! The question about a path, and how it is answered.
+
+use crate::answer::{Answer, NotValid};
+use crate::certificate::{check, Certificate};
+use crate::fault::{Error, Fault, Text};
+use crate::identity::Identity;
+use crate::judge::{question_in, Heard, Judge, Judgement, SignatureQuestions};
+use crate::library::{x509check_validate, QuestionFields, CERTIFICATES, REFUSED, STATEMENTS};
+use crate::rows::{Refusal, Rows};
+use crate::verdict::{Reason, Verdict};
+
+/// The certificates that a path may have.
+const MOST_CERTIFICATES: usize = 128;
+/// Of a longer path the library gets one more, which it answers by [`Reason::TooLong`], and reads none of the others.
+const MOST_HANDED: usize = MOST_CERTIFICATES + 1;
+
+/// The question about a path.
+///
+/// There is no call that answers a bare [`Verdict`]: each answer says whom it is about, and a verdict that is left aside is a warning.
+///
+/// ```compile_fail
+/// #![deny(unused_must_use)]
+/// # fn ask(query: x509check::Query<'_>) -> Result<(), x509check::Error> {
+/// query.answer(&x509check::Fingerprints(&[]))?;
+/// # Ok(())
+/// # }
+/// ```
+#[derive(Clone, Copy, Debug)]
+pub struct Query<'a> {
+    /// The anchor, of which the name and the key alone are used: the DER of a certificate.
+    pub anchor: &'a [u8],
+    /// The certificates below it, to the one in question, each in DER.
+    pub path: &'a [&'a [u8]],
+    /// Lists (CRLs) and OCSP responses in DER, in any order. One that no issuer of the path signed changes nothing.
+    pub statements: &'a [&'a [u8]],
+    /// In seconds from 1970-01-01T00:00:00Z.
+    pub moment: i64,
+    /// The contents of an OBJECT IDENTIFIER, if a purpose is asked for. Octets that are no such contents are [`Error::Purpose`]; so is an
+    /// empty slice.
+    pub purpose: Option<&'a [u8]>,
+}
+
+impl<'a> Query<'a> {
+    /// What a judge may be asked, at whatever moment and for whatever purpose.
+    pub fn signature_questions(&self) -> Result<SignatureQuestions, Error> {
+        SignatureQuestions::of(self.rows()?)
+    }
+
+    /// The answer of who believes the judge, or the first fault of a certificate or a statement that cannot be read.
+    ///
+    /// The judge is asked about the statements only if the path is valid without them, and about each signature at most once.
+    pub fn answer(&self, judge: &dyn Judge) -> Result<Answer, Error> {
+        let asking = Asking::of(self)?;
+        let mut heard = Heard::nothing(judge);
+        let verdict = asking.verdict(&mut heard)?;
+        self.check_length(verdict)?;
+        asking.answer(verdict, &heard)
+    }
+
+    /// As [`answer`](Query::answer), but a statement that cannot be read is left out, and the answer names it among the `ignored`.
+    ///
+    /// What such a statement would have said is lost: an older one may speak in its place.
+    pub fn answer_by_readable(&self, judge: &dyn Judge) -> Result<Answer, Error> {
+        let (statements, ignored) = self.readable()?;
+        let query = Query {
+            statements: &statements,
+            ..*self
+        };
+        let answer = query.answer(judge)?;
+        Ok(Answer { ignored, ..answer })
+    }
+
+    /// The answer if the path is valid. Everything else is an error, which carries the answer if there is one.
+    pub fn require_valid(&self, judge: &dyn Judge) -> Result<Answer, NotValid> {
+        self.answer(judge)?.require_valid()
+    }
+
+    fn rows(&self) -> Result<Rows<'a>, Error> {
+        let handed = self.path.len().min(MOST_HANDED);
+        Rows::of(self.anchor, &self.path[..handed], self.statements)
+    }
+
+    /// Refuses a verdict on a part of the path, unless it is that the path is too long.
+    fn check_length(&self, verdict: Verdict) -> Result<(), Error> {
+        let too_long = Verdict::Invalid {
+            certificate: 0,
+            reason: Reason::TooLong,
+        };
+        if self.path.len() > MOST_CERTIFICATES && verdict != too_long {
+            return Err(Error::Unexpected(
+                "a verdict on a path of length",
+                self.path.len(),
+            ));
+        }
+        Ok(())
+    }
+
+    /// The statements that can be read, and the faults of the others. Each is read alone, behind the anchor.
+    fn readable(&self) -> Result<(Vec<&'a [u8]>, Vec<Fault>), Error> {
+        let (mut readable, mut ignored) = (Vec::new(), Vec::new());
+        for (index, statement) in self.statements.iter().enumerate() {
+            match Rows::of(self.anchor, &[], &[statement]).and_then(|rows| rows.questions()) {
+                Ok(_) => readable.push(*statement),
+                Err(Error::Refused(fault))
+                    if matches!(fault.value, Some((Text::Statements, _))) =>
+                {
+                    ignored.push(Fault {
+                        value: Some((Text::Statements, index)),
+                        ..fault
+                    });
+                }
+                Err(error) => return Err(error),
+            }
+        }
+        Ok((readable, ignored))
+    }
+}
+
+/// The contents of an OBJECT IDENTIFIER; the library says whether they are.
+fn purpose_of(contents: &[u8]) -> Result<&[u8], Error> {
+    let digits = contents.len().to_be_bytes();
+    let skipped = digits.iter().take_while(|digit| **digit == 0).count();
+    let mut octets = vec![0x06];
+    if contents.len() >= 0x80 {
+        octets.push(0x80 | (digits.len() - skipped) as u8);
+    }
+    octets.extend_from_slice(&digits[skipped.min(digits.len() - 1)..]);
+    octets.extend_from_slice(contents);
+    match check(&octets) {
+        Ok(()) => Ok(contents),
+        Err(Error::Refused(_)) => Err(Error::Purpose),
+        Err(error) => Err(error),
+    }
+}
+
+/// A query whose certificates and statements were read.
+struct Asking<'a> {
+    rows: Rows<'a>,
+    path_length: usize,
+    moment: i64,
+    /// No octets if no purpose is asked for.
+    purpose: &'a [u8],
+    fields: Vec<QuestionFields>,
+}
+
+impl<'a> Asking<'a> {
+    fn of(query: &Query<'a>) -> Result<Asking<'a>, Error> {
+        let purpose = match query.purpose {
+            Some(contents) => purpose_of(contents)?,
+            None => &[],
+        };
+        let rows = query.rows()?;
+        Ok(Asking {
+            fields: rows.questions()?,
+            rows,
+            path_length: query.path.len(),
+            moment: query.moment,
+            purpose,
+        })
+    }
+
+    /// What the library says if these signatures are good and no others.
+    fn verdict_by(&self, statements: &[u8], good: &[u8]) -> Result<Verdict, Error> {
+        // The pointers and the lengths are those of the slices, and the call only reads them.
+        let answer = unsafe {
+            x509check_validate(
+                self.rows.certificates.as_ptr(),
+                self.rows.certificates.len(),
+                statements.as_ptr(),
+                statements.len(),
+                good.as_ptr(),
+                good.len(),
+                self.moment,
+                self.purpose.as_ptr(),
+                self.purpose.len(),
+            )
+        };
+        if answer.verdict != REFUSED {
+            return Verdict::of(&answer, self.path_length.min(MOST_HANDED));
+        }
+        Err(self.rows.refused(&Refusal {
+            text: answer.text,
+            fault: answer.fault,
+            der_fault: answer.der_fault,
+            offset: answer.offset,
+        }))
+    }
+
+    /// The questions about signatures of what stands in this text.
+    fn questions_about(&self, text: u32) -> impl Iterator<Item = &QuestionFields> {
+        self.fields
+            .iter()
+            .filter(move |fields| fields.message.text == text)
+    }
+
+    fn ask_about(&self, text: u32, heard: &mut Heard<'_>) {
+        for fields in self.questions_about(text) {
+            heard.ask(&question_in(
+                &self.rows.certificates,
+                &self.rows.statements,
+                fields,
+            ));
+        }
+    }
+
+    /// The verdict, as if the judge had been asked every question. A path is looked at before its statements, so a path that is invalid
+    /// stays so whatever they say; and whether it is empty or too long does not depend on signatures.
+    fn verdict(&self, heard: &mut Heard<'_>) -> Result<Verdict, Error> {
+        let unsigned = self.verdict_by(&[], &[])?;
+        if unsigned.certificate() == Some(0) {
+            return Ok(unsigned);
+        }
+        self.ask_about(CERTIFICATES, heard);
+        let on_path = self.verdict_by(&[], &heard.good)?;
+        if matches!(on_path, Verdict::Invalid { .. }) {
+            return Ok(on_path);
+        }
+        self.ask_about(STATEMENTS, heard);
+        self.verdict_by(&self.rows.statements, &heard.good)
+    }
+
+    /// Whom the certificate with this number names.
+    fn identity(&self, number: usize) -> Result<Identity, Error> {
+        match self.rows.certificate(number) {
+            Some(octets) => Certificate::read(octets)?.identity(),
+            None => Err(Error::Unexpected("the certificate", number)),
+        }
+    }
+
+    /// What the judge said of the signature because of which the path is invalid.
+    fn refused_signature(&self, verdict: Verdict, heard: &Heard<'_>) -> Option<Judgement> {
+        let Verdict::Invalid {
+            certificate,
+            reason: Reason::Signature,
+        } = verdict
+        else {
+            return None;
+        };
+        let fields = self
+            .questions_about(CERTIFICATES)
+            .nth(certificate.checked_sub(1)?)?;
+        heard.of(&fields.fingerprint)
+    }
+
+    fn answer(&self, verdict: Verdict, heard: &Heard<'_>) -> Result<Answer, Error> {
+        let target = match self.path_length {
+            number @ 1..=MOST_CERTIFICATES => Some(self.identity(number)?),
+            _ => None,
+        };
+        let decides = match verdict.certificate() {
+            None | Some(0) => None,
+            Some(number) => Some(self.identity(number)?),
+        };
+        Ok(Answer {
+            verdict,
+            target,
+            decides,
+            signature: self.refused_signature(verdict, heard),
+            ignored: Vec::new(),
+        })
+    }
+}
+
+#[cfg(test)]
+mod tests {
+    use super::*;
+
+    #[test]
+    fn purposes_are_contents_of_object_identifiers() {
+        let long = [vec![0x2B], vec![1; 126]].concat();
+        let longer = [vec![0x2B], vec![1; 999]].concat();
+        for contents in [
+            &[0x2B, 6, 1, 5, 5, 7, 3, 1][..],
+            &[0x55, 0x1D, 0x25, 0],
+            &[0x88, 0x37],
+            &long,
+            &longer,
+        ] {
+            assert_eq!(purpose_of(contents), Ok(contents));
+        }
+        for contents in [
+            &[][..],
+            &[0x80],
+            &[0x2B, 0x86],
+            &[0x2B, 0x80, 1],
+            &[0xFF; 300],
+        ] {
+            assert_eq!(purpose_of(contents), Err(Error::Purpose), "{contents:02X?}");
+        }
+    }
+}
