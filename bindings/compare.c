@@ -42,6 +42,10 @@ static void print_refusal(uint32_t text, uint32_t fault, uint32_t der_fault, siz
 {
     static const char *const texts[] = {"memory", "certificates", "statements", "fingerprints"};
 
+    if (text >= sizeof texts / sizeof texts[0]) {
+        fputs("compare: a refusal of no text\n", stderr);
+        exit(2);
+    }
     printf("refused %s %u", texts[text], (unsigned)fault);
     if (der_fault != 0)
         printf(" (DER %u)", (unsigned)der_fault);
@@ -50,18 +54,26 @@ static void print_refusal(uint32_t text, uint32_t fault, uint32_t der_fault, siz
 
 static void print_verdict(const struct x509check_verdict *answer)
 {
-    static const char *const words[] = {"valid", "invalid", "revoked", "unknown"};
-
-    if (answer->verdict == X509CHECK_REFUSED) {
+    switch (answer->verdict) {
+    case X509CHECK_VALID:
+        puts("valid");
+        break;
+    case X509CHECK_INVALID:
+        printf("invalid %zu %u\n", answer->certificate, (unsigned)answer->reason);
+        break;
+    case X509CHECK_REVOKED:
+        printf("revoked %zu %u\n", answer->certificate, (unsigned)answer->reason);
+        break;
+    case X509CHECK_UNKNOWN:
+        printf("unknown %zu\n", answer->certificate);
+        break;
+    case X509CHECK_REFUSED:
         print_refusal(answer->text, answer->fault, answer->der_fault, answer->offset);
-        return;
+        break;
+    default:
+        fputs("compare: a number that is no verdict\n", stderr);
+        exit(2);
     }
-    fputs(words[answer->verdict], stdout);
-    if (answer->verdict != X509CHECK_VALID)
-        printf(" %zu", answer->certificate);
-    if (answer->verdict == X509CHECK_INVALID || answer->verdict == X509CHECK_REVOKED)
-        printf(" %u", (unsigned)answer->reason);
-    putchar('\n');
 }
 
 /* Whether the part of the question lies in its text; the texts are numbered from 1 on. */
