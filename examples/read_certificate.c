@@ -50,6 +50,16 @@ static void print_fingerprint(const uint8_t *octets, const struct x509check_fiel
     print_part("fingerprint of the signature, as one under the certificate's own key", fingerprint, whole);
 }
 
+/* What `openssl x509 -fingerprint -sha256` prints, without colons. */
+static void print_sha256(const uint8_t *octets, size_t length)
+{
+    uint8_t digest[X509CHECK_SHA256_LENGTH];
+    struct x509check_part whole = {0, sizeof digest};
+
+    x509check_sha256(octets, length, digest);
+    print_part("sha256", digest, whole);
+}
+
 /* The octets of a file, to be freed, or a null pointer with the line on standard error. */
 static uint8_t *octets_of(const char *path, size_t *length)
 {
@@ -94,6 +104,7 @@ static int print_answer(const uint8_t *octets, size_t length)
         return 1;
     }
     print_certificate(octets, &answer.fields);
+    print_sha256(octets, length);
     print_fingerprint(octets, &answer.fields);
     return 0;
 }

@@ -60,6 +60,8 @@ def load(path):
     library.x509check_read_certificate.restype = Certificate
     library.x509check_fingerprint.argtypes = [ctypes.c_char_p, ctypes.c_size_t] * 4 + [ctypes.c_char_p]
     library.x509check_fingerprint.restype = None
+    library.x509check_sha256.argtypes = [ctypes.c_char_p, ctypes.c_size_t, ctypes.c_char_p]
+    library.x509check_sha256.restype = None
     return library
 
 
@@ -67,6 +69,13 @@ def fingerprint(library, *texts):
     written = ctypes.create_string_buffer(32)
     arguments = [argument for text in texts for argument in (text, len(text))]
     library.x509check_fingerprint(*arguments, written)
+    return written.raw
+
+
+def sha256(library, octets):
+    """What `openssl x509 -fingerprint -sha256` prints, without colons."""
+    written = ctypes.create_string_buffer(32)
+    library.x509check_sha256(octets, len(octets), written)
     return written.raw
 
 
@@ -95,6 +104,7 @@ def main(path, file):
         print(f"refused: fault {answer.fault}{der} at {answer.offset}")
         return 1
     print_certificate(octets, answer.fields)
+    print("sha256", sha256(library, octets).hex())
     texts = (getattr(answer.fields, name).of(octets) for name in ("algorithm", "subject_public_key_info", "tbs", "signature"))
     print("fingerprint of the signature, as one under the certificate's own key", fingerprint(library, *texts).hex())
     return 0
