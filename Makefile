@@ -7,6 +7,8 @@ KIT = $(shell dirname "$$(dirname "$$(readlink -f "$$(command -v rt)")")")
 bin = $(DESTDIR)$(PREFIX)/bin
 lib = $(DESTDIR)$(PREFIX)/lib
 include = $(DESTDIR)$(PREFIX)/include
+# The shared object is the module's alone: beside the static library, -lx509check would take it.
+private = $(lib)/x509check
 libexec = $(DESTDIR)$(PREFIX)/libexec/x509check
 share = $(DESTDIR)$(PREFIX)/share/x509check
 program = crates/x509check/out/x509check
@@ -33,13 +35,13 @@ bindings: $(library)
 # Installs what is built, and builds what is not there: `make install` as root after `make` as a user runs no rt.
 install: $(program) $(library)
 	.ci/bindings --link
-	install -d $(bin) $(lib) $(include) $(libexec) $(share)/python/x509check $(share)/rust/src
+	install -d $(bin) $(lib) $(private) $(include) $(libexec) $(share)/python/x509check $(share)/rust/src
 	install -m 755 $(program) $(bin)/x509check
 	install -m 644 $(library) $(lib)/libx509check.a
 	install -m 644 "$(KIT)/c/liblibc_c.a" $(lib)/libx509check_memory.a
 	install -m 644 crates/capi/x509check.h $(include)/x509check.h
 	cd examples && install -m 755 $(scripts) $(libexec)
-	[ ! -f bindings/out/libx509check.so ] || install -m 755 bindings/out/libx509check.so $(lib)/libx509check.so
+	install -m 755 bindings/out/libx509check.so $(private)/libx509check.so
 	install -m 644 bindings/python/x509check/*.py bindings/python/x509check/py.typed $(share)/python/x509check
 	install -m 644 bindings/rust/Cargo.toml bindings/rust/build.rs $(share)/rust
 	install -m 644 bindings/rust/src/*.rs $(share)/rust/src
@@ -53,9 +55,9 @@ $(library):
 uninstall:
 	rm -f $(bin)/x509check $(lib)/libx509check.a $(lib)/libx509check_memory.a $(include)/x509check.h
 	rm -f $(scripts:%=$(libexec)/%)
-	rm -f $(lib)/libx509check.so
+	rm -f $(private)/libx509check.so
 	rm -rf $(share)/python $(share)/rust
-	-rmdir $(libexec) $(share)
+	-rmdir $(libexec) $(share) $(private)
 
 check:
 	.ci/run
@@ -66,7 +68,7 @@ help:
 	@echo 'make bindings             the shared object for bindings/python'
 	@echo 'make install PREFIX=/usr/local DESTDIR='
 	@echo '                          bin/x509check, lib/libx509check.a, lib/libx509check_memory.a, include/x509check.h,'
-	@echo '                          lib/libx509check.so, libexec/x509check/verdicts, validate and to_der,'
+	@echo '                          lib/x509check/libx509check.so, libexec/x509check/verdicts, validate and to_der,'
 	@echo '                          share/x509check/python and share/x509check/rust'
 	@echo 'make uninstall            removes what install put there'
 	@echo 'make check                the gate: pages, proofs, edits, tests; from nothing some 240 minutes of a processor'
