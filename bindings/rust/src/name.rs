@@ -90,8 +90,11 @@ fn inside<'a>(value: &Value<'a>, identifier: u8) -> Option<Vec<Value<'a>>> {
     }
 }
 
-/// The numbers of an OBJECT IDENTIFIER with dots between them; none if one has more than 128 bits.
+/// The numbers of an OBJECT IDENTIFIER with dots between them; none if one has more than 128 bits, or the last is cut off.
 fn dotted(contents: &[u8]) -> Option<String> {
+    if *contents.last()? >= 0x80 {
+        return None;
+    }
     let (mut text, mut number) = (String::new(), 0u128);
     for octet in contents {
         number = number.checked_mul(128)? + u128::from(octet & 0x7F);
@@ -295,6 +298,8 @@ mod tests {
     fn types_of_many_numbers() {
         assert_eq!(dotted(&[0x88, 0x37, 3]).unwrap(), "2.999.3");
         assert_eq!(dotted(&[0x27, 0x28, 0x4F]).unwrap(), "0.39.40.79");
+        assert_eq!(dotted(&[]), None);
+        assert_eq!(dotted(&[0x2B, 0x88]), None);
         assert_eq!(dotted(&[0xFF; 20]), None);
         let large = [&[0xFF; 20][..], &[0x7F]].concat();
         let text = text_of(&name(&[&[attribute(&large, 0x0C, b"a")]])).unwrap();

@@ -12,20 +12,19 @@ use std::io::{Read, Write};
 
 const NO_MEMORY: u8 = 6;
 
-// The program's name and the words of the command.
+// The program's name, where the system gives one, and the words of the command.
 fn words_of<'a>(
     alloc: Global,
-    name: &'a str,
+    name: &[&'a str],
     command: &[&'a str],
 ) -> Result<Vec<&'a str>, AllocError> {
-    let mut words = Vec::new(alloc);
-    words.push(name)?;
+    let mut words = Vec::from_slice(alloc, name)?;
     words.extend_from_slice(command)?;
     Ok(words)
 }
 
-// What to do about the failure, behind the line that reports it; or what to know about a list that was delivered. Nothing tells that standard
-// error failed.
+// What to do about the failure, behind the line that reports it; or what to know about a list that was delivered. That standard error
+// failed is told nowhere.
 fn give_hint<E: Write>(
     rt: &HostRuntime,
     line: &Line<'_>,
@@ -94,17 +93,7 @@ pub fn start<I: Read, O: Write, E: Write>(
 ) -> u8
     ensures { IsAnswering result ⊎ IsFailing result }
 {
-    let [name, behind @ ..] = words else {
-        return run_words(
-            rt,
-            alloc,
-            run_options(words).options,
-            words,
-            input,
-            out,
-            err,
-        );
-    };
+    let (name, behind) = words.split_at(words.len().min(1));
     let RunWords { options, words } = run_options(behind);
     match words_of(alloc, name, words) {
         Ok(command) => run_words(rt, alloc, options, command.as_slice(), input, out, err),

@@ -6,7 +6,7 @@ use statements_crl::Crl;
 use std::io;
 use std::io::Write;
 
-// The moment as ISO 8601 has it; its seconds from 1970-01-01T00:00:00Z if it is none of the years from -9999 to 9999.
+// The moment as in 2026-11-27T07:30:00Z. A moment outside the years -9999 to 9999 is printed in seconds from 1970-01-01T00:00:00Z.
 fn write_moment<W: Write>(seconds: i64, writer: &mut W) -> io::Result<()> {
     match Timestamp::from_second(seconds) {
         Ok(moment) => write!(writer, "{moment}"),

@@ -9,6 +9,8 @@ use Rattle.statements_ocsp.specs.Certificates.{certificates_in}
 use Rattle.statements_ocsp.specs.OcspResponse.{OcspResponse}
 use Rattle.path_verifiers.specs.Fingerprint.{fingerprint_of}
 use Rattle.cli_printing.specs.declared.fingerprint.SignatureQuestion as code
+use Rattle.cli_printing.specs.declared.fingerprint.Signed.{Signed}
+use Rattle.cli_printing.specs.declared.fingerprint.Signed.TheVariants as By
 
 -- what a verifier is asked: is this the signature of the message, under the key, by the algorithm?
 pub record SignatureQuestion : Type 0 where
@@ -74,41 +76,34 @@ abbrev pub line_end : Bool → SignatureQuestion → List ℕ
 line_end false question = codes "\n"
 line_end true question = parts_text question ++ codes "\n"
 
--- the fingerprint in hexadecimal, a space, and what it is of
-abbrev pub question_line : Bool → SignatureQuestion → List ℕ → List ℕ
-question_line with_parts question words =
-    encode_lower (print_of question) ++ codes " " ++ words ++ line_end with_parts question
+-- what is signed, and whose key judges it; n is the number of a certificate that comes with a response
+unfoldable pub signed_words : Signed → List ℕ
+signed_words By.Certificate = codes " certificate issuer"
+signed_words By.List = codes " crl issuer"
+signed_words By.Response = codes " response issuer"
+signed_words (By.Delegate n) = codes " certificate " ++ decimal n ++ codes " issuer"
+signed_words (By.ByDelegate n) = codes " response certificate " ++ decimal n
+
+-- the fingerprint in hexadecimal, and what it is of
+abbrev pub question_line : Bool → SignatureQuestion → Signed → List ℕ
+question_line with_parts question signed =
+    encode_lower (print_of question) ++ signed_words signed ++ line_end with_parts question
 
 -- the line of a certificate under its issuer's key
 abbrev pub certificate_print_line : Bool → SubjectPublicKeyInfo → Certificate → List ℕ
 certificate_print_line with_parts key_info certificate =
-    question_line with_parts (certificate_question key_info certificate) (codes "certificate issuer")
+    question_line with_parts (certificate_question key_info certificate) By.Certificate
 
 -- and of a revocation list
 abbrev pub crl_print_line : Bool → SubjectPublicKeyInfo → CertificateList → List ℕ
 crl_print_line with_parts key_info list =
-    question_line with_parts (crl_question key_info list) (codes "crl issuer")
-
--- the words of the n-th certificate that comes with a response, and of the response under that certificate's key
-unfoldable pub delegate_words : ℕ → List ℕ
-delegate_words n = codes " certificate " ++ decimal n ++ codes " issuer"
-
-unfoldable pub delegated_words : ℕ → List ℕ
-delegated_words n = codes " response certificate " ++ decimal n
-
-abbrev pub delegate_line : Bool → SignatureQuestion → ℕ → List ℕ
-delegate_line with_parts question n =
-    encode_lower (print_of question) ++ delegate_words n ++ line_end with_parts question
-
-abbrev pub delegated_line : Bool → SignatureQuestion → ℕ → List ℕ
-delegated_line with_parts question n =
-    encode_lower (print_of question) ++ delegated_words n ++ line_end with_parts question
+    question_line with_parts (crl_question key_info list) By.List
 
 -- of the n-th certificate under the issuer's key, and of the response under that certificate's
 abbrev pub both_lines : Bool → SubjectPublicKeyInfo → OcspResponse → ℕ → Certificate → List ℕ
 both_lines with_parts key_info response n certificate =
-    delegate_line with_parts (certificate_question key_info certificate) n
-    ++ delegated_line with_parts (response_question certificate.key_info response) n
+    question_line with_parts (certificate_question key_info certificate) (By.Delegate n)
+    ++ question_line with_parts (response_question certificate.key_info response) (By.ByDelegate n)
 
 -- both lines of each of these certificates, of which the first is the n-th
 abbrev pub delegate_lines : Bool → SubjectPublicKeyInfo → OcspResponse → ℕ → List Certificate → List ℕ
@@ -120,5 +115,5 @@ delegate_lines with_parts key_info response n (certificate ∷ certificates) =
 -- the lines of a response under its issuer's key, and of the certificates that come with it, counted from 1
 abbrev pub response_print_lines : Bool → SubjectPublicKeyInfo → OcspResponse → List ℕ
 response_print_lines with_parts key_info response =
-    question_line with_parts (response_question key_info response) (codes "response issuer")
+    question_line with_parts (response_question key_info response) By.Response
     ++ delegate_lines with_parts key_info response 1 (certificates_in response)

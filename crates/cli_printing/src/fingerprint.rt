@@ -5,7 +5,7 @@ ghost use Rattle.cert.specs.SubjectPublicKeyInfo.{seen_key_info};
 ghost use Rattle.statements_crl.specs.CertificateList.{seen_list};
 ghost use Rattle.statements_ocsp.specs.OcspResponse.{seen_response};
 ghost use Rattle.statements_ocsp.specs.Certificates.{certificates_left};
-ghost use Rattle.cli_printing.specs.FingerprintText.{both_lines, certificate_print_line, certificate_question, crl_print_line, crl_question, delegate_line, delegate_lines, delegate_words, delegated_line, delegated_words, line_end, part_text, parts_text, print_of, question_line, response_print_lines, response_question, seen_question};
+ghost use Rattle.cli_printing.specs.FingerprintText.{both_lines, certificate_print_line, certificate_question, crl_print_line, crl_question, delegate_lines, line_end, part_text, parts_text, print_of, question_line, response_print_lines, response_question, seen_question, signed_words};
 ghost use Rattle.cli_printing.specs.Written.{Writes};
 
 use crate::text::write_hex;
@@ -95,18 +95,43 @@ fn end_line<W: Write>(
     writer.write_all(b"\n")
 }
 
-// The line of a question, with these words.
+// What is signed, and whose key judges it. Certificates that come with a response are counted from 1.
+#[derive(Clone, Copy)]
+enum Signed {
+    Certificate,
+    List,
+    Response,
+    // The certificate that comes with a response, by the issuer.
+    Delegate(usize),
+    // The response, by that certificate.
+    ByDelegate(usize),
+}
+
+#[tactic(auto, unfolding(crate::specs::FingerprintText::signed_words))]
+fn write_signed<W: Write>(signed: Signed, writer: &mut W) -> io::Result<()>
+    ensures { Writes W.contents writer.old writer.new result (signed_words signed) }
+{
+    match signed {
+        Signed::Certificate => writer.write_all(b" certificate issuer"),
+        Signed::List => writer.write_all(b" crl issuer"),
+        Signed::Response => writer.write_all(b" response issuer"),
+        Signed::Delegate(number) => write!(writer, " certificate {number} issuer"),
+        Signed::ByDelegate(number) => write!(writer, " response certificate {number}"),
+    }
+}
+
+// The line of a question.
 fn write_question<W: Write>(
     with_parts: bool,
     question: &SignatureQuestion<'_, '_>,
-    words: &str,
+    signed: Signed,
     writer: &mut W,
 ) -> io::Result<()>
     ensures { Writes W.contents writer.old writer.new result
-        (question_line with_parts (seen_question question.now) words.now) }
+        (question_line with_parts (seen_question question.now) signed) }
 {
     write_hex(&print_of(question), writer)?;
-    write!(writer, " {words}")?;
+    write_signed(signed, writer)?;
     end_line(with_parts, question, writer)
 }
 
@@ -138,7 +163,7 @@ pub fn certificate_print_to<W: Write>(
         (seen_key_info key_info.now) (seen_certificate certificate.now)) }
 {
     let question = question_about(certificate, key_info);
-    write_question(with_parts, &question, "certificate issuer", writer)
+    write_question(with_parts, &question, Signed::Certificate, writer)
 }
 
 // What a verifier is asked of the list's signature, under the key of its issuer.
@@ -168,12 +193,8 @@ pub fn crl_print_to<W: Write>(
     ensures { Writes W.contents writer.old writer.new result
         (crl_print_line with_parts (seen_key_info key_info.now) (seen_list list.now)) }
 {
-    write_question(
-        with_parts,
-        &question_about_list(list, key_info),
-        "crl issuer",
-        writer,
-    )
+    let question = question_about_list(list, key_info);
+    write_question(with_parts, &question, Signed::List, writer)
 }
 
 // What a verifier is asked of the response's signature, under a key that may have signed it.
@@ -192,48 +213,6 @@ fn question_about_response<'m, 'k>(
     }
 }
 
-#[tactic(auto, unfolding(crate::specs::FingerprintText::delegate_words))]
-fn write_delegate_words<W: Write>(number: usize, writer: &mut W) -> io::Result<()>
-    ensures { Writes W.contents writer.old writer.new result (delegate_words number) }
-{
-    write!(writer, " certificate {number} issuer")
-}
-
-#[tactic(auto, unfolding(crate::specs::FingerprintText::delegated_words))]
-fn write_delegated_words<W: Write>(number: usize, writer: &mut W) -> io::Result<()>
-    ensures { Writes W.contents writer.old writer.new result (delegated_words number) }
-{
-    write!(writer, " response certificate {number}")
-}
-
-fn write_delegate_line<W: Write>(
-    with_parts: bool,
-    question: &SignatureQuestion<'_, '_>,
-    number: usize,
-    writer: &mut W,
-) -> io::Result<()>
-    ensures { Writes W.contents writer.old writer.new result
-        (delegate_line with_parts (seen_question question.now) number) }
-{
-    write_hex(&print_of(question), writer)?;
-    write_delegate_words(number, writer)?;
-    end_line(with_parts, question, writer)
-}
-
-fn write_delegated_line<W: Write>(
-    with_parts: bool,
-    question: &SignatureQuestion<'_, '_>,
-    number: usize,
-    writer: &mut W,
-) -> io::Result<()>
-    ensures { Writes W.contents writer.old writer.new result
-        (delegated_line with_parts (seen_question question.now) number) }
-{
-    write_hex(&print_of(question), writer)?;
-    write_delegated_words(number, writer)?;
-    end_line(with_parts, question, writer)
-}
-
 // Both lines of the certificate that comes with the response under this number.
 fn write_delegate<W: Write>(
     response: &Response<'_>,
@@ -248,10 +227,10 @@ fn write_delegate<W: Write>(
         (seen_certificate certificate.now)) }
 {
     let issued = question_about(certificate, key_info);
-    write_delegate_line(with_parts, &issued, number, writer)?;
+    write_question(with_parts, &issued, Signed::Delegate(number), writer)?;
     let key_info = &certificate.subject_public_key_info;
     let signed = question_about_response(response, key_info);
-    write_delegated_line(with_parts, &signed, number, writer)
+    write_question(with_parts, &signed, Signed::ByDelegate(number), writer)
 }
 
 fn write_delegates<W: Write>(
@@ -274,9 +253,9 @@ fn write_delegates<W: Write>(
     Ok(())
 }
 
-/// Writes the lines of what a verifier is asked of the response, with parts or without: under the key of the issuer, and, for each certificate that comes with
-/// it, that certificate's under the key of the issuer and the response's under that certificate's key. Certificates are counted from 1;
-/// what else comes with the response is passed over. Memory is taken for one certificate at a time.
+/// Writes the lines of what a verifier is asked of the response, with parts or without: under the key of the issuer, and, for each
+/// certificate that comes with it, that certificate's under the key of the issuer and the response's under that certificate's key.
+/// Certificates are counted from 1; what else comes with the response is passed over. Memory is taken for one certificate at a time.
 pub fn response_prints_to<W: Write>(
     alloc: Global,
     response: &Response<'_>,
@@ -289,6 +268,6 @@ pub fn response_prints_to<W: Write>(
         (seen_response response.now)) }
 {
     let question = question_about_response(response, key_info);
-    write_question(with_parts, &question, "response issuer", writer)?;
+    write_question(with_parts, &question, Signed::Response, writer)?;
     write_delegates(alloc, response, key_info, with_parts, writer)
 }

@@ -22,7 +22,7 @@ const NO_HINTS: bool = false;
 
 const TEN_SECONDS: u16 = 10;
 
-// For how many seconds the words say to wait, and the words behind that.
+// The seconds with which the words begin, and the words behind them.
 fn seconds_in<'w, 'a>(words: &'w [&'a str]) -> Option<(u16, &'w [&'a str])>
     ensures { IfSome result (λ read. EndsWith words.now read.1.now) }
 {
@@ -66,9 +66,9 @@ fn take_option<'w, 'a>(it: RunWords<'w, 'a>) -> RunWords<'w, 'a>
     }
 }
 
-/// The options with which the words begin, and the words behind them, a command and what stands behind it. `--hints` and `--wait SECONDS` (0
-/// to 65535) stand in any order; without them there are no hints, and a store is waited for ten seconds. A word that is none of these
-/// stays, and so does a third.
+/// Splits the words into the options of the run, which stand first, and the command with its own words. Options are `--hints` and
+/// `--wait SECONDS` (0 to 65535), in any order, at most two of them. By default there are no hints, and a store is waited for ten seconds.
+/// Any other word in front stays with the command, which refuses it.
 pub fn run_options<'w, 'a>(words: &'w [&'a str]) -> RunWords<'w, 'a>
     ensures rest { EndsWith words.now result.words.now }
     ensures none { BeginsWithNone (map (λ w. w.now) words.now)
