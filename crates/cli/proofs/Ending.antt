@@ -14,7 +14,7 @@ use Rattle.cli_failures.specs.declared.failure.Failure.TheVariants.{Unwritable}
 use Rattle.cli.specs.Standing.{Leaving, Standing}
 use Rattle.cli_showing.specs.Shown.{ArePrintLines, HoldsKind, IsShownText}
 use Rattle.cli.specs.Outcome.{HasAnswered, IsDone, IsLineFailure}
-use Rattle.cli.specs.Ended.{RunHasEnded, IsAnswering, IsFailing}
+use Rattle.cli.specs.Ended.{EndedAs, RunHasEnded, IsAnswering, IsFailing}
 use Rattle.cli.proofs.Statuses.{is_failing, not_both}
 
 pub either : (result : Result ℕ Failure) (ended : ℕ) (same : Type 0) (Told : List ℕ → Type 0) → IfOk result IsAnswering
@@ -40,6 +40,23 @@ failed holds stands leaves words line (Ok status) ended same unchanged Told read
     absurd (not_both ended (subst IsAnswering (sym done.0) is) failing)
 failed holds stands leaves words line (Err failure) ended same unchanged Told reads is fails quiet done told failing =
     inl (failure, inl (line, reads, fails), told.0, quiet, told.1)
+
+-- ---- the same of a line alone
+
+pub line_answered : (Did : ℕ → Type 0) (result : Result ℕ Failure) (ended : ℕ) (same : Type 0) (Told : List ℕ → Type 0) → IfOk result Did
+    → IfOk result (λ status. (ended ≡ status) × same) → IfErr result (λ failure. (ended ≡ exit_status failure) × Told (report_line failure))
+    → IsAnswering ended → Did ended
+line_answered Did (Ok status) ended same Told did done failed answers = subst Did (sym done.0) did
+line_answered Did (Err failure) ended same Told did done failed answers =
+    absurd (not_both ended answers (subst IsFailing (sym failed.0) (is_failing failure)))
+
+pub line_failed : (Fails : Failure → Type 0) (result : Result ℕ Failure) (ended : ℕ) (same unchanged : Type 0) (Told : List ℕ → Type 0)
+    → IfOk result IsAnswering → IfErr result Fails → IfErr result (λ failure. UnlessLate failure unchanged)
+    → IfOk result (λ status. (ended ≡ status) × same) → IfErr result (λ failure. (ended ≡ exit_status failure) × Told (report_line failure))
+    → IsFailing ended → EndedAs Fails unchanged ended
+line_failed Fails (Ok status) ended same unchanged Told is fails quiet done told failing =
+    absurd (not_both ended (subst IsAnswering (sym done.0) is) failing)
+line_failed Fails (Err failure) ended same unchanged Told is fails quiet done told failing = (failure, fails, told.0, quiet)
 
 -- ---- standard output fails behind the text
 

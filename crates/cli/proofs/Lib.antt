@@ -8,3 +8,4 @@ mod Ending
 mod Explaining
 mod Serving
 mod Standing
+mod Leading

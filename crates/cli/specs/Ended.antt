@@ -19,6 +19,11 @@ IsAnswering status =
 abbrev pub IsFailing : ℕ → Type 0
 IsFailing status = (status ≡ 4) ⊎ (status ≡ 5) ⊎ (status ≡ 6)
 
+-- This failed, with its status; standard output is as it was, except for what came before a late failure.
+abbrev pub EndedAs : (Failure → Type 0) → Type 0 → ℕ → Type 0
+EndedAs Fails unchanged status =
+    (failure : Failure) × Fails failure × (status ≡ exit_status failure) × UnlessLate failure unchanged
+
 -- This failed, with its status, and its line was told; standard output is as it was, except for what came before a late failure. Or the
 -- words are mistaken.
 abbrev pub RunHasEnded : Holding → Standing → Leaving → List Text → Type 0 → (List ℕ → Type 0) → ℕ → Type 0

@@ -7,6 +7,7 @@ pub mod Session
 pub mod Serves
 pub mod Outcome
 pub mod Ended
+pub mod OnMachine
 pub use Rattle.cli_answers.specs.Status
 pub use Rattle.cli_failures.specs.Report
 pub use Rattle.cli_failures.specs.Failures

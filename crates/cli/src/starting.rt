@@ -1,6 +1,8 @@
 //! A run over the system's files, with what the words in front of the command ask of it.
-ghost use Rattle.std.specs.Prelude.{◌⊎◌};
-ghost use Rattle.cli.specs.Ended.{IsAnswering, IsFailing};
+ghost use Rattle.std.specs.Prelude.{◌≡◌, ◌⊎◌, IfOk, map};
+ghost use Rattle.cli.specs.Ended.{EndedAs, HasEndedSo, IsAnswering, IsFailing};
+ghost use Rattle.cli.specs.OnMachine.{IsCommandOf, any_file, any_store, any_end};
+ghost use Rattle.cli.specs.Outcome.{HasAnswered, IsDone, IsLineFailure};
 
 use crate::execution::{answer_of_clap, finish, run};
 use crate::machine::Machine;
@@ -17,7 +19,9 @@ fn words_of<'a>(
     alloc: Global,
     name: &[&'a str],
     command: &[&'a str],
-) -> Result<Vec<&'a str>, AllocError> {
+) -> Result<Vec<&'a str>, AllocError>
+    ensures { IfOk result (λ words. words.items ≡ name.now ++ command.now) }
+{
     let mut words = Vec::from_slice(alloc, name)?;
     words.extend_from_slice(command)?;
     Ok(words)
@@ -48,7 +52,12 @@ fn run_line<I: Read, O: Write, E: Write>(
     out: &mut O,
     err: &mut E,
 ) -> u8
-    ensures { IsAnswering result ⊎ IsFailing result }
+    ensures status { IsAnswering result ⊎ IsFailing result }
+    ensures answered { IsAnswering result → IsDone any_file any_store any_end line.now
+        (I.remaining input.old) (I.remaining input.new)
+        (O.contents out.old) (O.contents out.new) result }
+    ensures failed { IsFailing result
+        → EndedAs (IsLineFailure any_file any_store any_end line.now) (out.new ≡ out.old) result }
 {
     let outcome = run(machine, alloc, line, input, out);
     let status = finish(outcome, err).status;
@@ -68,7 +77,12 @@ fn run_words<I: Read, O: Write, E: Write>(
     out: &mut O,
     err: &mut E,
 ) -> u8
-    ensures { IsAnswering result ⊎ IsFailing result }
+    ensures status { IsAnswering result ⊎ IsFailing result }
+    ensures answered { IsAnswering result → HasAnswered any_file any_store any_end
+        (map (λ w. w.now) words.now) (I.remaining input.old) (I.remaining input.new)
+        (O.contents out.old) (O.contents out.new) result }
+    ensures failed { IsFailing result → HasEndedSo any_file any_store any_end
+        (map (λ w. w.now) words.now) (out.new ≡ out.old) result }
 {
     let machine = Machine {
         rt,
@@ -80,7 +94,7 @@ fn run_words<I: Read, O: Write, E: Write>(
     }
 }
 
-/// Does what the words ask for, of which the first is the program's name, as `execute` does over the system's files. Behind the name may
+/// Does what the words ask for, of which the first is the program's name, as `execute` does, over the system's files. Behind the name may
 /// stand options for the whole run (`cli_words::run_options`): a store that another process has open is waited for, and with `--hints` a
 /// failure is followed by a line that says what to do.
 pub fn start<I: Read, O: Write, E: Write>(
@@ -91,7 +105,15 @@ pub fn start<I: Read, O: Write, E: Write>(
     out: &mut O,
     err: &mut E,
 ) -> u8
-    ensures { IsAnswering result ⊎ IsFailing result }
+    ensures status { IsAnswering result ⊎ IsFailing result }
+    ensures answered { IsAnswering result → (command : _)
+        × IsCommandOf (map (λ w. w.now) words.now) command
+        × HasAnswered any_file any_store any_end command
+        (I.remaining input.old) (I.remaining input.new)
+        (O.contents out.old) (O.contents out.new) result }
+    ensures failed { IsFailing result → (command : _)
+        × IsCommandOf (map (λ w. w.now) words.now) command
+        × HasEndedSo any_file any_store any_end command (out.new ≡ out.old) result }
 {
     let (name, behind) = words.split_at(words.len().min(1));
     let RunWords { options, words } = run_options(behind);

@@ -1,5 +1,5 @@
 -- Words behind others.
-use Rattle.std.proofs.Common.{◌≡◌, ◌∙◌, ◌+◌, ◌-◌, ℕ, List, length, take, drop, ap, refl}
+use Rattle.std.proofs.Common.{◌∙◌, ◌+◌, ◌-◌, List, length, take, drop, ap, refl}
 use Rattle.std.proofs.lemmas.List.{take_rest}
 use lib.Seq.{drop-drop}
 use Rattle.cli_words.specs.RunOptions.{EndsWith}

@@ -1,6 +1,6 @@
 //! What the words in front of the command ask of the whole run.
-ghost use Rattle.std.specs.Prelude.{◌≡◌, IfSome, false, map};
-ghost use Rattle.cli_words.specs.RunOptions.{BeginsWithNone, EndsWith};
+ghost use Rattle.std.specs.Prelude.{◌≡◌, ◌∷◌, IfNone, IfSome, map};
+ghost use Rattle.cli_words.specs.RunOptions.{BeginsWithoutSeconds, EndsWith, IsSeconds, TakesOption, TakesOptions};
 
 /// Options that stand in front of the command, as in `x509check --hints --wait 5 check ..`.
 #[derive(Clone, Copy, Debug, PartialEq, Eq)]
@@ -24,7 +24,10 @@ const TEN_SECONDS: u16 = 10;
 
 // The seconds with which the words begin, and the words behind them.
 fn seconds_in<'w, 'a>(words: &'w [&'a str]) -> Option<(u16, &'w [&'a str])>
-    ensures { IfSome result (λ read. EndsWith words.now read.1.now) }
+    ensures seconds { IfSome result (λ read. (word : _) × IsSeconds word read.0
+        × (map (λ w. w.now) words.now ≡ word ∷ map (λ w. w.now) read.1.now)) }
+    ensures rest { IfSome result (λ read. EndsWith words.now read.1.now) }
+    ensures none { IfNone result (BeginsWithoutSeconds (map (λ w. w.now) words.now)) }
 {
     let [seconds, rest @ ..] = words else {
         return None;
@@ -37,9 +40,9 @@ fn seconds_in<'w, 'a>(words: &'w [&'a str]) -> Option<(u16, &'w [&'a str])>
 
 // The option that the words begin with is taken; words that begin with none stay.
 fn take_option<'w, 'a>(it: RunWords<'w, 'a>) -> RunWords<'w, 'a>
+    ensures takes { TakesOption it.entry.options (map (λ w. w.now) it.entry.words.now)
+        result.options (map (λ w. w.now) result.words.now) }
     ensures rest { EndsWith it.entry.words.now result.words.now }
-    ensures none { BeginsWithNone (map (λ w. w.now) it.entry.words.now)
-        → (result.options ≡ it.entry.options) × (result.words.now ≡ it.entry.words.now) }
 {
     let [first, rest @ ..] = it.words else {
         return it;
@@ -70,10 +73,9 @@ fn take_option<'w, 'a>(it: RunWords<'w, 'a>) -> RunWords<'w, 'a>
 /// `--wait SECONDS` (0 to 65535), in any order, at most two of them. By default there are no hints, and a store is waited for ten seconds.
 /// Any other word in front stays with the command, which refuses it.
 pub fn run_options<'w, 'a>(words: &'w [&'a str]) -> RunWords<'w, 'a>
+    ensures takes { TakesOptions (map (λ w. w.now) words.now) result.options
+        (map (λ w. w.now) result.words.now) }
     ensures rest { EndsWith words.now result.words.now }
-    ensures none { BeginsWithNone (map (λ w. w.now) words.now)
-        → (result.options.hints ≡ false) × (result.options.wait ≡ 10)
-        × (result.words.now ≡ words.now) }
 {
     let options = RunOptions {
         hints: NO_HINTS,
