@@ -207,13 +207,13 @@ store_of origin db has sound ordered heads entries =
 
 -- ---- and back
 
-one_origin : (a b : Origin) → store_schema a ≡ store_schema b → a ≡ b
+pub one_origin : (a b : Origin) → store_schema a ≡ store_schema b → a ≡ b
 one_origin Made Made same = refl
 one_origin Migrated Migrated same = refl
 one_origin Made Migrated same = absurd (let sizes : length (store_schema Made).tables ≡ length (store_schema Migrated).tables = ap (λ (s : Schema). length s.tables) same in omega (arith, sizes))
 one_origin Migrated Made same = absurd (let sizes : length (store_schema Migrated).tables ≡ length (store_schema Made).tables = ap (λ (s : Schema). length s.tables) same in omega (arith, sizes))
 
-few_scopes : (scope : _) → scope_number scope < 3
+pub few_scopes : (scope : _) → scope_number scope < 3
 few_scopes All = omega arith
 few_scopes User = omega arith
 few_scopes Ca = omega arith

@@ -26,7 +26,7 @@ served : (schema : Schema) (tree : ℕ) (project : List Term) (names : List (Lis
     → IsSafeQuery schema (Select (record { lets = []; body = in_order_of_ids tree project }) names)
 served schema tree project names typed = (typed, λ trees over. elim over [ inl none ↦ none | inr any ↦ any.4 ])
 
-answered : (schema : Schema) (text : List ℕ) (tree : ℕ) (project : List Term) (names : List (List ℕ)) (r : Result Compiled CompileError)
+pub answered : (schema : Schema) (text : List ℕ) (tree : ℕ) (project : List Term) (names : List (List ℕ)) (r : Result Compiled CompileError)
     → command_of r ≡ Select (record { lets = []; body = in_order_of_ids tree project }) names → reads_listing schema text ≡ false → IsPlain r → IsWhole text 0 r
     → accepts_program schema [] (in_order_of_ids tree project) [] ≡ true → IsTableQuery schema text r
 answered schema text tree project names (Ok c) command listing plain whole typed =

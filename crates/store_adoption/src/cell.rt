@@ -12,7 +12,7 @@ use store_sql::StoreFault;
 
 /// The number in a cell that is not negative and below the bound.
 #[tactic(auto, using(crate::proofs::Cells::natural_read, crate::proofs::Cells::natural_refused))]
-pub(crate) fn below(row: &Row, at: usize, bound: u32) -> Result<u32, StoreFault>
+pub fn below(row: &Row, at: usize, bound: u32) -> Result<u32, StoreFault>
     ensures ok { IfOk result (ReadsNatural bound row.now at) }
     ensures schema { SchemaRefutes result (HasNatural bound (column row.now at)) }
     ensures cell { result ≢ Err StoreFault.Store }
@@ -35,7 +35,7 @@ pub(crate) fn place(row: &Row, at: usize) -> Result<u64, StoreFault>
 
 /// The octets in a cell.
 #[tactic(auto, using(crate::proofs::Cells::octets_read, crate::proofs::Cells::octets_refused))]
-pub(crate) fn blob(row: &Row, at: usize) -> Result<Vec<u8>, StoreFault>
+pub fn blob(row: &Row, at: usize) -> Result<Vec<u8>, StoreFault>
     ensures ok { IfOk result (ReadsOctets row.now at) }
     ensures schema { SchemaRefutes result (HasOctets (column row.now at)) }
     ensures cell { result ≢ Err StoreFault.Store }
@@ -45,7 +45,7 @@ pub(crate) fn blob(row: &Row, at: usize) -> Result<Vec<u8>, StoreFault>
 
 /// The integer in a cell.
 #[tactic(auto, using(crate::proofs::Cells::integer_read, crate::proofs::Cells::integer_refused))]
-pub(crate) fn whole(row: &Row, at: usize) -> Result<i64, StoreFault>
+pub fn whole(row: &Row, at: usize) -> Result<i64, StoreFault>
     ensures ok { IfOk result (ReadsInteger row.now at) }
     ensures schema { SchemaRefutes result (HasInteger (column row.now at)) }
     ensures cell { result ≢ Err StoreFault.Store }
@@ -54,7 +54,7 @@ pub(crate) fn whole(row: &Row, at: usize) -> Result<i64, StoreFault>
 }
 
 /// The number that a cell holds in twenty octets.
-pub(crate) fn number(row: &Row, at: usize) -> Result<Number20, StoreFault>
+pub fn number(row: &Row, at: usize) -> Result<Number20, StoreFault>
     ensures ok { IfOk result (ReadsNumber row.now at) }
     ensures schema { SchemaRefutes result (HasNumber (column row.now at)) }
     ensures cell { result ≢ Err StoreFault.Store }

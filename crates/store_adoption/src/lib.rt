@@ -14,7 +14,9 @@ mod unscoped_test;
 mod version_1;
 mod version_test;
 
+pub use cell::{below, blob, number, whole};
 pub use creation::create;
 pub use inspection::inspect;
+pub use row_test::{RowTest, test_rows};
 pub use unscoped::{OwnEntry, UnscopedList, UnscopedLists};
 pub use version_1::read_version_1;

@@ -12,7 +12,7 @@ use sqlite::{Alter, Connection, Row};
 use store_sql::StoreFault;
 
 /// A test of rows, one after the other.
-pub(crate) trait RowTest {
+pub trait RowTest {
     ghost use Rattle.std.specs.Prelude.{◌≢◌, List, Err};
     ghost use Rattle.sqlite.specs.Order.{Row as Cells};
 
@@ -31,7 +31,7 @@ pub(crate) trait RowTest {
 }
 
 /// Shows each row that the text asks for to the test.
-pub(crate) fn test_rows<S: Alter, T: RowTest>(
+pub fn test_rows<S: Alter, T: RowTest>(
     conn: &mut Connection<S>,
     sql: &str,
     test: &mut T,
