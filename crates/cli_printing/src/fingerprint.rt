@@ -151,8 +151,8 @@ fn question_about<'m, 'k>(
     }
 }
 
-/// Writes the line of what a verifier is asked of the certificate, under the key of its issuer: the fingerprint and what it is of, and, with
-/// parts, the four texts in hexadecimal, so that whoever judges needs no reader of DER. It takes no memory.
+/// Writes the line of what a verifier is asked of the certificate, under the key of its issuer: the fingerprint and what it is of, and,
+/// with parts, the four texts in hexadecimal, so that whoever judges needs no reader of DER. It takes no memory.
 pub fn certificate_print_to<W: Write>(
     certificate: &Certificate<'_>,
     key_info: &SubjectPublicKeyInfo<'_>,

@@ -1,3 +1,6 @@
 mod Streams
 mod Longest
 mod Fronts
+mod Counted
+mod Enough
+mod Shown

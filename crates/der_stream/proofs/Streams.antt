@@ -42,7 +42,7 @@ pub none_left : (limit : ℕ) (a b : Option (List ℕ)) → Consumes a b [] → 
 none_left limit a b read end = from_end limit a b [] ended read end (refl, refl)
 
 -- no rule is broken so far by octets behind which a header goes on, but that they are cut short
-short : (octets : List ℕ) → GoesOn octets → BreaksFirst Truncated 1 octets
+pub short : (octets : List ℕ) → GoesOn octets → BreaksFirst Truncated 1 octets
 short octets more = (λ (w, within). let s = more.short in omega (arith, w.1), earlier)
   where
     earlier : (other : Rule) → rule_number other < 4 → Breaks other 1 octets → ⊥
@@ -142,10 +142,15 @@ module _ (front : List ℕ) (last : ℕ) (octets : List ℕ) (joined : octets �
       keeps Content low b = omega arith
       keeps Trailing low b = omega arith
 
+-- a header that breaks no rule breaks none, whatever follows it
+pub faultless-ahead : (octets rest : List ℕ) → HasFaultlessHeader octets → HasFaultlessHeader (octets ++ rest)
+faultless-ahead octets rest faultless =
+    (whole-ahead octets rest faultless.0, λ rule low b. faultless.1 rule low (header-back rule 1 octets rest faultless.0 low b))
+
 -- Octets that begin with a header that was read.
 module _ (header : List ℕ) (len : ℕ) (known : IsHeaderRead header len) where
   ahead_faultless : (rest : List ℕ) → HasFaultlessHeader (header ++ rest)
-  ahead_faultless rest = (whole-ahead header rest known.faultless.0, λ rule low b. known.faultless.1 rule low (header-back rule 1 header rest known.faultless.0 low b))
+  ahead_faultless rest = faultless-ahead header rest known.faultless
 
   ahead_end : (rest : List ℕ) → end_of (header ++ rest) ≡ len
   ahead_end rest = end_of-ahead header rest known.faultless.0 ∙ sym known.len_is

@@ -6,3 +6,5 @@ pub use Rattle.der.specs.Value
 pub use Rattle.der.specs.Length
 pub use Rattle.der.specs.Encoding
 pub use Rattle.der.specs.FirstFault
+pub use Rattle.der.specs.Header
+pub use Rattle.der.specs.Laws

@@ -6,6 +6,6 @@ mod reading;
 mod sequence;
 
 pub use der::{Fault, Rule};
-pub use front::read_front;
+pub use front::{front_laws, read_front};
 pub use reading::{ReadFault, read_one, stream_laws};
 pub use sequence::{PathOctets, path_octets};
