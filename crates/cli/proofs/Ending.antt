@@ -60,10 +60,10 @@ line_failed Fails (Err failure) ended same unchanged Told is fails quiet done to
 
 -- ---- standard output fails behind the text
 
-shown : (holds : Holding) (kind : Kind) (file text : List ℕ) → IsShownText holds kind file text → HoldsKind holds kind file
-shown holds Certificate file text is = (is.0, is.1)
-shown holds RevocationList file text is = (is.0, is.1)
-shown holds Response file text is = (is.0, is.1)
+shown : (holds : Holding) (kind : Kind) (with_details : Bool) (file text : List ℕ) → IsShownText holds kind with_details file text → HoldsKind holds kind file
+shown holds Certificate with_details file text is = (is.0, is.1)
+shown holds RevocationList with_details file text is = (is.0, is.1)
+shown holds Response with_details file text is = (is.0, is.1)
 
 printed : (holds : Holding) (key_info : SubjectPublicKeyInfo) (kind : Kind) (with_parts : Bool) (file text : List ℕ) → ArePrintLines holds key_info kind with_parts file text → HoldsKind holds kind file
 printed holds key_info Certificate with_parts file text are = (are.0, are.1)
@@ -73,7 +73,8 @@ printed holds key_info Response with_parts file text are = (are.0, are.1)
 pub unflushed : (holds : Holding) (stands : Standing) (leaves : Leaving) (line : Line) (input source old new : Option (List ℕ)) (status : ℕ) → IsDone holds stands leaves line input source old new status
     → IsLineFailure holds stands leaves line Unwritable
 unflushed holds stands leaves (Tree file) input source old new status (text, (zero, is), written) = inr ((is.0, is.1, is.2, is.3), refl)
-unflushed holds stands leaves (Show kind file) input source old new status (text, (zero, is), written) = inr (shown holds kind file.now text is, refl)
+unflushed holds stands leaves (Show kind with_details file) input source old new status (text, (zero, is), written) =
+    inr (shown holds kind with_details file.now text is, refl)
 unflushed holds stands leaves (Prints issuer kind with_parts file) input source old new status (text, (zero, (signer, held, are)), written) =
     inr (((signer, held), printed holds signer.key_info kind with_parts file.now text are), refl)
 unflushed holds stands leaves (Deliver store verdicts issuer file) input source old new status (text, (zero, (counts, is, line)), written) = inr ((counts, is), refl)

@@ -48,8 +48,8 @@ IsNoTopic words failure = (failure ≡ BadTopic) × ((entries : List ℕ) × (is
 abbrev pub IsAnswer : Holding → Standing → Leaving → Line → Option (List ℕ) → Option (List ℕ) → ℕ → List ℕ → Type 0
 IsAnswer holds stands leaves (Tree file) input source status text =
     (status ≡ 0) × IsTreeText holds file.now text
-IsAnswer holds stands leaves (Show kind file) input source status text =
-    (status ≡ 0) × IsShownText holds kind file.now text
+IsAnswer holds stands leaves (Show kind with_details file) input source status text =
+    (status ≡ 0) × IsShownText holds kind with_details file.now text
 IsAnswer holds stands leaves (Prints issuer kind with_parts file) input source status text =
     (status ≡ 0) × ArePrintsUnder holds issuer.now kind with_parts file.now text
 IsAnswer holds stands leaves (Deliver store verdicts issuer file) input source status text =
@@ -77,7 +77,7 @@ IsDone holds stands leaves line input source old new status =
 abbrev pub IsLineFailure : Holding → Standing → Leaving → Line → Failure → Type 0
 IsLineFailure holds stands leaves (Tree file) =
     OrUnwritable (IsNoValue holds file.now) (HoldsValue holds file.now)
-IsLineFailure holds stands leaves (Show kind file) =
+IsLineFailure holds stands leaves (Show kind with_details file) =
     OrUnwritable (IsNotShown holds kind file.now) (HoldsKind holds kind file.now)
 IsLineFailure holds stands leaves (Prints issuer kind with_parts file) =
     OrUnwritable (IsFailureOfPrints holds issuer.now kind file.now) (HoldUnder holds issuer.now kind file.now)

@@ -141,7 +141,11 @@ fn answer<'a, D: Disk + Drop, S: Source + Stores<Store<D>>, I: Read, O: Write>(
 {
     match line {
         Line::Tree { file } => tree(source, file, out)?,
-        Line::Show { kind, file } => show(source, alloc, *kind, file, out)?,
+        Line::Show {
+            kind,
+            with_details,
+            file,
+        } => show(source, alloc, *kind, *with_details, file, out)?,
         Line::Prints {
             issuer,
             kind,

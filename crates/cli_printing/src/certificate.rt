@@ -25,8 +25,8 @@ use names::{General, Name, Subtree};
 use std::io;
 use std::io::Write;
 
-// A word, and the octets if there are any.
-pub(crate) fn write_octets<W: Write>(word: &str, octets: &[u8], writer: &mut W) -> io::Result<()>
+/// Writes a line: the word, and the octets if there are any.
+pub fn write_octets<W: Write>(word: &str, octets: &[u8], writer: &mut W) -> io::Result<()>
     ensures { Writes W.contents writer.old writer.new result (octets_line word.now octets.now) }
 {
     writer.write_all(word.as_bytes())?;

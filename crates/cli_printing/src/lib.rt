@@ -11,8 +11,11 @@ mod revocation_list;
 mod text;
 mod tree;
 
-pub use certificate::certificate_to;
+pub use certificate::{certificate_to, write_octets};
 pub use fingerprint::{PrintsFault, certificate_print_to, crl_print_to, response_prints_to};
+pub use name::write_name;
+pub use oid_text::write_oid;
 pub use response::response_to;
 pub use revocation_list::crl_to;
+pub use text::{write_contents, write_hex};
 pub use tree::{TreeFault, tree_to};

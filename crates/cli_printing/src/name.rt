@@ -93,7 +93,7 @@ fn write_sequence<W: Write>(rdns: Cursor<'_>, writer: &mut W) -> io::Result<()>
 
 /// Writes the name: a slash before each RDN, a plus between its attributes, each `OID=VALUE`; the empty name is a hyphen.
 #[tactic(auto, unfolding(crate::specs::NameText::name_text))]
-pub(crate) fn write_name<W: Write>(name: &Name<'_>, writer: &mut W) -> io::Result<()>
+pub fn write_name<W: Write>(name: &Name<'_>, writer: &mut W) -> io::Result<()>
     ensures { Writes W.contents writer.old writer.new result (name_text (raw_of name.now)) }
 {
     write_sequence(name.rdns(), writer)

@@ -95,7 +95,7 @@ fn write_numbers<W: Write>(contents: &[u8], writer: &mut W) -> io::Result<()>
 /// Writes the OBJECT IDENTIFIER of these contents in dotted decimal; if one of its numbers has more than nine octets, a `#`
 /// and the contents in hexadecimal.
 #[tactic(auto, unfolding(crate::specs::OidText::oid_text))]
-pub(crate) fn write_oid<W: Write>(contents: &[u8], writer: &mut W) -> io::Result<()>
+pub fn write_oid<W: Write>(contents: &[u8], writer: &mut W) -> io::Result<()>
     ensures { Writes W.contents writer.old writer.new result (oid_text contents.now) }
 {
     if has_long_number(contents) {

@@ -23,7 +23,8 @@ pub(crate) fn write_digits<W: Write>(octets: &[u8], writer: &mut W) -> io::Resul
     writer.write_all(digits)
 }
 
-pub(crate) fn write_hex<W: Write>(octets: &[u8], writer: &mut W) -> io::Result<()>
+/// Writes the octets in hexadecimal, lower case.
+pub fn write_hex<W: Write>(octets: &[u8], writer: &mut W) -> io::Result<()>
     ensures { Writes W.contents writer.old writer.new result (encode_lower octets.now) }
 {
     let mut rest = octets;
@@ -35,8 +36,8 @@ pub(crate) fn write_hex<W: Write>(octets: &[u8], writer: &mut W) -> io::Result<(
     Ok(())
 }
 
-// A space and the contents, if there are any.
-pub(crate) fn write_contents<W: Write>(contents: &[u8], writer: &mut W) -> io::Result<()>
+/// Writes a space and the contents in hexadecimal, if there are any.
+pub fn write_contents<W: Write>(contents: &[u8], writer: &mut W) -> io::Result<()>
     ensures { Writes W.contents writer.old writer.new result (shown_contents contents.now) }
 {
     if contents.is_empty() {

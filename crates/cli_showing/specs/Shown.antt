@@ -1,5 +1,5 @@
 -- What is written of a file.
-use Rattle.std.specs.Prelude.{◌≡◌, ◌⊎◌, ℕ, Bool, List, Some}
+use Rattle.std.specs.Prelude.{◌≡◌, ◌⊎◌, ◌++◌, ℕ, Bool, true, false, List, Some}
 use Rattle.cli_words.specs.declared.line.Kind.{Kind}
 use Rattle.cli_words.specs.declared.line.Kind.TheVariants.{Certificate, RevocationList, Response}
 use Rattle.asn.specs.Value.{Value}
@@ -22,14 +22,22 @@ IsTreeText holds file text =
     (octets : List ℕ) × (value : Value) × holds file (Some octets) × Encodes octets value
     × (text ≡ lines_of 0 value)
 
--- the lines of the certificate, the revocation list or the response in the file
-abbrev pub IsShownText : Holding → Kind → List ℕ → List ℕ → Type 0
-IsShownText holds Certificate file text =
-    (read : Fields) × HoldsCertificate holds file read × (text ≡ certificate_text read)
-IsShownText holds RevocationList file text =
-    (read : CertificateList) × HoldsList holds file read × (text ≡ crl_text read)
-IsShownText holds Response file text =
-    (read : OcspResponse) × HoldsResponse holds file read × (text ≡ response_text read)
+-- these lines; where details are asked for, some text behind them
+abbrev pub IsWithDetails : Bool → List ℕ → List ℕ → Type 0
+IsWithDetails false lines text = text ≡ lines
+IsWithDetails true lines text = (details : List ℕ) × (text ≡ lines ++ details)
+
+-- the lines of the certificate, the revocation list or the response in the file, with details or without
+abbrev pub IsShownText : Holding → Kind → Bool → List ℕ → List ℕ → Type 0
+IsShownText holds Certificate with_details file text =
+    (read : Fields) × HoldsCertificate holds file read
+    × IsWithDetails with_details (certificate_text read) text
+IsShownText holds RevocationList with_details file text =
+    (read : CertificateList) × HoldsList holds file read
+    × IsWithDetails with_details (crl_text read) text
+IsShownText holds Response with_details file text =
+    (read : OcspResponse) × HoldsResponse holds file read
+    × IsWithDetails with_details (response_text read) text
 
 -- what a verifier is asked about the file under this key, with the four texts of each question or without: of a certificate and of a
 -- revocation list, its line; of a response, its lines

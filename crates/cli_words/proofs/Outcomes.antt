@@ -110,8 +110,8 @@ tree_means : (entered : Option (Text × List Row)) (rows : List Row) (file : Tex
     → (line : Line) → entered ≡ Some (codes "tree", rows) → IsLineOf entered line → IsTree file line
 tree_means entered rows file found (Tree given) is line =
     same_text (first_of (codes "file") rows) file given.now found (line_in entered (codes "tree") rows (Tree given) is line).1
-tree_means entered rows file found (Show kind given) is line =
-    let letter : 116 ≡ 115 = ap (λ (text : Text). slice_index text 0) (line_in entered (codes "tree") rows (Show kind given) is line).0 in
+tree_means entered rows file found (Show kind details given) is line =
+    let letter : 116 ≡ 115 = ap (λ (text : Text). slice_index text 0) (line_in entered (codes "tree") rows (Show kind details given) is line).0 in
     absurd (omega (arith, letter))
 tree_means entered rows file found (Explain words) is line =
     let letter : 116 ≡ 101 = ap (λ (text : Text). slice_index text 0) (line_in entered (codes "tree") rows (Explain words) is line).0 in
@@ -141,31 +141,32 @@ tree_known name file r plain is =
     (λ line. tree_means _ enters.rows file enters.finds.0 line enters.is) is.reads is.refuses
 
 -- `show`
-show_means : (entered : Option (Text × List Row)) (rows : List Row) (file : Text) → first_of (codes "as") rows ≡ None → first_of (codes "file") rows ≡ Some file
+show_means : (entered : Option (Text × List Row)) (rows : List Row) (file : Text)
+    → Finds ((codes "as", None) ∷ (codes "file", Some file) ∷ (codes "all", Some (codes "false")) ∷ []) rows
     → (line : Line) → entered ≡ Some (codes "show", rows) → IsLineOf entered line → IsShow file line
-show_means entered rows file none found (Show kind given) is line =
-    let says = line_in entered (codes "show") rows (Show kind given) is line in
-    let certificate = sym (certificate_kind rows none) ∙ says.1 in
-    (cc, same_text (first_of (codes "file") rows) file given.now found says.2)
-show_means entered rows file none found (Tree given) is line =
+show_means entered rows file finds (Show kind details given) is line =
+    let says = line_in entered (codes "show") rows (Show kind details given) is line in
+    let certificate = sym (certificate_kind rows finds.0) ∙ says.1 in
+    (cc, sym says.2 ∙ ap is_set finds.1.1.0, same_text (first_of (codes "file") rows) file given.now finds.1.0 says.3)
+show_means entered rows file finds (Tree given) is line =
     let letter : 115 ≡ 116 = ap (λ (text : Text). slice_index text 0) (line_in entered (codes "show") rows (Tree given) is line).0 in
     absurd (omega (arith, letter))
-show_means entered rows file none found (Explain words) is line =
+show_means entered rows file finds (Explain words) is line =
     let letter : 115 ≡ 101 = ap (λ (text : Text). slice_index text 0) (line_in entered (codes "show") rows (Explain words) is line).0 in
     absurd (omega (arith, letter))
-show_means entered rows file none found (Session path known) is line =
+show_means entered rows file finds (Session path known) is line =
     let letter : 104 ≡ 101 = ap (λ (text : Text). slice_index text 1) (line_in entered (codes "show") rows (Session path known) is line).0 in
     absurd (omega (arith, letter))
-show_means entered rows file none found (Prints signer kind parts given) is line =
+show_means entered rows file finds (Prints signer kind parts given) is line =
     let letter : 115 ≡ 112 = ap (λ (text : Text). slice_index text 0) (line_in entered (codes "show") rows (Prints signer kind parts given) is line).0 in
     absurd (omega (arith, letter))
-show_means entered rows file none found (Deliver path prints signer given) is line =
+show_means entered rows file finds (Deliver path prints signer given) is line =
     let letter : 115 ≡ 100 = ap (λ (text : Text). slice_index text 0) (line_in entered (codes "show") rows (Deliver path prints signer given) is line).0 in
     absurd (omega (arith, letter))
-show_means entered rows file none found (Check asked) is line =
+show_means entered rows file finds (Check asked) is line =
     let letter : 115 ≡ 99 = ap (λ (text : Text). slice_index text 0) (line_in entered (codes "show") rows (Check asked) is line).0 in
     absurd (omega (arith, letter))
-show_means entered rows file none found (Compare asked beside) is line =
+show_means entered rows file finds (Compare asked beside) is line =
     let letter : 115 ≡ 99 = ap (λ (text : Text). slice_index text 0) (line_in entered (codes "show") rows (Compare asked beside) is line).0 in
     absurd (omega (arith, letter))
 
@@ -175,7 +176,7 @@ show_known name file r plain is =
     known (IsShow file) (name ∷ codes "show" ∷ file ∷ []) r (no_fault_of_show name file plain)
     (λ none. not_lacking of_file enters.rows ((file, enters.finds.1.0), tt) (none.show enters.rows enters.is))
     (no_other_kind _ (codes "show") enters.rows enters.is enters.finds.0)
-    (λ line. show_means _ enters.rows file enters.finds.0 enters.finds.1.0 line enters.is) is.reads is.refuses
+    (λ line. show_means _ enters.rows file enters.finds line enters.is) is.reads is.refuses
 
 -- `prints`
 prints_means : (entered : Option (Text × List Row)) (rows : List Row) (issuer file : Text)
@@ -194,8 +195,8 @@ prints_means entered rows issuer file finds (Explain words) is line =
 prints_means entered rows issuer file finds (Session path known) is line =
     let letter : 112 ≡ 115 = ap (λ (text : Text). slice_index text 0) (line_in entered (codes "prints") rows (Session path known) is line).0 in
     absurd (omega (arith, letter))
-prints_means entered rows issuer file finds (Show kind given) is line =
-    let letter : 112 ≡ 115 = ap (λ (text : Text). slice_index text 0) (line_in entered (codes "prints") rows (Show kind given) is line).0 in
+prints_means entered rows issuer file finds (Show kind details given) is line =
+    let letter : 112 ≡ 115 = ap (λ (text : Text). slice_index text 0) (line_in entered (codes "prints") rows (Show kind details given) is line).0 in
     absurd (omega (arith, letter))
 prints_means entered rows issuer file finds (Deliver path prints signer given) is line =
     let letter : 112 ≡ 100 = ap (λ (text : Text). slice_index text 0) (line_in entered (codes "prints") rows (Deliver path prints signer given) is line).0 in
@@ -236,8 +237,8 @@ deliver_means entered rows store verdicts issuer file finds (Explain words) is l
 deliver_means entered rows store verdicts issuer file finds (Session path known) is line =
     let letter : 100 ≡ 115 = ap (λ (text : Text). slice_index text 0) (line_in entered (codes "deliver") rows (Session path known) is line).0 in
     absurd (omega (arith, letter))
-deliver_means entered rows store verdicts issuer file finds (Show kind given) is line =
-    let letter : 100 ≡ 115 = ap (λ (text : Text). slice_index text 0) (line_in entered (codes "deliver") rows (Show kind given) is line).0 in
+deliver_means entered rows store verdicts issuer file finds (Show kind details given) is line =
+    let letter : 100 ≡ 115 = ap (λ (text : Text). slice_index text 0) (line_in entered (codes "deliver") rows (Show kind details given) is line).0 in
     absurd (omega (arith, letter))
 deliver_means entered rows store verdicts issuer file finds (Prints signer kind parts given) is line =
     let letter : 100 ≡ 112 = ap (λ (text : Text). slice_index text 0) (line_in entered (codes "deliver") rows (Prints signer kind parts given) is line).0 in
@@ -308,8 +309,8 @@ check_means entered rows store verdicts moment anchor files found (Explain words
 check_means entered rows store verdicts moment anchor files found (Session path known) is line =
     let letter : 99 ≡ 115 = ap (λ (text : Text). slice_index text 0) (line_in entered (codes "check") rows (Session path known) is line).0 in
     absurd (omega (arith, letter))
-check_means entered rows store verdicts moment anchor files found (Show kind given) is line =
-    let letter : 99 ≡ 115 = ap (λ (text : Text). slice_index text 0) (line_in entered (codes "check") rows (Show kind given) is line).0 in
+check_means entered rows store verdicts moment anchor files found (Show kind details given) is line =
+    let letter : 99 ≡ 115 = ap (λ (text : Text). slice_index text 0) (line_in entered (codes "check") rows (Show kind details given) is line).0 in
     absurd (omega (arith, letter))
 check_means entered rows store verdicts moment anchor files found (Prints signer kind parts given) is line =
     let letter : 99 ≡ 112 = ap (λ (text : Text). slice_index text 0) (line_in entered (codes "check") rows (Prints signer kind parts given) is line).0 in
@@ -354,8 +355,8 @@ compare_means entered rows store verdicts moment anchor other files found there 
 compare_means entered rows store verdicts moment anchor other files found there (Session path known) is line =
     let letter : 99 ≡ 115 = ap (λ (text : Text). slice_index text 0) (line_in entered (codes "compare") rows (Session path known) is line).0 in
     absurd (omega (arith, letter))
-compare_means entered rows store verdicts moment anchor other files found there (Show kind given) is line =
-    let letter : 99 ≡ 115 = ap (λ (text : Text). slice_index text 0) (line_in entered (codes "compare") rows (Show kind given) is line).0 in
+compare_means entered rows store verdicts moment anchor other files found there (Show kind details given) is line =
+    let letter : 99 ≡ 115 = ap (λ (text : Text). slice_index text 0) (line_in entered (codes "compare") rows (Show kind details given) is line).0 in
     absurd (omega (arith, letter))
 compare_means entered rows store verdicts moment anchor other files found there (Prints signer kind parts given) is line =
     let letter : 99 ≡ 112 = ap (λ (text : Text). slice_index text 0) (line_in entered (codes "compare") rows (Prints signer kind parts given) is line).0 in
@@ -399,8 +400,8 @@ explain_means entered rows word found (Explain words) is line =
 explain_means entered rows word found (Tree given) is line =
     let letter : 101 ≡ 116 = ap (λ (text : Text). slice_index text 0) (line_in entered (codes "explain") rows (Tree given) is line).0 in
     absurd (omega (arith, letter))
-explain_means entered rows word found (Show kind given) is line =
-    let letter : 101 ≡ 115 = ap (λ (text : Text). slice_index text 0) (line_in entered (codes "explain") rows (Show kind given) is line).0 in
+explain_means entered rows word found (Show kind details given) is line =
+    let letter : 101 ≡ 115 = ap (λ (text : Text). slice_index text 0) (line_in entered (codes "explain") rows (Show kind details given) is line).0 in
     absurd (omega (arith, letter))
 explain_means entered rows word found (Prints signer kind parts given) is line =
     let letter : 101 ≡ 112 = ap (λ (text : Text). slice_index text 0) (line_in entered (codes "explain") rows (Prints signer kind parts given) is line).0 in
@@ -443,8 +444,8 @@ session_means entered rows store finds (Session path verdicts) is line =
 session_means entered rows store finds (Tree given) is line =
     let letter : 115 ≡ 116 = ap (λ (text : Text). slice_index text 0) (line_in entered (codes "session") rows (Tree given) is line).0 in
     absurd (omega (arith, letter))
-session_means entered rows store finds (Show kind given) is line =
-    let letter : 101 ≡ 104 = ap (λ (text : Text). slice_index text 1) (line_in entered (codes "session") rows (Show kind given) is line).0 in
+session_means entered rows store finds (Show kind details given) is line =
+    let letter : 101 ≡ 104 = ap (λ (text : Text). slice_index text 1) (line_in entered (codes "session") rows (Show kind details given) is line).0 in
     absurd (omega (arith, letter))
 session_means entered rows store finds (Prints signer kind parts given) is line =
     let letter : 115 ≡ 112 = ap (λ (text : Text). slice_index text 0) (line_in entered (codes "session") rows (Prints signer kind parts given) is line).0 in

@@ -15,14 +15,18 @@ file_at : (xs : Text) (x : ℕ) → (x == 45) ≡ false → first_of (codes "fil
 unfolding clap_on_literals
 file_at xs x plain = simp plain
 
+all_at : (xs : Text) (x : ℕ) → (x == 45) ≡ false → first_of (codes "all") (rows_after (shape_of (codes "show")).rules [] ((x ∷ xs) ∷ [])) ≡ Some (codes "false")
+unfolding clap_on_literals
+all_at xs x plain = simp plain
+
 kind_at : (xs : Text) (x : ℕ) → (x == 45) ≡ false → first_of (codes "as") (rows_after (shape_of (codes "show")).rules [] ((x ∷ xs) ∷ [])) ≡ None
 unfolding clap_on_literals
 kind_at xs x plain = simp plain
 
-found : (file : Text) → IsPlainWord file → Finds ((codes "as", None) ∷ (codes "file", Some file) ∷ []) (rows_after (shape_of (codes "show")).rules [] (file ∷ []))
+found : (file : Text) → IsPlainWord file → Finds ((codes "as", None) ∷ (codes "file", Some file) ∷ (codes "all", Some (codes "false")) ∷ []) (rows_after (shape_of (codes "show")).rules [] (file ∷ []))
 unfolding clap_on_literals
-found [] plain = (refl, (refl, tt))
-found (x ∷ xs) plain = (kind_at xs x (is_other x plain), (file_at xs x (is_other x plain), tt))
+found [] plain = (refl, (refl, (refl, tt)))
+found (x ∷ xs) plain = (kind_at xs x (is_other x plain), (file_at xs x (is_other x plain), (all_at xs x (is_other x plain), tt)))
 
 -- the words break no rule of the command
 pub no_fault : (name file : Text) → IsPlainWord file → fault_of program (name ∷ codes "show" ∷ file ∷ []) ≡ []
@@ -32,7 +36,8 @@ no_fault name (x ∷ xs) plain = no_fault_at name xs x (is_other x plain)
 
 -- they enter the subcommand without a kind, and its file is theirs
 pub entered : (name file : Text) → IsPlainWord file
-    → Enters (subcommand_of program (name ∷ codes "show" ∷ file ∷ [])) (codes "show") ((codes "as", None) ∷ (codes "file", Some file) ∷ [])
+    → Enters (subcommand_of program (name ∷ codes "show" ∷ file ∷ [])) (codes "show")
+    ((codes "as", None) ∷ (codes "file", Some file) ∷ (codes "all", Some (codes "false")) ∷ [])
 unfolding clap_on_literals
 entered name file plain =
     record {

@@ -16,9 +16,13 @@ tree_app = with_rule (new_app (codes "tree")) file_rule
 abbrev pub kind_rule : Rule
 kind_rule = record (new_rule (codes "as")) { long = Some (codes "as"); value_names = 1 }
 
--- `show [--as KIND] FILE`
+-- `--all`, which may be left out
+abbrev pub all_rule : Rule
+all_rule = record (new_rule (codes "all")) { long = Some (codes "all"); action = Some SetTrue }
+
+-- `show [--as KIND] [--all] FILE`
 abbrev pub show_app : App
-show_app = with_rule (with_rule (new_app (codes "show")) kind_rule) file_rule
+show_app = with_rule (with_rule (with_rule (new_app (codes "show")) kind_rule) all_rule) file_rule
 
 -- `--issuer ISSUER`, which has to be there
 abbrev pub issuer_rule : Rule

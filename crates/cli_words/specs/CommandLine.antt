@@ -55,8 +55,9 @@ words_in None = []
 -- the line of a subcommand with these rows
 abbrev pub IsLine : Text × List Row → Line → Type 0
 IsLine (name, rows) (Tree file) = (name ≡ codes "tree") × GivesText rows (codes "file") file
-IsLine (name, rows) (Show kind file) =
-    (name ≡ codes "show") × (kind_in_rows rows ≡ Some kind) × GivesText rows (codes "file") file
+IsLine (name, rows) (Show kind with_details file) =
+    (name ≡ codes "show") × (kind_in_rows rows ≡ Some kind)
+    × (flag_in rows (codes "all") ≡ with_details) × GivesText rows (codes "file") file
 IsLine (name, rows) (Prints issuer kind with_parts file) =
     (name ≡ codes "prints") × GivesText rows (codes "issuer") issuer × (kind_in_rows rows ≡ Some kind)
     × (flag_in rows (codes "parts") ≡ with_parts) × GivesText rows (codes "file") file
@@ -166,9 +167,10 @@ abbrev pub IsTree : Text → Line → Type 0
 IsTree text (Tree file) = file.now ≡ text
 IsTree text _ = ⊥
 
--- `show FILE`, of a certificate
+-- `show FILE`, of a certificate, without details
 abbrev pub IsShow : Text → Line → Type 0
-IsShow text (Show kind file) = (kind ≡ Certificate) × (file.now ≡ text)
+IsShow text (Show kind with_details file) =
+    (kind ≡ Certificate) × (with_details ≡ false) × (file.now ≡ text)
 IsShow text _ = ⊥
 
 -- `prints --issuer ISSUER FILE`, of a certificate, without parts

@@ -2,7 +2,7 @@
 ghost use Rattle.std.specs.Prelude.{◌≡◌, IfOk, false};
 ghost use Rattle.clap.specs.Words.{app_of, new_app, rule_of};
 ghost use Rattle.clap.specs.declared.builder.command.Command.TheViews.{out-Command as fields_of};
-ghost use Rattle.cli_words.specs.App.{anchor_rule, anchored as anchored_app, asking as asking_app, certificates_rule, file_rule, issuer_rule, kind_rule, moment_rule, other_rule, parts_rule, purpose_rule, store_rule, storing as storing_app, verdicts_rule, check_app, compare_app, deliver_app, delivering as delivering_app, looking as looking_app, program as program_app, prints_app, show_app, tree_app, topic_rule, explain_app, explaining as explaining_app, known_rule, session_app, validating as validating_app};
+ghost use Rattle.cli_words.specs.App.{all_rule, anchor_rule, anchored as anchored_app, asking as asking_app, certificates_rule, file_rule, issuer_rule, kind_rule, moment_rule, other_rule, parts_rule, purpose_rule, store_rule, storing as storing_app, verdicts_rule, check_app, compare_app, deliver_app, delivering as delivering_app, looking as looking_app, program as program_app, prints_app, show_app, tree_app, topic_rule, explain_app, explaining as explaining_app, known_rule, session_app, validating as validating_app};
 
 use clap::{Arg, ArgAction, Command};
 use std::alloc::{AllocError, Global};
@@ -69,6 +69,17 @@ fn kind<'a>(alloc: Global) -> Arg<'a>
     )
 }
 
+// --all: it may be left out.
+fn all<'a>(alloc: Global) -> Arg<'a>
+    ensures rule { rule_of result ≡ all_rule }
+    ensures local { result.global ≡ false }
+{
+    Arg::new(alloc, "all")
+        .long("all")
+        .action(ArgAction::SetTrue)
+        .help("Also prints algorithms, dates and extensions, behind the other lines")
+}
+
 fn show<'a>(alloc: Global) -> Result<Command<'a>, AllocError>
     ensures app { IfOk result (λ c. app_of c ≡ show_app) }
     ensures local { IfOk result (λ c. (fields_of c).has_globals ≡ false) }
@@ -80,6 +91,7 @@ fn show<'a>(alloc: Global) -> Result<Command<'a>, AllocError>
         "Example: x509check show --as crl root.crl",
     )
     .arg(kind(alloc))?
+    .arg(all(alloc))?
     .arg(file(alloc))
 }
 

@@ -34,6 +34,8 @@ pub enum Line<'a> {
     /// Print what the file says, which is to hold a value of that kind.
     Show {
         kind: Kind,
+        /// Whether what no verdict needs is printed too.
+        with_details: bool,
         file: &'a str,
     },
     /// Print the fingerprints of what a verifier is asked about the file, which is to hold a value of that kind, and the
@@ -135,7 +137,11 @@ fn show_line<'a>(matches: &ArgMatches<'a>) -> Result<Line<'a>, Flaw>
     let Some(file) = text(matches, "file") else {
         return Err(Flaw::ArgumentMissing);
     };
-    Ok(Line::Show { kind, file })
+    Ok(Line::Show {
+        kind,
+        with_details: is_set(matches, "all"),
+        file,
+    })
 }
 
 fn prints_line<'a>(matches: &ArgMatches<'a>) -> Result<Line<'a>, Flaw>

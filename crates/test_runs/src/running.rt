@@ -10,6 +10,7 @@ use std::fs;
 use std::test::Fail;
 use walking::{octets_of, put, row_holds, run, walk, walk_rows, words_of};
 
+mod details;
 mod fingerprints;
 mod hints;
 mod lists;

@@ -44,6 +44,14 @@ const ANSWERED: &[(&[&str], bool)] = &[
         true,
     ),
     (&["x509check", "show", "--parts", "a"], true),
+    (&["x509check", "show", "--all"], true),
+    (&["x509check", "show", "--all=yes", "a"], true),
+    (&["x509check", "show", "--all", "--all", "a"], true),
+    (&["x509check", "tree", "--all", "a"], true),
+    (
+        &["x509check", "prints", "--issuer", "i", "--all", "a"],
+        true,
+    ),
     (&["x509check", "--version"], true),
     (&["x509check", "--help"], false),
     (&["x509check", "-h"], false),
@@ -110,7 +118,11 @@ fn a_line_has_both_files(rt: HostRuntime) {
 // The line of `show` where there is a kind, and else of `tree`.
 fn looks<'a>(kind: Option<Kind>, file: &'a str) -> Line<'a> {
     match kind {
-        Some(kind) => Line::Show { kind, file },
+        Some(kind) => Line::Show {
+            kind,
+            with_details: false,
+            file,
+        },
         None => Line::Tree { file },
     }
 }
@@ -160,6 +172,36 @@ fn a_line_has_its_file(rt: HostRuntime) {
             return;
         };
         assert!(rt; line == looks(*kind, file), "{words:?}");
+    }
+}
+
+// Command lines of `show` that ask for details, and the kind of each; the file is `a`.
+const DETAILED: &[(&[&str], Kind)] = &[
+    (&["x509check", "show", "--all", "a"], Kind::Certificate),
+    (&["x509check", "show", "a", "--all"], Kind::Certificate),
+    (
+        &["x509check", "show", "--all", "--as", "crl", "a"],
+        Kind::RevocationList,
+    ),
+    (
+        &["x509check", "show", "--as", "ocsp", "--all", "--", "a"],
+        Kind::Response,
+    ),
+];
+
+#[test]
+fn a_line_asks_for_details(rt: HostRuntime) {
+    for (words, kind) in DETAILED.iter() {
+        let Ok(line) = command_of(rt.alloc(), words) else {
+            assert!(rt; false, "{words:?} is refused");
+            return;
+        };
+        let wanted = Line::Show {
+            kind: *kind,
+            with_details: true,
+            file: "a",
+        };
+        assert!(rt; line == wanted, "{words:?}");
     }
 }
 
