@@ -3,7 +3,7 @@
 use crate::source::{Cut, Endless};
 use asn::Fault;
 use der::check;
-use der_stream::{ReadFault, path_octets, read_front};
+use der_stream::{ReadFault, front_laws, path_octets, read_front};
 use std::alloc::Global;
 
 /// How many octets sources hand out a call, at most.
@@ -111,6 +111,7 @@ const FRONTS: &[(&[u8], usize)] = &[
 /// What is read of a source has the fault that all of it has, and nothing behind that is read.
 #[test]
 fn a_front_has_the_first_fault(rt: HostRuntime) {
+    front_laws();
     for row in FRONTS.iter() {
         for most in CUTS.iter() {
             let mut cut = Cut {
