@@ -5,7 +5,7 @@ use cli_printing::write_octets;
 use std::io;
 
 /// Why the lines of a value are not written.
-#[derive(Debug, Drop)]
+#[derive(Drop)]
 pub(crate) enum ValueFault {
     /// The value is not of its layout.
     Layout,
@@ -14,7 +14,7 @@ pub(crate) enum ValueFault {
 }
 
 /// A value of the wrong kind, a value left over, or a missing one.
-#[derive(Clone, Copy, Debug)]
+#[derive(Clone, Copy)]
 pub(crate) struct Misplaced;
 
 /// Whether the lines of a value were written.

@@ -104,7 +104,8 @@ fn show_certificate<'a, O: Write>(
     let certificate = read_certificate(alloc, file, octets)?;
     let details = end_of_certificate(alloc, with_details, &certificate)?;
     certificate_to(&certificate, out).map_err(|_| Failure::Unwritable)?;
-    out.write_all(details.as_slice()).map_err(|_| Failure::Unwritable)
+    out.write_all(details.as_slice())
+        .map_err(|_| Failure::Unwritable)
 }
 
 // The further lines of the revocation list; none if they are not asked for.
@@ -139,7 +140,8 @@ fn show_list<'a, O: Write>(
     let list = read_list(alloc, file, octets)?;
     let details = end_of_list(alloc, with_details, &list)?;
     crl_to(&list, out).map_err(|_| Failure::Unwritable)?;
-    out.write_all(details.as_slice()).map_err(|_| Failure::Unwritable)
+    out.write_all(details.as_slice())
+        .map_err(|_| Failure::Unwritable)
 }
 
 // The further lines of the response; none if they are not asked for.
@@ -174,7 +176,8 @@ fn show_response<'a, O: Write>(
     let response = read_response(alloc, file, octets)?;
     let details = end_of_response(alloc, with_details, &response)?;
     response_to(&response, out).map_err(|_| Failure::Unwritable)?;
-    out.write_all(details.as_slice()).map_err(|_| Failure::Unwritable)
+    out.write_all(details.as_slice())
+        .map_err(|_| Failure::Unwritable)
 }
 
 /// Writes the lines of what a verifier is asked about the file under the key of its issuer, with the four texts behind each if these are
