@@ -1,5 +1,5 @@
 -- Lines, and details behind them.
-use Rattle.std.proofs.Common.{◌≡◌, ◌++◌, ◌∙◌, ℕ, Bool, true, false, List, [], Option, ap, refl, append-nil}
+use Rattle.std.proofs.Common.{◌≡◌, ◌++◌, ◌∙◌, ℕ, Bool, true, false, List, [], Option, Result, Ok, Err, OnOk, ap, refl, append-nil}
 use Rattle.std.specs.Io.KnownBytes.{Appends}
 use Rattle.cli_printing.proofs.Laws.{appends_both}
 use Rattle.cli_failures.specs.Report.{WritesText}
@@ -9,8 +9,10 @@ is_with_details : (asked : Bool) (lines details : List ℕ) → (asked ≡ false
 is_with_details false lines details none = ap (λ l. lines ++ l) (none refl) ∙ append-nil lines
 is_with_details true lines details none = (details, refl)
 
--- the lines were written, and then the details, which are none if they are not asked for
-pub detailed : (asked : Bool) (before between behind : Option (List ℕ)) (lines details : List ℕ) → (asked ≡ false → details ≡ [])
-    → Appends before between lines → Appends between behind details → WritesText (IsWithDetails asked lines) before behind
-detailed asked before between behind lines details none first second =
-    (lines ++ details, is_with_details asked lines details none, appends_both before between behind lines details _ first second refl)
+-- the lines of what was read were written, and then the details, which are none if they are not asked for
+pub detailed : {T E X : Type 0} (Is : X → Type 0) (lines : X → List ℕ) (read : X) (asked : Bool) (details : List ℕ) (before between behind : Option (List ℕ)) (result : Result T E)
+    → Is read → (asked ≡ false → details ≡ []) → Appends before between (lines read) → OnOk result (Appends between behind details)
+    → OnOk result ((x : X) × Is x × WritesText (IsWithDetails asked (lines x)) before behind)
+detailed Is lines read asked details before between behind (Ok v) is none first second =
+    (read, is, (lines read ++ details, is_with_details asked (lines read) details none, appends_both before between behind (lines read) details _ first second refl))
+detailed Is lines read asked details before between behind (Err e) is none first second = tt

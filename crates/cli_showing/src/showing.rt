@@ -9,7 +9,7 @@ ghost use Rattle.cli_printing.specs.CrlText.{crl_text};
 ghost use Rattle.cli_printing.specs.FingerprintText.{certificate_print_line, crl_print_line, response_print_lines};
 ghost use Rattle.statements_ocsp.specs.OcspResponse.{OcspResponse, ocsp_response};
 ghost use Rattle.cli_printing.specs.ResponseText.{response_text};
-ghost use Rattle.cli_failures.specs.declared.failure.Failure.TheVariants.{NoMemory};
+ghost use Rattle.cli_failures.specs.declared.failure.Failure.TheVariants.{NoMemory, Unwritable};
 ghost use Rattle.cli_failures.specs.Failures.{IsJust, IsNoCertificate, IsNoList, IsNoResponse, IsNoValue, OrUnwritable};
 ghost use Rattle.cli_failures.specs.Report.{UnlessLate, WritesText};
 ghost use Rattle.cli_showing.specs.Shown.{ArePrintLines, ArePrintsUnder, HoldUnder, HoldsKind, HoldsValue, IsFailureOfPrints, IsNotShown, IsShownText, IsTreeText, IsWithDetails};
@@ -72,6 +72,14 @@ pub fn show<'a, S: Source, O: Write>(
     }
 }
 
+// Writes what stands behind the lines.
+fn write_end<'a, O: Write>(details: &[u8], out: &mut O) -> Result<(), Failure<'a>>
+    ensures done { OnOk result (Appends (O.contents out.old) (O.contents out.new) details.now) }
+    ensures fails { IfErr result (λ failure. failure ≡ Unwritable) }
+{
+    out.write_all(details).map_err(|_| Failure::Unwritable)
+}
+
 // The further lines of the certificate; none if they are not asked for.
 fn end_of_certificate<'a>(
     alloc: Global,
@@ -104,8 +112,7 @@ fn show_certificate<'a, O: Write>(
     let certificate = read_certificate(alloc, file, octets)?;
     let details = end_of_certificate(alloc, with_details, &certificate)?;
     certificate_to(&certificate, out).map_err(|_| Failure::Unwritable)?;
-    out.write_all(details.as_slice())
-        .map_err(|_| Failure::Unwritable)
+    write_end(details.as_slice(), out)
 }
 
 // The further lines of the revocation list; none if they are not asked for.
@@ -140,8 +147,7 @@ fn show_list<'a, O: Write>(
     let list = read_list(alloc, file, octets)?;
     let details = end_of_list(alloc, with_details, &list)?;
     crl_to(&list, out).map_err(|_| Failure::Unwritable)?;
-    out.write_all(details.as_slice())
-        .map_err(|_| Failure::Unwritable)
+    write_end(details.as_slice(), out)
 }
 
 // The further lines of the response; none if they are not asked for.
@@ -176,8 +182,7 @@ fn show_response<'a, O: Write>(
     let response = read_response(alloc, file, octets)?;
     let details = end_of_response(alloc, with_details, &response)?;
     response_to(&response, out).map_err(|_| Failure::Unwritable)?;
-    out.write_all(details.as_slice())
-        .map_err(|_| Failure::Unwritable)
+    write_end(details.as_slice(), out)
 }
 
 /// Writes the lines of what a verifier is asked about the file under the key of its issuer, with the four texts behind each if these are
