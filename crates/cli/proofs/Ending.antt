@@ -14,7 +14,7 @@ use Rattle.cli_failures.specs.declared.failure.Failure.TheVariants.{Unwritable}
 use Rattle.cli.specs.Standing.{Leaving, Standing}
 use Rattle.cli_showing.specs.Shown.{ArePrintLines, HoldsKind, IsShownText}
 use Rattle.cli.specs.Outcome.{HasAnswered, IsDone, IsLineFailure}
-use Rattle.cli.specs.Ended.{EndedAs, RunHasEnded, IsAnswering, IsFailing}
+use Rattle.cli.specs.Ended.{EndedAs, HasEndedSo, RunHasEnded, IsAnswering, IsFailing}
 use Rattle.cli.proofs.Statuses.{is_failing, not_both}
 
 pub either : (result : Result ℕ Failure) (ended : ℕ) (same : Type 0) (Told : List ℕ → Type 0) → IfOk result IsAnswering
@@ -57,6 +57,11 @@ pub line_failed : (Fails : Failure → Type 0) (result : Result ℕ Failure) (en
 line_failed Fails (Ok status) ended same unchanged Told is fails quiet done told failing =
     absurd (not_both ended (subst IsAnswering (sym done.0) is) failing)
 line_failed Fails (Err failure) ended same unchanged Told is fails quiet done told failing = (failure, fails, told.0, quiet)
+
+-- so does the run of the words that it is
+pub words_ended : (holds : Holding) (stands : Standing) (leaves : Leaving) (words : List Text) (line : Line) (unchanged : Type 0) (ended : ℕ) → Reads words line
+    → EndedAs (IsLineFailure holds stands leaves line) unchanged ended → HasEndedSo holds stands leaves words unchanged ended
+words_ended holds stands leaves words line unchanged ended reads (failure, fails, is, quiet) = inl (failure, inl (line, reads, fails), is, quiet, tt)
 
 -- ---- standard output fails behind the text
 

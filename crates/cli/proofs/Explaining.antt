@@ -42,6 +42,12 @@ unexplained holds stands leaves words kind status unchanged Told refused (inl (f
     inl (failure, inr (inr (kind, refused_help words kind refused help, help, late)), told, quiet, line)
 unexplained holds stands leaves words kind status unchanged Told refused (inr (mistake, told, quiet)) = inr ((kind, refused_mistake words kind refused mistake, mistake), told, quiet)
 
+-- whatever was told
+pub untold : (kind : ErrorKind) (unchanged : Type 0) (Told : List ℕ → Type 0) (status : ℕ)
+    → IsUnexplained kind unchanged Told status → IsUnexplained kind unchanged (λ line. Unit {0}) status
+untold kind unchanged Told status (inl (failure, why, is, quiet, line)) = inl (failure, why, is, quiet, tt)
+untold kind unchanged Told status (inr mistake) = inr mistake
+
 -- ---- what clap answers in place of a line
 
 pub late : (kind : ErrorKind) (status : ℕ) (unchanged : Type 0) (Told : List ℕ → Type 0) → IsHelp kind → (status ≡ exit_status Unwritable) × Told (report_line Unwritable)

@@ -1,5 +1,5 @@
 //! A run over the system's files, with what the words in front of the command ask of it.
-ghost use Rattle.std.specs.Prelude.{◌≡◌, ◌⊎◌, IfOk, map};
+ghost use Rattle.std.specs.Prelude.{◌≡◌, ◌⊎◌, ◌++◌, IfOk, map};
 ghost use Rattle.cli.specs.Ended.{EndedAs, HasEndedSo, IsAnswering, IsFailing};
 ghost use Rattle.cli.specs.OnMachine.{IsCommandOf, any_file, any_store, any_end};
 ghost use Rattle.cli.specs.Outcome.{HasAnswered, IsDone, IsLineFailure};

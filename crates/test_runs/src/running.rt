@@ -3,6 +3,7 @@
 use crate::output::Output;
 use crate::printed::{CERTIFICATE, LINES, PRINT};
 use cli::execute;
+use details::ALL_LINES;
 use refused::{NO_CERTIFICATES, REFUSED, REFUSED_TAILS};
 use shown::SHOWN;
 use std::alloc::{AllocError, Global};
@@ -198,6 +199,8 @@ const WORDS: &str = "\
 5 show
 5 show a b
 5 show --as csr a
+5 show --all
+5 show --all=no a
 5 show --as cert
 5 prints a
 5 prints --issuer a
@@ -261,6 +264,11 @@ fn wants_memory_or_answers(rt: HostRuntime) {
     // A certificate of a DNS name and an unrecognised extension, which take memory to be read.
     let words = ["x509check", "show", "execution_wanting.der"];
     assert!(rt; wants_or_prints(&rt, &words, CERTIFICATE, LINES), "show");
+    let words = ["x509check", "show", "--all", "execution_wanting.der"];
+    assert!(rt;
+        wants_or_prints(&rt, &words, CERTIFICATE, ALL_LINES),
+        "show --all"
+    );
     let file = "execution_asking.der";
     let words = ["x509check", "prints", "--issuer", file, file];
     assert!(rt; wants_or_prints(&rt, &words, CERTIFICATE, PRINT), "prints");
@@ -278,6 +286,7 @@ fn cannot_write(rt: &HostRuntime, line: &str, left: usize) -> Result<bool, Alloc
 const FULL: &str = "\
 tree execution_full.der
 show execution_full.der
+show --all execution_full.der
 prints --issuer execution_full.der execution_full.der
 explain 17
 --help

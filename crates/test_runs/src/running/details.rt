@@ -602,6 +602,28 @@ dates 05
 certificates 0
 ";
 
+/// What is printed of a certificate of a DNS name and an extension that is critical and not recognised.
+pub(super) const ALL_LINES: &[u8] = b"\
+certificate
+version 3
+serial 05
+issuer /2.5.4.3=A
+subject /2.5.4.3=T
+from 1735689600
+until 1767225600
+key 4b
+alt dns n
+critical 1.2.3
+algorithm 1.2.3
+key-algorithm 1.2.3
+not-before 2025-01-01T00:00:00Z
+not-after 2026-01-01T00:00:00Z
+extension subjectAltName
+  dns n
+extension 1.2.3 critical
+  octets
+";
+
 // What the run prints, which ends with 0.
 fn printed(rt: &HostRuntime, line: &str) -> Result<Vec<u8>, Fail> {
     let words = words_of(rt.alloc(), line)?;

@@ -123,7 +123,12 @@ fn plain_but(alloc: Global, name: &str, digits: &str) -> Result<String, Fail> {
 }
 
 /// Writes the file of a row: of these digits, or of the plain certificate with this component.
-pub(crate) fn put_row(rt: &HostRuntime, file: &str, component: &str, digits: &str) -> Result<(), Fail> {
+pub(crate) fn put_row(
+    rt: &HostRuntime,
+    file: &str,
+    component: &str,
+    digits: &str,
+) -> Result<(), Fail> {
     if component.is_empty() {
         return put(rt, file, digits, "");
     }
