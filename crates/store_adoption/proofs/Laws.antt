@@ -1,8 +1,8 @@
 -- The laws that other crates may cite.
-pub use Rattle.store_adoption.proofs.Adopting.{order_of_store, not_version_1, one_origin, few_scopes, few_statuses, few_reasons, numbered, map_map, map_itself, both_all}
+pub use Rattle.store_adoption.proofs.Adopting.{order_of_store, not_version_1, one_origin, few_scopes, few_statuses, few_reasons, numbered, both_all}
 pub use Rattle.store_adoption.proofs.Answered.{answered}
 pub use Rattle.store_adoption.proofs.Decoded.{all_shown}
-pub use Rattle.store_adoption.proofs.Following.{all_here, all_pushed, read_pushed}
+pub use Rattle.store_adoption.proofs.Following.{all_here}
 pub use Rattle.store_adoption.proofs.Inspecting.{checked, stopped, later_caused}
 pub use Rattle.store_adoption.proofs.Ordered.{in_order_of_ids}
 pub use Rattle.store_adoption.proofs.Placed.{in_order}

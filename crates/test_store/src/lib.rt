@@ -4,7 +4,11 @@
 #[cfg(test)]
 mod bad_cells;
 #[cfg(test)]
+mod listing;
+#[cfg(test)]
 mod looked_up;
+#[cfg(test)]
+mod overview;
 #[cfg(test)]
 mod putting;
 #[cfg(test)]

@@ -1,5 +1,6 @@
 //! Steps over an empty database on disks in memory.
 
+use crate::overview::{List, are_issuers, are_lists, are_singles, overview};
 use crate::putting::{add, found, issuer, listed, make, put_entries, put_list, put_single, said};
 use sqlite::{Alter, Connection, Files, Options};
 use sqlite_disk::{Disk, Memory};
@@ -28,6 +29,14 @@ pub enum Step {
     PutSingle(u32, Single<'static>),
     /// By the issuer's key, this is found.
     Says(&'static [u8], Single<'static>),
+    /// The store's listing has these issuers: ids and keys.
+    HoldsIssuers(&'static [(u32, &'static [u8])]),
+    /// It has these lists.
+    HoldsLists(&'static [List]),
+    /// It has these responses, by the ids of their issuers.
+    HoldsSingles(&'static [(u32, Single<'static>)]),
+    /// It is refused.
+    RefusesListing(StoreFault),
     /// By the issuer's key, the same look-up is refused.
     Refuses(&'static [u8], Single<'static>, StoreFault),
 }
@@ -42,7 +51,7 @@ fn has_tables<S: Alter>(
     origin_of(schema) == origin && is_version_1(schema) == is_old && is_empty(schema) == is_none
 }
 
-fn is_same(said: &OcspAnswer, single: &Single<'_>) -> bool {
+pub fn is_same(said: &OcspAnswer, single: &Single<'_>) -> bool {
     said.this_update == single.this_update
         && said.produced_at == single.produced_at
         && said.from == single.from
@@ -83,6 +92,17 @@ fn asks<S: Alter>(conn: &mut Connection<S>, issuer: &Issuer<'_>, step: &Step) ->
     }
 }
 
+/// Whether the step was done, of those about a listing.
+fn lists<S: Alter>(alloc: Global, conn: &mut Connection<S>, step: &Step) -> bool {
+    match (overview(alloc, conn), *step) {
+        (Some(Ok(all)), Step::HoldsIssuers(wanted)) => are_issuers(&all.issuers, wanted),
+        (Some(Ok(all)), Step::HoldsLists(wanted)) => are_lists(&all.lists, wanted),
+        (Some(Ok(all)), Step::HoldsSingles(wanted)) => are_singles(&all.singles, wanted),
+        (Some(Err(fault)), Step::RefusesListing(wanted)) => fault == wanted,
+        _ => false,
+    }
+}
+
 /// Whether the step was done.
 fn does<S: Alter>(alloc: Global, conn: &mut Connection<S>, step: &Step) -> bool {
     match *step {
@@ -92,6 +112,10 @@ fn does<S: Alter>(alloc: Global, conn: &mut Connection<S>, step: &Step) -> bool 
         Step::PutList(list, number) => put_list(conn, &list, number),
         Step::PutEntries(list, listed) => put_entries(alloc, conn, &list, listed),
         Step::PutSingle(id, single) => put_single(conn, id, &single),
+        Step::HoldsIssuers(_)
+        | Step::HoldsLists(_)
+        | Step::HoldsSingles(_)
+        | Step::RefusesListing(_) => lists(alloc, conn, step),
         Step::Add(key)
         | Step::HasId(key, _)
         | Step::Lists(key, _, _, _)

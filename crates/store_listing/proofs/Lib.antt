@@ -1,0 +1,6 @@
+mod Meaning
+mod Counting
+mod Told
+mod Composing
+mod Shown
+mod Once
