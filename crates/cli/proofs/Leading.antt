@@ -19,7 +19,9 @@ pub command_is : {A : Type 0} (text_of : A → Text) (words name behind left com
     → TakesOptions (map text_of behind) options (map text_of left) → command ≡ name ++ left → IsCommandOf (map text_of words) (map text_of command)
 command_is text_of [] name behind left command options named rest taken is =
     (options, map text_of left, subst (λ (l : List _). TakesOptions (map text_of l) options (map text_of left)) rest taken, ap (map text_of) (is ∙ ap (λ (l : List _). l ++ left) named))
-command_is text_of (word ∷ words) name behind left command options named rest taken is =
-    (options, map text_of left,
-    subst (λ (l : List _). TakesOptions (map text_of l) options (map text_of left)) (other_words word words behind rest) taken,
-    ap (map text_of) (is ∙ ap (λ (l : List _). l ++ left) (first_word word words name named)))
+command_is text_of (word ∷ words) name behind left command options named rest taken is = (
+  options,
+  map text_of left,
+  subst (λ (l : List _). TakesOptions (map text_of l) options (map text_of left)) (other_words word words behind rest) taken,
+  ap (map text_of) (is ∙ ap (λ (l : List _). l ++ left) (first_word word words name named)),
+)
