@@ -1,8 +1,6 @@
 -- What a party answered, by what was seen of its store.
 use Rattle.std.proofs.Common.{◌≡◌, subst, ℕ, List, Ok, Err, Result, IfOk}
 use Rattle.sqlite.specs.State.{State}
-use Rattle.statements_facts.specs.Statement.{Holdings}
-use Rattle.store_maps.specs.Held.{IsStoreOf}
 use Rattle.statements_facts.specs.Fact.{Fact, facts_in}
 use Rattle.statements_facts.specs.declared.fact.Facts.{Facts}
 use Rattle.store_taking.specs.Delivery.{PutsFacts}

@@ -1,5 +1,5 @@
 -- On the way of a session: what was served over a store that was opened.
-use Rattle.std.specs.Prelude.{◌≡◌, ◌⊎◌, ℕ, List, Option}
+use Rattle.std.specs.Prelude.{◌⊎◌, ℕ, List, Option}
 use Rattle.std.specs.Io.KnownBytes.{Appends}
 use Rattle.cli_failures.specs.Failures.{Holding}
 use Rattle.cli_session.specs.Held.{holding_of}
