@@ -13,7 +13,7 @@ libexec = $(DESTDIR)$(PREFIX)/libexec/x509check
 share = $(DESTDIR)$(PREFIX)/share/x509check
 program = crates/x509check/out/x509check
 library = crates/capi/out/libcapi.a
-# These serve a user; the others in examples/ try this repository.
+# The scripts of bin/, which users run.
 scripts = verdicts validate to_der
 
 .PHONY: all program library bindings install uninstall check help
@@ -40,7 +40,7 @@ install: $(program) $(library)
 	install -m 644 $(library) $(lib)/libx509check.a
 	install -m 644 "$(KIT)/c/liblibc_c.a" $(lib)/libx509check_memory.a
 	install -m 644 crates/capi/x509check.h $(include)/x509check.h
-	cd examples && install -m 755 $(scripts) $(libexec)
+	cd bin && install -m 755 $(scripts) $(libexec)
 	install -m 755 bindings/out/libx509check.so $(private)/libx509check.so
 	install -m 644 bindings/python/x509check/*.py bindings/python/x509check/py.typed $(share)/python/x509check
 	install -m 644 bindings/rust/Cargo.toml bindings/rust/build.rs $(share)/rust

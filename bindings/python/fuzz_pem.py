@@ -1,5 +1,5 @@
 #!/usr/bin/env python3
-"""Spoils files in PEM around a certificate that is revoked, and asks for a verdict as examples/validate does.
+"""Spoils files in PEM around a certificate that is revoked, and asks for a verdict as bin/validate does.
 
     fuzz_pem.py [SECONDS] [SEED]
 

@@ -1,6 +1,6 @@
 """Judges the signatures of certificates, lists and responses, for a node and for `run`: which of what a verifier is asked is good.
 
-The authority signs everything by ECDSA with SHA-256 and a key on P-256, so that is all this file knows; examples/verdicts serves more. It
+The authority signs everything by ECDSA with SHA-256 and a key on P-256, so that is all this file knows; bin/verdicts serves more. It
 is imported, and needs the Debian package python3-cryptography.
 """
 

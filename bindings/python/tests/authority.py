@@ -1,4 +1,4 @@
-"""The files of examples/authority, whose signatures OpenSSL found good (testdata/good.txt holds what examples/verdicts printed)."""
+"""The files of examples/authority, whose signatures OpenSSL found good (testdata/good.txt holds what bin/verdicts printed)."""
 
 import base64
 import datetime

@@ -220,7 +220,7 @@ class WithoutTheLibrary(unittest.TestCase):
             path = os.path.join(folder, "both.pem")
             with open(path, "wb") as file:
                 file.write(pem(LEAF) + pem(MIDDLE, "X509 CERTIFICATE"))
-            words = [sys.executable, "-B", os.path.join(authority.TOP, "examples", "to_der")]
+            words = [sys.executable, "-B", os.path.join(authority.TOP, "bin", "to_der")]
             nowhere = dict(os.environ, X509CHECK_LIBRARY="/nowhere")
             done = subprocess.run([*words, path, os.path.join(authority.FOLDER, "leaf.ocsp")], env=nowhere, stdout=subprocess.PIPE, check=False)
             self.assertEqual((done.returncode, done.stdout), (0, LEAF + MIDDLE + RESPONSE))

@@ -1,4 +1,4 @@
-"""examples/validate names whom its answer is about, and never answers about another certificate than the one in question."""
+"""bin/validate names whom its answer is about, and never answers about another certificate than the one in question."""
 
 import os
 import shutil
@@ -40,7 +40,7 @@ class Validate(unittest.TestCase):
 
     def run_script(self, *words, **environment):
         words = [os.path.join(authority.FOLDER, word) if word.startswith(("root.", "middle", "leaf.")) else word for word in words]
-        script, environment = os.path.join(authority.TOP, "examples", "validate"), {**os.environ, "X509CHECK": self.program, **environment}
+        script, environment = os.path.join(authority.TOP, "bin", "validate"), {**os.environ, "X509CHECK": self.program, **environment}
         done = subprocess.run([sys.executable, "-B", script, *words], cwd=self.folder, env=environment, stdout=subprocess.PIPE,
                               stderr=subprocess.PIPE, text=True, check=False)
         return done.returncode, done.stdout, done.stderr

@@ -1,4 +1,4 @@
-"""Tests of the judge of signatures, of examples/verdicts and of examples/session.py, over certificates that OpenSSL's command line signs.
+"""Tests of the judge of signatures, of bin/verdicts and of examples/session.py, over certificates that OpenSSL's command line signs.
 
 Each engine that is there is asked, and all have to answer the same.
 """
@@ -31,7 +31,7 @@ GOOD, WRONG, NOT_SERVED, REFUSED = Judgement.GOOD, Judgement.WRONG, Judgement.NO
 TOP = os.path.join(os.path.dirname(os.path.realpath(__file__)), "..", "..", "..")
 EXAMPLES = os.path.join(TOP, "examples")
 AUTHORITY = os.path.join(EXAMPLES, "authority")
-VERDICTS = os.path.join(EXAMPLES, "verdicts")
+VERDICTS = os.path.join(TOP, "bin", "verdicts")
 ENGINES = [engine.NAME for engine in (_crypto_package, _libcrypto) if engine.loaded() is not None]
 LAX = Policy(digests=signatures.SERVED_DIGESTS, minimum_rsa_bits=512)
 SEQUENCE, OID, NULL = _der.SEQUENCE, _der.OBJECT_IDENTIFIER, b"\x05\x00"
@@ -610,7 +610,7 @@ class WithStandIn(unittest.TestCase):
 
 
 def script(path: str) -> types.ModuleType:
-    """A script of examples/ as a module."""
+    """A script as a module."""
     loader = importlib.machinery.SourceFileLoader(os.path.basename(path).partition(".")[0], path)
     spec = importlib.util.spec_from_loader(loader.name, loader)
     assert spec is not None

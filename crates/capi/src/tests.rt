@@ -233,7 +233,7 @@ fn has_print(question: &Question, print: &[u8]) -> bool {
     question.fingerprint.as_slice() == print
 }
 
-/// The fingerprints are those that `examples/verdicts` printed.
+/// The fingerprints are those that `bin/verdicts` printed.
 #[test]
 fn tells_questions(rt: HostRuntime) {
     let (asked, written) = questions(rt.alloc(), LISTS);

@@ -1,10 +1,10 @@
 //! What each fault, reason and status means.
 
 const ENTRIES: &str =
-    "fault 1 TagForm: An identifier octet that is not served. If the file begins with `-----BEGIN`, it is PEM: convert it by examples/to_der. Tags above 30 and private encodings are not served. (X.690, 8.1.2)
+    "fault 1 TagForm: An identifier octet that is not served. If the file begins with `-----BEGIN`, it is PEM: convert it by bin/to_der. Tags above 30 and private encodings are not served. (X.690, 8.1.2)
 fault 2 LengthForm: Length octets that are indefinite, reserved or not the shortest. The file was made by software that does not write DER. Ask whoever made the file for its DER. (X.690, 8.1.3 and 10.1)
 fault 3 TooLong: 2^28 contents octets or more. No certificate, list or response is that long: the file is damaged or something else. (a limit of this program)
-fault 4 Truncated: A header or contents that pass the end of the enclosing value, or of the input. If the file begins with `-----BEGIN`, it is PEM: convert it by examples/to_der. Else it is cut short, or empty: fetch it again. (X.690, 8.1.3)
+fault 4 Truncated: A header or contents that pass the end of the enclosing value, or of the input. If the file begins with `-----BEGIN`, it is PEM: convert it by bin/to_der. Else it is cut short, or empty: fetch it again. (X.690, 8.1.3)
 fault 5 TooDeep: A value at depth 33. Values are served 32 levels deep. (a limit of this program)
 fault 6 Content: Contents that the type does not allow. The file was made by software that does not write DER. Ask whoever made the file for its DER. (X.690, 8 and 11)
 fault 7 Trailing: Octets behind the outermost value. Cut what follows the value. `check` and `compare` take several certificates in one file; the other commands take one value. (X.690, 8.1)
@@ -19,7 +19,7 @@ fault 15 DnsForm: No DNS name, or no base of a constraint on them. Wildcards and
 fault 16 IpForm: An address, or an address with its mask, of another number of octets. An address has 4 or 16 octets, one with a mask 8 or 32. (RFC 5280, 4.2.1.6 and 4.2.1.10)
 fault 17 MaskForm: A mask that is not ones and then zeros. Ask the issuer for a new certificate. (RFC 5280, 4.2.1.10)
 fault 21 Der: The input, or the contents of an OCTET STRING that holds a value, are not DER; the inner fault is one of 1 to 7, and the program says its number and name. The message has the inner fault, 1 to 7: look that up. (X.690)
-fault 22 Layout: An identifier octet that the layout does not have there, a value that is missing or left over, a DEFAULT FALSE that is spelled out. If the file begins with `-----BEGIN`, it is PEM: convert it by examples/to_der. Or the file holds something else than a certificate. (RFC 5280, 4.1)
+fault 22 Layout: An identifier octet that the layout does not have there, a value that is missing or left over, a DEFAULT FALSE that is spelled out. If the file begins with `-----BEGIN`, it is PEM: convert it by bin/to_der. Or the file holds something else than a certificate. (RFC 5280, 4.1)
 fault 23 Version: A version other than v2 and v3 that is spelled out; a unique identifier in v1; extensions before v3. Ask the issuer for a new certificate. (RFC 5280, 4.1.2.1 and 4.1.2.8)
 fault 24 AlgorithmsDiffer: A signatureAlgorithm other than the one in the signed part. The certificate was changed, or made wrongly. Do not use it. (RFC 5280, 4.1.1.2)
 fault 25 Serial: A serial number of more than 32 octets. The standard allows 20 octets; here 32 are taken. (RFC 5280, 4.1.2.2)
@@ -32,7 +32,7 @@ fault 31 SignatureBits: A signature with unused bits. Ask the issuer for a new c
 fault 32 Limit: The 4,097th alternative name, or subtree of both lists. Certificates with more than 4,096 of them are not served. (a limit of this program)
 fault 33 Memory: No memory. Free memory, or raise the limit of the process, and try again. (not of the standard)
 fault 41 Der: The input, or the contents of the OCTET STRING that holds a response, are not DER; the inner fault is one of 1 to 7. The message has the inner fault, 1 to 7: look that up. (X.690)
-fault 42 Layout: An identifier octet that the layout does not have there, a value that is missing or left over, a time that is none, a serial number of more than 32 octets, an extension of the type of an earlier one, unused bits in the signature; of a list an empty issuer, algorithm identifiers that differ; of a response a status of two octets or more, octets in good or unknown. If the file begins with `-----BEGIN`, it is PEM: convert it by examples/to_der. Or the file holds something else than a list or a response. (RFC 5280, 5.1; RFC 6960, 4.2.1)
+fault 42 Layout: An identifier octet that the layout does not have there, a value that is missing or left over, a time that is none, a serial number of more than 32 octets, an extension of the type of an earlier one, unused bits in the signature; of a list an empty issuer, algorithm identifiers that differ; of a response a status of two octets or more, octets in good or unknown. If the file begins with `-----BEGIN`, it is PEM: convert it by bin/to_der. Or the file holds something else than a list or a response. (RFC 5280, 5.1; RFC 6960, 4.2.1)
 fault 43 NotV2: A list of another version, or without one. Ask the issuer for a list of version 2. (RFC 5280, 5.1.2.1)
 fault 44 NoNumber: A list without a CRL number. Without a number no list can be told to be the newest. Ask the issuer for a list with one. (RFC 5280, 5.2.3)
 fault 45 NumberRange: A CRL number that is not one INTEGER from 0 to 2^160 - 1. Ask the issuer for a new list. (RFC 5280, 5.2.3)

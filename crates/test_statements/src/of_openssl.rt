@@ -1,5 +1,5 @@
 //! Responses that `openssl ocsp` (3.0.19) wrote, one signed by the issuer and one by its delegate, with real signatures: the fingerprints are
-//! those of `examples/verdicts --as ocsp`, which has OpenSSL judge. Serial numbers, statuses and times are what `openssl ocsp -respin FILE
+//! those of `bin/verdicts --as ocsp`, which has OpenSSL judge. Serial numbers, statuses and times are what `openssl ocsp -respin FILE
 //! -text -noverify` says.
 
 use crate::telling::{Wrong, line_under};

@@ -133,7 +133,7 @@ d35d7deaa12636768051fa5b4a58c2ce81007207a5f1ef3b8c5a83a366306430120603551d130101
 44022079a08f117fad948de177466c374dcffb7f066752c532219366fe3500d767d1c102201a515a99f11bf65678667d28\
 bf981009439679bf1faf3f1c5307b7b769604961";
 
-// The commands of the second page, of which `examples/verdicts` prints the lines too.
+// The commands of the second page, of which `bin/verdicts` prints the lines too.
 const PRINTS: &str = "
 $ prints --issuer root.der middle.der
 7ef5a6ccd11a26719df9e0db466782a4106f21dad4fedc94da88d857d8ee8f7a certificate issuer
@@ -177,7 +177,7 @@ const LIST: &str = "\
 0a06082a8648ce3d0403020348003045022100d294b51f6cf8a57142cd2db57ea9fabcff5cb7da789a591af77bf25e2178\
 8baf022058d4b9e8b6e10907bf97e715f516a1e32dec03a46b7191290adb18278eeedf87";
 
-// The commands of the third page; `examples/verdicts` prints the line of the second.
+// The commands of the third page; `bin/verdicts` prints the line of the second.
 const OF_LISTS: &str = "
 $ show --as crl list.der
 crl
