@@ -9,6 +9,7 @@ mod fingerprint_call;
 mod questions;
 mod reading;
 mod validating;
+mod version_call;
 
 pub use answer::{Answer, CertificateAnswer, VerdictAnswer};
 pub use checking::x509check_check;
@@ -18,6 +19,7 @@ pub use fingerprint_call::x509check_fingerprint;
 pub use questions::{Asked, Place, Question, x509check_questions};
 pub use reading::x509check_read_certificate;
 pub use validating::x509check_validate;
+pub use version_call::x509check_version;
 
 #[cfg(test)]
 mod authority;

@@ -6,12 +6,12 @@ use Rattle.cert.specs.SubjectPublicKeyInfo.{SubjectPublicKeyInfo}
 use Rattle.cli_words.specs.declared.line.Kind.{Kind}
 use Rattle.cli_words.specs.declared.line.Kind.TheVariants.{Certificate, RevocationList, Response}
 use Rattle.cli_words.specs.declared.line.Line.{Line}
-use Rattle.cli_words.specs.declared.line.Line.TheVariants.{Tree, Show, Prints, Deliver, Check, Compare, Explain, Session}
+use Rattle.cli_words.specs.declared.line.Line.TheVariants.{Tree, Show, Prints, Deliver, Check, Compare, List as Listing, Explain, Session}
 use Rattle.cli_failures.specs.Failures.{Holding}
 use Rattle.cli_failures.specs.Report.{UnlessLate, report_line, exit_status}
 use Rattle.cli_failures.specs.declared.failure.Failure.{Failure}
 use Rattle.cli_failures.specs.declared.failure.Failure.TheVariants.{Unwritable}
-use Rattle.cli.specs.Standing.{Leaving, Standing}
+use Rattle.cli_store.specs.Standing.{Leaving, Standing}
 use Rattle.cli_showing.specs.Shown.{ArePrintLines, HoldsKind, IsShownText}
 use Rattle.cli.specs.Outcome.{HasAnswered, IsDone, IsLineFailure}
 use Rattle.cli.specs.Ended.{EndedAs, HasEndedSo, RunHasEnded, IsAnswering, IsFailing}
@@ -85,5 +85,6 @@ unflushed holds stands leaves (Prints issuer kind with_parts file) input source 
 unflushed holds stands leaves (Deliver store verdicts issuer file) input source old new status (text, (zero, (counts, is, line)), written) = inr ((counts, is), refl)
 unflushed holds stands leaves (Check question) input source old new status (text, (verdict, is, ends, said), written) = inr ((verdict, is), refl)
 unflushed holds stands leaves (Compare question other) input source old new status (text, (comparison, is, ends, said), written) = inr ((comparison, is), refl)
+unflushed holds stands leaves (Listing store moment) input source old new status (text, (zero, is), written) = inr ((text, is), refl)
 unflushed holds stands leaves (Explain words) input source old new status (text, (zero, is), written) = inr ((text, is), refl)
 unflushed holds stands leaves (Session store verdicts) input source old new status (text, (zero, is), written) = inr ((is.prints, is.begins), inr (inl refl))

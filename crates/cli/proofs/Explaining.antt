@@ -7,7 +7,7 @@ use Rattle.cli_words.specs.CommandLine.{AreRefusedWith}
 use Rattle.cli_failures.specs.declared.failure.Failure.TheVariants.{NoMemory, Unwritable}
 use Rattle.cli_failures.specs.Failures.{Holding}
 use Rattle.cli_failures.specs.Report.{report_line, exit_status}
-use Rattle.cli.specs.Standing.{Leaving, Standing}
+use Rattle.cli_store.specs.Standing.{Leaving, Standing}
 use Rattle.cli.specs.Outcome.{HasAnswered, IsHelp, IsMistake}
 use Rattle.cli.specs.Ended.{RunHasEnded, IsAnswering, IsFailing, IsUnexplained}
 use Rattle.cli.proofs.Statuses.{not_both}

@@ -6,6 +6,6 @@ mod Unanswered
 mod Statuses
 mod Ending
 mod Explaining
+mod Lines
 mod Serving
-mod Standing
 mod Leading

@@ -14,7 +14,7 @@ use Rattle.cli_failures.specs.Failures.{Holding}
 use Rattle.cli.specs.Asked.{IsAsked, IsQueryOf}
 use Rattle.cli.specs.Believed.{accepted_by}
 use Rattle.cli.specs.Checked.{IsCompared, IsComparedOf, IsFailureOfCheck, IsFailureOfComparison, IsChecked, IsCheckedOf, IsNotComparedOf, IsNotCheckedOf}
-use Rattle.cli.specs.Standing.{Leaving, Standing}
+use Rattle.cli_store.specs.Standing.{Leaving, Standing}
 use Rattle.cli.proofs.Believing.{believes_just}
 
 module _ (holds : Holding) (question : Question) (it : Operands) (are : AreOperands holds question it) where

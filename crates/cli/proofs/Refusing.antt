@@ -11,7 +11,7 @@ use Rattle.cli_failures.specs.declared.failure.Failure.{Failure}
 use Rattle.cli_operands.specs.Question.{AcceptsJust, HoldsFingerprints}
 use Rattle.cli.specs.declared.delivering.Delivery.{Delivery}
 use Rattle.cli.specs.Delivered.{IsDelivered, IsDeliveredFor, IsDeliveredUnder, IsFailureFor, IsFailureOfDelivery, IsFailureUnder, IsNotTaken, IsNotTakenOf, IsTakenAt, IsTakenOf}
-use Rattle.cli.specs.Standing.{Leaving, Standing}
+use Rattle.cli_store.specs.Standing.{Leaving, Standing}
 
 -- ---- a statement, by what is said of it
 

@@ -13,7 +13,7 @@ use Rattle.path.specs.Query.{Query, Accepts}
 use Rattle.relying.specs.Asking.{Looks, LooksAtBoth}
 use Rattle.sqlite_disk.specs.declared.Disk.{Ghosts}
 use Rattle.store.specs.declared.handle.Store.{Store}
-use Rattle.cli.specs.Standing.{IsFound, IsFoundOrMade, Leaving, Seen, Standing, seen_in, seen_of}
+use Rattle.cli_store.specs.Standing.{IsFound, IsFoundOrMade, Leaving, Seen, Standing, seen_in, seen_of}
 use Rattle.cli.specs.Delivered.{HasTaken, IsTakenAt}
 use Rattle.cli.specs.Checked.{HasCompared, HasChecked, IsComparedBy, IsCheckedBy}
 

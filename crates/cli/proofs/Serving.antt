@@ -23,7 +23,7 @@ use Rattle.cli_steps.specs.declared.answer.SessionAnswer.TheVariants as answer
 use Rattle.cli_store.specs.Stored.{IsSoundIn, LeavesOneOf, keeping_in}
 use Rattle.cli.specs.Serves.{SessionIsServed, IsWholeSession}
 use Rattle.cli.specs.Session.{HasComeTo, IsReadToEnd, IsReadToQuit, beginning}
-use Rattle.cli.specs.Standing.{Seen, seen_of}
+use Rattle.cli_store.specs.Standing.{Seen, seen_of}
 
 -- a store that was opened leaves what it holds
 begins_left : (s : State) (held : Holdings) → IsSettled s → IsDurable s → IsTrue s.is_open → IsStoreOf s.now held → LeavesOneOf s (held ∷ [])

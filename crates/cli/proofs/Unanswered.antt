@@ -1,18 +1,23 @@
 -- A store that does not answer, by what its party answered.
-use Rattle.std.proofs.Common.{◌≡◌, ◌≢◌, inl, inr, refl, sym, subst, ℕ, List, Err, Ok, Result, IfErr, IsTrue, arith}
-use Rattle.sqlite.specs.State.{State, HasCleanDisk}
+use Rattle.std.proofs.Common.{◌≡◌, ◌≢◌, ◌∙◌, inl, inr, refl, sym, subst, ℕ, List, Err, Ok, Result, IfErr, IsTrue, arith}
+use Rattle.sqlite.specs.State.{State, HasCleanDisk, KeepsCommit}
 use Rattle.statements_facts.specs.Statement.{Holdings}
 use Rattle.store_maps.specs.Held.{IsStoreOf}
 use Rattle.relying.specs.Asking.{IsFormed, IsFormedOfEither}
 use Rattle.store.specs.Adopts.{StaysIfOpen}
 use Rattle.statements_facts.specs.declared.fact.Facts.{Facts}
 use Rattle.store_taking.specs.Delivery.{PutsFacts}
+use Rattle.store_adoption.specs.Creates.{IsSettled}
+use Rattle.store_listing.specs.declared.held.Listing.{Listing}
+use Rattle.store_listing.specs.Laws.{ListingShowsHeld}
+use Rattle.store_listing.specs.Listing.{IsListing}
+use Rattle.store_listing.specs.Reads.{Reads}
 use Rattle.store_sql.specs.declared.fault.StoreFault.{StoreFault}
 use Rattle.store_sql.specs.declared.fault.StoreFault.TheVariants as S
 use Rattle.relying_verdicts.specs.declared.fault.Fault.{Fault}
 use Rattle.relying_verdicts.specs.declared.fault.Fault.TheVariants as F
 use Rattle.cli_failures.specs.declared.failure.Failure.{Failure}
-use Rattle.cli.specs.Standing.{IsFound, IsFoundOrMade, IsNoAnswer, Leaving, Seen, Standing, seen_of, told_of, told_of_party}
+use Rattle.cli_store.specs.Standing.{IsFound, IsFoundOrMade, IsNoAnswer, Leaving, Seen, Standing, seen_of, told_of, told_of_party}
 use Rattle.cli.specs.Delivered.{IsNotTaken}
 use Rattle.cli.specs.Checked.{AreUnanswered, IsNoComparison, IsNotCompared, IsNotChecked}
 
@@ -68,6 +73,28 @@ not_taken leaves old new facts S.Store failure told left puts =
 not_taken leaves old new facts S.Schema failure told left puts =
     inr (72, told, inr refl, (seen_of new, left, λ intact is_open held stands. absurd ((puts intact).formed refl held stands)))
 not_taken leaves old new facts S.Memory failure told left puts = inl told
+
+-- ---- a listing
+
+still : (old new : State) → IsSettled old → IsSettled new → KeepsCommit old new → IsTrue new.is_open → new.now ≡ old.now
+still old new settled settled_then keeps is_open = settled_then is_open ∙ keeps.committed is_open ∙ sym (settled (keeps.was_open is_open))
+
+pub not_listed : (leaves : Seen → Type 0) (old new : State) (fault : StoreFault) (failure : Failure)
+    → failure ≡ told_of fault → leaves (seen_of new) → ListingShowsHeld → IsSettled old → IsSettled new
+    → (HasCleanDisk new → Reads {A = Listing} old new IsListing (Err fault)) → IsNoAnswer leaves (seen_of old) failure
+not_listed leaves old new S.Store failure told left shows settled settled_then reads = inr (
+  71,
+  told,
+  inl refl,
+  (
+    seen_of new,
+    left,
+    λ intact is_open held stands. (subst (λ now. IsStoreOf now held) (sym (still old new settled settled_then (reads intact).0 is_open)) stands, other),
+  ),
+)
+not_listed leaves old new S.Schema failure told left shows settled settled_then reads =
+    inr (72, told, inr refl, (seen_of new, left, λ intact is_open held stands. let it = shows old.now held stands in absurd ((reads intact).1 refl it.0 it.1)))
+not_listed leaves old new S.Memory failure told left shows settled settled_then reads = inl told
 
 -- ---- stores at paths
 

@@ -17,7 +17,7 @@ use Rattle.cli_operands.specs.Question.{Asks, IsFailureOfQuestion}
 use Rattle.cli_operands.specs.declared.operand_files.Operands.{Operands}
 use Rattle.cli.specs.Asked.{IsAsked, IsQueryOf}
 use Rattle.cli.specs.Believed.{accepted_by}
-use Rattle.cli.specs.Standing.{IsFaultNumber, IsFound, IsIntact, IsNotFound, IsUnanswered, Leaving, Seen, Standing}
+use Rattle.cli_store.specs.Standing.{IsFaultNumber, IsFound, IsIntact, IsNotFound, IsUnanswered, Leaving, Seen, Standing}
 
 -- the verdict of a party that held what a store held in its old state, which was left in another
 abbrev pub HasChecked : (Seen → Type 0) → Accepts → Query → Seen → Verdict → Type 0

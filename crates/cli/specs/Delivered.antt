@@ -14,7 +14,7 @@ use Rattle.cli_failures.specs.Failures.{Holding, HoldsCertificate, IsDenied, IsN
 use Rattle.cli_failures.specs.declared.failure.Failure.{Failure}
 use Rattle.cli_operands.specs.InOrder.{FailsFirst}
 use Rattle.cli_operands.specs.Question.{AcceptsJust, HoldsFingerprints, IsFailureOnFingerprints}
-use Rattle.cli.specs.Standing.{IsFoundOrMade, IsIntact, MakesNoStore, IsUnanswered, Leaving, Seen, Standing}
+use Rattle.cli_store.specs.Standing.{IsFoundOrMade, IsIntact, MakesNoStore, IsUnanswered, Leaving, Seen, Standing}
 use Rattle.cli.specs.declared.delivering.Delivery.{Delivery}
 
 -- A store that was seen so has taken the facts, and was left in a state in which it holds what they make of what it held: all are taken,

@@ -6,7 +6,7 @@ use Rattle.cli_failures.specs.Report.{UnlessLate, report_line, exit_status}
 use Rattle.cli_failures.specs.declared.failure.Failure.{Failure}
 use Rattle.clap.specs.declared.error.kind.ErrorKind.{ErrorKind}
 use Rattle.cli_failures.specs.declared.failure.Failure.TheVariants.{NoMemory, Unwritable}
-use Rattle.cli.specs.Standing.{Leaving, Standing}
+use Rattle.cli_store.specs.Standing.{Leaving, Standing}
 use Rattle.cli.specs.Outcome.{AreMistaken, HasFailed, IsHelp, IsMistake}
 
 -- what the words ask for was done: of a verdict 1 says that the path is invalid, 2 that a certificate is revoked and 3 that nothing

@@ -4,7 +4,7 @@ use Rattle.clap.specs.Words.{Text}
 use Rattle.cli_words.specs.RunOptions.{TakesOptions}
 use Rattle.cli_words.specs.declared.leading.RunOptions.{RunOptions}
 use Rattle.cli_failures.specs.Failures.{Holding}
-use Rattle.cli.specs.Standing.{Leaving, Standing}
+use Rattle.cli_store.specs.Standing.{Leaving, Standing}
 
 -- each file may hold anything
 abbrev pub any_file : Holding

@@ -9,15 +9,16 @@ use Rattle.relying_agreement.specs.declared.verdict.Verdict.{Verdict}
 use Rattle.cli_answers.specs.AnswerText.{comparison_line, verdict_line}
 use Rattle.cli_words.specs.CommandLine.{AreRefusedWith, Reads}
 use Rattle.cli_words.specs.declared.line.Line.{Line}
-use Rattle.cli_words.specs.declared.line.Line.TheVariants.{Tree, Show, Prints, Deliver, Check, Compare, Explain, Session}
+use Rattle.cli_words.specs.declared.line.Line.TheVariants.{Tree, Show, Prints, Deliver, Check, Compare, List as Listing, Explain, Session}
 use Rattle.cli_explaining.specs.Topics.{explanation, is_known}
 use Rattle.cli_failures.specs.Failures.{Holding, IsNoValue, OrUnwritable}
 use Rattle.cli_failures.specs.declared.failure.Failure.{Failure}
 use Rattle.cli_failures.specs.declared.failure.Failure.TheVariants.{BadTopic, NoMemory, Unwritable}
 use Rattle.cli.specs.Delivered.{IsDeliveredText, IsFailureOfDelivery, WasDelivered}
 use Rattle.cli.specs.Checked.{IsCompared, IsFailureOfCheck, IsFailureOfComparison, IsChecked, WasChecked, WereCompared}
+use Rattle.cli.specs.Listed.{IsFailureOfListing, IsListed}
 use Rattle.cli.specs.Session.{IsFailureOfSession, IsSessionText}
-use Rattle.cli.specs.Standing.{Leaving, Standing}
+use Rattle.cli_store.specs.Standing.{Leaving, Standing}
 use Rattle.cli_answers.specs.Status.{comparison_status, verdict_status}
 use Rattle.cli_showing.specs.Shown.{ArePrintsUnder, HoldUnder, HoldsKind, HoldsValue, IsFailureOfPrints, IsNotShown, IsShownText, IsTreeText}
 
@@ -60,6 +61,8 @@ IsAnswer holds stands leaves (Check question) input source status text =
     IsVerdictText (IsChecked holds stands leaves question) status text
 IsAnswer holds stands leaves (Compare question other) input source status text =
     IsComparisonText (IsCompared holds stands leaves question other.now) status text
+IsAnswer holds stands leaves (Listing store moment) input source status text =
+    (status ≡ 0) × IsListed stands leaves store.now (option_map (λ w. w.now) moment) text
 IsAnswer holds stands leaves (Explain words) input source status text =
     (status ≡ 0) × IsExplanation (map (λ w. w.now) words.items) text
 IsAnswer holds stands leaves (Session store verdicts) input source status text =
@@ -92,6 +95,9 @@ IsLineFailure holds stands leaves (Check question) =
 IsLineFailure holds stands leaves (Compare question other) =
     OrUnwritable (IsFailureOfComparison holds stands leaves question other.now)
     (WereCompared holds stands leaves question other.now)
+IsLineFailure holds stands leaves (Listing store moment) =
+    OrUnwritable (IsFailureOfListing stands leaves store.now (option_map (λ w. w.now) moment))
+    ((text : List ℕ) × IsListed stands leaves store.now (option_map (λ w. w.now) moment) text)
 IsLineFailure holds stands leaves (Explain words) =
     OrUnwritable (IsNoTopic (map (λ w. w.now) words.items))
     ((text : List ℕ) × IsExplanation (map (λ w. w.now) words.items) text)

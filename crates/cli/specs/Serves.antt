@@ -8,7 +8,7 @@ use Rattle.cli_serving.specs.declared.ending.End.{End}
 use Rattle.cli_serving.specs.declared.ending.End.TheVariants.{Quit, Finished}
 use Rattle.cli_steps.specs.declared.answer.SessionAnswer.{SessionAnswer}
 use Rattle.cli.specs.Session.{HasComeTo, IsReadToEnd, IsReadToQuit}
-use Rattle.cli.specs.Standing.{Seen}
+use Rattle.cli_store.specs.Standing.{Seen}
 
 -- the session was not cut short
 abbrev pub IsWholeSession : End → Type 0

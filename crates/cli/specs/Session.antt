@@ -13,7 +13,7 @@ use Rattle.cli_serving.specs.Serving.{AreAnswersToLines, GivesLines, GoOn, text_
 use Rattle.cli_steps.specs.State.{SessionState}
 use Rattle.cli_steps.specs.declared.answer.SessionAnswer.{SessionAnswer}
 use Rattle.cli_steps.specs.declared.answer.SessionAnswer.TheVariants.{Ends}
-use Rattle.cli.specs.Standing.{IsFoundOrMade, IsIntact, MakesNoStore, Leaving, Seen, Standing}
+use Rattle.cli_store.specs.Standing.{IsFoundOrMade, IsIntact, MakesNoStore, Leaving, Seen, Standing}
 
 -- the fingerprints that are believed in the beginning: those of the file, or none
 abbrev pub BelievesAtFirst : Holding → Option (List ℕ) → List (List ℕ) → Type 0

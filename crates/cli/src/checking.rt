@@ -8,14 +8,14 @@ ghost use Rattle.cli_failures.specs.Report.{UnlessLate};
 ghost use Rattle.relying_verdicts.specs.View.{seen_query};
 ghost use Rattle.cli.specs.Believed.{accepted_by};
 ghost use Rattle.cli.specs.Checked.{HasChecked, IsFailureOfCheck, IsChecked, IsCheckedBy, IsCheckedOf, IsNotChecked, IsNotCheckedOf, WasChecked};
-ghost use Rattle.cli.specs.Standing.{IsNoAnswer, seen_of, told_of_party};
+ghost use Rattle.cli_store.specs.Standing.{IsNoAnswer, seen_of, told_of_party};
 
 use crate::asking::query_of;
 use crate::sharing::Shared;
-use crate::stores::{Stores, failed};
 use cli_answers::verdict_to;
 use cli_failures::{Failure, Source};
 use cli_operands::{Operands, read_operands};
+use cli_store::{Stores, failed};
 use cli_words::Question;
 use path_verifiers::{ListVerifier, Verifier};
 use relying::{Fault, Node, Query};

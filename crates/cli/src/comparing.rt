@@ -7,15 +7,15 @@ ghost use Rattle.cli_failures.specs.Report.{UnlessLate};
 ghost use Rattle.relying_verdicts.specs.View.{seen_query};
 ghost use Rattle.cli.specs.Believed.{accepted_by};
 ghost use Rattle.cli.specs.Checked.{HasCompared, IsCompared, IsComparedBy, IsComparedOf, IsFailureOfComparison, IsNoComparison, IsNotCompared, IsNotComparedOf, WereCompared};
-ghost use Rattle.cli.specs.Standing.{seen_in};
+ghost use Rattle.cli_store.specs.Standing.{seen_in};
 
 use crate::asking::query_of;
 use crate::checking::not_checked;
 use crate::sharing::Shared;
-use crate::stores::Stores;
 use cli_answers::comparison_to;
 use cli_failures::{Failure, Source};
 use cli_operands::{Operands, read_operands};
+use cli_store::Stores;
 use cli_words::Question;
 use path_verifiers::{ListVerifier, Verifier};
 use relying::{Node, Query};

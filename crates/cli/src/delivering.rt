@@ -8,14 +8,14 @@ ghost use Rattle.cli_failures.specs.Failures.{OrUnwritable};
 ghost use Rattle.cli_failures.specs.Report.{UnlessLate, WritesText};
 ghost use Rattle.cli.specs.Believed.{accepted_by};
 ghost use Rattle.cli.specs.Delivered.{HasTaken, IsDelivered, IsDeliveredFor, IsDeliveredText, IsDeliveredUnder, IsFailureFor, IsFailureOfDelivery, IsFailureUnder, IsNotTaken, IsNotTakenOf, IsTakenAt, IsTakenOf, WasDelivered};
-ghost use Rattle.cli.specs.Standing.{IsNoAnswer, seen_of};
+ghost use Rattle.cli_store.specs.Standing.{IsNoAnswer, seen_of};
 
 use crate::sharing::Shared;
-use crate::stores::{Stores, failed};
 use cert::Certificate;
 use cli_answers::counts_to;
 use cli_failures::{Extent, Failure, Source, read_certificate, read_facts};
 use cli_operands::read_fingerprints;
+use cli_store::{Stores, failed};
 use path_verifiers::{ListVerifier, Verifier};
 use relying::Node;
 use sqlite_disk::Disk;

@@ -7,7 +7,8 @@ ghost use Rattle.cli.specs.Ended.{RunHasEnded, HasEndedSo, IsAnswering, IsFailin
 ghost use Rattle.cli.specs.Outcome.{HasAnswered, IsDone, IsLineFailure, IsHelp};
 
 use crate::{
-    Delivery, Stores, check, compare, comparison_status, deliver, explain, session, verdict_status,
+    Delivery, Stores, check, compare, comparison_status, deliver, explain, list, session,
+    verdict_status,
 };
 use clap::error::ErrorKind;
 use cli_failures::{Failure, Source};
@@ -171,6 +172,12 @@ fn answer<'a, D: Disk + Drop, S: Source + Stores<Store<D>>, I: Read, O: Write>(
         }
         Line::Compare { question, other } => {
             return Ok(comparison_status(compare(source, alloc, question, other, out)?));
+        }
+        Line::List { store, moment } => {
+            return match list(source, alloc, store, *moment, out) {
+                Ok(()) => Ok(DONE),
+                Err(failure) => Err(failure),
+            };
         }
         Line::Explain { words } => {
             return match explain(words.as_slice(), out) {

@@ -1,5 +1,5 @@
 //! One run of the program: what the words of its command line ask for, deliveries to the store at a path, verdicts by what stores at
-//! paths hold, and how it says what failed.
+//! paths hold, what one holds, and how it says what failed.
 #![tactic(auto)]
 
 mod asking;
@@ -8,20 +8,19 @@ mod comparing;
 mod delivering;
 mod execution;
 mod explanation;
-mod machine;
+mod listing;
 mod sessions;
 mod sharing;
 mod starting;
-mod stores;
 
 pub use checking::check;
 pub use cli_answers::{comparison_status, verdict_status};
 pub use cli_failures::{Extent, Failure, Source};
+pub use cli_store::{Connected, Machine, Stores};
 pub use comparing::compare;
 pub use delivering::{Delivery, deliver};
 pub use execution::{Ended, execute, executed};
 pub use explanation::explain;
-pub use machine::Machine;
+pub use listing::list;
 pub use sessions::session;
 pub use starting::start;
-pub use stores::{Connected, Stores};

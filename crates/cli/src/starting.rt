@@ -5,9 +5,9 @@ ghost use Rattle.cli.specs.OnMachine.{IsCommandOf, any_file, any_store, any_end}
 ghost use Rattle.cli.specs.Outcome.{HasAnswered, IsDone, IsLineFailure};
 
 use crate::execution::{answer_of_clap, finish, run};
-use crate::machine::Machine;
 use cli_failures::Failure;
 use cli_hints::{hint_after_delivery, hint_to};
+use cli_store::Machine;
 use cli_words::{Line, RunOptions, RunWords, command_of, run_options};
 use std::alloc::{AllocError, Global};
 use std::io::{Read, Write};

@@ -93,7 +93,7 @@ fn hint_about_stores<W: Write>(
     writer: &mut W,
 ) -> io::Result<()> {
     match line {
-        Line::Deliver { store, .. } | Line::Session { store, .. } => {
+        Line::Deliver { store, .. } | Line::List { store, .. } | Line::Session { store, .. } => {
             hint_about_store(rt, store, writer)
         }
         Line::Check(question) => hint_about_store(rt, question.store, writer),
@@ -118,6 +118,10 @@ fn hint_about_schema<W: Write>(writer: &mut W) -> io::Result<()> {
 fn hint_about_time<W: Write>(line: &Line<'_>, writer: &mut W) -> io::Result<()> {
     let moment = match line {
         Line::Check(question) | Line::Compare { question, .. } => question.moment,
+        Line::List {
+            moment: Some(moment),
+            ..
+        } => *moment,
         _ => "",
     };
     writeln!(

@@ -4,7 +4,7 @@ use Rattle.sqlite_disk.specs.declared.Disk.{Ghosts}
 use Rattle.store.specs.Adopts.{IsEmptyStoreOn, IsStoreOn}
 use Rattle.store.specs.declared.handle.Store.{Store}
 use Rattle.cli_failures.specs.declared.failure.Failure.{Failure}
-use Rattle.cli.specs.Standing.{IsFound, IsFoundOrMade, Met, Standing, database, nothing, seen_in}
+use Rattle.cli_store.specs.Standing.{IsFound, IsFoundOrMade, Met, Standing, database, nothing, seen_in}
 
 pub found : {D : Type 0} {g : Ghosts D} (stands : Standing) (path : List ℕ) (result : Result (Store D g) Failure) → ((met : Met) → stands path met) → IfOk result (λ store. IsStoreOn store.conn)
     → IfOk result (λ store. IsFound stands path (seen_in store))

@@ -6,7 +6,7 @@ ghost use Rattle.store_adoption.specs.Creates.{IsSettled};
 ghost use Rattle.store.specs.Adopts.{IsEmptyStoreOn, IsStoreOn};
 ghost use Rattle.store_adoption.specs.Inspects.{IsStore};
 ghost use Rattle.store_sql.specs.Statements.{IsDurable};
-ghost use Rattle.cli.specs.Standing.{IsFound, IsFoundOrMade, IsNotFound, MakesNoStore, seen_of, told_of};
+ghost use Rattle.cli_store.specs.Standing.{IsFound, IsFoundOrMade, IsNotFound, MakesNoStore, seen_of, told_of};
 
 use cli_failures::Failure;
 use sqlite::{Connection, FileStore};
@@ -36,7 +36,7 @@ impl<D: Disk + Drop> Connected for Store<D> {
 /// is opened is what stands there, that what is closed is left there, and that opening fails only because of what is found at the path.
 pub trait Stores<T: Connected> {
     ghost use Rattle.std.specs.Prelude.{ℕ, List};
-    ghost use Rattle.cli.specs.Standing.{Met, Seen};
+    ghost use Rattle.cli_store.specs.Standing.{Met, Seen};
 
     /// Whether this was found at the path of a store: its database, as it was seen when it was opened; no file that can be read; or a
     /// fault of the store.
@@ -65,8 +65,8 @@ pub trait Stores<T: Connected> {
         ensures leaves { leaves self.now path.now (seen_of (T.state store)) };
 }
 
-// What a store's fault is for a run.
-pub(crate) fn failed<'a>(fault: StoreFault) -> Failure<'a>
+/// What a store's fault is for a run.
+pub fn failed<'a>(fault: StoreFault) -> Failure<'a>
     ensures { result ≡ told_of fault }
 {
     match fault {

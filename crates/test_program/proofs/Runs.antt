@@ -7,7 +7,7 @@ use Rattle.store_maps.specs.Held.{IsStoreOf}
 use Rattle.sqlite.specs.Schema.{Schema}
 use Rattle.store_sql.specs.Tables.{crls_tree, entries_tree, no_schema, scoped_crls_table, scoped_entries_table, start_schema, store_schema}
 use Rattle.store_sql.specs.declared.origin.Origin.{Origin}
-use Rattle.cli.specs.Standing.{IsFound, IsFoundOrMade, Seen}
+use Rattle.cli_store.specs.Standing.{IsFound, IsFoundOrMade, Seen}
 use Rattle.test_program.specs.Shelves.{after_these, standing_on, statements_at}
 use Rattle.test_program.specs.Runs.{ChecksByTexts, ComparesByTexts, DeliversByTexts, HasStore, held_at}
 use Rattle.test_program.specs.declared.shelf.Kept.{Kept}

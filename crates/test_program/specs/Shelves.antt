@@ -6,7 +6,7 @@ use Rattle.statements_facts.specs.Statement.{Holdings, empty_holdings}
 use Rattle.statements_facts.specs.declared.fact.Facts.{Facts}
 use Rattle.store_maps.specs.Held.{IsStoreOf}
 use Rattle.cli.specs.Failures.{Holding}
-use Rattle.cli.specs.Standing.{IsIntact, Leaving, Standing, database, nothing, refusal}
+use Rattle.cli_store.specs.Standing.{IsIntact, Leaving, Standing, database, nothing, refusal}
 use Rattle.test_program.specs.declared.shelf.Kept.{Kept}
 use Rattle.test_program.specs.declared.shelf.Text.{Text}
 

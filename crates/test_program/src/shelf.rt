@@ -8,7 +8,7 @@ ghost use Rattle.statements_facts.specs.Statement.{Holdings, empty_holdings};
 ghost use Rattle.store_adoption.specs.Creates.{IsSettled};
 ghost use Rattle.store_maps.specs.Held.{IsStoreOf};
 ghost use Rattle.store_sql.specs.Statements.{IsDurable};
-ghost use Rattle.cli.specs.Standing.{told_of};
+ghost use Rattle.cli_store.specs.Standing.{told_of};
 ghost use Rattle.test_program.specs.Shelves.{after_these, octets_under, statements_at};
 
 use cli::{Extent, Failure, Source, Stores};

@@ -2,14 +2,15 @@
 
 use crate::output::Output;
 use crate::printed::{CERTIFICATE, LINES, PRINT};
+use crate::walking::{run, walk, words_of};
 use cli::execute;
 use details::ALL_LINES;
 use refused::{NO_CERTIFICATES, REFUSED, REFUSED_TAILS};
+use rows::{octets_of, put, row_holds, walk_rows};
 use shown::SHOWN;
 use std::alloc::{AllocError, Global};
 use std::fs;
 use std::test::Fail;
-use walking::{octets_of, put, row_holds, run, walk, walk_rows, words_of};
 
 mod details;
 mod fingerprints;
@@ -17,9 +18,9 @@ mod hints;
 mod lists;
 mod refused;
 mod responses;
+mod rows;
 mod shown;
 mod tutorial;
-mod walking;
 
 // Values, and what `tree` prints of them.
 const TREES: &str = "

@@ -1,5 +1,5 @@
-//! Tests of command lines: what they are, which are refused, what stands in operands (moments, purposes, files of verdicts), and the
-//! lines of answers.
+//! Tests of command lines: what they are, which are refused, what stands in operands (moments, purposes, files of verdicts); of the lines
+//! of a session and their operands; and of the lines of answers.
 #![tactic(auto)]
 
 #[cfg(test)]
@@ -14,6 +14,8 @@ mod moments;
 mod options;
 #[cfg(test)]
 mod purposes;
+#[cfg(test)]
+mod requests;
 #[cfg(test)]
 mod validating;
 #[cfg(test)]

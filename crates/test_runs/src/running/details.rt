@@ -2,7 +2,7 @@
 //!
 //! What is said of files that OpenSSL made is what `openssl x509 -text`, `openssl crl -text` and `openssl ocsp -resp_text` say of them.
 
-use super::walking::put_row;
+use super::rows::put_row;
 use super::*;
 
 // Of certificates: the extensions of one that OpenSSL made, with what its text says of them; and values worked by hand, of which some

@@ -1,8 +1,9 @@
 //! What to do about failures, in a line behind each, if it is asked for.
 
 use super::fingerprints::{LEAF, ROOT};
-use super::walking::{put, words_of};
+use super::rows::put;
 use crate::output::Output;
+use crate::walking::words_of;
 use cli::start;
 use std::fs;
 use std::test::Fail;

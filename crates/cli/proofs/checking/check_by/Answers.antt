@@ -1,7 +1,7 @@
 use Rattle.sqlite.specs.Files.{file_state}
 use Rattle.relying_verdicts.specs.View.{seen_query}
 use Rattle.cli.specs.Believed.{accepted_by}
-use Rattle.cli.specs.Standing.{seen_in}
+use Rattle.cli_store.specs.Standing.{seen_in}
 use Rattle.cli.proofs.Seeing.{checked_by}
 use Rattle.cli.proofs.Unanswered.{not_checked_by}
 use Rattle.cli.proofs.checking.check_by.Goals as goal

@@ -1,7 +1,7 @@
 use Rattle.sqlite.specs.Files.{file_state}
 use Rattle.relying_verdicts.specs.View.{seen_query}
 use Rattle.cli.specs.Believed.{accepted_by}
-use Rattle.cli.specs.Standing.{seen_in}
+use Rattle.cli_store.specs.Standing.{seen_in}
 use Rattle.cli.proofs.Seeing.{compared_by}
 use Rattle.cli.proofs.Unanswered.{not_compared_by}
 use Rattle.cli.proofs.comparing.compare_by.Goals as goal

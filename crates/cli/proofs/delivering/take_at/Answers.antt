@@ -1,6 +1,6 @@
 use Rattle.sqlite.specs.Files.{file_state}
 use Rattle.statements_facts.specs.Fact.{facts_in}
-use Rattle.cli.specs.Standing.{seen_in}
+use Rattle.cli_store.specs.Standing.{seen_in}
 use Rattle.cli.proofs.Seeing.{taken_at}
 use Rattle.cli.proofs.Unanswered.{not_taken_at}
 use Rattle.cli.proofs.delivering.take_at.Goals as goal

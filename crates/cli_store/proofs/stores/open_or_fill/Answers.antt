@@ -1,6 +1,6 @@
 use Rattle.std.proofs.Common.{inl}
-use Rattle.cli.proofs.Standing.{filled}
-use Rattle.cli.proofs.stores.open_or_fill.Goals as goal
+use Rattle.cli_store.proofs.Standing.{filled}
+use Rattle.cli_store.proofs.stores.open_or_fill.Goals as goal
 
 pub returns-in-Ok-clause-store : goal.returns-in-Ok-clause-store
 returns-in-Ok-clause-store c = inl c.in-Ok.ensures.store

@@ -1,6 +1,6 @@
 use Rattle.std.specs.Prelude.{⊤}
-use Rattle.cli.proofs.Standing.{found_or_made, made}
-use Rattle.cli.proofs.stores.HostRuntimeStoresStoreFile.open_or_make_store.Goals as goal
+use Rattle.cli_store.proofs.Standing.{found_or_made, made}
+use Rattle.cli_store.proofs.stores.HostRuntimeStoresStoreFile.open_or_make_store.Goals as goal
 
 pub returns-then-is_missing-clause-found : goal.returns-then-is_missing-clause-found
 returns-then-is_missing-clause-found c = made (λ path met. ⊤) c.args.path.now c.make.result (λ met. tt) c.make.ensures.empty

@@ -1,6 +1,6 @@
 //! The quick start of README.md: the runs of the program that it shows, over the files of `examples/authority`.
 
-use crate::files::{write_files, write_verdicts};
+use super::files::{write_files, write_verdicts};
 use crate::walking::walk;
 use std::test::Fail;
 

@@ -1,6 +1,6 @@
 //! Paths, statements, what is asked about them, and the verdicts by the answers.
 
-use crate::asking::{Pair, Statement, are_asked};
+use super::asking::{Pair, Statement, are_asked};
 use path::Reason;
 use relying_questions::Source::{Certificate, Statement as Told};
 use relying_texts::Verdict;

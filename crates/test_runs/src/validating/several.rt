@@ -1,6 +1,6 @@
 //! Paths in files that hold several certificates.
 
-use crate::files::{write_files, write_verdicts};
+use super::files::{write_files, write_verdicts};
 use crate::walking::walk;
 use std::test::Fail;
 

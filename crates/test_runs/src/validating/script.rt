@@ -1,6 +1,6 @@
 //! A store, a list and a path, from the first run on.
 
-use crate::files::{write_files, write_verdicts};
+use super::files::{write_files, write_verdicts};
 use crate::walking::walk;
 use std::test::Fail;
 

@@ -1,6 +1,6 @@
 //! Statements that are refused, and leave no store.
 
-use crate::files::{write_files, write_verdicts};
+use super::files::{write_files, write_verdicts};
 use crate::walking::walk;
 use std::test::Fail;
 

@@ -1,6 +1,6 @@
 //! Operands that are refused, the first of them.
 
-use crate::files::{write_files, write_verdicts};
+use super::files::{write_files, write_verdicts};
 use crate::walking::walk;
 use std::fs;
 use std::test::Fail;

@@ -1,7 +1,7 @@
 //! Sessions: each request is answered as the program answers its command, run by run, over a store of its own.
 
-use crate::files::{write_files, write_verdicts};
-use crate::quick_start::{FILES, PRINTS};
+use super::files::{write_files, write_verdicts};
+use super::quick_start::{FILES, PRINTS};
 use crate::walking::words_of;
 use cli::execute;
 use std::alloc::{AllocError, Global};

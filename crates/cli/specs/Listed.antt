@@ -1,0 +1,51 @@
+-- What the store at a path holds, listed, and why it is not.
+use Rattle.std.specs.Prelude.{◌≡◌, ℕ, ℤ, List, Option, Some, None}
+use Rattle.statements_facts.specs.Statement.{Holdings}
+use Rattle.store_maps.specs.Held.{IsStoreOf}
+use Rattle.store_listing.specs.Listing.{Overview}
+use Rattle.store_listing.specs.Laws.{ListsOnce, ShowsHeld}
+use Rattle.cli_listing.specs.ListingText.{listing_text}
+use Rattle.cli_failures.specs.declared.failure.Failure.{Failure}
+use Rattle.cli_operands.specs.InOrder.{FailsFirst}
+use Rattle.cli_operands.specs.Moment.{IsMoment}
+use Rattle.cli_operands.specs.Question.{IsBadTime}
+use Rattle.cli_store.specs.Standing.{IsFound, IsIntact, Leaving, Seen, Standing}
+use Rattle.cli.specs.Checked.{IsNotChecked}
+
+-- a moment is asked about by its text, or none is
+abbrev pub IsMomentOf : Option (List ℕ) → Option ℤ → Type 0
+IsMomentOf None None = Unit {0}
+IsMomentOf (Some text) (Some seconds) = IsMoment text seconds
+IsMomentOf _ _ = ⊥
+
+abbrev pub IsBadMoment : Option (List ℕ) → Failure → Type 0
+IsBadMoment (Some text) failure = IsBadTime text failure
+IsBadMoment None failure = ⊥
+
+-- the lines of a listing that shows what is held, slot by slot, and nothing twice
+abbrev pub IsListingOf : Option ℤ → Holdings → List ℕ → Type 0
+IsListingOf at held text =
+    (all : Overview) × ShowsHeld held all × ListsOnce all × (text ≡ listing_text at all)
+
+-- the lines of a store that was seen so, which was left in a state in which it holds the same
+abbrev pub HasListed : (Seen → Type 0) → Option ℤ → Seen → List ℕ → Type 0
+HasListed leaves at old text =
+    (new : Seen) × leaves new
+    × (IsIntact new → (held : Holdings) → IsStoreOf old.now held →
+    IsStoreOf new.now held × IsListingOf at held text)
+
+-- the same of the store at a path
+abbrev pub IsListedAt : Standing → Leaving → List ℕ → Option ℤ → List ℕ → Type 0
+IsListedAt stands leaves path at text =
+    (old : Seen) × IsFound stands path old × HasListed (leaves path) at old text
+
+-- the lines that are asked for
+abbrev pub IsListed : Standing → Leaving → List ℕ → Option (List ℕ) → List ℕ → Type 0
+IsListed stands leaves path moment text =
+    (at : Option ℤ) × IsMomentOf moment at × IsListedAt stands leaves path at text
+
+-- What is wrong, the first of it: the moment; the store is not found, or does not answer.
+abbrev pub IsFailureOfListing : Standing → Leaving → List ℕ → Option (List ℕ) → Failure → Type 0
+IsFailureOfListing stands leaves path moment =
+    FailsFirst (IsBadMoment moment) ((at : Option ℤ) × IsMomentOf moment at)
+    (IsNotChecked stands leaves path)

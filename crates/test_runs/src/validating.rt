@@ -1,0 +1,9 @@
+//! Runs that validate: statements that are delivered, paths that are checked, stores that are compared.
+
+mod delivering;
+mod files;
+mod in_session;
+mod quick_start;
+mod refused;
+mod script;
+mod several;
