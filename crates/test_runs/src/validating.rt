@@ -3,6 +3,7 @@
 mod delivering;
 mod files;
 mod in_session;
+mod listed;
 mod quick_start;
 mod refused;
 mod script;
