@@ -7,7 +7,9 @@ pub mod CheckWords
 pub mod CompareWords
 pub mod ExplainWords
 mod SessionWords
+mod ListWords
+mod Flaws
 pub mod Values
 mod Behind
 pub mod Outcomes
-pub mod Building
+mod Adding

@@ -5,10 +5,10 @@ use Rattle.cli_words.specs.App.{program}
 use Rattle.clap.specs.Kinds.{Kinds, HasKind, IsAmong}
 use Rattle.clap.specs.declared.error.Error.{Error}
 use Rattle.clap.specs.declared.error.kind.ErrorKind.TheVariants.{OutOfMemory}
-use Rattle.cli_words.specs.CommandLine.{Ask, AreRefusedWith, HasNoLine, HasOtherKind, IsCheck, IsCompare, IsDeliver, IsExplain, IsQuestion, IsLine, IsLineOf, IsPlainWord, IsPrints, IsSession, IsShow, IsTree, LacksOneOf, Reads, TakesKind, is_set, kind_in_rows, kind_named, of_check, of_compare, of_deliver, of_file, of_prints, of_session, words_in}
+use Rattle.cli_words.specs.CommandLine.{Ask, AreRefusedWith, HasFlaw, HasNoLine, HasOtherKind, IsCheck, IsCompare, IsDeliver, IsErrorOf, IsExplain, IsQuestion, IsLine, IsLineOf, IsList, IsListAt, IsPlainWord, IsPrints, IsRefusedWith, IsSession, IsShow, IsTree, LacksOneOf, Reads, TakesKind, is_set, kind_in_rows, kind_named, of_check, of_compare, of_deliver, of_file, of_prints, of_store, words_in}
 use Rattle.cli_words.specs.declared.line.Kind.TheVariants.{Certificate}
 use Rattle.cli_words.specs.declared.line.Line.{Line}
-use Rattle.cli_words.specs.declared.line.Line.TheVariants.{Tree, Show, Prints, Deliver, Check, Compare, Explain, Session}
+use Rattle.cli_words.specs.declared.line.Line.TheVariants.{Tree, Show, Prints, Deliver, Check, Compare, Explain, Session, List as Lists}
 use Rattle.cli_words.proofs.Turns.{Finds}
 use Rattle.cli_words.proofs.TreeWords.{entered as entered_tree, no_fault as no_fault_of_tree}
 use Rattle.cli_words.proofs.ShowWords.{entered as entered_show, no_fault as no_fault_of_show}
@@ -18,7 +18,11 @@ use Rattle.cli_words.proofs.CheckWords.{check_words, entered as entered_check, n
 use Rattle.cli_words.proofs.CompareWords.{compare_words, entered as entered_compare, no_fault as no_fault_of_compare}
 use Rattle.cli_words.proofs.ExplainWords.{entered as entered_explain, no_fault as no_fault_of_explain, rows as rows_of_explain, topic_found}
 use Rattle.cli_words.proofs.SessionWords.{entered as entered_session, no_fault as no_fault_of_session, session_words}
+use Rattle.cli_words.proofs.ListWords.{entered as entered_list, entered_at as entered_list_at, list_at_words, list_words, no_fault as no_fault_of_list, no_fault_at as no_fault_of_list_at}
+use Rattle.cli_words.specs.declared.line.Flaw.{Flaw}
+use Rattle.cli_words.specs.declared.line.Flaw.TheVariants.{ArgumentMissing, OtherKind, NoMemory}
 use Rattle.cli_words.specs.declared.question.Question.{Question}
+use Rattle.clap.specs.declared.error.kind.ErrorKind.{ErrorKind}
 use Rattle.clap.specs.Lexer.{usize_max}
 use Rattle.std.specs.List.{All}
 
@@ -30,6 +34,18 @@ errs_as P (Err e) x h b = subst P (sym b) h
 -- what clap's definition gives is a refusal
 pub refused_with : (words : List Text) (e : Error) → HasKind (fault_of program words) e → (kind_of e ≡ OutOfMemory) ⊎ AreRefusedWith words (kind_of e)
 refused_with words e h = elim h [ inl memory ↦ inl memory | inr among ↦ inr (inl among) ]
+
+-- and so is a flaw of the subcommand
+pub refused : (entered : Option (Text × List Row)) (flaw : Flaw) (kind : ErrorKind) → HasFlaw entered flaw → IsErrorOf flaw kind → IsRefusedWith entered kind
+refused entered ArgumentMissing kind has is = inl (is, has)
+refused entered OtherKind kind has is = inr (is, has)
+refused entered NoMemory kind has is = absurd is
+
+pub or_refused : (words : List Text) (r : Result Line Error)
+    → IfErr r (λ e. (kind_of e ≡ OutOfMemory) ⊎ IsRefusedWith (subcommand_of program words) (kind_of e))
+    → IfErr r (λ e. (kind_of e ≡ OutOfMemory) ⊎ AreRefusedWith words (kind_of e))
+or_refused words (Ok line) h = tt
+or_refused words (Err e) h = elim h [ inl memory ↦ inl memory | inr is ↦ inr (inr is) ]
 
 -- words that break no rule and enter a subcommand with all that it has to have are a line, memory aside
 pub known : (P : Line → Type 0) (words : List Text) (r : Result Line Error) → fault_of program words ≡ []
@@ -131,6 +147,9 @@ tree_means entered rows file found (Check asked) is line =
 tree_means entered rows file found (Compare asked beside) is line =
     let letter : 116 ≡ 99 = ap (λ (text : Text). slice_index text 0) (line_in entered (codes "tree") rows (Compare asked beside) is line).0 in
     absurd (omega (arith, letter))
+tree_means entered rows file found (Lists path time) is line =
+    let letter : 116 ≡ 108 = ap (λ (text : Text). slice_index text 0) (line_in entered (codes "tree") rows (Lists path time) is line).0 in
+    absurd (omega (arith, letter))
 
 pub tree_known : (name file : Text) (r : Result Line Error) → IsPlainWord file → IsReadAs (name ∷ codes "tree" ∷ file ∷ []) r → MatchResult r (IsTree file) (λ e. kind_of e ≡ OutOfMemory)
 tree_known name file r plain is =
@@ -169,6 +188,9 @@ show_means entered rows file finds (Check asked) is line =
 show_means entered rows file finds (Compare asked beside) is line =
     let letter : 115 ≡ 99 = ap (λ (text : Text). slice_index text 0) (line_in entered (codes "show") rows (Compare asked beside) is line).0 in
     absurd (omega (arith, letter))
+show_means entered rows file finds (Lists path time) is line =
+    let letter : 115 ≡ 108 = ap (λ (text : Text). slice_index text 0) (line_in entered (codes "show") rows (Lists path time) is line).0 in
+    absurd (omega (arith, letter))
 
 pub show_known : (name file : Text) (r : Result Line Error) → IsPlainWord file → IsReadAs (name ∷ codes "show" ∷ file ∷ []) r → MatchResult r (IsShow file) (λ e. kind_of e ≡ OutOfMemory)
 show_known name file r plain is =
@@ -206,6 +228,9 @@ prints_means entered rows issuer file finds (Check asked) is line =
     absurd (omega (arith, letter))
 prints_means entered rows issuer file finds (Compare asked beside) is line =
     let letter : 112 ≡ 99 = ap (λ (text : Text). slice_index text 0) (line_in entered (codes "prints") rows (Compare asked beside) is line).0 in
+    absurd (omega (arith, letter))
+prints_means entered rows issuer file finds (Lists path time) is line =
+    let letter : 112 ≡ 108 = ap (λ (text : Text). slice_index text 0) (line_in entered (codes "prints") rows (Lists path time) is line).0 in
     absurd (omega (arith, letter))
 
 pub prints_known : (name issuer file : Text) (r : Result Line Error) → IsPlainWord issuer → IsPlainWord file → IsReadAs (name ∷ codes "prints" ∷ prints_words issuer file) r
@@ -248,6 +273,9 @@ deliver_means entered rows store verdicts issuer file finds (Check asked) is lin
     absurd (omega (arith, letter))
 deliver_means entered rows store verdicts issuer file finds (Compare asked beside) is line =
     let letter : 100 ≡ 99 = ap (λ (text : Text). slice_index text 0) (line_in entered (codes "deliver") rows (Compare asked beside) is line).0 in
+    absurd (omega (arith, letter))
+deliver_means entered rows store verdicts issuer file finds (Lists path time) is line =
+    let letter : 100 ≡ 108 = ap (λ (text : Text). slice_index text 0) (line_in entered (codes "deliver") rows (Lists path time) is line).0 in
     absurd (omega (arith, letter))
 
 pub deliver_known : (name store verdicts issuer file : Text) (r : Result Line Error) → IsPlainWord store → IsPlainWord verdicts → IsPlainWord issuer → IsPlainWord file
@@ -321,6 +349,9 @@ check_means entered rows store verdicts moment anchor files found (Deliver path 
 check_means entered rows store verdicts moment anchor files found (Compare asked beside) is line =
     let letter : 104 ≡ 111 = ap (λ (text : Text). slice_index text 1) (line_in entered (codes "check") rows (Compare asked beside) is line).0 in
     absurd (omega (arith, letter))
+check_means entered rows store verdicts moment anchor files found (Lists path time) is line =
+    let letter : 99 ≡ 108 = ap (λ (text : Text). slice_index text 0) (line_in entered (codes "check") rows (Lists path time) is line).0 in
+    absurd (omega (arith, letter))
 
 pub check_known : (name store verdicts moment anchor file : Text) (more : List Text) (r : Result Line Error)
     → IsPlainWord store → IsPlainWord verdicts → IsPlainWord moment → IsPlainWord anchor → All IsPlainWord (file ∷ more) → length more < usize_max
@@ -366,6 +397,9 @@ compare_means entered rows store verdicts moment anchor other files found there 
     absurd (omega (arith, letter))
 compare_means entered rows store verdicts moment anchor other files found there (Check asked) is line =
     let letter : 111 ≡ 104 = ap (λ (text : Text). slice_index text 1) (line_in entered (codes "compare") rows (Check asked) is line).0 in
+    absurd (omega (arith, letter))
+compare_means entered rows store verdicts moment anchor other files found there (Lists path time) is line =
+    let letter : 99 ≡ 108 = ap (λ (text : Text). slice_index text 0) (line_in entered (codes "compare") rows (Lists path time) is line).0 in
     absurd (omega (arith, letter))
 
 pub compare_known : (name store verdicts moment anchor other file : Text) (more : List Text) (r : Result Line Error)
@@ -418,6 +452,9 @@ explain_means entered rows word found (Session path known) is line =
 explain_means entered rows word found (Compare asked beside) is line =
     let letter : 101 ≡ 99 = ap (λ (text : Text). slice_index text 0) (line_in entered (codes "explain") rows (Compare asked beside) is line).0 in
     absurd (omega (arith, letter))
+explain_means entered rows word found (Lists path time) is line =
+    let letter : 101 ≡ 108 = ap (λ (text : Text). slice_index text 0) (line_in entered (codes "explain") rows (Lists path time) is line).0 in
+    absurd (omega (arith, letter))
 
 pub explain_known : (name word : Text) (r : Result Line Error) → IsPlainWord word → IsReadAs (name ∷ codes "explain" ∷ word ∷ []) r → MatchResult r (IsExplain word) (λ e. kind_of e ≡ OutOfMemory)
 explain_known name word r plain is =
@@ -462,12 +499,79 @@ session_means entered rows store finds (Compare asked beside) is line =
 session_means entered rows store finds (Explain words) is line =
     let letter : 115 ≡ 101 = ap (λ (text : Text). slice_index text 0) (line_in entered (codes "session") rows (Explain words) is line).0 in
     absurd (omega (arith, letter))
+session_means entered rows store finds (Lists path time) is line =
+    let letter : 115 ≡ 108 = ap (λ (text : Text). slice_index text 0) (line_in entered (codes "session") rows (Lists path time) is line).0 in
+    absurd (omega (arith, letter))
 
 pub session_known : (name store : Text) (r : Result Line Error) → IsPlainWord store → IsReadAs (name ∷ codes "session" ∷ session_words store) r
     → MatchResult r (IsSession store) (λ e. kind_of e ≡ OutOfMemory)
 session_known name store r plain is =
     let enters = entered_session name store plain in
     known (IsSession store) (name ∷ codes "session" ∷ session_words store) r (no_fault_of_session name store plain)
-    (λ none. not_lacking of_session enters.rows ((store, enters.finds.0), tt) (none.session enters.rows enters.is))
+    (λ none. not_lacking of_store enters.rows ((store, enters.finds.0), tt) (none.session enters.rows enters.is))
     (no_kind _ (codes "session") enters.rows enters.is session_takes_no_kind)
     (λ line. session_means _ enters.rows store enters.finds line enters.is) is.reads is.refuses
+
+-- `list`
+list_takes_no_kind : TakesKind (codes "list") → ⊥
+list_takes_no_kind takes =
+    elim takes [
+      | inl show ↦ let letter : 108 ≡ 115 = ap (λ (text : Text). slice_index text 0) show in absurd (omega (arith, letter))
+      | inr prints ↦ let letter : 108 ≡ 112 = ap (λ (text : Text). slice_index text 0) prints in absurd (omega (arith, letter))
+    ]
+
+-- it gives a store, and the moment that was found
+list_line : (entered : Option (Text × List Row)) (rows : List Row) (P : Line → Type 0)
+    → ((store : Bor Text) (moment : Option (Bor Text)) → first_of (codes "store") rows ≡ Some store.now
+    → first_of (codes "at") rows ≡ option_map (λ s. s.now) moment → P (Lists store moment))
+    → (line : Line) → entered ≡ Some (codes "list", rows) → IsLineOf entered line → P line
+list_line entered rows P means (Lists path time) is line =
+    let says = line_in entered (codes "list") rows (Lists path time) is line in means path time says.1 says.2
+list_line entered rows P means (Tree given) is line =
+    let letter : 108 ≡ 116 = ap (λ (text : Text). slice_index text 0) (line_in entered (codes "list") rows (Tree given) is line).0 in
+    absurd (omega (arith, letter))
+list_line entered rows P means (Show kind details given) is line =
+    let letter : 108 ≡ 115 = ap (λ (text : Text). slice_index text 0) (line_in entered (codes "list") rows (Show kind details given) is line).0 in
+    absurd (omega (arith, letter))
+list_line entered rows P means (Prints signer kind parts given) is line =
+    let letter : 108 ≡ 112 = ap (λ (text : Text). slice_index text 0) (line_in entered (codes "list") rows (Prints signer kind parts given) is line).0 in
+    absurd (omega (arith, letter))
+list_line entered rows P means (Deliver path prints signer given) is line =
+    let letter : 108 ≡ 100 = ap (λ (text : Text). slice_index text 0) (line_in entered (codes "list") rows (Deliver path prints signer given) is line).0 in
+    absurd (omega (arith, letter))
+list_line entered rows P means (Check asked) is line =
+    let letter : 108 ≡ 99 = ap (λ (text : Text). slice_index text 0) (line_in entered (codes "list") rows (Check asked) is line).0 in
+    absurd (omega (arith, letter))
+list_line entered rows P means (Compare asked beside) is line =
+    let letter : 108 ≡ 99 = ap (λ (text : Text). slice_index text 0) (line_in entered (codes "list") rows (Compare asked beside) is line).0 in
+    absurd (omega (arith, letter))
+list_line entered rows P means (Explain words) is line =
+    let letter : 108 ≡ 101 = ap (λ (text : Text). slice_index text 0) (line_in entered (codes "list") rows (Explain words) is line).0 in
+    absurd (omega (arith, letter))
+list_line entered rows P means (Session path known) is line =
+    let letter : 108 ≡ 115 = ap (λ (text : Text). slice_index text 0) (line_in entered (codes "list") rows (Session path known) is line).0 in
+    absurd (omega (arith, letter))
+
+pub list_known : (name store : Text) (r : Result Line Error) → IsPlainWord store → IsReadAs (name ∷ codes "list" ∷ list_words store) r
+    → MatchResult r (IsList store) (λ e. kind_of e ≡ OutOfMemory)
+list_known name store r plain is =
+    let enters = entered_list name store plain in
+    known (IsList store) (name ∷ codes "list" ∷ list_words store) r (no_fault_of_list name store plain)
+    (λ none. not_lacking of_store enters.rows ((store, enters.finds.0), tt) (none.list enters.rows enters.is))
+    (no_kind _ (codes "list") enters.rows enters.is list_takes_no_kind)
+    (λ line. list_line _ enters.rows (IsList store)
+    (λ path time says tells. (same_text (first_of (codes "store") enters.rows) store path.now enters.finds.0 says, no_purpose time (sym tells ∙ enters.finds.1.0)))
+    line enters.is)
+    is.reads is.refuses
+
+pub list_at_known : (name store moment : Text) (r : Result Line Error) → IsPlainWord store → IsPlainWord moment → IsReadAs (name ∷ codes "list" ∷ list_at_words store moment) r
+    → MatchResult r (IsListAt store moment) (λ e. kind_of e ≡ OutOfMemory)
+list_at_known name store moment r plain plain' is =
+    let enters = entered_list_at name store moment plain plain' in
+    known (IsListAt store moment) (name ∷ codes "list" ∷ list_at_words store moment) r (no_fault_of_list_at name store moment plain plain')
+    (λ none. not_lacking of_store enters.rows ((store, enters.finds.0), tt) (none.list enters.rows enters.is))
+    (no_kind _ (codes "list") enters.rows enters.is list_takes_no_kind)
+    (λ line. list_line _ enters.rows (IsListAt store moment)
+    (λ path time says tells. (same_text (first_of (codes "store") enters.rows) store path.now enters.finds.0 says, sym tells ∙ enters.finds.1.0))
+    line enters.is)
+    is.reads is.refuses

@@ -1,8 +1,36 @@
 -- The command line of the program, in clap's terms.
-use Rattle.std.specs.Prelude.{Some, true, codes}
+use Rattle.std.specs.Prelude.{◌≡◌, IfOk, Some, true, false, codes}
 use Rattle.clap.specs.Lexer.{usize_max}
 use Rattle.clap.specs.declared.builder.action.ArgAction.TheVariants.{SetTrue}
-use Rattle.clap.specs.Words.{App, Rule, new_app, new_rule, with_rule, with_subcommand}
+use Rattle.clap.specs.Words.{App, Rule, Text, app_of, new_app, new_rule, rule_of, with_rule, with_subcommand}
+use Rattle.clap.specs.declared.builder.arg.Arg.{Arg}
+use Rattle.clap.specs.declared.builder.command.Command.{Command}
+use Rattle.clap.specs.declared.builder.command.Command.TheViews.{out-Command as fields_of}
+use Rattle.cli_words.specs.declared.building.Building.{Building}
+
+-- this is what clap reads of the argument, which is not for subcommands too
+abbrev pub HasRule : Rule → Arg → Type 0
+HasRule rule arg = (rule_of arg ≡ rule) × (arg.global ≡ false)
+
+-- and of the command, of which no argument is
+abbrev pub IsCommand : App → Command → Type 0
+IsCommand app command = (app_of command ≡ app) × ((fields_of command).has_globals ≡ false)
+
+-- the command in the making is that, unless memory ran out
+abbrev pub Builds : App → Building → Type 0
+Builds app it = IfOk it.command (IsCommand app)
+
+-- `--id VALUE`, which may be left out
+abbrev pub optional : Text → Rule
+optional id = record (new_rule id) { long = Some id; value_names = 1 }
+
+-- `--id VALUE`, which has to be there
+abbrev pub needed : Text → Rule
+needed id = record (optional id) { required = true }
+
+-- `--id`, which may be left out
+abbrev pub flag : Text → Rule
+flag id = record (new_rule id) { long = Some id; action = Some SetTrue }
 
 -- FILE
 abbrev pub file_rule : Rule
@@ -14,11 +42,11 @@ tree_app = with_rule (new_app (codes "tree")) file_rule
 
 -- `--as KIND`, which may be left out
 abbrev pub kind_rule : Rule
-kind_rule = record (new_rule (codes "as")) { long = Some (codes "as"); value_names = 1 }
+kind_rule = optional (codes "as")
 
 -- `--all`, which may be left out
 abbrev pub all_rule : Rule
-all_rule = record (new_rule (codes "all")) { long = Some (codes "all"); action = Some SetTrue }
+all_rule = flag (codes "all")
 
 -- `show [--as KIND] [--all] FILE`
 abbrev pub show_app : App
@@ -26,15 +54,11 @@ show_app = with_rule (with_rule (with_rule (new_app (codes "show")) kind_rule) a
 
 -- `--issuer ISSUER`, which has to be there
 abbrev pub issuer_rule : Rule
-issuer_rule = record (new_rule (codes "issuer")) {
-  required = true;
-  long = Some (codes "issuer");
-  value_names = 1;
-}
+issuer_rule = needed (codes "issuer")
 
 -- `--parts`, which may be left out
 abbrev pub parts_rule : Rule
-parts_rule = record (new_rule (codes "parts")) { long = Some (codes "parts"); action = Some SetTrue }
+parts_rule = flag (codes "parts")
 
 -- `prints --issuer ISSUER [--as KIND] [--parts] FILE`
 abbrev pub prints_app : App
@@ -44,19 +68,11 @@ prints_app =
 
 -- `--store STORE`, which has to be there
 abbrev pub store_rule : Rule
-store_rule = record (new_rule (codes "store")) {
-  required = true;
-  long = Some (codes "store");
-  value_names = 1;
-}
+store_rule = needed (codes "store")
 
 -- `--verdicts VERDICTS`, which has to be there
 abbrev pub verdicts_rule : Rule
-verdicts_rule = record (new_rule (codes "verdicts")) {
-  required = true;
-  long = Some (codes "verdicts");
-  value_names = 1;
-}
+verdicts_rule = needed (codes "verdicts")
 
 -- a command over a store: with `--store STORE --verdicts VERDICTS`
 abbrev pub storing : App → App
@@ -68,23 +84,15 @@ deliver_app = with_rule (with_rule (storing (new_app (codes "deliver"))) issuer_
 
 -- `--at TIME`, which has to be there
 abbrev pub moment_rule : Rule
-moment_rule = record (new_rule (codes "at")) {
-  required = true;
-  long = Some (codes "at");
-  value_names = 1;
-}
+moment_rule = needed (codes "at")
 
 -- `--anchor ANCHOR`, which has to be there
 abbrev pub anchor_rule : Rule
-anchor_rule = record (new_rule (codes "anchor")) {
-  required = true;
-  long = Some (codes "anchor");
-  value_names = 1;
-}
+anchor_rule = needed (codes "anchor")
 
 -- `--purpose OID`, which may be left out
 abbrev pub purpose_rule : Rule
-purpose_rule = record (new_rule (codes "purpose")) { long = Some (codes "purpose"); value_names = 1 }
+purpose_rule = optional (codes "purpose")
 
 -- `FILE...`, at least one
 abbrev pub certificates_rule : Rule
@@ -108,11 +116,7 @@ check_app = asking (new_app (codes "check"))
 
 -- `--other STORE`, which has to be there
 abbrev pub other_rule : Rule
-other_rule = record (new_rule (codes "other")) {
-  required = true;
-  long = Some (codes "other");
-  value_names = 1;
-}
+other_rule = needed (codes "other")
 
 -- `compare`, with the other store
 abbrev pub compare_app : App
@@ -131,34 +135,28 @@ explain_app = with_rule (new_app (codes "explain")) topic_rule
 
 -- `--verdicts VERDICTS`, which may be left out
 abbrev pub known_rule : Rule
-known_rule = record (new_rule (codes "verdicts")) { long = Some (codes "verdicts"); value_names = 1 }
+known_rule = optional (codes "verdicts")
 
 -- `session --store STORE [--verdicts VERDICTS]`
 abbrev pub session_app : App
 session_app = with_rule (with_rule (new_app (codes "session")) store_rule) known_rule
 
+-- `--at TIME`, which may be left out
+abbrev pub known_moment_rule : Rule
+known_moment_rule = optional (codes "at")
+
+-- `list --store STORE [--at TIME]`
+abbrev pub list_app : App
+list_app = with_rule (with_rule (new_app (codes "list")) store_rule) known_moment_rule
+
 -- a command that wants one of its subcommands
 abbrev pub wanting_subcommand : App → App
 wanting_subcommand a = record a { top = record a.top { subcommand_required = true } }
 
--- the program with the subcommands that look at one file
-abbrev pub looking : App
-looking =
-    with_subcommand (with_subcommand (wanting_subcommand (new_app (codes "x509check"))) tree_app.top)
-    show_app.top
-
--- the same, with those that make and take fingerprints
-abbrev pub delivering : App
-delivering = with_subcommand (with_subcommand looking prints_app.top) deliver_app.top
-
--- and with those that ask for verdicts
-abbrev pub validating : App
-validating = with_subcommand (with_subcommand delivering check_app.top) compare_app.top
-
--- with the one that explains
-abbrev pub explaining : App
-explaining = with_subcommand validating explain_app.top
-
 -- the program
 abbrev pub program : App
-program = with_subcommand explaining session_app.top
+program =
+    with_subcommand (with_subcommand (with_subcommand (with_subcommand (with_subcommand (with_subcommand
+    (with_subcommand (with_subcommand (with_subcommand (wanting_subcommand (new_app (codes "x509check")))
+    tree_app.top) show_app.top) prints_app.top) deliver_app.top) check_app.top) compare_app.top)
+    explain_app.top) session_app.top) list_app.top

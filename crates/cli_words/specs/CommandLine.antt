@@ -7,7 +7,7 @@ use Rattle.clap.specs.declared.error.kind.ErrorKind.{ErrorKind}
 use Rattle.clap.specs.declared.error.kind.ErrorKind.TheVariants.{InvalidValue, MissingRequiredArgument}
 use Rattle.cli_words.specs.App.{program}
 use Rattle.cli_words.specs.declared.line.Line.{Line}
-use Rattle.cli_words.specs.declared.line.Line.TheVariants.{Tree, Show, Prints, Deliver, Check, Compare, Explain, Session}
+use Rattle.cli_words.specs.declared.line.Line.TheVariants.{Tree, Show, Prints, Deliver, Check, Compare, Explain, Session, List as Lists}
 use Rattle.cli_words.specs.declared.question.Question.{Question}
 use Rattle.cli_words.specs.declared.line.Kind.{Kind}
 use Rattle.cli_words.specs.declared.line.Kind.TheVariants.{Certificate, RevocationList, Response}
@@ -74,6 +74,9 @@ IsLine (name, rows) (Explain words) =
 IsLine (name, rows) (Session store verdicts) =
     (name ≡ codes "session") × GivesText rows (codes "store") store
     × (first_of (codes "verdicts") rows ≡ option_map (λ s. s.now) verdicts)
+IsLine (name, rows) (Lists store moment) =
+    (name ≡ codes "list") × GivesText rows (codes "store") store
+    × (first_of (codes "at") rows ≡ option_map (λ s. s.now) moment)
 
 -- the line of the subcommand that was entered
 abbrev pub IsLineOf : Option (Text × List Row) → Line → Type 0
@@ -101,8 +104,8 @@ of_check =
 abbrev pub of_compare : List Text
 of_compare = codes "other" ∷ of_check
 
-abbrev pub of_session : List Text
-of_session = codes "store" ∷ []
+abbrev pub of_store : List Text
+of_store = codes "store" ∷ []
 
 -- where the subcommand was entered, one of these is missing
 abbrev pub EnteredWithout : Option (Text × List Row) → Text → List Text → Type 0
@@ -117,7 +120,8 @@ pub record HasNoLine (entered : Option (Text × List Row)) : Type 0 where
   pub check : EnteredWithout entered (codes "check") of_check
   pub compare : EnteredWithout entered (codes "compare") of_compare
   pub explain : EnteredWithout entered (codes "explain") []
-  pub session : EnteredWithout entered (codes "session") of_session
+  pub session : EnteredWithout entered (codes "session") of_store
+  pub list : EnteredWithout entered (codes "list") of_store
 
 -- the subcommands that take the name of a kind
 abbrev pub TakesKind : Text → Type 0
@@ -140,6 +144,12 @@ IsFlaw ids rows ArgumentMissing = LacksOneOf ids rows
 IsFlaw ids rows OtherKind = kind_in_rows rows ≡ None
 IsFlaw ids rows NoMemory = ⊥
 
+-- of one that takes no kind, and no memory
+abbrev pub IsLack : List Text → List Row → Flaw → Type 0
+IsLack ids rows ArgumentMissing = LacksOneOf ids rows
+IsLack ids rows OtherKind = ⊥
+IsLack ids rows NoMemory = ⊥
+
 -- and of one that asks
 abbrev pub IsFlawOfQuestion : List Text → List Row → Flaw → Type 0
 IsFlawOfQuestion ids rows ArgumentMissing = LacksOneOf ids rows
@@ -150,13 +160,22 @@ IsFlawOfQuestion ids rows NoMemory = Unit {0}
 abbrev pub Reads : List Text → Line → Type 0
 Reads words line = (fault_of program words ≡ []) × IsLineOf (subcommand_of program words) line
 
--- the words are refused with this kind of error: clap's definition gives it, or a file of the subcommand is missing, or no kind
--- of input has the name
+-- the subcommand that was entered is refused with this kind of error: one of its files is missing, or no kind of input has the name
+abbrev pub IsRefusedWith : Option (Text × List Row) → ErrorKind → Type 0
+IsRefusedWith entered kind =
+    ((kind ≡ MissingRequiredArgument) × HasNoLine entered)
+    ⊎ ((kind ≡ InvalidValue) × HasOtherKind entered)
+
+-- the words are: clap's definition gives the error, or their subcommand is
 abbrev pub AreRefusedWith : List Text → ErrorKind → Type 0
 AreRefusedWith words kind =
-    IsAmong kind (fault_of program words)
-    ⊎ ((kind ≡ MissingRequiredArgument) × HasNoLine (subcommand_of program words))
-    ⊎ ((kind ≡ InvalidValue) × HasOtherKind (subcommand_of program words))
+    IsAmong kind (fault_of program words) ⊎ IsRefusedWith (subcommand_of program words) kind
+
+-- the kind of error of a flaw, if there is memory
+abbrev pub IsErrorOf : Flaw → ErrorKind → Type 0
+IsErrorOf ArgumentMissing kind = kind ≡ MissingRequiredArgument
+IsErrorOf OtherKind kind = kind ≡ InvalidValue
+IsErrorOf NoMemory kind = ⊥
 
 -- a word that is no option: it does not begin with a hyphen
 abbrev pub IsPlainWord : Text → Type 0
@@ -215,3 +234,14 @@ IsExplain word _ = ⊥
 abbrev pub IsSession : Text → Line → Type 0
 IsSession path (Session store verdicts) = (store.now ≡ path) × (verdicts ≡ None)
 IsSession path _ = ⊥
+
+-- `list --store STORE`
+abbrev pub IsList : Text → Line → Type 0
+IsList path (Lists store moment) = (store.now ≡ path) × (moment ≡ None)
+IsList path _ = ⊥
+
+-- `list --store STORE --at TIME`
+abbrev pub IsListAt : Text → Text → Line → Type 0
+IsListAt path time (Lists store moment) =
+    (store.now ≡ path) × (option_map (λ s. s.now) moment ≡ Some time)
+IsListAt path time _ = ⊥

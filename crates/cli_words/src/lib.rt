@@ -2,6 +2,7 @@
 #![tactic(auto)]
 
 mod app;
+mod building;
 mod leading;
 mod line;
 mod question;

@@ -1,16 +1,17 @@
 //! What a command line asks for.
-ghost use Rattle.std.specs.Prelude.{◌≡◌, ◌<◌, ◌^◌, ◌⊎◌, [], ◌∷◌, List, IfErr, IfNone, IfOk, IfSome, MatchResult, codes, length, map, option_map};
+ghost use Rattle.std.specs.Prelude.{◌≡◌, ◌<◌, ◌^◌, ◌⊎◌, [], ◌∷◌, List, IfErr, IfOk, MatchResult, codes, length, map, option_map};
 ghost use Rattle.std.specs.List.{All};
-ghost use Rattle.clap.specs.Words.{Text, first_of, found_of, kind_of, rows_of, subcommand_rows_of};
+ghost use Rattle.clap.specs.Words.{Text, app_of, first_of, found_of, kind_of, rows_of, subcommand_rows_of};
 ghost use Rattle.clap.specs.declared.error.kind.ErrorKind.TheVariants.{OutOfMemory};
 ghost use Rattle.cli_words.specs.declared.line.Flaw.TheVariants.{NoMemory, OtherKind};
-ghost use Rattle.cli_words.specs.CommandLine.{AreRefusedWith, HasFlaw, IsCheck, IsCompare, IsDeliver, IsExplain, IsFlaw, IsFlawOfQuestion, IsLine, IsLineOf, IsPlainWord, IsPrints, IsSession, IsShow, IsTree, LacksOneOf, Reads, flag_in, kind_in_rows, kind_named, of_check, of_compare, of_deliver, of_file, of_prints, of_session};
+ghost use Rattle.cli_words.specs.App.{program as program_app};
+ghost use Rattle.cli_words.specs.CommandLine.{AreRefusedWith, HasFlaw, IsCheck, IsCompare, IsDeliver, IsErrorOf, IsExplain, IsFlaw, IsFlawOfQuestion, IsLack, IsLine, IsLineOf, IsList, IsListAt, IsPlainWord, IsPrints, IsRefusedWith, IsSession, IsShow, IsTree, Reads, flag_in, kind_in_rows, kind_named, of_check, of_compare, of_deliver, of_file, of_prints, of_store};
 
 use crate::app::program;
 use crate::question::{Question, asked};
 use crate::topic::topic_words;
 use clap::error::ErrorKind;
-use clap::{ArgMatches, Error};
+use clap::{ArgMatches, Command, Error};
 use std::alloc::{AllocError, Global};
 
 /// What a file is said to hold.
@@ -72,6 +73,11 @@ pub enum Line<'a> {
         store: &'a str,
         verdicts: Option<&'a str>,
     },
+    /// Print what the store holds. With a moment, whether each statement is in force then.
+    List {
+        store: &'a str,
+        moment: Option<&'a str>,
+    },
 }
 
 // Why a subcommand is no line.
@@ -99,13 +105,14 @@ fn is_set(matches: &ArgMatches<'_>, id: &str) -> bool
     }
 }
 
-fn tree_line<'a>(matches: &ArgMatches<'a>) -> Option<Line<'a>>
-    ensures some { IfSome result (IsLine (codes "tree", rows_of (found_of matches.now))) }
-    ensures none { IfNone result (LacksOneOf of_file (rows_of (found_of matches.now))) }
+fn tree_line<'a>(matches: &ArgMatches<'a>) -> Result<Line<'a>, Flaw>
+    ensures line { IfOk result (IsLine (codes "tree", rows_of (found_of matches.now))) }
+    ensures flaw { IfErr result (IsLack of_file (rows_of (found_of matches.now))) }
 {
-    Some(Line::Tree {
-        file: text(matches, "file")?,
-    })
+    match text(matches, "file") {
+        Some(file) => Ok(Line::Tree { file }),
+        None => Err(Flaw::ArgumentMissing),
+    }
 }
 
 // The kind that has the name; without a name, a certificate.
@@ -160,9 +167,9 @@ fn prints_line<'a>(matches: &ArgMatches<'a>) -> Result<Line<'a>, Flaw>
     })
 }
 
-fn deliver_line<'a>(matches: &ArgMatches<'a>) -> Option<Line<'a>>
-    ensures some { IfSome result (IsLine (codes "deliver", rows_of (found_of matches.now))) }
-    ensures none { IfNone result (LacksOneOf of_deliver (rows_of (found_of matches.now))) }
+fn deliver_line<'a>(matches: &ArgMatches<'a>) -> Result<Line<'a>, Flaw>
+    ensures line { IfOk result (IsLine (codes "deliver", rows_of (found_of matches.now))) }
+    ensures flaw { IfErr result (IsLack of_deliver (rows_of (found_of matches.now))) }
 {
     let (Some(store), Some(verdicts), Some(issuer), Some(file)) = (
         text(matches, "store"),
@@ -170,9 +177,9 @@ fn deliver_line<'a>(matches: &ArgMatches<'a>) -> Option<Line<'a>>
         text(matches, "issuer"),
         text(matches, "file"),
     ) else {
-        return None;
+        return Err(Flaw::ArgumentMissing);
     };
-    Some(Line::Deliver {
+    Ok(Line::Deliver {
         store,
         verdicts,
         issuer,
@@ -208,13 +215,29 @@ fn explain_line<'a>(alloc: Global, matches: &ArgMatches<'a>) -> Result<Line<'a>,
     }
 }
 
-fn session_line<'a>(matches: &ArgMatches<'a>) -> Option<Line<'a>>
-    ensures some { IfSome result (IsLine (codes "session", rows_of (found_of matches.now))) }
-    ensures none { IfNone result (LacksOneOf of_session (rows_of (found_of matches.now))) }
+fn session_line<'a>(matches: &ArgMatches<'a>) -> Result<Line<'a>, Flaw>
+    ensures line { IfOk result (IsLine (codes "session", rows_of (found_of matches.now))) }
+    ensures flaw { IfErr result (IsLack of_store (rows_of (found_of matches.now))) }
 {
-    Some(Line::Session {
-        store: text(matches, "store")?,
+    let Some(store) = text(matches, "store") else {
+        return Err(Flaw::ArgumentMissing);
+    };
+    Ok(Line::Session {
+        store,
         verdicts: text(matches, "verdicts"),
+    })
+}
+
+fn list_line<'a>(matches: &ArgMatches<'a>) -> Result<Line<'a>, Flaw>
+    ensures line { IfOk result (IsLine (codes "list", rows_of (found_of matches.now))) }
+    ensures flaw { IfErr result (IsLack of_store (rows_of (found_of matches.now))) }
+{
+    let Some(store) = text(matches, "store") else {
+        return Err(Flaw::ArgumentMissing);
+    };
+    Ok(Line::List {
+        store,
+        moment: text(matches, "at"),
     })
 }
 
@@ -227,14 +250,15 @@ fn line_of<'a>(alloc: Global, matches: &ArgMatches<'a>) -> Result<Line<'a>, Flaw
         return Err(Flaw::ArgumentMissing);
     };
     match name {
-        "tree" => tree_line(inner).ok_or(Flaw::ArgumentMissing),
+        "tree" => tree_line(inner),
         "show" => show_line(inner),
         "prints" => prints_line(inner),
-        "deliver" => deliver_line(inner).ok_or(Flaw::ArgumentMissing),
+        "deliver" => deliver_line(inner),
         "check" => check_line(alloc, inner),
         "compare" => compare_line(alloc, inner),
         "explain" => explain_line(alloc, inner),
-        "session" => session_line(inner).ok_or(Flaw::ArgumentMissing),
+        "session" => session_line(inner),
+        "list" => list_line(inner),
         _ => Err(Flaw::ArgumentMissing),
     }
 }
@@ -246,6 +270,57 @@ fn count_of(words: &[&str]) -> usize
     words.len()
 }
 
+// The error of a flaw.
+fn error_of(command: &mut Command<'_>, flaw: Flaw) -> Result<Error, AllocError>
+    ensures { IfOk result (λ e. IsErrorOf flaw (kind_of e)) }
+{
+    match flaw {
+        // clap answers no matches without the subcommand and its files, since all are required.
+        Flaw::ArgumentMissing => {
+            command.error(ErrorKind::MissingRequiredArgument, "an argument is missing")
+        }
+        Flaw::OtherKind => {
+            command.error(
+                ErrorKind::InvalidValue,
+                "KIND has to be 'cert', 'crl' or 'ocsp'",
+            )
+        }
+        Flaw::NoMemory => Err(AllocError),
+    }
+}
+
+// The line that the matches say, or what the command answers to their flaw.
+fn line_or_error<'a>(
+    alloc: Global,
+    command: &mut Command<'_>,
+    matches: &ArgMatches<'a>,
+) -> Result<Line<'a>, Error>
+    ensures line { IfOk result (IsLineOf (subcommand_rows_of matches.now)) }
+    ensures error { IfErr result (λ e. (kind_of e ≡ OutOfMemory)
+        ⊎ IsRefusedWith (subcommand_rows_of matches.now) (kind_of e)) }
+{
+    match line_of(alloc, matches) {
+        Ok(line) => Ok(line),
+        Err(flaw) => Err(error_of(command, flaw)?),
+    }
+}
+
+// The line that the program's command gives for the words. The command has another owner than the matches, since each exit drops what it
+// owns, which the proof pays for.
+fn line_by<'a>(
+    alloc: Global,
+    command: &mut Command<'a>,
+    words: &'a [&'a str],
+) -> Result<Line<'a>, Error>
+    requires { app_of command.old ≡ program_app }
+    ensures reads { IfOk result (Reads (map (λ w. w.now) words.entry.now)) }
+    ensures refuses { IfErr result (λ e. (kind_of e ≡ OutOfMemory)
+        ⊎ AreRefusedWith (map (λ w. w.now) words.entry.now) (kind_of e)) }
+{
+    let matches = command.try_get_matches_from_mut(words)?;
+    line_or_error(alloc, command, &matches)
+}
+
 // The line that clap's definition gives for the words.
 fn line_of_words<'a>(alloc: Global, words: &'a [&'a str]) -> Result<Line<'a>, Error>
     ensures reads { IfOk result (Reads (map (λ w. w.now) words.entry.now)) }
@@ -253,21 +328,7 @@ fn line_of_words<'a>(alloc: Global, words: &'a [&'a str]) -> Result<Line<'a>, Er
         ⊎ AreRefusedWith (map (λ w. w.now) words.entry.now) (kind_of e)) }
 {
     let mut command = program(alloc)?;
-    let matches = command.try_get_matches_from_mut(words)?;
-    match line_of(alloc, &matches) {
-        Ok(line) => Ok(line),
-        // clap answers no matches without the subcommand and its files, since all are required.
-        Err(Flaw::ArgumentMissing) => {
-            Err(command.error(ErrorKind::MissingRequiredArgument, "an argument is missing")?)
-        }
-        Err(Flaw::NoMemory) => Err(AllocError.into()),
-        Err(Flaw::OtherKind) => {
-            Err(command.error(
-                ErrorKind::InvalidValue,
-                "KIND has to be 'cert', 'crl' or 'ocsp'",
-            )?)
-        }
-    }
+    line_by(alloc, &mut command, words)
 }
 
 /// The line that the words are, of which the first is the program's name, as in `env::args`. The words belong to one
@@ -315,6 +376,14 @@ pub fn command_of<'a>(alloc: Global, words: &'a [&'a str]) -> Result<Line<'a>, E
         → map (λ w. w.now) words.entry.now
         ≡ name ∷ codes "session" ∷ codes "--store" ∷ store ∷ []
         → IsPlainWord store → MatchResult result (IsSession store) (λ e. kind_of e ≡ OutOfMemory) }
+    ensures list { (name store : Text)
+        → map (λ w. w.now) words.entry.now ≡ name ∷ codes "list" ∷ codes "--store" ∷ store ∷ []
+        → IsPlainWord store → MatchResult result (IsList store) (λ e. kind_of e ≡ OutOfMemory) }
+    ensures list_at { (name store moment : Text)
+        → map (λ w. w.now) words.entry.now
+        ≡ name ∷ codes "list" ∷ codes "--store" ∷ store ∷ codes "--at" ∷ moment ∷ []
+        → IsPlainWord store → IsPlainWord moment
+        → MatchResult result (IsListAt store moment) (λ e. kind_of e ≡ OutOfMemory) }
     ensures refuses { IfErr result (λ e. (kind_of e ≡ OutOfMemory)
         ⊎ AreRefusedWith (map (λ w. w.now) words.entry.now) (kind_of e)) }
 {

@@ -7,6 +7,8 @@ mod answers;
 #[cfg(test)]
 mod explaining;
 #[cfg(test)]
+mod listing;
+#[cfg(test)]
 mod looking;
 #[cfg(test)]
 mod moments;

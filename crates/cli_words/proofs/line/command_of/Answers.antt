@@ -2,7 +2,7 @@ use Rattle.std.proofs.Common.{◌≡◌, ◌<◌, ◌≤◌, ◌+◌, ◌^◌, �
 use Rattle.std.proofs.lemmas.List.{length-map}
 use Rattle.clap.specs.Lexer.{usize_max}
 use Rattle.clap.specs.Words.{Text}
-use Rattle.cli_words.proofs.Outcomes.{IsReadAs, check_known, compare_known, deliver_known, explain_known, prints_known, session_known, show_known, tree_known}
+use Rattle.cli_words.proofs.Outcomes.{IsReadAs, check_known, compare_known, deliver_known, explain_known, list_at_known, list_known, prints_known, session_known, show_known, tree_known}
 use Rattle.cli_words.proofs.line.command_of.Goals as goal
 
 -- all but a few of the words
@@ -47,4 +47,14 @@ returns-clause-explain c = λ name word are plain.
 pub returns-clause-session : goal.returns-clause-session
 returns-clause-session c = λ name store are plain.
     session_known name store c.line_of_words.result plain
+    (subst (λ (words : List Text). IsReadAs words c.line_of_words.result) are (record { reads = c.line_of_words.ensures.reads; refuses = c.line_of_words.ensures.refuses }))
+
+pub returns-clause-list : goal.returns-clause-list
+returns-clause-list c = λ name store are plain.
+    list_known name store c.line_of_words.result plain
+    (subst (λ (words : List Text). IsReadAs words c.line_of_words.result) are (record { reads = c.line_of_words.ensures.reads; refuses = c.line_of_words.ensures.refuses }))
+
+pub returns-clause-list_at : goal.returns-clause-list_at
+returns-clause-list_at c = λ name store moment are plain plain'.
+    list_at_known name store moment c.line_of_words.result plain plain'
     (subst (λ (words : List Text). IsReadAs words c.line_of_words.result) are (record { reads = c.line_of_words.ensures.reads; refuses = c.line_of_words.ensures.refuses }))

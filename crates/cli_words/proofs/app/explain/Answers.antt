@@ -1,0 +1,4 @@
+use Rattle.cli_words.proofs.app.explain.Goals as goal
+
+pub returns : goal.returns
+returns c = c.arg.ensures _ _ c.new.ensures c.topic.ensures
