@@ -17,6 +17,7 @@ use Rattle.store_sql.specs.declared.fault.StoreFault.TheVariants as S
 use Rattle.relying_verdicts.specs.declared.fault.Fault.{Fault}
 use Rattle.relying_verdicts.specs.declared.fault.Fault.TheVariants as F
 use Rattle.cli_failures.specs.declared.failure.Failure.{Failure}
+use Rattle.cli_failures.specs.declared.failure.Failure.TheVariants.{NoMemory}
 use Rattle.cli_store.specs.Standing.{IsFound, IsFoundOrMade, IsNoAnswer, Leaving, Seen, Standing, seen_of, told_of, told_of_party}
 use Rattle.cli.specs.Delivered.{IsNotTaken}
 use Rattle.cli.specs.Checked.{AreUnanswered, IsNoComparison, IsNotCompared, IsNotChecked}
@@ -95,6 +96,10 @@ not_listed leaves old new S.Store failure told left shows settled settled_then r
 not_listed leaves old new S.Schema failure told left shows settled settled_then reads =
     inr (72, told, inr refl, (seen_of new, left, λ intact is_open held stands. let it = shows old.now held stands in absurd ((reads intact).1 refl it.0 it.1)))
 not_listed leaves old new S.Memory failure told left shows settled settled_then reads = inl told
+
+pub without_memory : {T : Type 0} (leaves : Seen → Type 0) (old : Seen) (result : Result T Failure) → IfErr result (λ failure. failure ≡ NoMemory) → IfErr result (IsNoAnswer leaves old)
+without_memory leaves old (Ok x) fails = tt
+without_memory leaves old (Err failure) fails = inl fails
 
 -- ---- stores at paths
 

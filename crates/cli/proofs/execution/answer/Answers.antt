@@ -12,5 +12,8 @@ returns-in_err-compare-in-Compare-clause-fails g c =
     let p = err_from_is_err_and c.from_residual-in_err-compare-in-Compare.result c.from_residual-in_err-compare-in-Compare.ensures.1 in
     rw (p.1, p.2, c.in-Compare.is) c.in_err-compare-in-Compare.ensures.fails
 
+pub returns-in-Err-explain-clause-fails : goal.returns-in-Err-explain-clause-fails
+returns-in-Err-explain-clause-fails g c = rw c.in-Explain.is (rw c.as_slice.ensures.value at c.in-Err-explain.ensures.fails)
+
 pub returns-in-Err-clause-fails : goal.returns-in-Err-clause-fails
-returns-in-Err-clause-fails g c = rw c.in-Explain.is (rw c.as_slice.ensures.value at c.in-Err.ensures.fails)
+returns-in-Err-clause-fails g c = rw c.in-List.is c.in-Err.ensures.fails
