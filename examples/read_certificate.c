@@ -1,10 +1,8 @@
 /* Prints what a certificate says, with the library for C:
  *
- *     (cd crates/capi && rt lib)
- *     cc -O2 -Icrates/capi examples/read_certificate.c crates/capi/out/libcapi.a KIT/c/liblibc_c.a -o read_certificate
+ *     make
+ *     cc -O2 -Icrates/capi examples/read_certificate.c bindings/out/libx509check.a -o read_certificate
  *     ./read_certificate FILE.der
- *
- * KIT is the folder of the Rattle kit, two above the command rt.
  */
 #include <stdio.h>
 #include <stdlib.h>

@@ -1,11 +1,8 @@
 #!/usr/bin/env python3
 """Prints what a certificate says, with the library for C in a shared object:
 
-    (cd crates/capi && rt lib)
-    cc -shared -o libx509check.so -Wl,--whole-archive crates/capi/out/libcapi.a -Wl,--no-whole-archive KIT/c/liblibc_c.a
-    examples/read_certificate.py ./libx509check.so FILE.der
-
-KIT is the folder of the Rattle kit, two above the command rt.
+    make
+    examples/read_certificate.py bindings/out/libx509check.so FILE.der
 """
 
 import ctypes

@@ -1,13 +1,13 @@
 /* Prints what a judge of signatures may be asked about a path, or the verdict on it, with the library for C:
  *
- *     make library
- *     cc -O2 -Icrates/capi examples/validate_path.c crates/capi/out/libcapi.a KIT/c/liblibc_c.a -o validate_path
+ *     make
+ *     cc -O2 -Icrates/capi examples/validate_path.c bindings/out/libx509check.a -o validate_path
  *     ./validate_path CERTIFICATES STATEMENTS
  *     ./validate_path CERTIFICATES STATEMENTS FINGERPRINTS SECONDS
  *
  * CERTIFICATES is a file of DER, the anchor first and then the path; STATEMENTS has lists and responses in DER, FINGERPRINTS those of
  * good signatures, 32 octets each. SECONDS is the moment, counted from 1970. A question is a line: its fingerprint, and of algorithm, key,
- * message and signature the text (1 or 2), the offset and the length. KIT is the folder of the Rattle kit, two above the command rt.
+ * message and signature the text (1 or 2), the offset and the length.
  *
  * The exit status is 0 for valid and for questions, 1 for invalid, 2 for revoked, 3 for unknown, 4 for a text that is refused, and 5 if
  * there is no answer.

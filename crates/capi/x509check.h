@@ -8,8 +8,8 @@
  * Faults are numbers, 0 for none: 1 to 7 of DER, 11 to 17 of names, 21 to 33 of certificates, 41 to 59 of statements
  * (docs/REFERENCE.md). The fault is the first in the text, and its offset that of the value at fault.
  *
- * Link with libcapi.a (crates/capi/out, made by `rt lib`) and with c/liblibc_c.a of the Rattle kit, through which memory is taken
- * from the program's malloc.
+ * Link with libx509check.a, which `make` puts in bindings/out and `make install` in lib. It needs nothing but libc, and takes memory from
+ * the program's malloc.
  */
 #ifndef X509CHECK_H
 #define X509CHECK_H

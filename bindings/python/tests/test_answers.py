@@ -25,6 +25,7 @@ from .authority import DECEMBER, GOOD_PRINTS, LEAF, MIDDLE, MIDDLE_LIST, REVOKIN
 
 sys.path.insert(0, os.path.join(authority.HERE, ".."))
 import fuzz_pem  # noqa: E402
+from x509check._program import PLACES  # noqa: E402
 
 LISTS = [ROOT_LIST, MIDDLE_LIST]
 
@@ -323,7 +324,7 @@ class Faults(unittest.TestCase):
             if old is not None:
                 os.environ["X509CHECK"] = old
 
-    @unittest.skipUnless(os.path.exists(os.path.join(authority.TOP, "crates", "x509check", "out", "x509check")), "the program is not built")
+    @unittest.skipUnless(any(map(os.path.exists, PLACES)), "the program is not built")
     def test_explanations_of_the_program(self):
         for it, begin in ((7, "fault 7 Trailing: "), (Fault(22, 0), "fault 22 Layout: "), (Reason.EXPIRED, "rank 4 Expired: "),
                           (RevocationReason.KEY_COMPROMISE, "reason 1 ")):

@@ -8,24 +8,24 @@ import tempfile
 import unittest
 
 from x509check import Certificate
+from x509check._program import PLACES
 
 from . import authority
 from .authority import LEAF, MIDDLE, ROOT, ROOT_LIST
 from .test_loading import KEY, pem
 
-PROGRAM = os.path.join(authority.TOP, "crates", "x509check", "out", "x509check")
 STAND_IN = f"#!/bin/sh\nexec '{sys.executable}' -B '{os.path.join(authority.HERE, 'stand_in.py')}' \"$@\"\n"
 IDENTITIES = {name: Certificate.from_der(octets).identity for name, octets in (("leaf", LEAF), ("middle", MIDDLE))}
 AT = ["--at", "20261201000000Z"]
 
 
 class Validate(unittest.TestCase):
-    """By the program, where it is built, and else by a stand-in."""
+    """By the program, where it is built or unpacked, and else by a stand-in."""
 
     def setUp(self):
         self.folder = tempfile.mkdtemp()
         self.addCleanup(shutil.rmtree, self.folder)
-        self.program = PROGRAM if os.path.exists(PROGRAM) else self.executable("program", STAND_IN)
+        self.program = next(filter(os.path.exists, PLACES), None) or self.executable("program", STAND_IN)
 
     def put(self, name, octets):
         path = os.path.join(self.folder, name)

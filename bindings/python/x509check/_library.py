@@ -6,7 +6,7 @@ import os
 
 _HERE = os.path.dirname(os.path.realpath(__file__))
 _NAME = "libx509check.so"
-# Where `make bindings` puts it in the repository, and `make install` beside share, from this folder.
+# Where `make` puts it in the repository, and `make install` beside share, from this folder.
 _PLACES = (os.path.join(_HERE, "..", "..", "out", _NAME), os.path.join(_HERE, "..", "..", "..", "..", "lib", "x509check", _NAME))
 
 
@@ -100,7 +100,7 @@ def _opened() -> ctypes.CDLL:
         return ctypes.CDLL(places[0])
     except OSError as cause:
         raise LibraryMissing(
-            f"{places[0]} cannot be loaded ({cause}); build it by `make bindings`, or name it in X509CHECK_LIBRARY") from cause
+            f"{places[0]} cannot be loaded ({cause}); build it by `make`, or name it in X509CHECK_LIBRARY") from cause
 
 
 @functools.lru_cache(maxsize=None)
@@ -124,4 +124,4 @@ def _check_numbers(opened: ctypes.CDLL) -> None:
     """Whether the shared object answers in the numbers that stand here: one of another version could say by 1 what is another word here."""
     answer = opened.x509check_validate(b"", 0, b"", 0, b"", 0, 0, b"", 0)
     if (answer.verdict, answer.text, answer.fault, answer.der_fault) != (REFUSED, 1, _DER_OF_CERTIFICATE, _TRUNCATED):
-        raise LibraryMissing("the shared object is of another version than this module; build it by `make bindings`")
+        raise LibraryMissing("the shared object is of another version than this module; build it by `make`")

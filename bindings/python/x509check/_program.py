@@ -10,9 +10,10 @@ from ._faults import Fault
 from ._verdicts import Reason, RevocationReason
 
 _HERE = os.path.dirname(os.path.realpath(__file__))
-# Where the program is in the repository, and where `make install` puts it, from this folder.
-_PLACES = (
+# Where the program is in the repository, built here or unpacked from dist/ by `make`, and where `make install` puts it, from this folder.
+PLACES = (
     os.path.join(_HERE, "..", "..", "..", "crates", "x509check", "out", "x509check"),
+    os.path.join(_HERE, "..", "..", "..", "dist", "out", "x509check"),
     os.path.join(_HERE, "..", "..", "..", "..", "bin", "x509check"),
 )
 _SECONDS = 30
@@ -26,9 +27,9 @@ class ProgramMissing(RuntimeError):
 def _program() -> str:
     """The program that X509CHECK names; else the repository's, the installed one, or that of the path."""
     named = os.environ.get("X509CHECK")
-    found = named or next(filter(os.path.isfile, _PLACES), None) or shutil.which("x509check")
+    found = named or next(filter(os.path.isfile, PLACES), None) or shutil.which("x509check")
     if not found:
-        raise ProgramMissing("the program x509check is not there; build it by `make program`, or name it in X509CHECK")
+        raise ProgramMissing("the program x509check is not there; build it by `make`, or name it in X509CHECK")
     return found
 
 
