@@ -12,7 +12,7 @@ share = $(DESTDIR)$(PREFIX)/share/x509check
 # The scripts of bin/, which users run.
 scripts = verdicts validate to_der
 
-.PHONY: all build prove check install uninstall help
+.PHONY: all build prove check packages install uninstall help
 
 # (what was built here comes first: .ci/where)
 all:
@@ -52,8 +52,12 @@ help:
 	@echo 'make                      the program and the library for C from dist/ (or what make build made), and the shared object for Python'
 	@echo 'make build                proves and builds them from the sources, by the Rattle kit: an hour'
 	@echo 'make prove                proves all and tries what must be refused: from nothing some 240 minutes of a processor'
-	@echo 'make check                tries the program, the library and the bindings'
+	@echo 'make check                tries the program, the library and the bindings, as users have them, in some three minutes; proves nothing'
 	@echo 'make install PREFIX=/usr/local DESTDIR='
 	@echo '                          bin/x509check, lib/libx509check.a, include/x509check.h, lib/x509check/libx509check.so,'
 	@echo '                          libexec/x509check/verdicts, validate and to_der, share/x509check/python and share/x509check/rust'
 	@echo 'make uninstall            removes what install put there'
+	@echo 'make packages             a .deb, a wheel and a crate in out/, without network'
+
+packages:
+	.ci/packages

@@ -1,5 +1,5 @@
-//! Finds the static library: in the folder that X509CHECK_LIB_DIR names, as `make install` fills it, or where `make` puts it in the
-//! repository.
+//! Finds the static library: in the folder that X509CHECK_LIB_DIR names, as `make install` fills it; in lib/ of this crate, where a packaged
+//! one has it; or where `make` puts it in the repository.
 //!
 //! Pages and checks need no library, so one that is missing is a warning here, and an error once the crate is compiled.
 
@@ -24,5 +24,6 @@ fn main() {
     let here = PathBuf::from(
         env::var_os("CARGO_MANIFEST_DIR").expect("cargo names the folder of the crate"),
     );
-    link(&here.join("../out"));
+    let packaged = here.join("lib");
+    link(&if packaged.is_dir() { packaged } else { here.join("../out") });
 }

@@ -22,6 +22,10 @@
 extern "C" {
 #endif
 
+/* The version of this header and of the library beside it: as text, and as 10000 * major + 100 * minor + patch. */
+#define X509CHECK_VERSION "0.9.0"
+#define X509CHECK_VERSION_NUMBER 900
+
 /* The fault of a certificate whose text, or the value of an extension in it, is not DER. */
 #define X509CHECK_FAULT_DER 21
 /* The fault of a call that was refused memory; its offset is 0. */
@@ -222,6 +226,9 @@ struct x509check_answer x509check_check(const uint8_t *octets, size_t length);
  * can be read does not mean that it can be trusted. Memory is taken for lists during the call, and freed before it returns; if it
  * is refused, the fault is X509CHECK_FAULT_MEMORY. */
 struct x509check_certificate x509check_read_certificate(const uint8_t *octets, size_t length);
+
+/* The version of the library, as a number in the form of X509CHECK_VERSION_NUMBER, which is that of this header. */
+uint32_t x509check_version(void);
 
 /* Writes 32 octets to `fingerprint`: the SHA-256 of four texts, each behind its length in 8 octets, the highest first. The texts
  * are what a verifier of signatures is asked: the algorithm identifier and the subjectPublicKeyInfo, each the whole encoding, the

@@ -25,6 +25,8 @@ from ._questions import Question, questions
 from ._verdicts import NotValid, Reason, Result, RevocationReason, Verdict, validate
 from .signatures import Judgement, JudgeMissing, Opinion, Policy, judge, judge_all, opinions
 
+__version__ = "0.9.0"
+
 __all__ = [
     "Certificate", "Extensions", "Fault", "FAULT_NAMES", "Identity", "JudgeMissing", "Judgement", "Kind", "LibraryMissing", "Loaded", "NoPath",
     "NotLoaded", "NotValid", "Opinion", "Policy", "ProgramMissing", "PURPOSES", "Question", "Reason", "Result", "RevocationReason", "Text",

@@ -143,6 +143,11 @@ fn digests(rt: HostRuntime) {
 }
 
 #[test]
+fn versions(rt: HostRuntime) {
+    assert!(rt; x509check_version() == 900);
+}
+
+#[test]
 fn wants_memory_or_answers(rt: HostRuntime) {
     let fault = x509check_read_certificate(rt.alloc(), CERTIFICATE).fault;
     assert!(rt; fault == 0 || fault == 33);
