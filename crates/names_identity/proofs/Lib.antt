@@ -1,0 +1,5 @@
+mod Positions
+mod HostLabels
+mod MailboxTexts
+mod Wildcards
+mod Quantified

@@ -1,0 +1,9 @@
+pub mod Host
+pub mod Mailbox
+pub mod Identity
+pub mod Reading
+pub mod Laws
+pub use Rattle.names.specs.Dns
+pub use Rattle.names.specs.Ip
+pub use Rattle.names.specs.GeneralLayout
+pub use Rattle.names.specs.GeneralView
