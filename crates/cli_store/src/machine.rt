@@ -21,14 +21,12 @@ const TRIES_A_SECOND: u32 = 20;
 
 const PAUSE: u64 = 50;
 
-// Whether no store was opened because another process has it open.
-fn is_kept_waiting(
-    rt: &HostRuntime,
-    path: &str,
-    opened: &Result<Store<File>, Failure<'_>>,
-) -> bool {
+// How often a store is asked for once more that did not open and that nobody has open: whoever had it open may have closed it since.
+const TRIES_ONCE_CLOSED: u32 = 4;
+
+fn is_refused(opened: &Result<Store<File>, Failure<'_>>) -> bool {
     match opened {
-        Err(Failure::StoreFailed { number: 71 }) => is_in_use(rt, path),
+        Err(Failure::StoreFailed { number: 71 }) => true,
         _ => false,
     }
 }
@@ -40,6 +38,27 @@ impl Machine<'_> {
 
     fn pause(&self) {
         thread::sleep(self.rt, Duration::from_millis(PAUSE));
+    }
+
+    // Whether a store that did not open is asked for again: another process has it open, or may have closed it since, which is believed
+    // so many times.
+    fn asks_again(
+        &self,
+        path: &str,
+        opened: &Result<Store<File>, Failure<'_>>,
+        once_closed: &mut u32,
+    ) -> bool {
+        if !is_refused(opened) {
+            return false;
+        }
+        if is_in_use(self.rt, path) {
+            return true;
+        }
+        if *once_closed == 0 {
+            return false;
+        }
+        *once_closed -= 1;
+        true
     }
 }
 
@@ -62,9 +81,10 @@ impl Stores<Store<File>> for Machine<'_> {
 
     fn open_store<'a>(&self, path: &'a str) -> Result<Store<File>, Failure<'a>> {
         let mut left = self.tries();
+        let mut once_closed = TRIES_ONCE_CLOSED;
         'tries: loop {
             let opened = self.rt.open_store(path);
-            if left == 0 || !is_kept_waiting(self.rt, path, &opened) {
+            if left == 0 || !self.asks_again(path, &opened, &mut once_closed) {
                 return opened;
             }
             left -= 1;
@@ -74,9 +94,10 @@ impl Stores<Store<File>> for Machine<'_> {
 
     fn open_or_make_store<'a>(&self, path: &'a str) -> Result<Store<File>, Failure<'a>> {
         let mut left = self.tries();
+        let mut once_closed = TRIES_ONCE_CLOSED;
         'tries: loop {
             let opened = self.rt.open_or_make_store(path);
-            if left == 0 || !is_kept_waiting(self.rt, path, &opened) {
+            if left == 0 || !self.asks_again(path, &opened, &mut once_closed) {
                 return opened;
             }
             left -= 1;
