@@ -21,4 +21,9 @@ mod ExtensionTypes
 mod FieldLaws
 mod TbsLaws
 mod CertificateLaws
+mod FaultPlaces
+mod FaultSteps
+mod NameFaults
+mod ExtensionFaults
+mod CertificateFaults
 pub mod Laws

@@ -17,6 +17,7 @@ pub mod TbsCertificate
 pub mod Certificate
 pub mod ExtensionForms
 pub mod CertificateForms
+pub mod Offsets
 pub use Rattle.asn.specs.Place
 pub use Rattle.asn.specs.Members
 pub use Rattle.asn.specs.Walk

@@ -2,3 +2,4 @@ mod Rooms
 mod Deciding
 mod Passing
 mod Outcomes
+mod Readings

@@ -4,6 +4,7 @@ pub mod Conditions
 pub mod Validity
 pub mod State
 pub mod Keeping
+pub mod Reading
 pub use Rattle.path_conditions.specs.NamesOf
 pub use Rattle.path_conditions.specs.CertificateConditions
 pub use Rattle.path_conditions.specs.Narrowing

@@ -16,3 +16,12 @@ pub trait Verifier {
     fn judge(&self, algorithm: &[u8], key_info: &[u8], message: &[u8], signature: &[u8]) -> bool
         ensures { result ≡ accepts self.now algorithm.now key_info.now message.now signature.now };
 }
+
+/// A verifier that is borrowed judges as the one behind.
+impl<V: Verifier> Verifier for &V {
+    ghost accepts = { λ verifier. V.accepts verifier.now };
+
+    fn judge(&self, algorithm: &[u8], key_info: &[u8], message: &[u8], signature: &[u8]) -> bool {
+        (**self).judge(algorithm, key_info, message, signature)
+    }
+}

@@ -1,29 +1,28 @@
 -- Checks one after the other: what the first that fails answers.
-use Rattle.std.proofs.Common.{◌≡◌, ℕ, true, false, List, [], ◌∷◌, map, Result, Ok, Err, refl}
+use Rattle.std.proofs.Common.{◌≡◌, ℕ, List, [], ◌∷◌, map, Result, Ok, Err, refl}
 use Rattle.statements_parts.specs.Fault as reading
+use Rattle.statements_parts.specs.declared.fault.ReadingFault.{ReadingFault}
+use Rattle.statements_parts.specs.declared.fault.ReadingFault.TheVariants as read
 use Rattle.statements_parts.specs.declared.fault.StatementRule.{StatementRule}
 use Rattle.statements_parts.specs.declared.fault.StatementFault.{StatementFault}
 use Rattle.statements_parts.specs.declared.fault.StatementFault.TheVariants.{Refused, OtherIssuer, BadSignature, NoSigner, NothingForIssuer, Memory}
 use Rattle.cert.specs.Certificate.{Certificate}
-use Rattle.statements_ocsp.specs.OcspResponse.{OcspResponse, ocsp_response}
-use Rattle.statements_ocsp.specs.Kind.{is_response}
+use Rattle.statements_crl.specs.CertificateList.{CertificateList}
+use Rattle.statements_ocsp.specs.OcspResponse.{OcspResponse}
 use Rattle.statements_facts.specs.Statement.{IssuerIdentity, CrlSlot, CrlFact}
 use Rattle.statements_facts.specs.Single.{SingleFact, some_singles}
 use Rattle.statements_facts.specs.Fact.{Fact}
 use Rattle.statements.specs.Issuer.{identity_of}
-use Rattle.statements.specs.CrlFact.{genuine_list}
+use Rattle.statements.specs.CrlFact.{list_said}
 use Rattle.statements.specs.Responder.{Signer, signer_of}
-use Rattle.statements.specs.OcspFact.{signer_or_fault, or_nothing, singles_of, genuine_response, response_said, genuine_statement, fact_with}
+use Rattle.statements.specs.OcspFact.{signer_or_fault, or_nothing, singles_of, response_said, fact_with}
+use Rattle.statements.specs.Statement.{Statement, genuine_statement, statement, statement_said}
 use Rattle.statements.specs.Genuine.{Accepts, ◌then◌, as_refused, RefusesUnlessFull, AnswersUnlessFull}
 
 -- what is not read is refused so
-pub not_read : {Y Z : Type 0} (fault : StatementFault) (walk : Result Y (StatementRule × ℕ)) (next : Y → Result Z StatementFault) → reading.FailsUnlessFull fault walk → RefusesUnlessFull fault (as_refused walk then next)
-not_read (Refused rule at) walk next fails = rw fails refl
-not_read OtherIssuer walk next fails = absurd fails
-not_read BadSignature walk next fails = absurd fails
-not_read NoSigner walk next fails = absurd fails
-not_read NothingForIssuer walk next fails = absurd fails
-not_read Memory walk next fails = tt
+pub unread : {Y Z : Type 0} (fault : ReadingFault) (walk : Result Y (StatementRule × ℕ)) (next : Y → Result Z StatementFault) → reading.FailsUnlessFull fault walk → RefusesUnlessFull (reading.not_read fault) (as_refused walk then next)
+unread (read.Refused rule at) walk next fails = rw fails refl
+unread read.Memory walk next fails = tt
 
 -- the first fails
 pub first_fails : {Y Z : Type 0} (fault : StatementFault) (first : Result Y StatementFault) (next : Y → Result Z StatementFault) → RefusesUnlessFull fault first → RefusesUnlessFull fault (first then next)
@@ -61,30 +60,27 @@ signer_refused accepts issuer response fault fails =
 pub singles_are : (accepts : Accepts) (issuer : Certificate) (response : OcspResponse) (signer : Signer) (singles : List SingleFact) → signer_or_fault (signer_of accepts issuer response) ≡ Ok signer → singles ≡ singles_of issuer response signer → response_said accepts issuer response ≡ or_nothing (some_singles singles)
 singles_are accepts issuer response signer singles found are = rw (found, are) refl
 
-module _ (accepts : Accepts) (issuer : Certificate) (octets : List ℕ) where
-  pub response_refused : (fault : StatementFault) → reading.FailsUnlessFull fault (ocsp_response octets) → RefusesUnlessFull fault (genuine_response accepts issuer octets)
-  unfolding genuine_response
-  response_refused fault fails = not_read fault (ocsp_response octets) (λ response. signer_or_fault (signer_of accepts issuer response) then λ signer. or_nothing (some_singles (singles_of issuer response signer))) fails
+-- ---- statements of both kinds
 
-  -- what a response that was read says, the octets say
-  pub response_answered : (response : OcspResponse) → ocsp_response octets ≡ Ok response → genuine_response accepts issuer octets ≡ response_said accepts issuer response
-  unfolding genuine_response
-  response_answered response read = rw read refl
+module _ (accepts : Accepts) (issuer : Certificate) where
+  pub response_fails : (response : OcspResponse) (fault : StatementFault) → RefusesUnlessFull fault (response_said accepts issuer response) → RefusesUnlessFull fault (statement_said accepts issuer (Statement.OfResponse response))
+  response_fails response fault fails = first_fails fault (response_said accepts issuer response) (λ singles. Ok (map (fact_with (identity_of issuer)) singles)) fails
 
-  -- ---- statements of both kinds
+  pub list_fails : (list : CertificateList) (fault : StatementFault) → RefusesUnlessFull fault (list_said accepts issuer list) → RefusesUnlessFull fault (statement_said accepts issuer (Statement.OfList list))
+  list_fails list fault fails = first_fails fault (list_said accepts issuer list) (λ said. Ok (Fact.OfCrl said.0 said.1 ∷ [])) fails
 
-  pub response_fails : (fault : StatementFault) → is_response octets ≡ true → RefusesUnlessFull fault (genuine_response accepts issuer octets) → RefusesUnlessFull fault (genuine_statement accepts issuer octets)
+  pub response_is : (response : OcspResponse) (identity : IssuerIdentity) (singles : List SingleFact) → response_said accepts issuer response ≡ Ok singles → identity ≡ identity_of issuer → statement_said accepts issuer (Statement.OfResponse response) ≡ Ok (map (fact_with identity) singles)
+  response_is response identity singles said is = rw (said, is) refl
+
+  pub list_is : (list : CertificateList) (slot : CrlSlot) (fact : CrlFact) → list_said accepts issuer list ≡ Ok (slot, fact) → statement_said accepts issuer (Statement.OfList list) ≡ Ok (Fact.OfCrl slot fact ∷ [])
+  list_is list slot fact said = rw said refl
+
+  -- ---- octets
+
+  pub not_read_fails : (octets : List ℕ) (fault : ReadingFault) → reading.FailsUnlessFull fault (statement octets) → RefusesUnlessFull (reading.not_read fault) (genuine_statement accepts issuer octets)
   unfolding genuine_statement
-  response_fails fault kind fails = rw kind (first_fails fault (genuine_response accepts issuer octets) (λ singles. Ok (map (fact_with (identity_of issuer)) singles)) fails)
+  not_read_fails octets fault fails = unread fault (statement octets) (λ read. statement_said accepts issuer read) fails
 
-  pub list_fails : (fault : StatementFault) → is_response octets ≡ false → RefusesUnlessFull fault (genuine_list accepts issuer octets) → RefusesUnlessFull fault (genuine_statement accepts issuer octets)
+  pub read_says : (octets : List ℕ) (read : Statement) → statement octets ≡ Ok read → genuine_statement accepts issuer octets ≡ statement_said accepts issuer read
   unfolding genuine_statement
-  list_fails fault kind fails = rw kind (first_fails fault (genuine_list accepts issuer octets) (λ said. Ok (Fact.OfCrl said.0 said.1 ∷ [])) fails)
-
-  pub response_is : (identity : IssuerIdentity) (singles : List SingleFact) → is_response octets ≡ true → genuine_response accepts issuer octets ≡ Ok singles → identity ≡ identity_of issuer → genuine_statement accepts issuer octets ≡ Ok (map (fact_with identity) singles)
-  unfolding genuine_statement
-  response_is identity singles kind read is = rw (kind, read, is) refl
-
-  pub list_is : (slot : CrlSlot) (fact : CrlFact) → is_response octets ≡ false → genuine_list accepts issuer octets ≡ Ok (slot, fact) → genuine_statement accepts issuer octets ≡ Ok (Fact.OfCrl slot fact ∷ [])
-  unfolding genuine_statement
-  list_is slot fact kind read = rw (kind, read) refl
+  read_says octets read is = rw is refl

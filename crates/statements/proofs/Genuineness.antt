@@ -1,25 +1,24 @@
 -- What a list is answered with, by the checks in their order.
-use Rattle.std.proofs.Common.{◌≡◌, ℕ, List, Bool, true, false, Result, Ok, Err, refl, sym, ap}
+use Rattle.std.proofs.Common.{◌≡◌, ℕ, Bool, true, false, Result, Ok, Err, refl, sym, ap}
 use Rattle.names.specs.DistinguishedName.{matching}
 use Rattle.names.proofs.Laws.{matching_is_exact}
 use Rattle.cert.specs.Certificate.{Certificate}
-use Rattle.statements_crl.specs.CertificateList.{CertificateList, certificate_list}
+use Rattle.statements_crl.specs.CertificateList.{CertificateList}
 use Rattle.statements_parts.specs.declared.fault.StatementRule.{StatementRule}
 use Rattle.statements_parts.specs.declared.fault.StatementFault.{StatementFault}
 use Rattle.statements_parts.specs.declared.fault.StatementFault.TheVariants.{Refused, OtherIssuer, BadSignature, NoSigner, NothingForIssuer, Memory}
 use Rattle.statements_facts.specs.Statement.{CrlSlot, CrlFact}
-use Rattle.statements_parts.specs.Fault as reading
 use Rattle.statements.specs.Genuine.{Accepts, ◌then◌, as_refused, or_else, RefusesUnlessFull, OnFull}
-use Rattle.statements.specs.CrlFact.{IsCrlFact, GenuineListsAreFacts, genuine_list, list_said, of_issuer, is_signed, slot_of, fact_of_list}
+use Rattle.statements.specs.CrlFact.{IsNamed, list_said, of_issuer, is_signed, slot_of, fact_of_list}
 
 pub then_ok : {A B : Type 0} (r : Result A StatementFault) (f : A → Result B StatementFault) (y : B) → (r then f) ≡ Ok y → (x : A) × (r ≡ Ok x) × (f x ≡ Ok y)
 then_ok (Ok x) f y e = (x, refl, e)
 then_ok (Err fault) f y e = absurd cc
 
-said_is : {A : Type 0} (x y : A) → Path (Result A StatementFault) (Ok x) (Ok y) → x ≡ y
+pub said_is : {A : Type 0} (x y : A) → Path (Result A StatementFault) (Ok x) (Ok y) → x ≡ y
 said_is x y e = cc
 
-was_read : {A : Type 0} (r : Result A (StatementRule × ℕ)) (x : A) → as_refused r ≡ Ok x → r ≡ Ok x
+pub was_read : {A : Type 0} (r : Result A (StatementRule × ℕ)) (x : A) → as_refused r ≡ Ok x → r ≡ Ok x
 was_read (Ok y) x e = cc
 was_read (Err fault) x e = absurd cc
 
@@ -37,43 +36,33 @@ pub of_issuer_is : (accepts : Accepts) (issuer : Certificate) (list : Certificat
 unfolding of_issuer
 of_issuer_is accepts issuer list named signed = rw (named, signed) refl
 
-module _ (accepts : Accepts) (issuer : Certificate) (octets : List ℕ) (slot : CrlSlot) (fact : CrlFact) where
-  is_fact : genuine_list accepts issuer octets ≡ Ok (slot, fact) → IsCrlFact accepts issuer octets slot fact
-  unfolding genuine_list
-  is_fact e =
-      let said : CertificateList → Result (CrlSlot × CrlFact) StatementFault = λ list. Ok (slot_of issuer list, fact_of_list list) in
-      let list = then_ok (as_refused (certificate_list octets)) (λ list. of_issuer accepts issuer list then λ is. said list) (slot, fact) e in
-      let is = then_ok (of_issuer accepts issuer list.0) (λ is. said list.0) (slot, fact) list.2 in
-      let checked = is_of_issuer accepts issuer list.0 is.1 in
-      let both : (slot_of issuer list.0, fact_of_list list.0) ≡ (slot, fact) = said_is (slot_of issuer list.0, fact_of_list list.0) (slot, fact) is.2 in
+-- what a list says is what it says of its issuer
+pub record SaysOfIssuer (accepts : Accepts) (issuer : Certificate) (list : CertificateList) (slot : CrlSlot) (fact : CrlFact) : Type 0 where
+  pub named : IsNamed issuer list
+  pub signed : is_signed accepts issuer list ≡ true
+  pub slot_is : slot ≡ slot_of issuer list
+  pub fact_is : fact ≡ fact_of_list list
+
+module _ (accepts : Accepts) (issuer : Certificate) (list : CertificateList) (slot : CrlSlot) (fact : CrlFact) where
+  pub list_says : list_said accepts issuer list ≡ Ok (slot, fact) → SaysOfIssuer accepts issuer list slot fact
+  list_says e =
+      let said : Result (CrlSlot × CrlFact) StatementFault = Ok (slot_of issuer list, fact_of_list list) in
+      let is = then_ok (of_issuer accepts issuer list) (λ is. said) (slot, fact) e in
+      let checked = is_of_issuer accepts issuer list is.1 in
+      let both : (slot_of issuer list, fact_of_list list) ≡ (slot, fact) = said_is (slot_of issuer list, fact_of_list list) (slot, fact) is.2 in
       record {
-        list = list.0;
-        reads = was_read (certificate_list octets) list.0 list.1;
-        named = (matching_is_exact list.0.issuer.rdns issuer.subject.rdns).0 checked.0;
+        named = (matching_is_exact list.issuer.rdns issuer.subject.rdns).0 checked.0;
         signed = checked.1;
         slot_is = sym (ap (λ pair. pair.0) both);
         fact_is = sym (ap (λ pair. pair.1) both);
       }
 
-  fact_is : IsCrlFact accepts issuer octets slot fact → genuine_list accepts issuer octets ≡ Ok (slot, fact)
-  unfolding genuine_list
-  fact_is is =
-      let named = (matching_is_exact is.list.issuer.rdns issuer.subject.rdns).1 is.named in
-      rw (is.reads, of_issuer_is accepts issuer is.list named is.signed, is.slot_is, is.fact_is) refl
-
-pub lists_are_facts : GenuineListsAreFacts
-lists_are_facts accepts issuer octets slot fact = (is_fact accepts issuer octets slot fact, fact_is accepts issuer octets slot fact)
+  pub says_list : SaysOfIssuer accepts issuer list slot fact → list_said accepts issuer list ≡ Ok (slot, fact)
+  says_list is =
+      let named = (matching_is_exact list.issuer.rdns issuer.subject.rdns).1 is.named in
+      rw (of_issuer_is accepts issuer list named is.signed, is.slot_is, is.fact_is) refl
 
 -- ---- what the code answers
-
-pub list_refused : (accepts : Accepts) (issuer : Certificate) (octets : List ℕ) (fault : StatementFault) → reading.FailsUnlessFull fault (certificate_list octets) → RefusesUnlessFull fault (genuine_list accepts issuer octets)
-unfolding genuine_list
-list_refused accepts issuer octets (Refused rule at) fails = rw fails refl
-list_refused accepts issuer octets OtherIssuer fails = absurd fails
-list_refused accepts issuer octets BadSignature fails = absurd fails
-list_refused accepts issuer octets NoSigner fails = absurd fails
-list_refused accepts issuer octets NothingForIssuer fails = absurd fails
-list_refused accepts issuer octets Memory fails = tt
 
 pub issuer_refused : (accepts : Accepts) (issuer : Certificate) (list : CertificateList) (fault : StatementFault) → of_issuer accepts issuer list ≡ Err fault → RefusesUnlessFull fault (list_said accepts issuer list)
 issuer_refused accepts issuer list (Refused rule at) fails = rw fails refl
@@ -98,8 +87,3 @@ no_memory_for_the_issuer accepts issuer list Memory P e = absurd (by (matching l
 
 pub list_believed : (accepts : Accepts) (issuer : Certificate) (list : CertificateList) (slot : CrlSlot) (fact : CrlFact) → of_issuer accepts issuer list ≡ Ok tt → slot ≡ slot_of issuer list → fact ≡ fact_of_list list → list_said accepts issuer list ≡ Ok (slot, fact)
 list_believed accepts issuer list slot fact is slot_is fact_is = rw (is, slot_is, fact_is) refl
-
--- what a list that was read says, the octets say
-pub list_answered : (accepts : Accepts) (issuer : Certificate) (octets : List ℕ) (list : CertificateList) → certificate_list octets ≡ Ok list → genuine_list accepts issuer octets ≡ list_said accepts issuer list
-unfolding genuine_list
-list_answered accepts issuer octets list reads = rw reads refl

@@ -1,5 +1,5 @@
 -- What is genuine for an issuer depends on the issuer alone.
-use Rattle.std.proofs.Common.{◌≡◌, ℕ, List, [], ◌∷◌, Result, Ok, Err, bytes_eq, refl, sym, ap, ◌∙◌, subst}
+use Rattle.std.proofs.Common.{◌≡◌, ℕ, List, [], ◌∷◌, bytes_eq, refl, sym, ap, ◌∙◌, subst}
 use Rattle.asn.specs.Place.{Place}
 use Rattle.asn.specs.Part.{contents}
 use Rattle.asn.specs.Members.{octets_of_each}
@@ -10,13 +10,14 @@ use Rattle.cert.specs.Certificate.{Certificate}
 use Rattle.cert.proofs.Laws.{certificate_is_exact}
 use Rattle.names.specs.DistinguishedName.{matching}
 use Rattle.sha1.specs.Sha1.{sha1}
-use Rattle.statements_parts.specs.declared.fault.StatementRule.{StatementRule}
 use Rattle.statements_ocsp.specs.Responder.{Responder, by_name, by_key}
-use Rattle.statements_ocsp.specs.OcspResponse.{OcspResponse, ocsp_response}
-use Rattle.statements.specs.Genuine.{Accepts, ◌then◌, as_refused}
-use Rattle.statements.specs.CrlFact.{genuine_list, of_issuer}
+use Rattle.statements_crl.specs.CertificateList.{CertificateList}
+use Rattle.statements_ocsp.specs.OcspResponse.{OcspResponse}
+use Rattle.statements.specs.Genuine.{Accepts}
+use Rattle.statements.specs.CrlFact.{list_said, of_issuer}
 use Rattle.statements.specs.Responder.{is_named_by, is_responder, signs_itself, delegate_of, signer_of}
-use Rattle.statements.specs.OcspFact.{response_said, genuine_response, genuine_statement}
+use Rattle.statements.specs.OcspFact.{response_said}
+use Rattle.statements.specs.Statement.{Statement, statement_said}
 use Rattle.statements.specs.OneIssuer.{WasRead, IssuerDecides}
 
 -- ---- the octets of a subjectPublicKeyInfo determine the key
@@ -49,9 +50,9 @@ has_key_info c read =
 -- ---- what is genuine looks at the name and the key alone
 
 module _ (accepts : Accepts) (one other : Certificate) (subject : one.subject.rdns ≡ other.subject.rdns) (info : one.key_info.value.octets ≡ other.key_info.value.octets) (key : one.key_info.key.octets ≡ other.key_info.key.octets) where
-  list_same : (octets : List ℕ) → genuine_list accepts one octets ≡ genuine_list accepts other octets
-  unfolding genuine_list of_issuer
-  list_same octets = rw (subject, info) refl
+  list_same : (list : CertificateList) → list_said accepts one list ≡ list_said accepts other list
+  unfolding of_issuer
+  list_same list = rw (subject, info) refl
 
   named_same : (responder : Responder) → is_named_by responder one ≡ is_named_by responder other
   named_same (by_name name) = ap (λ rdns. matching name.rdns rdns) subject
@@ -64,17 +65,9 @@ module _ (accepts : Accepts) (one other : Certificate) (subject : one.subject.rd
   said_same : (response : OcspResponse) → response_said accepts one response ≡ response_said accepts other response
   said_same response = rw (signer_same response, key) refl
 
-  read_same : (walk : Result OcspResponse (StatementRule × ℕ)) → (as_refused walk then λ response. response_said accepts one response) ≡ (as_refused walk then λ response. response_said accepts other response)
-  read_same (Ok response) = said_same response
-  read_same (Err fault) = refl
-
-  response_same : (octets : List ℕ) → genuine_response accepts one octets ≡ genuine_response accepts other octets
-  unfolding genuine_response
-  response_same octets = read_same (ocsp_response octets)
-
-  statement_same : (octets : List ℕ) → genuine_statement accepts one octets ≡ genuine_statement accepts other octets
-  unfolding genuine_statement
-  statement_same octets = rw (list_same octets, response_same octets, subject, info) refl
+  statement_same : (read : Statement) → statement_said accepts one read ≡ statement_said accepts other read
+  statement_same (Statement.OfList list) = rw (list_same list) refl
+  statement_same (Statement.OfResponse response) = rw (said_same response, subject, info) refl
 
 pub issuer_decides : IssuerDecides
 issuer_decides accepts one other read also same statement =

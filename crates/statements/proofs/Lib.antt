@@ -4,5 +4,6 @@ mod Listing
 mod Responding
 mod Signers
 mod Responses
+mod StatementLaws
 mod Needs
 mod IssuerLaws

@@ -1,11 +1,8 @@
 -- The serial numbers and reasons of entries, one for one.
-use Rattle.std.proofs.Common.{◌≡◌, ℕ, ℤ, Bool, true, false, List, [], ◌∷◌, Option, Some, None, IfSome, IfNone, map, refl, sym, ap, subst, ◌∙◌}
-use Rattle.std.specs.Option.{IsSome}
-use Rattle.std.specs.Str.{bytes_eq}
+use Rattle.std.proofs.Common.{◌≡◌, ℕ, ℤ, List, map, refl, ap, ◌∙◌}
 use Rattle.std.proofs.Math.Path.{fun_ext}
-use Rattle.asn.specs.DerLaws.{AreOctets}
-use Rattle.asn.specs.Integer.{IsNumber20, binary_value}
-use Rattle.statements_crl.proofs.Laws.{is_binary, reason_at}
+use Rattle.asn.specs.Integer.{binary_value}
+use Rattle.statements_crl.proofs.Laws.{reason_at}
 use Rattle.statements_crl.specs.Entry.{Entry, listed_serial, reason_listed}
 use Rattle.statements_facts.specs.Listed.{ListedSerial, first_reason}
 use Rattle.statements_crl.specs.CertificateList.{CertificateList}
@@ -14,15 +11,6 @@ use Rattle.statements.specs.CrlFact.{fact_of_list}
 
 pub reasons_are : (revoked : List ListedSerial) (entries : List Entry) → ((serial : List ℕ) → first_reason revoked serial ≡ first_reason (map listed_serial entries) serial) → first_reason revoked ≡ reason_listed entries
 reasons_are revoked entries same = fun_ext (λ serial. same serial ∙ reason_at serial entries)
-
--- ---- the number of a list
-
-pub is_some : (contents : List ℕ) (found : Option ℕ) → IfNone found ((number : ℕ) → IsNumber20 contents number → ⊥) → IsNumber20 contents (binary_value contents) → IsSome found
-is_some contents None none is = absurd (none (binary_value contents) is)
-is_some contents (Some number) none is = refl
-
-pub value_is : (contents : List ℕ) (found : Option ℕ) (number : ℕ) → IfSome found (IsNumber20 contents) → found ≡ Some number → AreOctets contents → number ≡ binary_value contents
-value_is contents found number some e each = sym (is_binary contents number each (subst (λ found. IfSome found (IsNumber20 contents)) e some))
 
 -- ---- what the list says
 

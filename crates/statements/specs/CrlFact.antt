@@ -1,15 +1,16 @@
 -- What a list says of its issuer's certificates (RFC 5280, 5.1 to 5.3, and 6.3.3 (f) and (g)).
-use Rattle.std.specs.Prelude.{◌≡◌, ◌↔◌, ℕ, Bool, List, Result, Ok, IsTrue}
+use Rattle.std.specs.Prelude.{◌≡◌, ℕ, Bool, List, Result, Ok, IsTrue}
 use Rattle.asn.specs.Integer.{binary_value}
 use Rattle.names.specs.DistinguishedName.{NamesMatch, matching}
 use Rattle.cert.specs.Certificate.{Certificate}
-use Rattle.statements_crl.specs.CertificateList.{CertificateList, certificate_list}
+use Rattle.statements_crl.specs.CertificateList.{CertificateList}
 use Rattle.statements_crl.specs.Entry.{reason_listed}
+use Rattle.statements_crl.specs.ListForms.{IsCertificateList}
 use Rattle.statements_parts.specs.declared.fault.StatementFault.{StatementFault}
 use Rattle.statements_parts.specs.declared.fault.StatementFault.TheVariants.{OtherIssuer, BadSignature}
 use Rattle.statements_facts.specs.Statement.{CrlSlot, CrlFact}
 use Rattle.statements.specs.Issuer.{identity_of}
-use Rattle.statements.specs.Genuine.{Accepts, ◌then◌, as_refused, or_else}
+use Rattle.statements.specs.Genuine.{Accepts, ◌then◌, or_else}
 
 -- the list is of the issuer by its name
 abbrev pub IsNamed : Certificate → CertificateList → Type 0
@@ -17,7 +18,8 @@ IsNamed issuer list = NamesMatch list.issuer.rdns issuer.subject.rdns
 
 -- and its signature is accepted under the issuer's key
 abbrev pub is_signed : Accepts → Certificate → CertificateList → Bool
-is_signed accepts issuer list = accepts list.algorithm issuer.key_info.value.octets list.tbs list.signature
+is_signed accepts issuer list =
+    accepts list.algorithm.value.octets issuer.key_info.value.octets list.tbs.octets list.signature.octets
 
 -- what it is numbered within: the issuer and the scope
 abbrev pub slot_of : Certificate → CertificateList → CrlSlot
@@ -34,7 +36,7 @@ fact_of_list list = record {
 -- The octets are a list of the issuer, which says this. No moment is looked at.
 pub record IsCrlFact (accepts : Accepts) (issuer : Certificate) (octets : List ℕ) (slot : CrlSlot) (fact : CrlFact) : Type 0 where
   pub list : CertificateList
-  pub reads : certificate_list octets ≡ Ok list
+  pub is_list : IsCertificateList octets list
   pub named : IsNamed issuer list
   pub signed : IsTrue (is_signed accepts issuer list)
   pub slot_is : slot ≡ slot_of issuer list
@@ -48,14 +50,3 @@ of_issuer accepts issuer list =
 -- what a list says that was read, or why it is none of the issuer
 abbrev pub list_said : Accepts → Certificate → CertificateList → Result (CrlSlot × CrlFact) StatementFault
 list_said accepts issuer list = of_issuer accepts issuer list then λ is. Ok (slot_of issuer list, fact_of_list list)
-
--- The checks in their order: what is read, and of whom it is.
-unfoldable pub genuine_list : Accepts → Certificate → List ℕ → Result (CrlSlot × CrlFact) StatementFault
-genuine_list accepts issuer octets =
-    as_refused (certificate_list octets) then λ list. list_said accepts issuer list
-
--- They succeed exactly where the octets are a list of the issuer.
-abbrev pub GenuineListsAreFacts : Type 0
-GenuineListsAreFacts =
-    (accepts : Accepts) (issuer : Certificate) (octets : List ℕ) (slot : CrlSlot) (fact : CrlFact) →
-    (genuine_list accepts issuer octets ≡ Ok (slot, fact)) ↔ IsCrlFact accepts issuer octets slot fact

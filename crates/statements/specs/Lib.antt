@@ -4,5 +4,6 @@ pub mod CrlFact
 pub mod Responder
 pub mod SignerView
 pub mod OcspFact
+pub mod Statement
 pub mod OneIssuer
 pub mod Seen

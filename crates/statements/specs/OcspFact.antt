@@ -1,9 +1,10 @@
 -- What a response says of the issuer's certificates (RFC 6960, 4.2.1 and 4.2.2).
-use Rattle.std.specs.Prelude.{◌≡◌, ◌≢◌, ◌↔◌, ◌&&◌, ◌==◌, ◌+ℤ◌, ℕ, ℤ, pos, Bool, List, [], ◌∷◌, length, filter, map, Option, Some, None, Result, Ok, Err, if◌then◌else◌}
+use Rattle.std.specs.Prelude.{◌≡◌, ◌≢◌, ◌&&◌, ◌==◌, ◌+ℤ◌, ℕ, ℤ, pos, Bool, List, [], ◌∷◌, length, filter, map, Option, Some, None, Result, Ok, Err}
 use Rattle.std.specs.Str.{bytes_eq}
 use Rattle.std.specs.Int.{int_max, int_min}
 use Rattle.cert.specs.Certificate.{Certificate}
-use Rattle.statements_ocsp.specs.OcspResponse.{OcspResponse, ocsp_response}
+use Rattle.statements_ocsp.specs.OcspResponse.{OcspResponse}
+use Rattle.statements_ocsp.specs.ResponseForms.{IsOcspResponse}
 use Rattle.statements_ocsp.specs.Single.{SingleResponse}
 use Rattle.statements_ocsp.specs.declared.cert_status.CertStatus.{CertStatus}
 use Rattle.statements_ocsp.specs.declared.cert_status.CertStatus.TheVariants as said
@@ -12,12 +13,9 @@ use Rattle.statements_facts.specs.declared.single.Status.TheVariants.{Good, Revo
 use Rattle.statements_facts.specs.Single.{SingleFact, some_singles}
 use Rattle.statements_facts.specs.Statement.{IssuerIdentity, Window}
 use Rattle.statements_facts.specs.Fact.{Fact, ocsp_slot}
-use Rattle.statements_ocsp.specs.Kind.{is_response}
-use Rattle.statements.specs.Issuer.{identity_of}
-use Rattle.statements.specs.CrlFact.{genuine_list}
 use Rattle.statements_parts.specs.declared.fault.StatementFault.{StatementFault}
 use Rattle.statements_parts.specs.declared.fault.StatementFault.TheVariants.{NoSigner, NothingForIssuer}
-use Rattle.statements.specs.Genuine.{Accepts, ◌then◌, as_refused}
+use Rattle.statements.specs.Genuine.{Accepts, ◌then◌}
 use Rattle.statements.specs.Responder.{Signer, the_issuer, delegate, key_hash, signer_of, IsSigner}
 
 -- id-sha1: 1.3.14.3.2.26
@@ -82,33 +80,15 @@ response_said accepts issuer response =
     signer_or_fault (signer_of accepts issuer response) then λ signer.
     or_nothing (some_singles (singles_of issuer response signer))
 
--- The checks in their order: what is read, its signer, whether it says something.
-unfoldable pub genuine_response : Accepts → Certificate → List ℕ → Result (List SingleFact) StatementFault
-genuine_response accepts issuer octets =
-    as_refused (ocsp_response octets) then λ response. response_said accepts issuer response
-
 -- The octets are a response that somebody signed who may answer for the issuer, and these are what it says. No moment is looked at.
 pub record IsGenuineResponse (accepts : Accepts) (issuer : Certificate) (octets : List ℕ) (singles : List SingleFact) : Type 0 where
   pub response : OcspResponse
-  pub reads : ocsp_response octets ≡ Ok response
+  pub is_response : IsOcspResponse octets response
   pub signer : Signer
   pub is_signer : IsSigner accepts issuer response signer
   pub singles_are : singles ≡ singles_of issuer response signer
   pub some : singles ≢ []
 
--- The checks succeed exactly there.
-abbrev pub GenuineResponsesAreSigned : Type 0
-GenuineResponsesAreSigned =
-    (accepts : Accepts) (issuer : Certificate) (octets : List ℕ) (singles : List SingleFact) →
-    (genuine_response accepts issuer octets ≡ Ok singles) ↔ IsGenuineResponse accepts issuer octets singles
-
--- ---- statements of both kinds
-
+-- a single response as a fact about its certificate
 abbrev pub fact_with : IssuerIdentity → SingleFact → Fact
 fact_with issuer single = Fact.OfResponse (ocsp_slot issuer single) single.fact
-
--- The facts that a statement tells of its issuer's certificates, in order.
-unfoldable pub genuine_statement : Accepts → Certificate → List ℕ → Result (List Fact) StatementFault
-genuine_statement accepts issuer octets =
-    if is_response octets then (genuine_response accepts issuer octets then λ singles. Ok (map (fact_with (identity_of issuer)) singles))
-    else (genuine_list accepts issuer octets then λ said. Ok (Fact.OfCrl said.0 said.1 ∷ []))

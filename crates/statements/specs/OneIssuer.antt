@@ -4,7 +4,7 @@ use Rattle.asn.specs.DerLaws.{AreOctets}
 use Rattle.names.specs.DistinguishedName.{NamesMatch}
 use Rattle.cert.specs.Certificate.{Certificate, certificate}
 use Rattle.statements.specs.Genuine.{Accepts}
-use Rattle.statements.specs.OcspFact.{genuine_statement}
+use Rattle.statements.specs.Statement.{Statement, statement_said}
 
 -- the certificate was read
 pub record WasRead (certificate_read : Certificate) : Type 0 where
@@ -21,4 +21,4 @@ pub record AreOfOneIssuer (one other : Certificate) : Type 0 where
 abbrev pub IssuerDecides : Type 0
 IssuerDecides =
     (accepts : Accepts) (one other : Certificate) → WasRead one → WasRead other → AreOfOneIssuer one other →
-    (statement : List ℕ) → genuine_statement accepts one statement ≡ genuine_statement accepts other statement
+    (statement : Statement) → statement_said accepts one statement ≡ statement_said accepts other statement

@@ -21,7 +21,8 @@ IsNamedBy (by_key hash) c = hash ≡ key_hash c
 
 -- the response is signed under the certificate's key
 abbrev pub signs : Accepts → OcspResponse → Certificate → Bool
-signs accepts response c = accepts response.algorithm c.key_info.value.octets response.tbs response.signature
+signs accepts response c =
+    accepts response.algorithm.value.octets c.key_info.value.octets response.tbs.octets response.signature.octets
 
 -- id-kp-OCSPSigning (RFC 6960, 4.2.2.2): 1.3.6.1.5.5.7.3.9
 abbrev pub ocsp_signing : List ℕ

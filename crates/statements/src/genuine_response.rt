@@ -5,8 +5,7 @@ ghost use Rattle.cert.specs.Certificate.{seen_certificate};
 ghost use Rattle.statements_ocsp.specs.OcspResponse.{seen_response};
 ghost use Rattle.statements.specs.Genuine.{AnswersUnlessFull, OnFull};
 ghost use Rattle.statements_facts.specs.Single.{seen_single, some_singles};
-ghost use Rattle.statements.specs.OcspFact.{GenuineResponsesAreSigned, genuine_response, or_nothing, response_said};
-ghost use Rattle.statements.specs.Responder.{SignersAreFound};
+ghost use Rattle.statements.specs.OcspFact.{or_nothing, response_said};
 ghost use Rattle.statements.specs.Seen.{IsSubjectOf, MayBeSigned};
 
 use crate::issuing::issuer_of;
@@ -29,9 +28,11 @@ fn some_of(singles: Vec<Single<'_>>) -> Result<Singles<'_>, StatementFault>
     }
 }
 
-/// The single responses about the issuer's certificates in a response that was read (RFC 6960, 3.2). The first fault is reported: nobody
-/// signed it who may answer for the issuer (`NoSigner`), it says nothing of the issuer's certificates (`NothingForIssuer`). Memory is
-/// taken for the single responses, at most 256, and to read the certificates that come with a response that the issuer did not sign.
+/// The single responses about the issuer's certificates in a response (RFC 6960, 3.2). The first fault is reported: nobody signed it who
+/// may answer for the issuer (`NoSigner`), it says nothing of the issuer's certificates (`NothingForIssuer`). Each certificate that comes
+/// with the response is read once, and the verifier is asked about it only if the responder id names it and the issuer's name is its
+/// issuer's. Memory is taken for the single responses, at most 256, and to read the certificates of a response that the issuer did not
+/// sign.
 #[tactic(auto, using(crate::proofs::Answering::signer_refused, crate::proofs::Answering::singles_are, crate::proofs::Answering::same_answer))]
 pub fn response_singles<'a, V: Verifier>(
     alloc: Global,
@@ -49,8 +50,8 @@ pub fn response_singles<'a, V: Verifier>(
     some_of(singles)
 }
 
-/// The facts of a response that was read.
-fn facts_if_genuine<'a, V: Verifier>(
+/// What a response of the issuer or of one of its delegates says of the issuer's certificates, as `response_singles`.
+pub(crate) fn response_facts<'a, V: Verifier>(
     alloc: Global,
     verifier: &V,
     issuer: &Certificate<'a>,
@@ -68,29 +69,3 @@ fn facts_if_genuine<'a, V: Verifier>(
         singles,
     })
 }
-
-/// What a response of the issuer or of one of its delegates says of the issuer's certificates (RFC 6960, 3.2). The first fault is
-/// reported: octets that are no response, then as of `response_singles`. Whether the response is current is not checked. Each certificate
-/// that comes with the response is read once, and the verifier is asked about it only if the responder id names it and the issuer's name
-/// is its issuer's.
-#[tactic(auto, using(crate::proofs::Answering::response_refused, crate::proofs::Answering::response_answered))]
-pub fn ocsp_facts<'a, V: Verifier>(
-    alloc: Global,
-    verifier: &V,
-    issuer: &Certificate<'a>,
-    octets: &'a [u8],
-) -> Result<OcspFacts<'a>, StatementFault>
-    ensures said { AnswersUnlessFull (λ facts. facts.singles) result
-        (genuine_response (V.accepts verifier.now) (seen_certificate issuer.now) octets.now) }
-    ensures issuer { IfOk result (λ facts. IsSubjectOf issuer.now facts.issuer) }
-{
-    let response = Response::read(alloc, octets)?;
-    facts_if_genuine(alloc, verifier, issuer, &response)
-}
-
-/// A response has a signer exactly if one is found, and is genuine exactly if it is read, has a signer, and says something of the issuer's
-/// certificates.
-pub fn ocsp_fact_laws()
-    ensures signers { SignersAreFound }
-    ensures responses { GenuineResponsesAreSigned }
-{}

@@ -3,17 +3,17 @@
 
 mod genuine_list;
 mod genuine_response;
-mod identity;
 mod issuing;
+mod laws;
 mod listed;
 mod responder;
 mod signer;
 mod singles;
 mod statement;
 
-pub use genuine_list::{check_crl_issuer, crl_fact_laws, crl_facts};
-pub use genuine_response::{ocsp_fact_laws, ocsp_facts, response_singles};
-pub use identity::identity_laws;
+pub use genuine_list::check_crl_issuer;
+pub use genuine_response::response_singles;
 pub use issuing::issuer_of;
-pub use listed::crl_number;
-pub use statement::genuine;
+pub use laws::{identity_laws, statement_laws};
+pub use responder::{is_named_by, may_sign_responses};
+pub use statement::{Statement, genuine};

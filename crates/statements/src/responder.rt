@@ -23,8 +23,8 @@ pub(crate) fn hash_of_key(certificate: &Certificate<'_>) -> [u8; 20]
     Sha1::digest(certificate.subject_public_key_info.key.octets())
 }
 
-/// Whether the responder id names the certificate.
-fn is_named(responder: &ResponderId<'_>, certificate: &Certificate<'_>) -> bool
+/// Whether the responder id names the certificate, by its subject or by the hash of its key (RFC 6960, 4.2.2.3). No memory is taken.
+pub fn is_named_by(responder: &ResponderId<'_>, certificate: &Certificate<'_>) -> bool
     ensures { result ≡ is_named_by_seen responder.now certificate.now }
 {
     match responder {
@@ -43,10 +43,10 @@ fn has_signed<V: Verifier>(
 {
     let key_info = certificate.subject_public_key_info.value.whole;
     verifier.judge(
-        response.algorithm,
+        response.algorithm.value.whole,
         key_info,
-        response.tbs,
-        response.signature,
+        response.tbs.whole,
+        response.signature.octets(),
     )
 }
 
@@ -59,7 +59,7 @@ pub(crate) fn is_by_issuer<V: Verifier>(
 ) -> bool
     ensures { result ≡ signs_itself_seen (V.accepts verifier.now) issuer.now response.now }
 {
-    is_named(&response.responder, issuer) && has_signed(verifier, response, issuer)
+    is_named_by(&response.responder, issuer) && has_signed(verifier, response, issuer)
 }
 
 /// Whether the issuer issued the certificate.
@@ -87,8 +87,8 @@ fn lists_signing(purposes: &[Oid<'_>]) -> bool
     purposes.iter().any(|purpose| purpose.is(OCSP_SIGNING))
 }
 
-/// Whether the extensions let the certificate's key sign responses.
-fn may_sign_responses(certificate: &Certificate<'_>) -> bool
+/// Whether the extensions let the certificate's key sign responses (RFC 6960, 4.2.2.2). No memory is taken.
+pub fn may_sign_responses(certificate: &Certificate<'_>) -> bool
     ensures { result ≡ may_respond (seen_certificate certificate.now) }
 {
     let extensions = &certificate.extensions;
@@ -108,7 +108,7 @@ pub(crate) fn is_by_delegate<V: Verifier>(
 ) -> bool
     ensures { result ≡ answers_for (V.accepts verifier.now) issuer.now response.now delegate.now }
 {
-    is_named(&response.responder, delegate)
+    is_named_by(&response.responder, delegate)
         && is_of_issuer(verifier, issuer, delegate)
         && may_sign_responses(delegate)
         && has_signed(verifier, response, delegate)

@@ -1,22 +1,80 @@
 //! Statements of both kinds.
 
+ghost use Rattle.std.specs.Prelude.{◌≡◌};
+ghost use Rattle.asn.specs.Reading.{seen_tlv};
 ghost use Rattle.cert.specs.Certificate.{seen_certificate};
 ghost use Rattle.statements_facts.specs.Fact.{facts_in};
+ghost use Rattle.statements_parts.specs.Fault.{GivesUnlessFull};
 ghost use Rattle.statements.specs.Genuine.{AnswersUnlessFull};
-ghost use Rattle.statements.specs.OcspFact.{genuine_statement};
+ghost use Rattle.statements.specs.Statement.{genuine_statement, seen_statement, statement, statement_at, statement_said};
 
-use crate::genuine_list::crl_facts;
-use crate::genuine_response::ocsp_facts;
+use crate::genuine_list::list_facts;
+use crate::genuine_response::response_facts;
+use asn::Tlv;
 use cert::Certificate;
 use path_verifiers::Verifier;
+use statements_crl::Crl;
 use statements_facts::Facts;
-use statements_ocsp::is_response;
-use statements_parts::StatementFault;
+use statements_ocsp::{Response, is_response};
+use statements_parts::{ReadingFault, StatementFault, outermost};
 use std::alloc::Global;
 
-/// The facts of a statement of the issuer. Octets are read as a response if the first value inside the outermost is an ENUMERATED, else as
-/// a list. Whether the statement is current is not checked. Time is n log n in the octets.
-#[tactic(auto, using(crate::proofs::Answering::response_fails, crate::proofs::Answering::list_fails, crate::proofs::Answering::response_is, crate::proofs::Answering::list_is))]
+/// A statement about revocation that was read.
+#[derive(Clone, Copy)]
+pub enum Statement<'a> {
+    /// A certificate revocation list (RFC 5280, 5.1).
+    List(Crl<'a>),
+    /// An OCSP response (RFC 6960, 4.2.1).
+    Response(Response<'a>),
+}
+
+impl<'a> Statement<'a> {
+    /// Reads a statement from DER: a response if the first value inside the outermost is an ENUMERATED, else a list; or answers the first
+    /// fault. Time and memory are those of `Crl::read` and `Response::read`.
+    #[tactic(auto, unfolding(crate::specs::Statement::statement))]
+    pub fn read(alloc: Global, octets: &'a [u8]) -> Result<Statement<'a>, ReadingFault>
+        ensures { GivesUnlessFull seen_statement result (statement octets.now) }
+    {
+        let value = outermost(octets)?;
+        Statement::at(alloc, value)
+    }
+
+    /// As `read`, of a value in the text handed to `asn::whole`, with offsets in that text.
+    #[tactic(auto, unfolding(crate::specs::Statement::statement_at))]
+    pub fn at(alloc: Global, value: Tlv<'a>) -> Result<Statement<'a>, ReadingFault>
+        ensures { GivesUnlessFull seen_statement result (statement_at (seen_tlv value.entry)) }
+    {
+        if is_response(value) {
+            Ok(Statement::Response(Response::at(alloc, value)?))
+        } else {
+            Ok(Statement::List(Crl::at(alloc, value)?))
+        }
+    }
+
+    /// The facts of a statement of the issuer (RFC 5280, 6.3.3 (f), (g); RFC 6960, 3.2). The first fault is reported: of a list, that it
+    /// is one of another issuer, or that its signature is not accepted under the issuer's key; of a response, as of `response_singles`.
+    /// Whether the statement is current is not checked. Time is n log n in the octets, and memory is taken for the entries of a list.
+    #[tactic(auto, using(crate::proofs::Answering::response_fails, crate::proofs::Answering::list_fails, crate::proofs::Answering::response_is, crate::proofs::Answering::list_is))]
+    pub fn facts<V: Verifier>(
+        &self,
+        alloc: Global,
+        verifier: &V,
+        issuer: &Certificate<'a>,
+    ) -> Result<Facts<'a>, StatementFault>
+        ensures { AnswersUnlessFull facts_in result (statement_said (V.accepts verifier.now)
+            (seen_certificate issuer.now) (seen_statement self.now)) }
+    {
+        match self {
+            Statement::List(list) => Ok(Facts::Crl(list_facts(alloc, verifier, issuer, list)?)),
+            Statement::Response(response) => Ok(Facts::Ocsp(response_facts(
+                alloc, verifier, issuer, response,
+            )?)),
+        }
+    }
+}
+
+/// The facts of a statement of the issuer: `Statement::read`, and then `facts`.
+#[tactic(auto, using(crate::proofs::Answering::not_read_fails, crate::proofs::Answering::read_says))]
 pub fn genuine<'a, V: Verifier>(
     alloc: Global,
     verifier: &V,
@@ -26,9 +84,6 @@ pub fn genuine<'a, V: Verifier>(
     ensures { AnswersUnlessFull facts_in result
         (genuine_statement (V.accepts verifier.now) (seen_certificate issuer.now) octets.now) }
 {
-    if is_response(octets) {
-        Ok(Facts::Ocsp(ocsp_facts(alloc, verifier, issuer, octets)?))
-    } else {
-        Ok(Facts::Crl(crl_facts(alloc, verifier, issuer, octets)?))
-    }
+    let statement = Statement::read(alloc, octets)?;
+    statement.facts(alloc, verifier, issuer)
 }

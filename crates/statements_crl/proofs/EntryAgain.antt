@@ -1,5 +1,5 @@
 -- An entry that was read is read again without a set of the types of its extensions, to the same fields.
-use Rattle.std.proofs.Common.{◌≡◌, ℕ, ℤ, List, [], ◌∷◌, Option, Some, None, not, Result, Ok, Err, refl, sym, ap, ◌∙◌}
+use Rattle.std.proofs.Common.{◌≡◌, ℕ, List, [], ◌∷◌, Option, Some, None, not, Result, Ok, Err, refl, sym, ap, ◌∙◌}
 use Rattle.std.specs.FinSet.{contains, insert}
 use Rattle.asn.specs.Place.{Place}
 use Rattle.asn.specs.Members.{Members, members, with_first}

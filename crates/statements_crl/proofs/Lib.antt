@@ -3,7 +3,6 @@ mod OneExtension
 mod ListedAgain
 mod FirstReason
 mod Numbers
-mod Numbered
 mod ExtensionTypes
 mod ReasonLaws
 mod EntryLaws

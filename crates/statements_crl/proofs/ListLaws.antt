@@ -14,7 +14,8 @@ use Rattle.asn.proofs.Laws.{bind_ok, ok_is, check_ok, check_again, is_a_ok, is_a
 use Rattle.names.specs.DistinguishedName.{RdnMap}
 use Rattle.names.specs.GeneralLayout.{NameContents}
 use Rattle.cert.specs.AlgorithmIdentifier.{AlgorithmIdentifier, algorithm_identifier, IsAlgorithmIdentifier}
-use Rattle.cert.specs.CertificateForms.{IsNameOf, IsSignature}
+use Rattle.cert.specs.BitString.{BitString}
+use Rattle.cert.specs.CertificateForms.{IsNameOf}
 use Rattle.cert.specs.TbsCertificate.{is_empty_name}
 use Rattle.cert.proofs.Laws.{is_algorithm, algorithm_is}
 use Rattle.statements_parts.specs.Fault.{as_der}
@@ -311,42 +312,20 @@ tbs_is value fields fits is =
     ) refl
 
 -- the whole list
-algorithm_ok : (inner : List ℕ) (value : Place) (u : Unit {0}) → same_algorithm inner value ≡ Ok u → value.octets ≡ inner
+algorithm_ok : (inner : AlgorithmIdentifier) (value : Place) (u : Unit {0}) → same_algorithm inner value ≡ Ok u → value.octets ≡ inner.value.octets
 unfolding same_algorithm
-algorithm_ok inner value u e = (bytes_eq-Decides value.octets inner).0 (check_ok _ _ _ u e)
+algorithm_ok inner value u e = (bytes_eq-Decides value.octets inner.value.octets).0 (check_ok _ _ _ u e)
 
-algorithm_again : (inner : List ℕ) (value : Place) → value.octets ≡ inner → same_algorithm inner value ≡ Ok tt
+algorithm_again : (inner : AlgorithmIdentifier) (value : Place) → value.octets ≡ inner.value.octets → same_algorithm inner value ≡ Ok tt
 unfolding same_algorithm
-algorithm_again inner value same = check_again (bytes_eq value.octets inner) Layout value.at ((bytes_eq-Decides value.octets inner).1 same)
+algorithm_again inner value same = check_again (bytes_eq value.octets inner.value.octets) Layout value.at ((bytes_eq-Decides value.octets inner.value.octets).1 same)
 
-list_of : (value signed algorithm signature : Place) (tbs : TbsCertList) (octets : List ℕ) → tag value ≡ 0x30 → (members value).values ≡ signed ∷ algorithm ∷ signature ∷ [] → IsTbsCertList signed tbs → tag algorithm ≡ 0x30 → algorithm.octets ≡ tbs.head.signature.value.octets → IsSignature signature octets → IsCertificateListAt value (list_with signed tbs octets)
-list_of value signed algorithm signature tbs octets sequence values signed_is algorithm_sequence same signature_is = record {
-  signed = signed;
-  algorithm = algorithm;
-  signature = signature;
-  tbs = tbs;
-  sequence = sequence;
-  members_are = values;
-  signed_is = signed_is;
-  algorithm_sequence = algorithm_sequence;
-  same_algorithm = same;
-  signature_is = signature_is;
-  tbs_are = refl;
-  algorithm_octets = sym same;
-  issuer = refl;
-  this_update = refl;
-  next_update = refl;
-  entries = refl;
-  number = refl;
-  scope = refl;
-}
-
-abbrev list_end : Place → TbsCertList → List ℕ × Members → Result CertificateList (StatementRule × ℕ)
+abbrev list_end : Place → TbsCertList → BitString × Members → Result CertificateList (StatementRule × ℕ)
 list_end signed tbs signature = ended Layout signature.1 >>= λ done. Ok (list_with signed tbs signature.0)
 
 abbrev list_behind : Place → TbsCertList → Members → Result CertificateList (StatementRule × ℕ)
 list_behind signed tbs left =
-    component 0x30 (same_algorithm tbs.head.signature.value.octets) left >>= λ algorithm. component 0x03 signature_value algorithm.1 >>= list_end signed tbs
+    component 0x30 (same_algorithm tbs.head.signature) left >>= λ algorithm. component 0x03 signature_value algorithm.1 >>= list_end signed tbs
 
 is_list_at : (value : Place) (fields : CertificateList) → AreOctets value.octets → certificate_list_at value ≡ Ok fields → IsCertificateListAt value fields
 unfolding certificate_list_at
@@ -354,43 +333,44 @@ is_list_at value fields fits e =
     let sequence = bind_ok {A = Unit {0}} (is_a 0x30 Layout value) _ fields e in
     let signed = bind_ok {A = Place × Members} (next_or Layout (members value)) _ fields sequence.2 in
     let tbs = bind_ok {A = TbsCertList} (tbs_cert_list signed.0.0) (λ tbs. list_behind signed.0.0 tbs signed.0.1) fields signed.2 in
-    let algorithm = bind_ok {A = Unit {0} × Members} (component 0x30 (same_algorithm tbs.0.head.signature.value.octets) signed.0.1) (λ algorithm. component 0x03 signature_value algorithm.1 >>= list_end signed.0.0 tbs.0) fields tbs.2 in
-    let signature = bind_ok {A = List ℕ × Members} (component 0x03 signature_value algorithm.0.1) (list_end signed.0.0 tbs.0) fields algorithm.2 in
+    let algorithm = bind_ok {A = Unit {0} × Members} (component 0x30 (same_algorithm tbs.0.head.signature) signed.0.1) (λ algorithm. component 0x03 signature_value algorithm.1 >>= list_end signed.0.0 tbs.0) fields tbs.2 in
+    let signature = bind_ok {A = BitString × Members} (component 0x03 signature_value algorithm.0.1) (list_end signed.0.0 tbs.0) fields algorithm.2 in
     let done = bind_ok {A = Unit {0}} (ended Layout signature.0.1) (λ done. Ok (list_with signed.0.0 tbs.0 signature.0.0)) fields signature.2 in
     let first = next_or_ok Layout (members value) signed.0 signed.1 in
-    let second = component_ok 0x30 (same_algorithm tbs.0.head.signature.value.octets) signed.0.1 algorithm.0 algorithm.1 in
+    let second = component_ok 0x30 (same_algorithm tbs.0.head.signature) signed.0.1 algorithm.0 algorithm.1 in
     let third = component_ok 0x03 signature_value algorithm.0.1 signature.0 signature.1 in
-    let same = algorithm_ok tbs.0.head.signature.value.octets second.value algorithm.0.0 second.read_is in
+    let signature_is = signature_ok third.value signature.0.0 third.took.tag_is third.read_is in
     let last = then algorithm.0.1.values signature.0.1.values [] third.value third.took.values (ended_ok Layout signature.0.1 done.0 done.1) in
     let signed_fits = (subst (AllByRecursion Octets) first.values (members_octets value fits)).0 in
     let values = in_order (members value).values signed.0.1.values algorithm.0.1.values [] signed.0.0 second.value third.value first.values second.took.values last in
     let found = list_with signed.0.0 tbs.0 signature.0.0 in
-    let tbs_is = is_tbs signed.0.0 tbs.0 signed_fits tbs.1 in
-    let signature_is = signature_ok third.value signature.0.0 third.took.tag_is third.read_is in
-    subst (IsCertificateListAt value) {x = found} (ok_is {E = StatementRule × ℕ} found fields done.2)
-    (list_of value signed.0.0 second.value third.value tbs.0 signature.0.0 (is_a_ok 0x30 Layout value sequence.0 sequence.1) values tbs_is second.took.tag_is same signature_is)
+    subst (IsCertificateListAt value) {x = found} (ok_is {E = StatementRule × ℕ} found fields done.2) record {
+      signed = signed.0.0;
+      algorithm = second.value;
+      signature = signature.0.0;
+      tbs = tbs.0;
+      sequence = is_a_ok 0x30 Layout value sequence.0 sequence.1;
+      members_are = values ∙ ap (λ (v : Place). signed.0.0 ∷ second.value ∷ v ∷ []) signature_is.0;
+      signed_is = is_tbs signed.0.0 tbs.0 signed_fits tbs.1;
+      algorithm_sequence = second.took.tag_is;
+      same_algorithm = algorithm_ok tbs.0.head.signature second.value algorithm.0.0 second.read_is;
+      signature_is = signature_is.1;
+      fields_are = refl;
+    }
 
 list_at_is : (value : Place) (fields : CertificateList) → AreOctets value.octets → IsCertificateListAt value fields → certificate_list_at value ≡ Ok fields
 unfolding certificate_list_at
 list_at_is value fields fits is =
     let next : List Place → Members = λ values. record { values = values; end = (members value).end } in
     let signed_fits = (subst (AllByRecursion Octets) is.members_are (members_octets value fits)).0 in
-    let algorithm : fields.algorithm ≡ is.tbs.head.signature.value.octets = is.algorithm_octets ∙ is.same_algorithm in
     rw (
       is_a_again 0x30 Layout value is.sequence,
-      next_or_again Layout (members value) is.signed (is.algorithm ∷ is.signature ∷ []) is.members_are,
+      next_or_again Layout (members value) is.signed (is.algorithm ∷ is.signature.value ∷ []) is.members_are,
       tbs_is is.signed is.tbs signed_fits is.signed_is,
-      component_again 0x30 (same_algorithm is.tbs.head.signature.value.octets) (next (is.algorithm ∷ is.signature ∷ [])) is.algorithm (is.signature ∷ []) tt refl is.algorithm_sequence (algorithm_again is.tbs.head.signature.value.octets is.algorithm is.same_algorithm),
-      component_again 0x03 signature_value (next (is.signature ∷ [])) is.signature [] fields.signature refl is.signature_is.bit_string (signature_again is.signature fields.signature is.signature_is),
+      component_again 0x30 (same_algorithm is.tbs.head.signature) (next (is.algorithm ∷ is.signature.value ∷ [])) is.algorithm (is.signature.value ∷ []) tt refl is.algorithm_sequence (algorithm_again is.tbs.head.signature is.algorithm is.same_algorithm),
+      component_again 0x03 signature_value (next (is.signature.value ∷ [])) is.signature.value [] is.signature refl is.signature_is.bit_string (signature_again is.signature is.signature_is),
       ended_again Layout (next []) refl,
-      ← is.tbs_are,
-      ← algorithm,
-      ← is.issuer,
-      ← is.this_update,
-      ← is.next_update,
-      ← is.entries,
-      ← is.number,
-      ← is.scope,
+      is.fields_are,
     ) refl
 
 pub list_is_exact : CertificateListIsExact

@@ -2,7 +2,7 @@
 use Rattle.std.proofs.Common.{◌≡◌, ℕ, ℤ, List, [], ◌∷◌, map, Result, Ok, Err, refl, sym, ap, ◌∙◌, subst}
 use Rattle.asn.specs.Place.{Place, body}
 use Rattle.asn.specs.Members.{Members, members, with_first}
-use Rattle.asn.specs.Walk.{◌>>=◌, is_a, next_or, optional, time}
+use Rattle.asn.specs.Walk.{is_a, next_or, optional, time}
 use Rattle.asn.proofs.Laws.{bind_ok, ok_is, is_a_ok, is_a_again, next_or_again, time_ok}
 use Rattle.statements_facts.specs.Listed.{ListedSerial}
 use Rattle.statements_parts.specs.Parts.{component, serial_number}

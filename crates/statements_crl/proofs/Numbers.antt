@@ -1,5 +1,6 @@
 -- The contents of an INTEGER from 0 to 2^160 - 1 are known by their first two octets and their number.
-use Rattle.std.proofs.Common.{◌≡◌, ◌≢◌, pos, ◌≤◌, ◌<◌, ◌^◌, ◌⊎◌, ℕ, suc, Bool, true, false, not, ◌&&◌, ◌==◌, nat_lt, List, [], ◌∷◌, length, slice_index, IsTrue, arith, refl, sym, ◌∙◌, inl, inr, lit<}
+use Rattle.std.proofs.Common.{◌≡◌, ◌≢◌, pos, ◌≤◌, ◌<◌, ◌^◌, ◌⊎◌, ℕ, suc, Bool, true, false, not, ◌&&◌, ◌==◌, nat_lt, List, [], ◌∷◌, length, slice_index, IsTrue, Option, Some, None, IfSome, IfNone, arith, refl, sym, ◌∙◌, subst, inl, inr, lit<}
+use Rattle.std.specs.Option.{IsSome}
 use Rattle.std.proofs.Math.Nat.{pow-le-pow_right}
 use Rattle.std.proofs.lemmas.Bool.{eqb-true, eqb-false, cases_lt, lt-ltb, le-ltb, ltb-true, ltb-false}
 use Rattle.std.proofs.lemmas.Int.{ints}
@@ -97,3 +98,11 @@ test_knows (first ∷ second ∷ octets) number each is = by (first == 0) refl w
 pub is_binary : (contents : List ℕ) (number : ℕ) → AreOctets contents → IsNumber20 contents number → binary_value contents ≡ number
 is_binary [] number each is = absurd is.content
 is_binary (first ∷ rest) number each is = same_value first rest number (first_of_positive (first ∷ rest) number each is.content is.value).1 is.value
+
+-- the number that is read from such contents
+pub is_some : (contents : List ℕ) (found : Option ℕ) → IfNone found ((number : ℕ) → IsNumber20 contents number → ⊥) → IsNumber20 contents (binary_value contents) → IsSome found
+is_some contents None none is = absurd (none (binary_value contents) is)
+is_some contents (Some number) none is = refl
+
+pub value_is : (contents : List ℕ) (found : Option ℕ) (number : ℕ) → IfSome found (IsNumber20 contents) → found ≡ Some number → AreOctets contents → number ≡ binary_value contents
+value_is contents found number some e each = sym (is_binary contents number each (subst (λ found. IfSome found (IsNumber20 contents)) e some))

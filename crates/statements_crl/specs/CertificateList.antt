@@ -1,13 +1,14 @@
 -- Certificate revocation lists (RFC 5280, 5.1): SEQUENCE { tbsCertList, signatureAlgorithm, signatureValue BIT STRING }
-use Rattle.std.specs.Prelude.{◌≡◌, ℕ, ℤ, ◌==◌, ◌&&◌, List, [], ◌∷◌, Option, Some, None, IsTrue, Result, Ok}
+use Rattle.std.specs.Prelude.{ℕ, ℤ, ◌==◌, ◌&&◌, List, [], ◌∷◌, Option, Some, None, Result, Ok}
 use Rattle.std.specs.Str.{bytes_eq}
-use Rattle.asn.specs.Place.{Place, tag, body}
+use Rattle.asn.specs.Place.{Place, seen_tlv, tag, body}
 use Rattle.asn.specs.Members.{Members, members}
 use Rattle.asn.specs.Walk.{◌>>=◌, is_a, optional, next_or, time, ended, check_that}
 use Rattle.asn.specs.Judgement.{outermost}
 use Rattle.names.specs.GeneralLayout.{NameContents}
 use Rattle.names.specs.GeneralView.{name_contents}
 use Rattle.cert.specs.AlgorithmIdentifier.{AlgorithmIdentifier, algorithm_identifier, seen_algorithm}
+use Rattle.cert.specs.BitString.{BitString, seen_bit_string}
 use Rattle.statements_facts.specs.declared.scope.Scope.{Scope}
 use Rattle.statements_crl.specs.declared.list.Crl as code
 use Rattle.statements_crl.specs.declared.list.ListHead as head
@@ -17,7 +18,6 @@ use Rattle.statements_parts.specs.declared.fault.StatementRule.TheVariants.{Layo
 use Rattle.statements_parts.specs.Fault.{as_der}
 use Rattle.statements_parts.specs.Parts.{component, next_read, signature_value}
 use Rattle.statements_crl.specs.Parts.{issuer, same_algorithm}
-use Rattle.statements_crl.specs.CrlNumber.{is_crl_number}
 use Rattle.statements_crl.specs.Entry.{Entry, entries, entries_left}
 use Rattle.statements_crl.specs.ListExtension.{NumberAndScope, seen_named, list_extensions}
 
@@ -75,33 +75,33 @@ tbs_cert_list value = do
 
 -- The fields of a list.
 pub record CertificateList : Type 0 where
-  pub tbs : List ℕ
-  pub algorithm : List ℕ
+  pub tbs : Place
+  pub algorithm : AlgorithmIdentifier
   pub issuer : NameContents
   pub this_update : ℤ
   pub next_update : ℤ
   pub entries : List Entry
   pub number : List ℕ
   pub scope : Scope
-  pub signature : List ℕ
+  pub signature : BitString
 
 abbrev pub seen_list : code.Crl → CertificateList
 seen_list read = record {
-  tbs = read.tbs.now;
-  algorithm = read.algorithm.now;
+  tbs = seen_tlv read.tbs;
+  algorithm = seen_algorithm read.algorithm;
   issuer = name_contents read.issuer;
   this_update = read.this_update;
   next_update = read.next_update;
   entries = entries_left read.revoked;
-  number = read.number.now;
+  number = read.number.contents.now;
   scope = read.scope;
-  signature = read.signature.now;
+  signature = seen_bit_string read.signature;
 }
 
-abbrev pub list_with : Place → TbsCertList → List ℕ → CertificateList
+abbrev pub list_with : Place → TbsCertList → BitString → CertificateList
 list_with signed tbs signature = record {
-  tbs = signed.octets;
-  algorithm = tbs.head.signature.value.octets;
+  tbs = signed;
+  algorithm = tbs.head.signature;
   issuer = tbs.head.issuer;
   this_update = tbs.head.this_update;
   next_update = tbs.head.next_update;
@@ -117,14 +117,10 @@ certificate_list_at value = do
   sequence ← is_a 0x30 Layout value
   signed ← next_or Layout (members value)
   tbs ← tbs_cert_list signed.0
-  algorithm ← component 0x30 (same_algorithm tbs.head.signature.value.octets) signed.1
+  algorithm ← component 0x30 (same_algorithm tbs.head.signature) signed.1
   signature ← component 0x03 signature_value algorithm.1
   done ← ended Layout signature.1
   Ok (list_with signed.0 tbs signature.0)
 
 unfoldable pub certificate_list : List ℕ → Result CertificateList (StatementRule × ℕ)
 certificate_list octets = as_der (outermost octets) >>= λ value. certificate_list_at value
-
--- the number of each list is one from 0 to 2^160 - 1
-abbrev pub ListsAreNumbered : Type 0
-ListsAreNumbered = (octets : List ℕ) (list : CertificateList) → certificate_list octets ≡ Ok list → IsTrue (is_crl_number list.number)

@@ -10,4 +10,4 @@ pub mod EntryForms
 pub mod ListForms
 pub use Rattle.statements_parts.specs.Fault
 pub use Rattle.statements_parts.specs.declared.fault.StatementRule
-pub use Rattle.statements_parts.specs.declared.fault.StatementFault
+pub use Rattle.statements_parts.specs.declared.fault.ReadingFault

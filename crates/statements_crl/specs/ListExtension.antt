@@ -40,7 +40,7 @@ pub record ListExtensions : Type 0 where
   pub scope : Scope
 
 abbrev pub seen_said : read_of.ListExtensions → ListExtensions
-seen_said read = record { number = seen (λ octets. octets.now) read.number; scope = read.scope }
+seen_said read = record { number = seen (λ number. number.contents.now) read.number; scope = read.scope }
 
 abbrev pub no_list_extensions : ListExtensions
 no_list_extensions = record { number = None; scope = All }
@@ -88,7 +88,7 @@ pub record NumberAndScope : Type 0 where
   pub scope : Scope
 
 abbrev pub seen_named : told.NumberAndScope → NumberAndScope
-seen_named read = record { number = read.number.now; scope = read.scope }
+seen_named read = record { number = read.number.contents.now; scope = read.scope }
 
 -- Extensions ::= SEQUENCE SIZE (1..MAX) OF Extension, one of which is the number
 abbrev pub named : ListExtensions → ℕ → Result NumberAndScope (StatementRule × ℕ)

@@ -9,6 +9,7 @@ use Rattle.asn.specs.Members.{members}
 use Rattle.asn.specs.Time.{IsTime}
 use Rattle.asn.specs.Integer.{IsNumber20}
 use Rattle.cert.specs.AlgorithmIdentifier.{IsAlgorithmIdentifier}
+use Rattle.cert.specs.BitString.{BitString}
 use Rattle.cert.specs.CertificateForms.{IsNameOf, IsSignature}
 use Rattle.cert.specs.Extension.{Extension, IsExtension}
 use Rattle.statements_facts.specs.declared.scope.Scope.{Scope}
@@ -16,7 +17,7 @@ use Rattle.statements_facts.specs.declared.scope.Scope.TheVariants as S
 use Rattle.statements_crl.specs.Entry.{Entry}
 use Rattle.statements_crl.specs.EntryForms.{IsEntry, id_ce}
 use Rattle.statements_crl.specs.ListExtension.{NumberAndScope}
-use Rattle.statements_crl.specs.CertificateList.{TbsCertList, CertificateList, certificate_list}
+use Rattle.statements_crl.specs.CertificateList.{TbsCertList, CertificateList, certificate_list, list_with}
 
 -- The value of a cRLNumber (5.2.3): CRLNumber ::= INTEGER (0..MAX), of at most 20 octets, here below 2^160, by its contents octets
 pub record IsCrlNumber (one : Extension) (contents : List ℕ) : Type 0 where
@@ -86,24 +87,16 @@ pub record IsTbsCertList (value : Place) (fields : TbsCertList) : Type 0 where
 pub record IsCertificateListAt (value : Place) (fields : CertificateList) : Type 0 where
   pub signed : Place
   pub algorithm : Place
-  pub signature : Place
+  pub signature : BitString
   pub tbs : TbsCertList
   pub sequence : tag value ≡ 0x30
-  pub members_are : (members value).values ≡ signed ∷ algorithm ∷ signature ∷ []
+  pub members_are : (members value).values ≡ signed ∷ algorithm ∷ signature.value ∷ []
   pub signed_is : IsTbsCertList signed tbs
   -- signatureAlgorithm (5.1.1.2) is the algorithm identifier of the signed part
   pub algorithm_sequence : tag algorithm ≡ 0x30
   pub same_algorithm : algorithm.octets ≡ tbs.head.signature.value.octets
-  pub signature_is : IsSignature signature fields.signature
-  -- the fields, of which the first two are whole encodings
-  pub tbs_are : fields.tbs ≡ signed.octets
-  pub algorithm_octets : fields.algorithm ≡ algorithm.octets
-  pub issuer : fields.issuer ≡ tbs.head.issuer
-  pub this_update : fields.this_update ≡ tbs.head.this_update
-  pub next_update : fields.next_update ≡ tbs.head.next_update
-  pub entries : fields.entries ≡ tbs.entries
-  pub number : fields.number ≡ tbs.named.number
-  pub scope : fields.scope ≡ tbs.named.scope
+  pub signature_is : IsSignature signature.value signature.octets
+  pub fields_are : fields ≡ list_with signed tbs signature
 
 -- The octets are DER (X.690), and have the layout of a list with these fields.
 pub record IsCertificateList (octets : List ℕ) (fields : CertificateList) : Type 0 where

@@ -1,10 +1,11 @@
 -- The parts that lists alone are made of.
-use Rattle.std.specs.Prelude.{ℕ, not, List, Result, Ok}
+use Rattle.std.specs.Prelude.{ℕ, not, Result, Ok}
 use Rattle.std.specs.Str.{bytes_eq}
 use Rattle.asn.specs.Place.{Place}
 use Rattle.asn.specs.Members.{Members}
 use Rattle.asn.specs.Walk.{◌>>=◌, check_that}
 use Rattle.names.specs.GeneralLayout.{NameContents}
+use Rattle.cert.specs.AlgorithmIdentifier.{AlgorithmIdentifier}
 use Rattle.cert.specs.TbsCertificate.{is_empty_name}
 use Rattle.statements_parts.specs.Parts.{component, distinguished_name}
 use Rattle.statements_parts.specs.declared.fault.StatementRule.{StatementRule}
@@ -18,9 +19,9 @@ issuer value = do
   Ok read
 
 -- signatureAlgorithm (5.1.1.2): the same octets as the algorithm identifier in the signed part
-unfoldable pub same_algorithm : List ℕ → Place → Result (Unit {0}) (StatementRule × ℕ)
-same_algorithm inner value = check_that (bytes_eq value.octets inner) Layout value.at
+unfoldable pub same_algorithm : AlgorithmIdentifier → Place → Result (Unit {0}) (StatementRule × ℕ)
+same_algorithm inner value = check_that (bytes_eq value.octets inner.value.octets) Layout value.at
 
--- the next value as the signatureAlgorithm, with these octets
-abbrev pub next_same_algorithm : List ℕ → Members → Result (Unit {0} × Members) (StatementRule × ℕ)
+-- the next value as the signatureAlgorithm
+abbrev pub next_same_algorithm : AlgorithmIdentifier → Members → Result (Unit {0} × Members) (StatementRule × ℕ)
 next_same_algorithm inner = component 0x30 (same_algorithm inner)

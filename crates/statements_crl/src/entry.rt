@@ -8,7 +8,7 @@ ghost use Rattle.statements_parts.specs.Fault.{GivesUnlessFull};
 use crate::entry_extension::{reason_in_list, take_reason};
 use asn::{Cursor, SEQUENCE, Tlv};
 use statements_facts::Listed;
-use statements_parts::{Refusal, StatementFault, StatementRule, take_serial};
+use statements_parts::{ReadingFault, Refusal, StatementRule, take_serial};
 use std::alloc::Global;
 
 /// SEQUENCE { userCertificate CertificateSerialNumber, revocationDate Time, crlEntryExtensions Extensions OPTIONAL }
@@ -42,7 +42,7 @@ impl<'a> Entry<'a> {
 
     /// The entry that the value is, or the first fault.
     #[tactic(auto, unfolding(crate::specs::EntryWalk::entry))]
-    pub(crate) fn read(alloc: Global, value: Tlv<'a>) -> Result<Entry<'a>, StatementFault>
+    pub(crate) fn read(alloc: Global, value: Tlv<'a>) -> Result<Entry<'a>, ReadingFault>
         ensures { GivesUnlessFull seen_entry result (entry (seen_tlv value.entry)) }
     {
         let (read, behind) = Entry::fields(value)?;

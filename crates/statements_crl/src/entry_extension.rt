@@ -11,7 +11,7 @@ ghost use Rattle.statements_parts.specs.Steps.{StepGivesUnlessFull, TakesUnlessF
 
 use asn::{Cursor, ENUMERATED, SEQUENCE, Tlv};
 use cert::{Extension, OidSet, certificate_extension_number};
-use statements_parts::{Refusal, StatementFault, StatementRule, is_reason, new_extension};
+use statements_parts::{ReadingFault, Refusal, StatementRule, is_reason, new_extension};
 use std::alloc::Global;
 
 /// What an extension of an entry is about.
@@ -99,7 +99,7 @@ struct TakenOfEntry<'a> {
 impl<'a> TakenOfEntry<'a> {
     /// Takes one more extension, which must be of a type that none of the earlier ones has.
     #[tactic(auto, unfolding(crate::specs::EntryExtension::one_extension))]
-    fn take(&mut self, value: Tlv<'a>) -> Result<(), StatementFault>
+    fn take(&mut self, value: Tlv<'a>) -> Result<(), ReadingFault>
         ensures { TakesUnlessFull seen_taken self.old self.new value.entry result one_extension }
     {
         let extension = new_extension(&mut self.types, value)?;
@@ -109,7 +109,7 @@ impl<'a> TakenOfEntry<'a> {
 }
 
 /// The reason that the extensions give, whose types are kept in a set.
-fn reason_of_several(alloc: Global, members: Cursor<'_>) -> Result<u8, StatementFault>
+fn reason_of_several(alloc: Global, members: Cursor<'_>) -> Result<u8, ReadingFault>
     ensures { GivesUnlessFull (λ code. code) result (reason_of_all (left members.entry)) }
 {
     let mut members = members;
@@ -132,7 +132,7 @@ fn reason_of_one(value: Tlv<'_>) -> Result<u8, Refusal>
 
 /// The reason that the extensions give. An entry has one extension as a rule: then no set of types is made.
 #[tactic(auto, using(crate::proofs::OneExtension::reason_alone))]
-fn reason_in(alloc: Global, members: Cursor<'_>) -> Result<u8, StatementFault>
+fn reason_in(alloc: Global, members: Cursor<'_>) -> Result<u8, ReadingFault>
     ensures { GivesUnlessFull (λ code. code) result (reason_of_all (left members.entry)) }
 {
     let mut behind = members;
@@ -149,7 +149,7 @@ fn reason_in(alloc: Global, members: Cursor<'_>) -> Result<u8, StatementFault>
 /// Takes crlEntryExtensions Extensions OPTIONAL, and gives the number of the reason in them: 0 if there is none. Memory is
 /// taken for the types of the extensions if there are more than 16.
 #[tactic(auto, unfolding(crate::specs::EntryExtension::optional_reason))]
-pub(crate) fn take_reason(alloc: Global, members: &mut Cursor<'_>) -> Result<u8, StatementFault>
+pub(crate) fn take_reason(alloc: Global, members: &mut Cursor<'_>) -> Result<u8, ReadingFault>
     ensures { StepGivesUnlessFull (λ code. code) result members.old members.new optional_reason }
 {
     let Some(list) = members.optional(SEQUENCE) else {

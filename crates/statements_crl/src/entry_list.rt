@@ -11,7 +11,7 @@ use crate::entry::Entry;
 use crate::entry_walk::Entries;
 use asn::{Cursor, SEQUENCE};
 use statements_facts::Listed;
-use statements_parts::StatementFault;
+use statements_parts::ReadingFault;
 use std::alloc::Global;
 
 impl<'a> Entries<'a> {
@@ -48,7 +48,7 @@ impl<'a> Entries<'a> {
 }
 
 /// The first fault of the entries that the values are.
-fn check_entries(alloc: Global, members: Cursor<'_>) -> Result<(), StatementFault>
+fn check_entries(alloc: Global, members: Cursor<'_>) -> Result<(), ReadingFault>
     ensures { GivesUnlessFull (λ _. tt) result (checked (entries (left members.entry).values)) }
 {
     let mut members = members;
@@ -63,7 +63,7 @@ fn check_entries(alloc: Global, members: Cursor<'_>) -> Result<(), StatementFaul
 pub(crate) fn take_entries<'a>(
     alloc: Global,
     members: &mut Cursor<'a>,
-) -> Result<Entries<'a>, StatementFault>
+) -> Result<Entries<'a>, ReadingFault>
     ensures { StepGivesUnlessFull entries_left result members.old members.new revoked }
 {
     let Some(list) = members.optional(SEQUENCE) else {

@@ -16,6 +16,6 @@ pub use entry::Entry;
 pub use entry_walk::Entries;
 pub use layout::list_laws;
 pub use list::Crl;
-pub use number::number_laws;
+pub use number::{CrlNumber, number_laws};
 pub use statements_facts::Scope;
-pub use statements_parts::{Refusal, StatementFault, StatementRule};
+pub use statements_parts::{ReadingFault, Refusal, StatementRule};

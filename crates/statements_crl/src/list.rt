@@ -10,23 +10,24 @@ ghost use Rattle.asn.specs.Walk.{StepGives};
 use crate::entry_list::take_entries;
 use crate::entry_walk::Entries;
 use crate::list_extension::NumberAndScope;
+use crate::number::CrlNumber;
 use crate::parts::{take_issuer, take_same_algorithm};
 use asn::{Cursor, INTEGER, SEQUENCE, Tlv};
-use cert::AlgorithmIdentifier;
+use cert::{AlgorithmIdentifier, BitString};
 use names::Name;
 use statements_facts::Scope;
 use statements_parts::{
-    Refusal, StatementFault, StatementRule, outermost, take_algorithm, take_signature,
+    ReadingFault, Refusal, StatementRule, outermost, take_algorithm, take_signature,
 };
 use std::alloc::Global;
 
 /// A revocation list that was read. Its parts borrow the octets.
 #[derive(Clone, Copy)]
 pub struct Crl<'a> {
-    /// tbsCertList: the whole encoding of the signed part.
-    pub tbs: &'a [u8],
-    /// The whole algorithm identifier of the signature, which stands in the signed part and again behind it.
-    pub algorithm: &'a [u8],
+    /// tbsCertList: the signed part.
+    pub tbs: Tlv<'a>,
+    /// The algorithm of the signature, from the signed part. The same octets stand behind that part.
+    pub algorithm: AlgorithmIdentifier<'a>,
     /// A name that is not empty.
     pub issuer: Name<'a>,
     /// In seconds from 1970-01-01T00:00:00Z.
@@ -35,12 +36,11 @@ pub struct Crl<'a> {
     pub next_update: i64,
     /// The entries, in order.
     pub revoked: Entries<'a>,
-    /// The contents of the CRL number: a number from 0 to 2^160 - 1.
-    pub number: &'a [u8],
+    pub number: CrlNumber<'a>,
     /// Which certificates the list is about.
     pub scope: Scope,
-    /// The octets of signatureValue.
-    pub signature: &'a [u8],
+    /// signatureValue, in which no bit is unused.
+    pub signature: BitString<'a>,
 }
 
 /// The components of the signed part up to nextUpdate.
@@ -96,7 +96,7 @@ pub(crate) struct TbsCertList<'a> {
 impl<'a> TbsCertList<'a> {
     /// TBSCertList ::= SEQUENCE { version, signature, issuer, thisUpdate, nextUpdate, revokedCertificates, crlExtensions [0] }
     #[tactic(auto, unfolding(crate::specs::CertificateList::tbs_cert_list))]
-    fn read(alloc: Global, value: Tlv<'a>) -> Result<TbsCertList<'a>, StatementFault>
+    fn read(alloc: Global, value: Tlv<'a>) -> Result<TbsCertList<'a>, ReadingFault>
         ensures { GivesUnlessFull seen_tbs result (tbs_cert_list (seen_tlv value.entry)) }
     {
         value.is_a(SEQUENCE, StatementRule::Layout)?;
@@ -113,40 +113,43 @@ impl<'a> TbsCertList<'a> {
     }
 }
 
-/// CertificateList ::= SEQUENCE { tbsCertList TBSCertList, signatureAlgorithm AlgorithmIdentifier, signatureValue BIT STRING }
-#[tactic(auto, unfolding(crate::specs::CertificateList::certificate_list_at))]
-fn read_list<'a>(alloc: Global, value: Tlv<'a>) -> Result<Crl<'a>, StatementFault>
-    ensures { GivesUnlessFull seen_list result (certificate_list_at (seen_tlv value.entry)) }
-{
-    value.is_a(SEQUENCE, StatementRule::Layout)?;
-    let mut members = value.members();
-    let signed = members.next_or(StatementRule::Layout)?;
-    let tbs = TbsCertList::read(alloc, signed)?;
-    take_same_algorithm(tbs.head.signature.value.whole, &mut members)?;
-    let signature = take_signature(&mut members)?;
-    members.ended(StatementRule::Layout)?;
-    Ok(Crl {
-        tbs: signed.whole,
-        algorithm: tbs.head.signature.value.whole,
-        issuer: tbs.head.issuer,
-        this_update: tbs.head.this_update,
-        next_update: tbs.head.next_update,
-        revoked: tbs.revoked,
-        number: tbs.named.number,
-        scope: tbs.named.scope,
-        signature,
-    })
-}
-
 impl<'a> Crl<'a> {
     /// Reads a list from DER (RFC 5280, 5.1), or answers the first fault: the rule that is broken, and the offset of the value that breaks
     /// it. Fields are parts of the octets. Time is linear in the octets; an entry, or the list, with more than 16 extensions takes memory
     /// for their types, and n log n time.
     #[tactic(auto, unfolding(crate::specs::CertificateList::certificate_list))]
-    pub fn read(alloc: Global, octets: &'a [u8]) -> Result<Crl<'a>, StatementFault>
+    pub fn read(alloc: Global, octets: &'a [u8]) -> Result<Crl<'a>, ReadingFault>
         ensures { GivesUnlessFull seen_list result (certificate_list octets.now) }
     {
-        read_list(alloc, outermost(octets)?)
+        let value = outermost(octets)?;
+        Crl::at(alloc, value)
+    }
+
+    /// CertificateList ::= SEQUENCE { tbsCertList TBSCertList, signatureAlgorithm AlgorithmIdentifier, signatureValue BIT STRING }
+    ///
+    /// As `read`, of a value in the text handed to `asn::whole`, with offsets in that text.
+    #[tactic(auto, unfolding(crate::specs::CertificateList::certificate_list_at))]
+    pub fn at(alloc: Global, value: Tlv<'a>) -> Result<Crl<'a>, ReadingFault>
+        ensures { GivesUnlessFull seen_list result (certificate_list_at (seen_tlv value.entry)) }
+    {
+        value.is_a(SEQUENCE, StatementRule::Layout)?;
+        let mut members = value.members();
+        let signed = members.next_or(StatementRule::Layout)?;
+        let tbs = TbsCertList::read(alloc, signed)?;
+        take_same_algorithm(tbs.head.signature, &mut members)?;
+        let signature = take_signature(&mut members)?;
+        members.ended(StatementRule::Layout)?;
+        Ok(Crl {
+            tbs: signed,
+            algorithm: tbs.head.signature,
+            issuer: tbs.head.issuer,
+            this_update: tbs.head.this_update,
+            next_update: tbs.head.next_update,
+            revoked: tbs.revoked,
+            number: tbs.named.number,
+            scope: tbs.named.scope,
+            signature,
+        })
     }
 
     /// The number of the reason of the first entry with this serial number (its contents octets); `None` if no entry has it. Time is

@@ -9,11 +9,11 @@ ghost use Rattle.statements_parts.specs.Fault.{GivesUnlessFull};
 ghost use Rattle.statements_parts.specs.Steps.{StepGivesUnlessFull, TakesUnlessFull};
 
 use crate::issuer_scope::scope_of;
-use crate::number::number_of;
+use crate::number::CrlNumber;
 use asn::{Cursor, SEQUENCE, Tlv};
 use cert::{Extension, OidSet, certificate_extension_number};
 use statements_facts::Scope;
-use statements_parts::{Refusal, StatementFault, StatementRule, new_extension};
+use statements_parts::{ReadingFault, Refusal, StatementRule, new_extension};
 use std::alloc::Global;
 
 /// What an extension of a list is about.
@@ -44,10 +44,10 @@ impl ListExtensionKind {
     }
 }
 
-/// What the extensions say so far: the contents of the number, and the scope.
+/// What the extensions say so far: the number, and the scope.
 #[derive(Clone, Copy)]
 struct ListExtensions<'a> {
-    number: Option<&'a [u8]>,
+    number: Option<CrlNumber<'a>>,
     scope: Scope,
 }
 
@@ -59,7 +59,7 @@ impl<'a> ListExtensions<'a> {
     {
         let at = one.whole.at;
         match ListExtensionKind::of(one.oid.contents()) {
-            ListExtensionKind::CrlNumber => match number_of(one.value.body) {
+            ListExtensionKind::CrlNumber => match CrlNumber::read(one.value.body) {
                 Some(number) => Ok(ListExtensions {
                     number: Some(number),
                     scope: self.scope,
@@ -92,7 +92,7 @@ struct TakenOfList<'a> {
 impl<'a> TakenOfList<'a> {
     /// Takes one more extension, which must be of a type that none of the earlier ones has.
     #[tactic(auto, unfolding(crate::specs::ListExtension::one_extension))]
-    fn take(&mut self, value: Tlv<'a>) -> Result<(), StatementFault>
+    fn take(&mut self, value: Tlv<'a>) -> Result<(), ReadingFault>
         ensures { TakesUnlessFull seen_taken self.old self.new value.entry result one_extension }
     {
         let extension = new_extension(&mut self.types, value)?;
@@ -102,7 +102,7 @@ impl<'a> TakenOfList<'a> {
 }
 
 /// Takes the extensions that the values are.
-fn take_all<'a>(alloc: Global, members: Cursor<'a>) -> Result<TakenOfList<'a>, StatementFault>
+fn take_all<'a>(alloc: Global, members: Cursor<'a>) -> Result<TakenOfList<'a>, ReadingFault>
     ensures { GivesUnlessFull seen_taken result (all_extensions (left members.entry)) }
 {
     let mut members = members;
@@ -122,8 +122,7 @@ fn take_all<'a>(alloc: Global, members: Cursor<'a>) -> Result<TakenOfList<'a>, S
 /// What its extensions say of a list.
 #[derive(Clone, Copy)]
 pub(crate) struct NumberAndScope<'a> {
-    /// The contents of the CRL number.
-    pub(crate) number: &'a [u8],
+    pub(crate) number: CrlNumber<'a>,
     pub(crate) scope: Scope,
 }
 
@@ -138,7 +137,7 @@ fn end_of(list: Tlv<'_>) -> usize
 impl<'a> NumberAndScope<'a> {
     /// Extensions ::= SEQUENCE SIZE (1..MAX) OF Extension, one of which is the number
     #[tactic(auto, unfolding(crate::specs::ListExtension::extensions))]
-    fn read(alloc: Global, list: Tlv<'a>) -> Result<NumberAndScope<'a>, StatementFault>
+    fn read(alloc: Global, list: Tlv<'a>) -> Result<NumberAndScope<'a>, ReadingFault>
         ensures { GivesUnlessFull seen_named result (extensions (seen_tlv list.entry)) }
     {
         list.is_a(SEQUENCE, StatementRule::Layout)?;
@@ -146,7 +145,7 @@ impl<'a> NumberAndScope<'a> {
         members.some(StatementRule::Layout)?;
         let taken = take_all(alloc, members)?;
         let Some(number) = taken.said.number else {
-            return Err(StatementFault::Refused(StatementRule::NoNumber, end_of(list)));
+            return Err(ReadingFault::Refused(StatementRule::NoNumber, end_of(list)));
         };
         Ok(NumberAndScope {
             number,
@@ -159,7 +158,7 @@ impl<'a> NumberAndScope<'a> {
     pub(crate) fn take(
         alloc: Global,
         members: &mut Cursor<'a>,
-    ) -> Result<NumberAndScope<'a>, StatementFault>
+    ) -> Result<NumberAndScope<'a>, ReadingFault>
         ensures { StepGivesUnlessFull seen_named result members.old members.new list_extensions }
     {
         members.some(StatementRule::NoNumber)?;

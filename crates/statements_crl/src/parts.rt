@@ -1,12 +1,14 @@
 //! The parts that lists alone are made of.
 
 ghost use Rattle.asn.specs.Reading.{seen_tlv, Gives};
+ghost use Rattle.cert.specs.AlgorithmIdentifier.{seen_algorithm};
 ghost use Rattle.names.specs.GeneralView.{name_contents};
 ghost use Rattle.statements_parts.specs.Parts.{component};
 ghost use Rattle.asn.specs.Walk.{StepGives};
 ghost use Rattle.statements_crl.specs.Parts.{issuer, next_same_algorithm};
 
 use asn::{Cursor, SEQUENCE, Tlv};
+use cert::AlgorithmIdentifier;
 use names::Name;
 use statements_parts::{Refusal, StatementRule, name_at};
 
@@ -31,11 +33,15 @@ pub(crate) fn take_issuer<'a>(members: &mut Cursor<'a>) -> Result<Name<'a>, Refu
 
 /// Takes signatureAlgorithm, which has to have the octets of the algorithm identifier in the signed part, `inner`.
 #[tactic(auto, unfolding(statements_parts::specs::Parts::component, crate::specs::Parts::same_algorithm, asn::specs::Walk::check_that))]
-pub(crate) fn take_same_algorithm(inner: &[u8], members: &mut Cursor<'_>) -> Result<(), Refusal>
-    ensures { StepGives (λ _. tt) result members.old members.new (next_same_algorithm inner.now) }
+pub(crate) fn take_same_algorithm(
+    inner: AlgorithmIdentifier<'_>,
+    members: &mut Cursor<'_>,
+) -> Result<(), Refusal>
+    ensures { StepGives (λ _. tt) result members.old members.new
+        (next_same_algorithm (seen_algorithm inner.entry)) }
 {
     let value = members.required(SEQUENCE, StatementRule::Layout)?;
-    if value.whole == inner {
+    if value.whole == inner.value.whole {
         Ok(())
     } else {
         Err((StatementRule::Layout, value.at))

@@ -1,8 +1,6 @@
 -- What octets are told to be a response.
-use Rattle.std.proofs.Common.{◌≡◌, ◌+◌, ℕ, Bool, true, false, IsTrue, List, [], ◌∷◌, Result, Ok, Err, refl, sym, ap, ◌∙◌, subst, eq-eqb}
+use Rattle.std.proofs.Common.{◌≡◌, ◌+◌, ℕ, Bool, true, false, List, [], ◌∷◌, refl, sym, ap, ◌∙◌, subst, eq-eqb}
 use Rattle.std.proofs.lemmas.Bool.{and_parts, and_from, eqb-true}
-use Rattle.asn.specs.DerLaws.{AreOctets}
-use Rattle.asn.specs.Rule.{Rule}
 use Rattle.asn.specs.Identifier.{is_constructed}
 use Rattle.asn.specs.Value.{Value, Values, primitive, constructed, none, more}
 use Rattle.asn.specs.Encoding.{EncodesAt, Encodes}
@@ -10,9 +8,8 @@ use Rattle.asn.specs.Length.{header_len}
 use Rattle.asn.specs.Place.{Place, tag}
 use Rattle.asn.specs.Members.{members, begins, begins_in}
 use Rattle.asn.specs.Layout.{AreMembersAt, IsValueAt}
-use Rattle.asn.specs.Judgement.{outermost}
-use Rattle.asn.proofs.Laws.{holds, outermost_ok, outermost_again}
-use Rattle.statements_ocsp.specs.Kind.{begins_with_status, is_response, BeginsWithStatus, KindIsExact}
+use Rattle.asn.proofs.Laws.{holds}
+use Rattle.statements_ocsp.specs.Kind.{is_response, BeginsWithStatus, KindIsExact}
 
 abbrev whole : List ℕ → Place
 whole octets = record { octets = octets; at = 0 }
@@ -55,15 +52,6 @@ of_value octets (constructed identifier (more first rest)) encodes shows constru
     let is : tag found.place ≡ 0x0A = eqb-true (tag found.place) 0x0A (ap (begins_in 0x0A) (sym found.are) ∙ e) in
     of_first octets identifier 2 first rest found.place encodes (holds 2 first found.place found.encodes) is
 
-begins_of : (octets : List ℕ) (r : Result Place (Rule × ℕ)) → AreOctets octets → outermost octets ≡ r → IsTrue (begins_with_status r) → BeginsWithStatus octets
-unfolding begins
-begins_of octets (Err fault) fits e t = absurd cc
-begins_of octets (Ok value) fits e t =
-    let found = outermost_ok octets value fits e in
-    let both = and_parts (is_constructed (tag value)) (begins 0x0A (members value)) t in
-    let encodes : Encodes octets found.1.0 = found.1.1 in
-    of_value octets found.1.0 encodes (holds 1 found.1.0 (whole octets) encodes) (ap (λ (v : Place). is_constructed (tag v)) (sym found.0) ∙ both.0) (ap (λ (v : Place). begins_in 0x0A (members v).values) (sym found.0) ∙ both.1)
-
 begins_again : (octets : List ℕ) → BeginsWithStatus octets → begins 0x0A (members (whole octets)) ≡ true
 unfolding begins
 begins_again octets is =
@@ -73,12 +61,12 @@ begins_again octets is =
     ap (begins_in 0x0A) found.are ∙ eq-eqb (tag found.place) 0x0A first.0
 
 pub kind_is_exact : KindIsExact
-unfolding is_response
-kind_is_exact octets fits = (
-  begins_of octets (outermost octets) fits refl,
+unfolding is_response begins
+kind_is_exact octets value encodes = (
+  λ t.
+      let both = and_parts (is_constructed (tag (whole octets))) (begins 0x0A (members (whole octets))) t in
+      of_value octets value encodes (holds 1 value (whole octets) encodes) both.0 both.1,
   λ is.
-      let value = constructed is.identifier (more (primitive 0x0A is.code) is.others) in
-      let shows = holds 1 value (whole octets) is.encoded in
-      let both = and_from (is_constructed (tag (whole octets))) (begins 0x0A (members (whole octets))) (ap is_constructed shows.0 ∙ shows.1) (begins_again octets is) in
-      ap begins_with_status (outermost_again octets (value, is.encoded)) ∙ both,
+      let shows = holds 1 (constructed is.identifier (more (primitive 0x0A is.code) is.others)) (whole octets) is.encoded in
+      and_from (is_constructed (tag (whole octets))) (begins 0x0A (members (whole octets))) (ap is_constructed shows.0 ∙ shows.1) (begins_again octets is),
 )

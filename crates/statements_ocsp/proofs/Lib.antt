@@ -5,3 +5,4 @@ mod StatusLaws
 mod SingleLaws
 mod ResponseLaws
 mod KindLaws
+pub mod Laws

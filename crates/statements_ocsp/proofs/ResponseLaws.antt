@@ -13,6 +13,8 @@ use Rattle.asn.specs.Judgement.{nested, outermost}
 use Rattle.asn.proofs.Laws.{bind_ok, ok_is, check_ok, check_again, is_a_ok, is_a_again, required_ok, required_again, next_or_ok, next_or_again, ended_ok, ended_again, TakesOptional, optional_is, optional_there, optional_absent, outermost_ok, outermost_again, members_octets, body_octets}
 use Rattle.names.specs.GeneralLayout.{NameContents}
 use Rattle.cert.specs.AlgorithmIdentifier.{AlgorithmIdentifier, algorithm_identifier}
+use Rattle.cert.specs.BitString.{BitString}
+use Rattle.cert.specs.CertificateForms.{IsSignature}
 use Rattle.cert.proofs.Laws.{is_algorithm, algorithm_is}
 use Rattle.statements_parts.specs.Fault.{as_der}
 use Rattle.statements_parts.specs.Parts.{component, next_read, distinguished_name, signature_value}
@@ -23,7 +25,7 @@ use Rattle.statements_ocsp.specs.GeneralizedTime.{generalized_time}
 use Rattle.statements_ocsp.specs.ResponseExtensions.{optional_extensions}
 use Rattle.statements_ocsp.specs.Responder.{Responder, by_name, by_key, named_responder, keyed_responder, responder_at, responder}
 use Rattle.statements_ocsp.specs.Single.{SingleResponse}
-use Rattle.statements_ocsp.specs.OcspResponse.{ResponseData, all_singles, response_data, values_given, certs_of, certs, OcspResponse, Signed, signature_part, response_with, basic_response, contained_response, id_basic, basic_type, response_bytes, explicit_bytes, one_octet, successful, ocsp_response_at, ocsp_response}
+use Rattle.statements_ocsp.specs.OcspResponse.{ResponseData, all_singles, response_data, certs_of, certs, OcspResponse, Signed, signature_part, response_with, basic_response, contained_response, id_basic, basic_type, response_bytes, explicit_bytes, one_octet, successful, ocsp_response_at, ocsp_response}
 use Rattle.statements_ocsp.specs.SingleForms.{IsTagged}
 use Rattle.statements_ocsp.specs.ResponseForms.{IsResponderId, IsResponseData, AreCerts, IsBasicResponse, AreResponseBytes, IsOcspResponseAt, OcspResponseIsExact, OcspResponseIsUnique}
 use Rattle.statements_ocsp.proofs.ListOfExtensions.{extensions_ok, extensions_again}
@@ -154,22 +156,22 @@ data_is value fields is =
     ) refl
 
 -- certs
-record TakesCerts (left : Members) (found : List (List ℕ)) (others : Members) : Type 0 where
+record TakesCerts (left : Members) (found : List Place) (others : Members) : Type 0 where
   tagged : List Place
   values : left.values ≡ tagged ++ others.values
   are : AreCerts tagged found
 
-of_certs : (left : Members) (found : Option Place) (others : Members) (x : List (List ℕ) × Members) → TakesOptional 0xA0 left found others → certs_of found others ≡ Ok x → TakesCerts left x.0 x.1
+of_certs : (left : Members) (found : Option Place) (others : Members) (x : List Place × Members) → TakesOptional 0xA0 left found others → certs_of found others ≡ Ok x → TakesCerts left x.0 x.1
 of_certs left None others x took e =
-    let P : List (List ℕ) × Members → Type 0 = λ y. TakesCerts left y.0 y.1 in
+    let P : List Place × Members → Type 0 = λ y. TakesCerts left y.0 y.1 in
     subst P (ok_is {E = StatementRule × ℕ} ([], others) x e)
     record { tagged = []; values = sym (ap (λ (m : Members). m.values) took.0); are = refl }
 of_certs left (Some explicit) others x took e =
     let list = bind_ok {A = Place × Members} (required 0x30 Layout (members explicit)) _ x e in
     let one = bind_ok {A = Unit {0}} (ended Layout list.0.1) _ x list.2 in
     let inner = required_ok _ _ _ _ list.1 in
-    let P : List (List ℕ) × Members → Type 0 = λ y. TakesCerts left y.0 y.1 in
-    subst P (ok_is {E = StatementRule × ℕ} (values_given (members list.0.0).values, others) x one.2) record {
+    let P : List Place × Members → Type 0 = λ y. TakesCerts left y.0 y.1 in
+    subst P (ok_is {E = StatementRule × ℕ} ((members list.0.0).values, others) x one.2) record {
       tagged = explicit ∷ [];
       values = took.values;
       are = (
@@ -180,7 +182,7 @@ of_certs left (Some explicit) others x took e =
       );
     }
 
-certs_ok : (left : Members) (x : List (List ℕ) × Members) → certs left ≡ Ok x → TakesCerts left x.0 x.1
+certs_ok : (left : Members) (x : List Place × Members) → certs left ≡ Ok x → TakesCerts left x.0 x.1
 unfolding certs
 certs_ok left x e = of_certs left (optional 0xA0 left).0 (optional 0xA0 left).1 x (optional_is 0xA0 left) e
 
@@ -188,7 +190,7 @@ begins_none : (identifier : ℕ) (left : Members) → left.values ≡ [] → beg
 unfolding begins
 begins_none identifier left none = rw none refl
 
-certs_again : (left : Members) (tagged : List Place) (found : List (List ℕ)) → left.values ≡ tagged → AreCerts tagged found → (x : Members) × (certs left ≡ Ok (found, x)) × (x.values ≡ [])
+certs_again : (left : Members) (tagged : List Place) (found : List Place) → left.values ≡ tagged → AreCerts tagged found → (x : Members) × (certs left ≡ Ok (found, x)) × (x.values ≡ [])
 unfolding certs
 certs_again left [] found e are = (left, rw (optional_absent 0xA0 left (begins_none 0xA0 left e), are) refl, e)
 certs_again left (explicit ∷ []) found e (list, is_tagged, sequence, are) = (
@@ -206,37 +208,34 @@ certs_again left (explicit ∷ other ∷ tagged) found e are = absurd are
 -- what stands behind the signed part
 record TakesSigned (left : Members) (found : Signed) : Type 0 where
   algorithm : Place
-  signature : Place
   tagged : List Place
-  identifier : AlgorithmIdentifier
-  values : left.values ≡ algorithm ∷ signature ∷ tagged
-  algorithm_octets : found.algorithm ≡ identifier.value.octets
-  algorithm_is : algorithm_identifier Layout algorithm ≡ Ok identifier
-  bit_string : tag signature ≡ 0x03
-  signature_is : signature_value signature ≡ Ok found.signature
+  values : left.values ≡ algorithm ∷ found.signature.value ∷ tagged
+  algorithm_is : algorithm_identifier Layout algorithm ≡ Ok found.algorithm
+  signature_is : IsSignature found.signature.value found.signature.octets
   certs_are : AreCerts tagged found.certs
+
+abbrev signed_from : AlgorithmIdentifier → BitString → List Place → Signed
+signed_from algorithm signature certs = record { algorithm = algorithm; signature = signature; certs = certs }
 
 signed_ok : (left : Members) (found : Signed) → signature_part left ≡ Ok found → TakesSigned left found
 unfolding signature_part
 signed_ok left found e =
     let algorithm = bind_ok {A = AlgorithmIdentifier × Members} (next_read (algorithm_identifier Layout) left) _ found e in
-    let signature = bind_ok {A = List ℕ × Members} (component 0x03 signature_value algorithm.0.1) _ found algorithm.2 in
-    let given = bind_ok {A = List (List ℕ) × Members} (certs signature.0.1) _ found signature.2 in
+    let signature = bind_ok {A = BitString × Members} (component 0x03 signature_value algorithm.0.1) _ found algorithm.2 in
+    let given = bind_ok {A = List Place × Members} (certs signature.0.1) _ found signature.2 in
     let done = bind_ok {A = Unit {0}} (ended Layout given.0.1) _ found given.2 in
     let first = next_read_ok (algorithm_identifier Layout) left algorithm.0 algorithm.1 in
     let second = component_ok 0x03 signature_value algorithm.0.1 signature.0 signature.1 in
     let third = certs_ok signature.0.1 given.0 given.1 in
     let behind = at_the_end signature.0.1.values third.tagged given.0.1.values third.values (ended_ok _ _ _ done.1) in
-    subst (TakesSigned left) (ok_is {E = StatementRule × ℕ} _ found done.2) record {
+    let read = signature_ok second.value signature.0.0 second.took.tag_is second.read_is in
+    let values = first.took.values ∙ ap (◌∷◌ first.value) (last_in_order algorithm.0.1.values signature.0.1.values third.tagged second.value second.took.values behind) in
+    subst (TakesSigned left) (ok_is {E = StatementRule × ℕ} (signed_from algorithm.0.0 signature.0.0 given.0.0) found done.2) record {
       algorithm = first.value;
-      signature = second.value;
       tagged = third.tagged;
-      identifier = algorithm.0.0;
-      values = first.took.values ∙ ap (◌∷◌ first.value) (last_in_order algorithm.0.1.values signature.0.1.values third.tagged second.value second.took.values behind);
-      algorithm_octets = refl;
+      values = values ∙ ap (λ (v : Place). first.value ∷ v ∷ third.tagged) read.0;
       algorithm_is = first.read_is;
-      bit_string = second.took.tag_is;
-      signature_is = second.read_is;
+      signature_is = read.1;
       certs_are = third.are;
     }
 
@@ -250,36 +249,30 @@ is_basic value fields e =
     let behind = bind_ok {A = Signed} (signature_part signed.0.1) _ fields tbs.2 in
     let first = next_or_ok _ _ _ signed.1 in
     let second = signed_ok signed.0.1 behind.0 behind.1 in
-    let algorithm = is_algorithm Layout second.algorithm second.identifier second.algorithm_is in
     let found = response_with signed.0.0 tbs.0 behind.0 in
     subst (IsBasicResponse value) {x = found} (ok_is {E = StatementRule × ℕ} found fields behind.2) record {
       signed = signed.0.0;
       algorithm = second.algorithm;
-      signature = second.signature;
       certs = second.tagged;
       tbs = tbs.0;
-      identifier = second.identifier;
+      behind = behind.0;
       sequence = is_a_ok _ _ _ _ sequence.1;
       members_are = first.values ∙ ap (◌∷◌ signed.0.0) second.values;
       signed_is = is_data signed.0.0 tbs.0 tbs.1;
-      algorithm_is = algorithm;
-      signature_is = signature_ok second.signature behind.0.signature second.bit_string second.signature_is;
+      algorithm_is = is_algorithm Layout second.algorithm behind.0.algorithm second.algorithm_is;
+      signature_is = second.signature_is;
       certs_are = second.certs_are;
-      tbs_are = refl;
-      algorithm_octets = second.algorithm_octets ∙ ap (λ (p : Place). p.octets) algorithm.whole;
-      responder = refl;
-      produced_at = refl;
-      responses = refl;
+      fields_are = refl;
     }
 
-signed_again : (value : Place) (fields : OcspResponse) (left : Members) → (is : IsBasicResponse value fields) → left.values ≡ is.algorithm ∷ is.signature ∷ is.certs → signature_part left ≡ Ok (record { algorithm = is.identifier.value.octets; signature = fields.signature; certs = fields.certs })
+signed_again : (value : Place) (fields : OcspResponse) (left : Members) → (is : IsBasicResponse value fields) → left.values ≡ is.algorithm ∷ is.behind.signature.value ∷ is.certs → signature_part left ≡ Ok is.behind
 unfolding signature_part
 signed_again value fields left is e =
     let next : List Place → Members = λ values. record { values = values; end = left.end } in
-    let given = certs_again (next is.certs) is.certs fields.certs refl is.certs_are in
+    let given = certs_again (next is.certs) is.certs is.behind.certs refl is.certs_are in
     rw (
-      next_read_again (algorithm_identifier Layout) left is.algorithm (is.signature ∷ is.certs) is.identifier e (algorithm_is Layout is.algorithm is.identifier is.algorithm_is),
-      component_again 0x03 signature_value (next (is.signature ∷ is.certs)) is.signature is.certs fields.signature refl is.signature_is.bit_string (signature_again is.signature fields.signature is.signature_is),
+      next_read_again (algorithm_identifier Layout) left is.algorithm (is.behind.signature.value ∷ is.certs) is.behind.algorithm e (algorithm_is Layout is.algorithm is.behind.algorithm is.algorithm_is),
+      component_again 0x03 signature_value (next (is.behind.signature.value ∷ is.certs)) is.behind.signature.value is.certs is.behind.signature refl is.signature_is.bit_string (signature_again is.behind.signature is.signature_is),
       given.1,
       ended_again Layout given.0 given.2,
     ) refl
@@ -287,18 +280,13 @@ signed_again value fields left is e =
 basic_is : (value : Place) (fields : OcspResponse) → IsBasicResponse value fields → basic_response value ≡ Ok fields
 unfolding basic_response
 basic_is value fields is =
-    let behind : Members = record { values = is.algorithm ∷ is.signature ∷ is.certs; end = (members value).end } in
-    let algorithm : fields.algorithm ≡ is.identifier.value.octets = is.algorithm_octets ∙ sym (ap (λ (p : Place). p.octets) is.algorithm_is.whole) in
+    let behind : Members = record { values = is.algorithm ∷ is.behind.signature.value ∷ is.certs; end = (members value).end } in
     rw (
       is_a_again 0x30 Layout value is.sequence,
       next_or_again Layout (members value) is.signed behind.values is.members_are,
       data_is is.signed is.tbs is.signed_is,
       signed_again value fields behind is refl,
-      ← is.tbs_are,
-      ← algorithm,
-      ← is.responder,
-      ← is.produced_at,
-      ← is.responses,
+      is.fields_are,
     ) refl
 
 -- the bytes

@@ -11,4 +11,4 @@ pub mod SingleForms
 pub mod ResponseForms
 pub use Rattle.statements_parts.specs.Fault
 pub use Rattle.statements_parts.specs.declared.fault.StatementRule
-pub use Rattle.statements_parts.specs.declared.fault.StatementFault
+pub use Rattle.statements_parts.specs.declared.fault.ReadingFault

@@ -1,12 +1,13 @@
 -- Responses of the Online Certificate Status Protocol (RFC 6960, 4.2.1).
-use Rattle.std.specs.Prelude.{ℕ, ℤ, ◌==◌, List, [], ◌∷◌, map, Option, Some, None, Result, Ok}
+use Rattle.std.specs.Prelude.{ℕ, ℤ, ◌==◌, List, [], ◌∷◌, Option, Some, None, Result, Ok}
 use Rattle.std.specs.Str.{bytes_eq}
-use Rattle.asn.specs.Place.{Place, body}
+use Rattle.asn.specs.Place.{Place, body, seen_tlv}
 use Rattle.asn.specs.Members.{Members, members, left}
 use Rattle.asn.specs.declared.tlv.Cursor.{Cursor}
 use Rattle.asn.specs.Walk.{◌>>=◌, is_a, required, optional, next_or, or_fault, ended, check_that}
 use Rattle.asn.specs.Judgement.{outermost, nested}
-use Rattle.cert.specs.AlgorithmIdentifier.{algorithm_identifier}
+use Rattle.cert.specs.AlgorithmIdentifier.{AlgorithmIdentifier, algorithm_identifier, seen_algorithm}
+use Rattle.cert.specs.BitString.{BitString, seen_bit_string}
 use Rattle.statements_parts.specs.Fault.{as_der}
 use Rattle.statements_parts.specs.Parts.{component, next_read, signature_value}
 use Rattle.statements_parts.specs.declared.fault.StatementRule.{StatementRule}
@@ -51,43 +52,39 @@ response_data value = do
   Ok (record { responder = responder.0; produced_at = produced_at.0; responses = responses.0 })
 
 -- certs [0] EXPLICIT SEQUENCE OF Certificate OPTIONAL: the values, whatever they are
-abbrev pub values_given : List Place → List (List ℕ)
-values_given values = map (λ value. value.octets) values
-
-abbrev pub certs_of : Option Place → Members → Result (List (List ℕ) × Members) (StatementRule × ℕ)
+abbrev pub certs_of : Option Place → Members → Result (List Place × Members) (StatementRule × ℕ)
 certs_of None left = Ok ([], left)
 certs_of (Some explicit) left = do
   list ← required 0x30 Layout (members explicit)
   one ← ended Layout list.1
-  Ok (values_given (members list.0).values, left)
+  Ok ((members list.0).values, left)
 
-unfoldable pub certs : Members → Result (List (List ℕ) × Members) (StatementRule × ℕ)
+unfoldable pub certs : Members → Result (List Place × Members) (StatementRule × ℕ)
 certs left = certs_of (optional 0xA0 left).0 (optional 0xA0 left).1
 
 -- the values that are still to be handed out
-abbrev pub certs_in : Option Cursor → List (List ℕ)
+abbrev pub certs_in : Option Cursor → List Place
 certs_in None = []
-certs_in (Some cursor) = values_given (left cursor).values
+certs_in (Some cursor) = (left cursor).values
 
-abbrev pub certs_left : walk.Certs → List (List ℕ)
+abbrev pub certs_left : walk.Certs → List Place
 certs_left walk = certs_in walk.members
 
--- The fields of a response: the whole encodings of the signed part and of the algorithm identifier, the octets of the signature, and
--- the whole encodings of the values in certs.
+-- The fields of a response.
 pub record OcspResponse : Type 0 where
-  pub tbs : List ℕ
-  pub algorithm : List ℕ
-  pub signature : List ℕ
+  pub tbs : Place
+  pub algorithm : AlgorithmIdentifier
+  pub signature : BitString
   pub responder : Responder
   pub produced_at : ℤ
   pub responses : List SingleResponse
-  pub certs : List (List ℕ)
+  pub certs : List Place
 
 abbrev pub seen_response : code.Response → OcspResponse
 seen_response read = record {
-  tbs = read.tbs.now;
-  algorithm = read.algorithm.now;
-  signature = read.signature.now;
+  tbs = seen_tlv read.tbs;
+  algorithm = seen_algorithm read.algorithm;
+  signature = seen_bit_string read.signature;
   responder = seen_responder read.responder;
   produced_at = read.produced_at;
   responses = singles_left read.responses;
@@ -97,12 +94,12 @@ seen_response read = record {
 -- BasicOCSPResponse ::= SEQUENCE { tbsResponseData ResponseData, signatureAlgorithm AlgorithmIdentifier, signature BIT STRING, certs [0]
 -- EXPLICIT SEQUENCE OF Certificate OPTIONAL }: what stands behind the signed part,
 pub record Signed : Type 0 where
-  pub algorithm : List ℕ
-  pub signature : List ℕ
-  pub certs : List (List ℕ)
+  pub algorithm : AlgorithmIdentifier
+  pub signature : BitString
+  pub certs : List Place
 
 abbrev pub seen_signed : behind.Signed → Signed
-seen_signed read = record { algorithm = read.algorithm.now; signature = read.signature.now; certs = certs_left read.certs }
+seen_signed read = record { algorithm = seen_algorithm read.algorithm; signature = seen_bit_string read.signature; certs = certs_left read.certs }
 
 unfoldable pub signature_part : Members → Result Signed (StatementRule × ℕ)
 signature_part left = do
@@ -110,12 +107,12 @@ signature_part left = do
   signature ← component 0x03 signature_value algorithm.1
   certs ← certs signature.1
   done ← ended Layout certs.1
-  Ok (record { algorithm = algorithm.0.value.octets; signature = signature.0; certs = certs.0 })
+  Ok (record { algorithm = algorithm.0; signature = signature.0; certs = certs.0 })
 
 -- and the whole.
 abbrev pub response_with : Place → ResponseData → Signed → OcspResponse
 response_with signed tbs behind = record {
-  tbs = signed.octets;
+  tbs = signed;
   algorithm = behind.algorithm;
   signature = behind.signature;
   responder = tbs.responder;

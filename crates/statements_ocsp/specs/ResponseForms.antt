@@ -1,16 +1,16 @@
 -- Responses by their layout, in the words of the standard (RFC 6960, 4.2.1).
-use Rattle.std.specs.Prelude.{◌≡◌, ◌↔◌, ◌≤◌, ℕ, List, [], ◌∷◌, length, map, Ok}
+use Rattle.std.specs.Prelude.{◌≡◌, ◌↔◌, ◌≤◌, ℕ, List, [], ◌∷◌, length, Ok}
 use Rattle.std.specs.List.{AllZip}
 use Rattle.asn.specs.Value.{Value}
 use Rattle.asn.specs.Encoding.{Encodes}
 use Rattle.asn.specs.DerLaws.{AreOctets}
 use Rattle.asn.specs.Place.{Place, tag, body, body_place}
 use Rattle.asn.specs.Members.{members}
-use Rattle.cert.specs.AlgorithmIdentifier.{AlgorithmIdentifier, IsAlgorithmIdentifier}
+use Rattle.cert.specs.AlgorithmIdentifier.{IsAlgorithmIdentifier}
 use Rattle.cert.specs.CertificateForms.{IsNameOf, IsSignature}
 use Rattle.statements_ocsp.specs.Responder.{Responder, by_name, by_key}
 use Rattle.statements_ocsp.specs.SingleForms.{IsTagged, IsGeneralizedTimeAt, IsSingleResponse, AreOptionalExtensions}
-use Rattle.statements_ocsp.specs.OcspResponse.{OcspResponse, ResponseData, ocsp_response}
+use Rattle.statements_ocsp.specs.OcspResponse.{OcspResponse, ResponseData, Signed, ocsp_response, response_with}
 
 -- ResponderID ::= CHOICE { byName [1] EXPLICIT Name, byKey [2] EXPLICIT KeyHash }, KeyHash ::= OCTET STRING
 abbrev pub IsResponderId : Place → Responder → Type 0
@@ -33,33 +33,27 @@ pub record IsResponseData (value : Place) (fields : ResponseData) : Type 0 where
   pub few : length fields.responses ≤ 256
   pub extensions_are : AreOptionalExtensions extensions
 
--- certs [0] EXPLICIT SEQUENCE OF Certificate OPTIONAL: the encodings of the values, whatever they are
-abbrev pub AreCerts : List Place → List (List ℕ) → Type 0
+-- certs [0] EXPLICIT SEQUENCE OF Certificate OPTIONAL: the values, whatever they are
+abbrev pub AreCerts : List Place → List Place → Type 0
 AreCerts [] certs = certs ≡ []
 AreCerts (value ∷ []) certs =
-    (list : Place) × IsTagged 0xA0 value list × (tag list ≡ 0x30) × (certs ≡ map (λ one. one.octets) (members list).values)
+    (list : Place) × IsTagged 0xA0 value list × (tag list ≡ 0x30) × (certs ≡ (members list).values)
 AreCerts (value ∷ other ∷ values) certs = ⊥
 
 -- BasicOCSPResponse ::= SEQUENCE { tbsResponseData, signatureAlgorithm, signature, certs }
 pub record IsBasicResponse (value : Place) (fields : OcspResponse) : Type 0 where
   pub signed : Place
   pub algorithm : Place
-  pub signature : Place
   pub certs : List Place
   pub tbs : ResponseData
-  pub identifier : AlgorithmIdentifier
+  pub behind : Signed
   pub sequence : tag value ≡ 0x30
-  pub members_are : (members value).values ≡ signed ∷ algorithm ∷ signature ∷ certs
+  pub members_are : (members value).values ≡ signed ∷ algorithm ∷ behind.signature.value ∷ certs
   pub signed_is : IsResponseData signed tbs
-  pub algorithm_is : IsAlgorithmIdentifier algorithm identifier
-  pub signature_is : IsSignature signature fields.signature
-  pub certs_are : AreCerts certs fields.certs
-  -- the fields, of which the first two are whole encodings
-  pub tbs_are : fields.tbs ≡ signed.octets
-  pub algorithm_octets : fields.algorithm ≡ algorithm.octets
-  pub responder : fields.responder ≡ tbs.responder
-  pub produced_at : fields.produced_at ≡ tbs.produced_at
-  pub responses : fields.responses ≡ tbs.responses
+  pub algorithm_is : IsAlgorithmIdentifier algorithm behind.algorithm
+  pub signature_is : IsSignature behind.signature.value behind.signature.octets
+  pub certs_are : AreCerts certs behind.certs
+  pub fields_are : fields ≡ response_with signed tbs behind
 
 -- ResponseBytes ::= SEQUENCE { responseType OBJECT IDENTIFIER, response OCTET STRING }; id-pkix-ocsp-basic is 1.3.6.1.5.5.7.48.1.1, and
 -- its OCTET STRING holds DER of its own, where nesting is counted anew

@@ -2,11 +2,12 @@
 
 ghost use Rattle.std.specs.Prelude.{IfOk, OnErr};
 ghost use Rattle.statements_parts.specs.Steps.{HandsOutFirst};
+ghost use Rattle.asn.specs.Reading.{seen_tlv};
 ghost use Rattle.asn.specs.Walk.{StepGives};
 ghost use Rattle.statements_ocsp.specs.Certificates.{HandsOut, PassesTo, StopsAtValue};
 ghost use Rattle.statements_ocsp.specs.OcspResponse.{certs, certs_left};
 
-use asn::{Cursor, SEQUENCE};
+use asn::{Cursor, SEQUENCE, Tlv};
 use cert::{CertFault, Certificate};
 use statements_parts::{Refusal, StatementRule};
 use std::alloc::{AllocError, Global};
@@ -19,12 +20,11 @@ pub struct Certs<'a> {
 }
 
 impl<'a> Certs<'a> {
-    /// Takes the whole encoding of the next value; `None` if none is left. No memory is taken.
-    pub fn next(&mut self) -> Option<&'a [u8]>
-        ensures { HandsOutFirst (λ x. x.now) (certs_left self.old) (certs_left self.new) result }
+    /// Takes the next value; `None` if none is left. No memory is taken.
+    pub fn next(&mut self) -> Option<Tlv<'a>>
+        ensures { HandsOutFirst seen_tlv (certs_left self.old) (certs_left self.new) result }
     {
-        let value = self.members.as_mut()?.next()?;
-        Some(value.whole)
+        self.members.as_mut()?.next()
     }
 
     /// Takes the next value that is a certificate, and passes over others; `None` if none is left. If there is no memory to read a value,
@@ -36,7 +36,7 @@ impl<'a> Certs<'a> {
     {
         let mut behind = *self;
         while let Some(value) = behind.next() {
-            match Certificate::read(alloc, value) {
+            match Certificate::at(alloc, value) {
                 Ok(certificate) => {
                     *self = behind;
                     return Ok(Some(certificate));

@@ -24,4 +24,4 @@ pub use responder::ResponderId;
 pub use response::Response;
 pub use single::SingleResponse;
 pub use single_list::{MOST_SINGLES, Singles};
-pub use statements_parts::{Refusal, StatementFault, StatementRule};
+pub use statements_parts::{ReadingFault, Refusal, StatementRule};

@@ -13,20 +13,21 @@ use crate::responder::ResponderId;
 use crate::response_extensions::skip_extensions;
 use crate::single_list::{Singles, take_singles};
 use asn::{Cursor, ENUMERATED, OBJECT_IDENTIFIER, OCTET_STRING, SEQUENCE, Tlv};
+use cert::{AlgorithmIdentifier, BitString};
 use statements_parts::{
-    Refusal, StatementFault, StatementRule, outermost, take_algorithm, take_signature,
+    ReadingFault, Refusal, StatementRule, outermost, take_algorithm, take_signature,
 };
 use std::alloc::Global;
 
 /// A successful response of the type id-pkix-ocsp-basic that was read. Its parts borrow the octets.
 #[derive(Clone, Copy)]
 pub struct Response<'a> {
-    /// tbsResponseData: the whole encoding of the signed part.
-    pub tbs: &'a [u8],
-    /// The whole algorithm identifier of the signature.
-    pub algorithm: &'a [u8],
-    /// The octets of the signature.
-    pub signature: &'a [u8],
+    /// tbsResponseData: the signed part.
+    pub tbs: Tlv<'a>,
+    /// The algorithm of the signature.
+    pub algorithm: AlgorithmIdentifier<'a>,
+    /// The signature, in which no bit is unused.
+    pub signature: BitString<'a>,
     pub responder: ResponderId<'a>,
     /// In seconds from 1970-01-01T00:00:00Z.
     pub produced_at: i64,
@@ -48,7 +49,7 @@ impl<'a> ResponseData<'a> {
     /// ResponseData ::= SEQUENCE { version [0] EXPLICIT Version DEFAULT v1, responderID ResponderID, producedAt GeneralizedTime,
     /// responses SEQUENCE OF SingleResponse, responseExtensions [1] EXPLICIT Extensions OPTIONAL }, where DER leaves v1 out
     #[tactic(auto, unfolding(crate::specs::OcspResponse::response_data))]
-    fn read(alloc: Global, value: Tlv<'a>) -> Result<ResponseData<'a>, StatementFault>
+    fn read(alloc: Global, value: Tlv<'a>) -> Result<ResponseData<'a>, ReadingFault>
         ensures { GivesUnlessFull seen_data result (response_data (seen_tlv value.entry)) }
     {
         value.is_a(SEQUENCE, StatementRule::Layout)?;
@@ -69,8 +70,8 @@ impl<'a> ResponseData<'a> {
 /// What stands behind the signed part.
 #[derive(Clone, Copy)]
 pub(crate) struct Signed<'a> {
-    algorithm: &'a [u8],
-    signature: &'a [u8],
+    algorithm: AlgorithmIdentifier<'a>,
+    signature: BitString<'a>,
     certs: Certs<'a>,
 }
 
@@ -86,7 +87,7 @@ impl<'a> Signed<'a> {
         let certs = Certs::take(&mut members)?;
         members.ended(StatementRule::Layout)?;
         Ok(Signed {
-            algorithm: algorithm.value.whole,
+            algorithm,
             signature,
             certs,
         })
@@ -96,7 +97,7 @@ impl<'a> Signed<'a> {
 /// BasicOCSPResponse ::= SEQUENCE { tbsResponseData ResponseData, signatureAlgorithm AlgorithmIdentifier, signature BIT STRING, certs
 /// [0] EXPLICIT SEQUENCE OF Certificate OPTIONAL }
 #[tactic(auto, unfolding(crate::specs::OcspResponse::basic_response))]
-fn read_basic<'a>(alloc: Global, value: Tlv<'a>) -> Result<Response<'a>, StatementFault>
+fn read_basic<'a>(alloc: Global, value: Tlv<'a>) -> Result<Response<'a>, ReadingFault>
     ensures { GivesUnlessFull seen_response result (basic_response (seen_tlv value.entry)) }
 {
     value.is_a(SEQUENCE, StatementRule::Layout)?;
@@ -105,7 +106,7 @@ fn read_basic<'a>(alloc: Global, value: Tlv<'a>) -> Result<Response<'a>, Stateme
     let data = ResponseData::read(alloc, tbs)?;
     let signed = Signed::read(members)?;
     Ok(Response {
-        tbs: tbs.whole,
+        tbs,
         algorithm: signed.algorithm,
         signature: signed.signature,
         responder: data.responder,
@@ -127,10 +128,7 @@ fn contained_value(octet_string: Tlv<'_>) -> Result<Tlv<'_>, Refusal>
 
 /// response OCTET STRING, which holds a BasicOCSPResponse
 #[tactic(auto, unfolding(crate::specs::OcspResponse::contained_response, statements_parts::specs::Parts::component))]
-fn take_contained<'a>(
-    alloc: Global,
-    members: &mut Cursor<'a>,
-) -> Result<Response<'a>, StatementFault>
+fn take_contained<'a>(alloc: Global, members: &mut Cursor<'a>) -> Result<Response<'a>, ReadingFault>
     ensures { StepGivesUnlessFull seen_response result members.old members.new next_contained }
 {
     let octet_string = members.required(OCTET_STRING, StatementRule::Layout)?;
@@ -155,7 +153,7 @@ fn take_type(members: &mut Cursor<'_>) -> Result<(), Refusal>
 
 /// ResponseBytes ::= SEQUENCE { responseType OBJECT IDENTIFIER, response OCTET STRING }
 #[tactic(auto, unfolding(crate::specs::OcspResponse::response_bytes))]
-fn read_bytes<'a>(alloc: Global, value: Tlv<'a>) -> Result<Response<'a>, StatementFault>
+fn read_bytes<'a>(alloc: Global, value: Tlv<'a>) -> Result<Response<'a>, ReadingFault>
     ensures { GivesUnlessFull seen_response result (response_bytes (seen_tlv value.entry)) }
 {
     value.is_a(SEQUENCE, StatementRule::Layout)?;
@@ -168,7 +166,7 @@ fn read_bytes<'a>(alloc: Global, value: Tlv<'a>) -> Result<Response<'a>, Stateme
 
 /// [0] EXPLICIT ResponseBytes
 #[tactic(auto, unfolding(crate::specs::OcspResponse::explicit_bytes, statements_parts::specs::Parts::next_read))]
-fn read_explicit<'a>(alloc: Global, value: Tlv<'a>) -> Result<Response<'a>, StatementFault>
+fn read_explicit<'a>(alloc: Global, value: Tlv<'a>) -> Result<Response<'a>, ReadingFault>
     ensures { GivesUnlessFull seen_response result (explicit_bytes (seen_tlv value.entry)) }
 {
     value.is_a(0xA0, StatementRule::Layout)?;
@@ -191,30 +189,33 @@ fn check_status(value: Tlv<'_>) -> Result<(), Refusal>
     }
 }
 
-/// OCSPResponse ::= SEQUENCE { responseStatus OCSPResponseStatus, responseBytes [0] EXPLICIT ResponseBytes OPTIONAL }, where a
-/// successful response has responseBytes
-#[tactic(auto, unfolding(crate::specs::OcspResponse::ocsp_response_at, statements_parts::specs::Parts::component, statements_parts::specs::Parts::next_read))]
-fn read_response<'a>(alloc: Global, value: Tlv<'a>) -> Result<Response<'a>, StatementFault>
-    ensures { GivesUnlessFull seen_response result (ocsp_response_at (seen_tlv value.entry)) }
-{
-    value.is_a(SEQUENCE, StatementRule::Layout)?;
-    let mut members = value.members();
-    let status = members.required(ENUMERATED, StatementRule::Layout)?;
-    check_status(status)?;
-    let explicit = members.next_or(StatementRule::Layout)?;
-    let response = read_explicit(alloc, explicit)?;
-    members.ended(StatementRule::Layout)?;
-    Ok(response)
-}
-
 impl<'a> Response<'a> {
     /// Reads a response from DER (RFC 6960, 4.2.1), or answers the first fault: the rule that is broken, and the offset of the value that
     /// breaks it. Fields are parts of the octets. Time is linear in the octets; a list of more than 16 extensions takes memory for their
     /// types, and n log n time.
     #[tactic(auto, unfolding(crate::specs::OcspResponse::ocsp_response))]
-    pub fn read(alloc: Global, octets: &'a [u8]) -> Result<Response<'a>, StatementFault>
+    pub fn read(alloc: Global, octets: &'a [u8]) -> Result<Response<'a>, ReadingFault>
         ensures { GivesUnlessFull seen_response result (ocsp_response octets.now) }
     {
-        read_response(alloc, outermost(octets)?)
+        let value = outermost(octets)?;
+        Response::at(alloc, value)
+    }
+
+    /// OCSPResponse ::= SEQUENCE { responseStatus OCSPResponseStatus, responseBytes [0] EXPLICIT ResponseBytes OPTIONAL }, where a
+    /// successful response has responseBytes
+    ///
+    /// As `read`, of a value in the text handed to `asn::whole`, with offsets in that text.
+    #[tactic(auto, unfolding(crate::specs::OcspResponse::ocsp_response_at, statements_parts::specs::Parts::component, statements_parts::specs::Parts::next_read))]
+    pub fn at(alloc: Global, value: Tlv<'a>) -> Result<Response<'a>, ReadingFault>
+        ensures { GivesUnlessFull seen_response result (ocsp_response_at (seen_tlv value.entry)) }
+    {
+        value.is_a(SEQUENCE, StatementRule::Layout)?;
+        let mut members = value.members();
+        let status = members.required(ENUMERATED, StatementRule::Layout)?;
+        check_status(status)?;
+        let explicit = members.next_or(StatementRule::Layout)?;
+        let response = read_explicit(alloc, explicit)?;
+        members.ended(StatementRule::Layout)?;
+        Ok(response)
     }
 }

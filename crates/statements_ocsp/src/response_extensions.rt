@@ -9,23 +9,23 @@ ghost use Rattle.statements_ocsp.specs.ResponseExtensions.{all_extensions, exten
 
 use asn::{Cursor, SEQUENCE, Tlv};
 use cert::OidSet;
-use statements_parts::{StatementFault, StatementRule, new_extension};
+use statements_parts::{ReadingFault, StatementRule, new_extension};
 use std::alloc::Global;
 
 /// Checks one more extension, which must be of a type that none of the earlier ones has, and not critical.
 #[tactic(auto, unfolding(crate::specs::ResponseExtensions::one_extension, asn::specs::Walk::check_that))]
-fn check_extension<'a>(types: &mut OidSet<'a>, value: Tlv<'a>) -> Result<(), StatementFault>
+fn check_extension<'a>(types: &mut OidSet<'a>, value: Tlv<'a>) -> Result<(), ReadingFault>
     ensures { TakesUnlessFull oids_in types.old types.new value.entry result one_extension }
 {
     let extension = new_extension(types, value)?;
     if extension.critical {
-        return Err(StatementFault::Refused(StatementRule::CriticalUnknown, value.at));
+        return Err(ReadingFault::Refused(StatementRule::CriticalUnknown, value.at));
     }
     Ok(())
 }
 
 /// Checks the extensions that the values are, and gives their types.
-fn check_all<'a>(alloc: Global, members: Cursor<'a>) -> Result<OidSet<'a>, StatementFault>
+fn check_all<'a>(alloc: Global, members: Cursor<'a>) -> Result<OidSet<'a>, ReadingFault>
     ensures { GivesUnlessFull oids_in result (all_extensions (left members.entry)) }
 {
     let mut members = members;
@@ -38,7 +38,7 @@ fn check_all<'a>(alloc: Global, members: Cursor<'a>) -> Result<OidSet<'a>, State
 
 /// Extensions ::= SEQUENCE SIZE (1..MAX) OF Extension
 #[tactic(auto, unfolding(crate::specs::ResponseExtensions::extensions))]
-fn check_list(alloc: Global, list: Tlv<'_>) -> Result<(), StatementFault>
+fn check_list(alloc: Global, list: Tlv<'_>) -> Result<(), ReadingFault>
     ensures { GivesUnlessFull (λ _. tt) result (extensions (seen_tlv list.entry)) }
 {
     list.is_a(SEQUENCE, StatementRule::Layout)?;
@@ -51,7 +51,7 @@ fn check_list(alloc: Global, list: Tlv<'_>) -> Result<(), StatementFault>
 /// Passes over extensions [1] EXPLICIT Extensions OPTIONAL, once they are checked. Memory is taken for their types if there are
 /// more than 16.
 #[tactic(auto, unfolding(crate::specs::ResponseExtensions::optional_extensions))]
-pub(crate) fn skip_extensions(alloc: Global, members: &mut Cursor<'_>) -> Result<(), StatementFault>
+pub(crate) fn skip_extensions(alloc: Global, members: &mut Cursor<'_>) -> Result<(), ReadingFault>
     ensures { PassesUnlessFull members.old members.new result optional_extensions }
 {
     let Some(explicit) = members.optional(0xA1) else {

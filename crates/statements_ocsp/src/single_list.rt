@@ -11,7 +11,7 @@ ghost use Rattle.statements_ocsp.specs.Single.{checked, seen_single_response, si
 
 use crate::single::SingleResponse;
 use asn::{Cursor, SEQUENCE, Tlv};
-use statements_parts::{Refusal, StatementFault, StatementRule};
+use statements_parts::{ReadingFault, Refusal, StatementRule};
 use std::alloc::Global;
 
 /// The most single responses of a response.
@@ -56,7 +56,7 @@ fn read_after<'a>(
     alloc: Global,
     before: usize,
     value: Tlv<'a>,
-) -> Result<SingleResponse<'a>, StatementFault>
+) -> Result<SingleResponse<'a>, ReadingFault>
     ensures walk { GivesUnlessFull seen_single_response result
         (single_after before (seen_tlv value.entry)) }
     ensures room { OnOk result (before < 256) }
@@ -67,7 +67,7 @@ fn read_after<'a>(
 }
 
 /// The first fault of the single responses that the values are.
-fn check_singles(alloc: Global, members: Cursor<'_>) -> Result<(), StatementFault>
+fn check_singles(alloc: Global, members: Cursor<'_>) -> Result<(), ReadingFault>
     ensures { GivesUnlessFull (λ _. tt) result (checked (singles 0 (left members.entry).values)) }
 {
     let mut members = members;
@@ -84,7 +84,7 @@ fn check_singles(alloc: Global, members: Cursor<'_>) -> Result<(), StatementFaul
 pub(crate) fn take_singles<'a>(
     alloc: Global,
     members: &mut Cursor<'a>,
-) -> Result<Singles<'a>, StatementFault>
+) -> Result<Singles<'a>, ReadingFault>
     ensures { StepGivesUnlessFull singles_left result members.old members.new next_singles }
 {
     let list = members.required(SEQUENCE, StatementRule::Layout)?;

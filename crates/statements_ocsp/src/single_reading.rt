@@ -13,7 +13,7 @@ use crate::generalized_time::take_time;
 use crate::response_extensions::skip_extensions;
 use crate::single::SingleResponse;
 use asn::{Cursor, SEQUENCE, Tlv};
-use statements_parts::{Refusal, StatementFault, StatementRule};
+use statements_parts::{ReadingFault, Refusal, StatementRule};
 use std::alloc::Global;
 
 #[tactic(auto, unfolding(statements_parts::specs::Parts::next_read))]
@@ -60,7 +60,7 @@ impl<'a> SingleResponse<'a> {
 
     /// The single response that the value is, or the first fault.
     #[tactic(auto, unfolding(crate::specs::Single::single))]
-    pub(crate) fn read(alloc: Global, value: Tlv<'a>) -> Result<SingleResponse<'a>, StatementFault>
+    pub(crate) fn read(alloc: Global, value: Tlv<'a>) -> Result<SingleResponse<'a>, ReadingFault>
         ensures { GivesUnlessFull seen_single_response result (single (seen_tlv value.entry)) }
     {
         let (read, behind) = SingleResponse::fields(value)?;

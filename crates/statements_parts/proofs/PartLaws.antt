@@ -1,5 +1,5 @@
 -- What the parts of statements are, where their walks succeed, and that these succeed there.
-use Rattle.std.proofs.Common.{◌≡◌, ℕ, Bool, true, false, not, List, [], ◌∷◌, length, nat_lt, Result, Ok, Err, arith, refl, sym, ap, ◌∙◌, subst}
+use Rattle.std.proofs.Common.{◌≡◌, ℕ, Bool, true, false, not, List, [], ◌∷◌, length, nat_lt, Result, Ok, Err, arith, refl, sym, ap, subst}
 use Rattle.std.specs.FinSet.{contains, insert}
 use Rattle.std.proofs.lemmas.Bool.{and_parts, and_from, ltb-true, lt-ltb, eqb-true}
 use Rattle.asn.specs.DerLaws.{AreOctets}
@@ -13,7 +13,7 @@ use Rattle.names.specs.NameRule.{NameRule}
 use Rattle.names.specs.NameLayout.{name}
 use Rattle.names.specs.GeneralLayout.{NameContents, contents_at}
 use Rattle.names.proofs.Laws.{name_is_exact}
-use Rattle.cert.specs.BitString.{bits_in, has_no_unused_bits}
+use Rattle.cert.specs.BitString.{BitString, bit_string_at, bits_in, has_no_unused_bits}
 use Rattle.cert.specs.TbsCertificate.{is_serial}
 use Rattle.cert.specs.CertificateForms.{IsSerialNumber, IsNameOf, IsSignature}
 use Rattle.cert.specs.Extension.{Extension, IsExtension}
@@ -109,20 +109,21 @@ unfolding distinguished_name
 name_again value contents is = rw ((name_is_exact value).1 is.is_name, ← is.contents) refl
 
 -- signatures
-pub signature_ok : (value : Place) (octets : List ℕ) → tag value ≡ 0x03 → signature_value value ≡ Ok octets → IsSignature value octets
+pub signature_ok : (value : Place) (read : BitString) → tag value ≡ 0x03 → signature_value value ≡ Ok read → (value ≡ read.value) × IsSignature read.value read.octets
 unfolding signature_value
-signature_ok value octets t e =
-    let whole = bind_ok _ _ octets e in
-    record { bit_string = t; contents = by (body value) (check_ok _ _ _ _ whole.1) ∙ ap (◌∷◌ 0) (ok_is {E = StatementRule × ℕ} (bits_in (body value)) octets whole.2) }
+signature_ok value read t e =
+    let whole = bind_ok _ _ read e in
+    let P : BitString → Type 0 = λ b. (value ≡ b.value) × IsSignature b.value b.octets in
+    subst P (ok_is {E = StatementRule × ℕ} (bit_string_at value) read whole.2) (refl, record { bit_string = t; contents = by (body value) (check_ok _ _ _ _ whole.1) })
   where
     by : (contents : List ℕ) → has_no_unused_bits contents ≡ true → contents ≡ 0 ∷ bits_in contents
     by [] f = absurd cc
     by (unused ∷ bits) f = ap (λ (n : ℕ). n ∷ bits) (eqb-true unused 0 f)
 
-pub signature_again : (value : Place) (octets : List ℕ) → IsSignature value octets → signature_value value ≡ Ok octets
+pub signature_again : (read : BitString) → IsSignature read.value read.octets → signature_value read.value ≡ Ok read
 unfolding signature_value
-signature_again value octets is =
-    let whole = check_again (has_no_unused_bits (body value)) Layout value.at (ap has_no_unused_bits is.contents) in
+signature_again read is =
+    let whole = check_again (has_no_unused_bits (body read.value)) Layout read.value.at (ap has_no_unused_bits is.contents) in
     rw (whole, is.contents) refl
 
 -- an extension of a new type

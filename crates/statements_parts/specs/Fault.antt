@@ -3,6 +3,8 @@ use Rattle.std.specs.Prelude.{◌≡◌, ℕ, List, codes, Option, Some, None, R
 use Rattle.asn.specs.Rule.{Rule}
 use Rattle.names.specs.NameRule.{NameRule}
 use Rattle.names.specs.Fault.{fault_number, fault_name}
+use Rattle.statements_parts.specs.declared.fault.ReadingFault.{ReadingFault}
+use Rattle.statements_parts.specs.declared.fault.ReadingFault.TheVariants as unread
 use Rattle.statements_parts.specs.declared.fault.StatementFault.{StatementFault}
 use Rattle.statements_parts.specs.declared.fault.StatementFault.TheVariants.{Refused, OtherIssuer, BadSignature, NoSigner, NothingForIssuer, Memory}
 use Rattle.statements_parts.specs.declared.fault.StatementRule.{StatementRule}
@@ -77,15 +79,16 @@ abbrev pub as_name : {A : Type 0} → Result A (NameRule × ℕ) → Result A (S
 as_name (Ok x) = Ok x
 as_name (Err fault) = Err (Name fault.0, fault.1)
 
--- What a function that takes memory returned, seen by view, is what the walk gives, unless memory was refused.
-abbrev pub FailsUnlessFull : {Y : Type 0} → StatementFault → Result Y (StatementRule × ℕ) → Type 0
-FailsUnlessFull Memory walk = Unit {0}
-FailsUnlessFull (Refused rule at) walk = walk ≡ Err (rule, at)
-FailsUnlessFull OtherIssuer walk = ⊥
-FailsUnlessFull BadSignature walk = ⊥
-FailsUnlessFull NoSigner walk = ⊥
-FailsUnlessFull NothingForIssuer walk = ⊥
+-- why octets are not read, as why they are no statement of the issuer
+abbrev pub not_read : ReadingFault → StatementFault
+not_read (unread.Refused rule at) = Refused rule at
+not_read unread.Memory = Memory
 
-abbrev pub GivesUnlessFull : {X Y : Type 0} → (X → Y) → Result X StatementFault → Result Y (StatementRule × ℕ) → Type 0
+-- What a function that takes memory returned, seen by view, is what the walk gives, unless memory was refused.
+abbrev pub FailsUnlessFull : {Y : Type 0} → ReadingFault → Result Y (StatementRule × ℕ) → Type 0
+FailsUnlessFull unread.Memory walk = Unit {0}
+FailsUnlessFull (unread.Refused rule at) walk = walk ≡ Err (rule, at)
+
+abbrev pub GivesUnlessFull : {X Y : Type 0} → (X → Y) → Result X ReadingFault → Result Y (StatementRule × ℕ) → Type 0
 GivesUnlessFull view (Ok x) walk = walk ≡ Ok (view x)
 GivesUnlessFull view (Err fault) walk = FailsUnlessFull fault walk

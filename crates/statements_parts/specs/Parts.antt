@@ -7,7 +7,7 @@ use Rattle.asn.specs.Walk.{◌>>=◌, required, next_or, check_that}
 use Rattle.names.specs.NameLayout.{name}
 use Rattle.names.specs.GeneralLayout.{NameContents, contents_at}
 use Rattle.cert.specs.AlgorithmIdentifier.{AlgorithmIdentifier, algorithm_identifier}
-use Rattle.cert.specs.BitString.{bits_in, has_no_unused_bits}
+use Rattle.cert.specs.BitString.{BitString, bit_string_at, has_no_unused_bits}
 use Rattle.cert.specs.Extension.{Extension, extension}
 use Rattle.cert.specs.OidSet.{Oids}
 use Rattle.cert.specs.TbsCertificate.{is_serial}
@@ -50,11 +50,11 @@ abbrev pub next_name : Members → Result (NameContents × Members) (StatementRu
 next_name = component 0x30 distinguished_name
 
 -- the signature (RFC 5280, 5.1.1.3; RFC 6960, 4.2.1): a BIT STRING of octets, with no bit unused
-unfoldable pub signature_value : Place → Result (List ℕ) (StatementRule × ℕ)
-signature_value value = check_that (has_no_unused_bits (body value)) Layout value.at >>= λ whole. Ok (bits_in (body value))
+unfoldable pub signature_value : Place → Result BitString (StatementRule × ℕ)
+signature_value value = check_that (has_no_unused_bits (body value)) Layout value.at >>= λ whole. Ok (bit_string_at value)
 
 -- the next value as a signature
-abbrev pub next_signature : Members → Result (List ℕ × Members) (StatementRule × ℕ)
+abbrev pub next_signature : Members → Result (BitString × Members) (StatementRule × ℕ)
 next_signature = component 0x03 signature_value
 
 -- an extension of a type that none of the earlier ones of its list has (RFC 5280, 4.2), and their types with its own

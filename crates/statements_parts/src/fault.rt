@@ -1,8 +1,9 @@
 //! Why octets are not a statement about revocation.
 
 ghost use Rattle.std.specs.Prelude.{◌≡◌};
-ghost use Rattle.statements_parts.specs.Fault.{rule_number, rule_name, statement_fault_number, statement_fault_name, statement_fault_place};
-ghost use Rattle.statements_parts.specs.declared.fault.StatementFault.TheVariants.{Memory, Refused};
+ghost use Rattle.statements_parts.specs.Fault.{not_read, rule_number, rule_name, statement_fault_number, statement_fault_name, statement_fault_place};
+ghost use Rattle.statements_parts.specs.declared.fault.ReadingFault.TheVariants as unread;
+ghost use Rattle.statements_parts.specs.declared.fault.StatementFault.TheVariants.{Memory};
 ghost use Rattle.statements_parts.specs.declared.fault.StatementRule.TheVariants.{Name};
 
 use asn::Rule;
@@ -74,8 +75,16 @@ pub(crate) fn name_refusal(refusal: (NameRule, usize)) -> Refusal
     (StatementRule::Name(fault), at)
 }
 
-/// Why octets were not taken as a statement: the first rule that is broken, with the offset of the value that breaks it; that the
-/// statement is not the issuer's; or lack of memory.
+/// Why octets are not read as a statement: the first rule that is broken, with the offset of the value that breaks it, or lack of memory.
+#[derive(Clone, Copy, Debug, PartialEq, Eq, Error)]
+pub enum ReadingFault {
+    #[error("{0}, at offset {1}")]
+    Refused(StatementRule, usize),
+    #[error("fault 60: no memory")]
+    Memory,
+}
+
+/// Why octets were not taken as a statement of an issuer: they are not read as one, it is not the issuer's, or lack of memory.
 #[derive(Clone, Copy, Debug, PartialEq, Eq, Error)]
 pub enum StatementFault {
     #[error("{0}, at offset {1}")]
@@ -187,11 +196,38 @@ impl StatementFault {
     }
 }
 
-impl From<Refusal> for StatementFault {
-    ghost from_gives = { λ refusal fault. fault ≡ Refused refusal.0 refusal.1 };
+impl From<Refusal> for ReadingFault {
+    ghost from_gives = { λ refusal fault. fault ≡ unread.Refused refusal.0 refusal.1 };
 
-    fn from(refusal: Refusal) -> StatementFault {
-        StatementFault::Refused(refusal.0, refusal.1)
+    fn from(refusal: Refusal) -> ReadingFault {
+        ReadingFault::Refused(refusal.0, refusal.1)
+    }
+}
+
+impl From<AllocError> for ReadingFault {
+    ghost from_gives = { λ _ fault. fault ≡ unread.Memory };
+
+    fn from(_: AllocError) -> ReadingFault {
+        ReadingFault::Memory
+    }
+}
+
+impl<T: Drop> From<AllocFailed<T>> for ReadingFault {
+    ghost from_gives = { λ _ fault. fault ≡ unread.Memory };
+
+    fn from(_: AllocFailed<T>) -> ReadingFault {
+        ReadingFault::Memory
+    }
+}
+
+impl From<ReadingFault> for StatementFault {
+    ghost from_gives = { λ reading fault. fault ≡ not_read reading };
+
+    fn from(fault: ReadingFault) -> StatementFault {
+        match fault {
+            ReadingFault::Refused(rule, at) => StatementFault::Refused(rule, at),
+            ReadingFault::Memory => StatementFault::Memory,
+        }
     }
 }
 
@@ -199,14 +235,6 @@ impl From<AllocError> for StatementFault {
     ghost from_gives = { λ _ fault. fault ≡ Memory };
 
     fn from(_: AllocError) -> StatementFault {
-        StatementFault::Memory
-    }
-}
-
-impl<T: Drop> From<AllocFailed<T>> for StatementFault {
-    ghost from_gives = { λ _ fault. fault ≡ Memory };
-
-    fn from(_: AllocFailed<T>) -> StatementFault {
         StatementFault::Memory
     }
 }

@@ -6,14 +6,17 @@ ghost use Rattle.asn.specs.Walk.{any, StepGives};
 ghost use Rattle.asn.specs.Judgement.{outermost as asn_outermost};
 ghost use Rattle.names.specs.GeneralView.{name_contents};
 ghost use Rattle.cert.specs.AlgorithmIdentifier.{seen_algorithm};
+ghost use Rattle.cert.specs.BitString.{seen_bit_string};
 ghost use Rattle.cert.specs.OidSet.{oids_in};
 ghost use Rattle.statements_parts.specs.Fault.{as_der};
 ghost use Rattle.statements_parts.specs.Parts.{distinguished_name, is_reason, next_algorithm, next_serial, next_signature, serial_number, signature_value};
 ghost use Rattle.statements_parts.specs.Steps.{AddsExtension, OnRefused};
 
-use crate::fault::{Refusal, StatementFault, StatementRule, name_refusal};
+use crate::fault::{ReadingFault, Refusal, StatementRule, name_refusal};
 use asn::{BIT_STRING, Cursor, INTEGER, Tlv};
-use cert::{AlgorithmIdentifier, Extension, OidSet, bits_of, is_of_whole_octets, is_serial_number};
+use cert::{
+    AlgorithmIdentifier, BitString, Extension, OidSet, is_of_whole_octets, is_serial_number,
+};
 use names::Name;
 
 /// The one value that the octets encode; else the fault `Der`. Time is linear in the octets; no memory is taken.
@@ -69,20 +72,20 @@ pub fn take_algorithm<'a>(members: &mut Cursor<'a>) -> Result<AlgorithmIdentifie
 
 /// A BIT STRING whose bits must be whole octets.
 #[tactic(auto, unfolding(crate::specs::Parts::signature_value, asn::specs::Walk::check_that))]
-fn signature_at(value: Tlv<'_>) -> Result<&[u8], Refusal>
-    ensures { Gives (λ octets. octets.now) result (signature_value (seen_tlv value.entry)) }
+fn signature_at(value: Tlv<'_>) -> Result<BitString<'_>, Refusal>
+    ensures { Gives seen_bit_string result (signature_value (seen_tlv value.entry)) }
 {
     if is_of_whole_octets(value.body) {
-        Ok(bits_of(value.body))
+        Ok(BitString { value })
     } else {
         Err((StatementRule::Layout, value.at))
     }
 }
 
-/// Takes a signature BIT STRING, and gives its octets.
+/// Takes a signature BIT STRING.
 #[tactic(auto, unfolding(crate::specs::Parts::component))]
-pub fn take_signature<'a>(members: &mut Cursor<'a>) -> Result<&'a [u8], Refusal>
-    ensures walk { StepGives (λ octets. octets.now) result members.old members.new next_signature }
+pub fn take_signature<'a>(members: &mut Cursor<'a>) -> Result<BitString<'a>, Refusal>
+    ensures walk { StepGives seen_bit_string result members.old members.new next_signature }
     ensures passed { left members.new ≡ (any (left members.old)).1 }
 {
     signature_at(members.required(BIT_STRING, StatementRule::Layout)?)
@@ -94,13 +97,13 @@ pub fn take_signature<'a>(members: &mut Cursor<'a>) -> Result<&'a [u8], Refusal>
 pub fn new_extension<'a>(
     types: &mut OidSet<'a>,
     value: Tlv<'a>,
-) -> Result<Extension<'a>, StatementFault>
+) -> Result<Extension<'a>, ReadingFault>
     ensures walk { AddsExtension types.old types.new value.entry result }
     ensures kept { OnRefused result (oids_in types.new ≡ oids_in types.old) }
 {
     let extension = Extension::read(value, StatementRule::Layout)?;
     if !types.insert(extension.oid.contents())? {
-        return Err(StatementFault::Refused(StatementRule::Layout, value.at));
+        return Err(ReadingFault::Refused(StatementRule::Layout, value.at));
     }
     Ok(extension)
 }

@@ -1,8 +1,8 @@
-use Rattle.std.proofs.Common.{rules, ◌≡◌, [], map, refl, Option, Some, Ok, Err}
+use Rattle.std.proofs.Common.{rules, ◌≡◌, refl, Some, Ok, Err}
 use Rattle.asn.specs.Place.{seen_tlv}
 use Rattle.asn.specs.Reading.{left}
 use Rattle.asn.specs.Members.{with_first}
-use Rattle.statements_crl.specs.Entry.{checked, entries, entries_again, entries_to_come, listed_again, listed_serial}
+use Rattle.statements_crl.specs.Entry.{checked, entries, listed_again}
 use Rattle.statements_crl.proofs.ListedAgain.{none_refused}
 use Rattle.statements_crl.proofs.entry_walk.Entries.next_listed.Goals as goal
 

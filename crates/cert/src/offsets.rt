@@ -1,0 +1,12 @@
+//! The offset of a fault lies at one of the octets, or at their end.
+
+ghost use Rattle.cert.specs.Offsets.{NameFaultIsWithin, GeneralNameFaultIsWithin, SubtreeFaultIsWithin, CertificateFaultIsWithin};
+
+/// The offset of a certificate's fault is at most the length of its octets. That of a name, of a general name or of the base of a subtree
+/// inside some text is at most the length of the text.
+pub fn offset_laws()
+    ensures name { NameFaultIsWithin }
+    ensures general { GeneralNameFaultIsWithin }
+    ensures subtree { SubtreeFaultIsWithin }
+    ensures certificate { CertificateFaultIsWithin }
+{}

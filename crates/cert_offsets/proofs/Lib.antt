@@ -1,5 +1,0 @@
-mod Standing
-mod Steps
-mod Names
-mod Extensions
-mod Certificates

@@ -1,5 +1,0 @@
-use Rattle.cert_offsets.proofs.Certificates.{name_fault_is_within, general_fault_is_within, subtree_fault_is_within, certificate_fault_is_within}
-use Rattle.cert_offsets.proofs.offset_laws.Goals as goal
-
-pub returns : goal.returns
-returns c = record { name = name_fault_is_within; general = general_fault_is_within; subtree = subtree_fault_is_within; certificate = certificate_fault_is_within }

@@ -1,0 +1,122 @@
+-- Statements are read and believed exactly where the standards say so.
+use Rattle.std.proofs.Common.{◌≡◌, ℕ, Bool, true, false, List, [], ◌∷◌, map, Result, Ok, Err, inl, inr, if◌then◌else◌, refl, sym}
+use Rattle.asn.specs.DerLaws.{AreOctets}
+use Rattle.asn.specs.Judgement.{outermost}
+use Rattle.asn.specs.Members.{begins}
+use Rattle.asn.specs.Place.{Place}
+use Rattle.asn.specs.Walk.{◌>>=◌}
+use Rattle.asn.proofs.Laws.{bind_ok, outermost_again}
+use Rattle.cert.specs.Certificate.{Certificate}
+use Rattle.statements_crl.specs.CertificateList.{CertificateList, certificate_list, certificate_list_at}
+use Rattle.statements_crl.specs.ListForms.{IsCertificateList, IsCertificateListAt}
+use Rattle.statements_crl.proofs.Laws.{list_is_exact}
+use Rattle.statements_ocsp.specs.Kind.{is_response}
+use Rattle.statements_ocsp.specs.OcspResponse.{OcspResponse, ocsp_response, ocsp_response_at}
+use Rattle.statements_ocsp.specs.ResponseForms.{IsOcspResponse, IsOcspResponseAt}
+use Rattle.statements_ocsp.proofs.Laws.{response_is_exact}
+use Rattle.statements_parts.specs.Fault.{as_der}
+use Rattle.statements_parts.specs.declared.fault.StatementRule.{StatementRule}
+use Rattle.statements_facts.specs.Fact.{Fact}
+use Rattle.statements.specs.CrlFact.{list_said}
+use Rattle.statements.specs.Genuine.{Accepts, ◌then◌, as_refused}
+use Rattle.statements.specs.Issuer.{identity_of}
+use Rattle.statements.specs.OcspFact.{fact_with, response_said}
+use Rattle.statements.specs.Statement.{Statement, StatementIsExact, IsGenuine, GenuineStatementsAreFacts, genuine_statement, statement, statement_at, statement_said}
+use Rattle.statements.proofs.Genuineness.{then_ok, said_is, was_read, list_says, says_list}
+use Rattle.statements.proofs.Responses.{response_says, says_response}
+
+abbrev whole : List ℕ → Place
+whole octets = record { octets = octets; at = 0 }
+
+-- the kind of what is a list, and of what is a response
+list_kind : (value : Place) (list : CertificateList) → IsCertificateListAt value list → is_response value ≡ false
+unfolding is_response begins
+list_kind value list is = rw (is.members_are, is.signed_is.sequence, is.sequence) refl
+
+response_kind : (value : Place) (response : OcspResponse) → IsOcspResponseAt value response → is_response value ≡ true
+unfolding is_response begins
+response_kind value response is = rw (is.members_are, is.enumerated, is.sequence) refl
+
+-- a value of one kind is read so
+reads_list : (value : Place) (list : CertificateList) → statement_at value ≡ Ok (Statement.OfList list) → certificate_list_at value ≡ Ok list
+unfolding statement_at
+reads_list value list e = by (is_response value) (ocsp_response_at value) (certificate_list_at value) e where
+  by : (b : Bool) (response : Result OcspResponse (StatementRule × ℕ)) (found : Result CertificateList (StatementRule × ℕ))
+      → (if b then (response >>= λ response. Ok (Statement.OfResponse response)) else (found >>= λ list. Ok (Statement.OfList list))) ≡ Ok (Statement.OfList list)
+      → found ≡ Ok list
+  by true (Ok response) found e = absurd cc
+  by true (Err fault) found e = absurd cc
+  by false response (Ok found) e = cc
+  by false response (Err fault) e = absurd cc
+
+reads_response : (value : Place) (response : OcspResponse) → statement_at value ≡ Ok (Statement.OfResponse response) → ocsp_response_at value ≡ Ok response
+unfolding statement_at
+reads_response value response e = by (is_response value) (ocsp_response_at value) (certificate_list_at value) e where
+  by : (b : Bool) (found : Result OcspResponse (StatementRule × ℕ)) (list : Result CertificateList (StatementRule × ℕ))
+      → (if b then (found >>= λ response. Ok (Statement.OfResponse response)) else (list >>= λ list. Ok (Statement.OfList list))) ≡ Ok (Statement.OfResponse response)
+      → found ≡ Ok response
+  by true (Ok found) list e = cc
+  by true (Err fault) list e = absurd cc
+  by false found (Ok list) e = absurd cc
+  by false found (Err fault) e = absurd cc
+
+list_read : (octets : List ℕ) (list : CertificateList) → AreOctets octets → statement octets ≡ Ok (Statement.OfList list) → IsCertificateList octets list
+unfolding statement certificate_list
+list_read octets list fits e =
+    let value = bind_ok {A = Place} (as_der (outermost octets)) (λ value. statement_at value) (Statement.OfList list) e in
+    (list_is_exact octets list fits).0 (rw value.1 (reads_list value.0 list value.2))
+
+response_read : (octets : List ℕ) (response : OcspResponse) → AreOctets octets → statement octets ≡ Ok (Statement.OfResponse response) → IsOcspResponse octets response
+unfolding statement ocsp_response
+response_read octets response fits e =
+    let value = bind_ok {A = Place} (as_der (outermost octets)) (λ value. statement_at value) (Statement.OfResponse response) e in
+    (response_is_exact octets response fits).0 (rw value.1 (reads_response value.0 response value.2))
+
+read_list : (octets : List ℕ) (list : CertificateList) → AreOctets octets → IsCertificateList octets list → statement octets ≡ Ok (Statement.OfList list)
+unfolding statement statement_at certificate_list
+read_list octets list fits is =
+    let value = outermost_again octets (is.value, is.der) in
+    let read : certificate_list_at (whole octets) ≡ Ok list = (let all = (list_is_exact octets list fits).1 is in rw value at all) in
+    rw (value, list_kind (whole octets) list is.layout, read) refl
+
+read_response : (octets : List ℕ) (response : OcspResponse) → AreOctets octets → IsOcspResponse octets response → statement octets ≡ Ok (Statement.OfResponse response)
+unfolding statement statement_at ocsp_response
+read_response octets response fits is =
+    let value = outermost_again octets (is.value, is.der) in
+    let read : ocsp_response_at (whole octets) ≡ Ok response = (let all = (response_is_exact octets response fits).1 is in rw value at all) in
+    rw (value, response_kind (whole octets) response is.layout, read) refl
+
+pub statement_is_exact : StatementIsExact
+statement_is_exact octets (Statement.OfList list) fits = (list_read octets list fits, read_list octets list fits)
+statement_is_exact octets (Statement.OfResponse response) fits = (response_read octets response fits, read_response octets response fits)
+
+-- ---- what is genuine
+
+module _ (accepts : Accepts) (issuer : Certificate) (octets : List ℕ) (facts : List Fact) (fits : AreOctets octets) where
+  is_said : (read : Statement) → statement octets ≡ Ok read → statement_said accepts issuer read ≡ Ok facts → IsGenuine accepts issuer octets facts
+  is_said (Statement.OfList list) read said =
+      let told = then_ok (list_said accepts issuer list) (λ said. Ok (Fact.OfCrl said.0 said.1 ∷ [])) facts said in
+      let says = list_says accepts issuer list told.0.0 told.0.1 told.1 in
+      inl (told.0.0, told.0.1, record { list = list; is_list = list_read octets list fits read; named = says.named; signed = says.signed; slot_is = says.slot_is; fact_is = says.fact_is }, sym (said_is (Fact.OfCrl told.0.0 told.0.1 ∷ []) facts told.2))
+  is_said (Statement.OfResponse response) read said =
+      let told = then_ok (response_said accepts issuer response) (λ singles. Ok (map (fact_with (identity_of issuer)) singles)) facts said in
+      let says = response_says accepts issuer response told.0 told.1 in
+      inr (told.0, record { response = response; is_response = response_read octets response fits read; signer = says.signer; is_signer = says.is_signer; singles_are = says.singles_are; some = says.some }, sym (said_is (map (fact_with (identity_of issuer)) told.0) facts told.2))
+
+  is_genuine : genuine_statement accepts issuer octets ≡ Ok facts → IsGenuine accepts issuer octets facts
+  unfolding genuine_statement
+  is_genuine e =
+      let read = then_ok (as_refused (statement octets)) (λ read. statement_said accepts issuer read) facts e in
+      is_said read.0 (was_read (statement octets) read.0 read.1) read.2
+
+  genuine_is : IsGenuine accepts issuer octets facts → genuine_statement accepts issuer octets ≡ Ok facts
+  unfolding genuine_statement
+  genuine_is (inl (slot, fact, is, facts_are)) =
+      let said = says_list accepts issuer is.list slot fact record { named = is.named; signed = is.signed; slot_is = is.slot_is; fact_is = is.fact_is } in
+      rw (read_list octets is.list fits is.is_list, said, facts_are) refl
+  genuine_is (inr (singles, is, facts_are)) =
+      let said = says_response accepts issuer is.response singles record { signer = is.signer; is_signer = is.is_signer; singles_are = is.singles_are; some = is.some } in
+      rw (read_response octets is.response fits is.is_response, said, facts_are) refl
+
+pub statements_are_facts : GenuineStatementsAreFacts
+statements_are_facts accepts issuer octets facts fits = (is_genuine accepts issuer octets facts fits, genuine_is accepts issuer octets facts fits)

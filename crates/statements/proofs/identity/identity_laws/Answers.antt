@@ -1,5 +1,0 @@
-use Rattle.statements.proofs.IssuerLaws.{issuer_decides}
-use Rattle.statements.proofs.identity.identity_laws.Goals as goal
-
-pub returns : goal.returns
-returns c = issuer_decides

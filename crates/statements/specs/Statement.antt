@@ -1,0 +1,77 @@
+-- Statements of both kinds: how they are read, and what one that is genuine says.
+use Rattle.std.specs.Prelude.{◌≡◌, ◌↔◌, ◌⊎◌, ℕ, List, [], ◌∷◌, map, Result, Ok, if◌then◌else◌}
+use Rattle.asn.specs.DerLaws.{AreOctets}
+use Rattle.asn.specs.Judgement.{outermost}
+use Rattle.asn.specs.Place.{Place}
+use Rattle.asn.specs.Walk.{◌>>=◌}
+use Rattle.cert.specs.Certificate.{Certificate}
+use Rattle.statements_crl.specs.CertificateList.{CertificateList, certificate_list_at, seen_list}
+use Rattle.statements_crl.specs.ListForms.{IsCertificateList}
+use Rattle.statements_ocsp.specs.Kind.{is_response}
+use Rattle.statements_ocsp.specs.OcspResponse.{OcspResponse, ocsp_response_at, seen_response}
+use Rattle.statements_ocsp.specs.ResponseForms.{IsOcspResponse}
+use Rattle.statements_parts.specs.Fault.{as_der}
+use Rattle.statements_parts.specs.declared.fault.StatementFault.{StatementFault}
+use Rattle.statements_parts.specs.declared.fault.StatementRule.{StatementRule}
+use Rattle.statements_facts.specs.Fact.{Fact}
+use Rattle.statements_facts.specs.Single.{SingleFact}
+use Rattle.statements_facts.specs.Statement.{CrlSlot, CrlFact}
+use Rattle.statements.specs.CrlFact.{IsCrlFact, list_said}
+use Rattle.statements.specs.Genuine.{Accepts, ◌then◌, as_refused}
+use Rattle.statements.specs.Issuer.{identity_of}
+use Rattle.statements.specs.OcspFact.{IsGenuineResponse, fact_with, response_said}
+use Rattle.statements.specs.declared.statement.Statement.{Statement as code}
+use Rattle.statements.specs.declared.statement.Statement.TheVariants.{List as read_list, Response as read_response}
+
+-- a list (RFC 5280, 5.1), or a response (RFC 6960, 4.2.1)
+pub data Statement : Type 0 where
+  OfList : CertificateList → Statement
+  OfResponse : OcspResponse → Statement
+
+abbrev pub seen_statement : code → Statement
+seen_statement (read_list list) = Statement.OfList (seen_list list)
+seen_statement (read_response response) = Statement.OfResponse (seen_response response)
+
+-- the value as a response, if the first value inside is an ENUMERATED, else as a list
+unfoldable pub statement_at : Place → Result Statement (StatementRule × ℕ)
+statement_at value =
+    if is_response value then (ocsp_response_at value >>= λ response. Ok (Statement.OfResponse response))
+    else (certificate_list_at value >>= λ list. Ok (Statement.OfList list))
+
+unfoldable pub statement : List ℕ → Result Statement (StatementRule × ℕ)
+statement octets = as_der (outermost octets) >>= λ value. statement_at value
+
+-- what is read is exactly what the standards call a list or a response
+abbrev pub IsStatement : List ℕ → Statement → Type 0
+IsStatement octets (Statement.OfList list) = IsCertificateList octets list
+IsStatement octets (Statement.OfResponse response) = IsOcspResponse octets response
+
+abbrev pub StatementIsExact : Type 0
+StatementIsExact =
+    (octets : List ℕ) (read : Statement) → AreOctets octets → (statement octets ≡ Ok read) ↔ IsStatement octets read
+
+-- ---- what it says
+
+-- The facts that a statement tells of its issuer's certificates, in order, or why it is none of the issuer.
+abbrev pub statement_said : Accepts → Certificate → Statement → Result (List Fact) StatementFault
+statement_said accepts issuer (Statement.OfList list) =
+    list_said accepts issuer list then λ said. Ok (Fact.OfCrl said.0 said.1 ∷ [])
+statement_said accepts issuer (Statement.OfResponse response) =
+    response_said accepts issuer response then λ singles. Ok (map (fact_with (identity_of issuer)) singles)
+
+-- The checks in their order: whether the octets are read, and what they say.
+unfoldable pub genuine_statement : Accepts → Certificate → List ℕ → Result (List Fact) StatementFault
+genuine_statement accepts issuer octets = as_refused (statement octets) then λ read. statement_said accepts issuer read
+
+-- The octets are a list of the issuer, or a response that may answer for it, and tell these facts. No moment is looked at.
+abbrev pub IsGenuine : Accepts → Certificate → List ℕ → List Fact → Type 0
+IsGenuine accepts issuer octets facts =
+    ((slot : CrlSlot) × (fact : CrlFact) × IsCrlFact accepts issuer octets slot fact × (facts ≡ Fact.OfCrl slot fact ∷ []))
+    ⊎ ((singles : List SingleFact) × IsGenuineResponse accepts issuer octets singles
+    × (facts ≡ map (fact_with (identity_of issuer)) singles))
+
+-- The checks succeed exactly there.
+abbrev pub GenuineStatementsAreFacts : Type 0
+GenuineStatementsAreFacts =
+    (accepts : Accepts) (issuer : Certificate) (octets : List ℕ) (facts : List Fact) → AreOctets octets →
+    (genuine_statement accepts issuer octets ≡ Ok facts) ↔ IsGenuine accepts issuer octets facts

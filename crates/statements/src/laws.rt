@@ -1,0 +1,20 @@
+//! What the definitions of statements decide.
+
+ghost use Rattle.statements.specs.OneIssuer.{IssuerDecides};
+ghost use Rattle.statements.specs.Responder.{SignersAreFound};
+ghost use Rattle.statements.specs.Statement.{GenuineStatementsAreFacts, StatementIsExact};
+
+/// Octets are read as a statement exactly if they are a list or a response as the standards lay them out. A response has a signer exactly
+/// if one is found. A statement is genuine exactly if it is a list that names the issuer, whose signature is accepted under the issuer's
+/// key, or a response with a signer that says something of the issuer's certificates.
+pub fn statement_laws()
+    ensures exact { StatementIsExact }
+    ensures signers { SignersAreFound }
+    ensures genuine { GenuineStatementsAreFacts }
+{}
+
+/// Two certificates of one issuer (their subjects match, and their subjectPublicKeyInfo has the same octets) believe the same statements,
+/// and find the same facts in them.
+pub fn identity_laws()
+    ensures { IssuerDecides }
+{}
