@@ -138,7 +138,7 @@ struct x509check_place {
 };
 
 /* A question to a judge of signatures: is this the signature of the message, under the key, by the algorithm? */
-struct x509check_question {
+struct x509check_signature_question {
     struct x509check_place algorithm; /* the algorithm identifier: the whole encoding */
     struct x509check_place key_info;  /* the subjectPublicKeyInfo: the whole encoding */
     struct x509check_place message;   /* what was signed */
@@ -206,11 +206,11 @@ X509CHECK_HAS_SIZE(x509check_verdict, 40);
 X509CHECK_STANDS_AT(x509check_place, offset, 8);
 X509CHECK_STANDS_AT(x509check_place, length, 16);
 X509CHECK_HAS_SIZE(x509check_place, 24);
-X509CHECK_STANDS_AT(x509check_question, key_info, 24);
-X509CHECK_STANDS_AT(x509check_question, message, 48);
-X509CHECK_STANDS_AT(x509check_question, signature, 72);
-X509CHECK_STANDS_AT(x509check_question, fingerprint, 96);
-X509CHECK_HAS_SIZE(x509check_question, 128);
+X509CHECK_STANDS_AT(x509check_signature_question, key_info, 24);
+X509CHECK_STANDS_AT(x509check_signature_question, message, 48);
+X509CHECK_STANDS_AT(x509check_signature_question, signature, 72);
+X509CHECK_STANDS_AT(x509check_signature_question, fingerprint, 96);
+X509CHECK_HAS_SIZE(x509check_signature_question, 128);
 X509CHECK_STANDS_AT(x509check_asked, fault, 4);
 X509CHECK_STANDS_AT(x509check_asked, der_fault, 8);
 X509CHECK_STANDS_AT(x509check_asked, offset, 16);
@@ -250,7 +250,7 @@ void x509check_sha256(const uint8_t *octets, size_t length, uint8_t digest[X509C
  * For a path of n certificates these are n questions, at most n more for a list, and at most n (1 + 2 m) for a response that m
  * certificates come with. One question may be there twice. Memory is taken as by x509check_validate. */
 struct x509check_asked x509check_questions(const uint8_t *certificates, size_t certificates_length, const uint8_t *statements,
-                                           size_t statements_length, struct x509check_question *questions, size_t room);
+                                           size_t statements_length, struct x509check_signature_question *questions, size_t room);
 
 /* The verdict on a path at a moment, by statements at hand, without a store.
  *

@@ -11,7 +11,7 @@ use Rattle.relying_rows.specs.declared.places.RowQuestion.{RowQuestion}
 use Rattle.capi.specs.Parts.{IsPart}
 use Rattle.capi.specs.Questions.{AreWritten, IsPlace, TellEach, TellsQuestion, place_of, question_of, text_number}
 use Rattle.capi.specs.declared.questions.Asked.{Asked}
-use Rattle.capi.specs.declared.questions.Question.{Question}
+use Rattle.capi.specs.declared.questions.SignatureQuestion.{SignatureQuestion}
 
 -- ---- parts of a text
 
@@ -107,7 +107,7 @@ get_map f (x ∷ xs) (suc i) d e below = get_map f xs i d e (omega (arith, below
 
 -- ---- what is written and told
 
-pub are_written : (certificates statements : List ℕ) (asked : List RowQuestion) (old new : List Question) (answer : Asked)
+pub are_written : (certificates statements : List ℕ) (asked : List RowQuestion) (old new : List SignatureQuestion) (answer : Asked)
     → AreQuestionsInRows certificates statements (seen_row_questions asked) → AllInRows certificates statements asked
     → new ≡ take (length old) (map question_of asked) ++ drop (length asked) old
     → answer ≡ record { text = 0; fault = 0; der_fault = 0; offset = 0; count = length asked }

@@ -16,7 +16,7 @@ use Rattle.capi.specs.Fields.{der_number}
 use Rattle.capi.specs.Parts.{IsPart}
 use Rattle.capi.specs.Verdict.{der_number_of}
 use Rattle.capi.specs.declared.questions.Place.{Place}
-use Rattle.capi.specs.declared.questions.Question.{Question}
+use Rattle.capi.specs.declared.questions.SignatureQuestion.{SignatureQuestion}
 use Rattle.capi.specs.declared.questions.Asked.{Asked}
 
 -- ---- what is written
@@ -28,7 +28,7 @@ IsPlace certificates statements place octets =
     ⊎ ((place.text ≡ 2) × IsPart statements (record { offset = place.offset; length = place.length }) octets)
 
 -- the question, whose parts stand in the texts
-pub record TellsQuestion (certificates statements : List ℕ) (question : Question) (asked : Judgement) : Type 0 where
+pub record TellsQuestion (certificates statements : List ℕ) (question : SignatureQuestion) (asked : Judgement) : Type 0 where
   pub algorithm : IsPlace certificates statements question.algorithm asked.algorithm
   pub key_info : IsPlace certificates statements question.key_info asked.key_info
   pub message : IsPlace certificates statements question.message asked.message
@@ -36,7 +36,7 @@ pub record TellsQuestion (certificates statements : List ℕ) (question : Questi
   pub fingerprint : question.fingerprint ≡ print_of asked
 
 -- each of the questions, in order
-abbrev pub TellEach : List ℕ → List ℕ → List Question → List Judgement → Type 0
+abbrev pub TellEach : List ℕ → List ℕ → List SignatureQuestion → List Judgement → Type 0
 TellEach certificates statements [] [] = Unit {0}
 TellEach certificates statements [] (one ∷ asked) = ⊥
 TellEach certificates statements (question ∷ questions) [] = ⊥
@@ -44,10 +44,10 @@ TellEach certificates statements (question ∷ questions) (one ∷ asked) =
     TellsQuestion certificates statements question one × TellEach certificates statements questions asked
 
 -- Of the questions that may be asked as many are written as there is room for, and it is told how many there are.
-pub record AreWritten (certificates statements : List ℕ) (old new : List Question) (answer : Asked) : Type 0 where
+pub record AreWritten (certificates statements : List ℕ) (old new : List SignatureQuestion) (answer : Asked) : Type 0 where
   pub asked : List Judgement
   pub may_be_asked : AreQuestionsInRows certificates statements asked
-  pub questions : List Question
+  pub questions : List SignatureQuestion
   pub tell_each : TellEach certificates statements questions asked
   pub written : new ≡ take (length old) questions ++ drop (length questions) old
   pub answer_is : answer ≡ record { text = 0; fault = 0; der_fault = 0; offset = 0; count = length asked }
@@ -64,7 +64,7 @@ TellsQuestionFault answer (Fingerprints at) = answer ≡ refusal 0 33 0 0
 TellsQuestionFault answer Memory = answer ≡ refusal 0 33 0 0
 
 -- The questions about what the texts hold, or the fault for which they are refused; nothing is written then.
-abbrev pub TellsQuestions : List ℕ → List ℕ → List Question → List Question → Asked → Type 0
+abbrev pub TellsQuestions : List ℕ → List ℕ → List SignatureQuestion → List SignatureQuestion → Asked → Type 0
 TellsQuestions certificates statements old new answer =
     AreWritten certificates statements old new answer
     ⊎ ((fault : RowFault) × IsQuestionFault certificates statements fault × TellsQuestionFault answer fault × (new ≡ old))
@@ -78,7 +78,7 @@ text_number row.Statements = 2
 abbrev pub place_of : RowPart → Place
 place_of part = record { text = text_number part.row; offset = part.at; length = length part.octets.now }
 
-abbrev pub question_of : RowQuestion → Question
+abbrev pub question_of : RowQuestion → SignatureQuestion
 question_of asked = record {
   algorithm = place_of asked.algorithm;
   key_info = place_of asked.key_info;

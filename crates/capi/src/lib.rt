@@ -16,7 +16,7 @@ pub use checking::x509check_check;
 pub use digest_call::x509check_sha256;
 pub use fields::{ExtensionFields, Fields, Part};
 pub use fingerprint_call::x509check_fingerprint;
-pub use questions::{Asked, Place, Question, x509check_questions};
+pub use questions::{Asked, Place, SignatureQuestion, x509check_questions};
 pub use reading::x509check_read_certificate;
 pub use validating::x509check_validate;
 pub use version_call::x509check_version;

@@ -21,7 +21,7 @@ pub struct Place {
 /// A question to a judge of signatures.
 #[derive(Clone, Copy, Debug, PartialEq, Eq, Default)]
 #[repr(C)]
-pub struct Question {
+pub struct SignatureQuestion {
     pub algorithm: Place,
     pub key_info: Place,
     pub message: Place,
@@ -57,11 +57,11 @@ impl Place {
     }
 }
 
-impl Question {
-    fn of(asked: &RowQuestion<'_>) -> Question
+impl SignatureQuestion {
+    fn of(asked: &RowQuestion<'_>) -> SignatureQuestion
         ensures { result ≡ question_of asked.now }
     {
-        Question {
+        SignatureQuestion {
             algorithm: Place::of(&asked.algorithm),
             key_info: Place::of(&asked.key_info),
             message: Place::of(&asked.message),
@@ -99,13 +99,13 @@ fn refusal_of(fault: RowFault) -> Asked
 }
 
 /// Writes the questions, as many as there is room for.
-fn write(asked: &[RowQuestion<'_>], questions: &mut [Question])
+fn write(asked: &[RowQuestion<'_>], questions: &mut [SignatureQuestion])
     ensures { questions.new ≡ take (length questions.old) (map question_of asked.now)
         ++ drop (length asked.now) questions.old }
 {
     let fitting = asked.len().min(questions.len());
     for index in 0..fitting {
-        questions[index] = Question::of(&asked[index]);
+        questions[index] = SignatureQuestion::of(&asked[index]);
     }
 }
 
@@ -116,7 +116,7 @@ pub extern "C" fn x509check_questions(
     alloc: Global,
     certificates: &[u8],
     statements: &[u8],
-    questions: &mut [Question],
+    questions: &mut [SignatureQuestion],
 ) -> Asked
     ensures { TellsQuestions certificates.now statements.now questions.old questions.new result }
 {

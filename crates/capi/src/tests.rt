@@ -120,7 +120,7 @@ fn structs_have_their_sizes(rt: HostRuntime) {
         size_of::<CertificateAnswer>(),
         size_of::<VerdictAnswer>(),
         size_of::<Place>(),
-        size_of::<Question>(),
+        size_of::<SignatureQuestion>(),
         size_of::<Asked>(),
     ];
     assert!(rt; SIZES == [16, 16, 56, 208, 224, 40, 24, 128, 32]);
@@ -221,8 +221,8 @@ fn validation_wants_memory_or_answers(rt: HostRuntime) {
 }
 
 /// The questions about the path and statements, written to an array of five.
-fn questions(alloc: Global, statements: &[u8]) -> (Asked, [Question; 5]) {
-    let mut questions = [Question::default(); 5];
+fn questions(alloc: Global, statements: &[u8]) -> (Asked, [SignatureQuestion; 5]) {
+    let mut questions = [SignatureQuestion::default(); 5];
     let asked = x509check_questions(alloc, PATH, statements, &mut questions);
     (asked, questions)
 }
@@ -234,7 +234,7 @@ fn counted(count: usize) -> Asked {
     }
 }
 
-fn has_print(question: &Question, print: &[u8]) -> bool {
+fn has_print(question: &SignatureQuestion, print: &[u8]) -> bool {
     question.fingerprint.as_slice() == print
 }
 
@@ -247,7 +247,7 @@ fn tells_questions(rt: HostRuntime) {
     assert!(rt; has_print(&written[1], &GOOD[32..64]));
     assert!(rt; has_print(&written[2], &GOOD[64..96]));
     assert!(rt; has_print(&written[3], &GOOD[96..128]));
-    assert!(rt; written[4] == Question::default());
+    assert!(rt; written[4] == SignatureQuestion::default());
 }
 
 fn place(text: u32, offset: usize, length: usize) -> Place {
@@ -276,7 +276,7 @@ fn tells_places(rt: HostRuntime) {
 #[test]
 fn counts_questions_without_room(rt: HostRuntime) {
     let alloc = rt.alloc();
-    let mut one = [Question::default(); 1];
+    let mut one = [SignatureQuestion::default(); 1];
     assert!(rt; x509check_questions(alloc, PATH, LISTS, &mut one) == counted(4));
     assert!(rt; has_print(&one[0], &GOOD[..32]));
     assert!(rt; x509check_questions(alloc, PATH, b"", &mut []) == counted(2));
@@ -292,7 +292,7 @@ fn refuses_texts(rt: HostRuntime) {
         ..Asked::default()
     };
     assert!(rt; asked == refused);
-    assert!(rt; written[0] == Question::default());
+    assert!(rt; written[0] == SignatureQuestion::default());
     let none = x509check_questions(rt.alloc(), b"", LISTS, &mut []);
     assert!(rt; none.text == 1 && none.fault == 21 && none.der_fault == 4);
 }

@@ -6,7 +6,7 @@ use Rattle.cert.specs.Fault.{FailsUnlessFull as CertificateFails}
 use Rattle.statements_facts.specs.declared.fact.Facts.{Facts}
 use Rattle.statements_facts.specs.Fact.{Fact, facts_in}
 use Rattle.statements.specs.Genuine.{Accepts, RefusesUnlessFull}
-use Rattle.statements.specs.OcspFact.{genuine_statement}
+use Rattle.statements.specs.Statement.{genuine_statement}
 use Rattle.statements_facts.specs.declared.counts.Counts.{Counts}
 use Rattle.store.specs.Adopts.{StaysIfOpen}
 use Rattle.store_sql.specs.Statements.{CommitsNothing}

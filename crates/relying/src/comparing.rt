@@ -9,7 +9,7 @@ ghost use Rattle.relying_agreement.specs.Comparison.{IsComparison};
 ghost use Rattle.relying.specs.Asking.{AreSettled, BothAnswerOnlyIfOpen, LooksAtBoth, LooksAtBothForCause, LooksInsideBoth};
 ghost use Rattle.relying.specs.Never.{NeverDiffer};
 ghost use Rattle.relying.specs.View.{stored};
-ghost use Rattle.relying_verdicts.specs.View.{seen_query};
+ghost use Rattle.path.specs.Reading.{seen_query};
 
 use crate::node::Node;
 use path_verifiers::Verifier;

@@ -7,7 +7,7 @@ ghost use Rattle.relying.specs.Asking.{AnswersOnlyIfOpen, Looks, LooksForCause};
 ghost use Rattle.relying.specs.Delivery.{AnswersDelivery, DeliversForCause, IsAnswerTo, MayCommitDelivery};
 ghost use Rattle.relying.specs.Restart.{HasRestarted};
 ghost use Rattle.relying.specs.View.{stored};
-ghost use Rattle.relying_verdicts.specs.View.{seen_query};
+ghost use Rattle.path.specs.Reading.{seen_query};
 ghost use Rattle.store.specs.Adopts.{IsStoreOn};
 ghost use Rattle.store.specs.Opens.{FailsToReopen, ReopensForCause};
 ghost use Rattle.store_taking.specs.Delivery.{AllOrNothing, PutsFacts};

@@ -8,7 +8,7 @@ use Rattle.statements_facts.specs.Fact.{Fact}
 use Rattle.statements_facts.specs.Statement.{Holdings, CrlSlot, CrlFact, OcspSlot, OcspFact}
 use Rattle.path.specs.Query.{Accepts}
 use Rattle.statements_parts.specs.declared.fault.StatementFault.{StatementFault}
-use Rattle.statements.specs.OcspFact.{genuine_statement}
+use Rattle.statements.specs.Statement.{genuine_statement}
 use Rattle.statements_facts.specs.Coming.{crl_for, ocsp_for, HoldsNewest}
 use Rattle.statements_facts.specs.Newest.{newest_in, newer_crl, newer_ocsp}
 

@@ -24,7 +24,7 @@ rdns letter = rdn_map ((0x55 ∷ 0x04 ∷ 0x03 ∷ [], Text (letter ∷ [])) ∷
 abbrev pub name_at : List ℕ → ℕ → ℕ → NameContents
 name_at octets at letter = record { octets = octets; at = at; rdns = rdns letter }
 
-abbrev algorithm_at : ℕ → AlgorithmIdentifier
+abbrev pub algorithm_at : ℕ → AlgorithmIdentifier
 algorithm_at at = record { value = text_at algorithm at; oid = 0x2A ∷ 0x03 ∷ [] }
 
 abbrev key_at : List ℕ → ℕ → SubjectPublicKeyInfo

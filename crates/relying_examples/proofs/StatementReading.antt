@@ -1,5 +1,5 @@
 -- What the statements say.
-use Rattle.std.proofs.Common.{◌≡◌, ◌∙◌, ℕ, pos, true, false, List, [], ◌∷◌, ◌++◌, codes, drop, take, Some, None, Ok, refl, ap}
+use Rattle.std.proofs.Common.{◌≡◌, ◌∙◌, ℕ, pos, true, List, [], ◌∷◌, ◌++◌, codes, drop, take, Some, None, Ok, refl, ap}
 use Rattle.std.specs.Ordering.{nat_cmp}
 use Rattle.std.specs.Cmp.Lexicographic.{slice_cmp}
 use Rattle.std.specs.FinSet.{contains-empty}
@@ -13,21 +13,21 @@ use Rattle.statements_facts.specs.declared.scope.Scope.TheVariants.{All}
 use Rattle.statements_facts.specs.declared.single.Status.TheVariants.{Good}
 use Rattle.statements_facts.specs.Fact.{Fact}
 use Rattle.statements_facts.specs.Statement.{IssuerIdentity, Window, CrlFact, OcspFact}
-use Rattle.statements_crl.specs.CertificateList.{CertificateList, certificate_list}
+use Rattle.cert.specs.BitString.{BitString}
+use Rattle.statements_crl.specs.CertificateList.{CertificateList}
 use Rattle.statements_ocsp.specs.declared.cert_status.CertStatus.TheVariants as said
-use Rattle.statements_ocsp.specs.Kind.{begins_with_status, is_response}
-use Rattle.statements_ocsp.specs.OcspResponse.{OcspResponse, ocsp_response}
+use Rattle.statements_ocsp.specs.OcspResponse.{OcspResponse}
 use Rattle.statements_ocsp.specs.Responder.{by_name}
 use Rattle.statements.specs.Issuer.{identity_of}
-use Rattle.statements.specs.CrlFact.{of_issuer, genuine_list}
+use Rattle.statements.specs.CrlFact.{of_issuer}
 use Rattle.statements.specs.Responder.{key_hash, signs_itself}
-use Rattle.statements.specs.OcspFact.{genuine_response, genuine_statement}
+use Rattle.statements.specs.Statement.{Statement, statement, genuine_statement}
 use Rattle.relying_agreement.specs.Run.{facts_or_none, facts_under, genuine_facts}
 use Rattle.relying_examples.specs.Octets.{octets, anchor, name_r, algorithm, key_r, list_1, list_2, response, basic_response}
 use Rattle.relying_examples.specs.Premises.{accepts_toys}
 use Rattle.relying_examples.proofs.OnLiterals.{on_literals}
 use Rattle.relying_examples.proofs.Trees.{list_1_whole, list_2_whole, response_whole, basic_whole}
-use Rattle.relying_examples.proofs.CertificateReading.{rdns, name_at, root, root_is_read}
+use Rattle.relying_examples.proofs.CertificateReading.{rdns, name_at, algorithm_at, root, root_is_read}
 
 -- ---- the facts
 
@@ -60,17 +60,21 @@ list_tbs number =
     octets (codes "3045020101") ++ algorithm ++ name_r ++ octets (codes "170d3235303630313030303030305a170d3235303730313030303030305a")
     ++ octets (codes "a00e300c300a0603551d1404030201") ++ number ∷ []
 
+-- a BIT STRING of 32 octets
+abbrev bits_at : List ℕ → ℕ → BitString
+bits_at octets at = record { value = text_at (0x03 ∷ 0x21 ∷ 0x00 ∷ octets) at; octets = octets }
+
 abbrev list_with : ℕ → List ℕ → CertificateList
 list_with number signature = record {
-  tbs = list_tbs number;
-  algorithm = algorithm;
+  tbs = text_at (list_tbs number) 2;
+  algorithm = algorithm_at 7;
   issuer = name_at name_r 13 114;
   this_update = pos 1748736000;
   next_update = pos 1751328000;
   entries = [];
   number = number ∷ [];
   scope = All;
-  signature = signature;
+  signature = bits_at signature 79;
 }
 
 abbrev signature_1 : List ℕ
@@ -79,21 +83,13 @@ signature_1 = octets (codes "d807a77257f6c8efced4f67a16940296ac888cc3a527192efe1
 abbrev signature_2 : List ℕ
 signature_2 = octets (codes "32dd0e272ca32c599cf0c698d1766f5735feae1ba75974c4707914c76734a7fd")
 
-list_1_is_read : certificate_list list_1 ≡ Ok (list_with 1 signature_1)
+list_1_is_read : statement list_1 ≡ Ok (Statement.OfList (list_with 1 signature_1))
 unfolding on_literals
 list_1_is_read = rw (outermost_again list_1 list_1_whole, contains-empty (slice_cmp nat_cmp) (0x55 ∷ 0x1D ∷ 0x14 ∷ [])) refl
 
-list_2_is_read : certificate_list list_2 ≡ Ok (list_with 2 signature_2)
+list_2_is_read : statement list_2 ≡ Ok (Statement.OfList (list_with 2 signature_2))
 unfolding on_literals
 list_2_is_read = rw (outermost_again list_2 list_2_whole, contains-empty (slice_cmp nat_cmp) (0x55 ∷ 0x1D ∷ 0x14 ∷ [])) refl
-
-list_1_is_list : is_response list_1 ≡ false
-unfolding on_literals
-list_1_is_list = ap begins_with_status (outermost_again list_1 list_1_whole)
-
-list_2_is_list : is_response list_2 ≡ false
-unfolding on_literals
-list_2_is_list = ap begins_with_status (outermost_again list_2 list_2_whole)
 
 signed_1 : accepts_toys algorithm key_r (list_tbs 1) signature_1 ≡ true
 unfolding on_literals
@@ -107,19 +103,25 @@ same_name : matching (rdns 114) (rdns 114) ≡ true
 same_name = (matching_is_exact (rdns 114) (rdns 114)).1 refl
 
 -- what a list says that was read, whose signature is accepted
-list_says : (list : List ℕ) (number : ℕ) (signature : List ℕ) → is_response list ≡ false → certificate_list list ≡ Ok (list_with number signature)
+list_says : (list : List ℕ) (number : ℕ) (signature : List ℕ) → statement list ≡ Ok (Statement.OfList (list_with number signature))
     → accepts_toys algorithm key_r (list_tbs number) signature ≡ true → binary_value (number ∷ []) ≡ number
     → genuine_statement accepts_toys root list ≡ Ok (list_of (identity_of root) number ∷ [])
-unfolding genuine_statement genuine_list of_issuer
-list_says list number signature is_list reads signed counts = rw (is_list, reads, same_name, signed, counts) refl
+unfolding genuine_statement of_issuer
+list_says list number signature reads signed counts = rw (reads, same_name, signed, counts) refl
 
 -- ---- the response
 
+abbrev response_tbs : List ℕ
+response_tbs = drop 3 (take 139 basic_response)
+
+abbrev response_signature : List ℕ
+response_signature = octets (codes "dc07faaf772eec913d5ce8cf4e7a3b420bd362857c5084ff100e92076100decd")
+
 abbrev response_fields : OcspResponse
 response_fields = record {
-  tbs = drop 3 (take 139 basic_response);
-  algorithm = algorithm;
-  signature = octets (codes "dc07faaf772eec913d5ce8cf4e7a3b420bd362857c5084ff100e92076100decd");
+  tbs = text_at response_tbs 29;
+  algorithm = algorithm_at 165;
+  signature = bits_at response_signature 171;
   responder = by_name (name_at name_r 34 114);
   produced_at = pos 1748736000;
   responses = record {
@@ -140,15 +142,11 @@ response_fields = record {
 abbrev contained : Place
 contained = text_at (0x04 ∷ 0x81 ∷ 0xB4 ∷ basic_response) 23
 
-response_is_read : ocsp_response response ≡ Ok response_fields
+response_is_read : statement response ≡ Ok (Statement.OfResponse response_fields)
 unfolding on_literals
 response_is_read = rw (outermost_again response response_whole, nested_again contained basic_whole) refl
 
-response_is_one : is_response response ≡ true
-unfolding on_literals
-response_is_one = ap begins_with_status (outermost_again response response_whole)
-
-response_signed : accepts_toys algorithm key_r (drop 3 (take 139 basic_response)) (octets (codes "dc07faaf772eec913d5ce8cf4e7a3b420bd362857c5084ff100e92076100decd")) ≡ true
+response_signed : accepts_toys algorithm key_r response_tbs response_signature ≡ true
 unfolding on_literals
 response_signed = refl
 
@@ -161,8 +159,8 @@ unfolding on_literals
 name_hash_is = refl
 
 response_says : genuine_statement accepts_toys root response ≡ Ok (response_of (identity_of root) (sha1 name_r) ∷ [])
-unfolding genuine_statement genuine_response signs_itself
-response_says = rw (response_is_one, response_is_read, same_name, response_signed, key_hash_is, name_hash_is) refl
+unfolding genuine_statement signs_itself
+response_says = rw (response_is_read, same_name, response_signed, key_hash_is, name_hash_is) refl
 
 -- ---- what the parties take
 
@@ -175,10 +173,10 @@ unfolding binary_value
 two_counts = refl
 
 pub list_1_gives : genuine_facts accepts_toys anchor list_1 ≡ list_of (identity_of root) 1 ∷ []
-list_1_gives = ap (facts_under accepts_toys list_1) root_is_read ∙ ap facts_or_none (list_says list_1 1 signature_1 list_1_is_list list_1_is_read signed_1 one_counts)
+list_1_gives = ap (facts_under accepts_toys list_1) root_is_read ∙ ap facts_or_none (list_says list_1 1 signature_1 list_1_is_read signed_1 one_counts)
 
 pub list_2_gives : genuine_facts accepts_toys anchor list_2 ≡ list_of (identity_of root) 2 ∷ []
-list_2_gives = ap (facts_under accepts_toys list_2) root_is_read ∙ ap facts_or_none (list_says list_2 2 signature_2 list_2_is_list list_2_is_read signed_2 two_counts)
+list_2_gives = ap (facts_under accepts_toys list_2) root_is_read ∙ ap facts_or_none (list_says list_2 2 signature_2 list_2_is_read signed_2 two_counts)
 
 pub response_gives : genuine_facts accepts_toys anchor response ≡ response_of (identity_of root) (sha1 name_r) ∷ []
 response_gives = ap (facts_under accepts_toys response) root_is_read ∙ ap facts_or_none response_says

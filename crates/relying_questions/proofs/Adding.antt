@@ -1,21 +1,21 @@
 -- Questions that are added one after the other.
-use denote.Ref.{Bor}
-use Rattle.std.proofs.Common.{◌≡◌, ℕ, zero, suc, ◌+◌, ◌<◌, List, [], ◌∷◌, ◌++◌, length, drop, map, get_or, arith, refl, sym, ap, ◌∙◌, append_assoc}
+use Rattle.std.proofs.Common.{◌≡◌, ℕ, suc, ◌+◌, ◌<◌, List, [], ◌∷◌, ◌++◌, length, drop, map, get_or, arith, refl, sym, ap, ◌∙◌, append_assoc}
 use Rattle.std.specs.List.{flat_map, filter_map}
 use Rattle.std.proofs.Math.Seq.{drop-cons}
 use Rattle.std.proofs.Common.{Option, Some, None, Result, Ok, Err, IfOk}
+use Rattle.asn.specs.Place.{Place}
 use Rattle.cert.specs.Certificate.{Certificate}
+use Rattle.statements.specs.Statement.{Statement}
 use Rattle.statements_ocsp.specs.Certificates.{certificate_in, certificates_in}
 use Rattle.statements_ocsp.specs.OcspResponse.{OcspResponse}
-use Rattle.relying_questions.specs.Questions.{Judgement, of_certificate, asked_of_delegate, asked_of_issuer, asked_of_path, asked_of_response, asked_of_statement, asked_of_statements, questions_of}
-use Rattle.relying_questions.specs.Seen.{asked_of_link, asked_of_links, asked_of_option, asked_of_value, issuer_of_link, issuers_in, seen_all, seen_asked}
+use Rattle.relying_questions.specs.Questions.{Judgement, of_certificate, asked_of_delegate, asked_of_issuer, asked_of_path, asked_of_response, asked_of_statements, questions_of}
+use Rattle.relying_questions.specs.Seen.{asked_of_link, asked_of_links, asked_of_option, asked_of_value, issuer_of_link, issuers_in, seen_all, seen_question}
 use Rattle.path.specs.Query.{Query}
 use Rattle.relying_agreement.specs.Link.{Link, links_of}
 use Rattle.relying_evidence.specs.View.{seen_link}
 use Rattle.relying_evidence.specs.declared.link.Link as linked
 use Rattle.relying_texts.specs.Texts.{issuers_of}
-use Rattle.relying_texts.specs.View.{texts_of}
-use Rattle.relying_questions.specs.declared.asked.Asked.{Asked}
+use Rattle.relying_questions.specs.declared.question.SignatureQuestion.{SignatureQuestion}
 
 -- the next of those that are left
 pub one_left : {A : Type 0} (xs : List A) (i : ℕ) (x : A) → i < length xs → x ≡ get_or xs i x → drop i xs ≡ x ∷ drop (i + 1) xs
@@ -55,7 +55,7 @@ pub both_asked : (old middle new some more : List Judgement) → middle ≡ old 
 both_asked old middle new some more first second = second ∙ ap (λ l. l ++ more) first ∙ append_assoc old some more
 
 -- the values of a response are asked about by the certificates among them
-pub values_asked : (issuer : Certificate) (response : OcspResponse) (values : List (List ℕ))
+pub values_asked : (issuer : Certificate) (response : OcspResponse) (values : List Place)
     → flat_map (asked_of_value issuer response) values ≡ flat_map (asked_of_delegate issuer response) (filter_map certificate_in values)
 values_asked issuer response [] = refl
 values_asked issuer response (value ∷ values) = by (values_asked issuer response values) (certificate_in value) refl where
@@ -75,25 +75,11 @@ response_asked (Ok x) old middle new issuer response first second =
 response_asked (Err e) old middle new issuer response first second = tt
 
 -- one more question
-pub seen_push : (sofar new : List Asked) (asked : Asked) (is : Judgement) → new ≡ sofar ++ asked ∷ [] → seen_asked asked ≡ is → seen_all new ≡ seen_all sofar ++ is ∷ []
+pub seen_push : (sofar new : List SignatureQuestion) (asked : SignatureQuestion) (is : Judgement) → new ≡ sofar ++ asked ∷ [] → seen_question asked ≡ is → seen_all new ≡ seen_all sofar ++ is ∷ []
 seen_push sofar new asked is new_is same = ap seen_all new_is ∙ behind sofar ∙ ap (λ j. seen_all sofar ++ j ∷ []) same where
-  behind : (xs : List Asked) → seen_all (xs ++ asked ∷ []) ≡ seen_all xs ++ seen_asked asked ∷ []
+  behind : (xs : List SignatureQuestion) → seen_all (xs ++ asked ∷ []) ≡ seen_all xs ++ seen_question asked ∷ []
   behind [] = refl
-  behind (x ∷ xs) = ap (λ more. seen_asked x ∷ more) (behind xs)
-
--- one more of several statements
-pub one_more_told : (issuers : List Certificate) (statements : List (Bor (List ℕ))) (i : ℕ) (d : Bor (List ℕ)) (sofar new whole : List Judgement) → i < length statements
-    → new ≡ sofar ++ asked_of_statement issuers (get_or statements i d).now
-    → sofar ++ asked_of_statements issuers (texts_of (drop i statements)) ≡ whole
-    → new ++ asked_of_statements issuers (texts_of (drop (i + 1) statements)) ≡ whole
-one_more_told issuers statements i d sofar new whole below new_is so_far =
-    one_more (asked_of_statement issuers) sofar new (get_or statements i d).now (texts_of (drop i statements)) (texts_of (drop (i + 1) statements)) whole
-    (ap texts_of (one_left statements i (get_or statements i d) below (same_at statements i d))) new_is so_far
-  where
-    same_at : (xs : List (Bor (List ℕ))) (i : ℕ) (d : Bor (List ℕ)) → get_or xs i d ≡ get_or xs i (get_or xs i d)
-    same_at [] i d = refl
-    same_at (x ∷ xs) zero d = refl
-    same_at (x ∷ xs) (suc i) d = same_at xs i d
+  behind (x ∷ xs) = ap (λ more. seen_question x ∷ more) (behind xs)
 
 -- ---- the whole
 
@@ -105,7 +91,7 @@ issuers_are : (links : List linked.Link) → issuers_in links ≡ map (λ (link 
 issuers_are [] = refl
 issuers_are (link ∷ links) = ap (λ more. issuer_of_link link ∷ more) (issuers_are links)
 
-pub all_questions : (query : Query) (statements : List (List ℕ)) (links one other : List linked.Link) (start : List Asked) (middle new : List Judgement)
+pub all_questions : (query : Query) (statements : List Statement) (links one other : List linked.Link) (start : List SignatureQuestion) (middle new : List Judgement)
     → start ≡ [] → one ≡ links → other ≡ links → map seen_link links ≡ links_of query
     → middle ≡ seen_all start ++ asked_of_links one → new ≡ middle ++ asked_of_statements (issuers_in other) statements → new ≡ questions_of query statements
 all_questions query statements links one other start middle new start_is one_is other_is links_are first second =

@@ -1,34 +1,29 @@
 -- Questions whose parts stand in their texts, one after the other.
-use denote.Ref.{Bor}
-use Rattle.std.proofs.Common.{◌≡◌, ◌+◌, ◌-◌, ◌<◌, ◌^◌, ℕ, zero, suc, List, [], ◌∷◌, ◌++◌, length, map, get_or, slice_index_or, arith, Result, Ok, Err, IfOk, refl, sym, ap, ◌∙◌, subst}
+use Rattle.std.proofs.Common.{◌≡◌, ◌+◌, ◌-◌, ◌<◌, ℕ, zero, suc, List, [], ◌∷◌, ◌++◌, length, map, get_or, slice_index_or, arith, Result, Ok, Err, IfOk, refl, sym, ap, ◌∙◌, subst}
 use Rattle.std.specs.List.{AllByRecursion}
 use Rattle.asn.specs.DerLaws.{AreOctets}
-use Rattle.asn.specs.Part.{IsPartOf}
-use Rattle.asn.specs.Place.{Place}
-use Rattle.cert.specs.Certificate.{Certificate, certificate}
-use Rattle.cert.proofs.Laws.{certificate_is_exact}
+use Rattle.cert.specs.Certificate.{Certificate}
 use Rattle.path.specs.Query.{Query}
 use Rattle.statements.specs.OneIssuer.{WasRead}
+use Rattle.statements.specs.Statement.{Statement, StatementIsExact, statement}
 use Rattle.relying_agreement.specs.Link.{links_from, links_of}
-use Rattle.relying_texts.specs.View.{texts_of}
-use Rattle.relying_questions.specs.declared.asked.Asked.{Asked}
+use Rattle.relying_questions.specs.declared.question.SignatureQuestion.{SignatureQuestion}
 use Rattle.relying_questions.specs.declared.part.Source.TheVariants as source
-use Rattle.relying_questions.specs.Offsets.{AreCertsAt, GivesOffset}
-use Rattle.relying_questions.specs.Places.{Texts, AllInTexts, AreInTexts, AreStatementTexts, IsStatementText, HasParts, KeepsInTexts, LinkStands, ValueStands, WereRead, texts_in}
-use Rattle.relying_questions.proofs.Standing.{certificate_has_parts}
+use Rattle.relying_questions.specs.Places.{Texts, AllInTexts, AreInTexts, HasParts, KeepsInTexts, LinkStands, StatementStands, StatementsStand, WereRead, WereStatementsRead, statement_text, texts_in}
+use Rattle.relying_questions.proofs.Standing.{has_parts, list_stands, response_stands}
 
 -- one more
-pub pushed : (texts : Texts) (sofar : List Asked) (asked : Asked) → AllInTexts texts sofar → AreInTexts texts asked → AllInTexts texts (sofar ++ asked ∷ [])
+pub pushed : (texts : Texts) (sofar : List SignatureQuestion) (asked : SignatureQuestion) → AllInTexts texts sofar → AreInTexts texts asked → AllInTexts texts (sofar ++ asked ∷ [])
 pushed texts [] asked all one = (one, tt)
 pushed texts (first ∷ sofar) asked all one = (all.0, pushed texts sofar asked all.1 one)
 
-pub kept_one : (Premise : Texts → Type 0) (old sofar new : List Asked) (asked : Asked) → KeepsInTexts Premise old sofar → new ≡ sofar ++ asked ∷ []
+pub kept_one : (Premise : Texts → Type 0) (old sofar new : List SignatureQuestion) (asked : SignatureQuestion) → KeepsInTexts Premise old sofar → new ≡ sofar ++ asked ∷ []
     → ((texts : Texts) → Premise texts → AreInTexts texts asked) → KeepsInTexts Premise old new
 kept_one Premise old sofar new asked keeps new_is one texts holds all =
     subst (AllInTexts texts) (sym new_is) (pushed texts sofar asked (keeps texts holds all) (one texts holds))
 
 -- one step after another
-pub kept_more : (Premise Weaker : Texts → Type 0) (old sofar new : List Asked) → KeepsInTexts Premise old sofar → KeepsInTexts Weaker sofar new
+pub kept_more : (Premise Weaker : Texts → Type 0) (old sofar new : List SignatureQuestion) → KeepsInTexts Premise old sofar → KeepsInTexts Weaker sofar new
     → ((texts : Texts) → Premise texts → Weaker texts) → KeepsInTexts Premise old new
 kept_more Premise Weaker old sofar new keeps more weaker texts holds all = more texts (weaker texts holds) (keeps texts holds all)
 
@@ -38,53 +33,15 @@ at_index P f [] i x all below is = absurd (omega (arith, below))
 at_index P f (y ∷ xs) zero x all below is = subst (λ z. P (f z)) (sym is) all.0
 at_index P f (y ∷ xs) (suc i) x all below is = at_index P f xs i x all.1 (omega (arith, below)) is
 
--- ---- values that come with a response
-
-pub next_stands : (text : List ℕ) (values left : List Place) (octets : List ℕ) (offset : ℕ) (certs others : List (List ℕ))
-    → AreCertsAt text values certs → certs ≡ octets ∷ others → GivesOffset values left offset
-    → ValueStands text octets offset × AreCertsAt text left others
-next_stands text [] left octets offset certs others are some gives = let none : [] ≡ octets ∷ others = are.octets_are ∙ some in absurd cc
-next_stands text (first ∷ rest) left octets offset certs others are some gives =
-    let next = gives first rest refl in
-    let both : first.octets ∷ map (λ (value : Place). value.octets) rest ≡ octets ∷ others = are.octets_are ∙ some in
-    let one : first.octets ≡ octets = cc in
-    let more : map (λ (value : Place). value.octets) rest ≡ others = cc in (
-      record {
-        stands = subst (λ at. IsPartOf text at octets) (sym next.offset_is) (subst (IsPartOf text first.at) one are.stand.0);
-        fits = subst (λ l. offset + length l < 2 ^ 64) one next.fits;
-      },
-      subst (λ places. AreCertsAt text places others) (sym next.left_is) (record { stand = are.stand.1; octets_are = more }),
-    )
-
--- ---- certificates
-
-pub record StandsRead (text : List ℕ) (at : ℕ) (c : Certificate) : Type 0 where
-  pub whole : IsPartOf text at c.octets
-  pub fits : at + length c.octets < 2 ^ 64
-  pub parts : HasParts c
-
-octets_read : (octets : List ℕ) (c : Certificate) → AreOctets octets → certificate octets ≡ Ok c → c.octets ≡ octets
-octets_read octets c fits reads = ap (λ (d : Certificate). d.octets) ((certificate_is_exact octets c fits).0 reads).layout.fields_are
-
--- a certificate that comes with a response
-pub delegate_stands : (text octets : List ℕ) (at : ℕ) (c : Certificate) → AreOctets octets → certificate octets ≡ Ok c → ValueStands text octets at → StandsRead text at c
-delegate_stands text octets at c fits reads value =
-    let same = octets_read octets c fits reads in
-    record {
-      whole = subst (IsPartOf text at) (sym same) value.stands;
-      fits = subst (λ l. at + length l < 2 ^ 64) (sym same) value.fits;
-      parts = certificate_has_parts octets c fits reads;
-    }
-
 -- ---- the certificates of a path
-
-has_parts : (c : Certificate) → WasRead c → HasParts c
-has_parts c read = certificate_has_parts read.octets c read.are_octets read.reads
 
 -- the certificates are the texts from a number on
 abbrev TextsFrom : Texts → ℕ → List Certificate → Type 0
 TextsFrom texts n [] = Unit {0}
 TextsFrom texts n (c ∷ path) = (texts (source.Certificate n) ≡ c.octets) × TextsFrom texts (suc n) path
+
+placed : (text : List ℕ) (c : Certificate) → text ≡ c.octets → WasRead c → HasParts text c
+placed text c is read = subst (λ t. HasParts t c) (sym is) (has_parts c read)
 
 links_stand : (texts : Texts) (n : ℕ) (issuer : Certificate) (path : List Certificate) → texts (source.Certificate n) ≡ issuer.octets → WasRead issuer
     → TextsFrom texts (suc n) path → AllByRecursion WasRead path → AllByRecursion (LinkStands texts) (links_from (suc n) issuer path)
@@ -92,10 +49,8 @@ links_stand texts n issuer [] text read all were = tt
 links_stand texts n issuer (c ∷ path) text read all were =
     let earlier : suc n - 1 ≡ n = omega arith in (
       record {
-        issuer_text = subst (λ k. texts (source.Certificate k) ≡ issuer.octets) (sym earlier) text;
-        issuer_parts = has_parts issuer read;
-        certificate_text = all.0;
-        certificate_parts = has_parts c were.0;
+        issuer = placed (texts (source.Certificate (suc n - 1))) issuer (ap (λ k. texts (source.Certificate k)) earlier ∙ text) read;
+        certificate = placed (texts (source.Certificate (suc n))) c all.0 were.0;
       },
       links_stand texts (suc n) c path all.0 were.0 all.1 were.1,
     )
@@ -114,8 +69,8 @@ texts_from texts n (c ∷ path) d all =
 numbered : (j : ℕ) → 1 + j ≡ suc j
 numbered j = omega arith
 
-pub question_stands : (query : Query) (statements : List (List ℕ)) → WereRead query → AllByRecursion (LinkStands (texts_in query statements)) (links_of query)
-question_stands query statements were =
+pub query_stands : (query : Query) (statements : List (List ℕ)) → WereRead query → AllByRecursion (LinkStands (texts_in query statements)) (links_of query)
+query_stands query statements were =
     links_stand (texts_in query statements) 0 query.anchor query.certificates refl were.0
     (texts_from (texts_in query statements) 1 query.certificates query.anchor
     (λ j below. ap (λ k. texts_in query statements (source.Certificate k)) (numbered j)))
@@ -123,19 +78,52 @@ question_stands query statements were =
 
 -- ---- what a call answers
 
-pub kept_by : {E : Type 0} (result : Result (Unit {0}) E) (Premise Weaker : Texts → Type 0) (old new : List Asked) → IfOk result (λ _. KeepsInTexts Weaker old new)
+pub kept_by : {E : Type 0} (result : Result (Unit {0}) E) (Premise Weaker : Texts → Type 0) (old new : List SignatureQuestion) → IfOk result (λ _. KeepsInTexts Weaker old new)
     → ((texts : Texts) → Premise texts → Weaker texts) → IfOk result (λ _. KeepsInTexts Premise old new)
 kept_by (Ok x) Premise Weaker old new keeps weaker = λ texts holds all. keeps texts (weaker texts holds) all
 kept_by (Err e) Premise Weaker old new keeps weaker = tt
 
 -- ---- statements
 
-text_is : (statements : List (Bor (List ℕ))) (i : ℕ) (d : Bor (List ℕ)) → i < length statements
-    → (slice_index_or (texts_of statements) i [] ≡ (get_or statements i d).now) × (i < length (texts_of statements))
-text_is [] i d below = absurd (omega (arith, below))
-text_is (x ∷ xs) zero d below = (refl, omega arith)
-text_is (x ∷ xs) (suc i) d below = let rest = text_is xs i d (omega (arith, below)) in (rest.0, omega (arith, rest.1))
+statement_stands : StatementIsExact → (text : List ℕ) (read : Statement) → AreOctets text → statement text ≡ Ok read → StatementStands text read
+statement_stands exact text (Statement.OfList list) fits reads = list_stands text list ((exact text (Statement.OfList list) fits).0 reads)
+statement_stands exact text (Statement.OfResponse response) fits reads = response_stands text response fits ((exact text (Statement.OfResponse response) fits).0 reads)
 
-pub statement_text : (texts : Texts) (statements : List (Bor (List ℕ))) (i : ℕ) (d : Bor (List ℕ)) → AreStatementTexts (texts_of statements) texts → i < length statements
-    → IsStatementText i (get_or statements i d).now texts
-statement_text texts statements i d all below = let is = text_is statements i d below in all i is.1 ∙ is.0
+statements_stand : StatementIsExact → (texts : Texts) (n : ℕ) (octets : List (List ℕ)) (statements : List Statement) → ((j : ℕ) → j < length octets → texts (source.Statement (n + j)) ≡ slice_index_or octets j [])
+    → WereStatementsRead octets statements → StatementsStand texts n statements
+statements_stand exact texts n [] [] are were = tt
+statements_stand exact texts n [] (read ∷ statements) are were = absurd were
+statements_stand exact texts n (text ∷ octets) [] are were = absurd were
+statements_stand exact texts n (text ∷ octets) (read ∷ statements) are were =
+    let here : n + 0 ≡ n = omega arith in
+    let is : texts (source.Statement n) ≡ text = ap (λ k. texts (source.Statement k)) (sym here) ∙ are 0 (omega arith) in (
+      subst (λ t. StatementStands t read) (sym is) (statement_stands exact text read were.0.are_octets were.0.reads),
+      statements_stand exact texts (suc n) octets statements
+          (λ j below. ap (λ k. texts (source.Statement k)) (next n j) ∙ are (suc j) (omega (arith, below))) were.1,
+    )
+  where
+    next : (n j : ℕ) → suc n + j ≡ n + suc j
+    next n j = omega arith
+
+zero_before : (j : ℕ) → 0 + j ≡ j
+zero_before j = omega arith
+
+pub all_statements_stand : StatementIsExact → (query : Query) (octets : List (List ℕ)) (statements : List Statement) → WereStatementsRead octets statements → StatementsStand (texts_in query octets) 0 statements
+all_statements_stand exact query octets statements were =
+    statements_stand exact (texts_in query octets) 0 octets statements (λ j below. ap (λ k. texts_in query octets (source.Statement k)) (zero_before j)) were
+
+-- the one at an index
+statement_at_index : {X : Type 0} (texts : Texts) (f : X → Statement) (xs : List X) (n i : ℕ) (x : X) → StatementsStand texts n (map f xs) → i < length xs → x ≡ get_or xs i x
+    → StatementStands (statement_text texts (n + i)) (f x)
+statement_at_index texts f [] n i x all below is = absurd (omega (arith, below))
+statement_at_index texts f (y ∷ xs) n zero x all below is =
+    let here : n + 0 ≡ n = omega arith in
+    subst (λ k. StatementStands (statement_text texts k) (f x)) (sym here) (subst (λ z. StatementStands (statement_text texts n) (f z)) (sym is) all.0)
+statement_at_index texts f (y ∷ xs) n (suc i) x all below is =
+    let next : suc n + i ≡ n + suc i = omega arith in
+    subst (λ k. StatementStands (statement_text texts k) (f x)) next (statement_at_index texts f xs (suc n) i x all.1 (omega (arith, below)) is)
+
+pub statement_stands_at : {X : Type 0} (texts : Texts) (f : X → Statement) (xs : List X) (i : ℕ) (x : X) → StatementsStand texts 0 (map f xs) → i < length xs → x ≡ get_or xs i x
+    → StatementStands (statement_text texts i) (f x)
+statement_stands_at texts f xs i x all below is =
+    subst (λ k. StatementStands (statement_text texts k) (f x)) (zero_before i) (statement_at_index texts f xs 0 i x all below is)

@@ -2,8 +2,6 @@ mod Alike
 mod PathAlike
 mod StatementsAlike
 mod SameVerdicts
-mod Purposes
 mod Adding
 mod Standing
 mod Kept
-mod StatementStanding

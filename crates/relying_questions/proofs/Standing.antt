@@ -1,6 +1,7 @@
--- The parts of a certificate stand in its octets.
-use Rattle.std.proofs.Common.{◌≡◌, ◌+◌, ◌-◌, ◌<◌, ◌^◌, min, ℕ, true, List, [], ◌∷◌, ◌++◌, length, take, Ok, refl, sym, ap, ◌∙◌, subst, append_assoc, length-append, arith}
-use Rattle.der.specs.Identifier.{is_constructed}
+-- The parts of certificates, lists and responses stand in the texts that they were read from.
+use Rattle.std.proofs.Common.{◌≡◌, ◌+◌, true, ℕ, zero, suc, List, [], ◌∷◌, ◌++◌, length, take, Ok, refl, sym, ap, ◌∙◌, subst, append_assoc, length-append, arith}
+use Rattle.std.specs.List.{AllByRecursion}
+use Rattle.asn.specs.Identifier.{is_constructed}
 use Rattle.asn.specs.DerLaws.{AreOctets}
 use Rattle.asn.specs.Encoding.{Encodes}
 use Rattle.asn.specs.Value.{Value}
@@ -8,10 +9,16 @@ use Rattle.asn.specs.Part.{IsPartOf, contents}
 use Rattle.asn.specs.Place.{Place, tag, body, body_place}
 use Rattle.asn.specs.Members.{members}
 use Rattle.asn.proofs.Laws.{IsEncodedPart, AllParts, members_stand, contents_stand}
-use Rattle.cert.specs.Certificate.{Certificate, certificate}
+use Rattle.cert.specs.Certificate.{Certificate, certificate_at}
 use Rattle.cert.specs.CertificateForms.{IsCertificateAt, IsSignature}
-use Rattle.cert.proofs.Laws.{certificate_is_exact}
-use Rattle.relying_questions.specs.Places.{IsPlaceIn, bits_at, HasParts}
+use Rattle.cert.specs.Offsets.{StandsIn}
+use Rattle.cert.proofs.Laws.{certificate_is_exact, is_certificate_at}
+use Rattle.statements.specs.OneIssuer.{WasRead}
+use Rattle.statements_crl.specs.CertificateList.{CertificateList}
+use Rattle.statements_crl.specs.ListForms.{IsCertificateList}
+use Rattle.statements_ocsp.specs.OcspResponse.{OcspResponse}
+use Rattle.statements_ocsp.specs.ResponseForms.{AreCerts, IsOcspResponse}
+use Rattle.relying_questions.specs.Places.{IsPlaceIn, ListStands, ResponseStands, bits_at, HasParts}
 
 none_behind : (xs : List ℕ) → xs ≡ xs ++ []
 none_behind [] = refl
@@ -49,23 +56,6 @@ shorter text at first rest is = record {
   place = omega (arith, length-append is.before first, is.place);
 }
 
--- a part of a part
-pub part_in_part : (text : List ℕ) (at inner : ℕ) (whole part : List ℕ) → IsPartOf text at whole → IsPartOf whole inner part → IsPartOf text (at + inner) part
-part_in_part text at inner whole part outer is = record {
-  before = outer.before ++ is.before;
-  behind = is.behind ++ outer.behind;
-  joined =
-      outer.joined
-      ∙ ap (λ (t : List ℕ). outer.before ++ t ++ outer.behind) is.joined
-      ∙ regrouped outer.before is.before part is.behind outer.behind;
-  place = omega (arith, length-append outer.before is.before, outer.place, is.place);
-}
-  where
-    regrouped : (a b c d e : List ℕ) → a ++ (b ++ c ++ d) ++ e ≡ (a ++ b) ++ c ++ (d ++ e)
-    regrouped a b c d e =
-        ap (λ t. t ++ e) (sym (append_assoc a (b ++ c) d) ∙ ap (λ t. t ++ d) (sym (append_assoc a b c)))
-        ∙ append_assoc ((a ++ b) ++ c) d e
-
 pub bits_stand : (text : List ℕ) (value : Place) (octets : List ℕ) → IsSignature value octets → IsEncodedPart text value → IsPartOf text (bits_at value) octets
 unfolding body_place contents
 bits_stand text value octets is whole =
@@ -73,38 +63,100 @@ bits_stand text value octets is whole =
     let stands : IsPartOf text (body_place value).at ((0 ∷ []) ++ octets) = subst (IsPartOf text (body_place value).at) cut (contents_stand text value whole) in
     subst (λ first. IsPartOf text ((body_place value).at + length (take 1 first)) octets) (sym cut) (shorter text (body_place value).at (0 ∷ []) octets stands)
 
+-- ---- certificates
+
 -- the members of a certificate and of its signed part
-in_octets : (octets : List ℕ) (c : Certificate) → IsCertificateAt (record { octets = octets; at = 0 }) c → IsEncodedPart octets (record { octets = octets; at = 0 }) → HasParts c
-in_octets octets c is whole =
-    let parts = inside octets (record { octets = octets; at = 0 }) (is.signed ∷ is.algorithm ∷ is.signature.value ∷ []) is.sequence is.members_are whole in
+in_text : (text : List ℕ) (value : Place) (c : Certificate) → IsCertificateAt value c → IsEncodedPart text value → HasParts text c
+in_text text value c is whole =
+    let parts = inside text value (is.signed ∷ is.algorithm ∷ is.signature.value ∷ []) is.sequence is.members_are whole in
     let tbs = is.signed_is in
-    let fields = after octets tbs.versions _ (inside octets is.signed _ is.signed_sequence tbs.members_are parts.0) in
-    subst HasParts (sym is.fields_are) record {
-      message = parts.0.stands;
-      algorithm = subst (IsPlaceIn octets) (sym tbs.signature_is.whole) fields.1.0.stands;
-      key_info = subst (IsPlaceIn octets) (sym tbs.key_info_is.whole) fields.1.1.1.1.1.0.stands;
-      signature = bits_stand octets is.signature.value is.signature.octets is.signature_is parts.1.1.0;
+    let fields = after text tbs.versions _ (inside text is.signed _ is.signed_sequence tbs.members_are parts.0) in
+    subst (HasParts text) (sym is.fields_are) record {
+      signed = record {
+        message_stands = parts.0.stands;
+        algorithm_stands = subst (IsPlaceIn text) (sym tbs.signature_is.whole) fields.1.0.stands;
+        signature_stands = bits_stand text is.signature.value is.signature.octets is.signature_is parts.1.1.0;
+      };
+      key_info = subst (IsPlaceIn text) (sym tbs.key_info_is.whole) fields.1.1.1.1.1.0.stands;
     }
 
-pub certificate_has_parts : (octets : List ℕ) (c : Certificate) → AreOctets octets → certificate octets ≡ Ok c → HasParts c
-certificate_has_parts octets c fits reads =
-    let is = (certificate_is_exact octets c fits).0 reads in
-    in_octets octets c is.layout (is_in_itself octets is.value is.der)
+-- one that was read from its octets has its parts there
+pub has_parts : (c : Certificate) → WasRead c → HasParts c.octets c
+has_parts c read =
+    let is = (certificate_is_exact read.octets c read.are_octets).0 read.reads in
+    let same : c.octets ≡ read.octets = ap (λ (d : Certificate). d.octets) is.layout.fields_are in
+    subst (λ text. HasParts text c) (sym same) (in_text read.octets (record { octets = read.octets; at = 0 }) c is.layout (is_in_itself read.octets is.value is.der))
 
--- the same in a text that has an offset for each of its octets
-fits_below : (at inner n : ℕ) (whole part : List ℕ) → at + length whole < 2 ^ 64 → IsPartOf whole inner part → n ≡ min (at + inner) (2 ^ 64 - 1) → n ≡ at + inner
-fits_below at inner n whole part fits is e =
-    let sizes : length whole ≡ length (is.before ++ part ++ is.behind) = ap length is.joined in
-    omega (arith, fits, e, sizes, length-append is.before part, length-append (is.before ++ part) is.behind, is.place)
+-- octets of a part are octets
+front_octets : (part behind : List ℕ) → AreOctets (part ++ behind) → AreOctets part
+front_octets [] behind are k = omega arith
+front_octets (octet ∷ part) behind are zero = are zero
+front_octets (octet ∷ part) behind are (suc k) = front_octets part behind (λ j. are (suc j)) k
 
-pub part_of_placed : (text : List ℕ) (at inner n : ℕ) (whole part : List ℕ) → IsPartOf text at whole → at + length whole < 2 ^ 64 → IsPartOf whole inner part → n ≡ min (at + inner) (2 ^ 64 - 1) → IsPartOf text n part
-part_of_placed text at inner n whole part outer fits is e =
-    subst (λ k. IsPartOf text k part) (sym (fits_below at inner n whole part fits is e)) (part_in_part text at inner whole part outer is)
+behind_octets : (before part : List ℕ) → AreOctets (before ++ part) → AreOctets part
+behind_octets [] part are = are
+behind_octets (octet ∷ before) part are = behind_octets before part (λ k. are (suc k))
 
--- a certificate that is a text of its own
-pub record IsTextOf (text octets : List ℕ) : Type 0 where
-  pub whole : IsPartOf text 0 octets
-  pub fits : 0 + length octets < 2 ^ 64
+part_octets : (text : List ℕ) (at : ℕ) (part : List ℕ) → AreOctets text → IsPartOf text at part → AreOctets part
+part_octets text at part are is = behind_octets is.before part (front_octets (is.before ++ part) is.behind (subst AreOctets is.joined are))
 
-pub is_text : (text octets : List ℕ) → text ≡ octets → length octets < 2 ^ 64 → IsTextOf text octets
-is_text text octets same fits = record { whole = subst (λ t. IsPartOf t 0 octets) (sym same) (itself octets); fits = omega (arith, fits) }
+-- one that comes with a response has its parts in the text in which it stands
+pub delegate_stands : (text : List ℕ) (value : Place) (c : Certificate) → StandsIn text value → certificate_at value ≡ Ok c → HasParts text c
+delegate_stands text value c is reads =
+    let octets = part_octets text value.at value.octets is.octets is.part in
+    in_text text value c (is_certificate_at value c octets reads) (record { stands = is.part; depth = is.encoded.0; value = is.encoded.1; encodes = is.encoded.2 })
+
+-- ---- statements
+
+abbrev root_of : List ℕ → Place
+root_of text = record { octets = text; at = 0 }
+
+pub list_stands : (text : List ℕ) (list : CertificateList) → IsCertificateList text list → ListStands text list
+list_stands text list is =
+    let layout = is.layout in
+    let parts = inside text (root_of text) (layout.signed ∷ layout.algorithm ∷ layout.signature.value ∷ []) layout.sequence layout.members_are (is_in_itself text is.value is.der) in
+    let fields = inside text layout.signed _ layout.signed_is.sequence layout.signed_is.members_are parts.0 in
+    subst (ListStands text) (sym layout.fields_are) record {
+      message_stands = parts.0.stands;
+      algorithm_stands = subst (IsPlaceIn text) (sym layout.signed_is.signature_is.whole) fields.1.0.stands;
+      signature_stands = bits_stand text layout.signature.value layout.signature.octets layout.signature_is parts.1.1.0;
+    }
+
+-- the response inside is an encoding that stands in the text
+basic_part : (text : List ℕ) (response : Place) (basic : Value) → Encodes (body response) basic → IsEncodedPart text response → IsEncodedPart text (body_place response)
+unfolding body_place contents
+basic_part text response basic der whole = record { stands = contents_stand text response whole; depth = _; value = basic; encodes = der }
+
+basic_stands : (text : List ℕ) (response : OcspResponse) (is : IsOcspResponse text response) → IsEncodedPart text (body_place is.layout.bytes_are.response)
+basic_stands text response is =
+    let layout = is.layout in
+    let bytes = layout.bytes_are in
+    let whole = inside text (root_of text) (layout.status ∷ layout.explicit ∷ []) layout.sequence layout.members_are (is_in_itself text is.value is.der) in
+    let tagged = inside_explicit text layout.explicit (layout.bytes ∷ []) layout.tagged.explicit layout.tagged.members_are whole.1.0 in
+    let members = inside text layout.bytes (bytes.kind ∷ bytes.response ∷ []) bytes.sequence bytes.members_are tagged.0 in
+    basic_part text bytes.response bytes.basic bytes.der members.1.0
+
+all_stand : (text : List ℕ) (places : List Place) → AreOctets text → AllParts text places → AllByRecursion (StandsIn text) places
+all_stand text [] fits parts = tt
+all_stand text (place ∷ places) fits parts =
+    (record { octets = fits; part = parts.0.stands; encoded = (parts.0.depth, parts.0.value, parts.0.encodes) }, all_stand text places fits parts.1)
+
+certs_stand : (text : List ℕ) (values certs : List Place) → AreOctets text → AllParts text values → AreCerts values certs → AllByRecursion (StandsIn text) certs
+certs_stand text [] certs fits parts are = subst (AllByRecursion (StandsIn text)) (sym are) tt
+certs_stand text (value ∷ []) certs fits parts (list, tagged, sequence, are) =
+    let one = inside_explicit text value (list ∷ []) tagged.explicit tagged.members_are parts.0 in
+    subst (AllByRecursion (StandsIn text)) (sym are) (all_stand text (members list).values fits (inside text list (members list).values sequence refl one.0))
+certs_stand text (value ∷ other ∷ values) certs fits parts are = absurd are
+
+pub response_stands : (text : List ℕ) (response : OcspResponse) → AreOctets text → IsOcspResponse text response → ResponseStands text response
+response_stands text response fits is =
+    let basic = is.layout.bytes_are.basic_is in
+    let parts = inside text (body_place is.layout.bytes_are.response) (basic.signed ∷ basic.algorithm ∷ basic.behind.signature.value ∷ basic.certs) basic.sequence basic.members_are (basic_stands text response is) in
+    subst (ResponseStands text) (sym basic.fields_are) record {
+      signed = record {
+        message_stands = parts.0.stands;
+        algorithm_stands = subst (IsPlaceIn text) (sym basic.algorithm_is.whole) parts.1.0.stands;
+        signature_stands = bits_stand text basic.behind.signature.value basic.behind.signature.octets basic.signature_is parts.1.1.0;
+      };
+      certs = certs_stand text basic.certs basic.behind.certs fits parts.1.1.1 basic.certs_are;
+    }

@@ -1,8 +1,9 @@
 -- Verifiers that answer the same questions alike.
-use Rattle.std.specs.Prelude.{◌≡◌, ◌↔◌, ℕ, List, Contains}
+use Rattle.std.specs.Prelude.{◌≡◌, ◌↔◌, List, Contains}
 use Rattle.path.specs.Query.{Query, Accepts}
 use Rattle.relying_agreement.specs.declared.verdict.Verdict.{Verdict}
-use Rattle.relying_texts.specs.Texts.{IsVerdictByTexts}
+use Rattle.statements.specs.Statement.{Statement}
+use Rattle.relying_texts.specs.Texts.{IsVerdictByStatements}
 use Rattle.relying_questions.specs.Questions.{Judgement, answer, questions_of}
 
 -- both answer each of the questions alike
@@ -10,11 +11,11 @@ abbrev pub AnswerAlike : Accepts → Accepts → List Judgement → Type 0
 AnswerAlike accepts other questions = (asked : Judgement) → Contains questions asked → answer accepts asked ≡ answer other asked
 
 -- Verifiers that answer the questions alike give the same verdict on the path by the statements.
-abbrev pub Decide : List Judgement → Query → List (List ℕ) → Type 0
+abbrev pub Decide : List Judgement → Query → List Statement → Type 0
 Decide questions query statements =
     (accepts other : Accepts) → AnswerAlike accepts other questions →
-    (verdict : Verdict) → IsVerdictByTexts accepts query statements verdict ↔ IsVerdictByTexts other query statements verdict
+    (verdict : Verdict) → IsVerdictByStatements accepts query statements verdict ↔ IsVerdictByStatements other query statements verdict
 
 -- The questions about a path and statements do so.
 abbrev pub QuestionsDecide : Type 0
-QuestionsDecide = (query : Query) (statements : List (List ℕ)) → Decide (questions_of query statements) query statements
+QuestionsDecide = (query : Query) (statements : List Statement) → Decide (questions_of query statements) query statements

@@ -1,7 +1,6 @@
 pub mod Questions
 pub mod Agreement
 pub mod Places
-pub mod Offsets
 pub mod Seen
 pub use Rattle.relying_texts.specs.Texts
 pub use Rattle.relying_texts.specs.View

@@ -1,60 +1,71 @@
 -- Where the parts of questions stand.
-use Rattle.std.specs.Prelude.{◌≡◌, ◌+◌, ◌-◌, ◌<◌, ◌^◌, ℕ, List, [], ◌∷◌, length, map, take, slice_index_or}
-use Rattle.std.specs.List.{AllByRecursion}
+use Rattle.std.specs.Prelude.{◌≡◌, ◌+◌, ◌-◌, ℕ, suc, List, [], ◌∷◌, length, map, take, slice_index_or, Ok}
+use Rattle.std.specs.List.{AllByRecursion, AllZip}
+use Rattle.asn.specs.DerLaws.{AreOctets}
 use Rattle.asn.specs.Part.{IsPartOf}
 use Rattle.asn.specs.Place.{Place, body, body_place}
+use Rattle.cert.specs.BitString.{BitString}
 use Rattle.cert.specs.Certificate.{Certificate, seen_certificate}
+use Rattle.cert.specs.Offsets.{StandsIn}
 use Rattle.path.specs.Query.{Query, certificate_at}
 use Rattle.statements.specs.OneIssuer.{WasRead}
-use Rattle.statements_crl.specs.declared.list.Crl as list
-use Rattle.statements_ocsp.specs.declared.response.Response as response
+use Rattle.statements.specs.Statement.{Statement, statement}
+use Rattle.statements_crl.specs.CertificateList.{CertificateList}
+use Rattle.statements_ocsp.specs.OcspResponse.{OcspResponse}
 use Rattle.relying_agreement.specs.Link.{Link}
 use Rattle.relying_evidence.specs.View.{seen_link}
 use Rattle.relying_evidence.specs.declared.link.Link as linked
-use Rattle.relying_questions.specs.declared.asked.Asked as asked
+use Rattle.relying_questions.specs.declared.question.SignatureQuestion as asked
 use Rattle.relying_questions.specs.declared.part.Part as part
 use Rattle.relying_questions.specs.declared.part.Source.{Source}
 use Rattle.relying_questions.specs.declared.part.Source.TheVariants as source
 use Rattle.relying_questions.specs.declared.placed.Placed as placed
-use Rattle.relying_questions.specs.declared.placed.SignedAt as signed
 
 -- ---- the texts
 
 abbrev pub Texts : Type 0
 Texts = Source → List ℕ
 
--- those of a path and of statements
+-- those of a path, and these of statements
 abbrev pub texts_in : Query → List (List ℕ) → Texts
-texts_in query statements (source.Certificate number) = (certificate_at query number).octets
-texts_in query statements (source.Statement index) = slice_index_or statements index []
+texts_in query octets (source.Certificate number) = (certificate_at query number).octets
+texts_in query octets (source.Statement index) = slice_index_or octets index []
+
+abbrev pub statement_text : Texts → ℕ → List ℕ
+statement_text texts index = texts (source.Statement index)
 
 -- the part stands in its text, at its offset
 abbrev pub Stands : Texts → part.Part → Type 0
 Stands texts part = IsPartOf (texts part.source) part.at part.octets.now
 
 -- the four parts of a question
-pub record AreInTexts (texts : Texts) (asked : asked.Asked) : Type 0 where
+pub record AreInTexts (texts : Texts) (asked : asked.SignatureQuestion) : Type 0 where
   pub algorithm : Stands texts asked.algorithm
   pub key_info : Stands texts asked.key_info
   pub message : Stands texts asked.message
   pub signature : Stands texts asked.signature
 
 -- those of each question
-abbrev pub AllInTexts : Texts → List asked.Asked → Type 0
+abbrev pub AllInTexts : Texts → List asked.SignatureQuestion → Type 0
 AllInTexts texts asked = AllByRecursion (AreInTexts texts) asked
 
 -- In each text in which the premise holds, questions whose parts stand there are added.
-abbrev pub KeepsInTexts : (Texts → Type 0) → List asked.Asked → List asked.Asked → Type 0
+abbrev pub KeepsInTexts : (Texts → Type 0) → List asked.SignatureQuestion → List asked.SignatureQuestion → Type 0
 KeepsInTexts Premise old new = (texts : Texts) → Premise texts → AllInTexts texts old → AllInTexts texts new
 
--- the certificates of the question were read from their octets
+-- the certificates of the query were read from their octets
 abbrev pub WereRead : Query → Type 0
 WereRead query = AllByRecursion WasRead (query.anchor ∷ query.certificates)
 
--- ---- certificates
+-- the statements were read from these octets, one by one
+pub record WasStatementRead (octets : List ℕ) (read : Statement) : Type 0 where
+  pub are_octets : AreOctets octets
+  pub reads : statement octets ≡ Ok read
 
-abbrev pub placed_certificate : placed.Placed → Certificate
-placed_certificate placed = seen_certificate placed.certificate.now
+abbrev pub WereStatementsRead : List (List ℕ) → List Statement → Type 0
+WereStatementsRead octets statements = AllZip WasStatementRead octets statements
+
+-- ---- what is signed
 
 -- the place stands in the text
 abbrev pub IsPlaceIn : List ℕ → Place → Type 0
@@ -64,61 +75,49 @@ IsPlaceIn text place = IsPartOf text place.at place.octets
 abbrev pub bits_at : Place → ℕ
 bits_at value = (body_place value).at + length (take 1 (body value))
 
--- the parts that a verifier is asked about stand in the certificate
-pub record HasParts (c : Certificate) : Type 0 where
-  pub message : IsPlaceIn c.octets c.tbs
-  pub algorithm : IsPlaceIn c.octets c.algorithm.value
-  pub key_info : IsPlaceIn c.octets c.key_info.value
-  pub signature : IsPartOf c.octets (bits_at c.signature.value) c.signature.octets
+-- what is signed, the algorithm identifier and the octets of the signature stand in the text
+pub record AreSignedIn (text : List ℕ) (message algorithm : Place) (signature : BitString) : Type 0 where
+  pub message_stands : IsPlaceIn text message
+  pub algorithm_stands : IsPlaceIn text algorithm
+  pub signature_stands : IsPartOf text (bits_at signature.value) signature.octets
 
--- the certificate stands in its text, where it ends at an offset below 2^64
-pub record IsPlaced (texts : Texts) (placed : placed.Placed) : Type 0 where
-  pub whole : IsPartOf (texts placed.source) placed.at (placed_certificate placed).octets
-  pub fits : placed.at + length (placed_certificate placed).octets < 2 ^ 64
+-- ---- certificates
 
--- and its parts do
-pub record PartsArePlaced (texts : Texts) (placed : placed.Placed) : Type 0 where
-  pub whole : IsPlaced texts placed
-  pub parts : HasParts (placed_certificate placed)
+-- the parts that a verifier is asked about stand in the text
+pub record HasParts (text : List ℕ) (c : Certificate) : Type 0 where
+  pub signed : AreSignedIn text c.tbs c.algorithm.value c.signature
+  pub key_info : IsPlaceIn text c.key_info.value
 
--- octets that stand in the certificate are a part of its text
-abbrev pub StandsIfInside : placed.Placed → ℕ → List ℕ → part.Part → Type 0
-StandsIfInside placed at octets part =
-    (texts : Texts) → IsPlaced texts placed → IsPartOf (placed_certificate placed).octets at octets → Stands texts part
+abbrev pub placed_certificate : placed.Placed → Certificate
+placed_certificate placed = seen_certificate placed.certificate.now
 
--- a certificate of a path and the one above it are the texts with their numbers, and have their parts
+abbrev pub IsPlaced : Texts → placed.Placed → Type 0
+IsPlaced texts placed = HasParts (texts placed.source) (placed_certificate placed)
+
+-- a certificate of a path and the one above it have their parts in the texts with their numbers
 pub record LinkStands (texts : Texts) (link : Link) : Type 0 where
-  pub issuer_text : texts (source.Certificate (link.number - 1)) ≡ link.issuer.octets
-  pub issuer_parts : HasParts link.issuer
-  pub certificate_text : texts (source.Certificate link.number) ≡ link.certificate.octets
-  pub certificate_parts : HasParts link.certificate
+  pub issuer : HasParts (texts (source.Certificate (link.number - 1))) link.issuer
+  pub certificate : HasParts (texts (source.Certificate link.number)) link.certificate
 
 abbrev pub LinksStand : Texts → List linked.Link → Type 0
 LinksStand texts links = AllByRecursion (LinkStands texts) (map seen_link links)
 
 -- ---- statements
 
--- the statement is the text with its index, or all are
-abbrev pub IsStatementText : ℕ → List ℕ → Texts → Type 0
-IsStatementText index octets texts = texts (source.Statement index) ≡ octets
+abbrev pub ListStands : List ℕ → CertificateList → Type 0
+ListStands text list = AreSignedIn text list.tbs list.algorithm.value list.signature
 
-abbrev pub AreStatementTexts : List (List ℕ) → Texts → Type 0
-AreStatementTexts statements texts =
-    (index : ℕ) → index < length statements → IsStatementText index (slice_index_or statements index []) texts
+-- the parts of a response, and the values that come with it
+pub record ResponseStands (text : List ℕ) (response : OcspResponse) : Type 0 where
+  pub signed : AreSignedIn text response.tbs response.algorithm.value response.signature
+  pub certs : AllByRecursion (StandsIn text) response.certs
 
--- octets of a value stand in the text, where they end at an offset below 2^64
-pub record ValueStands (text octets : List ℕ) (offset : ℕ) : Type 0 where
-  pub stands : IsPartOf text offset octets
-  pub fits : offset + length octets < 2 ^ 64
+abbrev pub StatementStands : List ℕ → Statement → Type 0
+StatementStands text (Statement.OfList list) = ListStands text list
+StatementStands text (Statement.OfResponse response) = ResponseStands text response
 
--- the octets stand in the statement at these offsets
-pub record AreSignedAt (texts : Texts) (signed : signed.SignedAt) (message algorithm signature : List ℕ) : Type 0 where
-  pub message_stands : IsPartOf (texts signed.source) signed.message message
-  pub algorithm_stands : IsPartOf (texts signed.source) signed.algorithm algorithm
-  pub signature_stands : IsPartOf (texts signed.source) signed.signature signature
-
-abbrev pub ListStands : Texts → list.Crl → signed.SignedAt → Type 0
-ListStands texts list at = AreSignedAt texts at list.tbs.now list.algorithm.now list.signature.now
-
-abbrev pub AnswersStand : Texts → response.Response → signed.SignedAt → Type 0
-AnswersStand texts response at = AreSignedAt texts at response.tbs.now response.algorithm.now response.signature.now
+-- those from an index on
+abbrev pub StatementsStand : Texts → ℕ → List Statement → Type 0
+StatementsStand texts index [] = Unit {0}
+StatementsStand texts index (read ∷ statements) =
+    StatementStands (statement_text texts index) read × StatementsStand texts (suc index) statements

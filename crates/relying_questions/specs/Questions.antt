@@ -1,5 +1,5 @@
 -- What a verifier may be asked for the verdict on a path by statements (RFC 5280, 6.1.3 (a) (1) and 6.3.3; RFC 6960, 4.2.2.2).
-use Rattle.std.specs.Prelude.{◌&&◌, ℕ, Bool, List, [], ◌∷◌, ◌++◌, map, Option, Some, None, if◌then◌else◌}
+use Rattle.std.specs.Prelude.{◌&&◌, ℕ, Bool, List, [], ◌∷◌, ◌++◌, map, if◌then◌else◌}
 use Rattle.std.specs.List.{flat_map}
 use Rattle.names.specs.DistinguishedName.{matching}
 use Rattle.cert.specs.Certificate.{Certificate}
@@ -8,8 +8,8 @@ use Rattle.statements_crl.specs.CertificateList.{CertificateList}
 use Rattle.statements_ocsp.specs.OcspResponse.{OcspResponse}
 use Rattle.statements_ocsp.specs.Certificates.{certificates_in}
 use Rattle.statements.specs.Responder.{is_named_by, may_respond}
+use Rattle.statements.specs.Statement.{Statement}
 use Rattle.relying_agreement.specs.Link.{Link, links_of}
-use Rattle.relying_texts.specs.Reading.{Statement, of_list, of_response, statement_read}
 use Rattle.relying_texts.specs.Texts.{issuers_of}
 
 -- Whether the signature of the message is accepted under the key, by the algorithm.
@@ -41,19 +41,19 @@ of_certificate issuer c = record {
 -- that of a list
 abbrev pub of_revocations : Certificate → CertificateList → Judgement
 of_revocations issuer list = record {
-  algorithm = list.algorithm;
+  algorithm = list.algorithm.value.octets;
   key_info = issuer.key_info.value.octets;
-  message = list.tbs;
-  signature = list.signature;
+  message = list.tbs.octets;
+  signature = list.signature.octets;
 }
 
 -- that of a response
 abbrev pub of_answers : Certificate → OcspResponse → Judgement
 of_answers signer response = record {
-  algorithm = response.algorithm;
+  algorithm = response.algorithm.value.octets;
   key_info = signer.key_info.value.octets;
-  message = response.tbs;
-  signature = response.signature;
+  message = response.tbs.octets;
+  signature = response.signature.octets;
 }
 
 -- ---- what is asked
@@ -83,20 +83,16 @@ asked_of_response issuer response =
 
 -- of a statement under an issuer
 abbrev pub asked_under : Statement → Certificate → List Judgement
-asked_under (of_list number list) issuer = asked_of_list issuer list
-asked_under (of_response response) issuer = asked_of_response issuer response
+asked_under (Statement.OfList list) issuer = asked_of_list issuer list
+asked_under (Statement.OfResponse response) issuer = asked_of_response issuer response
 
--- of octets under each of the issuers, if they are a statement
-abbrev pub asked_of_read : List Certificate → Option Statement → List Judgement
-asked_of_read issuers None = []
-asked_of_read issuers (Some statement) = flat_map (asked_under statement) issuers
+-- under each of the issuers
+abbrev pub asked_of_statement : List Certificate → Statement → List Judgement
+asked_of_statement issuers read = flat_map (asked_under read) issuers
 
-abbrev pub asked_of_statement : List Certificate → List ℕ → List Judgement
-asked_of_statement issuers octets = asked_of_read issuers (statement_read octets)
-
-abbrev pub asked_of_statements : List Certificate → List (List ℕ) → List Judgement
+abbrev pub asked_of_statements : List Certificate → List Statement → List Judgement
 asked_of_statements issuers statements = flat_map (asked_of_statement issuers) statements
 
 -- of the path, and then of each statement
-abbrev pub questions_of : Query → List (List ℕ) → List Judgement
+abbrev pub questions_of : Query → List Statement → List Judgement
 questions_of query statements = asked_of_path query ++ asked_of_statements (issuers_of query) statements

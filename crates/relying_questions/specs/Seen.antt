@@ -1,6 +1,6 @@
 -- What the code has at hand, as the definitions see it.
 use Rattle.std.specs.Prelude.{◌≡◌, ◌++◌, ℕ, List, [], map, Option, Some, None}
-use Rattle.asn.specs.Integer.{binary_value}
+use Rattle.asn.specs.Place.{Place}
 use Rattle.cert.specs.Certificate.{Certificate, seen_certificate}
 use Rattle.path_verifiers.specs.Fingerprint.{fingerprint_of}
 use Rattle.statements_crl.specs.CertificateList.{seen_list}
@@ -8,17 +8,16 @@ use Rattle.statements_crl.specs.declared.list.Crl as list
 use Rattle.statements_ocsp.specs.Certificates.{certificate_in}
 use Rattle.statements_ocsp.specs.OcspResponse.{OcspResponse, seen_response}
 use Rattle.statements_ocsp.specs.declared.response.Response as response
+use Rattle.statements.specs.Statement.{seen_statement}
+use Rattle.statements.specs.declared.statement.Statement as code_statement
 use Rattle.relying_evidence.specs.declared.link.Link as linked
-use Rattle.relying_texts.specs.Reading.{Statement, of_list, of_response}
 use Rattle.relying_questions.specs.Places.{placed_certificate}
 use Rattle.relying_questions.specs.Questions.{Judgement, of_certificate, asked_of_issuer, asked_of_list, asked_of_delegate, asked_of_response, asked_under}
-use Rattle.relying_questions.specs.declared.asked.Asked as code
+use Rattle.relying_questions.specs.declared.question.SignatureQuestion as code
 use Rattle.relying_questions.specs.declared.placed.Placed as placed
-use Rattle.relying_questions.specs.declared.reading.Statement.{Statement as read}
-use Rattle.relying_questions.specs.declared.reading.Statement.TheVariants as kind
 
-abbrev pub seen_asked : code.Asked → Judgement
-seen_asked asked = record {
+abbrev pub seen_question : code.SignatureQuestion → Judgement
+seen_question asked = record {
   algorithm = asked.algorithm.octets.now;
   key_info = asked.key_info.octets.now;
   message = asked.message.octets.now;
@@ -30,16 +29,12 @@ abbrev pub print_of : Judgement → List ℕ
 print_of asked = fingerprint_of asked.algorithm asked.key_info asked.message asked.signature
 
 -- what the questions are
-abbrev pub seen_all : List code.Asked → List Judgement
-seen_all asked = map seen_asked asked
+abbrev pub seen_all : List code.SignatureQuestion → List Judgement
+seen_all asked = map seen_question asked
 
 -- these are behind those that were there
-abbrev pub Adds : List code.Asked → List code.Asked → List Judgement → Type 0
+abbrev pub Adds : List code.SignatureQuestion → List code.SignatureQuestion → List Judgement → Type 0
 Adds old new more = seen_all new ≡ seen_all old ++ more
-
-abbrev pub seen_statement : read → Statement
-seen_statement (kind.List list at) = of_list (binary_value list.number.now) (seen_list list)
-seen_statement (kind.Response response at) = of_response (seen_response response)
 
 -- ---- links
 
@@ -75,14 +70,14 @@ abbrev pub asked_of_option : Certificate → OcspResponse → Option Certificate
 asked_of_option issuer response None = []
 asked_of_option issuer response (Some c) = asked_of_delegate issuer response c
 
-abbrev pub asked_of_value : Certificate → OcspResponse → List ℕ → List Judgement
-asked_of_value issuer response octets = asked_of_option issuer response (certificate_in octets)
+abbrev pub asked_of_value : Certificate → OcspResponse → Place → List Judgement
+asked_of_value issuer response value = asked_of_option issuer response (certificate_in value)
 
-abbrev pub asked_of_value_seen : placed.Placed → response.Response → List ℕ → List Judgement
+abbrev pub asked_of_value_seen : placed.Placed → response.Response → Place → List Judgement
 asked_of_value_seen issuer response = asked_of_value (placed_certificate issuer) (seen_response response)
 
 abbrev pub asked_of_response_seen : placed.Placed → response.Response → List Judgement
 asked_of_response_seen issuer response = asked_of_response (placed_certificate issuer) (seen_response response)
 
-abbrev pub asked_under_seen : placed.Placed → read → List Judgement
+abbrev pub asked_under_seen : placed.Placed → code_statement.Statement → List Judgement
 asked_under_seen issuer statement = asked_under (seen_statement statement) (placed_certificate issuer)

@@ -1,46 +1,53 @@
 //! What a verifier may be asked about a path and statements.
 
-ghost use Rattle.std.specs.Prelude.{◌≡◌, IfOk};
-ghost use Rattle.std.specs.List.{flat_map};
-ghost use Rattle.relying_texts.specs.View.{seen_question, texts_of};
+ghost use Rattle.std.specs.Prelude.{◌≡◌, ℕ, List, IfOk, map};
+ghost use Rattle.path.specs.Reading.{seen_query};
+ghost use Rattle.statements.specs.Statement.{seen_statement};
 ghost use Rattle.relying_evidence.specs.View.{seen_link};
 ghost use Rattle.relying_questions.specs.Agreement.{Decide};
-ghost use Rattle.relying_questions.specs.Offsets.{StatementStands};
-ghost use Rattle.relying_questions.specs.Places.{AllInTexts, AreStatementTexts, IsStatementText, KeepsInTexts, LinkStands, LinksStand, PartsArePlaced, Texts, WereRead, placed_certificate, texts_in};
-ghost use Rattle.relying_questions.specs.Questions.{asked_of_statement, asked_of_statements, asked_under, questions_of};
-ghost use Rattle.relying_questions.specs.Seen.{Adds, asked_of_links, certificate_of, issuer_of_link, issuers_in, seen_all, seen_statement};
+ghost use Rattle.relying_questions.specs.Places.{AllInTexts, IsPlaced, KeepsInTexts, LinkStands, LinksStand, StatementStands, StatementsStand, Texts, WereRead, WereStatementsRead, placed_certificate, statement_text, texts_in};
+ghost use Rattle.relying_questions.specs.Questions.{asked_of_statement, asked_of_statements, questions_of};
+ghost use Rattle.relying_questions.specs.Seen.{Adds, asked_of_links, certificate_of, issuer_of_link, issuers_in, seen_all};
 
-use crate::asked::Asked;
 use crate::part::Source;
 use crate::placed::Placed;
-use crate::reading::Statement;
+use crate::question::SignatureQuestion;
 use crate::signatures::of_certificate;
 use crate::statement_questions::ask_statement;
+use path::Query;
 use relying_evidence::{Link, links_of};
-use relying_texts::Question;
+use statements::{Statement, statement_laws};
 use std::alloc::{AllocError, Global};
 
 /// The issuer of a link, as a certificate of the path or its anchor.
 fn issuer_of<'p, 'a>(link: &Link<'p, 'a>) -> Placed<'p, 'a>
     ensures certificate { placed_certificate result ≡ issuer_of_link link.now }
     ensures places { (texts : Texts) → LinkStands texts (seen_link link.now)
-        → PartsArePlaced texts result }
+        → IsPlaced texts result }
 {
-    let number = link.number.saturating_sub(1);
-    Placed::text(link.issuer, Source::Certificate(number))
+    Placed {
+        certificate: link.issuer,
+        source: Source::Certificate(link.number.saturating_sub(1)),
+    }
 }
 
 /// The certificate of a link, as one of the path.
 fn certificate_of<'p, 'a>(link: &Link<'p, 'a>) -> Placed<'p, 'a>
     ensures certificate { placed_certificate result ≡ certificate_of link.now }
     ensures places { (texts : Texts) → LinkStands texts (seen_link link.now)
-        → PartsArePlaced texts result }
+        → IsPlaced texts result }
 {
-    Placed::text(link.certificate, Source::Certificate(link.number))
+    Placed {
+        certificate: link.certificate,
+        source: Source::Certificate(link.number),
+    }
 }
 
 /// Adds the question about each certificate of a path, under the one before it.
-fn ask_path<'a>(asked: &mut Vec<Asked<'a>>, links: &[Link<'_, 'a>]) -> Result<(), AllocError>
+fn ask_path<'a>(
+    asked: &mut Vec<SignatureQuestion<'a>>,
+    links: &[Link<'_, 'a>],
+) -> Result<(), AllocError>
     ensures asked { IfOk result (λ _. Adds asked.old.items asked.new.items
         (asked_of_links links.now)) }
     ensures places { IfOk result (λ _. KeepsInTexts (λ texts. LinksStand texts links.now)
@@ -52,58 +59,42 @@ fn ask_path<'a>(asked: &mut Vec<Asked<'a>>, links: &[Link<'_, 'a>]) -> Result<()
     Ok(())
 }
 
-/// Adds the questions about a statement under each issuer of the path.
+/// Adds the questions about the statement with the index under each issuer of the path.
 fn ask_under_each<'a>(
     alloc: Global,
-    asked: &mut Vec<Asked<'a>>,
+    asked: &mut Vec<SignatureQuestion<'a>>,
     links: &[Link<'_, 'a>],
+    index: usize,
     statement: &Statement<'a>,
 ) -> Result<(), AllocError>
     ensures asked { IfOk result (λ _. Adds asked.old.items asked.new.items
-        (flat_map (asked_under (seen_statement statement.now)) (issuers_in links.now))) }
+        (asked_of_statement (issuers_in links.now) (seen_statement statement.now))) }
     ensures places { IfOk result (λ _. KeepsInTexts (λ texts. LinksStand texts links.now
-        × StatementStands texts statement.now) asked.old.items asked.new.items) }
+        × StatementStands (statement_text texts index) (seen_statement statement.now))
+        asked.old.items asked.new.items) }
 {
     for link in links {
-        ask_statement(alloc, asked, &issuer_of(link), statement)?;
+        let source = Source::Statement(index);
+        ask_statement(alloc, asked, &issuer_of(link), source, statement)?;
     }
     Ok(())
-}
-
-/// Adds the questions about octets under each issuer of the path, if they are a statement.
-fn ask_octets<'a>(
-    alloc: Global,
-    asked: &mut Vec<Asked<'a>>,
-    links: &[Link<'_, 'a>],
-    index: usize,
-    octets: &'a [u8],
-) -> Result<(), AllocError>
-    ensures asked { IfOk result (λ _. Adds asked.old.items asked.new.items
-        (asked_of_statement (issuers_in links.now) octets.now)) }
-    ensures places { IfOk result (λ _. KeepsInTexts (λ texts. LinksStand texts links.now
-        × IsStatementText index octets.now texts) asked.old.items asked.new.items) }
-{
-    let read = Statement::read(alloc, Source::Statement(index), octets)?;
-    match read {
-        None => Ok(()),
-        Some(statement) => ask_under_each(alloc, asked, links, &statement),
-    }
 }
 
 /// Adds the questions about each of the statements.
 fn ask_statements<'a>(
     alloc: Global,
-    asked: &mut Vec<Asked<'a>>,
+    asked: &mut Vec<SignatureQuestion<'a>>,
     links: &[Link<'_, 'a>],
-    statements: &[&'a [u8]],
+    statements: &[Statement<'a>],
 ) -> Result<(), AllocError>
     ensures asked { IfOk result (λ _. Adds asked.old.items asked.new.items
-        (asked_of_statements (issuers_in links.now) (texts_of statements.now))) }
+        (asked_of_statements (issuers_in links.now) (map seen_statement statements.now))) }
     ensures places { IfOk result (λ _. KeepsInTexts (λ texts. LinksStand texts links.now
-        × AreStatementTexts (texts_of statements.now) texts) asked.old.items asked.new.items) }
+        × StatementsStand texts 0 (map seen_statement statements.now))
+        asked.old.items asked.new.items) }
 {
-    for (index, octets) in statements.iter().enumerate() {
-        ask_octets(alloc, asked, links, index, octets)?;
+    for (index, statement) in statements.iter().enumerate() {
+        ask_under_each(alloc, asked, links, index, statement)?;
     }
     Ok(())
 }
@@ -118,22 +109,25 @@ fn ask_statements<'a>(
 /// `verdict` asks only some of them: none about what stands behind a certificate that is refused, and none about statements if the path is
 /// invalid. An issuer that stands on a path twice is asked about twice.
 ///
-/// Each statement is read once, and then walked over for the offsets of its parts; the certificates that come with a response are read
-/// once for each issuer. Memory is taken for the questions, for the certificates of the path and for reading.
+/// The certificates that come with a response are read once for each issuer. Memory is taken for the questions, for the certificates of the
+/// path and for reading.
 pub fn questions<'a>(
     alloc: Global,
-    question: &Question<'_, 'a>,
-    statements: &[&'a [u8]],
-) -> Result<Vec<Asked<'a>>, AllocError>
+    query: &Query<'a>,
+    statements: &[Statement<'a>],
+) -> Result<Vec<SignatureQuestion<'a>>, AllocError>
     ensures asked { IfOk result (λ asked. seen_all asked.items
-        ≡ questions_of (seen_question question.now) (texts_of statements.now)) }
+        ≡ questions_of (seen_query query.now) (map seen_statement statements.now)) }
     ensures decide { IfOk result (λ asked. Decide (seen_all asked.items)
-        (seen_question question.now) (texts_of statements.now)) }
-    // If the certificates were read from their octets, each part stands in its text, at its offset.
-    ensures places { IfOk result (λ asked. WereRead (seen_question question.now) → AllInTexts
-        (texts_in (seen_question question.now) (texts_of statements.now)) asked.items) }
+        (seen_query query.now) (map seen_statement statements.now)) }
+    // If certificates and statements were read from octets, each part stands in its text, at its offset.
+    ensures places { IfOk result (λ asked. (octets : List (List ℕ))
+        → WereRead (seen_query query.now)
+        → WereStatementsRead octets (map seen_statement statements.now)
+        → AllInTexts (texts_in (seen_query query.now) octets) asked.items) }
 {
-    let links = links_of(alloc, question.anchor, question.path)?;
+    statement_laws();
+    let links = links_of(alloc, &query.anchor, query.path.as_slice())?;
     let mut asked = Vec::new(alloc);
     ask_path(&mut asked, links.as_slice())?;
     ask_statements(alloc, &mut asked, links.as_slice(), statements)?;

@@ -1,77 +1,82 @@
 //! The signatures that certificates, lists and responses carry, each under the key of a certificate.
 
 ghost use Rattle.std.specs.Prelude.{◌≡◌};
-ghost use Rattle.cert.specs.Certificate.{seen_certificate};
 ghost use Rattle.statements_crl.specs.CertificateList.{seen_list};
 ghost use Rattle.statements_ocsp.specs.OcspResponse.{seen_response};
-ghost use Rattle.relying_questions.specs.Questions.{of_answers, of_certificate, of_revocations};
-ghost use Rattle.relying_questions.specs.Places.{AnswersStand, AreInTexts, ListStands, PartsArePlaced, Stands, Texts, placed_certificate};
-ghost use Rattle.relying_questions.specs.Seen.{seen_asked};
+ghost use Rattle.relying_questions.specs.Questions.{of_certificate, of_revocations, of_answers};
+ghost use Rattle.relying_questions.specs.Places.{AreInTexts, IsPlaced, ListStands, ResponseStands, Stands, Texts, placed_certificate};
+ghost use Rattle.relying_questions.specs.Seen.{seen_question};
 
-use crate::asked::Asked;
-use crate::part::Part;
-use crate::placed::{Placed, SignedAt};
+use crate::part::{Part, Source};
+use crate::placed::Placed;
+use crate::question::SignatureQuestion;
 use statements_crl::Crl;
 use statements_ocsp::Response;
 
 /// The key of a certificate.
 fn key_of<'a>(signer: &Placed<'_, 'a>) -> Part<'a>
     ensures octets { result.octets.now ≡ (placed_certificate signer.now).key_info.value.octets }
-    ensures places { (texts : Texts) → PartsArePlaced texts signer.now → Stands texts result }
+    ensures places { (texts : Texts) → IsPlaced texts signer.now → Stands texts result }
 {
-    signer.whole(signer.certificate.subject_public_key_info.value)
+    Part::whole(
+        signer.source,
+        signer.certificate.subject_public_key_info.value,
+    )
 }
 
 /// Whether the certificate is signed under the issuer's key.
-pub(crate) fn of_certificate<'a>(issuer: &Placed<'_, 'a>, placed: &Placed<'_, 'a>) -> Asked<'a>
-    ensures asked { seen_asked result
+pub(crate) fn of_certificate<'a>(
+    issuer: &Placed<'_, 'a>,
+    placed: &Placed<'_, 'a>,
+) -> SignatureQuestion<'a>
+    ensures question { seen_question result
         ≡ of_certificate (placed_certificate issuer.now) (placed_certificate placed.now) }
-    ensures places { (texts : Texts) → PartsArePlaced texts issuer.now
-        → PartsArePlaced texts placed.now → AreInTexts texts result }
+    ensures places { (texts : Texts) → IsPlaced texts issuer.now
+        → IsPlaced texts placed.now → AreInTexts texts result }
 {
-    let certificate = placed.certificate;
-    Asked {
-        algorithm: placed.whole(certificate.algorithm.value),
+    let (source, certificate) = (placed.source, placed.certificate);
+    SignatureQuestion {
+        algorithm: Part::whole(source, certificate.algorithm.value),
         key_info: key_of(issuer),
-        message: placed.whole(certificate.tbs),
-        signature: placed.bits(certificate.signature),
+        message: Part::whole(source, certificate.tbs),
+        signature: Part::bits(source, certificate.signature),
     }
 }
 
 /// Whether the list is signed under the issuer's key.
 pub(crate) fn of_revocations<'a>(
     issuer: &Placed<'_, 'a>,
+    source: Source,
     list: &Crl<'a>,
-    signed: &SignedAt,
-) -> Asked<'a>
-    ensures asked { seen_asked result
+) -> SignatureQuestion<'a>
+    ensures question { seen_question result
         ≡ of_revocations (placed_certificate issuer.now) (seen_list list.now) }
-    ensures places { (texts : Texts) → PartsArePlaced texts issuer.now
-        → ListStands texts list.now signed.now → AreInTexts texts result }
+    ensures places { (texts : Texts) → IsPlaced texts issuer.now
+        → ListStands (texts source) (seen_list list.now) → AreInTexts texts result }
 {
-    Asked {
-        algorithm: signed.part(signed.algorithm, list.algorithm),
+    SignatureQuestion {
+        algorithm: Part::whole(source, list.algorithm.value),
         key_info: key_of(issuer),
-        message: signed.part(signed.message, list.tbs),
-        signature: signed.part(signed.signature, list.signature),
+        message: Part::whole(source, list.tbs),
+        signature: Part::bits(source, list.signature),
     }
 }
 
 /// Whether the response is signed under the signer's key.
 pub(crate) fn of_answers<'a>(
     signer: &Placed<'_, 'a>,
+    source: Source,
     response: &Response<'a>,
-    signed: &SignedAt,
-) -> Asked<'a>
-    ensures asked { seen_asked result
+) -> SignatureQuestion<'a>
+    ensures question { seen_question result
         ≡ of_answers (placed_certificate signer.now) (seen_response response.now) }
-    ensures places { (texts : Texts) → PartsArePlaced texts signer.now
-        → AnswersStand texts response.now signed.now → AreInTexts texts result }
+    ensures places { (texts : Texts) → IsPlaced texts signer.now
+        → ResponseStands (texts source) (seen_response response.now) → AreInTexts texts result }
 {
-    Asked {
-        algorithm: signed.part(signed.algorithm, response.algorithm),
+    SignatureQuestion {
+        algorithm: Part::whole(source, response.algorithm.value),
         key_info: key_of(signer),
-        message: signed.part(signed.message, response.tbs),
-        signature: signed.part(signed.signature, response.signature),
+        message: Part::whole(source, response.tbs),
+        signature: Part::bits(source, response.signature),
     }
 }

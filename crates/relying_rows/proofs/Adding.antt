@@ -5,8 +5,8 @@ use Rattle.std.proofs.lemmas.List.{map-append}
 use Rattle.std.specs.List.{AllByRecursion}
 use Rattle.relying_questions.specs.Places.{AllInTexts, AreInTexts, Texts}
 use Rattle.relying_questions.specs.Questions.{Judgement}
-use Rattle.relying_questions.specs.Seen.{seen_all, seen_asked}
-use Rattle.relying_questions.specs.declared.asked.Asked.{Asked}
+use Rattle.relying_questions.specs.Seen.{seen_all, seen_question}
+use Rattle.relying_questions.specs.declared.question.SignatureQuestion.{SignatureQuestion}
 use Rattle.relying_rows.specs.Places.{AllInRows, AreInRows, seen_row_question, seen_row_questions}
 use Rattle.relying_rows.specs.declared.places.RowQuestion.{RowQuestion}
 
@@ -34,16 +34,16 @@ all_made P (y ∷ sofar) x all one = (all.0, all_made P sofar x all.1 one)
 
 -- ---- questions with parts of the rows
 
-pub one_placed : (asked : List Asked) (i : ℕ) (d : Asked) (sofar new : List RowQuestion) (one : RowQuestion) → i < length asked → new ≡ sofar ++ one ∷ []
-    → seen_row_question one ≡ seen_asked (get_or asked i d) → seen_row_questions sofar ++ seen_all (drop i asked) ≡ seen_all asked
+pub one_placed : (asked : List SignatureQuestion) (i : ℕ) (d : SignatureQuestion) (sofar new : List RowQuestion) (one : RowQuestion) → i < length asked → new ≡ sofar ++ one ∷ []
+    → seen_row_question one ≡ seen_question (get_or asked i d) → seen_row_questions sofar ++ seen_all (drop i asked) ≡ seen_all asked
     → seen_row_questions new ++ seen_all (drop (i + 1) asked) ≡ seen_all asked
 one_placed asked i d sofar new one below items is so_far =
-    one_made (seen_row_questions sofar) (seen_row_questions new) (seen_asked (get_or asked i d)) (seen_all (drop i asked)) (seen_all (drop (i + 1) asked)) (seen_all asked)
+    one_made (seen_row_questions sofar) (seen_row_questions new) (seen_question (get_or asked i d)) (seen_all (drop i asked)) (seen_all (drop (i + 1) asked)) (seen_all asked)
     (ap seen_all (next_left asked i d below))
     (ap seen_row_questions items ∙ map-append seen_row_question sofar (one ∷ []) ∙ ap (λ (it : Judgement). seen_row_questions sofar ++ it ∷ []) is)
     so_far
 
-pub one_stands : (certificates statements : List ℕ) (texts : Texts) (asked : List Asked) (i : ℕ) (d : Asked) (sofar new : List RowQuestion) (one : RowQuestion) → i < length asked
+pub one_stands : (certificates statements : List ℕ) (texts : Texts) (asked : List SignatureQuestion) (i : ℕ) (d : SignatureQuestion) (sofar new : List RowQuestion) (one : RowQuestion) → i < length asked
     → new ≡ sofar ++ one ∷ [] → (AreInTexts texts (get_or asked i d) → AreInRows certificates statements one)
     → AllInTexts texts asked → AllInRows certificates statements sofar → AllInRows certificates statements new
 one_stands certificates statements texts asked i d sofar new one below items stands all so_far =

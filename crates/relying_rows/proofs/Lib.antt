@@ -1,6 +1,5 @@
 mod Values
 mod Prints
-mod Statements
 mod Steps
 mod Unique
 mod DerRows

@@ -12,7 +12,8 @@ use Rattle.relying_agreement.specs.declared.verdict.Verdict.{Verdict}
 use Rattle.relying_questions.specs.Agreement.{QuestionsDecide}
 use Rattle.relying_questions.specs.Questions.{Judgement, answer}
 use Rattle.relying_questions.specs.Seen.{print_of}
-use Rattle.relying_texts.specs.Texts.{IsVerdictByTexts, party_told}
+use Rattle.statements.specs.Statement.{Statement}
+use Rattle.relying_texts.specs.Texts.{IsVerdictByStatements, party_told}
 use Rattle.relying_rows.specs.declared.rows.RowFault.{RowFault}
 use Rattle.relying_rows.specs.declared.rows.RowFault.TheVariants.{Certificates, Statements, Fingerprints, Memory}
 use Rattle.relying_rows.specs.Row.{in_one_row}
@@ -73,13 +74,13 @@ one_verdict : VerdictIsOne → (rows : Rows) → AreOctets rows.certificates →
 one_verdict law rows octets too one other is also =
     let path = certificates_one_way.one rows.certificates is.is_path.0 also.is_path.0 (is.anchor ∷ is.path) (also.anchor ∷ also.path) octets is.is_path.1 also.is_path.1 in
     let ends = heads is.anchor also.anchor is.path also.path path.1 in
-    let texts = statements_one_way.one rows.statements is.statements also.statements is.are_statements.0 also.are_statements.0 too is.are_statements.1 also.are_statements.1 in
+    let texts = statements_one_way.one rows.statements is.are_statements.0 also.are_statements.0 is.statements also.statements too is.are_statements.1 also.are_statements.1 in
     let prints = same_prints is.prints also.prints is.are_prints.each also.are_prints.each (sym is.are_prints.row_is ∙ also.are_prints.row_is) in
     let accepts = same_accepts is.accepts also.accepts also.prints (subst (AcceptsPrints is.accepts) prints is.accepts_prints) also.accepts_prints in
-    let moved = subst (λ (anchor : Certificate). IsVerdictByTexts is.accepts (query_in rows anchor is.path) is.statements one) ends.0 is.is_verdict in
-    let along = subst (λ (path : List Certificate). IsVerdictByTexts is.accepts (query_in rows also.anchor path) is.statements one) ends.1 moved in
-    let told = subst (λ (statements : List (List ℕ)). IsVerdictByTexts is.accepts (query_in rows also.anchor also.path) statements one) texts.0 along in
-    let same = subst (λ (accepts : Accepts). IsVerdictByTexts accepts (query_in rows also.anchor also.path) also.statements one) accepts told in
+    let moved = subst (λ (anchor : Certificate). IsVerdictByStatements is.accepts (query_in rows anchor is.path) is.statements one) ends.0 is.is_verdict in
+    let along = subst (λ (path : List Certificate). IsVerdictByStatements is.accepts (query_in rows also.anchor path) is.statements one) ends.1 moved in
+    let told = subst (λ (statements : List Statement). IsVerdictByStatements is.accepts (query_in rows also.anchor also.path) statements one) texts.1 along in
+    let same = subst (λ (accepts : Accepts). IsVerdictByStatements accepts (query_in rows also.anchor also.path) also.statements one) accepts told in
     law also.accepts (query_in rows also.anchor also.path) (party_told also.accepts (query_in rows also.anchor also.path) also.statements).held one other same also.is_verdict
 
 no_fault : (rows : Rows) → AreOctets rows.certificates → AreOctets rows.statements → (verdict : Verdict) (fault : RowFault) → IsVerdictInRows rows verdict → IsRowFault rows fault → fault ≡ Memory
@@ -88,7 +89,7 @@ no_fault rows octets too verdict (Certificates rule at) is (inl refused) =
 no_fault rows octets too verdict (Certificates rule at) is (inr (none, fault, place)) =
     absurd (omega (arith, ap length none, some_octets certificate certificates_der rows.certificates is.is_path.0 is.anchor is.path octets is.is_path.1))
 no_fault rows octets too verdict (Statements rule at) is (path, refused) =
-    absurd (statements_one_way.never_both rows.statements is.statements is.are_statements.0 rule at too is.are_statements.1 refused)
+    absurd (statements_one_way.never_both rows.statements is.are_statements.0 is.statements rule at too is.are_statements.1 refused)
 no_fault rows octets too verdict (Fingerprints at) is (path, statements, cut) = absurd (not_cut_short rows.fingerprints is.prints at is.are_prints cut)
 no_fault rows octets too verdict Memory is fault = refl
 

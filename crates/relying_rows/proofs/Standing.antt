@@ -1,5 +1,5 @@
 -- Values stand in the row that they make, where they begin, and their parts behind that.
-use Rattle.std.proofs.Common.{◌≡◌, ◌+◌, ◌-◌, ◌<◌, ◌^◌, min, ℕ, zero, suc, None, pos, List, [], ◌∷◌, ◌++◌, length, map, slice_index_or, Ok, refl, sym, ap, ◌∙◌, subst, append_assoc, arith}
+use Rattle.std.proofs.Common.{◌≡◌, ◌+◌, ◌-◌, ◌<◌, ◌^◌, min, ℕ, zero, suc, List, [], ◌∷◌, ◌++◌, length, map, slice_index_or, Ok, refl, sym, ap, ◌∙◌, subst, append_assoc, arith}
 use Rattle.std.specs.List.{AllByRecursion}
 use Rattle.std.proofs.lemmas.List.{length-append, append-nil}
 use Rattle.asn.specs.Part.{IsPartOf}
@@ -7,11 +7,12 @@ use Rattle.cert.specs.Certificate.{Certificate, certificate}
 use Rattle.cert.proofs.Laws.{certificate_is_exact}
 use Rattle.der.specs.Laws.{AreOctets}
 use Rattle.statements.specs.OneIssuer.{WasRead}
-use Rattle.relying_questions.specs.Places.{texts_in}
+use Rattle.path.specs.Query.{Query}
+use Rattle.statements.specs.Statement.{Statement, statement}
+use Rattle.relying_questions.specs.Places.{WereStatementsRead, texts_in}
 use Rattle.relying_questions.specs.declared.part.Source.{Source}
 use Rattle.relying_questions.specs.declared.part.Source.TheVariants as source
-use Rattle.relying_rows.specs.Places.{octets_of_each, row_text}
-use Rattle.relying_rows.specs.RowQuestions.{query_about}
+use Rattle.relying_rows.specs.Places.{certificates_of, octets_of_each, row_text}
 use Rattle.relying_rows.specs.Row.{IsRow, in_one_row}
 use Rattle.relying_rows.specs.Starts.{ValuesStand, row_of, start_of, starts_from}
 use Rattle.relying_rows.specs.declared.places.Row.{Row}
@@ -98,26 +99,26 @@ octets_at (c ∷ certificates) (suc i) d = octets_at certificates i d
 first_stands : (anchor : Certificate) (path : List Certificate) → IsPartOf (in_one_row (octets_of_each (anchor ∷ path))) 0 anchor.octets
 first_stands anchor path = record { before = []; behind = in_one_row (octets_of_each path); joined = refl; place = refl }
 
-stand_one : (anchor : Certificate) (path : List Certificate) (statements : List (List ℕ)) (starts : Starts) (source : Source)
-    → starts.certificates.items ≡ starts_from 0 (octets_of_each (anchor ∷ path)) → starts.statements.items ≡ starts_from 0 statements
-    → length (in_one_row (octets_of_each (anchor ∷ path))) < 2 ^ 64 → length (in_one_row statements) < 2 ^ 64
-    → IsPartOf (row_text (in_one_row (octets_of_each (anchor ∷ path))) (in_one_row statements) (row_of source)) (start_of starts source) (texts_in (query_about anchor path (pos 0) None) statements source)
-stand_one anchor path statements starts (source.Certificate number) one other fits too =
-    let values = octets_of_each (anchor ∷ path) in
-    subst (λ (them : List ℕ). IsPartOf (in_one_row values) (slice_index_or them number 0) (slice_index_or (anchor ∷ path) number anchor).octets) (sym one)
-    (subst (IsPartOf (in_one_row values) (slice_index_or (starts_from 0 values) number 0)) (sym (octets_at (anchor ∷ path) number anchor))
-    (starts_stand (in_one_row values) [] values number anchor.octets fits refl (first_stands anchor path)))
-stand_one anchor path statements starts (source.Statement index) one other fits too =
-    subst (λ (them : List ℕ). IsPartOf (in_one_row statements) (slice_index_or them index 0) (slice_index_or statements index [])) (sym other)
-    (starts_stand (in_one_row statements) [] statements index [] too refl (nothing (in_one_row statements)))
+stand_one : (query : Query) (octets : List (List ℕ)) (starts : Starts) (source : Source)
+    → starts.certificates.items ≡ starts_from 0 (octets_of_each (certificates_of query)) → starts.statements.items ≡ starts_from 0 octets
+    → length (in_one_row (octets_of_each (certificates_of query))) < 2 ^ 64 → length (in_one_row octets) < 2 ^ 64
+    → IsPartOf (row_text (in_one_row (octets_of_each (certificates_of query))) (in_one_row octets) (row_of source)) (start_of starts source) (texts_in query octets source)
+stand_one query octets starts (source.Certificate number) one other fits too =
+    let values = octets_of_each (certificates_of query) in
+    subst (λ (them : List ℕ). IsPartOf (in_one_row values) (slice_index_or them number 0) (slice_index_or (certificates_of query) number query.anchor).octets) (sym one)
+    (subst (IsPartOf (in_one_row values) (slice_index_or (starts_from 0 values) number 0)) (sym (octets_at (certificates_of query) number query.anchor))
+    (starts_stand (in_one_row values) [] values number query.anchor.octets fits refl (first_stands query.anchor query.certificates)))
+stand_one query octets starts (source.Statement index) one other fits too =
+    subst (λ (them : List ℕ). IsPartOf (in_one_row octets) (slice_index_or them index 0) (slice_index_or octets index [])) (sym other)
+    (starts_stand (in_one_row octets) [] octets index [] too refl (nothing (in_one_row octets)))
 
 -- the texts of certificates and statements stand in the rows that these make
-pub stand_in_rows : (anchor : Certificate) (path : List Certificate) (statements : List (List ℕ)) (starts : Starts)
-    → starts.certificates.items ≡ starts_from 0 (octets_of_each (anchor ∷ path)) → starts.statements.items ≡ starts_from 0 statements
-    → length (in_one_row (octets_of_each (anchor ∷ path))) < 2 ^ 64 → length (in_one_row statements) < 2 ^ 64
-    → ValuesStand (in_one_row (octets_of_each (anchor ∷ path))) (in_one_row statements) (texts_in (query_about anchor path (pos 0) None) statements) starts
-stand_in_rows anchor path statements starts one other fits too = record {
-  stand = λ source. stand_one anchor path statements starts source one other fits too;
+pub stand_in_rows : (query : Query) (octets : List (List ℕ)) (starts : Starts)
+    → starts.certificates.items ≡ starts_from 0 (octets_of_each (certificates_of query)) → starts.statements.items ≡ starts_from 0 octets
+    → length (in_one_row (octets_of_each (certificates_of query))) < 2 ^ 64 → length (in_one_row octets) < 2 ^ 64
+    → ValuesStand (in_one_row (octets_of_each (certificates_of query))) (in_one_row octets) (texts_in query octets) starts
+stand_in_rows query octets starts one other fits too = record {
+  stand = λ source. stand_one query octets starts source one other fits too;
   certificates_fit = fits;
   statements_fit = too;
 }
@@ -145,3 +146,19 @@ row_read row values these octets is =
     let whole : AreOctets (in_one_row values ++ []) = subst AreOctets (is.row_is ∙ sym (append-nil (in_one_row values))) octets in
     let read = were_read values these [] whole is.each in
     (read.0, is.row_is ∙ ap in_one_row (sym read.1))
+
+-- ---- statements that were read from a row
+
+were_statements_read : (values : List (List ℕ)) (these : List Statement) (left : List ℕ) → AreOctets (in_one_row values ++ left) → map statement values ≡ map Ok these → WereStatementsRead values these
+were_statements_read [] [] left octets each = tt
+were_statements_read [] (it ∷ these) left octets each = absurd (omega (arith, ap length each))
+were_statements_read (value ∷ values) [] left octets each = absurd (omega (arith, ap length each))
+were_statements_read (value ∷ values) (it ∷ these) left octets each =
+    let parts : AreOctets (value ++ (in_one_row values ++ left)) = subst AreOctets (append_assoc value (in_one_row values) left) octets in (
+      record { are_octets = front_octets value (in_one_row values ++ left) parts; reads = head_read statement value values it these each },
+      were_statements_read values these left (behind_octets value (in_one_row values ++ left) parts) (tail_read statement value values it these each),
+    )
+
+pub statements_read : (row : List ℕ) (values : List (List ℕ)) (these : List Statement) → AreOctets row → IsRow statement row values these → WereStatementsRead values these
+statements_read row values these octets is =
+    were_statements_read values these [] (subst AreOctets (is.row_is ∙ sym (append-nil (in_one_row values))) octets) is.each

@@ -1,6 +1,6 @@
 -- Rows of values, one value more at a time.
-use Rattle.std.proofs.Common.{◌≡◌, ◌+◌, ◌-◌, ℕ, List, [], ◌∷◌, ◌++◌, Result, Ok, Err, Vec, Global, IfOk, length, map, ◌<◌, refl, sym, ap, ◌∙◌, arith, append_assoc}
-use Rattle.std.proofs.lemmas.List.{append-nil, length-append, length-map, map-append}
+use Rattle.std.proofs.Common.{◌≡◌, ◌+◌, ◌-◌, ℕ, List, [], ◌∷◌, ◌++◌, Result, Ok, Err, length, map, ◌<◌, refl, sym, ap, ◌∙◌, arith, append_assoc}
+use Rattle.std.proofs.lemmas.List.{append-nil, length-append, map-append}
 use Rattle.std.proofs.lemmas.Grind.{flat_map-append}
 use Rattle.relying_rows.specs.Row.{in_one_row, IsFirstValue, RowBeginsWith, IsRow, IsRefusedAt}
 
@@ -50,9 +50,3 @@ pub some_read : {A F : Type 0} (read : List ℕ → Result A (F × ℕ)) (row : 
 some_read read row [] these some is = absurd (omega (arith, some, ap length is.row_is))
 some_read read row (value ∷ values) [] some is = absurd (omega (arith, ap length is.each))
 some_read read row (value ∷ values) (it ∷ these) some is = omega arith
-
-pub some_if_read : {A F T E : Type 0} (read : List ℕ → Result A (F × ℕ)) (row : List ℕ) (seen : T → A) (result : Result (Vec T Global) E)
-    → 0 < length row → IfOk result (λ it. (values : List (List ℕ)) × IsRow read row values (map seen it.items))
-    → IfOk result (λ it. 0 < length it.items)
-some_if_read read row seen (Ok it) some (values, is) = omega (arith, some_read read row values (map seen it.items) some is, length-map it.items seen)
-some_if_read read row seen (Err fault) some is = tt

@@ -5,21 +5,21 @@ use Rattle.cert.specs.Certificate.{Certificate, certificate}
 use Rattle.cert.specs.declared.fault.CertRule.{CertRule}
 use Rattle.cert.specs.declared.fault.CertRule.TheVariants.{Der}
 use Rattle.relying_rows.specs.Row.{IsRow, IsRefusedAt}
-use Rattle.relying_rows.specs.Statement.{RowStatement, statement}
+use Rattle.statements.specs.Statement.{Statement, statement}
 
 -- the row is the anchor and the certificates of the path, in order
 abbrev pub IsPath : List ℕ → Certificate → List Certificate → Type 0
 IsPath row anchor path = (values : List (List ℕ)) × IsRow certificate row values (anchor ∷ path)
 
 -- the row is these statements, each a list or a response
-abbrev pub AreStatements : List ℕ → List (List ℕ) → Type 0
-AreStatements row statements = (these : List RowStatement) × IsRow statement row statements these
+abbrev pub AreStatements : List ℕ → List Statement → Type 0
+AreStatements row statements = (values : List (List ℕ)) × IsRow statement row values statements
 
 abbrev pub IsSomePath : List ℕ → Type 0
 IsSomePath row = (anchor : Certificate) × (path : List Certificate) × IsPath row anchor path
 
 abbrev pub AreSomeStatements : List ℕ → Type 0
-AreSomeStatements row = (statements : List (List ℕ)) × AreStatements row statements
+AreSomeStatements row = (statements : List Statement) × AreStatements row statements
 
 -- a value is no certificate, or there is no anchor
 abbrev pub IsPathRefusedAt : List ℕ → CertRule → ℕ → Type 0

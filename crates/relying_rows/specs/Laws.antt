@@ -3,7 +3,8 @@ use Rattle.std.specs.Prelude.{◌≡◌, ◌↔◌, ℕ, List, Result, Contains,
 use Rattle.asn.specs.DerLaws.{AreOctets}
 use Rattle.path.specs.Query.{Query, Accepts}
 use Rattle.relying_agreement.specs.declared.verdict.Verdict.{Verdict}
-use Rattle.relying_texts.specs.Texts.{IsVerdictByTexts}
+use Rattle.statements.specs.Statement.{Statement}
+use Rattle.relying_texts.specs.Texts.{IsVerdictByStatements}
 use Rattle.relying_questions.specs.Questions.{Judgement, answer, questions_of}
 use Rattle.relying_questions.specs.Seen.{print_of}
 use Rattle.relying_rows.specs.declared.rows.RowFault.{RowFault}
@@ -34,6 +35,6 @@ AnswersAreOne = (rows : Rows) → AreOctets rows.certificates → AreOctets rows
 -- Fingerprints of the questions that a verifier answers by yes, and of no other question, give its verdict.
 abbrev pub PrintsDecide : Type 0
 PrintsDecide =
-    (accepts by_prints : Accepts) (query : Query) (statements prints : List (List ℕ)) → AcceptsPrints by_prints prints →
+    (accepts by_prints : Accepts) (query : Query) (statements : List Statement) (prints : List (List ℕ)) → AcceptsPrints by_prints prints →
     ((asked : Judgement) → Contains (questions_of query statements) asked → (IsTrue (answer accepts asked) ↔ Contains prints (print_of asked))) →
-    (verdict : Verdict) → IsVerdictByTexts accepts query statements verdict ↔ IsVerdictByTexts by_prints query statements verdict
+    (verdict : Verdict) → IsVerdictByStatements accepts query statements verdict ↔ IsVerdictByStatements by_prints query statements verdict

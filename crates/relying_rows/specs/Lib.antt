@@ -1,5 +1,4 @@
 pub mod Row
-pub mod Statement
 pub mod Fingerprints
 pub mod Contents
 pub mod Rows
@@ -10,6 +9,7 @@ pub mod Places
 pub mod Starts
 pub mod RowQuestions
 pub use Rattle.relying_texts.specs.Texts
-pub use Rattle.relying_texts.specs.View
+pub use Rattle.statements.specs.Statement
+pub use Rattle.path.specs.Query
 pub use Rattle.relying_questions.specs.Questions
 pub use Rattle.relying_questions.specs.Seen

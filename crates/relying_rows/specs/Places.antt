@@ -1,8 +1,9 @@
 -- Questions to a verifier, whose parts stand in rows.
-use Rattle.std.specs.Prelude.{ℕ, List, map}
+use Rattle.std.specs.Prelude.{ℕ, List, ◌∷◌, map}
 use Rattle.std.specs.List.{AllByRecursion}
 use Rattle.asn.specs.Part.{IsPartOf}
 use Rattle.cert.specs.Certificate.{Certificate}
+use Rattle.path.specs.Query.{Query}
 use Rattle.relying_questions.specs.Questions.{Judgement}
 use Rattle.relying_rows.specs.declared.places.Row.{Row}
 use Rattle.relying_rows.specs.declared.places.Row.TheVariants.{Certificates, Statements}
@@ -19,6 +20,10 @@ seen_row_question asked = record {
 
 abbrev pub seen_row_questions : List RowQuestion → List Judgement
 seen_row_questions asked = map seen_row_question asked
+
+-- the certificates of a query, the anchor first
+abbrev pub certificates_of : Query → List Certificate
+certificates_of query = query.anchor ∷ query.certificates
 
 abbrev pub octets_of_each : List Certificate → List (List ℕ)
 octets_of_each certificates = map (λ (c : Certificate). c.octets) certificates

@@ -1,12 +1,10 @@
 -- What the reading of one row answers.
-use Rattle.std.specs.Prelude.{◌≡◌, ◌+◌, ℕ, List, Err, Ok}
+use Rattle.std.specs.Prelude.{◌≡◌, ◌+◌, ℕ, List, Err}
 use Rattle.cert.specs.Certificate.{Certificate, certificate}
-use Rattle.statements_parts.specs.declared.fault.StatementFault.{StatementFault}
-use Rattle.statements_parts.specs.declared.fault.StatementFault.TheVariants as S
 use Rattle.relying_rows.specs.declared.rows.RowFault.{RowFault}
 use Rattle.relying_rows.specs.declared.rows.RowFault.TheVariants.{Certificates, Statements, Fingerprints, Memory}
 use Rattle.relying_rows.specs.Row.{IsRow, IsRefusedAt}
-use Rattle.relying_rows.specs.Statement.{RowStatement, statement}
+use Rattle.statements.specs.Statement.{statement}
 use Rattle.relying_rows.specs.Fingerprints.{IsCutShort}
 use Rattle.relying_rows.specs.Contents.{IsPathRefusedAt}
 
@@ -33,19 +31,7 @@ IsPathFault row (Statements rule at) = ⊥
 IsPathFault row (Fingerprints at) = ⊥
 IsPathFault row Memory = Unit {0}
 
-abbrev pub IsStatement : List ℕ → Type 0
-IsStatement octets = (it : RowStatement) × (statement octets ≡ Ok it)
-
--- why octets are no statement
-abbrev pub FailsAsStatement : List ℕ → StatementFault → Type 0
-FailsAsStatement octets (S.Refused rule at) = statement octets ≡ Err (rule, at)
-FailsAsStatement octets S.OtherIssuer = ⊥
-FailsAsStatement octets S.BadSignature = ⊥
-FailsAsStatement octets S.NoSigner = ⊥
-FailsAsStatement octets S.NothingForIssuer = ⊥
-FailsAsStatement octets S.Memory = Unit {0}
-
--- the same of a value that stands at this place of the row
+-- why a value is no statement, which stands at this place of the row
 abbrev pub IsStatementFaultOf : List ℕ → ℕ → RowFault → Type 0
 IsStatementFaultOf value start (Certificates rule at) = ⊥
 IsStatementFaultOf value start (Statements rule at) =

@@ -4,12 +4,12 @@ use Rattle.std.specs.Option.{option_copied}
 use Rattle.cert.specs.Certificate.{Certificate}
 use Rattle.path.specs.Query.{Query, Accepts}
 use Rattle.relying_agreement.specs.declared.verdict.Verdict.{Verdict}
-use Rattle.relying_texts.specs.Texts.{IsVerdictByTexts}
+use Rattle.relying_texts.specs.Texts.{IsVerdictByStatements}
 use Rattle.relying_rows.specs.declared.rows.Rows as code
 use Rattle.relying_rows.specs.declared.rows.RowFault.{RowFault}
 use Rattle.relying_rows.specs.declared.rows.RowFault.TheVariants as F
 use Rattle.relying_rows.specs.Row.{IsRefusedAt}
-use Rattle.relying_rows.specs.Statement.{statement}
+use Rattle.statements.specs.Statement.{Statement, statement}
 use Rattle.relying_rows.specs.Contents.{IsPath, IsSomePath, IsPathRefusedAt, AreStatements, AreSomeStatements}
 use Rattle.relying_rows.specs.Fingerprints.{ArePrints, IsCutShort, AcceptsPrints}
 
@@ -45,13 +45,13 @@ pub record IsVerdictInRows (rows : Rows) (verdict : Verdict) : Type 0 where
   pub anchor : Certificate
   pub path : List Certificate
   pub is_path : IsPath rows.certificates anchor path
-  pub statements : List (List ℕ)
+  pub statements : List Statement
   pub are_statements : AreStatements rows.statements statements
   pub prints : List (List ℕ)
   pub are_prints : ArePrints rows.fingerprints prints
   pub accepts : Accepts
   pub accepts_prints : AcceptsPrints accepts prints
-  pub is_verdict : IsVerdictByTexts accepts (query_in rows anchor path) statements verdict
+  pub is_verdict : IsVerdictByStatements accepts (query_in rows anchor path) statements verdict
 
 -- ---- what is refused: the certificates are looked at first, then the statements, then the fingerprints
 

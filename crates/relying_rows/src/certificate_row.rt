@@ -1,14 +1,17 @@
 //! Certificates in a row.
 
-ghost use Rattle.std.specs.Prelude.{◌≡◌, ◌<◌, IfErr, IfOk, Ok, length, map};
+ghost use Rattle.std.specs.Prelude.{◌≡◌, IfErr, IfOk, Ok, map};
+ghost use Rattle.std.specs.Option.{option_copied};
 ghost use Rattle.cert.specs.Certificate.{certificate, seen_certificate};
-ghost use Rattle.relying_rows.specs.Row.{IsRow};
+ghost use Rattle.path.specs.Reading.{seen_query};
+ghost use Rattle.relying_rows.specs.Contents.{IsPath};
 ghost use Rattle.relying_rows.specs.Reading.{IsCertificateFault, IsPathFault, AreCertificates, IsCertificateFaultOf};
 
 use crate::first::first_value;
 use crate::rows::RowFault;
 use asn::Rule;
 use cert::{CertFault, CertRule, Certificate};
+use path::Query;
 use std::alloc::Global;
 
 /// The certificate that the value is, which stands at this place of the row.
@@ -45,15 +48,30 @@ fn read_certificates(alloc: Global, row: &[u8]) -> Result<Vec<Certificate<'_>>, 
     Ok(certificates)
 }
 
-/// The anchor and the certificates of the path. A row without an anchor is refused as DER refuses octets that are none.
-pub(crate) fn read_path(alloc: Global, row: &[u8]) -> Result<Vec<Certificate<'_>>, RowFault>
-    ensures reads { IfOk result (λ read.
-        AreCertificates row.now (map seen_certificate read.items)) }
-    ensures some { IfOk result (λ read. 0 < length read.items) }
+/// The query about the certificates of the row, of which the first is the anchor. A row without an anchor is refused as DER refuses octets
+/// that are none.
+pub(crate) fn read_query<'a>(
+    alloc: Global,
+    row: &'a [u8],
+    moment: i64,
+    purpose: Option<&'a [u8]>,
+) -> Result<Query<'a>, RowFault>
+    ensures reads { IfOk result (λ query.
+        IsPath row.now (seen_query query).anchor (seen_query query).certificates) }
+    ensures moment { IfOk result (λ query. (seen_query query).moment ≡ moment) }
+    ensures purpose { IfOk result (λ query.
+        (seen_query query).purpose ≡ option_copied purpose.entry) }
     ensures refuses { IfErr result (IsPathFault row.now) }
 {
     if row.is_empty() {
         return Err(RowFault::Certificates(CertRule::Der(Rule::Truncated), 0));
     }
-    read_certificates(alloc, row)
+    let mut path = read_certificates(alloc, row)?;
+    let anchor = path.remove(0);
+    Ok(Query {
+        anchor,
+        path,
+        moment,
+        purpose,
+    })
 }

@@ -22,7 +22,7 @@ pub struct RowPart<'a> {
     pub octets: &'a [u8],
 }
 
-/// A question to a verifier, as `relying_questions::Asked` is one.
+/// A question to a verifier, as `relying_questions::SignatureQuestion` is one.
 #[derive(Clone, Copy, Debug, PartialEq, Eq)]
 pub struct RowQuestion<'a> {
     pub algorithm: RowPart<'a>,

@@ -1,28 +1,25 @@
 //! Where the values of rows begin, and so the parts of questions.
 
-ghost use Rattle.std.specs.Prelude.{◌≡◌, ℕ, List, IfOk, map, slice_index_or};
-ghost use Rattle.cert.specs.Certificate.{seen_certificate};
-ghost use Rattle.relying_texts.specs.View.{texts_of};
+ghost use Rattle.std.specs.Prelude.{◌≡◌, ℕ, List, IfOk, slice_index_or};
+ghost use Rattle.path.specs.Reading.{seen_query, texts_of};
 ghost use Rattle.relying_questions.specs.Places.{AllInTexts, AreInTexts, Stands, Texts};
-ghost use Rattle.relying_questions.specs.Seen.{seen_all, seen_asked};
-ghost use Rattle.relying_rows.specs.Places.{AllInRows, AreInRows, PartStands, octets_of_each, seen_row_question, seen_row_questions};
+ghost use Rattle.relying_questions.specs.Seen.{seen_all, seen_question};
+ghost use Rattle.relying_rows.specs.Places.{AllInRows, AreInRows, PartStands, certificates_of, octets_of_each, seen_row_question, seen_row_questions};
 ghost use Rattle.relying_rows.specs.Starts.{ValuesStand, row_of, start_of, starts_from};
 
 use crate::places::{Row, RowPart, RowQuestion};
-use cert::Certificate;
-use relying_questions::{Asked, Part, Source};
+use path::Query;
+use relying_questions::{Part, SignatureQuestion, Source};
 use std::alloc::{AllocError, Global};
 
-/// The octets of each certificate.
-fn octets_of_each<'a>(
-    alloc: Global,
-    certificates: &[Certificate<'a>],
-) -> Result<Vec<&'a [u8]>, AllocError>
+/// The octets of the anchor, and of each certificate of the path.
+fn octets_of_each<'a>(alloc: Global, query: &Query<'a>) -> Result<Vec<&'a [u8]>, AllocError>
     ensures { IfOk result (λ values. texts_of values.items
-        ≡ octets_of_each (map seen_certificate certificates.now)) }
+        ≡ octets_of_each (certificates_of (seen_query query.now))) }
 {
     let mut values = Vec::new(alloc);
-    for certificate in certificates {
+    values.push(query.anchor.octets)?;
+    for certificate in query.path.as_slice() {
         values.push(certificate.octets)?;
     }
     Ok(values)
@@ -59,18 +56,18 @@ pub(crate) struct Starts {
 }
 
 impl Starts {
-    /// Those of certificates that were read, and of statements.
+    /// Those of the certificates of the query, and of statements.
     pub(crate) fn of_rows(
         alloc: Global,
-        certificates: &[Certificate<'_>],
+        query: &Query<'_>,
         statements: &[&[u8]],
     ) -> Result<Starts, AllocError>
         ensures certificates { IfOk result (λ starts. starts.certificates.items
-            ≡ starts_from 0 (octets_of_each (map seen_certificate certificates.now))) }
+            ≡ starts_from 0 (octets_of_each (certificates_of (seen_query query.now)))) }
         ensures statements { IfOk result (λ starts. starts.statements.items
             ≡ starts_from 0 (texts_of statements.now)) }
     {
-        let values = octets_of_each(alloc, certificates)?;
+        let values = octets_of_each(alloc, query)?;
         let certificates = starts_of(alloc, values.as_slice())?;
         let statements = starts_of(alloc, statements)?;
         Ok(Starts {
@@ -112,8 +109,8 @@ impl Starts {
     }
 
     /// The question with parts of the rows.
-    fn question<'a>(&self, asked: &Asked<'a>) -> RowQuestion<'a>
-        ensures asked { seen_row_question result ≡ seen_asked asked.now }
+    fn question<'a>(&self, asked: &SignatureQuestion<'a>) -> RowQuestion<'a>
+        ensures asked { seen_row_question result ≡ seen_question asked.now }
         ensures places { (certificates statements : List ℕ) (texts : Texts)
             → ValuesStand certificates statements texts self.now → AreInTexts texts asked.now
             → AreInRows certificates statements result }
@@ -130,7 +127,7 @@ impl Starts {
     pub(crate) fn questions<'a>(
         &self,
         alloc: Global,
-        asked: &[Asked<'a>],
+        asked: &[SignatureQuestion<'a>],
     ) -> Result<Vec<RowQuestion<'a>>, AllocError>
         ensures asked { IfOk result (λ placed. seen_row_questions placed.items
             ≡ seen_all asked.now) }

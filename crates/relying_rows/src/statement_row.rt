@@ -1,58 +1,54 @@
 //! Statements in a row.
 
-ghost use Rattle.std.specs.Prelude.{◌≡◌, IfErr, IfOk, IsOk};
-ghost use Rattle.relying_texts.specs.View.{texts_of};
-ghost use Rattle.relying_rows.specs.Contents.{AreStatements};
-ghost use Rattle.relying_rows.specs.Statement.{statement};
-ghost use Rattle.relying_rows.specs.Reading.{IsStatement, FailsAsStatement, IsStatementFault, IsStatementFaultOf};
+ghost use Rattle.std.specs.Prelude.{◌≡◌, IfErr, IfOk, Ok, map};
+ghost use Rattle.path.specs.Reading.{texts_of};
+ghost use Rattle.statements.specs.Statement.{seen_statement, statement};
+ghost use Rattle.relying_rows.specs.Row.{IsRow};
+ghost use Rattle.relying_rows.specs.Reading.{IsStatementFault, IsStatementFaultOf};
 
 use crate::first::first_value;
 use crate::rows::RowFault;
-use statements_crl::Crl;
-use statements_ocsp::{Response, is_response};
-use statements_parts::StatementFault;
+use statements::Statement;
+use statements_parts::ReadingFault;
 use std::alloc::Global;
 
-/// Whether the octets are a statement, or their first fault.
-fn check(alloc: Global, octets: &[u8]) -> Result<(), StatementFault>
-    ensures reads { IfOk result (λ _. IsStatement octets.now) }
-    ensures refuses { IfErr result (FailsAsStatement octets.now) }
-{
-    if is_response(octets) {
-        Response::read(alloc, octets)?;
-    } else {
-        Crl::read(alloc, octets)?;
-    }
-    Ok(())
+/// The statements of a row, and the octets of each.
+#[derive(Drop)]
+pub(crate) struct StatementRow<'a> {
+    pub(crate) octets: Vec<&'a [u8]>,
+    pub(crate) statements: Vec<Statement<'a>>,
 }
 
-/// Whether the value is a statement, which stands at this place of the row.
-fn check_at(alloc: Global, value: &[u8], start: usize) -> Result<(), RowFault>
-    ensures reads { IfOk result (λ _. IsStatement value.now) }
+/// The statement that the value is, which stands at this place of the row.
+fn read_statement(alloc: Global, value: &[u8], start: usize) -> Result<Statement<'_>, RowFault>
+    ensures reads { IfOk result (λ read. statement value.now ≡ Ok (seen_statement read)) }
     ensures refuses { IfErr result (IsStatementFaultOf value.now start) }
 {
-    match check(alloc, value) {
-        Ok(()) => Ok(()),
-        Err(StatementFault::Refused(rule, offset)) => match start.checked_add(offset) {
+    match Statement::read(alloc, value) {
+        Ok(read) => Ok(read),
+        Err(ReadingFault::Memory) => Err(RowFault::Memory),
+        Err(ReadingFault::Refused(rule, offset)) => match start.checked_add(offset) {
             Some(at) => Err(RowFault::Statements(rule, at)),
             None => Err(RowFault::Memory),
         },
-        Err(_) => Err(RowFault::Memory),
     }
 }
 
-/// The statements of the row, each a list or a response.
-pub(crate) fn read_statements(alloc: Global, row: &[u8]) -> Result<Vec<&[u8]>, RowFault>
-    ensures reads { IfOk result (λ read. AreStatements row.now (texts_of read.items)) }
+/// The statements of the row, each a list or a response, and read before the next.
+pub(crate) fn read_statements(alloc: Global, row: &[u8]) -> Result<StatementRow<'_>, RowFault>
+    ensures reads { IfOk result (λ read. IsRow statement row.now (texts_of read.octets.items)
+        (map seen_statement read.statements.items)) }
     ensures refuses { IfErr result (IsStatementFault row.now) }
 {
+    let mut octets = Vec::new(alloc);
     let mut statements = Vec::new(alloc);
     let mut left = row;
     while !left.is_empty() {
         let (value, behind) = first_value(left);
-        check_at(alloc, value, row.len() - left.len())?;
-        statements.push(value)?;
+        let statement = read_statement(alloc, value, row.len() - left.len())?;
+        octets.push(value)?;
+        statements.push(statement)?;
         left = behind;
     }
-    Ok(statements)
+    Ok(StatementRow { octets, statements })
 }

@@ -16,6 +16,7 @@ use Rattle.relying_agreement.specs.Verdict.{verdict_by}
 use Rattle.relying_agreement.specs.declared.verdict.Verdict.{Verdict}
 use Rattle.path.specs.Query.{Query, Accepts}
 use Rattle.cert.specs.Certificate.{Certificate}
+use Rattle.statements.specs.Statement.{Statement}
 use Rattle.relying_texts.specs.Texts.{facts_told, evidence_told}
 use Rattle.relying_texts.specs.View.{held_of}
 
@@ -51,7 +52,7 @@ bears facts link kind serial hash may all own ocsp kind_is serial_is hash_is may
     λ i. record { number = link.number; may_sign_crls = may_is i; answers = record { all = of_all i; own = of_kind i; ocsp = of_response i } }
 
 -- the verdict by what was gathered is that by what the statements tell
-pub decided : (accepts : Accepts) (query : Query) (statements : List (List ℕ)) (facts : List Fact) (links : List Link) (issuers : List Certificate) (verdict : Verdict)
+pub decided : (accepts : Accepts) (query : Query) (statements : List Statement) (facts : List Fact) (links : List Link) (issuers : List Certificate) (verdict : Verdict)
     → facts ≡ facts_told accepts issuers statements → issuers ≡ map (λ (link : Link). link.issuer) links → links ≡ links_of query
     → verdict ≡ verdict_by query.moment (map (evidence_of (held_of facts)) links)
     → verdict ≡ verdict_by query.moment (evidence_told accepts query statements)

@@ -1,4 +1,3 @@
-mod Telling
 mod Folding
 mod Slots
 mod Runs

@@ -5,7 +5,7 @@ use Rattle.cert.specs.Certificate.{Certificate, certificate}
 use Rattle.path.specs.Query.{Query, Accepts}
 use Rattle.statements_facts.specs.Fact.{Fact}
 use Rattle.statements_parts.specs.declared.fault.StatementFault.{StatementFault}
-use Rattle.statements.specs.OcspFact.{genuine_statement}
+use Rattle.statements.specs.Statement.{Statement, statement, statement_said}
 use Rattle.relying_agreement.specs.Run.{Event, DeliveryAnswer, HasRun, genuine_facts}
 use Rattle.relying_texts.specs.Texts.{issuers_of, party_told}
 
@@ -18,17 +18,22 @@ abbrev pub delivery_answer : Result (List Fact) StatementFault → DeliveryAnswe
 delivery_answer (Ok facts) = DeliveryAnswer.Taken
 delivery_answer (Err fault) = DeliveryAnswer.Refused
 
-abbrev pub delivery_answers : Accepts → List Certificate → List (List ℕ) → List DeliveryAnswer
+abbrev pub delivery_answers : Accepts → List Certificate → List Statement → List DeliveryAnswer
 delivery_answers accepts issuers statements =
-    flat_map (λ statement. map (λ issuer. delivery_answer (genuine_statement accepts issuer statement)) issuers) statements
+    flat_map (λ statement. map (λ issuer. delivery_answer (statement_said accepts issuer statement)) issuers) statements
 
 -- the certificates are what the octets are
 abbrev pub AreRead : List (List ℕ) → List Certificate → Type 0
 AreRead texts certificates = map certificate texts ≡ map (λ c. Ok c) certificates
 
--- So the party that a verdict on texts is of has run on these deliveries, and what is said of runs is said of it.
-abbrev pub TextsMakeARun : Type 0
-TextsMakeARun =
-    (accepts : Accepts) (query : Query) (issuers statements : List (List ℕ)) → AreRead issuers (issuers_of query) →
-    HasRun genuine_facts (deliveries issuers statements) (delivery_answers accepts (issuers_of query) statements)
+-- and so are the statements
+abbrev pub AreStatementsRead : List (List ℕ) → List Statement → Type 0
+AreStatementsRead texts statements = map statement texts ≡ map (λ read. Ok read) statements
+
+-- So the party that a verdict by statements is of has run on these deliveries, and what is said of runs is said of it.
+abbrev pub StatementsMakeARun : Type 0
+StatementsMakeARun =
+    (accepts : Accepts) (query : Query) (issuers texts : List (List ℕ)) (statements : List Statement) →
+    AreRead issuers (issuers_of query) → AreStatementsRead texts statements →
+    HasRun genuine_facts (deliveries issuers texts) (delivery_answers accepts (issuers_of query) statements)
     (party_told accepts query statements)

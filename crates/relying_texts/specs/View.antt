@@ -1,16 +1,14 @@
 -- What the code has at hand, as the definitions see it.
 use Rattle.std.specs.Prelude.{◌&&◌, ℕ, List, [], ◌∷◌, map, Option, Some, None, if◌then◌else◌}
 use Rattle.std.specs.List.{filter_map, flat_map}
-use Rattle.std.specs.Option.{option_copied}
 use Rattle.std.specs.Str.{bytes_eq}
 use denote.Ref.{Bor}
-use Rattle.asn.specs.Integer.{binary_value}
 use Rattle.cert.specs.Certificate.{Certificate, seen_certificate}
 use Rattle.cert.specs.declared.certificate.Certificate as certificate
-use Rattle.path.specs.Query.{Query}
-use Rattle.path.specs.State.{CarryNoSubtrees, query_of}
+use Rattle.path.specs.State.{CarryNoSubtrees}
+use Rattle.path.specs.declared.query.Query as asked
 use Rattle.statements_crl.specs.CertificateList.{seen_list}
-use Rattle.statements_ocsp.specs.OcspResponse.{seen_response}
+use Rattle.statements_crl.specs.declared.list.Crl as list
 use Rattle.statements_facts.specs.declared.scope.Scope.{Scope}
 use Rattle.statements_facts.specs.Fact.{Fact}
 use Rattle.statements_facts.specs.Single.{SingleFact}
@@ -18,47 +16,31 @@ use Rattle.statements_facts.specs.Statement.{IssuerIdentity, CrlSlot, CrlFact, O
 use Rattle.statements_facts.specs.Coming.{crl_for, ocsp_for}
 use Rattle.statements_facts.specs.Newest.{newer_crl, newer_ocsp, newest_in}
 use Rattle.statements.specs.Issuer.{identity_of}
+use Rattle.statements.specs.CrlFact.{fact_of_list}
 use Rattle.statements.specs.OcspFact.{fact_with}
 use Rattle.relying_agreement.specs.Link.{Link}
 use Rattle.relying_evidence.specs.View.{seen_link}
 use Rattle.relying_evidence.specs.declared.link.Link as linked
-use Rattle.relying_texts.specs.declared.numbered.NumberedCrl as numbered
-use Rattle.relying_texts.specs.declared.reading.Statement.{Statement as code}
-use Rattle.relying_texts.specs.declared.reading.Statement.TheVariants as kind
 use Rattle.relying_texts.specs.declared.contents.Contents.{Contents}
 use Rattle.relying_texts.specs.declared.contents.Contents.TheVariants as C
 use Rattle.relying_texts.specs.declared.contents.GenuineStatement as genuine
-use Rattle.relying_texts.specs.declared.question.Question as asked
-use Rattle.relying_texts.specs.Reading.{Statement, of_list, of_response, numbered_fact}
-
-abbrev pub seen_question : asked.Question → Query
-seen_question question =
-    query_of question.anchor.now question.path.now question.moment (option_copied question.purpose)
 
 -- no certificate of the path carries a subtree of a processed form
-abbrev pub CarriesNoSubtrees : asked.Question → Type 0
-CarriesNoSubtrees question =
-    CarryNoSubtrees question.anchor.now question.path.now question.moment question.purpose
+abbrev pub CarriesNoSubtrees : asked.Query → Type 0
+CarriesNoSubtrees query =
+    CarryNoSubtrees query.anchor query.path.items query.moment query.purpose
 
 -- the issuers of links, in order
 abbrev pub issuers_in : List linked.Link → List Certificate
 issuers_in links = map (λ (link : Link). link.issuer) (map seen_link links)
 
--- what slices of octets say
-abbrev pub texts_of : List (Bor (List ℕ)) → List (List ℕ)
-texts_of texts = map (λ text. text.now) texts
-
-abbrev pub seen_statement : code → Statement
-seen_statement (kind.List list) = of_list (binary_value list.octets) (seen_list list.crl)
-seen_statement (kind.Response response) = of_response (seen_response response)
-
--- what a list says that was read
-abbrev pub list_fact : numbered.NumberedCrl → CrlFact
-list_fact list = numbered_fact (binary_value list.octets) (seen_list list.crl)
+-- what a list says
+abbrev pub list_fact : list.Crl → CrlFact
+list_fact list = fact_of_list (seen_list list)
 
 -- what genuine contents tell of the certificates of an issuer
 abbrev pub facts_with : IssuerIdentity → Contents → List Fact
-facts_with issuer (C.List list) = Fact.OfCrl (record { issuer = issuer; scope = list.crl.scope }) (list_fact list) ∷ []
+facts_with issuer (C.List list) = Fact.OfCrl (record { issuer = issuer; scope = list.scope }) (list_fact list) ∷ []
 facts_with issuer (C.Singles singles) = map (fact_with issuer) singles
 
 abbrev pub facts_if_some : IssuerIdentity → Option Contents → List Fact
@@ -76,7 +58,7 @@ facts_in statement = facts_with (identity_seen statement.issuer.now) statement.c
 abbrev pub facts_in_all : List genuine.GenuineStatement → List Fact
 facts_in_all statements = flat_map facts_in statements
 
-abbrev pub list_fact_at : Bor numbered.NumberedCrl → CrlFact
+abbrev pub list_fact_at : Bor list.Crl → CrlFact
 list_fact_at list = list_fact list.now
 
 abbrev pub crl_slot_of : certificate.Certificate → Scope → CrlSlot

@@ -1,26 +1,27 @@
 //! What genuine statements say.
 
-ghost use Rattle.std.specs.Prelude.{◌≡◌, IfOk};
-ghost use Rattle.asn.specs.Integer.{binary_value};
+ghost use Rattle.std.specs.Prelude.{◌≡◌, ◌≢◌, IfOk};
 ghost use Rattle.cert.specs.Certificate.{seen_certificate};
 ghost use Rattle.statements_crl.specs.CertificateList.{seen_list};
 ghost use Rattle.statements_ocsp.specs.OcspResponse.{seen_response};
-ghost use Rattle.relying_texts.specs.Reading.{facts_of, facts_of_list, facts_of_response};
-ghost use Rattle.relying_texts.specs.View.{facts_if_some, identity_seen, seen_statement};
+ghost use Rattle.statements.specs.Statement.{seen_statement};
+ghost use Rattle.statements_parts.specs.declared.fault.StatementFault.TheVariants.{Memory};
+ghost use Rattle.relying_texts.specs.Texts.{facts_of, facts_of_list, facts_of_response};
+ghost use Rattle.relying_texts.specs.View.{facts_if_some, identity_seen};
 
-use crate::numbered::NumberedCrl;
-use crate::reading::{Statement, check_memory};
 use cert::Certificate;
 use path_verifiers::Verifier;
-use statements::{check_crl_issuer, response_singles};
+use statements::{Statement, check_crl_issuer, response_singles};
+use statements_crl::Crl;
 use statements_facts::Singles;
 use statements_ocsp::Response;
+use statements_parts::StatementFault;
 use std::alloc::{AllocError, Global};
 
 /// What a genuine statement says of its issuer's certificates. The entries of a list stay where they are.
 #[derive(Drop)]
 pub(crate) enum Contents<'a> {
-    List(NumberedCrl<'a>),
+    List(Crl<'a>),
     Singles(Singles<'a>),
 }
 
@@ -31,17 +32,27 @@ pub(crate) struct GenuineStatement<'p, 'c, 'a> {
     pub(crate) contents: Contents<'a>,
 }
 
+/// Passes on that memory was refused, and no other fault.
+fn check_memory(fault: StatementFault) -> Result<(), AllocError>
+    ensures { IfOk result (λ _. fault ≢ Memory) }
+{
+    if fault == StatementFault::Memory {
+        return Err(AllocError);
+    }
+    Ok(())
+}
+
 /// The list, if the issuer issued it.
 fn list_under<'a, V: Verifier>(
     verifier: &V,
     issuer: &Certificate<'_>,
-    list: &NumberedCrl<'a>,
+    list: &Crl<'a>,
 ) -> Option<Contents<'a>>
     ensures { facts_if_some (identity_seen issuer.now) result
         ≡ facts_of_list (V.accepts verifier.now) (seen_certificate issuer.now)
-        (binary_value list.now.octets) (seen_list list.now.crl) }
+        (seen_list list.now) }
 {
-    match check_crl_issuer(verifier, issuer, &list.crl) {
+    match check_crl_issuer(verifier, issuer, list) {
         Ok(()) => Some(Contents::List(*list)),
         Err(_) => None,
     }

@@ -5,14 +5,10 @@ mod contents;
 mod deliveries;
 mod gathering;
 mod newest;
-mod numbered;
-mod question;
-mod reading;
 mod responses;
 mod same_issuer;
 mod verdicts;
 
 pub use deliveries::delivery_laws;
-pub use question::Question;
 pub use relying_agreement::Verdict;
 pub use verdicts::verdict;

@@ -10,9 +10,9 @@ ghost use Rattle.statements_facts.specs.Answer.{seen_crl};
 ghost use Rattle.relying_texts.specs.View.{crl_slot_of, facts_in, facts_in_all, list_fact, list_fact_at};
 
 use crate::contents::{Contents, GenuineStatement};
-use crate::numbered::{NumberedCrl, number_of};
 use crate::same_issuer::is_same_issuer;
 use cert::Certificate;
+use statements_crl::Crl;
 use statements_facts::{CrlAnswer, Scope};
 
 /// The list, if it is one of the issuer and the scope.
@@ -20,13 +20,13 @@ fn list_for<'t, 'a>(
     statement: &'t GenuineStatement<'_, '_, 'a>,
     issuer: &Certificate<'_>,
     scope: Scope,
-) -> Option<&'t NumberedCrl<'a>>
+) -> Option<&'t Crl<'a>>
     ensures { option_to_list (option_map list_fact_at result)
         ≡ filter_map (crl_for (crl_slot_of issuer.now scope)) (facts_in statement.now) }
 {
     match &statement.contents {
         Contents::List(list) => {
-            if is_same_issuer(statement.issuer, issuer) && list.crl.scope == scope {
+            if is_same_issuer(statement.issuer, issuer) && list.scope == scope {
                 Some(list)
             } else {
                 None
@@ -37,10 +37,7 @@ fn list_for<'t, 'a>(
 }
 
 /// The newer of two lists, the first of equals.
-fn newer_list<'t, 'a>(
-    held: Option<&'t NumberedCrl<'a>>,
-    next: Option<&'t NumberedCrl<'a>>,
-) -> Option<&'t NumberedCrl<'a>>
+fn newer_list<'t, 'a>(held: Option<&'t Crl<'a>>, next: Option<&'t Crl<'a>>) -> Option<&'t Crl<'a>>
     ensures { option_map list_fact_at result ≡ held_after newer_crl
         (option_map list_fact_at held.entry)
         (option_to_list (option_map list_fact_at next.entry)) }
@@ -50,7 +47,7 @@ fn newer_list<'t, 'a>(
         Some(next) => match held {
             None => Some(next),
             Some(held) => {
-                if number_of(next).cmp(&number_of(held)).is_gt() {
+                if next.number.value().cmp(&held.number.value()).is_gt() {
                     Some(next)
                 } else {
                     Some(held)
@@ -65,7 +62,7 @@ fn newest_list<'t, 'a>(
     genuine: &'t [GenuineStatement<'_, '_, 'a>],
     issuer: &Certificate<'_>,
     scope: Scope,
-) -> Option<&'t NumberedCrl<'a>>
+) -> Option<&'t Crl<'a>>
     ensures { option_map list_fact_at result ≡ held_after newer_crl None
         (filter_map (crl_for (crl_slot_of issuer.now scope)) (facts_in_all genuine.now)) }
 {
@@ -77,14 +74,14 @@ fn newest_list<'t, 'a>(
 }
 
 /// What a list says of one serial number.
-fn answer_of(list: &NumberedCrl<'_>, serial: &[u8]) -> CrlAnswer
+fn answer_of(list: &Crl<'_>, serial: &[u8]) -> CrlAnswer
     ensures { seen_crl result ≡ answer_for serial.now (list_fact list.now) }
 {
     CrlAnswer {
-        number: number_of(list),
-        from: list.crl.this_update,
-        until: list.crl.next_update,
-        reason: list.crl.lists(serial),
+        number: list.number.value(),
+        from: list.this_update,
+        until: list.next_update,
+        reason: list.lists(serial),
     }
 }
 

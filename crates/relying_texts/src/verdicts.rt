@@ -6,19 +6,21 @@ ghost use Rattle.std.specs.Option.{option_or};
 ghost use Rattle.relying_agreement.specs.Status.{deciding_reason, evidence_of, is_covered_by};
 ghost use Rattle.relying_agreement.specs.Verdict.{verdict_by};
 ghost use Rattle.relying_evidence.specs.View.{seen_evidence, seen_link};
-ghost use Rattle.relying_texts.specs.Texts.{IsVerdictByTexts, evidence_told};
-ghost use Rattle.relying_texts.specs.View.{CarriesNoSubtrees, facts_in_all, held_of, seen_question, texts_of};
+ghost use Rattle.path.specs.Reading.{seen_query};
+ghost use Rattle.statements.specs.Statement.{seen_statement};
+ghost use Rattle.relying_texts.specs.Texts.{IsVerdictByStatements, evidence_told};
+ghost use Rattle.relying_texts.specs.View.{CarriesNoSubtrees, facts_in_all, held_of};
 
 use crate::contents::GenuineStatement;
 use crate::gathering::genuine_statements;
 use crate::newest::list_answer;
-use crate::question::Question;
 use crate::responses::response_answer;
-use path::{Outcome, validate};
+use path::{Outcome, Query, validate};
 use path_verifiers::Verifier;
 use relying_agreement::Verdict;
 use relying_evidence::{Evidence, Link, links_of, may_sign_crls, own_scope};
 use sha1::Sha1;
+use statements::Statement;
 use statements_facts::{Answers, Scope};
 use std::alloc::{AllocError, Global};
 
@@ -91,14 +93,14 @@ fn verdict_on(
 
 /// The same at the moment that is asked for.
 fn verdict_at(
-    question: &Question<'_, '_>,
+    query: &Query<'_>,
     links: &[Link<'_, '_>],
     genuine: &[GenuineStatement<'_, '_, '_>],
 ) -> Verdict
-    ensures { result ≡ verdict_by question.now.moment
+    ensures { result ≡ verdict_by query.now.moment
         (map (evidence_of (held_of (facts_in_all genuine.now))) (map seen_link links.now)) }
 {
-    let moment = question.moment;
+    let moment = query.moment;
     verdict_on(links, genuine, moment)
 }
 
@@ -106,50 +108,42 @@ fn verdict_at(
 fn verdict_by_statements<V: Verifier>(
     alloc: Global,
     verifier: &V,
-    question: &Question<'_, '_>,
-    statements: &[&[u8]],
+    query: &Query<'_>,
+    statements: &[Statement<'_>],
 ) -> Result<Verdict, AllocError>
-    ensures { IfOk result (λ verdict. verdict ≡ verdict_by question.now.moment
-        (evidence_told (V.accepts verifier.now) (seen_question question.now)
-        (texts_of statements.now))) }
+    ensures { IfOk result (λ verdict. verdict ≡ verdict_by query.now.moment
+        (evidence_told (V.accepts verifier.now) (seen_query query.now)
+        (map seen_statement statements.now))) }
 {
-    let links = links_of(alloc, question.anchor, question.path)?;
+    let links = links_of(alloc, &query.anchor, query.path.as_slice())?;
     let genuine = genuine_statements(alloc, verifier, links.as_slice(), statements)?;
-    Ok(verdict_at(question, links.as_slice(), genuine.as_slice()))
+    Ok(verdict_at(query, links.as_slice(), genuine.as_slice()))
 }
 
-/// The verdict on a path by statements, the octets of lists and responses in any order: that of a relying party that began with nothing
-/// and was delivered each statement with the certificate of each issuer of the path. A statement that cannot be read, or is genuine for
-/// none of the issuers, changes nothing. The path is validated first, and statements are read only if it is valid. The only error is lack
-/// of memory.
+/// The verdict on a path by statements, lists and responses in any order: that of a relying party that began with nothing and was
+/// delivered each statement with the certificate of each issuer of the path. A statement that is genuine for none of the issuers changes
+/// nothing. The path is validated first, and statements are looked at only if it is valid. The only error is lack of memory.
 ///
-/// Each statement is read once. The verifier is asked about a list once for each issuer whose name it has, about a response once for each
+/// The verifier is asked about a list once for each issuer whose name it has, about a response once for each
 /// issuer and for each certificate that comes with it. For each certificate of the path at most two lists are walked over once more, the
-/// newest of either scope. Memory is taken for the certificates of the path, for genuine statements and for reading, but not for the
-/// entries of lists.
+/// newest of either scope. Memory is taken for the certificates of the path, for genuine statements and for the certificates that come
+/// with responses, but not for the entries of lists.
 pub fn verdict<V: Verifier>(
     alloc: Global,
     verifier: &V,
-    question: &Question<'_, '_>,
-    statements: &[&[u8]],
+    query: &Query<'_>,
+    statements: &[Statement<'_>],
 ) -> Result<Verdict, AllocError>
-    ensures verdict { IfOk result (IsVerdictByTexts (V.accepts verifier.now)
-        (seen_question question.now) (texts_of statements.now)) }
+    ensures verdict { IfOk result (IsVerdictByStatements (V.accepts verifier.now)
+        (seen_query query.now) (map seen_statement statements.now)) }
     // If no certificate of the path carries a subtree of a processed form, memory is asked for only if the path is valid.
-    ensures memory { OnErr result (CarriesNoSubtrees question.now
-        → IsValidPath (V.accepts verifier.now) (seen_question question.now)) }
+    ensures memory { OnErr result (CarriesNoSubtrees query.now
+        → IsValidPath (V.accepts verifier.now) (seen_query query.now)) }
 {
-    let moment = question.moment;
-    let purpose = question.purpose;
-    match validate(
-        alloc,
-        verifier,
-        question.anchor,
-        question.path,
-        moment,
-        purpose,
-    )? {
+    let (anchor, path) = (&query.anchor, query.path.as_slice());
+    let (moment, purpose) = (query.moment, query.purpose);
+    match validate(alloc, verifier, anchor, path, moment, purpose)? {
         Outcome::Bad(number, reason) => Ok(Verdict::Invalid(number, reason)),
-        Outcome::Good => verdict_by_statements(alloc, verifier, question, statements),
+        Outcome::Good => verdict_by_statements(alloc, verifier, query, statements),
     }
 }

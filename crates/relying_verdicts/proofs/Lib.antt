@@ -2,5 +2,4 @@ mod Answering
 mod Chains
 mod Differing
 mod Opening
-mod Reading
 mod Links

@@ -2,7 +2,6 @@
 use Rattle.std.proofs.Common.{◌≡◌, ◌≢◌, ◌≤◌, ℕ, ℤ, Bool, List, [], ◌∷◌, Option, Some, None, length, map, IsTrue, IfOk, Result, Ok, Err, arith, refl, sym}
 use Rattle.path.specs.declared.reason.Reason.{Reason}
 use Rattle.path.specs.Query.{Query, Accepts}
-use Rattle.path.specs.Validity.{IsFirstFailure}
 use Rattle.relying_agreement.specs.Status.{Evidence}
 use Rattle.relying_agreement.specs.Verdict.{first_revoked, first_uncovered, verdict_by, verdict_from}
 use Rattle.relying_agreement.specs.declared.verdict.Verdict.{Verdict}

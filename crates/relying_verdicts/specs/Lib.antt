@@ -1,5 +1,3 @@
-pub mod View
-pub mod Reading
 pub mod Asking
 pub mod Found
 pub mod Difference

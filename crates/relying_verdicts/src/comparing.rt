@@ -10,14 +10,12 @@ ghost use Rattle.relying_verdicts.specs.Asking.{AreAskedOpen, AreInvalidOrOpen, 
 ghost use Rattle.relying_verdicts.specs.Difference.{ComparesEvidence, IsFirstApart};
 ghost use Rattle.relying_verdicts.specs.Found.{ComparesHeld};
 ghost use Rattle.relying_evidence.specs.View.{seen_answers, seen_evidence};
-ghost use Rattle.relying_verdicts.specs.View.{seen_query};
+ghost use Rattle.path.specs.Reading.{seen_query};
 
 use crate::evidence::verdict_by;
 use crate::fault::Fault;
 use crate::looking::evidence_on;
-use crate::query::Query;
-use crate::verdicts::outcome_of;
-use path::{Outcome, Verifier};
+use path::{Outcome, Query, Verifier};
 use relying_agreement::{Comparison, Verdict};
 use relying_evidence::Evidence;
 use sqlite::{Alter, Transaction};
@@ -168,7 +166,7 @@ pub fn compare<V: Verifier, S: Alter, D: Alter>(
     ensures survives { CommitsNothing (inside S.Store one.old) (inside S.Store one.new) }
     ensures other_survives { CommitsNothing (inside D.Store other.old) (inside D.Store other.new) }
 {
-    let outcome = outcome_of(alloc, verifier, query)?;
+    let outcome = query.validate(alloc, verifier)?;
     match outcome {
         Outcome::Bad(number, reason) => Ok(Comparison::Same(Verdict::Invalid(number, reason))),
         Outcome::Good => compare_held(alloc, one, other, query),

@@ -5,11 +5,10 @@ mod comparing;
 mod evidence;
 mod fault;
 mod looking;
-mod query;
 mod verdicts;
 
 pub use comparing::compare;
 pub use fault::Fault;
-pub use query::{Query, QueryFault};
+pub use path::{Query, QueryFault};
 pub use relying_agreement::{Comparison, Verdict};
 pub use verdicts::verdict;

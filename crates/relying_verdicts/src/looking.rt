@@ -12,11 +12,11 @@ ghost use Rattle.relying_agreement.specs.Verdict.{evidence_on};
 ghost use Rattle.relying_verdicts.specs.Asking.{AsksStore, AsksForCause};
 ghost use Rattle.relying_verdicts.specs.Found.{AreAnswersOn};
 ghost use Rattle.relying_evidence.specs.View.{seen_evidence, seen_link};
-ghost use Rattle.relying_verdicts.specs.View.{seen_query};
+ghost use Rattle.path.specs.Reading.{seen_query};
 
 use crate::fault::Fault;
-use crate::query::Query;
 use cert::Certificate;
+use path::Query;
 use relying_evidence::{Evidence, Link, may_sign_crls, own_scope};
 use sha1::Sha1;
 use sqlite::{Alter, Transaction};

@@ -4,34 +4,19 @@ ghost use Rattle.std.specs.Prelude.{◌≡◌, IfOk, IsTrue, map};
 ghost use Rattle.store_sql.specs.Inside.{IsInTransaction, KeepsReference, inside};
 ghost use Rattle.store_sql.specs.Statements.{CommitsNothing};
 ghost use Rattle.sqlite.specs.State.{HasCleanDisk};
-ghost use Rattle.path.specs.Validity.{IsOutcome};
 ghost use Rattle.relying_agreement.specs.Verdict.{IsVerdict, verdict_by};
 ghost use Rattle.relying_verdicts.specs.Asking.{AsksStore, AsksForCause, IsInvalidOrOpen};
 ghost use Rattle.relying_evidence.specs.View.{seen_evidence};
-ghost use Rattle.relying_verdicts.specs.View.{seen_query};
+ghost use Rattle.path.specs.Reading.{seen_query};
 
 use crate::evidence::verdict_by;
 use crate::fault::Fault;
 use crate::looking::evidence_on;
-use crate::query::Query;
-use path::{Outcome, Verifier, validate};
+use path::{Outcome, Query, Verifier};
 use relying_agreement::Verdict;
 use relying_evidence::Evidence;
 use sqlite::{Alter, Transaction};
-use std::alloc::{AllocError, Global};
-
-/// What validation says of the path.
-pub(crate) fn outcome_of<V: Verifier>(
-    alloc: Global,
-    verifier: &V,
-    query: &Query<'_>,
-) -> Result<Outcome, AllocError>
-    ensures { IfOk result (IsOutcome (V.accepts verifier.now) (seen_query query.now)) }
-{
-    let moment = query.moment;
-    let path = query.path.as_slice();
-    validate(alloc, verifier, &query.anchor, path, moment, query.purpose)
-}
+use std::alloc::Global;
 
 /// What is said of a path that meets all conditions.
 fn verdict_at(query: &Query<'_>, evidence: &[Evidence]) -> Verdict
@@ -59,7 +44,7 @@ pub fn verdict<V: Verifier, S: Alter>(
         (inside S.Store tx.old).is_open) }
     ensures survives { CommitsNothing (inside S.Store tx.old) (inside S.Store tx.new) }
 {
-    let outcome = outcome_of(alloc, verifier, query)?;
+    let outcome = query.validate(alloc, verifier)?;
     match outcome {
         Outcome::Bad(number, reason) => Ok(Verdict::Invalid(number, reason)),
         Outcome::Good => {

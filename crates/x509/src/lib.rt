@@ -31,8 +31,8 @@
 //!    A program that keeps no store hands over its statements each time. `at_hand::verdict` answers what a party would that began with
 //!    nothing and was delivered all of them.
 //!
-//!        let question = at_hand::Question { anchor: &anchor, path: &path, moment, purpose };
-//!        let verdict = at_hand::verdict(alloc, &verifier, &question, &statements)?;
+//!        let statements = [Statement::read(alloc, list_octets)?];
+//!        let verdict = at_hand::verdict(alloc, &verifier, &query, &statements)?;
 //!
 //!    `at_hand::questions` tells beforehand what the verifier may be asked. `rows` has both calls on texts in which certificates, and
 //!    statements, stand one behind the other.
@@ -49,16 +49,16 @@ pub use cert::{CertFault, CertRule, Certificate};
 
 // ---- signatures and paths (RFC 5280, 6.1)
 
-pub use path::{Outcome, Reason, State, Step, Verifier, outcome_laws, validate};
+pub use path::{Outcome, Query, QueryFault, Reason, State, Step, Verifier, outcome_laws, validate};
 pub use path_verifiers::{ListVerifier, fingerprint, framing_laws};
 
 // ---- statements of revocation (RFC 5280, 5; RFC 6960, 4.2)
 
-pub use statements::{genuine, issuer_of};
+pub use statements::{Statement, genuine, issuer_of};
 pub use statements_crl::Crl;
 pub use statements_facts::{Counts, Facts, Issuer, NameKey, Scope};
 pub use statements_ocsp::Response;
-pub use statements_parts::{StatementFault, StatementRule};
+pub use statements_parts::{ReadingFault, StatementFault, StatementRule};
 
 // ---- stores
 
@@ -71,8 +71,8 @@ pub use store_sql::StoreFault;
 // ---- relying parties
 
 pub use relying::{
-    Comparison, DeliverAnswer, DeliverFault, Event, Fault, Node, Query, QueryFault, ReopenFault,
-    RunFault, Verdict, compare, node_laws, read_statement, run_laws,
+    Comparison, DeliverAnswer, DeliverFault, Event, Fault, Node, ReopenFault, RunFault, Verdict,
+    compare, node_laws, read_statement, run_laws,
 };
 pub use relying_agreement::{
     agreement_examples, agreement_laws, comparison_laws, taking_laws, verdict_laws,
@@ -104,19 +104,18 @@ pub mod certificates {
     pub use cert::{
         AlgorithmIdentifier, BasicConstraints, BitString, Extension, ExtensionKind, Extensions,
         KeyUsage, MOST_NAMES, NameConstraints, OidSet, Refusal, SubjectPublicKeyInfo, Validity,
-        Version, certificate_laws, layout_laws,
+        Version, certificate_laws, layout_laws, offset_laws,
     };
-    pub use cert_offsets::offset_laws;
     pub use path_conditions::{Constraints, FormSet};
 }
 
 /// The parts of lists and responses (RFC 5280, 5; RFC 6960, 4.2), and what they say.
 pub mod revocation {
     pub use statements::{
-        check_crl_issuer, crl_fact_laws, crl_facts, crl_number, identity_laws, ocsp_fact_laws,
-        ocsp_facts, response_singles,
+        check_crl_issuer, identity_laws, is_named_by, may_sign_responses, response_singles,
+        statement_laws,
     };
-    pub use statements_crl::{Entries, Entry, list_laws, number_laws};
+    pub use statements_crl::{CrlNumber, Entries, Entry, list_laws, number_laws};
     pub use statements_facts::{
         CrlFacts, Listed, OcspFacts, RevokedSerials, Single, Singles, Status, TakenAs, coming_laws,
         newest_laws,
@@ -130,8 +129,8 @@ pub mod revocation {
 
 /// Verdicts by statements at hand, without a store, and what a verifier may be asked for them.
 pub mod at_hand {
-    pub use relying_questions::{Asked, Part, Source, question_laws, questions};
-    pub use relying_texts::{Question, delivery_laws, verdict};
+    pub use relying_questions::{Part, SignatureQuestion, Source, question_laws, questions};
+    pub use relying_texts::{delivery_laws, verdict};
 }
 
 /// The same if certificates, statements and fingerprints stand in rows of octets, one behind the other.

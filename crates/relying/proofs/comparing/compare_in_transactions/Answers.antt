@@ -3,7 +3,7 @@ use Rattle.std.proofs.lemmas.Result.{IfOk-weaker, MatchResult-weaker}
 use Rattle.sqlite.specs.Held.{state}
 use Rattle.relying_agreement.specs.Comparison.{IsComparison}
 use Rattle.relying_verdicts.specs.Asking.{AreInvalidOrOpen, AskOfBothIsCaused}
-use Rattle.relying_verdicts.specs.View.{seen_query}
+use Rattle.path.specs.Reading.{seen_query}
 use Rattle.relying.specs.Asking.{BothAnswerOnlyIfOpen, LooksAtBothForCause, LooksInsideBoth}
 use Rattle.relying.proofs.Looking.{asked_both_at, looked_both, opened_both}
 use Rattle.relying.proofs.comparing.compare_in_transactions.Goals as goal

@@ -2,7 +2,7 @@ use Rattle.std.proofs.Common.{◌≡◌, rules, subst, arith}
 use Rattle.std.proofs.lemmas.Result.{IfOk-weaker, MatchResult-weaker}
 use Rattle.sqlite.specs.Held.{state}
 use Rattle.relying_agreement.specs.Verdict.{IsVerdict}
-use Rattle.relying_verdicts.specs.View.{seen_query}
+use Rattle.path.specs.Reading.{seen_query}
 use Rattle.relying_verdicts.specs.Asking.{AskIsCaused, IsInvalidOrOpen}
 use Rattle.relying.specs.Asking.{AnswersOnlyIfOpen, LooksForCause, LooksInside}
 use Rattle.relying.proofs.Looking.{asked_at, looked, opened}

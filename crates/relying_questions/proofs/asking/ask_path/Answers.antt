@@ -17,7 +17,7 @@ loop-link-preserved c =
     let new = c.push.new.self.items in
     let asked = c.of_certificate.result in
     let items = c.in_ok-push.ensures.items in
-    let is = c.of_certificate.ensures.asked ∙ ap₂ of_certificate c.issuer_of.ensures.certificate c.certificate_of.ensures.certificate in (
+    let is = c.of_certificate.ensures.question ∙ ap₂ of_certificate c.issuer_of.ensures.certificate c.certificate_of.ensures.certificate in (
       one_asked asked_of_link (seen_all sofar) (seen_all new) link (drop i links) (drop (i + 1) links) (seen_all old ++ asked_of_links links)
           (one_left links i link c.loop-link-test.true c.link-item.is) (seen_push sofar new asked (asked_of_link link) items is) c.loop-link.invariant.0,
       kept_one (λ texts. LinksStand texts links) old sofar new asked c.loop-link.invariant.1 items

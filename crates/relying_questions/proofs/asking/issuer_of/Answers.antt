@@ -1,7 +1,9 @@
-use Rattle.std.proofs.Common.{ap, ◌∙◌}
+use Rattle.std.proofs.Common.{sym, subst}
+use Rattle.relying_questions.specs.Places.{HasParts}
+use Rattle.relying_questions.specs.Seen.{issuer_of_link}
 use Rattle.relying_questions.specs.declared.part.Source.TheVariants as source
 use Rattle.relying_questions.proofs.asking.issuer_of.Goals as goal
 
 pub returns-clause-places : goal.returns-clause-places
 returns-clause-places c =
-    λ texts is. c.text.ensures.places texts (ap (λ n. texts (source.Certificate n)) c.saturating_sub-number.ensures ∙ is.issuer_text) is.issuer_parts
+    λ texts is. subst (λ n. HasParts (texts (source.Certificate n)) (issuer_of_link c.args.link.now)) (sym c.saturating_sub.ensures) is.issuer

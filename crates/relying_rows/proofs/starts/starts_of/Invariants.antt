@@ -1,5 +1,5 @@
 use Rattle.std.proofs.Common.{◌≡◌, ◌++◌, drop}
-use Rattle.relying_texts.specs.View.{texts_of}
+use Rattle.path.specs.Reading.{texts_of}
 use Rattle.relying_rows.specs.Starts.{starts_from}
 use Rattle.relying_rows.proofs.starts.starts_of.Given as goal
 

@@ -2,8 +2,9 @@ use Rattle.std.proofs.Common.{◌+◌, ◌++◌, List, drop, ap}
 use Rattle.std.specs.List.{flat_map}
 use Rattle.cert.specs.Certificate.{Certificate, seen_certificate}
 use Rattle.statements_facts.specs.Fact.{Fact}
-use Rattle.relying_texts.specs.Reading.{facts_of}
-use Rattle.relying_texts.specs.View.{facts_if_some, facts_in_all, identity_seen, issuers_in, seen_statement}
+use Rattle.statements.specs.Statement.{seen_statement}
+use Rattle.relying_texts.specs.Texts.{facts_of}
+use Rattle.relying_texts.specs.View.{facts_if_some, facts_in_all, identity_seen, issuers_in}
 use Rattle.relying_texts.proofs.Folding.{gathered, one_left}
 use Rattle.relying_texts.proofs.gathering.add_under_each.Goals as goal
 

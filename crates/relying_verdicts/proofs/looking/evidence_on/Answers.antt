@@ -3,8 +3,7 @@ use Rattle.std.proofs.lemmas.Result.{err_from_is_err_and}
 use Rattle.cert.specs.Certificate.{seen_certificate}
 use Rattle.sqlite.specs.State.{HasCleanDisk}
 use Rattle.store_sql.specs.Inside.{inside}
-use Rattle.relying_verdicts.specs.View.{seen_query}
-use Rattle.relying_verdicts.proofs.Answering.{counted, pushed}
+use Rattle.path.specs.Reading.{seen_query}
 use Rattle.relying_verdicts.proofs.Chains.{gives_up_then, both_commit_nothing, found_as, found_then, asked_then}
 use Rattle.relying_verdicts.proofs.Links.{IsSoFar, ends, goes_on}
 use Rattle.relying_verdicts.proofs.looking.evidence_on.Goals as goal

@@ -4,7 +4,7 @@ use Rattle.sqlite.specs.Held.{state}
 use Rattle.cert.specs.Certificate.{seen_certificate}
 use Rattle.store_sql.specs.Statements.{CommitsNothing}
 use Rattle.store_maps.specs.LooksUp.{IsFoundIn}
-use Rattle.relying_verdicts.specs.View.{seen_query}
+use Rattle.path.specs.Reading.{seen_query}
 use Rattle.relying_verdicts.proofs.Links.{IsSoFar}
 use Rattle.relying_verdicts.proofs.looking.evidence_on.Given as goal
 

@@ -2,7 +2,7 @@
 
 ghost use Rattle.std.specs.Prelude.{◌≡◌};
 ghost use Rattle.relying_questions.specs.Questions.{answer};
-ghost use Rattle.relying_questions.specs.Seen.{print_of, seen_asked};
+ghost use Rattle.relying_questions.specs.Seen.{print_of, seen_question};
 
 use crate::part::Part;
 use path_verifiers::{Verifier, fingerprint};
@@ -11,17 +11,17 @@ use path_verifiers::{Verifier, fingerprint};
 /// whole DER of the algorithm identifier and of the subjectPublicKeyInfo, `message` is what was signed, and `signature` the octets of the
 /// signature.
 #[derive(Clone, Copy, Debug, PartialEq, Eq)]
-pub struct Asked<'a> {
+pub struct SignatureQuestion<'a> {
     pub algorithm: Part<'a>,
     pub key_info: Part<'a>,
     pub message: Part<'a>,
     pub signature: Part<'a>,
 }
 
-impl<'a> Asked<'a> {
+impl<'a> SignatureQuestion<'a> {
     /// The fingerprint of the question, which a `ListVerifier` looks for. No memory is taken.
     pub fn fingerprint(&self) -> [u8; 32]
-        ensures { result ≡ print_of (seen_asked self.now) }
+        ensures { result ≡ print_of (seen_question self.now) }
     {
         let (algorithm, key_info) = (self.algorithm.octets, self.key_info.octets);
         let (message, signature) = (self.message.octets, self.signature.octets);
@@ -30,7 +30,7 @@ impl<'a> Asked<'a> {
 
     /// The verifier's answer.
     pub fn answer<V: Verifier>(&self, verifier: &V) -> bool
-        ensures { result ≡ answer (V.accepts verifier.now) (seen_asked self.now) }
+        ensures { result ≡ answer (V.accepts verifier.now) (seen_question self.now) }
     {
         verifier.judge(
             self.algorithm.octets,
