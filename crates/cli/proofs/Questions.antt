@@ -1,17 +1,15 @@
 -- What operands ask, and why there is no answer.
-use Rattle.std.proofs.Common.{ℕ, inl, inr, sym, subst, List, Result, Ok, Err, IfErr, IfOk}
+use Rattle.std.proofs.Common.{ℕ, inl, inr, List, Result, Ok, Err, IfErr, IfOk}
 use Rattle.relying_agreement.specs.declared.verdict.Comparison.{Comparison}
 use Rattle.relying_agreement.specs.declared.verdict.Verdict.{Verdict}
 use Rattle.cli_words.specs.declared.question.Question.{Question}
 use Rattle.cli_operands.proofs.Laws.{ask, refuse}
-use Rattle.cli_operands.specs.Moment.{IsMoment}
-use Rattle.cli_operands.specs.Operands.{AreOperands}
-use Rattle.cli_operands.specs.Question.{IsPurposeOf, purpose_text}
+use Rattle.cli_operands.specs.Operands.{AreOperands, IsQueryOf}
 use Rattle.cli_operands.specs.declared.operand_files.Operands.{Operands}
 use Rattle.path.specs.Query.{Query}
 use Rattle.cli_failures.specs.declared.failure.Failure.{Failure}
 use Rattle.cli_failures.specs.Failures.{Holding}
-use Rattle.cli.specs.Asked.{IsAsked, IsQueryOf}
+use Rattle.cli.specs.Asked.{IsAsked}
 use Rattle.cli.specs.Believed.{accepted_by}
 use Rattle.cli.specs.Checked.{IsCompared, IsComparedOf, IsFailureOfCheck, IsFailureOfComparison, IsChecked, IsCheckedOf, IsNotComparedOf, IsNotCheckedOf}
 use Rattle.cli_store.specs.Standing.{Leaving, Standing}
@@ -19,19 +17,12 @@ use Rattle.cli.proofs.Believing.{believes_just}
 
 module _ (holds : Holding) (question : Question) (it : Operands) (are : AreOperands holds question it) where
   pub is_asked : (query : Query) → IsQueryOf it query → IsAsked holds question (accepted_by it.verifier) query
-  is_asked query of =
-      let asks = ask holds question it query.anchor query.certificates are of.certificates in
-      record {
-        prints = are.prints;
-        verdicts = are.verdicts;
-        believed = believes_just it.verifier are.prints are.believed;
-        asks = record {
-          moment = subst (λ moment. IsMoment question.moment.now moment) (sym of.moment) asks.moment;
-          purpose = subst (λ purpose. IsPurposeOf (purpose_text question) purpose) (sym of.purpose) asks.purpose;
-          anchor = asks.anchor;
-          path = asks.path;
-        };
-      }
+  is_asked query of = record {
+    prints = are.prints;
+    verdicts = are.verdicts;
+    believed = believes_just it.verifier are.prints are.believed;
+    asks = ask holds question it query are of;
+  }
 
   -- the verdict and the comparison of what operands ask are those that are asked for
   pub checked_asked : {E : Type 0} (stands : Standing) (leaves : Leaving) (result : Result Verdict E) → IfOk result (IsCheckedOf stands leaves question.store.now it) → IfOk result (IsChecked holds stands leaves question)

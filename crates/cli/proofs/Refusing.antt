@@ -2,7 +2,7 @@
 use Rattle.std.proofs.Common.{◌≡◌, inr, ℕ, List, Some, Result, Ok, Err, IfErr, IfOk}
 use Rattle.cert.specs.Certificate.{Certificate, certificate}
 use Rattle.statements_facts.specs.Fact.{Fact}
-use Rattle.statements.specs.OcspFact.{genuine_statement}
+use Rattle.statements.specs.Statement.{genuine_statement}
 use Rattle.statements_parts.specs.declared.fault.StatementFault.{StatementFault}
 use Rattle.path.specs.Query.{Accepts}
 use Rattle.statements_facts.specs.declared.counts.Counts.{Counts}

@@ -1,11 +1,9 @@
 -- What the operands of `check` and `compare` ask.
-use Rattle.std.specs.Prelude.{◌≡◌, ℕ, List}
+use Rattle.std.specs.Prelude.{ℕ, List}
 use Rattle.cli_words.specs.declared.question.Question.{Question}
 use Rattle.path.specs.Query.{Query, Accepts}
 use Rattle.cli_failures.specs.Failures.{Holding}
-use Rattle.cli_operands.specs.Operands.{HaveCertificates, purpose_contents}
 use Rattle.cli_operands.specs.Question.{AcceptsJust, Asks, HoldsFingerprints}
-use Rattle.cli_operands.specs.declared.operand_files.Operands.{Operands}
 
 -- who judges, and what is asked, as the operands say
 pub record IsAsked (holds : Holding) (question : Question) (accepts : Accepts) (query : Query) : Type 0 where
@@ -13,11 +11,3 @@ pub record IsAsked (holds : Holding) (question : Question) (accepts : Accepts) (
   pub verdicts : HoldsFingerprints holds question.verdicts.now prints
   pub believed : AcceptsJust prints accepts
   pub asks : Asks holds question query
-
--- ---- on the way
-
--- the question about the certificates that the operands have
-pub record IsQueryOf (it : Operands) (query : Query) : Type 0 where
-  pub certificates : HaveCertificates it query.anchor query.certificates
-  pub moment : query.moment ≡ it.moment
-  pub purpose : query.purpose ≡ purpose_contents it

@@ -12,10 +12,10 @@ use Rattle.cli_failures.specs.Failures.{Holding}
 use Rattle.cli_failures.specs.declared.failure.Failure.{Failure}
 use Rattle.cli_failures.specs.declared.failure.Failure.TheVariants.{StoreFailed, NoMemory}
 use Rattle.cli_operands.specs.InOrder.{FailsFirst}
-use Rattle.cli_operands.specs.Operands.{IsRefusalIn}
+use Rattle.cli_operands.specs.Operands.{IsQueryOf, IsRefusalIn}
 use Rattle.cli_operands.specs.Question.{Asks, IsFailureOfQuestion}
 use Rattle.cli_operands.specs.declared.operand_files.Operands.{Operands}
-use Rattle.cli.specs.Asked.{IsAsked, IsQueryOf}
+use Rattle.cli.specs.Asked.{IsAsked}
 use Rattle.cli.specs.Believed.{accepted_by}
 use Rattle.cli_store.specs.Standing.{IsFaultNumber, IsFound, IsIntact, IsNotFound, IsUnanswered, Leaving, Seen, Standing}
 

@@ -9,7 +9,7 @@ use Rattle.statements_facts.specs.declared.counts.Counts.{Counts}
 use Rattle.cli_answers.specs.AnswerText.{counts_line}
 use Rattle.path.specs.Query.{Accepts}
 use Rattle.statements_parts.specs.declared.fault.StatementFault.{StatementFault}
-use Rattle.statements.specs.OcspFact.{genuine_statement}
+use Rattle.statements.specs.Statement.{genuine_statement}
 use Rattle.cli_failures.specs.Failures.{Holding, HoldsCertificate, IsDenied, IsNoCertificate, IsUnread}
 use Rattle.cli_failures.specs.declared.failure.Failure.{Failure}
 use Rattle.cli_operands.specs.InOrder.{FailsFirst}

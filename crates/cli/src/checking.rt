@@ -5,13 +5,11 @@ ghost use Rattle.relying.specs.View.{stored};
 ghost use Rattle.cli_answers.specs.AnswerText.{verdict_line};
 ghost use Rattle.cli_failures.specs.Failures.{OrUnwritable};
 ghost use Rattle.cli_failures.specs.Report.{UnlessLate};
-ghost use Rattle.relying_verdicts.specs.View.{seen_query};
+ghost use Rattle.path.specs.Reading.{seen_query};
 ghost use Rattle.cli.specs.Believed.{accepted_by};
 ghost use Rattle.cli.specs.Checked.{HasChecked, IsFailureOfCheck, IsChecked, IsCheckedBy, IsCheckedOf, IsNotChecked, IsNotCheckedOf, WasChecked};
 ghost use Rattle.cli_store.specs.Standing.{IsNoAnswer, seen_of, told_of_party};
 
-use crate::asking::query_of;
-use crate::sharing::Shared;
 use cli_answers::verdict_to;
 use cli_failures::{Failure, Source};
 use cli_operands::{Operands, read_operands};
@@ -72,7 +70,7 @@ fn check_by<'a, D: Disk + Drop, S: Stores<Store<D>>>(
         (IsNotChecked (S.stands source.now) (S.leaves source.now) path.entry.now) }
 {
     let store = source.open_store(path)?;
-    let node = Node::new(Shared { list: verifier }, store);
+    let node = Node::new(verifier, store);
     check_at(source, alloc, path, node, query)
 }
 
@@ -88,7 +86,7 @@ fn check_asked<'a, D: Disk + Drop, S: Stores<Store<D>>>(
     ensures fails { IfErr result
         (IsNotCheckedOf (S.stands source.now) (S.leaves source.now) path.entry.now operands.now) }
 {
-    let query = query_of(alloc, operands)?;
+    let query = operands.query(alloc)?;
     check_by(source, alloc, path, &operands.verifier, &query)
 }
 

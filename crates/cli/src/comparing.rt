@@ -4,14 +4,12 @@ ghost use Rattle.std.specs.Io.KnownBytes.{Appends};
 ghost use Rattle.cli_answers.specs.AnswerText.{comparison_line};
 ghost use Rattle.cli_failures.specs.Failures.{OrUnwritable};
 ghost use Rattle.cli_failures.specs.Report.{UnlessLate};
-ghost use Rattle.relying_verdicts.specs.View.{seen_query};
+ghost use Rattle.path.specs.Reading.{seen_query};
 ghost use Rattle.cli.specs.Believed.{accepted_by};
 ghost use Rattle.cli.specs.Checked.{HasCompared, IsCompared, IsComparedBy, IsComparedOf, IsFailureOfComparison, IsNoComparison, IsNotCompared, IsNotComparedOf, WereCompared};
 ghost use Rattle.cli_store.specs.Standing.{seen_in};
 
-use crate::asking::query_of;
 use crate::checking::not_checked;
-use crate::sharing::Shared;
 use cli_answers::comparison_to;
 use cli_failures::{Failure, Source};
 use cli_operands::{Operands, read_operands};
@@ -48,9 +46,8 @@ fn compare_at<'a, D: Disk + Drop, S: Stores<Store<D>>>(
     ensures fails { IfErr result (IsNoComparison (S.leaves source.now paths.now.path.now)
         (S.leaves source.now paths.now.other.now) (seen_in store) (seen_in beside)) }
 {
-    let shared = Shared { list: verifier };
-    let mut one = Node::new(shared, store);
-    let mut other = Node::new(shared, beside);
+    let mut one = Node::new(verifier, store);
+    let mut other = Node::new(verifier, beside);
     let comparison = relying::compare(alloc, &mut one, &mut other, query);
     source.close_store(paths.path, one.into_store());
     source.close_store(paths.other, other.into_store());
@@ -90,7 +87,7 @@ fn compare_asked<'a, D: Disk + Drop, S: Stores<Store<D>>>(
     ensures fails { IfErr result (IsNotComparedOf (S.stands source.now) (S.leaves source.now)
         paths.now.path.now paths.now.other.now operands.now) }
 {
-    let query = query_of(alloc, operands)?;
+    let query = operands.query(alloc)?;
     compare_by(source, alloc, paths, &operands.verifier, &query)
 }
 

@@ -1,23 +1,20 @@
 //! Deliveries.
 ghost use Rattle.std.specs.Prelude.{◌≡◌, IfErr, IfOk, OnOk};
-ghost use Rattle.relying.specs.View.{stored};
 ghost use Rattle.cert.specs.Certificate.{seen_certificate};
-ghost use Rattle.statements.specs.OcspFact.{genuine_statement};
+ghost use Rattle.statements.specs.Statement.{genuine_statement};
 ghost use Rattle.statements_facts.specs.Fact.{facts_in};
 ghost use Rattle.cli_failures.specs.Failures.{OrUnwritable};
 ghost use Rattle.cli_failures.specs.Report.{UnlessLate, WritesText};
 ghost use Rattle.cli.specs.Believed.{accepted_by};
 ghost use Rattle.cli.specs.Delivered.{HasTaken, IsDelivered, IsDeliveredFor, IsDeliveredText, IsDeliveredUnder, IsFailureFor, IsFailureOfDelivery, IsFailureUnder, IsNotTaken, IsNotTakenOf, IsTakenAt, IsTakenOf, WasDelivered};
-ghost use Rattle.cli_store.specs.Standing.{IsNoAnswer, seen_of};
+ghost use Rattle.cli_store.specs.Standing.{IsNoAnswer, seen_in};
 
-use crate::sharing::Shared;
 use cert::Certificate;
 use cli_answers::counts_to;
 use cli_failures::{Extent, Failure, Source, read_certificate, read_facts};
 use cli_operands::read_fingerprints;
 use cli_store::{Stores, failed};
-use path_verifiers::{ListVerifier, Verifier};
-use relying::Node;
+use path_verifiers::ListVerifier;
 use sqlite_disk::Disk;
 use statements_facts::{Counts, Facts};
 use std::alloc::Global;
@@ -37,21 +34,20 @@ pub struct Delivery<'a> {
     pub file: &'a str,
 }
 
-// The party takes the facts, and its store is closed.
-fn take_into<'a, D: Disk + Drop, S: Stores<Store<D>>, V: Verifier + Drop>(
+// The store takes the facts, and is closed.
+fn take_into<'a, D: Disk + Drop, S: Stores<Store<D>>>(
     source: &S,
     path: &str,
-    node: Node<V, D>,
+    store: Store<D>,
     facts: &Facts<'_>,
 ) -> Result<Counts, Failure<'a>>
     ensures taken { IfOk result
-        (HasTaken (S.leaves source.now path.now) (facts_in facts.now) (seen_of (stored node))) }
-    ensures fails { IfErr result
-        (IsNoAnswer (S.leaves source.now path.now) (seen_of (stored node))) }
+        (HasTaken (S.leaves source.now path.now) (facts_in facts.now) (seen_in store)) }
+    ensures fails { IfErr result (IsNoAnswer (S.leaves source.now path.now) (seen_in store)) }
 {
-    let mut node = node;
-    let counts = node.take(facts);
-    source.close_store(path, node.into_store());
+    let mut store = store;
+    let counts = store.put(facts);
+    source.close_store(path, store);
     match counts {
         Ok(counts) => Ok(counts),
         Err(fault) => Err(failed(fault)),
@@ -62,7 +58,6 @@ fn take_into<'a, D: Disk + Drop, S: Stores<Store<D>>, V: Verifier + Drop>(
 fn take_at<'a, D: Disk + Drop, S: Stores<Store<D>>>(
     source: &S,
     path: &'a str,
-    verifier: &ListVerifier,
     facts: &Facts<'_>,
 ) -> Result<Counts, Failure<'a>>
     ensures taken { IfOk result (IsTakenAt (S.stands source.now) (S.leaves source.now)
@@ -71,8 +66,7 @@ fn take_at<'a, D: Disk + Drop, S: Stores<Store<D>>>(
         (IsNotTaken (S.stands source.now) (S.leaves source.now) path.entry.now) }
 {
     let store = source.open_or_make_store(path)?;
-    let node = Node::new(Shared { list: verifier }, store);
-    take_into(source, path, node, facts)
+    take_into(source, path, store, facts)
 }
 
 // The store takes what these octets of the file say, under the issuer of the certificate.
@@ -92,7 +86,7 @@ fn take_statement<'a, D: Disk + Drop, S: Stores<Store<D>>>(
         words.entry) }
 {
     let facts = read_facts(alloc, verifier, issuer, words.file, statement)?;
-    take_at(source, words.store, verifier, &facts)
+    take_at(source, words.store, &facts)
 }
 
 // Delivers the statement in the file, under the issuer of the certificate.

@@ -2,7 +2,6 @@
 //! paths hold, what one holds, and how it says what failed.
 #![tactic(auto)]
 
-mod asking;
 mod checking;
 mod comparing;
 mod delivering;
@@ -10,7 +9,6 @@ mod execution;
 mod explanation;
 mod listing;
 mod sessions;
-mod sharing;
 mod starting;
 
 pub use checking::check;

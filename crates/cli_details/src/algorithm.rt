@@ -1,7 +1,7 @@
 //! Algorithms of signatures.
 
 use crate::named_oid::{ALGORITHMS, HASHES, write_named_oid};
-use crate::value_fault::{Misplaced, ValueFault, Written, or_octets};
+use crate::value_fault::{Misplaced, ValueFault};
 use asn::{SEQUENCE, Tlv};
 use cert::AlgorithmIdentifier;
 use std::io;
@@ -64,18 +64,4 @@ pub(crate) fn write_algorithm_line(
     text.write_all(b"algorithm ")?;
     write_algorithm(algorithm, text)?;
     text.write_all(b"\n")
-}
-
-fn write_encoded(octets: &[u8], text: &mut Vec<u8>) -> Written {
-    let value = Tlv::outermost(octets)?;
-    let algorithm = AlgorithmIdentifier::read(value, Misplaced)?;
-    write_algorithm_line(&algorithm, text)?;
-    Ok(())
-}
-
-/// The same of an encoded algorithm identifier.
-pub(crate) fn write_encoded_algorithm_line(octets: &[u8], text: &mut Vec<u8>) -> io::Result<()> {
-    let start = text.len();
-    let written = write_encoded(octets, text);
-    or_octets(written, "algorithm unreadable", octets, start, text)
 }

@@ -1,20 +1,15 @@
 //! Further lines of a certificate.
 
 use crate::algorithm::write_algorithm_line;
-use crate::extension::{next_with, write_extensions};
+use crate::extension::{first_with, write_extensions};
 use crate::key::write_key_line;
 use crate::moment::write_moment_line;
-use asn::Tlv;
 use cert::Certificate;
 use std::alloc::{AllocError, Global};
 use std::io;
 
 // The tag of extensions in a certificate.
 const EXTENSIONS: u8 = 0xA3;
-
-fn extensions_in(tbs: Tlv<'_>) -> Option<Tlv<'_>> {
-    next_with(EXTENSIONS, &mut tbs.inside()?)
-}
 
 fn write_certificate(
     alloc: Global,
@@ -25,7 +20,7 @@ fn write_certificate(
     write_key_line(&certificate.subject_public_key_info, text)?;
     write_moment_line("not-before", certificate.validity.not_before, text)?;
     write_moment_line("not-after", certificate.validity.not_after, text)?;
-    write_extensions(alloc, extensions_in(certificate.tbs), text)
+    write_extensions(alloc, first_with(EXTENSIONS, certificate.tbs), text)
 }
 
 /// The algorithms of the certificate's signature and of its key, its dates, and its extensions in order, each with what it says.

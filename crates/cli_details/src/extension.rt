@@ -116,3 +116,8 @@ pub(crate) fn next_with<'a>(tag: u8, members: &mut Cursor<'a>) -> Option<Tlv<'a>
     }
     None
 }
+
+/// The first of the values inside that has this identifier octet.
+pub(crate) fn first_with(tag: u8, value: Tlv<'_>) -> Option<Tlv<'_>> {
+    next_with(tag, &mut value.inside()?)
+}

@@ -1,6 +1,6 @@
 //! Further lines of an OCSP response.
 
-use crate::algorithm::write_encoded_algorithm_line;
+use crate::algorithm::write_algorithm_line;
 use crate::extension::{next_with, write_extensions};
 use crate::moment::write_moment_line;
 use crate::value_fault::{Misplaced, Written, or_octets};
@@ -81,10 +81,6 @@ fn write_data(alloc: Global, members: Cursor<'_>, text: &mut Vec<u8>) -> io::Res
     write_extensions(alloc, members.optional(EXTENSIONS), text)
 }
 
-fn data_in(tbs: &[u8]) -> Option<Cursor<'_>> {
-    Tlv::outermost(tbs).ok()?.inside()
-}
-
 fn count_of(certs: Certs<'_>) -> usize {
     let mut others = certs;
     let mut count = 0usize;
@@ -96,11 +92,11 @@ fn count_of(certs: Certs<'_>) -> usize {
 
 fn write_response(alloc: Global, response: &Response<'_>, text: &mut Vec<u8>) -> io::Result<()> {
     let count = count_of(response.certs);
-    write_encoded_algorithm_line(response.algorithm, text)?;
+    write_algorithm_line(&response.algorithm, text)?;
     write_moment_line("produced-at", response.produced_at, text)?;
-    match data_in(response.tbs) {
+    match response.tbs.inside() {
         Some(members) => write_data(alloc, members, text)?,
-        None => write_octets("unreadable", response.tbs, text)?,
+        None => write_octets("unreadable", response.tbs.whole, text)?,
     }
     writeln!(text, "certificates {count}")
 }

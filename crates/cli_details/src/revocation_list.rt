@@ -1,9 +1,8 @@
 //! Further lines of a revocation list.
 
-use crate::algorithm::write_encoded_algorithm_line;
-use crate::extension::{next_with, write_extensions};
+use crate::algorithm::write_algorithm_line;
+use crate::extension::{first_with, write_extensions};
 use crate::moment::write_moment_line;
-use asn::Tlv;
 use statements_crl::Crl;
 use std::alloc::{AllocError, Global};
 use std::io;
@@ -11,15 +10,11 @@ use std::io;
 // The tag of extensions in a list.
 const EXTENSIONS: u8 = 0xA0;
 
-fn extensions_in(tbs: &[u8]) -> Option<Tlv<'_>> {
-    next_with(EXTENSIONS, &mut Tlv::outermost(tbs).ok()?.inside()?)
-}
-
 fn write_revocation_list(alloc: Global, list: &Crl<'_>, text: &mut Vec<u8>) -> io::Result<()> {
-    write_encoded_algorithm_line(list.algorithm, text)?;
+    write_algorithm_line(&list.algorithm, text)?;
     write_moment_line("this-update", list.this_update, text)?;
     write_moment_line("next-update", list.next_update, text)?;
-    write_extensions(alloc, extensions_in(list.tbs), text)
+    write_extensions(alloc, first_with(EXTENSIONS, list.tbs), text)
 }
 
 /// The algorithm of the list's signature, its dates, and its own extensions in order, each with what it says.

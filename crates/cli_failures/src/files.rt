@@ -3,7 +3,7 @@ ghost use Rattle.std.specs.Prelude.{◌≡◌, Ok, IfErr, IfOk};
 ghost use Rattle.cert.specs.Certificate.{certificate, seen_certificate};
 ghost use Rattle.statements_crl.specs.CertificateList.{certificate_list, seen_list};
 ghost use Rattle.statements_ocsp.specs.OcspResponse.{ocsp_response, seen_response};
-ghost use Rattle.statements.specs.OcspFact.{genuine_statement};
+ghost use Rattle.statements.specs.Statement.{genuine_statement};
 ghost use Rattle.statements_facts.specs.Fact.{facts_in};
 ghost use Rattle.cli_failures.specs.Failures.{IsDenied, IsJust, IsNoCertificate, IsNoList, IsNoResponse, IsUnread};
 
@@ -16,7 +16,7 @@ use statements::genuine;
 use statements_crl::Crl;
 use statements_facts::Facts;
 use statements_ocsp::Response;
-use statements_parts::StatementFault;
+use statements_parts::{ReadingFault, StatementFault};
 use std::alloc::Global;
 use std::rt::Files;
 use std::{fs, io};
@@ -82,14 +82,8 @@ pub fn read_list<'a, 'o>(
 {
     match Crl::read(alloc, octets) {
         Ok(read) => Ok(read),
-        Err(StatementFault::Refused(rule, at)) => Err(Failure::NoRevocationList { file, rule, at }),
-        Err(StatementFault::Memory) => Err(Failure::NoMemory),
-        Err(
-            StatementFault::OtherIssuer
-            | StatementFault::BadSignature
-            | StatementFault::NoSigner
-            | StatementFault::NothingForIssuer,
-        ) => unreachable!(),
+        Err(ReadingFault::Refused(rule, at)) => Err(Failure::NoRevocationList { file, rule, at }),
+        Err(ReadingFault::Memory) => Err(Failure::NoMemory),
     }
 }
 
@@ -104,14 +98,8 @@ pub fn read_response<'a, 'o>(
 {
     match Response::read(alloc, octets) {
         Ok(read) => Ok(read),
-        Err(StatementFault::Refused(rule, at)) => Err(Failure::NoResponse { file, rule, at }),
-        Err(StatementFault::Memory) => Err(Failure::NoMemory),
-        Err(
-            StatementFault::OtherIssuer
-            | StatementFault::BadSignature
-            | StatementFault::NoSigner
-            | StatementFault::NothingForIssuer,
-        ) => unreachable!(),
+        Err(ReadingFault::Refused(rule, at)) => Err(Failure::NoResponse { file, rule, at }),
+        Err(ReadingFault::Memory) => Err(Failure::NoMemory),
     }
 }
 

@@ -1,21 +1,14 @@
 -- What a call makes of what a keeper holds.
 use Rattle.std.specs.Prelude.{◌≢◌, List, [], ◌∷◌, Result, Ok, Err}
-use Rattle.std.specs.Option.{option_copied}
 use Rattle.path.specs.Query.{Accepts, Query}
-use Rattle.path.specs.State.{query_of}
 use Rattle.relying_agreement.specs.Verdict.{IsVerdict}
 use Rattle.relying_agreement.specs.declared.verdict.Verdict.{Verdict}
 use Rattle.statements_facts.specs.Coming.{AreCounts, after_all}
 use Rattle.statements_facts.specs.Fact.{Fact}
 use Rattle.statements_facts.specs.Statement.{Holdings}
 use Rattle.statements_facts.specs.declared.counts.Counts.{Counts}
-use Rattle.cli_keeping.specs.declared.asked.PathQuestion.{PathQuestion}
 use Rattle.cli_keeping.specs.declared.fault.KeeperFault.{KeeperFault}
 use Rattle.cli_keeping.specs.declared.fault.KeeperFault.TheVariants.{NoKeeper}
-
--- the question that is asked
-abbrev pub asked_query : PathQuestion → Query
-asked_query asked = query_of asked.anchor asked.path.items asked.moment (option_copied asked.purpose)
 
 -- What is kept: what is held, and what may be found behind a crash at this moment, which is one of these.
 pub record Kept : Type 0 where

@@ -1,11 +1,11 @@
 //! Who keeps statements.
 ghost use Rattle.std.specs.Prelude.{◌≡◌, false};
 ghost use Rattle.statements_facts.specs.Fact.{facts_in};
-ghost use Rattle.cli_keeping.specs.Keeping.{AnswersWithVerdict, Keeps, Takes, asked_query};
+ghost use Rattle.path.specs.Reading.{seen_query};
+ghost use Rattle.cli_keeping.specs.Keeping.{AnswersWithVerdict, Keeps, Takes};
 
-use crate::asked::PathQuestion;
 use crate::fault::KeeperFault;
-use path_verifiers::Verifier;
+use path::{Query, Verifier};
 use relying_agreement::Verdict;
 use statements_facts::{Counts, Facts};
 use std::alloc::Global;
@@ -33,11 +33,11 @@ pub trait Keeper {
         &mut self,
         alloc: Global,
         verifier: &V,
-        asked: PathQuestion<'_>,
+        query: &Query<'_>,
     ) -> Result<Verdict, KeeperFault>
         ensures sound { is_sound self.new → is_sound self.old }
         ensures finds { is_sound self.new → AnswersWithVerdict (keeps self.old) (keeps self.new)
-            (V.accepts verifier.now) (asked_query asked.entry) result };
+            (V.accepts verifier.now) (seen_query query.now) result };
 
     /// Whether it may still answer. It does not once its connection is shut.
     fn may_answer(&mut self) -> bool

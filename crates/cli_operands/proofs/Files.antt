@@ -1,6 +1,6 @@
 -- Files one after the other: as they are read, and as their certificates are.
 use Rattle.std.proofs.Common.{◌≡◌, ◌<◌, ◌+◌, ℕ, suc, Bor, List, [], ◌∷◌, ◌++◌, Option, Some, None, length, map, take, drop, get_or, refl, sym, ap, ◌∙◌, subst, inl, inr, append_assoc, append-nil, drop-cons}
-use Rattle.std.proofs.lemmas.List.{get_or_default, take-append-drop, take_more}
+use Rattle.std.proofs.lemmas.List.{take-append-drop, take_more}
 use Rattle.cert.specs.Certificate.{Certificate, certificate}
 use Rattle.cli_failures.specs.Failures.{Holding, IsJust, IsNoCertificate, IsUnread}
 use Rattle.cli_failures.specs.declared.failure.Failure.{Failure}
@@ -9,7 +9,7 @@ use Rattle.cli_operands.specs.CertificateValues.{EndBehind, IsFailureAmong}
 use Rattle.cli_operands.specs.PathFiles.{AreCertificatesIn, AreCertificatesOf, AreFilesRead, IsFailureBehind, IsFailureIn, IsFailureOf, IsFileRead, values_read}
 use Rattle.cli_operands.specs.PathText.{HoldPath, HoldsCertificates, IsFailureOfPath, IsFailureOnPath}
 use Rattle.cli_operands.specs.declared.path_file.PathFile.{PathFile}
-use Rattle.cli_operands.proofs.Certificates.{of_memory, one_more_at, parted_at, refused_among, refused_behind}
+use Rattle.cli_operands.proofs.Certificates.{one_more_at, parted_at, refused_among, refused_behind}
 
 -- ---- files that are read
 

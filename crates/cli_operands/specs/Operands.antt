@@ -1,6 +1,7 @@
 -- What the operands of `check` and `compare` say, once their files were read.
-use Rattle.std.specs.Prelude.{◌≡◌, ℕ, List, Option, Some, None, Ok, map, option_map}
+use Rattle.std.specs.Prelude.{◌≡◌, ℕ, List, Option, Some, None, Ok, option_map}
 use Rattle.cert.specs.Certificate.{Certificate, certificate}
+use Rattle.path.specs.Query.{Query}
 use Rattle.path_verifiers.specs.ListVerifier.{Believes}
 use Rattle.cli_words.specs.declared.question.Question.{Question as Asked}
 use Rattle.cli_failures.specs.Failures.{Holding, IsJust, IsNoCertificate}
@@ -26,11 +27,13 @@ pub record AreOperands (holds : Holding) (question : Asked) (it : Operands) : Ty
   pub anchor : holds question.anchor.now (Some it.anchor.items)
   pub path : AreFilesRead holds (files_of question) it.path.files.items it.path.unread
 
--- the octets are those of these certificates
-pub record HaveCertificates (it : Operands) (anchor : Certificate) (path : List Certificate) : Type 0 where
-  pub anchor_is : certificate it.anchor.items ≡ Ok anchor
-  pub path_is : AreCertificatesOf it.path.files.items path
+-- the question about the certificates whose octets they have
+pub record IsQueryOf (it : Operands) (query : Query) : Type 0 where
+  pub anchor_is : certificate it.anchor.items ≡ Ok query.anchor
+  pub path_is : AreCertificatesOf it.path.files.items query.certificates
   pub all : it.path.unread ≡ None
+  pub moment : query.moment ≡ it.moment
+  pub purpose : query.purpose ≡ purpose_contents it
 
 -- the first certificate that is refused, or the file that was not read
 abbrev pub IsRefusalIn : Operands → Failure → Type 0

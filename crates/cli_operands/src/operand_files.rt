@@ -1,16 +1,16 @@
 //! What is asked of a path.
-ghost use Rattle.std.specs.Prelude.{map, IfErr, IfOk, option_map};
-ghost use Rattle.cert.specs.Certificate.{seen_certificate};
-ghost use Rattle.cli_operands.specs.Operands.{AreOperands, HaveCertificates, IsRefusalIn};
+ghost use Rattle.std.specs.Prelude.{IfErr, IfOk, option_map};
+ghost use Rattle.path.specs.Reading.{seen_query};
+ghost use Rattle.cli_operands.specs.Operands.{AreOperands, IsQueryOf, IsRefusalIn};
 ghost use Rattle.cli_operands.specs.Question.{IsBadPurpose, IsFailureOfQuestion, IsPurposeOf};
 
 use crate::path_file::PathFiles;
 use crate::path_files::{certificates_of, read_files};
 use crate::prints::read_fingerprints;
 use crate::{moment_of, purpose_of};
-use cert::Certificate;
 use cli_failures::{Extent, Failure, Source, read_certificate};
 use cli_words::Question;
+use path::Query;
 use path_verifiers::ListVerifier;
 use std::alloc::Global;
 
@@ -45,7 +45,7 @@ fn read_purpose<'a>(alloc: Global, text: Option<&'a str>) -> Result<Option<Vec<u
 }
 
 /// Reads the operands in this order: the moment, the purpose, the fingerprints, the anchor's file and the files of the path. The first
-/// that is wrong is reported, except that `Operands::certificates` reports a file of the path that cannot be read, since a certificate
+/// that is wrong is reported, except that `Operands::query` reports a file of the path that cannot be read, since a certificate
 /// before it may be refused.
 pub fn read_operands<'a, S: Source>(
     source: &S,
@@ -73,18 +73,19 @@ pub fn read_operands<'a, S: Source>(
 }
 
 impl<'a> Operands<'a> {
-    /// The certificates of the anchor and of the path, each read once. The first that is refused is reported, the anchor first, and a file
-    /// that could not be read after those before it.
-    pub fn certificates<'q>(
-        &'q self,
-        alloc: Global,
-    ) -> Result<(Certificate<'q>, Vec<Certificate<'q>>), Failure<'a>>
-        ensures reads { IfOk result (λ read. HaveCertificates self.now
-            (seen_certificate read.0) (map seen_certificate read.1.items)) }
+    /// The question about the certificates of the anchor and of the path, each read once. The first that is refused is reported, the
+    /// anchor first, and a file that could not be read after those before it.
+    pub fn query<'q>(&'q self, alloc: Global) -> Result<Query<'q>, Failure<'a>>
+        ensures asks { IfOk result (λ query. IsQueryOf self.now (seen_query query)) }
         ensures fails { IfErr result (IsRefusalIn self.now) }
     {
         let anchor = read_certificate(alloc, self.anchor_file, self.anchor.as_slice())?;
         let path = certificates_of(alloc, &self.path)?;
-        Ok((anchor, path))
+        Ok(Query {
+            anchor,
+            path,
+            moment: self.moment,
+            purpose: self.purpose.as_deref(),
+        })
     }
 }

@@ -39,19 +39,19 @@ certificate_question key_info certificate = record {
 -- of a revocation list, likewise (6.3.3 (g))
 abbrev pub crl_question : SubjectPublicKeyInfo → CertificateList → SignatureQuestion
 crl_question key_info list = record {
-  algorithm = list.algorithm;
+  algorithm = list.algorithm.value.octets;
   key_info = key_info.value.octets;
-  message = list.tbs;
-  signature = list.signature;
+  message = list.tbs.octets;
+  signature = list.signature.octets;
 }
 
 -- of a response, likewise (RFC 6960, 3.2)
 abbrev pub response_question : SubjectPublicKeyInfo → OcspResponse → SignatureQuestion
 response_question key_info response = record {
-  algorithm = response.algorithm;
+  algorithm = response.algorithm.value.octets;
   key_info = key_info.value.octets;
-  message = response.tbs;
-  signature = response.signature;
+  message = response.tbs.octets;
+  signature = response.signature.octets;
 }
 
 -- ---- its line

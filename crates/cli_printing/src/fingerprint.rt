@@ -175,10 +175,10 @@ fn question_about_list<'m, 'k>(
         ≡ crl_question (seen_key_info key_info.now) (seen_list list.now) }
 {
     SignatureQuestion {
-        algorithm: list.algorithm,
+        algorithm: list.algorithm.value.whole,
         key_info: key_info.value.whole,
-        message: list.tbs,
-        signature: list.signature,
+        message: list.tbs.whole,
+        signature: list.signature.octets(),
     }
 }
 
@@ -206,10 +206,10 @@ fn question_about_response<'m, 'k>(
         ≡ response_question (seen_key_info key_info.now) (seen_response response.now) }
 {
     SignatureQuestion {
-        algorithm: response.algorithm,
+        algorithm: response.algorithm.value.whole,
         key_info: key_info.value.whole,
-        message: response.tbs,
-        signature: response.signature,
+        message: response.tbs.whole,
+        signature: response.signature.octets(),
     }
 }
 

@@ -46,7 +46,7 @@ fn write_opening<W: Write>(list: &Crl<'_>, writer: &mut W) -> io::Result<()>
 fn write_number<W: Write>(list: &Crl<'_>, writer: &mut W) -> io::Result<()>
     ensures { Writes W.contents writer.old writer.new result (number_lines (seen_list list.now)) }
 {
-    write_octets("number", list.number, writer)?;
+    write_octets("number", list.number.contents, writer)?;
     write_scope(list.scope, writer)?;
     write_span(list.this_update, list.next_update, writer)
 }

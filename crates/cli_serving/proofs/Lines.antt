@@ -1,8 +1,7 @@
 -- Lines and their answers, one more.
-use Rattle.std.proofs.Common.{◌≡◌, ◌⊎◌, ◌<◌, ◌≤◌, ◌^◌, ◌==◌, ◌∙◌, ℕ, Bool, true, false, List, [], ◌∷◌, ◌++◌, length, Option, Some, None, inl, inr, refl, sym, ap, subst, append-nil}
-use Rattle.std.specs.List.{AllByRecursion, flat_map}
-use Rattle.std.specs.Io.KnownBytes.{Appends, Consumes, IsAtEnd}
-use Rattle.std.proofs.KnownBytes.{Appends-nil, Appends-trans}
+use Rattle.std.proofs.Common.{◌≡◌, ◌∙◌, ℕ, true, false, List, [], ◌∷◌, ◌++◌, Option, Some, None, inr, refl, sym, ap, subst, append-nil}
+use Rattle.std.specs.Io.KnownBytes.{Appends}
+use Rattle.std.proofs.KnownBytes.{Appends-trans}
 use Rattle.std.proofs.lemmas.Bool.{eqb-true}
 use Rattle.std.proofs.lemmas.Grind.{flat_map-append}
 use Rattle.cli_failures.specs.Failures.{Holding}
@@ -13,7 +12,7 @@ use Rattle.cli_steps.specs.AnswerText.{answer_text, failed_text}
 use Rattle.cli_steps.specs.State.{SessionState}
 use Rattle.cli_steps.specs.declared.answer.SessionAnswer.{SessionAnswer}
 use Rattle.cli_steps.specs.declared.answer.SessionAnswer.TheVariants.{Nothing, Believes, Forgets, Ends, Delivered, Told, Prints, Failed, BadLine, LongLine}
-use Rattle.cli_serving.specs.Serving.{AnswersRead, AreAnswersToLines, GivesLines, GoOn, SessionHasEnded, HasServed, HasServedLast, HasShut, IsAnswerToLine, IsSame, Known, WritesAnswer, SaysLong, ServesLine, is_end, is_refusal, text_of}
+use Rattle.cli_serving.specs.Serving.{AreAnswersToLines, GivesLines, GoOn, SessionHasEnded, HasServed, HasServedLast, IsAnswerToLine, IsSame, Known, SaysLong, ServesLine, is_end, is_refusal, text_of}
 use Rattle.cli_serving.specs.declared.ending.End.{End}
 use Rattle.cli_serving.specs.declared.ending.End.TheVariants as ended
 

@@ -56,19 +56,13 @@ impl Believed {
     }
 }
 
-/// Who accepts a signature if its fingerprint is believed.
-#[derive(Clone, Copy)]
-pub struct Judge<'a> {
-    pub believed: &'a Believed,
-}
-
-impl Verifier for Judge<'_> {
+/// Accepts a signature if its fingerprint is believed.
+impl Verifier for Believed {
     ghost use Rattle.cli_session.specs.Believed.{accepted_by};
 
-    ghost accepts = { λ judge. accepted_by judge.believed.now };
+    ghost accepts = { accepted_by };
 
     fn judge(&self, algorithm: &[u8], key_info: &[u8], message: &[u8], signature: &[u8]) -> bool {
-        self.believed
-            .believes(&fingerprint(algorithm, key_info, message, signature))
+        self.believes(&fingerprint(algorithm, key_info, message, signature))
     }
 }

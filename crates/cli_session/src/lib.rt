@@ -4,5 +4,5 @@
 mod believed;
 mod operands;
 
-pub use believed::{Believed, Judge};
+pub use believed::Believed;
 pub use operands::OperandSource;

@@ -1,6 +1,5 @@
 -- Steps, from what was done on their way.
-use Rattle.std.proofs.Common.{◌≡◌, ◌⊎◌, ℕ, List, ◌∷◌, Result, Ok, Err, inl, inr, refl, subst, sym}
-use Rattle.path.specs.Query.{Accepts}
+use Rattle.std.proofs.Common.{◌≡◌, ◌⊎◌, ℕ, List, ◌∷◌, Ok, Err, inl, inr, refl, subst, sym}
 use Rattle.path_verifiers.specs.Fingerprint.{fingerprint_of}
 use Rattle.path_verifiers.specs.ListVerifier.{Believes}
 use Rattle.path_verifiers.specs.declared.list_verifier.ListVerifier.{ListVerifier}
@@ -14,7 +13,7 @@ use Rattle.cli_operands.specs.Question.{AcceptsJust}
 use Rattle.cli_requests.specs.Requests.{Path}
 use Rattle.cli_session.specs.Believed.{BelievesJust, accepted_by}
 use Rattle.cli_session.specs.declared.believed.Believed.{Believed}
-use Rattle.cli_steps.specs.State.{SessionState, IsState, believing, forgetting, keeping}
+use Rattle.cli_steps.specs.State.{believing, forgetting, keeping}
 use Rattle.cli_steps.specs.Steps.{BelievesMore, ChecksPath, DeliversFile}
 use Rattle.cli_steps.specs.Ways.{FindsAsked, Steps, TakesFromFiles, without_writer}
 use Rattle.cli_steps.specs.declared.answer.SessionAnswer.TheVariants.{Believes as Told_more, Delivered, Told, Failed}

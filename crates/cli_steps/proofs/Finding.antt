@@ -11,7 +11,7 @@ use Rattle.cli_keeping.specs.Keeping.{Keeping}
 use Rattle.cli_operands.proofs.Laws.{ask, refuse}
 use Rattle.cli_operands.specs.InOrder.{FailsFirst}
 use Rattle.cli_operands.specs.Moment.{IsMoment}
-use Rattle.cli_operands.specs.Operands.{AreOperands, IsRefusalIn, purpose_contents}
+use Rattle.cli_operands.specs.Operands.{AreOperands, IsQueryOf, IsRefusalIn}
 use Rattle.cli_operands.specs.PathText.{HoldPath, IsFailureOfPath}
 use Rattle.cli_operands.specs.Question.{IsBadPurpose, IsBadTime, IsFailureOfQuestion, IsFailureOnFingerprints, IsPurposeOf, files_of, purpose_text}
 use Rattle.cli_operands.specs.VerdictLines.{IsFirstBadLine}
@@ -20,11 +20,11 @@ use Rattle.cli_requests.specs.Requests.{Path}
 use Rattle.cli_session.specs.Held.{holding_of}
 use Rattle.cli_words.specs.declared.question.Question.{Question}
 use Rattle.cli_steps.specs.Steps.{RequestAsks, AsksNothing, IsFailureOfCheck, IsNotKept}
-use Rattle.cli_steps.specs.Ways.{FindsAsked, FindsFor, FindsOf, IsAskedBy, IsQuestionOf, KeepsAndFails}
+use Rattle.cli_steps.specs.Ways.{FindsAsked, FindsFor, FindsOf, IsQuestionOf}
 
 -- ---- operands
 
-pub find_of : (old new : Keeping) (accepts : Accepts) (it : Operands) (query : Query) (result : Result Verdict Failure) → IsAskedBy it query → FindsFor old new accepts query result → FindsOf old new accepts it result
+pub find_of : (old new : Keeping) (accepts : Accepts) (it : Operands) (query : Query) (result : Result Verdict Failure) → IsQueryOf it query → FindsFor old new accepts query result → FindsOf old new accepts it result
 find_of old new accepts it query (Ok verdict) asked finds = (query, asked, finds)
 find_of old new accepts it query (Err failure) asked stays = λ kept is. ((stays kept is).0, inr ((query, asked), (stays kept is).1))
 
@@ -74,12 +74,12 @@ CertificatesFail holds anchor files =
     FailsFirst (IsNoCertificate holds anchor) ((read : Certificate) × HoldsCertificate holds anchor read) (IsFailureOfPath holds files)
 
 module _ (holds : Holding) (path : Path) (question : Question) (same : IsQuestionOf path question) where
-  asks : (it : Operands) (query : Query) → AreOperands (holding_of holds) question it → IsAskedBy it query → RequestAsks (holding_of holds) path query
+  asks : (it : Operands) (query : Query) → AreOperands (holding_of holds) question it → IsQueryOf it query → RequestAsks (holding_of holds) path query
   asks it query are asked =
-      let found = ask (holding_of holds) question it query.anchor query.certificates are asked.certificates in
+      let found = ask (holding_of holds) question it query are asked in
       record {
-        moment = subst (λ (text : List ℕ). IsMoment text query.moment) same.moment (subst (λ moment. IsMoment question.moment.now moment) (sym asked.moment) found.moment);
-        purpose = subst (λ (text : Option (List ℕ)). IsPurposeOf text query.purpose) same.purpose (subst (λ purpose. IsPurposeOf (purpose_text question) purpose) (sym asked.purpose) found.purpose);
+        moment = subst (λ (text : List ℕ). IsMoment text query.moment) same.moment found.moment;
+        purpose = subst (λ (text : Option (List ℕ)). IsPurposeOf text query.purpose) same.purpose found.purpose;
         anchor = subst (λ (file : List ℕ). HoldsCertificate (holding_of holds) file query.anchor) same.anchor found.anchor;
         certificates = subst (λ (files : List (List ℕ)). HoldPath (holding_of holds) files query.certificates) same.files found.path;
       }
@@ -109,6 +109,6 @@ module _ (holds : Holding) (path : Path) (question : Question) (same : IsQuestio
       → FindsAsked (holding_of holds) old new accepts path result
   find_asked old new accepts it (Ok verdict) are (query, asked, finds) = (query, asks it query are asked, finds)
   find_asked old new accepts it (Err failure) are stays = λ kept is. ((stays kept is).0, after (stays kept is).1) where
-    after : FailsFirst (IsRefusalIn it) ((query : Query) × IsAskedBy it query) IsNotKept failure → IsFailureOfCheck (holding_of holds) path failure
+    after : FailsFirst (IsRefusalIn it) ((query : Query) × IsQueryOf it query) IsNotKept failure → IsFailureOfCheck (holding_of holds) path failure
     after (inl refused) = inl (fails failure (refuse (holding_of holds) question it failure are refused))
     after (inr ((query, asked), kept)) = inr ((query, asks it query are asked), kept)

@@ -2,19 +2,17 @@
 use Rattle.std.proofs.Common.{◌≡◌, ℕ, List, Some, Result, Ok, Err, inl, inr, refl}
 use Rattle.cert.specs.Certificate.{Certificate, certificate}
 use Rattle.path.specs.Query.{Accepts}
-use Rattle.statements.specs.OcspFact.{genuine_statement}
+use Rattle.statements.specs.Statement.{genuine_statement}
 use Rattle.statements_facts.specs.Fact.{Fact}
 use Rattle.statements_facts.specs.declared.counts.Counts.{Counts}
-use Rattle.statements_parts.specs.declared.fault.StatementFault.{StatementFault}
 use Rattle.cli_failures.specs.Failures.{Holding}
 use Rattle.cli_failures.specs.declared.failure.Failure.{Failure}
-use Rattle.cli_keeping.specs.Keeping.{Keeping, Kept, AnswersWithVerdict, Takes}
+use Rattle.cli_keeping.specs.Keeping.{Keeping, AnswersWithVerdict, Takes}
 use Rattle.cli_keeping.specs.declared.fault.KeeperFault.{KeeperFault}
 use Rattle.cli_keeping.specs.declared.fault.KeeperFault.TheVariants.{Refused, NoKeeper, Memory}
-use Rattle.relying_agreement.specs.declared.verdict.Verdict.{Verdict}
 use Rattle.path.specs.Query.{Query}
 use Rattle.cli_steps.specs.Steps.{IsNotKept}
-use Rattle.cli_steps.specs.Ways.{FindsFor, KeepsAndFails, TakesAllOrNone, TakesFromFiles, TakesNone, TakesOr, TakesSaid, TakesIssuedBy, told_of}
+use Rattle.cli_steps.specs.Ways.{KeepsAndFails, TakesAllOrNone, TakesFromFiles, TakesNone, TakesOr, TakesSaid, TakesIssuedBy, told_of}
 
 -- ---- a keeper's fault, told
 

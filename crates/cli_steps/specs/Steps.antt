@@ -3,7 +3,7 @@ use Rattle.std.specs.Prelude.{◌≡◌, ◌⊎◌, ℕ, ℤ, Bool, List, Option
 use Rattle.cert.specs.Certificate.{Certificate}
 use Rattle.path.specs.Query.{Accepts, Query}
 use Rattle.relying_agreement.specs.Verdict.{IsVerdict}
-use Rattle.statements.specs.OcspFact.{genuine_statement}
+use Rattle.statements.specs.Statement.{genuine_statement}
 use Rattle.statements_facts.specs.Coming.{AreCounts}
 use Rattle.statements_facts.specs.Fact.{Fact}
 use Rattle.cli_failures.specs.Failures.{Holding, HoldsCertificate, IsDenied, IsNoCertificate, IsUnread}

@@ -1,10 +1,10 @@
 -- What is done on the way of a step.
-use Rattle.std.specs.Prelude.{◌≡◌, ◌⊎◌, ℕ, List, Option, Some, Result, Ok, Err, codes}
+use Rattle.std.specs.Prelude.{◌≡◌, ◌⊎◌, ℕ, List, Some, Result, Ok, Err, codes}
 use Rattle.cert.specs.Certificate.{Certificate}
 use Rattle.path.specs.Query.{Accepts, Query}
 use Rattle.relying_agreement.specs.Verdict.{IsVerdict}
 use Rattle.relying_agreement.specs.declared.verdict.Verdict.{Verdict}
-use Rattle.statements.specs.OcspFact.{genuine_statement}
+use Rattle.statements.specs.Statement.{genuine_statement}
 use Rattle.statements_facts.specs.Coming.{AreCounts}
 use Rattle.statements_facts.specs.Fact.{Fact}
 use Rattle.statements_facts.specs.declared.counts.Counts.{Counts}
@@ -16,7 +16,7 @@ use Rattle.cli_keeping.specs.Keeping.{Keeping, Kept, taking, trying}
 use Rattle.cli_keeping.specs.declared.fault.KeeperFault.{KeeperFault}
 use Rattle.cli_keeping.specs.declared.fault.KeeperFault.TheVariants.{Refused, NoKeeper, Memory}
 use Rattle.cli_operands.specs.InOrder.{FailsFirst}
-use Rattle.cli_operands.specs.Operands.{HaveCertificates, IsRefusalIn, purpose_contents}
+use Rattle.cli_operands.specs.Operands.{IsQueryOf, IsRefusalIn}
 use Rattle.cli_operands.specs.Question.{files_of, purpose_text}
 use Rattle.cli_operands.specs.declared.operand_files.Operands.{Operands}
 use Rattle.cli_requests.specs.Requests.{Path}
@@ -85,12 +85,6 @@ TakesFromFiles holds old new accepts issuer file =
 
 -- ---- verdicts
 
--- the question of the certificates that the operands have
-pub record IsAskedBy (it : Operands) (query : Query) : Type 0 where
-  pub certificates : HaveCertificates it query.anchor query.certificates
-  pub moment : query.moment ≡ it.moment
-  pub purpose : query.purpose ≡ purpose_contents it
-
 -- the words of a command that asks the same, whose verdicts are an operand of no octets
 pub record IsQuestionOf (path : Path) (question : Question) : Type 0 where
   pub moment : question.moment.now ≡ path.moment
@@ -111,10 +105,10 @@ FindsFor old new accepts query (Err failure) = KeepsAndFails old new IsNotKept f
 -- what the operands ask
 abbrev pub FindsOf : Keeping → Keeping → Accepts → Operands → Result Verdict Failure → Type 0
 FindsOf old new accepts it (Ok verdict) =
-    (query : Query) × IsAskedBy it query × FindsVerdict old new accepts query verdict
+    (query : Query) × IsQueryOf it query × FindsVerdict old new accepts query verdict
 FindsOf old new accepts it (Err failure) =
     KeepsAndFails old new
-    (FailsFirst (IsRefusalIn it) ((query : Query) × IsAskedBy it query) IsNotKept) failure
+    (FailsFirst (IsRefusalIn it) ((query : Query) × IsQueryOf it query) IsNotKept) failure
 
 -- what the request asks
 abbrev pub FindsAsked : Holding → Keeping → Keeping → Accepts → Path → Result Verdict Failure → Type 0

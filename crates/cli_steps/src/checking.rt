@@ -6,14 +6,14 @@ ghost use Rattle.cli_steps.specs.Steps.{ChecksPath};
 ghost use Rattle.cli_steps.specs.Ways.{FindsAsked, FindsOf, Steps};
 
 use crate::answer::SessionAnswer;
-use crate::asking::{asked_by, question_of};
+use crate::asking::question_of;
 use crate::kept::find_verdict;
 use crate::party::Party;
 use cli_failures::{Failure, Source};
 use cli_keeping::Keeper;
 use cli_operands::{Operands, read_operands};
 use cli_requests::PathRequest;
-use cli_session::{Judge, OperandSource};
+use cli_session::OperandSource;
 use path_verifiers::Verifier;
 use relying_agreement::Verdict;
 use std::alloc::Global;
@@ -29,8 +29,8 @@ fn find_asked<'a, K: Keeper, V: Verifier>(
     ensures finds { K.is_sound keeper.new → FindsOf (K.keeps keeper.old) (K.keeps keeper.new)
         (V.accepts verifier.now) operands.now result }
 {
-    let asked = asked_by(alloc, operands)?;
-    find_verdict(keeper, alloc, verifier, asked)
+    let query = operands.query(alloc)?;
+    find_verdict(keeper, alloc, verifier, &query)
 }
 
 // The verdict that the request asks for.
@@ -66,10 +66,7 @@ pub(crate) fn check<'a, K: Keeper, S: Source>(
         (λ old new. ChecksPath (holding_of (S.holds source.now.source.now)) (seen_path path.entry)
         old result × (new ≡ old)) }
 {
-    let judge = Judge {
-        believed: &party.believed,
-    };
-    match find_for(&mut party.keeper, source, alloc, &judge, path) {
+    match find_for(&mut party.keeper, source, alloc, &party.believed, path) {
         Ok(verdict) => SessionAnswer::Told(verdict),
         Err(failure) => SessionAnswer::Failed(failure),
     }

@@ -1,7 +1,7 @@
 //! Deliveries.
 ghost use Rattle.std.specs.Prelude.{◌≡◌};
 ghost use Rattle.cert.specs.Certificate.{seen_certificate};
-ghost use Rattle.statements.specs.OcspFact.{genuine_statement};
+ghost use Rattle.statements.specs.Statement.{genuine_statement};
 ghost use Rattle.cli_steps.specs.Steps.{DeliversFile};
 ghost use Rattle.cli_steps.specs.Ways.{Steps, TakesFromFiles, TakesSaid, TakesIssuedBy};
 
@@ -11,7 +11,6 @@ use crate::party::Party;
 use cert::Certificate;
 use cli_failures::{Extent, Failure, Source, read_certificate, read_facts};
 use cli_keeping::Keeper;
-use cli_session::Judge;
 use path_verifiers::Verifier;
 use statements_facts::Counts;
 use std::alloc::Global;
@@ -86,10 +85,8 @@ pub(crate) fn deliver<'a, K: Keeper, S: Source>(
         (λ old new. DeliversFile (S.holds source.now) issuer.entry.now file.entry.now old new
         result) }
 {
-    let judge = Judge {
-        believed: &party.believed,
-    };
-    match take_from(&mut party.keeper, source, alloc, &judge, issuer, file) {
+    let (keeper, verifier) = (&mut party.keeper, &party.believed);
+    match take_from(keeper, source, alloc, verifier, issuer, file) {
         Ok(counts) => SessionAnswer::Delivered(counts),
         Err(failure) => SessionAnswer::Failed(failure),
     }

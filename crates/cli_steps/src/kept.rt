@@ -1,12 +1,12 @@
 //! What a keeper answers, for a session.
 ghost use Rattle.std.specs.Prelude.{◌≡◌};
 ghost use Rattle.statements_facts.specs.Fact.{facts_in};
-ghost use Rattle.cli_keeping.specs.Keeping.{asked_query};
+ghost use Rattle.path.specs.Reading.{seen_query};
 ghost use Rattle.cli_steps.specs.Ways.{FindsFor, TakesAllOrNone, told_of};
 
 use cli_failures::Failure;
-use cli_keeping::{Keeper, KeeperFault, PathQuestion};
-use path_verifiers::Verifier;
+use cli_keeping::{Keeper, KeeperFault};
+use path::{Query, Verifier};
 use relying_agreement::Verdict;
 use statements_facts::{Counts, Facts};
 use std::alloc::Global;
@@ -42,13 +42,13 @@ pub(crate) fn find_verdict<'a, K: Keeper, V: Verifier>(
     keeper: &mut K,
     alloc: Global,
     verifier: &V,
-    asked: PathQuestion<'_>,
+    query: &Query<'_>,
 ) -> Result<Verdict, Failure<'a>>
     ensures sound { K.is_sound keeper.new → K.is_sound keeper.old }
     ensures finds { K.is_sound keeper.new → FindsFor (K.keeps keeper.old) (K.keeps keeper.new)
-        (V.accepts verifier.now) (asked_query asked.entry) result }
+        (V.accepts verifier.now) (seen_query query.now) result }
 {
-    match keeper.verdict(alloc, verifier, asked) {
+    match keeper.verdict(alloc, verifier, query) {
         Ok(verdict) => Ok(verdict),
         Err(fault) => Err(told(fault)),
     }

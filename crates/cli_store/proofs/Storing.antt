@@ -99,28 +99,16 @@ module _ (old new : State) where
       → AnswersWithVerdict (keeping_in old) (keeping_in new) accepts query (Ok verdict)
   finds accepts query verdict looks survives sound kept (is, leaves) = (kept_same (looks sound.0).0 survives sound kept (is, leaves), (looks sound.0).1 kept.held is)
 
-  pub finds_nothing : (accepts : Accepts) (query asked : Query) (fault : Fault) → Looks {A = Verdict} old new (IsVerdict accepts query) (Err fault) → CommitsNothing old new → IsSoundIn new
-      → AnswersWithVerdict (keeping_in old) (keeping_in new) accepts asked (Err (fault_of_party fault))
-  finds_nothing accepts query asked (OfStore fault) looks survives sound kept (is, leaves) =
+  finds_nothing : (accepts : Accepts) (query : Query) (fault : Fault) → Looks {A = Verdict} old new (IsVerdict accepts query) (Err fault) → CommitsNothing old new → IsSoundIn new
+      → AnswersWithVerdict (keeping_in old) (keeping_in new) accepts query (Err (fault_of_party fault))
+  finds_nothing accepts query (OfStore fault) looks survives sound kept (is, leaves) =
       (kept_same (looks sound.0).0 survives sound kept (is, leaves), other_fault fault (λ schema. (looks sound.0).1 schema kept.held is))
-  finds_nothing accepts query asked WithoutMemory looks survives sound kept (is, leaves) = (kept_same (looks sound.0).0 survives sound kept (is, leaves), λ is. absurd cc)
+  finds_nothing accepts query WithoutMemory looks survives sound kept (is, leaves) = (kept_same (looks sound.0).0 survives sound kept (is, leaves), λ is. absurd cc)
 
-  -- ---- of a question that is asked in other words
-
-  same_query : (query asked : Query) → query.anchor ≡ asked.anchor → query.certificates ≡ asked.certificates → query.moment ≡ asked.moment → query.purpose ≡ asked.purpose → query ≡ asked
-  same_query query asked anchor certificates moment purpose =
-      λ i. record { anchor = anchor i; certificates = certificates i; moment = moment i; purpose = purpose i }
-
-  pub finds_asked : (accepts : Accepts) (query asked : Query) (verdict : Verdict)
-      → query.anchor ≡ asked.anchor → query.certificates ≡ asked.certificates → query.moment ≡ asked.moment → query.purpose ≡ asked.purpose
-      → Looks {A = Verdict} old new (IsVerdict accepts query) (Ok verdict) → CommitsNothing old new → IsSoundIn new → AnswersWithVerdict (keeping_in old) (keeping_in new) accepts asked (Ok verdict)
-  finds_asked accepts query asked verdict anchor certificates moment purpose looks survives sound =
-      subst (λ q. AnswersWithVerdict (keeping_in old) (keeping_in new) accepts q (Ok verdict)) (same_query query asked anchor certificates moment purpose) (finds accepts query verdict looks survives sound)
-
-  pub finds_no_verdict : (accepts : Accepts) (query asked : Query) (fault : Fault) (told : KeeperFault) → told ≡ fault_of_party fault
-      → Looks {A = Verdict} old new (IsVerdict accepts query) (Err fault) → CommitsNothing old new → IsSoundIn new → AnswersWithVerdict (keeping_in old) (keeping_in new) accepts asked (Err told)
-  finds_no_verdict accepts query asked fault told is looks survives sound =
-      subst (λ t. AnswersWithVerdict (keeping_in old) (keeping_in new) accepts asked (Err t)) (sym is) (finds_nothing accepts query asked fault looks survives sound)
+  pub finds_no_verdict : (accepts : Accepts) (query : Query) (fault : Fault) (told : KeeperFault) → told ≡ fault_of_party fault
+      → Looks {A = Verdict} old new (IsVerdict accepts query) (Err fault) → CommitsNothing old new → IsSoundIn new → AnswersWithVerdict (keeping_in old) (keeping_in new) accepts query (Err told)
+  finds_no_verdict accepts query fault told is looks survives sound =
+      subst (λ t. AnswersWithVerdict (keeping_in old) (keeping_in new) accepts query (Err t)) (sym is) (finds_nothing accepts query fault looks survives sound)
 
   pub takes_none : (facts : Facts) (fault : StoreFault) (told : KeeperFault) → told ≡ keeper_fault fault → PutsFacts old new facts (Err fault) → AllOrNothing old new facts → IsSoundIn new
       → Takes (keeping_in old) (keeping_in new) (facts_in facts) (Err told)

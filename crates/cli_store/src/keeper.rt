@@ -2,10 +2,11 @@
 ghost use Rattle.std.specs.Prelude.{◌≡◌, Err, false};
 ghost use Rattle.sqlite.specs.Files.{file_state};
 ghost use Rattle.statements_facts.specs.Fact.{facts_in};
-ghost use Rattle.cli_keeping.specs.Keeping.{AnswersWithVerdict, Keeps, Takes, asked_query};
+ghost use Rattle.path.specs.Reading.{seen_query};
+ghost use Rattle.cli_keeping.specs.Keeping.{AnswersWithVerdict, Keeps, Takes};
 ghost use Rattle.cli_store.specs.Stored.{IsSoundIn, keeper_fault, fault_of_party, keeping_in};
 
-use cli_keeping::{Keeper, KeeperFault, PathQuestion};
+use cli_keeping::{Keeper, KeeperFault};
 use path_verifiers::Verifier;
 use relying::{Fault, Query, Verdict, verdict_of};
 use sqlite::{Error, ErrorCode};
@@ -73,16 +74,15 @@ fn find_in<D: Disk + Drop, V: Verifier>(
     store: &mut Store<D>,
     alloc: Global,
     verifier: &V,
-    asked: PathQuestion<'_>,
+    query: &Query<'_>,
 ) -> Result<Verdict, KeeperFault>
     ensures sound { IsSoundIn (file_state store.new.conn) → IsSoundIn (file_state store.old.conn) }
     ensures finds { IsSoundIn (file_state store.new.conn)
         → AnswersWithVerdict (keeping_in (file_state store.old.conn))
         (keeping_in (file_state store.new.conn))
-        (V.accepts verifier.now) (asked_query asked.entry) result }
+        (V.accepts verifier.now) (seen_query query.now) result }
 {
-    let query = Query::new(asked.anchor, asked.path, asked.moment, asked.purpose);
-    match verdict_of(alloc, verifier, &mut store.conn, &query) {
+    match verdict_of(alloc, verifier, &mut store.conn, query) {
         Ok(verdict) => Ok(verdict),
         Err(fault) => Err(fault_of_party(fault)),
     }
@@ -132,9 +132,9 @@ impl<D: Disk + Drop> Keeper for StoreKeeper<D> {
         &mut self,
         alloc: Global,
         verifier: &V,
-        asked: PathQuestion<'_>,
+        query: &Query<'_>,
     ) -> Result<Verdict, KeeperFault> {
-        find_in(&mut self.store, alloc, verifier, asked)
+        find_in(&mut self.store, alloc, verifier, query)
     }
 
     fn may_answer(&mut self) -> bool {

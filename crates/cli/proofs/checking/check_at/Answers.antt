@@ -1,5 +1,5 @@
 use Rattle.sqlite.specs.Files.{file_state}
-use Rattle.relying_verdicts.specs.View.{seen_query}
+use Rattle.path.specs.Reading.{seen_query}
 use Rattle.cli.proofs.Seeing.{checked, left_as}
 use Rattle.cli.proofs.Unanswered.{not_checked}
 use Rattle.cli.proofs.checking.check_at.Goals as goal

@@ -1,5 +1,5 @@
 use Rattle.sqlite.specs.Files.{file_state}
-use Rattle.relying_verdicts.specs.View.{seen_query}
+use Rattle.path.specs.Reading.{seen_query}
 use Rattle.cli.specs.Believed.{accepted_by}
 use Rattle.cli_store.specs.Standing.{seen_in}
 use Rattle.cli.proofs.Seeing.{compared_by}

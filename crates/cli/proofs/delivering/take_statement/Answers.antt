@@ -1,7 +1,7 @@
 use Rattle.std.proofs.Common.{inl}
 use Rattle.std.proofs.lemmas.Result.{err_from_is_err_and}
 use Rattle.cert.specs.Certificate.{seen_certificate}
-use Rattle.statements.specs.OcspFact.{genuine_statement}
+use Rattle.statements.specs.Statement.{genuine_statement}
 use Rattle.statements_facts.specs.Fact.{facts_in}
 use Rattle.cli.specs.Believed.{accepted_by}
 use Rattle.cli.proofs.Refusing.{not_taken_of, taken_of}

@@ -1,4 +1,4 @@
-use Rattle.std.proofs.Common.{◌≡◌, ◌+◌, [], ◌∷◌, ◌++◌, Bor, List, ℕ, None, Some, get_or, map, sym, subst, take}
+use Rattle.std.proofs.Common.{◌≡◌, ◌+◌, [], ◌∷◌, ◌++◌, None, Some, map, sym, subst, take}
 use Rattle.cli_failures.specs.declared.failure.Failure.TheVariants.{NoMemory}
 use Rattle.cli_operands.specs.PathFiles.{AreFilesRead}
 use Rattle.cli_operands.proofs.Files.{one_read, one_unread}

@@ -1,7 +1,7 @@
 use Rattle.std.proofs.Common.{◌≡◌, Ok, inl}
 use Rattle.std.proofs.lemmas.Result.{err_from_is_err_and}
 use Rattle.cert.specs.Certificate.{seen_certificate}
-use Rattle.statements.specs.OcspFact.{genuine_statement}
+use Rattle.statements.specs.Statement.{genuine_statement}
 use Rattle.statements_facts.specs.Fact.{facts_in}
 use Rattle.cli_failures.specs.Failures.{IsDenied}
 use Rattle.cli_steps.proofs.Taking.{asked}

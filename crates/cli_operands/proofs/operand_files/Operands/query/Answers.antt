@@ -1,7 +1,7 @@
 use Rattle.std.proofs.Common.{inr, ap, sym, ◌∙◌}
 use Rattle.std.proofs.lemmas.Result.{err_from_is_err_and}
 use Rattle.cert.specs.Certificate.{certificate, seen_certificate}
-use Rattle.cli_operands.proofs.operand_files.Operands.certificates.Goals as goal
+use Rattle.cli_operands.proofs.operand_files.Operands.query.Goals as goal
 
 pub returns-in_err-path-clause-fails : goal.returns-in_err-path-clause-fails
 returns-in_err-path-clause-fails c =
