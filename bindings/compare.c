@@ -84,7 +84,7 @@ static int is_inside(const struct x509check_place *place, const struct row *cons
     return place->offset <= length && place->length <= length - place->offset;
 }
 
-static void print_question(const struct x509check_question *question, const struct row *const texts[])
+static void print_question(const struct x509check_signature_question *question, const struct row *const texts[])
 {
     const struct x509check_place *places[] = {&question->algorithm, &question->key_info, &question->message, &question->signature};
     const uint8_t *parts[4];
@@ -114,7 +114,7 @@ static void print_question(const struct x509check_question *question, const stru
 int main(int argc, char **argv)
 {
     static struct row certificates, statements, fingerprints, purpose;
-    static struct x509check_question questions[4096];
+    static struct x509check_signature_question questions[4096];
     const struct row *const texts[] = {&certificates, &statements};
     FILE *file = argc == 2 ? fopen(argv[1], "rb") : NULL;
     int next;

@@ -20,7 +20,7 @@ import subprocess
 from typing import IO, TYPE_CHECKING, Dict, Iterable, List, NamedTuple, NoReturn, Optional, Tuple, Union
 
 if TYPE_CHECKING:
-    from x509check import Question
+    from x509check import SignatureQuestion
     from x509check.signatures import Opinion, Policy
 
 Operand = Union[bytes, bytearray, memoryview, str]
@@ -41,7 +41,7 @@ class Judged(NamedTuple):
     """What is said of a signature, and whose it is: the words of its line (docs/REFERENCE.md, "prints"), and the question."""
 
     words: str
-    question: "Question"
+    question: "SignatureQuestion"
     opinion: "Opinion"
 
 

@@ -65,7 +65,7 @@ static void print_place(const struct x509check_place *place)
     printf("  %u %zu %zu", (unsigned)place->text, place->offset, place->length);
 }
 
-static void print_question(const struct x509check_question *question)
+static void print_question(const struct x509check_signature_question *question)
 {
     for (size_t i = 0; i < sizeof question->fingerprint; i++)
         printf("%02x", question->fingerprint[i]);
@@ -81,7 +81,7 @@ static enum status print_questions(const struct text *certificates, const struct
 {
     struct x509check_asked asked =
         x509check_questions(certificates->octets, certificates->length, statements->octets, statements->length, NULL, 0);
-    struct x509check_question *questions = calloc(asked.count + 1, sizeof *questions);
+    struct x509check_signature_question *questions = calloc(asked.count + 1, sizeof *questions);
 
     if (questions == NULL) {
         perror("questions");

@@ -161,8 +161,8 @@ static const char *broken_by_fingerprint(const uint8_t *at, const struct x509che
 static const char *broken_by_asking(struct numbers *numbers, const struct row rows[2], uint32_t text, const struct x509check_verdict *verdict)
 {
     size_t room = number_below(numbers, MOST_QUESTIONS + 1);
-    struct x509check_question *questions =
-        (struct x509check_question *)(void *)(run.questions.writable + run.questions.size) - room;
+    struct x509check_signature_question *questions =
+        (struct x509check_signature_question *)(void *)(run.questions.writable + run.questions.size) - room;
     struct x509check_asked asked, again;
     const char *broken;
     size_t requests;
@@ -309,7 +309,7 @@ int main(int argc, char **argv)
     run.texts = read_texts(argv[1]);
     run.text = make_guarded(ROOM);
     run.fingerprint = make_guarded(X509CHECK_FINGERPRINT_LENGTH);
-    run.questions = make_guarded(MOST_QUESTIONS * sizeof(struct x509check_question));
+    run.questions = make_guarded(MOST_QUESTIONS * sizeof(struct x509check_signature_question));
     make_path();
     __sanitizer_set_death_callback(tell_place);
     for (place = run.first; place - run.first < run.count; place++)

@@ -272,7 +272,7 @@ const char *broken_of_fingerprint(const uint8_t *octets, const struct x509check_
     return NULL;
 }
 
-static const char *broken_of_question(const struct row rows[2], const struct x509check_question *question)
+static const char *broken_of_question(const struct row rows[2], const struct x509check_signature_question *question)
 {
     const struct x509check_place places[] = {question->algorithm, question->key_info, question->message, question->signature};
     struct sha256 state;
@@ -291,7 +291,7 @@ static const char *broken_of_question(const struct row rows[2], const struct x50
     return NULL;
 }
 
-const char *broken_of_questions(const struct row rows[2], const struct x509check_asked *asked, const struct x509check_question *questions,
+const char *broken_of_questions(const struct row rows[2], const struct x509check_asked *asked, const struct x509check_signature_question *questions,
                                 size_t room)
 {
     size_t written = asked->count < room ? asked->count : room;

@@ -28,7 +28,7 @@ const char *broken_of_statements(size_t length, const struct x509check_verdict *
 
 /* Of what is asked about two rows, where there was room for so many questions. Behind those that were written the array has to be as it was:
  * filled with 0xA5. */
-const char *broken_of_questions(const struct row rows[2], const struct x509check_asked *asked, const struct x509check_question *questions,
+const char *broken_of_questions(const struct row rows[2], const struct x509check_asked *asked, const struct x509check_signature_question *questions,
                                 size_t room);
 
 /* Of the fingerprint of a certificate that was read. */

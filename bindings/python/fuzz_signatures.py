@@ -21,7 +21,7 @@ from typing import Dict, Iterator, List, Optional, Sequence, Set, Tuple
 if __name__ == "__main__":
     sys.dont_write_bytecode = True
 
-from x509check import Question, _crypto_package, _crypto_schemes, _der, _libcrypto, signatures
+from x509check import SignatureQuestion, _crypto_package, _crypto_schemes, _der, _libcrypto, signatures
 from x509check.signatures import Judgement, Policy
 
 FIELDS = ("algorithm", "key", "message", "signature")
@@ -84,7 +84,7 @@ def key_of(info: bytes) -> Tuple[bytes, bytes]:
     return (b"" if kind in IDENTIFIERS[:3] else identifier.whole, bits.whole)
 
 
-def twin(question: Question) -> Optional[bytes]:
+def twin(question: SignatureQuestion) -> Optional[bytes]:
     """The other signature that everyone can make of an ECDSA signature: r, and the order less s."""
     for curve, order in ORDERS.items():
         if _der.encoded(_der.OBJECT_IDENTIFIER, _der.contents_of(curve)) in question.key:
@@ -97,14 +97,14 @@ def twin(question: Question) -> Optional[bytes]:
 class Expected:
     """What is good, from the questions that were not changed."""
 
-    def __init__(self, questions: Sequence[Question]) -> None:
+    def __init__(self, questions: Sequence[SignatureQuestion]) -> None:
         self.good: Dict[Tuple[bytes, Tuple[bytes, bytes], bytes], Set[bytes]] = {}
         for question in questions:
             if signatures.judge(question, LAX) is Judgement.GOOD:
                 for signature in (question.signature, twin(question) or question.signature):
                     self.good[question.message, key_of(question.key), signature] = spellings(question.algorithm)
 
-    def may_be_good(self, question: Question) -> bool:
+    def may_be_good(self, question: SignatureQuestion) -> bool:
         try:
             key = key_of(question.key)
         except (ValueError, IndexError):
@@ -169,7 +169,7 @@ def changed_value(rng: random.Random, value: _der.Value, depth: int) -> bytes:
     return _der.encoded(value.identifier, changed_octets(rng, value.contents))
 
 
-def respelled(rng: random.Random, question: Question) -> bytes:
+def respelled(rng: random.Random, question: SignatureQuestion) -> bytes:
     """Its algorithm in another way that means the same, if it is served."""
     try:
         return rng.choice(sorted(spellings(question.algorithm)))
@@ -177,7 +177,7 @@ def respelled(rng: random.Random, question: Question) -> bytes:
         return question.algorithm
 
 
-def changed(rng: random.Random, questions: Sequence[Question]) -> Question:
+def changed(rng: random.Random, questions: Sequence[SignatureQuestion]) -> SignatureQuestion:
     question = rng.choice(questions)
     for _ in range(rng.choice((1, 1, 1, 2, 3))):
         field = rng.choice(FIELDS)
@@ -199,7 +199,7 @@ def changed(rng: random.Random, questions: Sequence[Question]) -> Question:
 
 # ---- the run
 
-def look_at(question: Question, expected: Expected, engines: Sequence[str]) -> Judgement:
+def look_at(question: SignatureQuestion, expected: Expected, engines: Sequence[str]) -> Judgement:
     """The judgement by the lax policy, on which all engines agree."""
     said = {(policy == LAX, engine): signatures.judge(question, policy, engine=engine) for policy in POLICIES for engine in engines}
     for is_lax in (True, False):
@@ -221,12 +221,12 @@ def is_limited(info: bytes) -> bool:
     return key_of(info)[0] == b"" and not _der.value(info).members()[0].whole == plain
 
 
-def line_of(question: Question) -> str:
+def line_of(question: SignatureQuestion) -> str:
     texts = " ".join(f"{field}={getattr(question, field).hex()}" for field in FIELDS)
     return f"{question.fingerprint.hex()} certificate issuer {texts}"
 
 
-def look_at_line(rng: random.Random, question: Question) -> bool:
+def look_at_line(rng: random.Random, question: SignatureQuestion) -> bool:
     """Whether a changed line is read: then it has to be the line as it was."""
     line = line_of(question)
     made = changed_octets(rng, line.encode()).decode("latin-1")
@@ -239,7 +239,7 @@ def look_at_line(rng: random.Random, question: Question) -> bool:
     return True
 
 
-def fuzz(questions: Sequence[Question], seconds: float, seed: int) -> Dict[str, int]:
+def fuzz(questions: Sequence[SignatureQuestion], seconds: float, seed: int) -> Dict[str, int]:
     """Counts of the judgements on changed questions. Raises Wrong."""
     rng, expected = random.Random(seed), Expected(questions)
     counts: Dict[str, int] = collections.Counter()

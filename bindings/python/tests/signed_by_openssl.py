@@ -7,7 +7,7 @@ import subprocess
 import tempfile
 from typing import Dict, List, NamedTuple
 
-from x509check import Question, _der
+from x509check import SignatureQuestion, _der
 
 CURVES = {
     "P-224": "P-224", "P-256": "P-256", "P-384": "P-384", "P-521": "P-521", "secp256k1": "secp256k1", "bp256": "brainpoolP256r1",
@@ -59,17 +59,17 @@ class Made(NamedTuple):
     """A self-signed certificate, and what is asked about it under its own key."""
 
     certificate: bytes
-    question: Question
+    question: SignatureQuestion
 
 
-def question_of(algorithm: bytes, key: bytes, message: bytes, signature: bytes) -> Question:
+def question_of(algorithm: bytes, key: bytes, message: bytes, signature: bytes) -> SignatureQuestion:
     digest = hashlib.sha256()
     for text in (algorithm, key, message, signature):
         digest.update(len(text).to_bytes(8, "big") + text)
-    return Question(algorithm, key, message, signature, digest.digest())
+    return SignatureQuestion(algorithm, key, message, signature, digest.digest())
 
 
-def self_signed(certificate: bytes) -> Question:
+def self_signed(certificate: bytes) -> SignatureQuestion:
     """What is asked about a certificate of version 3 under its own key, without the library."""
     signed, algorithm, bits = _der.value(certificate).members()
     return question_of(algorithm.whole, signed.members()[6].whole, signed.whole, bits.whole_octets())
@@ -105,5 +105,5 @@ class Signed:
         made = _openssl("req", "-x509", "-new", "-key", self._path(key), "-subj", "/CN=Root", *words, "-outform", "DER")
         return Made(made, self_signed(made))
 
-    def questions(self) -> List[Question]:
+    def questions(self) -> List[SignatureQuestion]:
         return [made.question for made in self.made.values()]

@@ -22,7 +22,7 @@ from typing import Dict, List, Optional, Sequence
 from unittest import mock
 
 import fuzz_signatures
-from x509check import Question, _crypto_package, _der, _libcrypto, signatures
+from x509check import SignatureQuestion, _crypto_package, _der, _libcrypto, signatures
 from x509check.signatures import BadLine, JudgeMissing, Judgement, Opinion, Policy, judge, judge_all, opinions, read_printed
 
 from .signed_by_openssl import CERTIFICATES, Signed, question_of, self_signed
@@ -42,7 +42,7 @@ def signed() -> Signed:
     return Signed()
 
 
-def about(name: str) -> Question:
+def about(name: str) -> SignatureQuestion:
     return signed().made[name].question
 
 
@@ -77,7 +77,7 @@ def key_octets(key: bytes) -> bytes:
 
 
 class Judged(unittest.TestCase):
-    def expect(self, wanted: Judgement, question: Question, policy: Policy = LAX, message: str = "") -> None:
+    def expect(self, wanted: Judgement, question: SignatureQuestion, policy: Policy = LAX, message: str = "") -> None:
         for engine in ENGINES:
             opinion, = opinions([question], policy, engine=engine)
             self.assertIs(opinion.judgement, wanted, f"{message} by {engine}: {opinion}")
@@ -512,7 +512,7 @@ class Callers(unittest.TestCase):
                        env={**os.environ, "X509CHECK_LIBRARY": os.devnull})
 
 
-def line_of(question: Question, words: str) -> str:
+def line_of(question: SignatureQuestion, words: str) -> str:
     texts = " ".join(f"{name}={getattr(question, name).hex()}" for name in ("algorithm", "key", "message", "signature"))
     return f"{question.fingerprint.hex()} {words} {texts}"
 

@@ -21,7 +21,7 @@ from ._library import LibraryMissing
 from ._names import Identity
 from ._pem import Kind, Loaded, NotLoaded
 from ._program import ProgramMissing, explain
-from ._questions import Question, questions
+from ._questions import SignatureQuestion, questions
 from ._verdicts import NotValid, Reason, Result, RevocationReason, Verdict, validate
 from .signatures import Judgement, JudgeMissing, Opinion, Policy, judge, judge_all, opinions
 
@@ -29,6 +29,6 @@ __version__ = "0.9.0"
 
 __all__ = [
     "Certificate", "Extensions", "Fault", "FAULT_NAMES", "Identity", "JudgeMissing", "Judgement", "Kind", "LibraryMissing", "Loaded", "NoPath",
-    "NotLoaded", "NotValid", "Opinion", "Policy", "ProgramMissing", "PURPOSES", "Question", "Reason", "Result", "RevocationReason", "Text",
+    "NotLoaded", "NotValid", "Opinion", "Policy", "ProgramMissing", "PURPOSES", "SignatureQuestion", "Reason", "Result", "RevocationReason", "Text",
     "Verdict", "check", "explain", "fingerprint", "judge", "judge_all", "load", "opinions", "path_to", "questions", "validate",
 ]

@@ -11,7 +11,7 @@ _ROOM = 64
 
 
 @dataclasses.dataclass(frozen=True)
-class Question:
+class SignatureQuestion:
     """Is this the signature of the message, under the key, by the algorithm?
 
     `algorithm` is the whole encoding of the algorithm identifier, `key` that of the subjectPublicKeyInfo. The fingerprint is the one of
@@ -25,7 +25,7 @@ class Question:
     fingerprint: bytes
 
 
-def ask(rows: Rows) -> List[Question]:
+def ask(rows: Rows) -> List[SignatureQuestion]:
     """The questions about the rows."""
     room = _ROOM
     while True:
@@ -40,11 +40,11 @@ def ask(rows: Rows) -> List[Question]:
     def part(place: Place) -> bytes:
         return rows.texts[place.text - 1][place.offset:place.offset + place.length]
 
-    return [Question(part(it.algorithm), part(it.key_info), part(it.message), part(it.signature), bytes(it.fingerprint))
+    return [SignatureQuestion(part(it.algorithm), part(it.key_info), part(it.message), part(it.signature), bytes(it.fingerprint))
             for it in written[:answer.count]]
 
 
-def questions(anchor: Value, chain: Iterable[Value], statements: Iterable[Value]) -> List[Question]:
+def questions(anchor: Value, chain: Iterable[Value], statements: Iterable[Value]) -> List[SignatureQuestion]:
     """What a judge of signatures may be asked for the verdict on a path by statements, at whatever moment and for whatever purpose: about
     the certificates of the chain, in order, and then about each statement. One question may be there twice.
 

@@ -9,14 +9,14 @@ from ._arguments import Moment, Value, der_of, listed, octets_of, purpose_of, se
 from ._certificates import Certificate
 from ._library import REFUSED, VERDICT_WORDS, VerdictAnswer, library
 from ._names import Identity
-from ._questions import Question, ask
+from ._questions import SignatureQuestion, ask
 from ._rows import Ignored, Rows
 from .signatures import Judgement, judge_all
 
 # A path has at most so many certificates.
 _MOST = 128
-Judge = Callable[[Question], Union[bool, Judgement]]
-Judged = Tuple[Question, Judgement]
+Judge = Callable[[SignatureQuestion], Union[bool, Judgement]]
+Judged = Tuple[SignatureQuestion, Judgement]
 
 
 class Verdict(enum.Enum):
@@ -138,7 +138,7 @@ def _judgement(answer: object) -> Judgement:
     raise TypeError(f"a judge answers True, False or a Judgement, not {type(answer).__name__}")
 
 
-def _judged(questions: Sequence[Question], verify: Optional[Judge]) -> Tuple[Judged, ...]:
+def _judged(questions: Sequence[SignatureQuestion], verify: Optional[Judge]) -> Tuple[Judged, ...]:
     """What the judge says of each question."""
     if verify is not None:
         return tuple((question, _judgement(verify(question))) for question in questions)
@@ -148,7 +148,7 @@ def _judged(questions: Sequence[Question], verify: Optional[Judge]) -> Tuple[Jud
     return tuple((question, _judgement(judgement)) for question, judgement in zip(questions, judgements))
 
 
-def _different(questions: List[Question]) -> List[Question]:
+def _different(questions: List[SignatureQuestion]) -> List[SignatureQuestion]:
     """Each question once."""
     return list({question.fingerprint: question for question in questions}.values())
 
@@ -205,7 +205,7 @@ def validate(
     `now`. The purpose is a name (`serverAuth`, `clientAuth`, `codeSigning`, `emailProtection`, `timeStamping`, `OCSPSigning`) or an object
     identifier in dotted form; None asks for none.
 
-    `verify` is called with each `Question` that counts, once, and answers True or False or a `Judgement`; it has to give one question
+    `verify` is called with each `SignatureQuestion` that counts, once, and answers True or False or a `Judgement`; it has to give one question
     one answer. Without it `signatures.judge_all` judges. If fingerprints are given, nobody is asked: they are those of the signatures
     that were found good elsewhere, and no other is accepted.
 

@@ -22,7 +22,7 @@ from ._crypto_schemes import (
 )
 
 if TYPE_CHECKING:
-    from ._questions import Question
+    from ._questions import SignatureQuestion
 
 ENGINES: Tuple[str, ...] = (_crypto_package.NAME, _libcrypto.NAME)
 """What may verify, the first choice first."""
@@ -117,7 +117,7 @@ class _Texts(NamedTuple):
     signature: bytes
 
 
-def _texts(question: "Question") -> _Texts:
+def _texts(question: "SignatureQuestion") -> _Texts:
     texts = []
     for name in _Texts._fields:
         text = getattr(question, name)
@@ -152,7 +152,7 @@ def _opinion(texts: _Texts, policy: Policy, engine: ModuleType) -> Opinion:
         return Opinion(Judgement.NOT_SERVED, str(cause))
 
 
-def opinions(questions: Iterable["Question"], policy: Policy = Policy(), *, engine: Optional[str] = None) -> List[Opinion]:
+def opinions(questions: Iterable["SignatureQuestion"], policy: Policy = Policy(), *, engine: Optional[str] = None) -> List[Opinion]:
     """What is said of each signature, in order; each different question is looked at once. `engine` is one of ENGINES, or the first there is.
 
     A question has `algorithm` and `key`, the whole DER of an AlgorithmIdentifier and of a subjectPublicKeyInfo, `message`, and `signature`, the
@@ -166,12 +166,12 @@ def opinions(questions: Iterable["Question"], policy: Policy = Policy(), *, engi
     return [found[texts] for texts in asked]
 
 
-def judge_all(questions: Iterable["Question"], policy: Policy = Policy(), *, engine: Optional[str] = None) -> List[Judgement]:
+def judge_all(questions: Iterable["SignatureQuestion"], policy: Policy = Policy(), *, engine: Optional[str] = None) -> List[Judgement]:
     """The judgements of `opinions`."""
     return [opinion.judgement for opinion in opinions(questions, policy, engine=engine)]
 
 
-def judge(question: "Question", policy: Policy = Policy(), *, engine: Optional[str] = None) -> Judgement:
+def judge(question: "SignatureQuestion", policy: Policy = Policy(), *, engine: Optional[str] = None) -> Judgement:
     """The judgement on one signature."""
     return judge_all([question], policy, engine=engine)[0]
 
@@ -179,7 +179,7 @@ def judge(question: "Question", policy: Policy = Policy(), *, engine: Optional[s
 class Printed(NamedTuple):
     """A line of `x509check prints --parts`: what is asked, and of which signature under whose key."""
 
-    question: "Question"
+    question: "SignatureQuestion"
     words: str
     """`certificate issuer`, `crl issuer`, `response issuer`, `certificate N issuer` or `response certificate N`."""
 
@@ -220,7 +220,7 @@ def _octets(name: str, word: str) -> bytes:
 
 
 def _printed(line: str, words: str) -> Printed:
-    from ._questions import Question
+    from ._questions import SignatureQuestion
     begin, *parts = line.rsplit(" ", len(_Texts._fields))
     if len(parts) != len(_Texts._fields) or begin[64:] != " " + words:
         raise BadLine(f"not a line about {words!r}: {line[:120]!r}")
@@ -228,7 +228,7 @@ def _printed(line: str, words: str) -> Printed:
     fingerprint = _fingerprint(texts)
     if fingerprint.hex() != begin[:64]:
         raise BadLine(f"the fingerprint is not that of the four texts: {line[:120]!r}")
-    return Printed(Question(*texts, fingerprint=fingerprint), words)
+    return Printed(SignatureQuestion(*texts, fingerprint=fingerprint), words)
 
 
 def read_printed(kind: str, lines: Sequence[str]) -> List[Printed]:

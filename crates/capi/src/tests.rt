@@ -267,7 +267,7 @@ fn tells_places(rt: HostRuntime) {
     assert!(rt; leaf.key_info == place(1, 410 + 132, 91));
     assert!(rt; leaf.message == place(1, 410 + 413 + 4, 332));
     assert!(rt; leaf.signature == place(1, 410 + 413 + 351, 71));
-    assert!(rt; list.algorithm == place(2, 187 + 103, 12));
+    assert!(rt; list.algorithm == place(2, 187 + 8, 12));
     assert!(rt; list.key_info == place(1, 410 + 132, 91));
     assert!(rt; list.message == place(2, 187 + 3, 100));
     assert!(rt; list.signature == place(2, 187 + 118, 71));

@@ -3,7 +3,7 @@
 use crate::whole::{Text, octets_of};
 use asn::{Fault, Rule, check};
 use cert::{CertFault, CertRule, Certificate};
-use statements_crl::{Crl, StatementFault, StatementRule};
+use statements_crl::{Crl, ReadingFault, StatementRule};
 use statements_ocsp::Response;
 use std::alloc::Global;
 
@@ -13,10 +13,7 @@ const CUT: Fault = Fault::Refused(Rule::Truncated, 0);
 const CUT_CERTIFICATE: CertFault = CertFault::Refused(CertRule::Der(Rule::Truncated), 0);
 
 /// How reading a statement that is cut short ends.
-const CUT_STATEMENT: StatementFault = StatementFault::Refused(
-    StatementRule::Der(Rule::Truncated),
-    0,
-);
+const CUT_STATEMENT: ReadingFault = ReadingFault::Refused(StatementRule::Der(Rule::Truncated), 0);
 
 fn is_refused(alloc: Global, text: Text, octets: &[u8]) -> bool {
     match text {

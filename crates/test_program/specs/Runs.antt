@@ -6,7 +6,7 @@ use Rattle.relying_agreement.specs.Comparison.{IsComparison}
 use Rattle.relying_agreement.specs.Verdict.{IsVerdict}
 use Rattle.relying_agreement.specs.declared.verdict.Comparison.{Comparison}
 use Rattle.relying_agreement.specs.declared.verdict.Verdict.{Verdict}
-use Rattle.statements.specs.OcspFact.{genuine_statement}
+use Rattle.statements.specs.Statement.{genuine_statement}
 use Rattle.statements_facts.specs.Coming.{AreCounts}
 use Rattle.statements_facts.specs.Fact.{Fact}
 use Rattle.statements_facts.specs.Statement.{Holdings, empty_holdings}

@@ -20,7 +20,12 @@ fn verdict_of_read<D: Disk + Drop>(
     let anchor = Certificate::read(alloc, anchor).ok()?;
     let mut path = Vec::new(alloc);
     path.push(Certificate::read(alloc, leaf).ok()?).ok()?;
-    let query = Query::new(anchor, path, MIDDLE, None);
+    let query = Query {
+        anchor,
+        path,
+        moment: MIDDLE,
+        purpose: None,
+    };
     party.verdict(alloc, &query).ok()
 }
 

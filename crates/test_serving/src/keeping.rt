@@ -1,10 +1,11 @@
 //! A keeper that answers as it was told, files that are not there, and sessions over both.
 
 use cli_failures::{Extent, Failure, Source};
-use cli_keeping::{Keeper, KeeperFault, PathQuestion};
+use cli_keeping::{Keeper, KeeperFault};
 use cli_serving::{End, serve};
 use cli_session::Believed;
 use cli_steps::Party;
+use path::Query;
 use path_verifiers::{ListVerifier, Verifier};
 use relying_agreement::Verdict;
 use statements_facts::{Counts, Facts};
@@ -34,7 +35,7 @@ impl Keeper for Told {
         &mut self,
         _alloc: Global,
         _verifier: &V,
-        _asked: PathQuestion<'_>,
+        _query: &Query<'_>,
     ) -> Result<Verdict, KeeperFault> {
         self.verdict
     }

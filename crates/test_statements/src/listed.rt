@@ -68,8 +68,10 @@ fn refuses_other_texts_of_lists(rt: HostRuntime) {
 
 /// Whether the toy signature of the list is accepted under the key, and not under the other one.
 fn is_signed_by(list: &Crl<'_>, key: &[u8], other: &[u8]) -> bool {
-    ToyVerifier.judge(list.algorithm, key, list.tbs, list.signature)
-        && !ToyVerifier.judge(list.algorithm, other, list.tbs, list.signature)
+    let (algorithm, message) = (list.algorithm.value.whole, list.tbs.whole);
+    let signature = list.signature.octets();
+    ToyVerifier.judge(algorithm, key, message, signature)
+        && !ToyVerifier.judge(algorithm, other, message, signature)
 }
 
 /// Whether the list is read and signed by the signer.

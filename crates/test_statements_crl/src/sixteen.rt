@@ -19,7 +19,7 @@ fn sixteen_extensions_want_no_memory(rt: HostRuntime) -> Result<(), Fail> {
     let mut octets = [0; 458];
     hex::decode_to_slice(SIXTEEN, &mut octets).map_err(|_| "hexadecimal")?;
     let list = Crl::read(rt.alloc(), &octets).map_err(|_| "refused")?;
-    assert!(rt; list.number == [5].as_slice());
+    assert!(rt; list.number.contents == [5].as_slice());
     assert_eq!(rt; list.lists(&[5]), Some(1));
     Ok(())
 }

@@ -3,8 +3,9 @@
 use crate::accepted::ACCEPTED;
 use crate::octets_of;
 use crate::of_openssl::OF_OPENSSL;
+use asn::Tlv;
 use statements_ocsp::{
-    CertStatus, Certs, ResponderId, Response, SingleResponse, StatementFault, is_response,
+    CertStatus, Certs, ReadingFault, ResponderId, Response, SingleResponse, is_response,
 };
 use std::alloc::Global;
 use std::test::Fail;
@@ -61,11 +62,19 @@ fn are_certs(alloc: Global, certs: Certs<'_>, list: &str) -> Result<bool, Fail> 
     }
     for digits in list.split(',') {
         let value = octets_of(alloc, digits)?;
-        if left.next() != Some(value.as_slice()) {
+        if left.next().map(|value| value.whole) != Some(value.as_slice()) {
             return Ok(false);
         }
     }
     Ok(left.next().is_none())
+}
+
+/// Whether the octets are DER, and meant as a response.
+fn is_meant_as_response(octets: &[u8]) -> bool {
+    match Tlv::outermost(octets) {
+        Ok(value) => is_response(value),
+        Err(_) => false,
+    }
 }
 
 /// Whether the octets in the line are read as the response that its words say.
@@ -83,10 +92,10 @@ fn is_read(alloc: Global, line: &str) -> Result<bool, Fail> {
     let response = Response::read(alloc, &octets).map_err(|_| "refused")?;
     let mut are_fields = is_responder(response.responder, kind, &responder)
         && is_moment(Some(response.produced_at), produced_at)
-        && octets.get(begin..end) == Some(response.tbs)
-        && response.algorithm == algorithm.as_slice()
-        && response.signature == signature.as_slice()
-        && is_response(&octets);
+        && octets.get(begin..end) == Some(response.tbs.whole)
+        && response.algorithm.value.whole == algorithm.as_slice()
+        && response.signature.octets() == signature.as_slice()
+        && is_meant_as_response(&octets);
     let mut singles = response.responses;
     for word in words {
         are_fields = match singles.next() {
@@ -201,7 +210,7 @@ const KINDS: &[(&str, bool)] = &[
 fn tells_the_kind(rt: HostRuntime) -> Result<(), Fail> {
     for (digits, is_meant) in KINDS.iter() {
         let octets = octets_of(rt.alloc(), digits)?;
-        assert!(rt; is_response(&octets) == *is_meant, "{digits}");
+        assert!(rt; is_meant_as_response(&octets) == *is_meant, "{digits}");
     }
     Ok(())
 }
@@ -213,7 +222,7 @@ fn wants_memory_or_answers(rt: HostRuntime) {
     if let Ok(octets) = hex::decode(rt.alloc(), line.split(' ').nth(8).unwrap_or("")) {
         match Response::read(rt.alloc(), &octets) {
             Ok(response) => assert!(rt; response.produced_at == 1748736000),
-            Err(fault) => assert!(rt; fault == StatementFault::Memory),
+            Err(fault) => assert!(rt; fault == ReadingFault::Memory),
         }
     }
 }

@@ -2,21 +2,21 @@
 
 use crate::octets_of;
 use crate::refused::REFUSED;
-use statements_ocsp::{MOST_SINGLES, Response, StatementFault, StatementRule};
+use statements_ocsp::{MOST_SINGLES, ReadingFault, Response, StatementRule};
 use std::alloc::Global;
 use std::test::Fail;
 
 fn is_refused(
-    read: Result<Response<'_>, StatementFault>,
+    read: Result<Response<'_>, ReadingFault>,
     number: u8,
     name: &str,
     place: usize,
 ) -> bool {
     match read {
-        Ok(_) => false,
-        Err(fault) => {
-            fault.number() == number && fault.place() == Some(place) && fault.name() == name
+        Err(ReadingFault::Refused(rule, at)) => {
+            rule.number() == number && at == place && rule.name() == name
         }
+        _ => false,
     }
 }
 
@@ -49,8 +49,7 @@ fn tells_the_code(rt: HostRuntime) -> Result<(), Fail> {
     for (digits, code) in UNSUCCESSFUL.iter() {
         let octets = octets_of(rt.alloc(), digits)?;
         let fault = Response::read(rt.alloc(), &octets).err();
-        let is_code = fault
-            == Some(StatementFault::Refused(StatementRule::NotSuccessful(*code), 2));
+        let is_code = fault == Some(ReadingFault::Refused(StatementRule::NotSuccessful(*code), 2));
         assert!(rt; is_code, "{digits}");
         let read = Response::read(rt.alloc(), &octets);
         assert!(rt; is_refused(read, 55, "NotSuccessful", 2), "{digits}");

@@ -8,3 +8,5 @@ mod asked;
 mod asking;
 #[cfg(test)]
 mod rows;
+#[cfg(test)]
+mod texts;

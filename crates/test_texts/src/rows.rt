@@ -1,21 +1,27 @@
 //! Paths, statements, and the verdicts by them.
 
-use crate::asking::{MIDDLE, Statement, verdict_on};
+use crate::asking::verdict_on;
+use crate::texts::{MIDDLE, StatementText, read_all, statements_of};
 use path::Reason;
 use relying_texts::Verdict;
 use relying_texts::Verdict::{Invalid, Revoked, Unknown, Valid};
 use std::alloc::Global;
 
 /// A path, the first being the anchor, statements, a moment, and the verdict.
-type Row = (&'static [&'static str], &'static [Statement], i64, Verdict);
+type Row = (
+    &'static [&'static str],
+    &'static [StatementText],
+    i64,
+    Verdict,
+);
 
 const LEAF: &[&str] = &["ca(R,R)", "ee(T,R)"];
 
 const BELOW: &[&str] = &["ca(R,R)", "ca(A,R)", "ee(T,A)"];
 
-const FIFTH: Statement = ("crl(R,5)", &[]);
+const FIFTH: StatementText = ("crl(R,5)", &[]);
 
-const REVOKING: Statement = ("crl(R,6,[05 1])", &[]);
+const REVOKING: StatementText = ("crl(R,6,[05 1])", &[]);
 
 const ROWS: &[Row] = &[
     // no statements
@@ -43,8 +49,7 @@ const ROWS: &[Row] = &[
         MIDDLE,
         Revoked(1, 1),
     ),
-    // octets that are no statement, a list with another signature, and one of another issuer change nothing
-    (LEAF, &[("", &[]), FIFTH], MIDDLE, Valid),
+    // a list with another signature, and one of another issuer change nothing
     (
         LEAF,
         &[("crl(R,9,[05 1]){signed X}", &[]), FIFTH],
@@ -119,6 +124,15 @@ fn first_wrong(alloc: Global, rows: &[Row]) -> Option<usize> {
         }
     }
     None
+}
+
+/// A list, and octets that are neither a list nor a response.
+const NONE: &[StatementText] = &[FIFTH, ("", &[])];
+
+#[test]
+fn octets_that_are_no_statement_are_refused(rt: HostRuntime) {
+    let alloc = rt.alloc();
+    assert!(rt; statements_of(alloc, NONE).is_some_and(|texts| read_all(alloc, &texts).is_none()));
 }
 
 #[test]

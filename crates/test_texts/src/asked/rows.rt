@@ -1,6 +1,7 @@
 //! Paths, statements, what is asked about them, and the verdicts by the answers.
 
-use super::asking::{Pair, Statement, are_asked};
+use super::asking::{Pair, are_asked};
+use crate::texts::StatementText;
 use path::Reason;
 use relying_questions::Source::{Certificate, Statement as Told};
 use relying_texts::Verdict;
@@ -10,7 +11,7 @@ use std::alloc::Global;
 /// A path, the first being the anchor, statements, the questions, and the verdict.
 type Row = (
     &'static [&'static str],
-    &'static [Statement],
+    &'static [StatementText],
     &'static [Pair],
     Verdict,
 );
@@ -19,7 +20,7 @@ const LEAF: &[&str] = &["ca(R,R)", "ee(T,R)"];
 
 const BELOW: &[&str] = &["ca(R,R)", "ca(A,R)", "ee(T,A)"];
 
-const FIFTH: Statement = ("crl(R,5)", &[]);
+const FIFTH: StatementText = ("crl(R,5)", &[]);
 
 /// The leaf under the anchor.
 const FIRST: Pair = (Certificate(0), Certificate(1));
@@ -75,13 +76,6 @@ const ROWS: &[Row] = &[
             (Certificate(2), Told(0)),
         ],
         Unknown(1),
-    ),
-    // octets that are no statement
-    (
-        LEAF,
-        &[("", &[]), FIFTH],
-        &[FIRST, (Certificate(0), Told(1))],
-        Valid,
     ),
     // responses under the issuer that the responder id names, by its name or its key
     (LEAF, &[("ocsp(R,05 good)", &[])], &[FIRST, UNDER], Valid),
@@ -166,7 +160,7 @@ fn questions_are_those_of_the_rows(rt: HostRuntime) {
 /// Any answer but a wrong one.
 #[test]
 fn questions_want_memory_or_answer(rt: HostRuntime) {
-    let delegated: Statement = (
+    let delegated: StatementText = (
         "ocsp(R,05 good){by D}{signed D}",
         &["ee(D,R){purpose 1.3.6.1.5.5.7.3.9}{nocheck}"],
     );
