@@ -5,7 +5,7 @@ use thiserror::Error;
 /// The rule that a text breaks.
 #[derive(Clone, Copy, Debug, PartialEq, Eq, Error)]
 pub enum IdentityRule {
-    /// An octet that is no letter, digit, hyphen, underscore or dot.
+    /// A character other than a letter, a digit, `-`, `_` and `.`.
     #[error("an octet that no host has")]
     HostOctet,
     /// A label that is empty, or longer than 63 octets.
@@ -17,13 +17,13 @@ pub enum IdentityRule {
     /// A last label of digits alone, as an IPv4 address has.
     #[error("a host whose last label is a number")]
     Number,
-    /// Neither 4 nor 16 octets.
+    /// An address of another length than 4 or 16 octets.
     #[error("not an IP address")]
     Address,
-    /// A local part that is empty, or has an octet that none has.
+    /// A local part that is empty, or has a character that no local part may have.
     #[error("not a local part")]
     LocalPart,
-    /// A local part alone.
+    /// A local part with no `@` and no host behind it.
     #[error("a mailbox without a host")]
     NoHost,
 }

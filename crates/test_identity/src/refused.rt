@@ -1,10 +1,10 @@
-//! Texts that are hosts or mailboxes, and where others stop being one.
+//! Which texts are read as hosts and mailboxes, and at which octet the others are refused.
 
 use names_identity::{Identity, IdentityFault, IdentityRule};
 use std::test::Fail;
 
-/// The rule, the offset, and a text that is no host. Underscores are a choice of this profile, the other octets those of RFC 1034, 3.5;
-/// an address is no DNS name (RFC 9525, 6.3).
+/// Texts that are refused as hosts, each behind the rule that it breaks and the offset. Underscores are a choice of this profile, the other
+/// octets those of RFC 1034, 3.5; an address is no DNS name (RFC 9525, 6.3).
 const NO_HOSTS: &str = "
 HostOctet 0 *.example.com
 HostOctet 4 foo.*.com
@@ -46,7 +46,7 @@ aaaaaaaaaaaaaaaaaaaaaaaaaaaaaaaaaaaaaaaaaaaaaaaaaaaaaaaaaaaaaaa.aaaaaaaaaaaaaaaa
 aaaaaaaaaaaaaaaaaaaaaaaaaaaaaaaaaaaaaaaaaaaaaaaaaaaaaaaaaaaaaaa.example
 ";
 
-/// The rule, the offset, and a text that is no mailbox.
+/// Texts that are refused as mailboxes, each behind the rule that it breaks and the offset.
 const NO_MAILBOXES: &str = "
 NoHost 0 
 NoHost 4 user
