@@ -9,9 +9,24 @@
 
 #include "x509check.h"
 
-struct row {
-    uint8_t octets[1 << 16];
+#define MOST_OCTETS (1 << 18) /* of a case */
+#define MOST_VALUES 256       /* of a kind */
+
+static void stop(const char *what)
+{
+    fprintf(stderr, "compare: %s\n", what);
+    exit(2);
+}
+
+/* The octets of a case, one value behind the other. */
+struct octets {
+    uint8_t octets[MOST_OCTETS];
     size_t length;
+};
+
+struct values {
+    struct x509check_text items[MOST_VALUES];
+    size_t count;
 };
 
 static uint64_t number(FILE *file, int octets)
@@ -23,33 +38,38 @@ static uint64_t number(FILE *file, int octets)
     return value;
 }
 
-/* The values of a row, one behind the other. */
-static void read_row(FILE *file, struct row *row)
+/* The values that come next, each behind its length. */
+static void read_values(FILE *file, struct octets *octets, struct values *values)
 {
-    row->length = 0;
-    for (uint64_t left = number(file, 4); left > 0; left--) {
+    values->count = number(file, 4);
+    if (values->count > MOST_VALUES)
+        stop("a case that cannot be read");
+    for (size_t i = 0; i < values->count; i++) {
         size_t length = number(file, 4);
+        uint8_t *at = octets->octets + octets->length;
 
-        if (length > sizeof row->octets - row->length || fread(row->octets + row->length, 1, length, file) != length) {
-            fputs("compare: a case that cannot be read\n", stderr);
-            exit(2);
-        }
-        row->length += length;
+        if (length > MOST_OCTETS - octets->length || fread(at, 1, length, file) != length)
+            stop("a case that cannot be read");
+        values->items[i] = (struct x509check_text){at, length};
+        octets->length += length;
     }
 }
 
-static void print_refusal(uint32_t text, uint32_t fault, uint32_t der_fault, size_t offset)
+/* The line of a fault, as the module for Python and the crate for Rust write it. */
+static void print_refusal(const struct x509check_refusal *refusal)
 {
-    static const char *const texts[] = {"memory", "certificates", "statements", "fingerprints"};
+    static const char *const texts[] = {NULL, "certificates", "statements"};
+    char name[X509CHECK_NAME_ROOM], rule[X509CHECK_NAME_ROOM];
 
-    if (text >= sizeof texts / sizeof texts[0]) {
-        fputs("compare: a refusal of no text\n", stderr);
-        exit(2);
+    if (refusal->text != X509CHECK_CERTIFICATES && refusal->text != X509CHECK_STATEMENTS)
+        stop("a refusal of no text");
+    x509check_fault_name(refusal->fault, name, sizeof name);
+    printf("refused %s[%zu]: %u %s", texts[refusal->text], refusal->index, (unsigned)refusal->fault, name);
+    if (refusal->der_fault != 0) {
+        x509check_fault_name(refusal->der_fault, rule, sizeof rule);
+        printf(" (%u %s)", (unsigned)refusal->der_fault, rule);
     }
-    printf("refused %s %u", texts[text], (unsigned)fault);
-    if (der_fault != 0)
-        printf(" (DER %u)", (unsigned)der_fault);
-    printf(" at %zu\n", offset);
+    printf(" at %zu\n", refusal->offset);
 }
 
 static void print_verdict(const struct x509check_verdict *answer)
@@ -68,41 +88,41 @@ static void print_verdict(const struct x509check_verdict *answer)
         printf("unknown %zu\n", answer->certificate);
         break;
     case X509CHECK_REFUSED:
-        print_refusal(answer->text, answer->fault, answer->der_fault, answer->offset);
+        print_refusal(&answer->refusal);
         break;
     default:
-        fputs("compare: a number that is no verdict\n", stderr);
-        exit(2);
+        stop("a number that is no verdict");
     }
 }
 
-/* Whether the part of the question lies in its text; the texts are numbered from 1 on. */
-static int is_inside(const struct x509check_place *place, const struct row *const texts[])
+/* The octets at a place, which lie in one of the values. */
+static const uint8_t *part_at(const struct x509check_place *place, const struct values *certificates, const struct values *statements)
 {
-    size_t length = place->text == 1 || place->text == 2 ? texts[place->text - 1]->length : 0;
+    const struct values *values = place->text == X509CHECK_CERTIFICATES ? certificates : statements;
+    struct x509check_text value = {NULL, 0};
 
-    return place->offset <= length && place->length <= length - place->offset;
+    if (place->text != X509CHECK_CERTIFICATES && place->text != X509CHECK_STATEMENTS)
+        stop("a part of no text");
+    if (place->index < values->count)
+        value = values->items[place->index];
+    if (place->offset > value.length || place->length > value.length - place->offset)
+        stop("a part that lies outside of its text");
+    return value.octets + place->offset;
 }
 
-static void print_question(const struct x509check_signature_question *question, const struct row *const texts[])
+static void print_question(const struct x509check_signature_question *question, const struct values *certificates,
+                           const struct values *statements)
 {
     const struct x509check_place *places[] = {&question->algorithm, &question->key_info, &question->message, &question->signature};
     const uint8_t *parts[4];
     uint8_t fingerprint[X509CHECK_FINGERPRINT_LENGTH];
 
-    for (int i = 0; i < 4; i++) {
-        if (!is_inside(places[i], texts)) {
-            fputs("compare: a part that lies outside of its text\n", stderr);
-            exit(2);
-        }
-        parts[i] = texts[places[i]->text - 1]->octets + places[i]->offset;
-    }
+    for (int i = 0; i < 4; i++)
+        parts[i] = part_at(places[i], certificates, statements);
     x509check_fingerprint(parts[0], places[0]->length, parts[1], places[1]->length, parts[2], places[2]->length, parts[3], places[3]->length,
                           fingerprint);
-    if (memcmp(fingerprint, question->fingerprint, sizeof fingerprint) != 0) {
-        fputs("compare: a fingerprint of another question\n", stderr);
-        exit(2);
-    }
+    if (memcmp(fingerprint, question->fingerprint, sizeof fingerprint) != 0)
+        stop("a fingerprint of another question");
     putchar('\t');
     for (size_t i = 0; i < sizeof fingerprint; i++)
         printf("%02x", fingerprint[i]);
@@ -111,36 +131,50 @@ static void print_question(const struct x509check_signature_question *question, 
     putchar('\n');
 }
 
+static void answer_case(FILE *file)
+{
+    static struct octets octets;
+    static struct values certificates, statements, prints, purpose;
+    static uint8_t fingerprints[MOST_VALUES][X509CHECK_FINGERPRINT_LENGTH];
+    static struct x509check_signature_question questions[4096];
+    struct x509check_query query = {0};
+    struct x509check_verdict verdict;
+    struct x509check_asked asked;
+
+    octets.length = 0;
+    read_values(file, &octets, &certificates);
+    read_values(file, &octets, &statements);
+    read_values(file, &octets, &prints);
+    query.moment = (int64_t)number(file, 8);
+    read_values(file, &octets, &purpose);
+    if (certificates.count == 0 || purpose.count != 1)
+        stop("a case that cannot be read");
+    query.anchor = certificates.items[0];
+    query.path = certificates.items + 1;
+    query.path_count = certificates.count - 1;
+    query.purpose = purpose.items[0];
+    for (size_t i = 0; i < prints.count; i++) {
+        if (prints.items[i].length != sizeof fingerprints[i])
+            stop("a case that cannot be read");
+        memcpy(fingerprints[i], prints.items[i].octets, sizeof fingerprints[i]);
+    }
+    verdict = x509check_validate(&query, statements.items, statements.count, fingerprints[0], prints.count);
+    print_verdict(&verdict);
+    asked = x509check_questions(&query, statements.items, statements.count, questions, sizeof questions / sizeof questions[0]);
+    for (size_t i = 0; i < asked.count; i++)
+        print_question(&questions[i], &certificates, &statements);
+}
+
 int main(int argc, char **argv)
 {
-    static struct row certificates, statements, fingerprints, purpose;
-    static struct x509check_signature_question questions[4096];
-    const struct row *const texts[] = {&certificates, &statements};
     FILE *file = argc == 2 ? fopen(argv[1], "rb") : NULL;
     int next;
 
-    if (file == NULL) {
-        fputs("usage: compare FILE\n", stderr);
-        return 2;
-    }
+    if (file == NULL)
+        stop("usage: compare FILE");
     while ((next = getc(file)) != EOF) {
-        struct x509check_verdict verdict;
-        struct x509check_asked asked;
-        int64_t moment;
-
         ungetc(next, file);
-        read_row(file, &certificates);
-        read_row(file, &statements);
-        read_row(file, &fingerprints);
-        moment = (int64_t)number(file, 8);
-        read_row(file, &purpose);
-        verdict = x509check_validate(certificates.octets, certificates.length, statements.octets, statements.length, fingerprints.octets,
-                                     fingerprints.length, moment, purpose.octets, purpose.length);
-        print_verdict(&verdict);
-        asked = x509check_questions(certificates.octets, certificates.length, statements.octets, statements.length, questions,
-                                    sizeof questions / sizeof questions[0]);
-        for (size_t i = 0; i < asked.count; i++)
-            print_question(&questions[i], texts);
+        answer_case(file);
     }
     fclose(file);
     return 0;

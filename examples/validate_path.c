@@ -2,67 +2,81 @@
  *
  *     make
  *     cc -O2 -Icrates/capi examples/validate_path.c bindings/out/libx509check.a -o validate_path
- *     ./validate_path CERTIFICATES STATEMENTS
- *     ./validate_path CERTIFICATES STATEMENTS FINGERPRINTS SECONDS
+ *     ./validate_path [-s STATEMENT].. ANCHOR [CERTIFICATE..]
+ *     ./validate_path [-s STATEMENT].. -f FINGERPRINTS -t SECONDS ANCHOR [CERTIFICATE..]
  *
- * CERTIFICATES is a file of DER, the anchor first and then the path; STATEMENTS has lists and responses in DER, FINGERPRINTS those of
- * good signatures, 32 octets each. SECONDS is the moment, counted from 1970. A question is a line: its fingerprint, and of algorithm, key,
- * message and signature the text (1 or 2), the offset and the length.
+ * ANCHOR, each CERTIFICATE below it, in order, and each STATEMENT, a list or a response, are files of DER. FINGERPRINTS has those of good
+ * signatures, 32 octets each. SECONDS is the moment, counted from 1970. A question is a line: its fingerprint, and of algorithm, key,
+ * message and signature the text (1 the certificates, 2 the statements), which of them from 0 on, the offset and the length.
  *
- * The exit status is 0 for valid and for questions, 1 for invalid, 2 for revoked, 3 for unknown, 4 for a text that is refused, and 5 if
- * there is no answer.
+ * The exit status is 0 for valid and for questions, 1 for invalid, 2 for revoked, 3 for unknown, 4 for a certificate or a statement that is
+ * refused, and 5 if there is no answer.
  */
+#define _POSIX_C_SOURCE 200809L /* getopt */
 #include <errno.h>
 #include <inttypes.h>
 #include <stdio.h>
 #include <stdlib.h>
+#include <unistd.h>
 
 #include "x509check.h"
 
 enum status { VALID = 0, INVALID = 1, REVOKED = 2, UNKNOWN = 3, REFUSED = 4, NO_ANSWER = 5 };
 
-struct text {
-    uint8_t *octets;
-    size_t length;
+/* What the command line asks for. */
+struct asked {
+    struct x509check_query query;
+    struct x509check_text *statements;
+    size_t statement_count;
+    const char *fingerprints; /* a file, or null if no verdict is asked for */
 };
 
-/* The octets of a file, to be freed; on a failure the program ends with the line on standard error. */
-static struct text text_of(const char *path)
+/* What a call answered; on a failure the program ends with the line on standard error. */
+static void *must(void *answer, const char *what)
 {
-    struct text text = {NULL, 0};
-    FILE *file = fopen(path, "rb");
-    long length = -1;
-
-    if (file != NULL && fseek(file, 0, SEEK_END) == 0)
-        length = ftell(file);
-    if (length >= 0)
-        text.octets = malloc(length > 0 ? (size_t)length : 1);
-    if (text.octets != NULL) {
-        rewind(file);
-        text.length = fread(text.octets, 1, (size_t)length, file);
-    }
-    if (text.octets == NULL || text.length != (size_t)length) {
-        perror(path);
+    if (answer == NULL) {
+        perror(what);
         exit(NO_ANSWER);
     }
-    fclose(file);
-    return text;
+    return answer;
 }
 
-static enum status print_refusal(uint32_t text, uint32_t fault, uint32_t der_fault, size_t offset)
+/* The octets of a file. */
+static struct x509check_text text_of(const char *path)
 {
-    static const char *const texts[] = {"memory", "certificates", "statements", "fingerprints"};
+    FILE *file = must(fopen(path, "rb"), path);
+    long length = fseek(file, 0, SEEK_END) == 0 ? ftell(file) : -1;
+    uint8_t *octets = must(length < 0 ? NULL : malloc((size_t)length + 1), path);
 
-    printf("refused %s %u", text < sizeof texts / sizeof texts[0] ? texts[text] : "another text", (unsigned)fault);
-    if (der_fault != 0)
-        printf(" (DER %u)", (unsigned)der_fault);
-    printf(" at %zu\n", offset);
+    rewind(file);
+    if (fread(octets, 1, (size_t)length, file) != (size_t)length)
+        must(NULL, path);
+    fclose(file);
+    return (struct x509check_text){octets, (size_t)length};
+}
+
+static enum status print_refusal(const struct x509check_refusal *refusal)
+{
+    char name[X509CHECK_NAME_ROOM], rule[X509CHECK_NAME_ROOM];
+
+    if (refusal->fault == X509CHECK_FAULT_MEMORY) {
+        puts("refused no memory");
+        return REFUSED;
+    }
+    x509check_fault_name(refusal->fault, name, sizeof name);
+    printf("refused %s[%zu]: %u %s", refusal->text == X509CHECK_CERTIFICATES ? "certificates" : "statements", refusal->index,
+           (unsigned)refusal->fault, name);
+    if (refusal->der_fault != 0) {
+        x509check_fault_name(refusal->der_fault, rule, sizeof rule);
+        printf(" (%u %s)", (unsigned)refusal->der_fault, rule);
+    }
+    printf(" at %zu\n", refusal->offset);
     return REFUSED;
 }
 
 static void print_place(const struct x509check_place *place)
 {
-    printf("  %u %zu %zu", (unsigned)place->text, place->offset, place->length);
+    printf("  %u %zu %zu %zu", (unsigned)place->text, place->index, place->offset, place->length);
 }
 
 static void print_question(const struct x509check_signature_question *question)
@@ -77,21 +91,16 @@ static void print_question(const struct x509check_signature_question *question)
 }
 
 /* Asks how many questions there are, makes room for them, and prints them. */
-static enum status print_questions(const struct text *certificates, const struct text *statements)
+static enum status print_questions(const struct asked *words)
 {
-    struct x509check_asked asked =
-        x509check_questions(certificates->octets, certificates->length, statements->octets, statements->length, NULL, 0);
-    struct x509check_signature_question *questions = calloc(asked.count + 1, sizeof *questions);
+    struct x509check_asked asked = x509check_questions(&words->query, words->statements, words->statement_count, NULL, 0);
+    struct x509check_signature_question *questions = must(calloc(asked.count + 1, sizeof *questions), "questions");
 
-    if (questions == NULL) {
-        perror("questions");
-        return NO_ANSWER;
-    }
-    asked = x509check_questions(certificates->octets, certificates->length, statements->octets, statements->length, questions, asked.count);
+    asked = x509check_questions(&words->query, words->statements, words->statement_count, questions, asked.count);
     for (size_t i = 0; i < asked.count; i++)
         print_question(&questions[i]);
     free(questions);
-    return asked.fault == 0 ? VALID : print_refusal(asked.text, asked.fault, asked.der_fault, asked.offset);
+    return asked.refusal.fault == 0 ? VALID : print_refusal(&asked.refusal);
 }
 
 /* The numbers of the library are not exit statuses: it has 1 for valid, so that a struct of zeros is no good answer. */
@@ -111,49 +120,78 @@ static enum status print_verdict(const struct x509check_verdict *answer)
         printf("unknown %zu\n", answer->certificate);
         return UNKNOWN;
     case X509CHECK_REFUSED:
-        return print_refusal(answer->text, answer->fault, answer->der_fault, answer->offset);
+        return print_refusal(&answer->refusal);
     default:
         fprintf(stderr, "verdict %u: not a number of this program's x509check.h\n", (unsigned)answer->verdict);
         return NO_ANSWER;
     }
 }
 
-/* The verdict on the path by the other words of the command line. */
-static enum status validate(const struct text *certificates, const struct text *statements, char **words)
+/* The verdict on the path by the statements and the signatures that are good. */
+static enum status validate(const struct asked *words)
 {
-    struct text fingerprints;
+    struct x509check_text good = text_of(words->fingerprints);
     struct x509check_verdict answer;
-    char *end;
-    int64_t moment;
-    enum status status;
 
-    errno = 0;
-    moment = strtoimax(words[1], &end, 10);
-    if (errno != 0 || end == words[1] || *end != '\0') {
-        fprintf(stderr, "%s: no moment\n", words[1]);
+    if (good.length % X509CHECK_FINGERPRINT_LENGTH != 0) {
+        fprintf(stderr, "%s: the last fingerprint is cut short\n", words->fingerprints);
         return NO_ANSWER;
     }
-    fingerprints = text_of(words[0]);
-    answer = x509check_validate(certificates->octets, certificates->length, statements->octets, statements->length,
-                                fingerprints.octets, fingerprints.length, moment, NULL, 0);
-    status = print_verdict(&answer);
-    free(fingerprints.octets);
-    return status;
+    answer = x509check_validate(&words->query, words->statements, words->statement_count, good.octets,
+                               good.length / X509CHECK_FINGERPRINT_LENGTH);
+    return print_verdict(&answer);
+}
+
+static void usage(void)
+{
+    fputs("usage: validate_path [-s STATEMENT].. [-f FINGERPRINTS -t SECONDS] ANCHOR [CERTIFICATE..]\n", stderr);
+    exit(NO_ANSWER);
+}
+
+static int64_t moment_of(const char *word)
+{
+    char *end;
+    int64_t moment;
+
+    errno = 0;
+    moment = strtoimax(word, &end, 10);
+    if (errno != 0 || end == word || *end != '\0') {
+        fprintf(stderr, "%s: no moment\n", word);
+        exit(NO_ANSWER);
+    }
+    return moment;
+}
+
+/* What the words ask for. The files are kept until the program ends. */
+static struct asked words_of(int argc, char **argv)
+{
+    struct asked words = {.statements = must(calloc((size_t)argc, sizeof *words.statements), "words")};
+    struct x509check_text *path = must(calloc((size_t)argc, sizeof *path), "words");
+    const char *seconds = NULL;
+
+    for (int option; (option = getopt(argc, argv, "s:f:t:")) != -1;) {
+        if (option == 's')
+            words.statements[words.statement_count++] = text_of(optarg);
+        else if (option == 'f')
+            words.fingerprints = optarg;
+        else if (option == 't')
+            seconds = optarg;
+        else
+            usage();
+    }
+    if (optind == argc || (words.fingerprints == NULL) != (seconds == NULL))
+        usage();
+    words.query.anchor = text_of(argv[optind]);
+    while (++optind < argc)
+        path[words.query.path_count++] = text_of(argv[optind]);
+    words.query.path = path;
+    words.query.moment = seconds == NULL ? 0 : moment_of(seconds);
+    return words;
 }
 
 int main(int argc, char **argv)
 {
-    struct text certificates, statements;
-    enum status status;
+    struct asked words = words_of(argc, argv);
 
-    if (argc != 3 && argc != 5) {
-        fputs("usage: validate_path CERTIFICATES STATEMENTS [FINGERPRINTS SECONDS]\n", stderr);
-        return NO_ANSWER;
-    }
-    certificates = text_of(argv[1]);
-    statements = text_of(argv[2]);
-    status = argc == 3 ? print_questions(&certificates, &statements) : validate(&certificates, &statements, argv + 3);
-    free(certificates.octets);
-    free(statements.octets);
-    return status;
+    return words.fingerprints == NULL ? print_questions(&words) : validate(&words);
 }

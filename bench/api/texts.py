@@ -1,9 +1,9 @@
 #!/usr/bin/env python3
 """Writes what bench/api/run measures into a folder: texts.py FOLDER ENTRIES
 
-`certificates`: an anchor, an authority below it and a server's certificate, one behind the other. `statements`: the lists of both
-authorities, of which the second has so many entries and does not name the server's, and a response for the server's. `fingerprints`: those of
-the five signatures. Keys and signatures are random octets: nothing here judges them.
+The certificates `anchor`, `authority` below it and `server`; the lists `anchor.crl` and `authority.crl`, of which the second has so many
+entries and does not name the server's certificate; and for that the response `server.ocsp`. `fingerprints`: those of the five signatures. Keys
+and signatures are random octets: nothing here judges them.
 """
 
 import hashlib
@@ -73,9 +73,10 @@ def main(folder, entries):
     lists = revocation_list(root, root_key, 0), revocation_list(authority, authority_key, entries)
     signed, answer = response(authority, authority_key, 3)
     os.makedirs(folder, exist_ok=True)
-    for title, octets in (("certificates", anchor.octets + middle.octets + leaf.octets),
-                          ("statements", lists[0].octets + lists[1].octets + answer),
-                          ("fingerprints", b"".join(it.fingerprint() for it in (middle, leaf, *lists, signed)))):
+    found = {"anchor": anchor.octets, "authority": middle.octets, "server": leaf.octets, "anchor.crl": lists[0].octets,
+             "authority.crl": lists[1].octets, "server.ocsp": answer}
+    found["fingerprints"] = b"".join(it.fingerprint() for it in (middle, leaf, *lists, signed))
+    for title, octets in found.items():
         with open(os.path.join(folder, title), "wb") as out:
             out.write(octets)
 

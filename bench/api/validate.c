@@ -1,6 +1,6 @@
 /* Times a verdict on a path of three certificates from octets: validate FOLDER
  *
- * Ours is x509check_validate over the three files of the folder. OpenSSL's reads the certificates and both lists, and calls
+ * Ours is x509check_validate over the files of the folder. OpenSSL's reads the certificates and both lists, and calls
  * X509_verify_cert with a check of the lists; the checks of signatures are taken out of it, and it is spared the response. Prints the
  * least time of a call of each, in microseconds. */
 #include "../../crates/capi/x509check.h"
@@ -8,15 +8,9 @@
 #include <openssl/x509_vfy.h>
 #include <stdio.h>
 #include <stdlib.h>
-#include <string.h>
 #include <time.h>
 
 #define MOMENT 1767225600 /* 2026-01-01T00:00:00Z */
-
-struct text {
-    uint8_t *octets;
-    size_t length;
-};
 
 static double now(void) {
     struct timespec t;
@@ -24,24 +18,23 @@ static double now(void) {
     return t.tv_sec * 1e6 + t.tv_nsec / 1e3;
 }
 
-static struct text read_file(const char *folder, const char *title) {
+static struct x509check_text read_file(const char *folder, const char *title) {
     char path[4096];
-    struct text text = {0};
     snprintf(path, sizeof path, "%s/%s", folder, title);
     FILE *in = fopen(path, "rb");
     if (!in || fseek(in, 0, SEEK_END)) {
         perror(path);
         exit(1);
     }
-    text.length = ftell(in);
+    size_t length = ftell(in);
     rewind(in);
-    text.octets = malloc(text.length + 1);
-    if (!text.octets || fread(text.octets, 1, text.length, in) != text.length) {
+    uint8_t *octets = malloc(length + 1);
+    if (!octets || fread(octets, 1, length, in) != length) {
         perror(path);
         exit(1);
     }
     fclose(in);
-    return text;
+    return (struct x509check_text){octets, length};
 }
 
 static int accept_chain(X509_STORE_CTX *ctx) {
@@ -55,17 +48,19 @@ static int accept_list(X509_STORE_CTX *ctx, X509_CRL *list) {
     return 1;
 }
 
-static struct text certificates, statements, fingerprints;
+static const char *const path_files[] = {"anchor", "authority", "server"};
+static const char *const statement_files[] = {"anchor.crl", "authority.crl", "server.ocsp"};
+static struct x509check_text certificates[3], statements[3], fingerprints;
 
 static double ours(void) {
     double start = now();
-    struct x509check_verdict answer =
-        x509check_validate(certificates.octets, certificates.length, statements.octets, statements.length, fingerprints.octets,
-                           fingerprints.length, MOMENT, NULL, 0);
+    struct x509check_query query = {.anchor = certificates[0], .path = certificates + 1, .path_count = 2, .moment = MOMENT};
+    struct x509check_verdict answer = x509check_validate(&query, statements, 3, fingerprints.octets,
+                                                         fingerprints.length / X509CHECK_FINGERPRINT_LENGTH);
     double taken = now() - start;
     if (answer.verdict != X509CHECK_VALID) {
-        fprintf(stderr, "ours: verdict %u, certificate %zu, reason %u, text %u, fault %u at %zu\n", answer.verdict, answer.certificate,
-                answer.reason, answer.text, answer.fault, answer.offset);
+        fprintf(stderr, "ours: verdict %u, certificate %zu, reason %u, text %u, index %zu, fault %u at %zu\n", answer.verdict,
+                answer.certificate, answer.reason, answer.refusal.text, answer.refusal.index, answer.refusal.fault, answer.refusal.offset);
         exit(1);
     }
     return taken;
@@ -73,14 +68,16 @@ static double ours(void) {
 
 static double theirs(void) {
     double start = now();
-    const unsigned char *at = certificates.octets;
     X509 *all[3];
     X509_CRL *lists[2];
-    for (int i = 0; i < 3; i++)
-        all[i] = d2i_X509(NULL, &at, certificates.octets + certificates.length - at);
-    at = statements.octets;
-    for (int i = 0; i < 2; i++)
-        lists[i] = d2i_X509_CRL(NULL, &at, statements.octets + statements.length - at);
+    for (int i = 0; i < 3; i++) {
+        const unsigned char *at = certificates[i].octets;
+        all[i] = d2i_X509(NULL, &at, certificates[i].length);
+    }
+    for (int i = 0; i < 2; i++) {
+        const unsigned char *at = statements[i].octets;
+        lists[i] = d2i_X509_CRL(NULL, &at, statements[i].length);
+    }
     if (!all[0] || !all[1] || !all[2] || !lists[0] || !lists[1]) {
         fprintf(stderr, "OpenSSL cannot read\n");
         exit(1);
@@ -126,8 +123,10 @@ int main(int argc, char **argv) {
         fprintf(stderr, "validate FOLDER\n");
         return 2;
     }
-    certificates = read_file(argv[1], "certificates");
-    statements = read_file(argv[1], "statements");
+    for (int i = 0; i < 3; i++) {
+        certificates[i] = read_file(argv[1], path_files[i]);
+        statements[i] = read_file(argv[1], statement_files[i]);
+    }
     fingerprints = read_file(argv[1], "fingerprints");
     double own = least_of(ours), others = least_of(theirs);
     printf("%.1f %.1f\n", own, others);

@@ -5,8 +5,8 @@
  * FILE has the texts that damaged ones are made of, each behind its length in 4 octets, the lowest first. Text N of a seed is the same in
  * each run, whatever COUNT and FIRST, the number of the first (0): so one text alone is tried again by `fuzz FILE SEED 1 N`. Of each text it
  * is asked whether it is DER and what certificate it is, twice: with a page behind it, and then before it, that may not be touched; and
- * what the verdict is on it, and what is asked about it, as certificates and as statements. The status is 1 where a promise is broken; its
- * line names the text, and its octets follow.
+ * what the verdict is on it, and what is asked about it, as a certificate and as a statement. The status is 1 where a promise is broken;
+ * its line names the text, and its octets follow.
  */
 #include <inttypes.h>
 #include <stdio.h>
@@ -24,7 +24,6 @@
 
 #define FAULTS 34
 #define MOST_QUESTIONS 64
-#define PATH 3
 
 /* A run: its words, where texts are put, and what was seen. */
 struct run {
@@ -32,7 +31,7 @@ struct run {
     uint64_t count;
     uint64_t first;
     struct texts texts;
-    struct text path; /* the first texts, one behind the other */
+    struct x509check_text known[4]; /* the first texts: an anchor, the two certificates of a path, and a list */
     struct guarded text;
     struct guarded fingerprint; /* ends with the octets of a fingerprint */
     struct guarded questions;   /* ends with an array of them */
@@ -94,17 +93,13 @@ static struct texts read_texts(const char *path)
     return texts;
 }
 
-/* The path with which the file begins, so that statements are asked about. */
-static void make_path(void)
+/* The texts with which the file begins. */
+static void make_known(void)
 {
-    for (size_t i = 0; i < PATH && i < run.texts.count; i++) {
-        const struct text *text = &run.texts.items[i];
-
-        if (text->length > ROOM - run.path.length)
-            stop("the path has no room");
-        memcpy(run.path.octets + run.path.length, text->octets, text->length);
-        run.path.length += text->length;
-    }
+    if (run.texts.count < 4)
+        stop("the file of texts has no path");
+    for (size_t i = 0; i < 4; i++)
+        run.known[i] = (struct x509check_text){run.texts.items[i].octets, run.texts.items[i].length};
 }
 
 /* ---- What is asked of a text. Each answers the promise that is broken, or a null pointer. ---- */
@@ -157,8 +152,20 @@ static const char *broken_by_fingerprint(const uint8_t *at, const struct x509che
     return broken_of_fingerprint(at, fields, fingerprint);
 }
 
-/* Two rows: what is asked about them, with room for all questions or fewer, and with some request for memory refused. */
-static const char *broken_by_asking(struct numbers *numbers, const struct row rows[2], uint32_t text, const struct x509check_verdict *verdict)
+static struct x509check_verdict validate(const struct asking *asking)
+{
+    watch(0);
+    return x509check_validate(&asking->query, asking->statements, asking->statement_count, NULL, 0);
+}
+
+static struct x509check_asked ask(const struct asking *asking, struct x509check_signature_question *questions, size_t room)
+{
+    memset(run.questions.writable, 0xA5, run.questions.size);
+    return x509check_questions(&asking->query, asking->statements, asking->statement_count, questions, room);
+}
+
+/* What is asked, with room for all questions or fewer, and with some request for memory refused; the verdict is known. */
+static const char *broken_by_asking(struct numbers *numbers, const struct asking *asking, const struct x509check_verdict *verdict)
 {
     size_t room = number_below(numbers, MOST_QUESTIONS + 1);
     struct x509check_signature_question *questions =
@@ -167,63 +174,73 @@ static const char *broken_by_asking(struct numbers *numbers, const struct row ro
     const char *broken;
     size_t requests;
 
-    memset(run.questions.writable, 0xA5, run.questions.size);
     watch(0);
-    asked = x509check_questions(rows[0].octets, rows[0].length, rows[1].octets, rows[1].length, questions, room);
+    asked = ask(asking, questions, room);
     requests = memory.asked;
     if (memory.held != 0)
         return "memory is given back before a call returns";
-    if ((broken = broken_of_questions(rows, &asked, questions, room)) != NULL)
+    if ((broken = broken_of_questions(asking, &asked, questions, room)) != NULL)
         return broken;
-    if ((asked.text == text) != (verdict->verdict == X509CHECK_REFUSED) || asked.fault != verdict->fault
-        || asked.der_fault != verdict->der_fault || asked.offset != verdict->offset)
-        return "the same texts are refused for the same fault, whether a verdict or questions are asked for";
+    if (asked.refusal.text != verdict->refusal.text || asked.refusal.index != verdict->refusal.index
+        || asked.refusal.fault != verdict->refusal.fault || asked.refusal.der_fault != verdict->refusal.der_fault
+        || asked.refusal.offset != verdict->refusal.offset)
+        return "the same text is refused for the same fault, whether a verdict or questions are asked for";
     run.asked += asked.count;
     run.unasked += asked.count == 0;
     if (requests == 0)
         return NULL;
-    memset(run.questions.writable, 0xA5, run.questions.size);
     watch(1 + number_below(numbers, requests));
-    again = x509check_questions(rows[0].octets, rows[0].length, rows[1].octets, rows[1].length, questions, room);
+    again = ask(asking, questions, room);
     if (memory.held != 0)
         return "memory is given back before a call returns that was refused some";
     run.refused++;
-    run.told_so += again.fault == X509CHECK_FAULT_MEMORY;
+    run.told_so += again.refusal.fault == X509CHECK_FAULT_MEMORY;
     watch(0);
-    if (again.fault == X509CHECK_FAULT_MEMORY)
-        return again.text == 0 && again.offset == 0 && again.count == 0 && run.questions.writable[run.questions.size - 1] == 0xA5
+    if (again.refusal.fault == X509CHECK_FAULT_MEMORY)
+        return again.refusal.text == 0 && again.refusal.index == 0 && again.refusal.offset == 0 && again.count == 0
+                && run.questions.writable[run.questions.size - 1] == 0xA5
             ? NULL
             : "nothing is told or written where memory was refused";
-    return again.count == asked.count ? broken_of_questions(rows, &again, questions, room)
+    return again.count == asked.count ? broken_of_questions(asking, &again, questions, room)
                                       : "a call that is refused memory says so, or answers as with ample memory";
 }
 
-/* The text as certificates, and as statements beside an anchor and a path; memory is there. */
-static const char *broken_by_validating(struct numbers *numbers, const uint8_t *at, size_t length, const struct x509check_certificate *read)
+/* The text as the anchor, or as the last certificate of a path. */
+static const char *broken_in_path(struct numbers *numbers, struct x509check_text text, const struct x509check_certificate *read)
 {
-    const struct text *anchor = &run.texts.items[0];
-    const struct row alone[2] = {{at, length}, {NULL, 0}}, beside[2] = {{run.path.octets, run.path.length}, {at, length}};
+    const struct x509check_text path[] = {run.known[1], text};
+    struct asking asking = {.query = {.anchor = text}};
     struct x509check_verdict answer;
     const char *broken;
 
-    watch(0);
-    answer = x509check_validate(at, length, NULL, 0, NULL, 0, 0, NULL, 0);
+    if (number_below(numbers, 2) == 0)
+        asking.query = (struct x509check_query){.anchor = run.known[0], .path = path, .path_count = 2};
+    answer = validate(&asking);
     if (memory.held != 0)
         return "memory is given back before a call returns";
     if (answer.verdict == X509CHECK_NOT_FILLED || answer.verdict > X509CHECK_REFUSED)
         return "a verdict is 1 to 5";
     run.verdicts[answer.verdict]++;
-    if ((broken = broken_of_certificates(length, read, &answer)) != NULL)
-        return broken;
-    if ((broken = broken_by_asking(numbers, alone, X509CHECK_CERTIFICATES, &answer)) != NULL)
-        return broken;
-    watch(0);
-    answer = x509check_validate(anchor->octets, anchor->length, at, length, NULL, 0, 0, NULL, 0);
+    broken = broken_of_path(asking.query.path_count, read, &answer);
+    return broken != NULL ? broken : broken_by_asking(numbers, &asking, &answer);
+}
+
+/* The text as a statement, alone or behind a list, beside an anchor and then also a path. */
+static const char *broken_as_statement(struct numbers *numbers, struct x509check_text text)
+{
+    const struct x509check_text statements[] = {run.known[3], text};
+    size_t index = number_below(numbers, 2);
+    struct asking asking = {.query = {.anchor = run.known[0]}, .statements = statements + 1 - index, .statement_count = 1 + index};
+    struct x509check_verdict answer = validate(&asking);
+    const char *broken;
+
     if (memory.held != 0)
         return "memory is given back before a call returns";
-    if ((broken = broken_of_statements(length, &answer)) != NULL)
+    if ((broken = broken_of_statement(index, text.length, &answer)) != NULL)
         return broken;
-    return broken_by_asking(numbers, beside, X509CHECK_STATEMENTS, &answer);
+    asking.query.path = run.known + 1;
+    asking.query.path_count = 2;
+    return broken_by_asking(numbers, &asking, &answer);
 }
 
 static const char *broken_by_reading(struct numbers *numbers, const struct text *text)
@@ -248,7 +265,9 @@ static const char *broken_by_reading(struct numbers *numbers, const struct text 
     if (!is_same_certificate(&answer, &again))
         return "reading answers the same wherever the text stands";
     run.reads[answer.fault]++;
-    if ((broken = broken_by_validating(numbers, at, text->length, &answer)) != NULL)
+    if ((broken = broken_in_path(numbers, (struct x509check_text){at, text->length}, &answer)) != NULL)
+        return broken;
+    if ((broken = broken_as_statement(numbers, (struct x509check_text){at, text->length})) != NULL)
         return broken;
     return requests == 0 ? NULL : broken_by_refusing(numbers, at, text->length, requests, &answer);
 }
@@ -310,7 +329,7 @@ int main(int argc, char **argv)
     run.text = make_guarded(ROOM);
     run.fingerprint = make_guarded(X509CHECK_FINGERPRINT_LENGTH);
     run.questions = make_guarded(MOST_QUESTIONS * sizeof(struct x509check_signature_question));
-    make_path();
+    make_known();
     __sanitizer_set_death_callback(tell_place);
     for (place = run.first; place - run.first < run.count; place++)
         try_text(&text);

@@ -69,51 +69,52 @@ const char *broken_of_check(const uint8_t *octets, size_t length, const struct x
     return NULL;
 }
 
-/* What holds of any refusal in a text of so many octets. */
-static const char *broken_of_refused(size_t length, uint32_t text, uint32_t der, const struct x509check_verdict *answer)
+static bool is_invalid(const struct x509check_verdict *answer, size_t certificate, uint32_t reason)
 {
+    return answer->verdict == X509CHECK_INVALID && answer->certificate == certificate && answer->reason == reason && answer->text == 0
+        && answer->fault == 0 && answer->der_fault == 0 && answer->index == 0 && answer->offset == 0;
+}
+
+/* What holds of any refusal. */
+static const char *broken_of_refused(uint32_t text, size_t index, const struct x509check_verdict *answer)
+{
+    PROMISE(answer->verdict == X509CHECK_REFUSED, "what cannot be read is refused");
     PROMISE(answer->reason == 0 && answer->certificate == 0, "a refusal has no reason and no certificate");
-    PROMISE(answer->text == text, "the text is the one that is refused");
-    PROMISE(answer->offset <= length, "the offset lies within the text");
-    PROMISE((answer->fault == der) == (answer->der_fault != 0), "the rule of DER is told where the fault is one of DER");
+    PROMISE(answer->text == text && answer->index == index, "text and index are those of what is refused");
+    PROMISE(x509check_fault_name(answer->fault, NULL, 0) > 0, "each fault has a name");
     return NULL;
 }
 
-static bool is_empty_path(const struct x509check_verdict *answer)
-{
-    return answer->verdict == X509CHECK_INVALID && answer->certificate == 0 && answer->reason == 15 && answer->text == 0
-        && answer->fault == 0 && answer->der_fault == 0 && answer->offset == 0;
-}
-
-const char *broken_of_certificates(size_t length, const struct x509check_certificate *read, const struct x509check_verdict *answer)
+const char *broken_of_path(size_t index, const struct x509check_certificate *read, const struct x509check_verdict *answer)
 {
     const char *broken;
 
     if (read->fault == 0) {
-        PROMISE(is_empty_path(answer), "an anchor alone is an empty path");
+        PROMISE(index != 0 || is_invalid(answer, 0, 15), "an anchor alone is an empty path");
+        PROMISE(index == 0 || is_invalid(answer, 1, 2), "no path is valid without a fingerprint");
         return NULL;
     }
-    if (answer->verdict != X509CHECK_REFUSED) {
-        PROMISE(read->fault == X509CHECK_FAULT_DER && read->der_fault == 7, "only certificates get a verdict");
-        PROMISE(answer->verdict == X509CHECK_INVALID, "no path is valid without a fingerprint");
-        return NULL;
-    }
-    if ((broken = broken_of_refused(length, X509CHECK_CERTIFICATES, X509CHECK_FAULT_DER, answer)) != NULL)
+    if ((broken = broken_of_refused(X509CHECK_CERTIFICATES, index, answer)) != NULL)
         return broken;
-    if (read->fault == X509CHECK_FAULT_DER && read->der_fault == 7)
-        return NULL;
     PROMISE(answer->fault == read->fault && answer->der_fault == read->der_fault && answer->offset == read->offset,
-            "the fault of one certificate is the one that reading it answers");
+            "the fault of a certificate is the one that reading it answers");
     return NULL;
 }
 
-const char *broken_of_statements(size_t length, const struct x509check_verdict *answer)
+const char *broken_of_statement(size_t index, size_t length, const struct x509check_verdict *answer)
 {
+    const char *broken;
+
     if (answer->verdict != X509CHECK_REFUSED) {
-        PROMISE(is_empty_path(answer), "an anchor alone is an empty path");
+        PROMISE(is_invalid(answer, 0, 15), "an anchor alone is an empty path");
         return NULL;
     }
-    return broken_of_refused(length, X509CHECK_STATEMENTS, X509CHECK_FAULT_STATEMENT_DER, answer);
+    if ((broken = broken_of_refused(X509CHECK_STATEMENTS, index, answer)) != NULL)
+        return broken;
+    PROMISE(answer->offset <= length, "the offset lies within the text");
+    PROMISE((answer->fault == X509CHECK_FAULT_STATEMENT_DER) == (answer->der_fault != 0),
+            "the rule of DER is told where the fault is one of DER");
+    return NULL;
 }
 
 static bool is_fault(uint32_t fault)
@@ -272,7 +273,19 @@ const char *broken_of_fingerprint(const uint8_t *octets, const struct x509check_
     return NULL;
 }
 
-static const char *broken_of_question(const struct row rows[2], const struct x509check_signature_question *question)
+/* The text that a place is in; it has no octets if there is none. */
+static struct x509check_text text_at(const struct asking *asking, const struct x509check_place *place)
+{
+    if (place->text == X509CHECK_CERTIFICATES && place->index == 0)
+        return asking->query.anchor;
+    if (place->text == X509CHECK_CERTIFICATES && place->index <= asking->query.path_count)
+        return asking->query.path[place->index - 1];
+    if (place->text == X509CHECK_STATEMENTS && place->index < asking->statement_count)
+        return asking->statements[place->index];
+    return (struct x509check_text){NULL, 0};
+}
+
+static const char *broken_of_question(const struct asking *asking, const struct x509check_signature_question *question)
 {
     const struct x509check_place places[] = {question->algorithm, question->key_info, question->message, question->signature};
     struct sha256 state;
@@ -280,19 +293,19 @@ static const char *broken_of_question(const struct row rows[2], const struct x50
 
     sha256_begin(&state);
     for (size_t i = 0; i < 4; i++) {
-        const struct row *row = places[i].text == X509CHECK_STATEMENTS ? &rows[1] : &rows[0];
+        struct x509check_text text = text_at(asking, &places[i]);
 
-        PROMISE(places[i].text == X509CHECK_CERTIFICATES || places[i].text == X509CHECK_STATEMENTS, "a place is in one of two texts");
-        PROMISE(places[i].length <= row->length && places[i].offset <= row->length - places[i].length, "a place lies within its text");
-        add_framed(&state, row->octets + places[i].offset, places[i].length);
+        PROMISE(text.octets != NULL, "a place is in a certificate or in a statement");
+        PROMISE(places[i].length <= text.length && places[i].offset <= text.length - places[i].length, "a place lies within its text");
+        add_framed(&state, text.octets + places[i].offset, places[i].length);
     }
     sha256_end(&state, digest);
     PROMISE(memcmp(digest, question->fingerprint, sizeof digest) == 0, "the fingerprint of a question is that of the octets at its places");
     return NULL;
 }
 
-const char *broken_of_questions(const struct row rows[2], const struct x509check_asked *asked, const struct x509check_signature_question *questions,
-                                size_t room)
+const char *broken_of_questions(const struct asking *asking, const struct x509check_asked *asked,
+                                const struct x509check_signature_question *questions, size_t room)
 {
     size_t written = asked->count < room ? asked->count : room;
     const char *broken;
@@ -300,7 +313,7 @@ const char *broken_of_questions(const struct row rows[2], const struct x509check
     PROMISE((asked->fault == 0) == (asked->text == 0) && asked->text <= X509CHECK_STATEMENTS, "a text is told where it is refused");
     PROMISE(asked->fault == 0 || asked->count == 0, "there is no question where a text is refused");
     for (size_t i = 0; i < written; i++)
-        if ((broken = broken_of_question(rows, &questions[i])) != NULL)
+        if ((broken = broken_of_question(asking, &questions[i])) != NULL)
             return broken;
     for (const uint8_t *octet = (const uint8_t *)&questions[written]; octet < (const uint8_t *)&questions[room]; octet++)
         PROMISE(*octet == 0xA5, "only questions are written");

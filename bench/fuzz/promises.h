@@ -8,10 +8,11 @@
 
 #include "x509check.h"
 
-/* Certificates, or statements, one behind the other. */
-struct row {
-    const uint8_t *octets;
-    size_t length;
+/* What is asked about: a path and statements. */
+struct asking {
+    struct x509check_query query;
+    const struct x509check_text *statements;
+    size_t statement_count;
 };
 
 /* Each answers the promise that is broken, in words, or a null pointer. */
@@ -22,14 +23,16 @@ const char *broken_of_check(const uint8_t *octets, size_t length, const struct x
 /* Of a certificate, where memory was there. */
 const char *broken_of_certificate(const uint8_t *octets, size_t length, const struct x509check_certificate *answer);
 
-/* Of the verdict on a text as certificates alone, and as statements beside an anchor; of the first, what reading the text answers is known. */
-const char *broken_of_certificates(size_t length, const struct x509check_certificate *read, const struct x509check_verdict *answer);
-const char *broken_of_statements(size_t length, const struct x509check_verdict *answer);
+/* Of the verdict with a text among the certificates, at this index, without a good signature; what reading the text answers is known. */
+const char *broken_of_path(size_t index, const struct x509check_certificate *read, const struct x509check_verdict *answer);
 
-/* Of what is asked about two rows, where there was room for so many questions. Behind those that were written the array has to be as it was:
- * filled with 0xA5. */
-const char *broken_of_questions(const struct row rows[2], const struct x509check_asked *asked, const struct x509check_signature_question *questions,
-                                size_t room);
+/* Of the verdict on an empty path with a text of so many octets among the statements, at this index. */
+const char *broken_of_statement(size_t index, size_t length, const struct x509check_verdict *answer);
+
+/* Of what is asked, where there was room for so many questions. Behind those that were written the array has to be as it was: filled with
+ * 0xA5. */
+const char *broken_of_questions(const struct asking *asking, const struct x509check_asked *asked,
+                                const struct x509check_signature_question *questions, size_t room);
 
 /* Of the fingerprint of a certificate that was read. */
 const char *broken_of_fingerprint(const uint8_t *octets, const struct x509check_fields *fields,

@@ -2,8 +2,8 @@
 """Writes the texts that bench/fuzz/run damages into a file: texts.py FILE
 
 Certificates as bench/data.py makes them, some for each rule of the reader, those of the package ca-certificates where it is there, a
-revocation list, and the lists and responses of a small authority, whose path stands first. Each stands behind its length in 4 octets, the
-lowest first.
+revocation list, and the lists and responses of a small authority, of which an anchor, a path and a list stand first. Each stands behind its
+length in 4 octets, the lowest first.
 """
 
 import os
@@ -100,9 +100,9 @@ def authority(*names):
 
 def main(path):
     rng = random.Random(20261123)
-    texts = list(authority("root.der", "middle.der", "leaf.der"))
+    texts = list(authority("root.der", "middle.der", "leaf.der", "middle.crl"))
     texts += [certificate(rng, number) for number in range(64)] + 4 * list(special()) + debian_roots()
-    texts += [revocation_list(rng, 2000)[0], *16 * list(authority("middle.crl", "leaf.ocsp")), nested(31)]
+    texts += [revocation_list(rng, 2000)[0], *15 * list(authority("middle.crl")), *16 * list(authority("leaf.ocsp")), nested(31)]
     with open(path, "wb") as out:
         for text in texts:
             if len(text) <= MOST:

@@ -2,11 +2,11 @@
  * docs/PROMISES.md says what the calls promise.
  *
  * Texts are octets of the caller: a pointer and a length in octets. They are only read, only during the call, and nothing keeps
- * them. The pointer may be null if the length is 0. Results are numbers and parts of the caller's text: offsets and lengths in
+ * them. A pointer may be null if its length or count is 0. Results are numbers and parts of the caller's text: offsets and lengths in
  * octets, counted from its first octet. There is nothing to free. All calls may run on several threads at a time.
  *
  * Faults are numbers, 0 for none: 1 to 7 of DER, 11 to 17 of names, 21 to 33 of certificates, 41 to 59 of statements
- * (docs/REFERENCE.md). The fault is the first in the text, and its offset that of the value at fault.
+ * (docs/REFERENCE.md), which x509check_fault_name names. The fault is the first in the text, and its offset that of the value at fault.
  *
  * Link with libx509check.a, which `make` puts in bindings/out and `make install` in lib. It needs nothing but libc, and takes memory from
  * the program's malloc.
@@ -23,8 +23,8 @@ extern "C" {
 #endif
 
 /* The version of this header and of the library beside it: as text, and as 10000 * major + 100 * minor + patch. */
-#define X509CHECK_VERSION "0.9.0"
-#define X509CHECK_VERSION_NUMBER 900
+#define X509CHECK_VERSION "0.10.0"
+#define X509CHECK_VERSION_NUMBER 1000
 
 /* The fault of a certificate whose text, or the value of an extension in it, is not DER. */
 #define X509CHECK_FAULT_DER 21
@@ -33,12 +33,12 @@ extern "C" {
 
 /* The fault of a list or a response that is not DER. */
 #define X509CHECK_FAULT_STATEMENT_DER 41
-/* The fault of fingerprints if the last has fewer than 32 octets. */
-#define X509CHECK_FAULT_CUT_SHORT 4
 
 /* The octets of a fingerprint, and of a SHA-256. */
 #define X509CHECK_FINGERPRINT_LENGTH 32
 #define X509CHECK_SHA256_LENGTH 32
+/* Room for each name that x509check_fault_name and x509check_reason_name write, and the zero behind it. */
+#define X509CHECK_NAME_ROOM 32
 
 /* The verdict on a path. No call answers X509CHECK_NOT_FILLED, so a struct of zeros says nothing of a path. Compare with
  * X509CHECK_VALID by ==: every other number, one that is not listed here too, is not valid. */
@@ -49,10 +49,10 @@ extern "C" {
 #define X509CHECK_UNKNOWN 4
 #define X509CHECK_REFUSED 5
 
-/* The texts of a question that can be refused. */
+/* What a place or a refusal is in. Of the certificates the anchor has the index 0, and the first of the path 1; the first of the
+ * statements has 0. */
 #define X509CHECK_CERTIFICATES 1
 #define X509CHECK_STATEMENTS 2
-#define X509CHECK_FINGERPRINTS 3
 
 /* The bits of key_usage (RFC 5280, 4.2.1.3). */
 #define X509CHECK_DIGITAL_SIGNATURE (1u << 0)
@@ -64,6 +64,21 @@ extern "C" {
 #define X509CHECK_CRL_SIGN (1u << 6)
 #define X509CHECK_ENCIPHER_ONLY (1u << 7)
 #define X509CHECK_DECIPHER_ONLY (1u << 8)
+
+/* Octets of the caller: a certificate, a list, a response, or the contents of a value. */
+struct x509check_text {
+    const uint8_t *octets;
+    size_t length;
+};
+
+/* The question about a path (RFC 5280, 6.1.1). */
+struct x509check_query {
+    struct x509check_text anchor;      /* the DER of a certificate, of which only the name and the key are used */
+    const struct x509check_text *path; /* the certificates below it, each in DER, to the one in question */
+    size_t path_count;
+    int64_t moment;                /* in seconds from 1970-01-01T00:00:00Z */
+    struct x509check_text purpose; /* the contents of an OBJECT IDENTIFIER; no purpose is asked for if its length is 0 */
+};
 
 /* Octets of the text that was handed in. */
 struct x509check_part {
@@ -118,22 +133,28 @@ struct x509check_certificate {
     struct x509check_fields fields; /* all 0 if there is a fault */
 };
 
-/* The verdict on a path, or why the question is refused. What has no number there is 0. */
+/* Which certificate or statement is refused, and why. All is 0 if none is. */
+struct x509check_refusal {
+    uint32_t text;      /* X509CHECK_CERTIFICATES or X509CHECK_STATEMENTS; 0 if memory was refused */
+    uint32_t fault;     /* of certificates 11 to 17, 21 to 32, of statements 11 to 14, 41 to 52, 55, 56, 59, and X509CHECK_FAULT_MEMORY */
+    uint32_t der_fault; /* 1 to 7 if fault is X509CHECK_FAULT_DER or X509CHECK_FAULT_STATEMENT_DER, else 0 */
+    size_t index;       /* which certificate or statement; of the certificates the anchor has 0 */
+    size_t offset;      /* of the value at fault, in that certificate or statement */
+};
+
+/* The verdict on a path, or what is refused. What has no number there is 0. */
 struct x509check_verdict {
     uint32_t verdict;   /* X509CHECK_VALID to X509CHECK_REFUSED, and never X509CHECK_NOT_FILLED */
     uint32_t reason;    /* invalid: the rank of the reason (docs/REFERENCE.md); revoked: the reason (RFC 5280, 5.3.1) */
     size_t certificate; /* which certificate decides: 1 is the first behind the anchor; 0 stands for the path itself */
-    uint32_t text;      /* refused: X509CHECK_CERTIFICATES to X509CHECK_FINGERPRINTS; 0 if memory was refused */
-    uint32_t fault;     /* refused: of certificates 11 to 17, 21 to 32, of statements 11 to 14, 41 to 52, 55, 56, 59, of
-                           fingerprints X509CHECK_FAULT_CUT_SHORT, and X509CHECK_FAULT_MEMORY */
-    uint32_t der_fault; /* 1 to 7 if fault is X509CHECK_FAULT_DER or X509CHECK_FAULT_STATEMENT_DER, else 0 */
-    size_t offset;      /* refused: of the value at fault, in the whole text */
+    struct x509check_refusal refusal;
 };
 
-/* Octets of one of two texts. */
+/* Octets of a certificate or of a statement. */
 struct x509check_place {
     uint32_t text; /* X509CHECK_CERTIFICATES or X509CHECK_STATEMENTS */
-    size_t offset; /* in the whole text */
+    size_t index;  /* which of them; of the certificates the anchor has 0 */
+    size_t offset; /* in it */
     size_t length;
 };
 
@@ -146,13 +167,10 @@ struct x509check_signature_question {
     uint8_t fingerprint[X509CHECK_FINGERPRINT_LENGTH]; /* as x509check_fingerprint writes it of these four */
 };
 
-/* How many questions there are, or why a text is refused. What has no number there is 0. */
+/* How many questions there are, or why a certificate or a statement is refused. What has no number there is 0. */
 struct x509check_asked {
-    uint32_t text;      /* refused: X509CHECK_CERTIFICATES or X509CHECK_STATEMENTS; 0 if memory was refused */
-    uint32_t fault;     /* 0, or as in struct x509check_verdict */
-    uint32_t der_fault; /* 1 to 7 if fault is X509CHECK_FAULT_DER or X509CHECK_FAULT_STATEMENT_DER, else 0 */
-    size_t offset;      /* refused: of the value at fault, in the whole text */
-    size_t count;       /* all questions, whether there was room for them or not; 0 if a text is refused */
+    struct x509check_refusal refusal;
+    size_t count; /* all questions, whether there was room for them or not; 0 if a certificate or a statement is refused */
 };
 
 /* The layout of the answers on x86-64, as the library was built with it. */
@@ -163,6 +181,13 @@ struct x509check_asked {
 #define X509CHECK_STANDS_AT(type, field, at) _Static_assert(offsetof(struct type, field) == (at), #field)
 #define X509CHECK_HAS_SIZE(type, size) _Static_assert(sizeof(struct type) == (size), #type)
 #endif
+X509CHECK_STANDS_AT(x509check_text, length, 8);
+X509CHECK_HAS_SIZE(x509check_text, 16);
+X509CHECK_STANDS_AT(x509check_query, path, 16);
+X509CHECK_STANDS_AT(x509check_query, path_count, 24);
+X509CHECK_STANDS_AT(x509check_query, moment, 32);
+X509CHECK_STANDS_AT(x509check_query, purpose, 40);
+X509CHECK_HAS_SIZE(x509check_query, 56);
 X509CHECK_STANDS_AT(x509check_part, length, 8);
 X509CHECK_HAS_SIZE(x509check_part, 16);
 X509CHECK_STANDS_AT(x509check_answer, offset, 8);
@@ -196,26 +221,26 @@ X509CHECK_STANDS_AT(x509check_certificate, der_fault, 4);
 X509CHECK_STANDS_AT(x509check_certificate, offset, 8);
 X509CHECK_STANDS_AT(x509check_certificate, fields, 16);
 X509CHECK_HAS_SIZE(x509check_certificate, 224);
+X509CHECK_STANDS_AT(x509check_refusal, fault, 4);
+X509CHECK_STANDS_AT(x509check_refusal, der_fault, 8);
+X509CHECK_STANDS_AT(x509check_refusal, index, 16);
+X509CHECK_STANDS_AT(x509check_refusal, offset, 24);
+X509CHECK_HAS_SIZE(x509check_refusal, 32);
 X509CHECK_STANDS_AT(x509check_verdict, reason, 4);
 X509CHECK_STANDS_AT(x509check_verdict, certificate, 8);
-X509CHECK_STANDS_AT(x509check_verdict, text, 16);
-X509CHECK_STANDS_AT(x509check_verdict, fault, 20);
-X509CHECK_STANDS_AT(x509check_verdict, der_fault, 24);
-X509CHECK_STANDS_AT(x509check_verdict, offset, 32);
-X509CHECK_HAS_SIZE(x509check_verdict, 40);
-X509CHECK_STANDS_AT(x509check_place, offset, 8);
-X509CHECK_STANDS_AT(x509check_place, length, 16);
-X509CHECK_HAS_SIZE(x509check_place, 24);
-X509CHECK_STANDS_AT(x509check_signature_question, key_info, 24);
-X509CHECK_STANDS_AT(x509check_signature_question, message, 48);
-X509CHECK_STANDS_AT(x509check_signature_question, signature, 72);
-X509CHECK_STANDS_AT(x509check_signature_question, fingerprint, 96);
-X509CHECK_HAS_SIZE(x509check_signature_question, 128);
-X509CHECK_STANDS_AT(x509check_asked, fault, 4);
-X509CHECK_STANDS_AT(x509check_asked, der_fault, 8);
-X509CHECK_STANDS_AT(x509check_asked, offset, 16);
-X509CHECK_STANDS_AT(x509check_asked, count, 24);
-X509CHECK_HAS_SIZE(x509check_asked, 32);
+X509CHECK_STANDS_AT(x509check_verdict, refusal, 16);
+X509CHECK_HAS_SIZE(x509check_verdict, 48);
+X509CHECK_STANDS_AT(x509check_place, index, 8);
+X509CHECK_STANDS_AT(x509check_place, offset, 16);
+X509CHECK_STANDS_AT(x509check_place, length, 24);
+X509CHECK_HAS_SIZE(x509check_place, 32);
+X509CHECK_STANDS_AT(x509check_signature_question, key_info, 32);
+X509CHECK_STANDS_AT(x509check_signature_question, message, 64);
+X509CHECK_STANDS_AT(x509check_signature_question, signature, 96);
+X509CHECK_STANDS_AT(x509check_signature_question, fingerprint, 128);
+X509CHECK_HAS_SIZE(x509check_signature_question, 160);
+X509CHECK_STANDS_AT(x509check_asked, count, 32);
+X509CHECK_HAS_SIZE(x509check_asked, 40);
 #undef X509CHECK_STANDS_AT
 #undef X509CHECK_HAS_SIZE
 
@@ -242,29 +267,37 @@ void x509check_fingerprint(const uint8_t *algorithm, size_t algorithm_length, co
  * The octets may not overlap with `digest`. Takes no memory. */
 void x509check_sha256(const uint8_t *octets, size_t length, uint8_t digest[X509CHECK_SHA256_LENGTH]);
 
+/* Writes the name of a fault, or of the rule of DER that a der_fault is (docs/REFERENCE.md), and a zero behind it; nothing if there is no
+ * room for both: X509CHECK_NAME_ROOM is enough for each. The answer is how many characters the name has; if no fault has the number it is
+ * 0, and the name is empty. Takes no memory. */
+size_t x509check_fault_name(uint32_t fault, char *name, size_t room);
+
+/* The same of a reason: if the verdict is X509CHECK_INVALID, of the rank (docs/REFERENCE.md), and if it is X509CHECK_REVOKED, of the reason
+ * for which a certificate is revoked (RFC 5280, 5.3.1). For other verdicts, and numbers that no reason has, the answer is 0, and the name
+ * is empty. */
+size_t x509check_reason_name(uint32_t verdict, uint32_t reason, char *name, size_t room);
+
 /* The questions that a judge of signatures may be asked for the verdict on a path by statements, at whatever moment and for whatever
- * purpose. The two texts are those of x509check_validate, to which the fingerprints of the questions that are answered by yes are handed.
+ * purpose. The arguments are those of x509check_validate, to which the fingerprints of the questions that are answered by yes are handed.
  *
  * Up to `room` questions are written to `questions`, from the first on, and `count` tells how many there are: with a room of 0, where
- * `questions` may be null, it only counts. The texts may not overlap with `questions`. Nothing is written where a text is refused.
+ * `questions` may be null, it only counts. No text may overlap with `questions`. Nothing is written if a text is refused.
  * For a path of n certificates these are n questions, at most n more for a list, and at most n (1 + 2 m) for a response that m
- * certificates come with. One question may be there twice. Memory is taken as by x509check_validate. */
-struct x509check_asked x509check_questions(const uint8_t *certificates, size_t certificates_length, const uint8_t *statements,
-                                           size_t statements_length, struct x509check_signature_question *questions, size_t room);
+ * certificates come with. One question may be there twice. Each call reads all texts, so room for many is better than counting first.
+ * Memory is taken as by x509check_validate. */
+struct x509check_asked x509check_questions(const struct x509check_query *query, const struct x509check_text *statements,
+                                           size_t statement_count, struct x509check_signature_question *questions, size_t room);
 
 /* The verdict on a path at a moment, by statements at hand, without a store.
  *
- * `certificates` are DER values one behind the other: the anchor, of which only the name and the key are used, and then the path.
- * `statements` are lists (CRLs) and OCSP responses one behind the other, in any order. `fingerprints` are those of the signatures that
- * the caller found good, 32 octets each, as x509check_fingerprint writes them: no other signature is accepted. `moment` is in seconds
- * from 1970-01-01T00:00:00Z. `purpose` is the contents of an OBJECT IDENTIFIER; no purpose is asked for if its length is 0.
+ * `statements` are lists (CRLs) and OCSP responses, in any order. `fingerprints` are those of the signatures that the caller found good, 32
+ * octets each, one behind the other, as x509check_fingerprint writes them: no other signature is accepted. `query` may not be null.
  *
- * A text that cannot be read is refused with its first fault, the certificates before the statements and these before the fingerprints,
- * and there is no verdict then. A statement that no issuer of the path signed changes nothing. Memory is taken for lists during the
- * call, and freed before it returns; if it is refused, the fault is X509CHECK_FAULT_MEMORY. */
-struct x509check_verdict x509check_validate(const uint8_t *certificates, size_t certificates_length, const uint8_t *statements,
-                                            size_t statements_length, const uint8_t *fingerprints, size_t fingerprints_length,
-                                            int64_t moment, const uint8_t *purpose, size_t purpose_length);
+ * A certificate or a statement that cannot be read is refused with its first fault, the certificates before the statements, in order, and
+ * there is no verdict then. A statement that no issuer of the path signed changes nothing. Each is read once. Memory is taken for lists
+ * during the call, and freed before it returns; if it is refused, the fault is X509CHECK_FAULT_MEMORY. */
+struct x509check_verdict x509check_validate(const struct x509check_query *query, const struct x509check_text *statements,
+                                            size_t statement_count, const uint8_t *fingerprints, size_t fingerprint_count);
 
 #ifdef __cplusplus
 }

@@ -1,6 +1,7 @@
 """An answer names whom it is about, is good only where the verdict is, and a mistake of a caller is an error."""
 
 import copy
+import ctypes
 import datetime
 import hashlib
 import importlib.util
@@ -17,7 +18,8 @@ from unittest import mock
 
 import x509check
 from x509check import (
-    Certificate, Fault, Identity, Judgement, NotValid, Reason, Result, RevocationReason, Text, Verdict, _arguments, _library, _names, _verdicts,
+    Certificate, Fault, Identity, Judgement, NotValid, Reason, Result, RevocationReason, Text, Verdict, _arguments, _library, _names, _query,
+    _verdicts,
 )
 
 from . import authority
@@ -94,20 +96,52 @@ class Targets(unittest.TestCase):
         self.assertEqual([bool(one) for one in Verdict], [one is Verdict.VALID for one in Verdict])
         self.assertEqual([one.value for one in Verdict], ["valid", "invalid", "revoked", "unknown"])
 
+    def test_a_target_beside_what_cannot_be_read(self):
+        for chain in ((MIDDLE, b"\x30\x00"), (b"\x30\x00", LEAF)):
+            with self.subTest(len(chain[0])), self.assertRaises(Fault) as caught:
+                verdict(chain=chain, target=MIDDLE)
+            self.assertEqual((caught.exception.text, caught.exception.index), (Text.CERTIFICATES, 1 + chain.index(b"\x30\x00")))
+
     def test_numbers_that_are_no_verdict(self):
         self.assertEqual(set(_library.VERDICT_NUMBERS.values()), {"refused", *(one.value for one in Verdict)})
-        rows = _verdicts.Rows(ROOT, [LEAF], [])
+        query = _query.Query(ROOT, [LEAF], [])
         for number in (max(_library.VERDICT_NUMBERS) + 1, min(_library.VERDICT_NUMBERS) - 1, _library.REFUSED):
             with self.subTest(number), self.assertRaises(RuntimeError):
-                _verdicts._result(_library.VerdictAnswer(number & 0xFFFFFFFF), rows)
+                _verdicts._result(_library.VerdictAnswer(number & 0xFFFFFFFF), query)
+
+    def test_reasons_have_the_names_of_the_library(self):
+        def name_of(verdict, reason):
+            written = ctypes.create_string_buffer(32)
+            _library.library().x509check_reason_name(verdict, reason, written, ctypes.c_size_t(len(written)))
+            return written.value.decode().lower()
+        for number, kind in ((2, Reason), (3, RevocationReason)):
+            ours = {one.value: one.name.replace("_", "").lower() for one in kind}
+            self.assertEqual([name_of(number, one) for one in range(41)], [ours.get(one, "") for one in range(41)])
+        self.assertEqual([name_of(number, 1) for number in (0, 1, 4, 5, 6)], [""] * 5)
+
+    def test_each_value_is_read_once_for_the_questions_and_once_for_the_verdict(self):
+        for most, asked in ((_query._MOST_ROOM, 1), (4, 1), (3, 2)):
+            counting = mock.Mock(wraps=_library.library())
+            with mock.patch.object(_query, "library", return_value=counting), mock.patch.object(_query, "_MOST_ROOM", most):
+                self.assertTrue(verdict(verify=lambda it: it.fingerprint in set(GOOD_PRINTS.values())))
+            calls = [name for name, _, _ in counting.mock_calls]
+            self.assertEqual(calls, ["x509check_questions"] * asked + ["x509check_validate"])
 
     def test_a_library_of_another_version_is_not_asked(self):
-        names = [f"x509check_{name}" for name in ("check", "read_certificate", "fingerprint", "questions", "validate")]
-        right = (_library.REFUSED, 0, 0, 1, 21, 4, 0)
-        for answer in (right, (_library.REFUSED + 1, *right[1:]), (0,), (1,), (*right[:5], 7)):
-            opened = types.SimpleNamespace(**{name: lambda *words, answer=answer: _library.VerdictAnswer(*answer) for name in names})
-            with self.subTest(answer), mock.patch.object(_library, "_opened", lambda opened=opened: opened):
-                if answer is right:
+        calls = ("check", "read_certificate", "fingerprint", "fault_name", "questions", "validate", "version")
+        for version, number in (("0.9.0", 900), ("0.10.0", 1000), ("1.2.34", 10234)):
+            with mock.patch.object(x509check, "__version__", version):
+                self.assertEqual(_library._version_number(), number)
+        version, right = _library._version_number(), (_library.REFUSED, 0, 0, _library.Refusal(1, 21, 4))
+        others = ((_library.REFUSED + 1, *right[1:]), (0,), (1,), (*right[:3], _library.Refusal(1, 7)))
+        for number, answer, lacks in ((version, right, ""), (version + 1, right, ""), (0, right, ""), *((version, other, "") for other in others),
+                                      *((version, right, call) for call in calls)):
+            opened = types.SimpleNamespace(**{f"x509check_{call}": lambda *words, answer=answer: _library.VerdictAnswer(*answer)
+                                              for call in calls if call != lacks})
+            if lacks != "version":
+                opened.x509check_version = lambda number=number: number
+            with self.subTest(number, answer=answer, lacks=lacks), mock.patch.object(_library, "_opened", lambda opened=opened: opened):
+                if (number, answer, lacks) == (version, right, ""):
                     self.assertIs(_library.library.__wrapped__(), opened)
                     continue
                 with self.assertRaises(x509check.LibraryMissing):
@@ -227,6 +261,13 @@ class Statements(unittest.TestCase):
         self.assertEqual((caught.exception.text, caught.exception.index), (Text.CERTIFICATES, 0))
 
 
+    def test_want_of_memory_is_no_fault_of_a_statement(self):
+        for ignore in (True, False):
+            library = mock.Mock(x509check_questions=mock.Mock(side_effect=[_library.AskedAnswer(_library.Refusal(0, 33))]))
+            with mock.patch.object(_query, "library", return_value=library), self.assertRaises(MemoryError):
+                verdict(verify=lambda it: True, ignore_unreadable=ignore)
+
+
 class Arguments(unittest.TestCase):
     def mistaken(self, error, word, *arguments, **words):
         with self.subTest(str(words)[:60]), self.assertRaises(error) as caught:
@@ -309,6 +350,10 @@ class Faults(unittest.TestCase):
             self.assertEqual((str(other), other.number, other.offset, other.der, other.text, other.index, other.origin),
                              (str(fault), 41, 3, 7, Text.STATEMENTS, 1, loaded))
         self.assertEqual(pickle.loads(pickle.dumps(verdict())), verdict())
+
+    def test_faults_have_the_names_of_the_library(self):
+        for number, name in ((1, "TagForm"), (17, "MaskForm"), (33, "Memory"), (59, "TooManySingles"), (0, "Unknown"), (999, "Unknown")):
+            self.assertEqual((Fault(number, 0).name, Fault(41, 0, number).der_name), (name, name if number else None))
 
     def test_explanations(self):
         for mistake in (True, 1.5, "7", None, Verdict.VALID, Text.STATEMENTS):

@@ -15,7 +15,7 @@ What cannot be read is an error: NotLoaded for a file, and a Fault for a certifi
 
 from ._arguments import PURPOSES
 from ._certificates import Certificate, Extensions, check, fingerprint
-from ._faults import FAULT_NAMES, Fault, Text
+from ._faults import Fault, Text
 from ._files import NoPath, load, path_to
 from ._library import LibraryMissing
 from ._names import Identity
@@ -25,10 +25,10 @@ from ._questions import SignatureQuestion, questions
 from ._verdicts import NotValid, Reason, Result, RevocationReason, Verdict, validate
 from .signatures import Judgement, JudgeMissing, Opinion, Policy, judge, judge_all, opinions
 
-__version__ = "0.9.0"
+__version__ = "0.10.0"
 
 __all__ = [
-    "Certificate", "Extensions", "Fault", "FAULT_NAMES", "Identity", "JudgeMissing", "Judgement", "Kind", "LibraryMissing", "Loaded", "NoPath",
+    "Certificate", "Extensions", "Fault", "Identity", "JudgeMissing", "Judgement", "Kind", "LibraryMissing", "Loaded", "NoPath",
     "NotLoaded", "NotValid", "Opinion", "Policy", "ProgramMissing", "PURPOSES", "SignatureQuestion", "Reason", "Result", "RevocationReason", "Text",
     "Verdict", "check", "explain", "fingerprint", "judge", "judge_all", "load", "opinions", "path_to", "questions", "validate",
 ]

@@ -3,19 +3,8 @@
 import enum
 from typing import Optional, Tuple
 
+from ._library import fault_name
 from ._pem import Loaded
-
-_RANGES = {
-    1: "TagForm LengthForm TooLong Truncated TooDeep Content Trailing",
-    11: "NameLayout RdnRepeat SetOrder Text DnsForm IpForm MaskForm",
-    21: "Der Layout Version AlgorithmsDiffer Serial Time EmptyIssuer ExtensionRepeated ExtensionValue SubtreeBounds SignatureBits"
-        " Limit Memory",
-    41: "Der Layout NotV2 NoNumber NumberRange NoNextUpdate Delta Scope Indirect CriticalUnknown BadReason RemoveInComplete",
-    55: "NotSuccessful ResponseType",
-    59: "TooManySingles",
-}
-# The names of faults by their numbers, as docs/REFERENCE.md has them.
-FAULT_NAMES = {first + i: name for first, names in _RANGES.items() for i, name in enumerate(names.split())}
 
 MEMORY = 33
 
@@ -25,7 +14,6 @@ class Text(enum.IntEnum):
 
     CERTIFICATES = 1
     STATEMENTS = 2
-    FINGERPRINTS = 3
 
 
 class Fault(ValueError):
@@ -51,11 +39,11 @@ class Fault(ValueError):
 
     @property
     def name(self) -> str:
-        return FAULT_NAMES.get(self.number, "Unknown")
+        return fault_name(self.number) or "Unknown"
 
     @property
     def der_name(self) -> Optional[str]:
-        return FAULT_NAMES.get(self.der, "Unknown") if self.der else None
+        return fault_name(self.der) or "Unknown" if self.der else None
 
     def _line(self) -> str:
         where = f"{self.text.name.lower()}[{self.index}]: " if self.text and self.index is not None else ""

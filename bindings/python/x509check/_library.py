@@ -3,6 +3,7 @@
 import ctypes
 import functools
 import os
+from typing import Sequence
 
 _HERE = os.path.dirname(os.path.realpath(__file__))
 _NAME = "libx509check.so"
@@ -15,10 +16,35 @@ VERDICT_NUMBERS = {1: "valid", 2: "invalid", 3: "revoked", 4: "unknown", 5: "ref
 REFUSED = next(number for number, word in VERDICT_NUMBERS.items() if word == "refused")
 VERDICT_WORDS = {number: word for number, word in VERDICT_NUMBERS.items() if number != REFUSED}
 _TRUNCATED, _DER_OF_CERTIFICATE = 4, 21
+_NAME_ROOM = 32
 
 
 class LibraryMissing(ImportError):
     """The shared object is at none of the places where it is looked for, or it is not of this version."""
+
+
+class TextFields(ctypes.Structure):
+    """Octets of the caller. The struct keeps those that it is made of."""
+
+    _fields_ = [("octets", ctypes.c_char_p), ("length", ctypes.c_size_t)]
+
+
+class QueryFields(ctypes.Structure):
+    _fields_ = [
+        ("anchor", TextFields),
+        ("path", ctypes.POINTER(TextFields)),
+        ("path_count", ctypes.c_size_t),
+        ("moment", ctypes.c_int64),
+        ("purpose", TextFields),
+    ]
+
+
+def text_fields(octets: bytes) -> TextFields:
+    return TextFields(octets, len(octets))
+
+
+def text_array(values: Sequence[bytes]) -> "ctypes.Array[TextFields]":
+    return (TextFields * len(values))(*map(text_fields, values))
 
 
 class Part(ctypes.Structure):
@@ -62,22 +88,23 @@ class CertificateAnswer(ctypes.Structure):
     _fields_ = [("fault", ctypes.c_uint32), ("der_fault", ctypes.c_uint32), ("offset", ctypes.c_size_t), ("fields", Fields)]
 
 
-class VerdictAnswer(ctypes.Structure):
+class Refusal(ctypes.Structure):
+    """Which certificate or statement is refused, and why: the text is a `Text`, and the index says which of them."""
+
     _fields_ = [
-        ("verdict", ctypes.c_uint32),
-        ("reason", ctypes.c_uint32),
-        ("certificate", ctypes.c_size_t),
-        ("text", ctypes.c_uint32),
-        ("fault", ctypes.c_uint32),
-        ("der_fault", ctypes.c_uint32),
-        ("offset", ctypes.c_size_t),
+        *((name, ctypes.c_uint32) for name in ("text", "fault", "der_fault")),
+        *((name, ctypes.c_size_t) for name in ("index", "offset")),
     ]
 
 
-class Place(ctypes.Structure):
-    """Octets of one of two texts: 1 the certificates, 2 the statements."""
+class VerdictAnswer(ctypes.Structure):
+    _fields_ = [("verdict", ctypes.c_uint32), ("reason", ctypes.c_uint32), ("certificate", ctypes.c_size_t), ("refusal", Refusal)]
 
-    _fields_ = [("text", ctypes.c_uint32), ("offset", ctypes.c_size_t), ("length", ctypes.c_size_t)]
+
+class Place(ctypes.Structure):
+    """Octets of a certificate or of a statement: the text is a `Text`, and the index says which of them."""
+
+    _fields_ = [("text", ctypes.c_uint32), *((name, ctypes.c_size_t) for name in ("index", "offset", "length"))]
 
 
 class QuestionFields(ctypes.Structure):
@@ -85,11 +112,7 @@ class QuestionFields(ctypes.Structure):
 
 
 class AskedAnswer(ctypes.Structure):
-    _fields_ = [
-        *((name, ctypes.c_uint32) for name in ("text", "fault", "der_fault")),
-        ("offset", ctypes.c_size_t),
-        ("count", ctypes.c_size_t),
-    ]
+    _fields_ = [("refusal", Refusal), ("count", ctypes.c_size_t)]
 
 
 def _opened() -> ctypes.CDLL:
@@ -105,23 +128,49 @@ def _opened() -> ctypes.CDLL:
 
 @functools.lru_cache(maxsize=None)
 def library() -> ctypes.CDLL:
-    text = [ctypes.c_char_p, ctypes.c_size_t]
     opened = _opened()
+    try:
+        # One of another version could take other arguments.
+        fits = opened.x509check_version() == _version_number() and _has_these_numbers(_typed(opened))
+    except AttributeError:
+        fits = False  # a call is missing
+    if not fits:
+        raise LibraryMissing("the shared object is of another version than this module; build it by `make`")
+    return opened
+
+
+def _typed(opened: ctypes.CDLL) -> ctypes.CDLL:
+    text = [ctypes.c_char_p, ctypes.c_size_t]
+    asked = [ctypes.POINTER(QueryFields), ctypes.POINTER(TextFields), ctypes.c_size_t]
     for name, takes, answers in (
         ("x509check_check", text, Answer),
         ("x509check_read_certificate", text, CertificateAnswer),
         ("x509check_fingerprint", [*(text * 4), ctypes.c_char_p], None),
-        ("x509check_questions", [*(text * 2), ctypes.POINTER(QuestionFields), ctypes.c_size_t], AskedAnswer),
-        ("x509check_validate", [*(text * 3), ctypes.c_int64, *text], VerdictAnswer),
+        ("x509check_fault_name", [ctypes.c_uint32, *text], ctypes.c_size_t),
+        ("x509check_questions", [*asked, ctypes.POINTER(QuestionFields), ctypes.c_size_t], AskedAnswer),
+        ("x509check_validate", [*asked, *text], VerdictAnswer),
     ):
         call = getattr(opened, name)
         call.argtypes, call.restype = takes, answers
-    _check_numbers(opened)
     return opened
 
 
-def _check_numbers(opened: ctypes.CDLL) -> None:
-    """Whether the shared object answers in the numbers that stand here: one of another version could say by 1 what is another word here."""
-    answer = opened.x509check_validate(b"", 0, b"", 0, b"", 0, 0, b"", 0)
-    if (answer.verdict, answer.text, answer.fault, answer.der_fault) != (REFUSED, 1, _DER_OF_CERTIFICATE, _TRUNCATED):
-        raise LibraryMissing("the shared object is of another version than this module; build it by `make`")
+def _version_number() -> int:
+    """The version of this module, as x509check_version answers that of the library."""
+    from . import __version__
+    major, minor, patch = map(int, __version__.split("."))
+    return major * 10000 + minor * 100 + patch
+
+
+def _has_these_numbers(opened: ctypes.CDLL) -> bool:
+    """Whether it refuses a query of zeros in the numbers that stand here: by 1 one of another version could say what is another word here."""
+    answer = opened.x509check_validate(QueryFields(), None, 0, None, 0)
+    refused = answer.refusal
+    return (answer.verdict, refused.text, refused.fault, refused.der_fault) == (REFUSED, 1, _DER_OF_CERTIFICATE, _TRUNCATED)
+
+
+def fault_name(number: int) -> str:
+    """The name of a fault, or of a rule of DER; the text is empty if none has the number."""
+    written = ctypes.create_string_buffer(_NAME_ROOM)
+    library().x509check_fault_name(number, written, _NAME_ROOM)
+    return written.value.decode("ascii")

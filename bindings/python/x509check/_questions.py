@@ -4,10 +4,7 @@ import dataclasses
 from typing import Iterable, List
 
 from ._arguments import Value
-from ._library import AskedAnswer, Place, QuestionFields, library
-from ._rows import Rows
-
-_ROOM = 64
+from ._query import Query
 
 
 @dataclasses.dataclass(frozen=True)
@@ -25,23 +22,11 @@ class SignatureQuestion:
     fingerprint: bytes
 
 
-def ask(rows: Rows) -> List[SignatureQuestion]:
-    """The questions about the rows."""
-    room = _ROOM
-    while True:
-        written = (QuestionFields * room)()
-        answer: AskedAnswer = library().x509check_questions(*rows.arguments(), written, room)
-        if answer.fault:
-            raise rows.refused(answer)
-        if answer.count <= room:
-            break
-        room = answer.count
-
-    def part(place: Place) -> bytes:
-        return rows.texts[place.text - 1][place.offset:place.offset + place.length]
-
+def ask(query: Query) -> List[SignatureQuestion]:
+    """The questions, as octets."""
+    part = query.part
     return [SignatureQuestion(part(it.algorithm), part(it.key_info), part(it.message), part(it.signature), bytes(it.fingerprint))
-            for it in written[:answer.count]]
+            for it in query.questions()]
 
 
 def questions(anchor: Value, chain: Iterable[Value], statements: Iterable[Value]) -> List[SignatureQuestion]:
@@ -50,4 +35,4 @@ def questions(anchor: Value, chain: Iterable[Value], statements: Iterable[Value]
 
     Raises a Fault if a certificate or a statement cannot be read.
     """
-    return ask(Rows(anchor, chain, statements))
+    return ask(Query(anchor, chain, statements))

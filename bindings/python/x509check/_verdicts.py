@@ -7,10 +7,10 @@ from typing import Callable, Iterable, List, Optional, Sequence, Tuple, Union
 
 from ._arguments import Moment, Value, der_of, listed, octets_of, purpose_of, seconds_of
 from ._certificates import Certificate
-from ._library import REFUSED, VERDICT_WORDS, VerdictAnswer, library
+from ._library import VERDICT_WORDS, VerdictAnswer
 from ._names import Identity
+from ._query import Ignored, Query
 from ._questions import SignatureQuestion, ask
-from ._rows import Ignored, Rows
 from .signatures import Judgement, judge_all
 
 # A path has at most so many certificates.
@@ -157,18 +157,19 @@ def _identity(octets: bytes) -> Identity:
     return Certificate.from_der(octets).identity
 
 
-def _check_target(rows: Rows, target: Optional[Value]) -> None:
+def _check_target(query: Query, target: Optional[Value]) -> None:
     """Raises ValueError if the last certificate of the path is not the one that the caller names."""
-    path = rows.certificates[1:]
+    path = query.certificates[1:]
     if target is None or len(path) > _MOST:
         return
     named = der_of(target, "target")
     if path[-1:] != [named]:
+        query.questions()  # what cannot be read is refused first
         there = f"that is {_identity(path[-1])}" if path else "the chain is empty"
         raise ValueError(f"the target is not the last certificate of the chain: it is {_identity(named)}; {there}")
 
 
-def _result(answer: VerdictAnswer, rows: Rows) -> Result:
+def _result(answer: VerdictAnswer, query: Query) -> Result:
     """The verdict of an answer, with its numbers in words. A number that has none raises."""
     if answer.verdict not in VERDICT_WORDS:
         raise RuntimeError(f"the library for C answered {answer.verdict}, which is no verdict")
@@ -178,7 +179,7 @@ def _result(answer: VerdictAnswer, rows: Rows) -> Result:
     reason: Union[Reason, RevocationReason, None] = None
     if verdict is not Verdict.UNKNOWN:
         reason = Reason(answer.reason) if verdict is Verdict.INVALID else RevocationReason(answer.reason)
-    decides = _identity(rows.certificates[answer.certificate]) if answer.certificate else None
+    decides = _identity(query.certificates[answer.certificate]) if answer.certificate else None
     return Result(verdict, answer.certificate, reason, decides=decides)
 
 
@@ -222,13 +223,11 @@ def validate(
     moment, asked_for = seconds_of(at), purpose_of(purpose)
     given = None if fingerprints is None else _prints(fingerprints)
     # Of a longer path so many certificates are handed on that the library says that it is too long.
-    rows = Rows(anchor, listed("chain", chain, _MOST + 1), statements, ignore_unreadable)
-    _check_target(rows, target)
-    judged = _judged(_different(ask(rows)), verify) if given is None else ()
+    query = Query(anchor, listed("chain", chain, _MOST + 1), statements, moment, asked_for)
+    ignored = query.leave_out_unreadable() if ignore_unreadable else ()
+    _check_target(query, target)
+    judged = _judged(_different(ask(query)), verify) if given is None else ()
     good = b"".join(question.fingerprint for question, judgement in judged if judgement is Judgement.GOOD)
-    prints = good if given is None else given
-    answer = library().x509check_validate(*rows.arguments(), prints, len(prints), moment, asked_for, len(asked_for))
-    if answer.verdict == REFUSED:
-        raise rows.refused(answer)
-    about = _identity(rows.certificates[-1]) if 1 < len(rows.certificates) <= 1 + _MOST else None
-    return dataclasses.replace(_result(answer, rows), target=about, judgements=judged, ignored=rows.ignored)
+    answer = query.verdict(good if given is None else given)
+    about = _identity(query.certificates[-1]) if 1 < len(query.certificates) <= 1 + _MOST else None
+    return dataclasses.replace(_result(answer, query), target=about, judgements=judged, ignored=ignored)

@@ -4,7 +4,7 @@
 //! of each question: the fingerprint and the four lengths.
 
 use std::{env, fs, process};
-use x509check::{Error, Fingerprints, Query, Text};
+use x509check::{Fingerprints, Query};
 
 /// What is left of a file.
 struct Left<'a>(&'a [u8]);
@@ -28,27 +28,6 @@ impl<'a> Left<'a> {
             })
             .collect()
     }
-}
-
-/// The refusal with its place in the row, as examples/validate_path.c prints it.
-fn refused(error: Error, certificates: &[&[u8]], statements: &[&[u8]]) -> String {
-    let Error::Refused(fault) = error else {
-        return error.to_string();
-    };
-    let (text, values, index) = match fault.value {
-        Some((Text::Certificates, index)) => ("certificates", certificates, index),
-        Some((Text::Statements, index)) => ("statements", statements, index),
-        None => return error.to_string(),
-    };
-    let before: usize = values[..index].iter().map(|value| value.len()).sum();
-    let der = fault
-        .der
-        .map_or(String::new(), |der| format!(" (DER {der})"));
-    format!(
-        "refused {text} {}{der} at {}",
-        fault.number,
-        before + fault.offset
-    )
 }
 
 fn main() {
@@ -75,7 +54,7 @@ fn main() {
         };
         match query.answer(&Fingerprints(&prints)) {
             Ok(answer) => println!("{}", answer.verdict),
-            Err(error) => println!("{}", refused(error, &certificates, &statements)),
+            Err(error) => println!("refused {error}"),
         }
         let Ok(questions) = query.signature_questions() else {
             continue;

@@ -3,52 +3,7 @@
 use std::error;
 use std::fmt;
 
-const DER: [&str; 7] = [
-    "TagForm",
-    "LengthForm",
-    "TooLong",
-    "Truncated",
-    "TooDeep",
-    "Content",
-    "Trailing",
-];
-const NAMES: [&str; 7] = [
-    "NameLayout",
-    "RdnRepeat",
-    "SetOrder",
-    "Text",
-    "DnsForm",
-    "IpForm",
-    "MaskForm",
-];
-const CERTIFICATES: [&str; 12] = [
-    "Der",
-    "Layout",
-    "Version",
-    "AlgorithmsDiffer",
-    "Serial",
-    "Time",
-    "EmptyIssuer",
-    "ExtensionRepeated",
-    "ExtensionValue",
-    "SubtreeBounds",
-    "SignatureBits",
-    "Limit",
-];
-const STATEMENTS: [&str; 12] = [
-    "Der",
-    "Layout",
-    "NotV2",
-    "NoNumber",
-    "NumberRange",
-    "NoNextUpdate",
-    "Delta",
-    "Scope",
-    "Indirect",
-    "CriticalUnknown",
-    "BadReason",
-    "RemoveInComplete",
-];
+use crate::library::{x509check_fault_name, NAME_ROOM};
 
 /// The number of want of memory.
 const MEMORY: u32 = 33;
@@ -89,23 +44,20 @@ pub enum Error {
     Unexpected(&'static str, usize),
 }
 
-fn name_of(number: u32) -> &'static str {
-    let (names, first): (&[&str], u32) = match number {
-        1..=7 => (&DER, 1),
-        11..=17 => (&NAMES, 11),
-        21..=32 => (&CERTIFICATES, 21),
-        41..=52 => (&STATEMENTS, 41),
-        55 => return "NotSuccessful",
-        56 => return "ResponseType",
-        59 => return "TooManySingles",
-        _ => return "Unnamed",
-    };
-    names[(number - first) as usize]
+/// The name that the library has for a fault, or for a rule of DER.
+fn name_of(number: u32) -> String {
+    let mut name = [0u8; NAME_ROOM];
+    // The call writes no more than the room that the array has.
+    let length = unsafe { x509check_fault_name(number, name.as_mut_ptr().cast(), name.len()) };
+    match name.get(..length) {
+        None | Some([]) => "Unnamed".into(),
+        Some(name) => String::from_utf8_lossy(name).into_owned(),
+    }
 }
 
 impl Fault {
     /// The name that stands beside the number.
-    pub fn name(&self) -> &'static str {
+    pub fn name(&self) -> String {
         name_of(self.number)
     }
 }

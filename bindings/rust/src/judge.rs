@@ -4,9 +4,10 @@ use std::cell::RefCell;
 use std::collections::HashMap;
 use std::fmt;
 
+use crate::calls::ask;
 use crate::fault::Error;
-use crate::library::{Part, Place, QuestionFields, CERTIFICATES, STATEMENTS};
-use crate::rows::Rows;
+use crate::library::{Place, QuestionFields};
+use crate::query::Query;
 
 /// What a judge is asked: whether this is the signature of the message, under the key, by the algorithm.
 #[derive(Clone, Copy, Debug, PartialEq, Eq)]
@@ -127,19 +128,23 @@ impl Judge for Fingerprints<'_> {
 
 /// What a judge may be asked for a verdict: about the certificates of the path, in order, and then about each statement. One question may
 /// be there twice.
-pub struct SignatureQuestions {
-    certificates: Vec<u8>,
-    statements: Vec<u8>,
+pub struct SignatureQuestions<'a> {
+    query: Query<'a>,
     fields: Vec<QuestionFields>,
 }
 
-impl SignatureQuestions {
-    pub(crate) fn of(rows: Rows<'_>) -> Result<SignatureQuestions, Error> {
-        Ok(SignatureQuestions {
-            fields: rows.questions()?,
-            certificates: rows.certificates,
-            statements: rows.statements,
-        })
+impl<'a> SignatureQuestions<'a> {
+    /// The questions about a query; those of which a part lies in no value of it are refused.
+    pub(crate) fn about(query: Query<'a>) -> Result<SignatureQuestions<'a>, Error> {
+        let fields = ask(&query)?;
+        let mut places = fields.iter().flat_map(QuestionFields::places);
+        match places.find(|place| query.part(*place).is_none()) {
+            Some(place) => Err(Error::Unexpected(
+                "a part of a question at the offset",
+                place.offset,
+            )),
+            None => Ok(SignatureQuestions { query, fields }),
+        }
     }
 
     /// How many questions there are.
@@ -153,61 +158,31 @@ impl SignatureQuestions {
     }
 
     /// The questions, in order.
-    pub fn iter(&self) -> impl Iterator<Item = SignatureQuestion<'_>> {
+    pub fn iter(&self) -> impl Iterator<Item = SignatureQuestion<'a>> + '_ {
+        self.fields.iter().map(|fields| self.question(fields))
+    }
+
+    /// The questions about signatures of certificates, or of statements.
+    pub(crate) fn of_text(&self, text: u32) -> impl Iterator<Item = SignatureQuestion<'a>> + '_ {
         self.fields
             .iter()
-            .map(|fields| question_in(&self.certificates, &self.statements, fields))
+            .filter(move |fields| fields.message.text == text)
+            .map(|fields| self.question(fields))
     }
-}
 
-/// The octets of the place, if it lies inside its text.
-fn part_in<'a>(certificates: &'a [u8], statements: &'a [u8], place: Place) -> Option<&'a [u8]> {
-    let part = Part {
-        offset: place.offset,
-        length: place.length,
-    };
-    match place.text {
-        CERTIFICATES => part.of(certificates),
-        STATEMENTS => part.of(statements),
-        _ => None,
-    }
-}
-
-/// Refuses questions of which a part lies in neither text.
-pub(crate) fn check_places(
-    certificates: &[u8],
-    statements: &[u8],
-    fields: &[QuestionFields],
-) -> Result<(), Error> {
-    let places = fields.iter().flat_map(QuestionFields::places);
-    match places
-        .into_iter()
-        .find(|place| part_in(certificates, statements, *place).is_none())
-    {
-        Some(place) => Err(Error::Unexpected(
-            "a part of a question at the offset",
-            place.offset,
-        )),
-        None => Ok(()),
-    }
-}
-
-/// The question as parts of the rows.
-pub(crate) fn question_in<'a>(
-    certificates: &'a [u8],
-    statements: &'a [u8],
-    fields: &QuestionFields,
-) -> SignatureQuestion<'a> {
-    let part = |place| {
-        part_in(certificates, statements, place)
-            .expect("each place was looked at as the questions were taken")
-    };
-    SignatureQuestion {
-        algorithm: part(fields.algorithm),
-        key_info: part(fields.key_info),
-        message: part(fields.message),
-        signature: part(fields.signature),
-        fingerprint: fields.fingerprint,
+    fn question(&self, fields: &QuestionFields) -> SignatureQuestion<'a> {
+        let part = |place: Place| {
+            self.query
+                .part(place)
+                .expect("each place was looked at as the questions were taken")
+        };
+        SignatureQuestion {
+            algorithm: part(fields.algorithm),
+            key_info: part(fields.key_info),
+            message: part(fields.message),
+            signature: part(fields.signature),
+            fingerprint: fields.fingerprint,
+        }
     }
 }
 
@@ -215,8 +190,8 @@ pub(crate) fn question_in<'a>(
 pub(crate) struct Heard<'j> {
     judge: &'j dyn Judge,
     said: HashMap<[u8; 32], Judgement>,
-    /// The fingerprints of the good ones, one behind the other.
-    pub good: Vec<u8>,
+    /// The fingerprints of the good ones.
+    pub good: Vec<[u8; 32]>,
 }
 
 impl<'j> Heard<'j> {
@@ -235,7 +210,7 @@ impl<'j> Heard<'j> {
         let judgement = self.judge.judge(question);
         self.said.insert(question.fingerprint, judgement);
         if judgement == Judgement::Good {
-            self.good.extend_from_slice(&question.fingerprint);
+            self.good.push(question.fingerprint);
         }
     }
 

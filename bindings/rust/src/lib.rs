@@ -35,6 +35,7 @@
 #![deny(missing_docs)]
 
 mod answer;
+mod calls;
 mod certificate;
 mod fault;
 mod identity;
@@ -42,7 +43,6 @@ mod judge;
 mod library;
 mod name;
 mod query;
-mod rows;
 mod verdict;
 
 pub use answer::{Answer, NotValid};

@@ -1,4 +1,36 @@
-//! The calls of the library for C and the structs that they answer with, as x509check.h has them.
+//! The calls of the library for C and their structs, as x509check.h has them.
+
+use std::ffi::c_char;
+
+/// Octets of the caller.
+#[repr(C)]
+pub(crate) struct TextFields {
+    pub octets: *const u8,
+    pub length: usize,
+}
+
+#[repr(C)]
+pub(crate) struct QueryFields {
+    pub anchor: TextFields,
+    pub path: *const TextFields,
+    pub path_count: usize,
+    pub moment: i64,
+    pub purpose: TextFields,
+}
+
+impl TextFields {
+    /// What it points to may be read while the slice lives.
+    pub(crate) fn of(octets: &[u8]) -> TextFields {
+        TextFields {
+            octets: octets.as_ptr(),
+            length: octets.len(),
+        }
+    }
+
+    pub(crate) fn of_each(values: &[&[u8]]) -> Vec<TextFields> {
+        values.iter().map(|value| TextFields::of(value)).collect()
+    }
+}
 
 #[repr(C)]
 #[derive(Clone, Copy)]
@@ -85,18 +117,26 @@ pub(crate) const REVOKED: u32 = 3;
 pub(crate) const UNKNOWN: u32 = 4;
 pub(crate) const REFUSED: u32 = 5;
 
+/// Which certificate or statement is refused, and why. All is 0 if none is.
+#[repr(C)]
+#[derive(Clone, Copy, Default)]
+pub(crate) struct Refusal {
+    pub text: u32,
+    pub fault: u32,
+    pub der_fault: u32,
+    pub index: usize,
+    pub offset: usize,
+}
+
 #[repr(C)]
 pub(crate) struct VerdictAnswer {
     pub verdict: u32,
     pub reason: u32,
     pub certificate: usize,
-    pub text: u32,
-    pub fault: u32,
-    pub der_fault: u32,
-    pub offset: usize,
+    pub refusal: Refusal,
 }
 
-/// The texts of a question, by the numbers of the header.
+/// What a place or a refusal is in, by the numbers of the header.
 pub(crate) const CERTIFICATES: u32 = 1;
 pub(crate) const STATEMENTS: u32 = 2;
 
@@ -105,6 +145,7 @@ pub(crate) const STATEMENTS: u32 = 2;
 #[derive(Clone, Copy, Default)]
 pub(crate) struct Place {
     pub text: u32,
+    pub index: usize,
     pub offset: usize,
     pub length: usize,
 }
@@ -127,12 +168,12 @@ impl QuestionFields {
 
 #[repr(C)]
 pub(crate) struct AskedAnswer {
-    pub text: u32,
-    pub fault: u32,
-    pub der_fault: u32,
-    pub offset: usize,
+    pub refusal: Refusal,
     pub count: usize,
 }
+
+/// The room that each name fits into.
+pub(crate) const NAME_ROOM: usize = 32;
 
 extern "C" {
     pub(crate) fn x509check_check(octets: *const u8, length: usize) -> Answer;
@@ -150,24 +191,20 @@ extern "C" {
         fingerprint: *mut u8,
     );
     pub(crate) fn x509check_sha256(octets: *const u8, length: usize, digest: *mut u8);
+    pub(crate) fn x509check_fault_name(fault: u32, name: *mut c_char, room: usize) -> usize;
     pub(crate) fn x509check_questions(
-        certificates: *const u8,
-        certificates_length: usize,
-        statements: *const u8,
-        statements_length: usize,
+        query: *const QueryFields,
+        statements: *const TextFields,
+        statement_count: usize,
         questions: *mut QuestionFields,
         room: usize,
     ) -> AskedAnswer;
     pub(crate) fn x509check_validate(
-        certificates: *const u8,
-        certificates_length: usize,
-        statements: *const u8,
-        statements_length: usize,
-        fingerprints: *const u8,
-        fingerprints_length: usize,
-        moment: i64,
-        purpose: *const u8,
-        purpose_length: usize,
+        query: *const QueryFields,
+        statements: *const TextFields,
+        statement_count: usize,
+        fingerprints: *const [u8; 32],
+        fingerprint_count: usize,
     ) -> VerdictAnswer;
 }
 
@@ -178,14 +215,17 @@ mod tests {
 
     #[test]
     fn structs_have_the_sizes_of_the_header() {
+        assert_eq!(size_of::<TextFields>(), 16);
+        assert_eq!(size_of::<QueryFields>(), 56);
         assert_eq!(size_of::<Part>(), 16);
         assert_eq!(size_of::<Answer>(), 16);
         assert_eq!(size_of::<ExtensionFields>(), 56);
         assert_eq!(size_of::<Fields>(), 208);
         assert_eq!(size_of::<CertificateAnswer>(), 224);
-        assert_eq!(size_of::<VerdictAnswer>(), 40);
-        assert_eq!(size_of::<Place>(), 24);
-        assert_eq!(size_of::<QuestionFields>(), 128);
-        assert_eq!(size_of::<AskedAnswer>(), 32);
+        assert_eq!(size_of::<Refusal>(), 32);
+        assert_eq!(size_of::<VerdictAnswer>(), 48);
+        assert_eq!(size_of::<Place>(), 32);
+        assert_eq!(size_of::<QuestionFields>(), 160);
+        assert_eq!(size_of::<AskedAnswer>(), 40);
     }
 }

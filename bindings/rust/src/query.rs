@@ -1,12 +1,14 @@
 //! The question about a path, and how it is answered.
 
+use std::slice;
+
 use crate::answer::{Answer, NotValid};
+use crate::calls::{ask, validate};
 use crate::certificate::{check, Certificate};
 use crate::fault::{Error, Fault, Text};
 use crate::identity::Identity;
-use crate::judge::{question_in, Heard, Judge, Judgement, SignatureQuestions};
-use crate::library::{x509check_validate, QuestionFields, CERTIFICATES, REFUSED, STATEMENTS};
-use crate::rows::{Refusal, Rows};
+use crate::judge::{Heard, Judge, Judgement, SignatureQuestions};
+use crate::library::{Part, Place, CERTIFICATES, STATEMENTS};
 use crate::verdict::{Reason, Verdict};
 
 /// The certificates that a path may have.
@@ -42,8 +44,8 @@ pub struct Query<'a> {
 
 impl<'a> Query<'a> {
     /// What a judge may be asked, at whatever moment and for whatever purpose.
-    pub fn signature_questions(&self) -> Result<SignatureQuestions, Error> {
-        SignatureQuestions::of(self.rows()?)
+    pub fn signature_questions(&self) -> Result<SignatureQuestions<'a>, Error> {
+        SignatureQuestions::about(self.handed())
     }
 
     /// The answer of who believes the judge, or the first fault of a certificate or a statement that cannot be read.
@@ -75,9 +77,32 @@ impl<'a> Query<'a> {
         self.answer(judge)?.require_valid()
     }
 
-    fn rows(&self) -> Result<Rows<'a>, Error> {
-        let handed = self.path.len().min(MOST_HANDED);
-        Rows::of(self.anchor, &self.path[..handed], self.statements)
+    /// What of the query is handed to the library.
+    fn handed(&self) -> Query<'a> {
+        let path = &self.path[..self.path.len().min(MOST_HANDED)];
+        Query { path, ..*self }
+    }
+
+    /// The certificate with this number: 0 is the anchor.
+    fn certificate(&self, number: usize) -> Option<&'a [u8]> {
+        match number.checked_sub(1) {
+            None => Some(self.anchor),
+            Some(index) => self.path.get(index).copied(),
+        }
+    }
+
+    /// The octets of the place, if there are any.
+    pub(crate) fn part(&self, place: Place) -> Option<&'a [u8]> {
+        let part = Part {
+            offset: place.offset,
+            length: place.length,
+        };
+        let value = match place.text {
+            CERTIFICATES => self.certificate(place.index),
+            STATEMENTS => self.statements.get(place.index).copied(),
+            _ => None,
+        };
+        part.of(value?)
     }
 
     /// Refuses a verdict on a part of the path, unless it is that the path is too long.
@@ -99,7 +124,12 @@ impl<'a> Query<'a> {
     fn readable(&self) -> Result<(Vec<&'a [u8]>, Vec<Fault>), Error> {
         let (mut readable, mut ignored) = (Vec::new(), Vec::new());
         for (index, statement) in self.statements.iter().enumerate() {
-            match Rows::of(self.anchor, &[], &[statement]).and_then(|rows| rows.questions()) {
+            let alone = Query {
+                path: &[],
+                statements: slice::from_ref(statement),
+                ..*self
+            };
+            match ask(&alone) {
                 Ok(_) => readable.push(*statement),
                 Err(Error::Refused(fault))
                     if matches!(fault.value, Some((Text::Statements, _))) =>
@@ -116,8 +146,8 @@ impl<'a> Query<'a> {
     }
 }
 
-/// The contents of an OBJECT IDENTIFIER; the library says whether they are.
-fn purpose_of(contents: &[u8]) -> Result<&[u8], Error> {
+/// Refuses octets that are no contents of an OBJECT IDENTIFIER; the library says whether they are.
+fn check_purpose(contents: &[u8]) -> Result<(), Error> {
     let digits = contents.len().to_be_bytes();
     let skipped = digits.iter().take_while(|digit| **digit == 0).count();
     let mut octets = vec![0x06];
@@ -127,88 +157,48 @@ fn purpose_of(contents: &[u8]) -> Result<&[u8], Error> {
     octets.extend_from_slice(&digits[skipped.min(digits.len() - 1)..]);
     octets.extend_from_slice(contents);
     match check(&octets) {
-        Ok(()) => Ok(contents),
         Err(Error::Refused(_)) => Err(Error::Purpose),
-        Err(error) => Err(error),
+        other => other,
     }
 }
 
 /// A query whose certificates and statements were read.
 struct Asking<'a> {
-    rows: Rows<'a>,
+    query: Query<'a>,
     path_length: usize,
-    moment: i64,
-    /// No octets if no purpose is asked for.
-    purpose: &'a [u8],
-    fields: Vec<QuestionFields>,
+    questions: SignatureQuestions<'a>,
 }
 
 impl<'a> Asking<'a> {
     fn of(query: &Query<'a>) -> Result<Asking<'a>, Error> {
-        let purpose = match query.purpose {
-            Some(contents) => purpose_of(contents)?,
-            None => &[],
-        };
-        let rows = query.rows()?;
+        query.purpose.map_or(Ok(()), check_purpose)?;
         Ok(Asking {
-            fields: rows.questions()?,
-            rows,
+            questions: query.signature_questions()?,
+            query: query.handed(),
             path_length: query.path.len(),
-            moment: query.moment,
-            purpose,
         })
     }
 
     /// What the library says if these signatures are good and no others.
-    fn verdict_by(&self, statements: &[u8], good: &[u8]) -> Result<Verdict, Error> {
-        // The pointers and the lengths are those of the slices, and the call only reads them.
-        let answer = unsafe {
-            x509check_validate(
-                self.rows.certificates.as_ptr(),
-                self.rows.certificates.len(),
-                statements.as_ptr(),
-                statements.len(),
-                good.as_ptr(),
-                good.len(),
-                self.moment,
-                self.purpose.as_ptr(),
-                self.purpose.len(),
-            )
+    fn verdict_by(&self, statements: &[&[u8]], good: &[[u8; 32]]) -> Result<Verdict, Error> {
+        let query = Query {
+            statements,
+            ..self.query
         };
-        if answer.verdict != REFUSED {
-            return Verdict::of(&answer, self.path_length.min(MOST_HANDED));
-        }
-        Err(self.rows.refused(&Refusal {
-            text: answer.text,
-            fault: answer.fault,
-            der_fault: answer.der_fault,
-            offset: answer.offset,
-        }))
-    }
-
-    /// The questions about signatures of what stands in this text.
-    fn questions_about(&self, text: u32) -> impl Iterator<Item = &QuestionFields> {
-        self.fields
-            .iter()
-            .filter(move |fields| fields.message.text == text)
+        Verdict::of(&validate(&query, good)?, query.path.len())
     }
 
     fn ask_about(&self, text: u32, heard: &mut Heard<'_>) {
-        for fields in self.questions_about(text) {
-            heard.ask(&question_in(
-                &self.rows.certificates,
-                &self.rows.statements,
-                fields,
-            ));
+        for question in self.questions.of_text(text) {
+            heard.ask(&question);
         }
     }
 
     /// The verdict, as if the judge had been asked every question. A path is looked at before its statements, so a path that is invalid
-    /// stays so whatever they say; and whether it is empty or too long does not depend on signatures.
+    /// stays so whatever they say; and whether it is too long does not depend on signatures.
     fn verdict(&self, heard: &mut Heard<'_>) -> Result<Verdict, Error> {
-        let unsigned = self.verdict_by(&[], &[])?;
-        if unsigned.certificate() == Some(0) {
-            return Ok(unsigned);
+        if self.path_length > MOST_CERTIFICATES {
+            return self.verdict_by(&[], &[]);
         }
         self.ask_about(CERTIFICATES, heard);
         let on_path = self.verdict_by(&[], &heard.good)?;
@@ -216,12 +206,12 @@ impl<'a> Asking<'a> {
             return Ok(on_path);
         }
         self.ask_about(STATEMENTS, heard);
-        self.verdict_by(&self.rows.statements, &heard.good)
+        self.verdict_by(self.query.statements, &heard.good)
     }
 
     /// Whom the certificate with this number names.
     fn identity(&self, number: usize) -> Result<Identity, Error> {
-        match self.rows.certificate(number) {
+        match self.query.certificate(number) {
             Some(octets) => Certificate::read(octets)?.identity(),
             None => Err(Error::Unexpected("the certificate", number)),
         }
@@ -236,10 +226,11 @@ impl<'a> Asking<'a> {
         else {
             return None;
         };
-        let fields = self
-            .questions_about(CERTIFICATES)
+        let question = self
+            .questions
+            .of_text(CERTIFICATES)
             .nth(certificate.checked_sub(1)?)?;
-        heard.of(&fields.fingerprint)
+        heard.of(&question.fingerprint)
     }
 
     fn answer(&self, verdict: Verdict, heard: &Heard<'_>) -> Result<Answer, Error> {
@@ -276,7 +267,7 @@ mod tests {
             &long,
             &longer,
         ] {
-            assert_eq!(purpose_of(contents), Ok(contents));
+            assert_eq!(check_purpose(contents), Ok(()));
         }
         for contents in [
             &[][..],
@@ -285,7 +276,8 @@ mod tests {
             &[0x2B, 0x80, 1],
             &[0xFF; 300],
         ] {
-            assert_eq!(purpose_of(contents), Err(Error::Purpose), "{contents:02X?}");
+            let refused = check_purpose(contents);
+            assert_eq!(refused, Err(Error::Purpose), "{contents:02X?}");
         }
     }
 }

@@ -164,17 +164,15 @@ impl Verdict {
 #[cfg(test)]
 mod tests {
     use super::*;
-    use crate::library::REFUSED;
+    use crate::library::{Refusal, NAME_ROOM, REFUSED};
+    use std::ffi::c_char;
 
     fn verdict(verdict: u32, reason: u32, certificate: usize) -> Result<Verdict, Error> {
         let answer = VerdictAnswer {
             verdict,
             reason,
             certificate,
-            text: 0,
-            fault: 0,
-            der_fault: 0,
-            offset: 0,
+            refusal: Refusal::default(),
         };
         Verdict::of(&answer, 2)
     }
@@ -243,10 +241,36 @@ mod tests {
         }
     }
 
+    extern "C" {
+        fn x509check_reason_name(
+            verdict: u32,
+            reason: u32,
+            name: *mut c_char,
+            room: usize,
+        ) -> usize;
+    }
+
+    /// The name that the library has for a reason; none if no reason has the number.
+    fn name_of(verdict: u32, reason: u32) -> Option<String> {
+        let mut name = [0u8; NAME_ROOM];
+        // The call writes no more than the room that the array has.
+        let length =
+            unsafe { x509check_reason_name(verdict, reason, name.as_mut_ptr().cast(), name.len()) };
+        (length > 0).then(|| String::from_utf8(name[..length].to_vec()).unwrap())
+    }
+
     #[test]
-    fn reasons_stand_at_their_ranks() {
-        for (index, reason) in REASONS.iter().enumerate() {
-            assert_eq!(*reason as usize, index + 1);
+    fn reasons_are_those_of_the_library() {
+        for number in 0..=40 {
+            let ours = REASONS.iter().find(|reason| **reason as u32 == number);
+            assert_eq!(
+                ours.map(|reason| format!("{reason:?}")),
+                name_of(INVALID, number)
+            );
+            assert_eq!(
+                revocation_reason(number).is_ok(),
+                name_of(REVOKED, number).is_some()
+            );
         }
     }
 }

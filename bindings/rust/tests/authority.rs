@@ -396,6 +396,24 @@ fn a_judge_is_asked_each_question_once_and_only_if_it_counts() {
 }
 
 #[test]
+fn more_questions_than_there_is_room_for_at_first() {
+    let authority = Authority::read();
+    let (path, lists) = (
+        vec![&authority.root[..]; 127],
+        vec![&authority.root_list[..]; 40],
+    );
+    let query = authority.query(&path, &lists);
+    let questions = query.signature_questions().unwrap();
+    // One about each certificate, and about each list one for each issuer of its name.
+    assert_eq!(questions.len(), 127 + 40 * 127);
+    let last = questions.iter().last().unwrap();
+    assert_eq!(last.fingerprint, authority.good[2]);
+    let parts = (last.algorithm, last.key_info, last.message, last.signature);
+    let print = fingerprint(parts.0, parts.1, parts.2, parts.3);
+    assert_eq!(print, authority.good[2]);
+}
+
+#[test]
 fn judges_are_types_closures_and_objects() {
     let authority = Authority::read();
     let path = authority.path();
@@ -492,7 +510,7 @@ fn refusals_name_the_value_and_the_place_in_it() {
         authority.ask(&[null], |it| it.moment = 0),
         refused(Text::Statements, 0, 42, None, 0)
     );
-    // A fault at the end of a value is told of that value, though the next begins there.
+    // A fault at the end of a value has its offset there, and not at the begin of the next.
     let ends: &[u8] = &[0x30, 0x02, 0x30, 0x00];
     let ask = |path: [&[u8]; 2]| {
         let answer = authority.query(&path, &[]).answer(&Fingerprints(&[]));
@@ -571,6 +589,21 @@ fn errors_are_said_in_words() {
         .err()
         .unwrap();
     assert_eq!(error.to_string(), "21 Der (6 Content) at 4");
+    for (number, name) in [
+        (1, "TagForm"),
+        (17, "MaskForm"),
+        (59, "TooManySingles"),
+        (0, "Unnamed"),
+        (999, "Unnamed"),
+    ] {
+        let fault = Fault {
+            number,
+            der: None,
+            offset: 0,
+            value: None,
+        };
+        assert_eq!(fault.name(), name);
+    }
     let boxed: Box<dyn std::error::Error> = error.into();
     assert!(boxed.downcast_ref::<Error>().is_some());
     assert_eq!(

@@ -1,17 +1,28 @@
--- Questions whose parts stand in rows, as places of two texts.
-use Rattle.std.proofs.Common.{◌≡◌, ◌+◌, ◌-◌, ◌<◌, min, ℕ, zero, suc, List, [], ◌∷◌, ◌++◌, length, map, take, drop, get_or, slice_range, set, refl, sym, ap, ◌∙◌, inl, inr, arith, take_all, append_assoc}
+-- Questions whose parts stand in texts, as places of these.
+use Rattle.std.proofs.Common.{◌≡◌, ◌+◌, ◌-◌, ◌<◌, min, ℕ, zero, suc, List, [], ◌∷◌, ◌++◌, Ok, length, map, take, drop, get_or, slice_index_or, slice_range, set, refl, sym, ap, ◌∙◌, subst, inl, inr, arith, take_all, append_assoc}
+use Rattle.std.specs.List.{AllByRecursion}
 use Rattle.std.proofs.lemmas.List.{length-append, length-map, take-append-le, take_more, take_more_set, drop-set, take_min, drop_min, length-set, take-append-drop}
+use Rattle.asn.specs.DerLaws.{AreOctets}
 use Rattle.asn.specs.Part.{IsPartOf}
-use Rattle.relying_rows.specs.Places.{AllInRows, AreInRows, PartStands, row_text, seen_row_question, seen_row_questions}
-use Rattle.relying_rows.specs.RowQuestions.{AreQuestionsInRows}
-use Rattle.relying_rows.specs.declared.places.Row.{Row}
-use Rattle.relying_rows.specs.declared.places.Row.TheVariants.{Certificates, Statements}
-use Rattle.relying_rows.specs.declared.places.RowPart.{RowPart}
-use Rattle.relying_rows.specs.declared.places.RowQuestion.{RowQuestion}
+use Rattle.cert.specs.Certificate.{Certificate, certificate}
+use Rattle.cert.proofs.Laws.{certificate_is_exact}
+use Rattle.statements.specs.OneIssuer.{WasRead}
+use Rattle.statements.specs.Statement.{Statement, statement}
+use Rattle.path.specs.Query.{Query}
+use Rattle.relying_questions.specs.Places.{AllInTexts, AreInTexts, Stands, WereRead, WereStatementsRead, octets_of_each, texts_at, texts_in}
+use Rattle.relying_questions.specs.Questions.{questions_of}
+use Rattle.relying_questions.specs.Seen.{seen_all, seen_question}
+use Rattle.relying_questions.specs.declared.part.Part as of_text
+use Rattle.relying_questions.specs.declared.part.Source.{Source}
+use Rattle.relying_questions.specs.declared.part.Source.TheVariants as source
+use Rattle.relying_questions.specs.declared.question.SignatureQuestion as asked
+use Rattle.relying_texts.specs.Reading.{AreStatementsRead}
 use Rattle.capi.specs.Parts.{IsPart}
-use Rattle.capi.specs.Questions.{AreWritten, IsPlace, TellEach, TellsQuestion, place_of, question_of, text_number}
-use Rattle.capi.specs.declared.questions.Asked.{Asked}
+use Rattle.capi.specs.Questions.{AreWritten, IsPlace, TellEach, TellsQuestion, place_of, question_of, text_index, text_number}
+use Rattle.capi.specs.Texts.{AreAllOctets, AreCertificates, IsRead, certificates_in, octets_in}
 use Rattle.capi.specs.declared.questions.SignatureQuestion.{SignatureQuestion}
+use Rattle.capi.specs.declared.texts.Query as code
+use Rattle.capi.specs.declared.texts.Text.{Text}
 
 -- ---- parts of a text
 
@@ -37,17 +48,33 @@ is_part text at octets is = record {
       ∙ cut_out is.before octets is.behind;
 }
 
-placed : (certificates statements : List ℕ) (row : Row) (at : ℕ) (octets : List ℕ) → IsPartOf (row_text certificates statements row) at octets
-    → IsPlace certificates statements (record { text = text_number row; offset = at; length = length octets }) octets
-placed certificates statements Certificates at octets is = inl (refl, is_part certificates at octets is)
-placed certificates statements Statements at octets is = inr (refl, is_part statements at octets is)
+-- ---- texts that are there
 
-place_tells : (certificates statements : List ℕ) (part : RowPart) → PartStands certificates statements part → IsPlace certificates statements (place_of part) part.octets.now
-place_tells certificates statements part is = placed certificates statements part.row part.at part.octets.now is
+-- no part of no octets but the empty one at its begin
+is_there : (texts : List (List ℕ)) (i at : ℕ) (octets : List ℕ) → IsPartOf (slice_index_or texts i []) at octets → 0 < at + length octets → i < length texts
+is_there [] i at octets is some = absurd (omega (arith, some, is.place, ap length is.joined, length-append is.before octets, length-append (is.before ++ octets) is.behind))
+is_there (text ∷ texts) zero at octets is some = omega arith
+is_there (text ∷ texts) (suc i) at octets is some = omega (arith, is_there texts i at octets is some)
+
+placed : (certificates statements : List (List ℕ)) (from : Source) (at : ℕ) (octets : List ℕ) → IsPartOf (texts_at certificates statements from) at octets → 0 < at + length octets
+    → IsPlace certificates statements (record { text = text_number from; index = text_index from; offset = at; length = length octets }) octets
+placed certificates statements (source.Certificate i) at octets is some = record {
+  text = slice_index_or certificates i [];
+  is_text = inl (refl, (is_there certificates i at octets is some, refl));
+  is_part = is_part (slice_index_or certificates i []) at octets is;
+}
+placed certificates statements (source.Statement i) at octets is some = record {
+  text = slice_index_or statements i [];
+  is_text = inr (refl, (is_there statements i at octets is some, refl));
+  is_part = is_part (slice_index_or statements i []) at octets is;
+}
+
+place_tells : (certificates statements : List (List ℕ)) (part : of_text.Part) → Stands (texts_at certificates statements) part → IsPlace certificates statements (place_of part) part.octets.now
+place_tells certificates statements part is = placed certificates statements part.source part.at part.octets.now is.is_part is.is_there
 
 -- ---- questions
 
-tells : (certificates statements : List ℕ) (one : RowQuestion) → AreInRows certificates statements one → TellsQuestion certificates statements (question_of one) (seen_row_question one)
+tells : (certificates statements : List (List ℕ)) (one : asked.SignatureQuestion) → AreInTexts (texts_at certificates statements) one → TellsQuestion certificates statements (question_of one) (seen_question one)
 tells certificates statements one is = record {
   algorithm = place_tells certificates statements one.algorithm is.algorithm;
   key_info = place_tells certificates statements one.key_info is.key_info;
@@ -56,10 +83,35 @@ tells certificates statements one is = record {
   fingerprint = refl;
 }
 
-tell_each : (certificates statements : List ℕ) (asked : List RowQuestion) → AllInRows certificates statements asked
-    → TellEach certificates statements (map question_of asked) (map seen_row_question asked)
+tell_each : (certificates statements : List (List ℕ)) (asked : List asked.SignatureQuestion) → AllInTexts (texts_at certificates statements) asked
+    → TellEach certificates statements (map question_of asked) (seen_all asked)
 tell_each certificates statements [] all = tt
 tell_each certificates statements (one ∷ asked) all = (tells certificates statements one all.0, tell_each certificates statements asked all.1)
+
+-- ---- what was read from texts
+
+-- certificates that were read from octets have these octets
+were_read : (texts : List (List ℕ)) (these : List Certificate) → AllByRecursion AreOctets texts → AreCertificates texts these → AllByRecursion WasRead these × (octets_of_each these ≡ texts)
+were_read [] [] octets each = (tt, refl)
+were_read [] (it ∷ these) octets each = absurd (omega (arith, ap length each))
+were_read (text ∷ texts) [] octets each = absurd (omega (arith, ap length each))
+were_read (text ∷ texts) (it ∷ these) octets each =
+    let read : certificate text ≡ Ok it = cc in
+    let others : AreCertificates texts these = cc in
+    let rest = were_read texts these octets.1 others in
+    let same : it.octets ≡ text = ap (λ (c : Certificate). c.octets) ((certificate_is_exact text it octets.0).0 read).layout.fields_are in (
+      (record { octets = text; are_octets = octets.0; reads = read }, rest.0),
+      ap (λ (octets : List ℕ). octets ∷ octets_of_each these) same ∙ ap (λ (others : List (List ℕ)). text ∷ others) rest.1,
+    )
+
+were_statements_read : (texts : List (List ℕ)) (these : List Statement) → AllByRecursion AreOctets texts → AreStatementsRead texts these → WereStatementsRead texts these
+were_statements_read [] [] octets each = tt
+were_statements_read [] (it ∷ these) octets each = absurd (omega (arith, ap length each))
+were_statements_read (text ∷ texts) [] octets each = absurd (omega (arith, ap length each))
+were_statements_read (text ∷ texts) (it ∷ these) octets each =
+    let read : statement text ≡ Ok it = cc in
+    let others : AreStatementsRead texts these = cc in
+    (record { are_octets = octets.0; reads = read }, were_statements_read texts these octets.1 others)
 
 -- ---- an array that is written from the first on
 
@@ -107,19 +159,26 @@ get_map f (x ∷ xs) (suc i) d e below = get_map f xs i d e (omega (arith, below
 
 -- ---- what is written and told
 
-pub are_written : (certificates statements : List ℕ) (asked : List RowQuestion) (old new : List SignatureQuestion) (answer : Asked)
-    → AreQuestionsInRows certificates statements (seen_row_questions asked) → AllInRows certificates statements asked
-    → new ≡ take (length old) (map question_of asked) ++ drop (length asked) old
-    → answer ≡ record { text = 0; fault = 0; der_fault = 0; offset = 0; count = length asked }
-    → AreWritten certificates statements old new answer
-are_written certificates statements asked old new answer are places written answer_is = record {
-  asked = seen_row_questions asked;
-  may_be_asked = are;
+pub are_written : (query : code.Query) (statements : List Text) (read : Query) (these : List Statement) (asked : List asked.SignatureQuestion) (old new : List SignatureQuestion) (count : ℕ)
+    → AreAllOctets (certificates_in query) × AreAllOctets (octets_in statements) → IsRead query statements read these → seen_all asked ≡ questions_of read these
+    → ((octets : List (List ℕ)) → WereRead read → WereStatementsRead octets these → AllInTexts (texts_in read octets) asked)
+    → new ≡ take (length old) (map question_of asked) ++ drop (length asked) old → count ≡ length asked → AreWritten query statements old new count
+are_written query statements read these asked old new count fit is are places written count_is = record {
+  read = read;
+  these = these;
+  is_read = is;
+  asked = seen_all asked;
+  may_be_asked = λ moment purpose. are;
   questions = map question_of asked;
-  tell_each = tell_each certificates statements asked places;
+  tell_each = tell_each (certificates_in query) (octets_in statements) asked stand;
   written = written ∙ ap (λ (n : ℕ). take (length old) (map question_of asked) ++ drop n old) (sym (length-map asked question_of));
-  answer_is = answer_is ∙ ap counted (sym (length-map asked seen_row_question));
+  count_is = count_is ∙ sym (length-map asked seen_question);
 }
   where
-    counted : ℕ → Asked
-    counted n = record { text = 0; fault = 0; der_fault = 0; offset = 0; count = n }
+    certificates : AllByRecursion WasRead (read.anchor ∷ read.certificates) × (octets_of_each (read.anchor ∷ read.certificates) ≡ certificates_in query)
+    certificates = were_read (certificates_in query) (read.anchor ∷ read.certificates) fit.0 is.query_is.certificates
+
+    stand : AllInTexts (texts_at (certificates_in query) (octets_in statements)) asked
+    stand =
+        subst (λ (them : List (List ℕ)). AllInTexts (texts_at them (octets_in statements)) asked) certificates.1
+        (places (octets_in statements) certificates.0 (were_statements_read (octets_in statements) these fit.1 is.statements_are))

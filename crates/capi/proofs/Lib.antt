@@ -2,3 +2,5 @@ mod Contents
 mod Usage
 mod Standing
 mod Asking
+mod Naming
+mod Fitting

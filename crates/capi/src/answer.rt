@@ -1,6 +1,7 @@
 //! What the calls answer: a fault's number and its place.
 
 use crate::fields::Fields;
+use crate::refusal::Refusal;
 
 /// Whether octets are DER: 0, or the fault's number, and the offset of the value at fault.
 #[derive(Clone, Copy, Debug, PartialEq, Eq, Default)]
@@ -21,7 +22,7 @@ pub struct CertificateAnswer {
     pub fields: Fields,
 }
 
-/// The verdict on a path, or why the question is refused. What has no number there is 0.
+/// The verdict on a path, or why a certificate or a statement is refused. What has no number there is 0.
 #[derive(Clone, Copy, Debug, PartialEq, Eq, Default)]
 #[repr(C)]
 pub struct VerdictAnswer {
@@ -31,10 +32,5 @@ pub struct VerdictAnswer {
     pub reason: u32,
     /// The number of the certificate that decides; the first behind the anchor has 1.
     pub certificate: usize,
-    /// Which text is refused: 1 the certificates, 2 the statements, 3 the fingerprints.
-    pub text: u32,
-    pub fault: u32,
-    /// The number of the rule of DER that is broken, if `fault` is 21 or 41; else 0.
-    pub der_fault: u32,
-    pub offset: usize,
+    pub refusal: Refusal,
 }

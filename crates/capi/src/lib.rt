@@ -2,12 +2,16 @@
 #![tactic(auto)]
 
 mod answer;
+mod case;
 mod checking;
 mod digest_call;
 mod fields;
 mod fingerprint_call;
+mod name_calls;
 mod questions;
 mod reading;
+mod refusal;
+mod texts;
 mod validating;
 mod version_call;
 
@@ -16,8 +20,11 @@ pub use checking::x509check_check;
 pub use digest_call::x509check_sha256;
 pub use fields::{ExtensionFields, Fields, Part};
 pub use fingerprint_call::x509check_fingerprint;
+pub use name_calls::{x509check_fault_name, x509check_reason_name};
 pub use questions::{Asked, Place, SignatureQuestion, x509check_questions};
 pub use reading::x509check_read_certificate;
+pub use refusal::Refusal;
+pub use texts::{Query, Text};
 pub use validating::x509check_validate;
 pub use version_call::x509check_version;
 

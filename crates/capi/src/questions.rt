@@ -1,19 +1,22 @@
 //! `x509check_questions`.
 
-ghost use Rattle.std.specs.Prelude.{◌≡◌, ◌∷◌, ◌++◌, drop, length, map, min, take};
-ghost use Rattle.capi.specs.Questions.{TellsQuestionFault, TellsQuestions, place_of, question_of};
+ghost use Rattle.std.specs.Prelude.{◌≡◌, ◌++◌, drop, length, map, take};
+ghost use Rattle.capi.specs.Questions.{TellsQuestions, WritesQuestions, place_of, question_of};
 
-use crate::reading::der_fault;
-use crate::validating::der_fault_of;
-use relying_rows::{Row, RowFault, RowPart, RowQuestion, questions_in_rows};
+use crate::case::Case;
+use crate::refusal::Refusal;
+use crate::texts::{Query, Text};
+use relying_questions::{Part, SignatureQuestion as Asking, Source, questions};
 use std::alloc::Global;
 
-/// Octets of one of two texts.
+/// Octets of a certificate or of a statement.
 #[derive(Clone, Copy, Debug, PartialEq, Eq, Default)]
 #[repr(C)]
 pub struct Place {
     /// 1 the certificates, 2 the statements.
     pub text: u32,
+    /// Which of them: of the certificates the anchor has 0.
+    pub index: usize,
     pub offset: usize,
     pub length: usize,
 }
@@ -29,28 +32,25 @@ pub struct SignatureQuestion {
     pub fingerprint: [u8; 32],
 }
 
-/// How many questions there are, or why a text is refused. What has no number there is 0.
+/// How many questions there are, or why a certificate or a statement is refused. What has no number there is 0.
 #[derive(Clone, Copy, Debug, PartialEq, Eq, Default)]
 #[repr(C)]
 pub struct Asked {
-    /// Which text is refused: 1 the certificates, 2 the statements.
-    pub text: u32,
-    pub fault: u32,
-    /// Where `fault` is that of DER, the number of the rule of DER that is broken; else 0.
-    pub der_fault: u32,
-    pub offset: usize,
+    pub refusal: Refusal,
     pub count: usize,
 }
 
 impl Place {
-    fn of(part: &RowPart<'_>) -> Place
+    fn of(part: &Part<'_>) -> Place
         ensures { result ≡ place_of part.now }
     {
+        let (text, index) = match part.source {
+            Source::Certificate(number) => (1, number),
+            Source::Statement(index) => (2, index),
+        };
         Place {
-            text: match part.row {
-                Row::Certificates => 1,
-                Row::Statements => 2,
-            },
+            text,
+            index,
             offset: part.at,
             length: part.octets.len(),
         }
@@ -58,7 +58,7 @@ impl Place {
 }
 
 impl SignatureQuestion {
-    fn of(asked: &RowQuestion<'_>) -> SignatureQuestion
+    fn of(asked: &Asking<'_>) -> SignatureQuestion
         ensures { result ≡ question_of asked.now }
     {
         SignatureQuestion {
@@ -71,35 +71,8 @@ impl SignatureQuestion {
     }
 }
 
-/// The refusal as numbers.
-fn refusal_of(fault: RowFault) -> Asked
-    ensures { TellsQuestionFault result fault }
-{
-    let nothing = Asked::default();
-    match fault {
-        RowFault::Certificates(rule, offset) => Asked {
-            text: 1,
-            fault: u32::from(rule.number()),
-            der_fault: der_fault(rule),
-            offset,
-            ..nothing
-        },
-        RowFault::Statements(rule, offset) => Asked {
-            text: 2,
-            fault: u32::from(rule.number()),
-            der_fault: der_fault_of(rule),
-            offset,
-            ..nothing
-        },
-        _ => Asked {
-            fault: 33,
-            ..nothing
-        },
-    }
-}
-
 /// Writes the questions, as many as there is room for.
-fn write(asked: &[RowQuestion<'_>], questions: &mut [SignatureQuestion])
+fn write(asked: &[Asking<'_>], questions: &mut [SignatureQuestion])
     ensures { questions.new ≡ take (length questions.old) (map question_of asked.now)
         ++ drop (length asked.now) questions.old }
 {
@@ -109,29 +82,38 @@ fn write(asked: &[RowQuestion<'_>], questions: &mut [SignatureQuestion])
     }
 }
 
-/// What a judge of signatures may be asked for the verdict on a path by statements, as `relying_rows::questions_in_rows` says: as many
+/// Writes the questions about the path and the statements, and answers how many there are.
+fn write_questions(
+    alloc: Global,
+    query: &Query<'_>,
+    statements: &[Text<'_>],
+    written: &mut [SignatureQuestion],
+) -> Result<usize, Refusal>
+    ensures { WritesQuestions query.now statements.now written.old written.new result }
+{
+    let case = Case::read(alloc, query, statements)?;
+    let asked = questions(alloc, &case.query, case.statements.as_slice())?;
+    let all = asked.as_slice();
+    write(all, written);
+    Ok(all.len())
+}
+
+/// What a judge of signatures may be asked for the verdict on the path by the statements, as `relying_questions::questions` says: as many
 /// questions as there is room for, and how many there are.
 #[unsafe(no_mangle)]
 pub extern "C" fn x509check_questions(
     alloc: Global,
-    certificates: &[u8],
-    statements: &[u8],
+    query: &Query<'_>,
+    statements: &[Text<'_>],
     questions: &mut [SignatureQuestion],
 ) -> Asked
-    ensures { TellsQuestions certificates.now statements.now questions.old questions.new result }
+    ensures { TellsQuestions query.now statements.now questions.old questions.new result }
 {
-    match questions_in_rows(alloc, certificates, statements) {
-        Ok(asked) => {
-            let all = asked.as_slice();
-            write(all, questions);
-            Asked {
-                text: 0,
-                fault: 0,
-                der_fault: 0,
-                offset: 0,
-                count: all.len(),
-            }
-        }
-        Err(fault) => refusal_of(fault),
+    match write_questions(alloc, query, statements, questions) {
+        Ok(count) => Asked {
+            refusal: Refusal::default(),
+            count,
+        },
+        Err(refusal) => Asked { refusal, count: 0 },
     }
 }

@@ -112,18 +112,21 @@ fn reads_extensions(rt: HostRuntime) {
 /// As in the header; in structs of `repr(C)` the fields stand in the order of the source.
 #[test]
 fn structs_have_their_sizes(rt: HostRuntime) {
-    const SIZES: [usize; 9] = [
+    const SIZES: [usize; 12] = [
+        size_of::<Text<'static>>(),
+        size_of::<Query<'static>>(),
         size_of::<Part>(),
         size_of::<Answer>(),
         size_of::<ExtensionFields>(),
         size_of::<Fields>(),
         size_of::<CertificateAnswer>(),
+        size_of::<Refusal>(),
         size_of::<VerdictAnswer>(),
         size_of::<Place>(),
         size_of::<SignatureQuestion>(),
         size_of::<Asked>(),
     ];
-    assert!(rt; SIZES == [16, 16, 56, 208, 224, 40, 24, 128, 32]);
+    assert!(rt; SIZES == [16, 56, 16, 16, 56, 208, 224, 32, 48, 32, 160, 40]);
 }
 
 #[test]
@@ -144,7 +147,7 @@ fn digests(rt: HostRuntime) {
 
 #[test]
 fn versions(rt: HostRuntime) {
-    assert!(rt; x509check_version() == 900);
+    assert!(rt; x509check_version() == 1000);
 }
 
 #[test]
@@ -156,9 +159,54 @@ fn wants_memory_or_answers(rt: HostRuntime) {
 /// 2026-12-01T00:00:00Z
 const DECEMBER: i64 = 1_796_083_200;
 
-/// The answer to a question about the path without a purpose.
-fn asked(alloc: Global, statements: &[u8], fingerprints: &[u8], moment: i64) -> VerdictAnswer {
-    x509check_validate(alloc, PATH, statements, fingerprints, moment, b"")
+fn text(octets: &[u8]) -> Text<'_> {
+    Text { octets }
+}
+
+/// The root, the issuer below it and the leaf.
+fn certificates<'a>() -> [Text<'a>; 3] {
+    let (root, behind) = PATH.split_at(410);
+    let (middle, leaf) = behind.split_at(413);
+    [text(root), text(middle), text(leaf)]
+}
+
+/// Two statements, of which the first has so many octets.
+fn statements(octets: &[u8], first: usize) -> [Text<'_>; 2] {
+    let (one, other) = octets.split_at(first);
+    [text(one), text(other)]
+}
+
+fn lists<'a>() -> [Text<'a>; 2] {
+    statements(LISTS, 187)
+}
+
+fn query<'a>(certificates: &'a [Text<'a>], moment: i64, purpose: &'a [u8]) -> Query<'a> {
+    Query {
+        anchor: certificates[0],
+        path: &certificates[1..],
+        moment,
+        purpose: text(purpose),
+    }
+}
+
+/// The fingerprints that are good.
+fn good() -> [[u8; 32]; 5] {
+    let mut prints = [[0; 32]; 5];
+    for index in 0..5 {
+        prints[index].copy_from_slice(&GOOD[32 * index..32 * index + 32]);
+    }
+    prints
+}
+
+/// The answer to the query about the path without a purpose.
+fn answer(
+    alloc: Global,
+    statements: &[Text<'_>],
+    prints: &[[u8; 32]],
+    moment: i64,
+) -> VerdictAnswer {
+    let path = certificates();
+    x509check_validate(alloc, &query(&path, moment, b""), statements, prints)
 }
 
 fn verdict(verdict: u32, certificate: usize, reason: u32) -> VerdictAnswer {
@@ -170,60 +218,87 @@ fn verdict(verdict: u32, certificate: usize, reason: u32) -> VerdictAnswer {
     }
 }
 
-fn refused(text: u32, fault: u32, der_fault: u32, offset: usize) -> VerdictAnswer {
-    VerdictAnswer {
-        verdict: 5,
+fn refusal(text: u32, fault: u32, der_fault: u32, index: usize, offset: usize) -> Refusal {
+    Refusal {
         text,
         fault,
         der_fault,
+        index,
         offset,
+    }
+}
+
+fn refused(refusal: Refusal) -> VerdictAnswer {
+    VerdictAnswer {
+        verdict: 5,
+        refusal,
         ..VerdictAnswer::default()
     }
 }
 
 #[test]
 fn validates(rt: HostRuntime) {
-    let alloc = rt.alloc();
-    assert!(rt; asked(alloc, LISTS, GOOD, DECEMBER) == verdict(1, 0, 0));
-    assert!(rt; asked(alloc, LISTS, GOOD, 0) == verdict(2, 1, 3));
-    assert!(rt; asked(alloc, LISTS, b"", DECEMBER) == verdict(2, 1, 2));
-    assert!(rt; asked(alloc, REVOKING, GOOD, DECEMBER) == verdict(3, 2, 1));
-    assert!(rt; asked(alloc, b"", GOOD, DECEMBER) == verdict(4, 1, 0));
+    let (alloc, lists, good) = (rt.alloc(), lists(), good());
+    let revoking = statements(REVOKING, 226);
+    assert!(rt; answer(alloc, &lists, &good, DECEMBER) == verdict(1, 0, 0));
+    assert!(rt; answer(alloc, &lists, &good, 0) == verdict(2, 1, 3));
+    assert!(rt; answer(alloc, &lists, &[], DECEMBER) == verdict(2, 1, 2));
+    assert!(rt; answer(alloc, &revoking, &good, DECEMBER) == verdict(3, 2, 1));
+    assert!(rt; answer(alloc, &[], &good, DECEMBER) == verdict(4, 1, 0));
 }
 
 /// A purpose that the leaf's extKeyUsage does not have (id-kp-clientAuth).
 #[test]
 fn validates_for_a_purpose(rt: HostRuntime) {
-    let purpose = b"\x2B\x06\x01\x05\x05\x07\x03\x02";
-    let answer = x509check_validate(rt.alloc(), PATH, LISTS, GOOD, DECEMBER, purpose);
+    let path = certificates();
+    let asked = query(&path, DECEMBER, b"\x2B\x06\x01\x05\x05\x07\x03\x02");
+    let answer = x509check_validate(rt.alloc(), &asked, &lists(), &good());
     assert!(rt; answer == verdict(2, 2, 14));
 }
 
-/// The places count from the first octet of the row.
+/// The answer for these certificates and statements, which are refused.
+fn refused_of(alloc: Global, path: &[Text<'_>], statements: &[Text<'_>]) -> VerdictAnswer {
+    x509check_validate(alloc, &query(path, DECEMBER, b""), statements, &good())
+}
+
 #[test]
-fn refuses_questions(rt: HostRuntime) {
-    let alloc = rt.alloc();
-    let short = x509check_validate(alloc, b"", LISTS, GOOD, DECEMBER, b"");
-    assert!(rt; short == refused(1, 21, 4, 0));
-    let other = x509check_validate(alloc, LISTS, LISTS, GOOD, DECEMBER, b"");
+fn refuses_certificates(rt: HostRuntime) {
+    let (alloc, lists) = (rt.alloc(), lists());
+    let [root, _, leaf] = certificates();
+    let none = refused_of(alloc, &[text(b"")], &lists);
+    assert!(rt; none == refused(refusal(1, 21, 4, 0, 0)));
     // The UTCTime of thisUpdate stands where a certificate has its validity.
-    assert!(rt; other == refused(1, 22, 0, 55));
+    let other = refused_of(alloc, &lists, &lists);
+    assert!(rt; other == refused(refusal(1, 22, 0, 0, 55)));
+    let second = refused_of(alloc, &[root, lists[0], leaf], &lists);
+    assert!(rt; second == refused(refusal(1, 22, 0, 1, 55)));
+    let empty = refused_of(alloc, &[root, leaf, text(b"")], &[text(b"")]);
+    assert!(rt; empty == refused(refusal(1, 21, 4, 2, 0)));
+}
+
+#[test]
+fn refuses_statements(rt: HostRuntime) {
+    let (alloc, path) = (rt.alloc(), certificates());
     // The [0] of the version stands where a list has its version.
-    assert!(rt; asked(alloc, PATH, GOOD, DECEMBER) == refused(2, 43, 0, 8));
-    assert!(rt; asked(alloc, &LISTS[..376 - 1], GOOD, DECEMBER) == refused(2, 41, 4, 187));
-    assert!(rt; asked(alloc, LISTS, &GOOD[..159], DECEMBER) == refused(3, 4, 0, 128));
+    let other = refused_of(alloc, &path, &path);
+    assert!(rt; other == refused(refusal(2, 43, 0, 0, 8)));
+    let cut = refused_of(alloc, &path, &statements(&LISTS[..376 - 1], 187));
+    assert!(rt; cut == refused(refusal(2, 41, 4, 1, 0)));
+    let behind = refused_of(alloc, &path, &[text(LISTS)]);
+    assert!(rt; behind == refused(refusal(2, 41, 7, 0, 187)));
 }
 
 #[test]
 fn validation_wants_memory_or_answers(rt: HostRuntime) {
-    let answer = asked(rt.alloc(), LISTS, GOOD, DECEMBER);
-    assert!(rt; answer == verdict(1, 0, 0) || answer == refused(0, 33, 0, 0));
+    let answer = answer(rt.alloc(), &lists(), &good(), DECEMBER);
+    assert!(rt; answer == verdict(1, 0, 0) || answer == refused(refusal(0, 33, 0, 0, 0)));
 }
 
 /// The questions about the path and statements, written to an array of five.
-fn questions(alloc: Global, statements: &[u8]) -> (Asked, [SignatureQuestion; 5]) {
+fn questions(alloc: Global, statements: &[Text<'_>]) -> (Asked, [SignatureQuestion; 5]) {
+    let path = certificates();
     let mut questions = [SignatureQuestion::default(); 5];
-    let asked = x509check_questions(alloc, PATH, statements, &mut questions);
+    let asked = x509check_questions(alloc, &query(&path, 0, b""), statements, &mut questions);
     (asked, questions)
 }
 
@@ -241,7 +316,7 @@ fn has_print(question: &SignatureQuestion, print: &[u8]) -> bool {
 /// The fingerprints are those that `bin/verdicts` printed.
 #[test]
 fn tells_questions(rt: HostRuntime) {
-    let (asked, written) = questions(rt.alloc(), LISTS);
+    let (asked, written) = questions(rt.alloc(), &lists());
     assert!(rt; asked == counted(4));
     assert!(rt; has_print(&written[0], &GOOD[..32]));
     assert!(rt; has_print(&written[1], &GOOD[32..64]));
@@ -250,55 +325,121 @@ fn tells_questions(rt: HostRuntime) {
     assert!(rt; written[4] == SignatureQuestion::default());
 }
 
-fn place(text: u32, offset: usize, length: usize) -> Place {
+fn place(text: u32, index: usize, offset: usize, length: usize) -> Place {
     Place {
         text,
+        index,
         offset,
         length,
     }
 }
 
-/// The offsets are those of `openssl asn1parse`: root has 410 octets, middle 413, and the list of root 187.
+/// The offsets are those of `openssl asn1parse`.
 #[test]
 fn tells_places(rt: HostRuntime) {
-    let (_, written) = questions(rt.alloc(), LISTS);
+    let (_, written) = questions(rt.alloc(), &lists());
     let (leaf, list) = (&written[1], &written[3]);
-    assert!(rt; leaf.algorithm == place(1, 410 + 413 + 16, 12));
-    assert!(rt; leaf.key_info == place(1, 410 + 132, 91));
-    assert!(rt; leaf.message == place(1, 410 + 413 + 4, 332));
-    assert!(rt; leaf.signature == place(1, 410 + 413 + 351, 71));
-    assert!(rt; list.algorithm == place(2, 187 + 8, 12));
-    assert!(rt; list.key_info == place(1, 410 + 132, 91));
-    assert!(rt; list.message == place(2, 187 + 3, 100));
-    assert!(rt; list.signature == place(2, 187 + 118, 71));
+    assert!(rt; leaf.algorithm == place(1, 2, 16, 12));
+    assert!(rt; leaf.key_info == place(1, 1, 132, 91));
+    assert!(rt; leaf.message == place(1, 2, 4, 332));
+    assert!(rt; leaf.signature == place(1, 2, 351, 71));
+    assert!(rt; list.algorithm == place(2, 1, 8, 12));
+    assert!(rt; list.key_info == place(1, 1, 132, 91));
+    assert!(rt; list.message == place(2, 1, 3, 100));
+    assert!(rt; list.signature == place(2, 1, 118, 71));
 }
 
 #[test]
 fn counts_questions_without_room(rt: HostRuntime) {
-    let alloc = rt.alloc();
+    let (alloc, path) = (rt.alloc(), certificates());
+    let query = query(&path, DECEMBER, b"");
     let mut one = [SignatureQuestion::default(); 1];
-    assert!(rt; x509check_questions(alloc, PATH, LISTS, &mut one) == counted(4));
+    assert!(rt; x509check_questions(alloc, &query, &lists(), &mut one) == counted(4));
     assert!(rt; has_print(&one[0], &GOOD[..32]));
-    assert!(rt; x509check_questions(alloc, PATH, b"", &mut []) == counted(2));
+    assert!(rt; x509check_questions(alloc, &query, &[], &mut []) == counted(2));
 }
 
 #[test]
-fn refuses_texts(rt: HostRuntime) {
-    let (asked, written) = questions(rt.alloc(), PATH);
-    let refused = Asked {
-        text: 2,
-        fault: 43,
-        offset: 8,
-        ..Asked::default()
+fn asks_nothing_of_what_is_refused(rt: HostRuntime) {
+    let (asked, written) = questions(rt.alloc(), &certificates());
+    let of_statement = Asked {
+        refusal: refusal(2, 43, 0, 0, 8),
+        count: 0,
     };
-    assert!(rt; asked == refused);
+    assert!(rt; asked == of_statement);
     assert!(rt; written[0] == SignatureQuestion::default());
-    let none = x509check_questions(rt.alloc(), b"", LISTS, &mut []);
-    assert!(rt; none.text == 1 && none.fault == 21 && none.der_fault == 4);
+    let nothing = [text(b"")];
+    let of_nothing = query(&nothing, DECEMBER, b"");
+    let none = x509check_questions(rt.alloc(), &of_nothing, &lists(), &mut []);
+    assert!(rt; none.refusal == refusal(1, 21, 4, 0, 0));
 }
 
 #[test]
 fn questioning_wants_memory_or_answers(rt: HostRuntime) {
-    let asked = x509check_questions(rt.alloc(), PATH, LISTS, &mut []);
-    assert!(rt; asked == counted(4) || asked.fault == 33);
+    let path = certificates();
+    let asked = x509check_questions(rt.alloc(), &query(&path, 0, b""), &lists(), &mut []);
+    assert!(rt; asked == counted(4) || asked.refusal.fault == 33);
+}
+
+/// The names are those of docs/REFERENCE.md.
+const FAULT_NAMES: &[(u32, &[u8])] = &[
+    (0, b""),
+    (1, b"TagForm"),
+    (8, b"Memory"),
+    (10, b""),
+    (17, b"MaskForm"),
+    (20, b""),
+    (21, b"Der"),
+    (33, b"Memory"),
+    (34, b""),
+    (40, b""),
+    (41, b"Der"),
+    (53, b"OtherIssuer"),
+    (60, b"Memory"),
+    (61, b""),
+    (u32::MAX, b""),
+];
+
+#[test]
+fn names_faults(rt: HostRuntime) {
+    for (fault, name) in FAULT_NAMES {
+        let mut room = [0xFF; 32];
+        let count = x509check_fault_name(*fault, &mut room);
+        assert!(rt; &room[..count] == *name && room[count] == 0, "{fault}");
+    }
+}
+
+/// The verdict, the reason and its name: of a rank that of docs/REFERENCE.md, of a revocation that of RFC 5280, 5.3.1.
+const REASON_NAMES: &[(u32, u32, &[u8])] = &[
+    (1, 1, b""),
+    (2, 0, b""),
+    (2, 1, b"Repeated"),
+    (2, 16, b"TooLong"),
+    (2, 17, b""),
+    (3, 0, b"unspecified"),
+    (3, 1, b"keyCompromise"),
+    (3, 7, b""),
+    (3, 10, b"aACompromise"),
+    (3, 11, b""),
+    (4, 1, b""),
+];
+
+#[test]
+fn names_reasons(rt: HostRuntime) {
+    for (verdict, reason, name) in REASON_NAMES {
+        let mut room = [0xFF; 32];
+        let count = x509check_reason_name(*verdict, *reason, &mut room);
+        assert!(rt;
+            &room[..count] == *name && room[count] == 0,
+            "{verdict} {reason}"
+        );
+    }
+}
+
+#[test]
+fn writes_no_part_of_a_name(rt: HostRuntime) {
+    let mut room = [0xFF; 7];
+    assert_eq!(rt; x509check_fault_name(1, &mut room), 7);
+    assert!(rt; room == [0xFF; 7]);
+    assert_eq!(rt; x509check_fault_name(1, &mut []), 7);
 }

@@ -1,22 +1,24 @@
 //! `x509check_validate`.
 
-ghost use Rattle.std.specs.Prelude.{◌≡◌, ◌<◌};
-ghost use Rattle.std.specs.Option.{option_copied};
-ghost use Rattle.cert.specs.Fault.{cert_rule_number};
-ghost use Rattle.capi.specs.Fields.{der_number};
-ghost use Rattle.capi.specs.Verdict.{TellsVerdict, TellsRowFault, TellsAnswer, purpose_asked, rows_asked, der_number_of};
+ghost use Rattle.std.specs.Prelude.{◌≡◌, ◌<◌, IfErr, IfOk};
+ghost use Rattle.path_verifiers.specs.ListVerifier.{Believes};
+ghost use Rattle.capi.specs.Refusal.{TellsRefusal};
+ghost use Rattle.capi.specs.Verdict.{IsVerdictOn, TellsAnswer, TellsVerdict, refusal_answer};
 
 use crate::answer::VerdictAnswer;
-use crate::reading::der_fault;
-use relying_rows::{RowFault, Rows, Verdict, verdict_in_rows};
-use statements_parts::StatementRule;
-use std::alloc::Global;
+use crate::case::Case;
+use crate::refusal::Refusal;
+use crate::texts::{Query, Text};
+use path_verifiers::ListVerifier;
+use relying_agreement::Verdict;
+use relying_texts::verdict;
+use std::alloc::{AllocError, Global};
 
 const VALID: u32 = 1;
 
-const INVALID: u32 = 2;
+pub(crate) const INVALID: u32 = 2;
 
-const REVOKED: u32 = 3;
+pub(crate) const REVOKED: u32 = 3;
 
 const UNKNOWN: u32 = 4;
 
@@ -53,88 +55,53 @@ fn answer_of(verdict: Verdict) -> VerdictAnswer
     }
 }
 
-/// The number of the rule of DER that is broken, or 0.
-pub(crate) fn der_fault_of(rule: StatementRule) -> u32
-    ensures { result ≡ der_number_of rule }
-{
-    match rule {
-        StatementRule::Der(rule) => u32::from(rule.number()),
-        _ => 0,
-    }
-}
-
-/// The refusal as numbers.
-fn refusal_of(fault: RowFault) -> VerdictAnswer
-    ensures tells { TellsRowFault result fault }
+fn refused(refusal: Refusal) -> VerdictAnswer
+    ensures tells { result ≡ refusal_answer refusal }
     ensures filled { 0 < result.verdict }
 {
-    let refused = VerdictAnswer {
+    VerdictAnswer {
         verdict: REFUSED,
+        refusal,
         ..VerdictAnswer::default()
-    };
-    match fault {
-        RowFault::Certificates(rule, offset) => VerdictAnswer {
-            text: 1,
-            fault: u32::from(rule.number()),
-            der_fault: der_fault(rule),
-            offset,
-            ..refused
-        },
-        RowFault::Statements(rule, offset) => VerdictAnswer {
-            text: 2,
-            fault: u32::from(rule.number()),
-            der_fault: der_fault_of(rule),
-            offset,
-            ..refused
-        },
-        RowFault::Fingerprints(offset) => VerdictAnswer {
-            text: 3,
-            fault: 4,
-            offset,
-            ..refused
-        },
-        RowFault::Memory => VerdictAnswer {
-            fault: 33,
-            ..refused
-        },
     }
 }
 
-/// The purpose that is asked for, if there are octets of one.
-fn purpose_in(octets: &[u8]) -> Option<&[u8]>
-    ensures { option_copied result ≡ purpose_asked octets.now }
+/// Who believes these fingerprints.
+fn believing(alloc: Global, fingerprints: &[[u8; 32]]) -> Result<ListVerifier, AllocError>
+    ensures { IfOk result (λ verifier. Believes verifier fingerprints.now) }
 {
-    if octets.is_empty() {
-        None
-    } else {
-        Some(octets)
-    }
+    Ok(ListVerifier::new(Vec::from_slice(alloc, fingerprints)?))
 }
 
-/// The verdict on the path behind the anchor, as `relying_rows::verdict_in_rows`, or why the question is refused. If `purpose` has no
-/// octets, no purpose is asked for.
+/// The verdict by the statements.
+fn verdict_on(
+    alloc: Global,
+    query: &Query<'_>,
+    statements: &[Text<'_>],
+    fingerprints: &[[u8; 32]],
+) -> Result<Verdict, Refusal>
+    ensures verdict { IfOk result (IsVerdictOn query.now statements.now fingerprints.now) }
+    ensures refuses { IfErr result (TellsRefusal query.now statements.now) }
+{
+    let case = Case::read(alloc, query, statements)?;
+    let verifier = believing(alloc, fingerprints)?;
+    Ok(verdict(alloc, &verifier, &case.query, case.statements.as_slice())?)
+}
+
+/// The verdict on the path by statements at hand, as `relying_texts::verdict` gives it, for who accepts the signatures with these
+/// fingerprints; or the first fault, of the certificates and then of the statements. Each is read once.
 #[unsafe(no_mangle)]
 pub extern "C" fn x509check_validate(
     alloc: Global,
-    certificates: &[u8],
-    statements: &[u8],
-    fingerprints: &[u8],
-    moment: i64,
-    purpose: &[u8],
+    query: &Query<'_>,
+    statements: &[Text<'_>],
+    fingerprints: &[[u8; 32]],
 ) -> VerdictAnswer
-    ensures tells { TellsAnswer result (rows_asked certificates.now statements.now fingerprints.now
-        moment (purpose_asked purpose.now)) }
+    ensures tells { TellsAnswer result query.now statements.now fingerprints.now }
     ensures filled { 0 < result.verdict }
 {
-    let rows = Rows {
-        certificates,
-        statements,
-        fingerprints,
-        moment,
-        purpose: purpose_in(purpose),
-    };
-    match verdict_in_rows(alloc, &rows) {
+    match verdict_on(alloc, query, statements, fingerprints) {
         Ok(verdict) => answer_of(verdict),
-        Err(fault) => refusal_of(fault),
+        Err(refusal) => refused(refusal),
     }
 }

@@ -1,6 +1,7 @@
 -- Questions whose parts stand in their texts, one after the other.
 use Rattle.std.proofs.Common.{◌≡◌, ◌+◌, ◌-◌, ◌<◌, ℕ, zero, suc, List, [], ◌∷◌, ◌++◌, length, map, get_or, slice_index_or, arith, Result, Ok, Err, IfOk, refl, sym, ap, ◌∙◌, subst}
 use Rattle.std.specs.List.{AllByRecursion}
+use Rattle.std.proofs.lemmas.List.{get_or-map}
 use Rattle.asn.specs.DerLaws.{AreOctets}
 use Rattle.cert.specs.Certificate.{Certificate}
 use Rattle.path.specs.Query.{Query}
@@ -73,7 +74,7 @@ pub query_stands : (query : Query) (statements : List (List ℕ)) → WereRead q
 query_stands query statements were =
     links_stand (texts_in query statements) 0 query.anchor query.certificates refl were.0
     (texts_from (texts_in query statements) 1 query.certificates query.anchor
-    (λ j below. ap (λ k. texts_in query statements (source.Certificate k)) (numbered j)))
+    (λ j below. ap (λ k. texts_in query statements (source.Certificate k)) (numbered j) ∙ get_or-map (λ (c : Certificate). c.octets) query.certificates j query.anchor [] below))
     were.1
 
 -- ---- what a call answers

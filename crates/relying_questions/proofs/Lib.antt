@@ -5,3 +5,5 @@ mod SameVerdicts
 mod Adding
 mod Standing
 mod Kept
+mod Prints
+mod Encodings

@@ -1,10 +1,12 @@
 -- Verifiers that answer the same questions alike.
-use Rattle.std.specs.Prelude.{◌≡◌, ◌↔◌, List, Contains}
+use Rattle.std.specs.Prelude.{◌≡◌, ◌↔◌, ℕ, List, Contains, IsTrue}
 use Rattle.path.specs.Query.{Query, Accepts}
+use Rattle.path_verifiers.specs.Fingerprint.{fingerprint_of}
 use Rattle.relying_agreement.specs.declared.verdict.Verdict.{Verdict}
 use Rattle.statements.specs.Statement.{Statement}
 use Rattle.relying_texts.specs.Texts.{IsVerdictByStatements}
 use Rattle.relying_questions.specs.Questions.{Judgement, answer, questions_of}
+use Rattle.relying_questions.specs.Seen.{print_of}
 
 -- both answer each of the questions alike
 abbrev pub AnswerAlike : Accepts → Accepts → List Judgement → Type 0
@@ -19,3 +21,18 @@ Decide questions query statements =
 -- The questions about a path and statements do so.
 abbrev pub QuestionsDecide : Type 0
 QuestionsDecide = (query : Query) (statements : List Statement) → Decide (questions_of query statements) query statements
+
+-- ---- by fingerprints
+
+-- exactly those signatures are accepted whose fingerprints are among these
+abbrev pub AcceptsPrints : Accepts → List (List ℕ) → Type 0
+AcceptsPrints accepts prints =
+    (algorithm key message signature : List ℕ) →
+    (IsTrue (accepts algorithm key message signature) ↔ Contains prints (fingerprint_of algorithm key message signature))
+
+-- Fingerprints of the questions that a verifier answers by yes, and of no other question, give its verdict.
+abbrev pub PrintsDecide : Type 0
+PrintsDecide =
+    (accepts by_prints : Accepts) (query : Query) (statements : List Statement) (prints : List (List ℕ)) → AcceptsPrints by_prints prints →
+    ((asked : Judgement) → Contains (questions_of query statements) asked → (IsTrue (answer accepts asked) ↔ Contains prints (print_of asked))) →
+    (verdict : Verdict) → IsVerdictByStatements accepts query statements verdict ↔ IsVerdictByStatements by_prints query statements verdict

@@ -1,5 +1,5 @@
 -- Where the parts of questions stand.
-use Rattle.std.specs.Prelude.{◌≡◌, ◌+◌, ◌-◌, ℕ, suc, List, [], ◌∷◌, length, map, take, slice_index_or, Ok}
+use Rattle.std.specs.Prelude.{◌≡◌, ◌<◌, ◌+◌, ◌-◌, ℕ, suc, List, [], ◌∷◌, length, map, take, slice_index_or, Ok}
 use Rattle.std.specs.List.{AllByRecursion, AllZip}
 use Rattle.asn.specs.DerLaws.{AreOctets}
 use Rattle.asn.specs.Part.{IsPartOf}
@@ -7,7 +7,7 @@ use Rattle.asn.specs.Place.{Place, body, body_place}
 use Rattle.cert.specs.BitString.{BitString}
 use Rattle.cert.specs.Certificate.{Certificate, seen_certificate}
 use Rattle.cert.specs.Offsets.{StandsIn}
-use Rattle.path.specs.Query.{Query, certificate_at}
+use Rattle.path.specs.Query.{Query}
 use Rattle.statements.specs.OneIssuer.{WasRead}
 use Rattle.statements.specs.Statement.{Statement, statement}
 use Rattle.statements_crl.specs.CertificateList.{CertificateList}
@@ -26,17 +26,26 @@ use Rattle.relying_questions.specs.declared.placed.Placed as placed
 abbrev pub Texts : Type 0
 Texts = Source → List ℕ
 
+-- those of certificates, the anchor first, and of statements; what is not there has no octets
+abbrev pub texts_at : List (List ℕ) → List (List ℕ) → Texts
+texts_at certificates statements (source.Certificate number) = slice_index_or certificates number []
+texts_at certificates statements (source.Statement index) = slice_index_or statements index []
+
+abbrev pub octets_of_each : List Certificate → List (List ℕ)
+octets_of_each certificates = map (λ (c : Certificate). c.octets) certificates
+
 -- those of a path, and these of statements
 abbrev pub texts_in : Query → List (List ℕ) → Texts
-texts_in query octets (source.Certificate number) = (certificate_at query number).octets
-texts_in query octets (source.Statement index) = slice_index_or octets index []
+texts_in query octets = texts_at (octets_of_each (query.anchor ∷ query.certificates)) octets
 
 abbrev pub statement_text : Texts → ℕ → List ℕ
 statement_text texts index = texts (source.Statement index)
 
 -- the part stands in its text, at its offset
-abbrev pub Stands : Texts → part.Part → Type 0
-Stands texts part = IsPartOf (texts part.source) part.at part.octets.now
+pub record Stands (texts : Texts) (part : part.Part) : Type 0 where
+  pub is_part : IsPartOf (texts part.source) part.at part.octets.now
+  -- it is not the empty part at the begin of no octets, so its source is there
+  pub is_there : 0 < part.at + length part.octets.now
 
 -- the four parts of a question
 pub record AreInTexts (texts : Texts) (asked : asked.SignatureQuestion) : Type 0 where

@@ -1,8 +1,11 @@
 //! The questions decide the verdict.
 
-ghost use Rattle.relying_questions.specs.Agreement.{QuestionsDecide};
+ghost use Rattle.relying_questions.specs.Agreement.{PrintsDecide, QuestionsDecide};
 
-/// Verifiers that answer each question about a path and statements alike give the same verdict, whatever else they accept.
+/// Verifiers that answer each question about a path and statements alike give the same verdict, whatever else they accept. So whoever
+/// answers the questions that `questions` lists, and hands the fingerprints of those that are answered by yes to a `ListVerifier`, gets the
+/// verdict, unless a question that is answered by no has the fingerprint of another.
 pub fn question_laws()
-    ensures { QuestionsDecide }
+    ensures decide { QuestionsDecide }
+    ensures prints { PrintsDecide }
 {}

@@ -1,6 +1,6 @@
 //! Octets with their place.
 
-ghost use Rattle.std.specs.Prelude.{◌≡◌};
+ghost use Rattle.std.specs.Prelude.{◌≡◌, ◌<◌};
 ghost use Rattle.asn.specs.Part.{IsPartOf};
 ghost use Rattle.asn.specs.Reading.{seen_tlv};
 ghost use Rattle.cert.specs.BitString.{seen_bit_string};
@@ -29,7 +29,8 @@ pub struct Part<'a> {
 
 /// Where the octets of a BIT STRING begin, behind the count of unused bits.
 fn offset_of_bits(value: Tlv<'_>) -> usize
-    ensures { result ≡ bits_at (seen_tlv value.entry) }
+    ensures place { result ≡ bits_at (seen_tlv value.entry) }
+    ensures behind { 0 < result }
 {
     match value.body {
         [] => value.body_at(),

@@ -3,3 +3,4 @@ mod Slots
 mod Runs
 mod Deciding
 mod Bearing
+mod StatementsRead

@@ -7,7 +7,8 @@ use Rattle.statements_parts.specs.declared.fault.StatementFault.{StatementFault}
 use Rattle.statements.specs.Statement.{Statement, genuine_statement, statement, statement_said}
 use Rattle.relying_agreement.specs.Run.{Event, DeliveryAnswer, genuine_facts, facts_taken, facts_under, facts_or_none}
 use Rattle.relying_texts.specs.Texts.{facts_of, facts_under_each, facts_told, issuers_of}
-use Rattle.relying_texts.specs.Deliveries.{deliveries, delivery_answer, delivery_answers, AreRead, AreStatementsRead, StatementsMakeARun}
+use Rattle.relying_texts.specs.Deliveries.{deliveries, delivery_answer, delivery_answers, AreRead, StatementsMakeARun}
+use Rattle.relying_texts.specs.Reading.{AreStatementsRead}
 
 module _ (accepts : Accepts) where
   abbrev delivered : List (List ℕ) → List ℕ → List Event

@@ -5,8 +5,9 @@ use Rattle.cert.specs.Certificate.{Certificate, certificate}
 use Rattle.path.specs.Query.{Query, Accepts}
 use Rattle.statements_facts.specs.Fact.{Fact}
 use Rattle.statements_parts.specs.declared.fault.StatementFault.{StatementFault}
-use Rattle.statements.specs.Statement.{Statement, statement, statement_said}
+use Rattle.statements.specs.Statement.{Statement, statement_said}
 use Rattle.relying_agreement.specs.Run.{Event, DeliveryAnswer, HasRun, genuine_facts}
+use Rattle.relying_texts.specs.Reading.{AreStatementsRead}
 use Rattle.relying_texts.specs.Texts.{issuers_of, party_told}
 
 -- each statement, with the octets of each issuer's certificate
@@ -25,10 +26,6 @@ delivery_answers accepts issuers statements =
 -- the certificates are what the octets are
 abbrev pub AreRead : List (List ℕ) → List Certificate → Type 0
 AreRead texts certificates = map certificate texts ≡ map (λ c. Ok c) certificates
-
--- and so are the statements
-abbrev pub AreStatementsRead : List (List ℕ) → List Statement → Type 0
-AreStatementsRead texts statements = map statement texts ≡ map (λ read. Ok read) statements
 
 -- So the party that a verdict by statements is of has run on these deliveries, and what is said of runs is said of it.
 abbrev pub StatementsMakeARun : Type 0

@@ -5,10 +5,12 @@ mod contents;
 mod deliveries;
 mod gathering;
 mod newest;
+mod reading;
 mod responses;
 mod same_issuer;
 mod verdicts;
 
 pub use deliveries::delivery_laws;
+pub use reading::{StatementsFault, read_statements};
 pub use relying_agreement::Verdict;
 pub use verdicts::verdict;

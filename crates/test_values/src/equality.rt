@@ -12,7 +12,7 @@ use path::{Outcome, Reason, Step};
 use relying::DeliverFault;
 use relying_agreement::Verdict;
 use relying_questions::Source;
-use relying_rows::{Row, RowFault};
+use relying_texts::StatementsFault;
 use relying_verdicts::{Fault as PartyFault, QueryFault};
 use statements_crl::Entry;
 use statements_facts::{Counts, Scope, Status, TakenAs};
@@ -140,13 +140,7 @@ pub fn same_source(one: Source, other: Source) -> bool
     one == other
 }
 
-pub fn same_row(one: Row, other: Row) -> bool
-    ensures { IsTrue result ↔ (one ≡ other) }
-{
-    one == other
-}
-
-pub fn same_row_fault(one: RowFault, other: RowFault) -> bool
+pub fn same_statements_fault(one: StatementsFault, other: StatementsFault) -> bool
     ensures { IsTrue result ↔ (one ≡ other) }
 {
     one == other

@@ -7,9 +7,9 @@ use der_tree::EncodeFault;
 use names::NameRule;
 use path::Reason;
 use relying::DeliverFault;
-use relying_rows::RowFault;
+use relying_texts::StatementsFault;
 use relying_verdicts::{Fault as PartyFault, QueryFault};
-use statements_parts::{StatementFault, StatementRule};
+use statements_parts::{ReadingFault, StatementFault, StatementRule};
 use std::alloc::AllocError;
 use std::fmt::Display;
 use std::test::Fail;
@@ -293,27 +293,15 @@ fn party_faults_are_printed(rt: HostRuntime) -> Result<(), Fail> {
     Ok(())
 }
 
-const ROW_FAULT: &[(RowFault, &str)] = &[
-    (
-        RowFault::Certificates(CertRule::Time, 9),
-        "certificates: fault 26: time that does not exist, at offset 9",
-    ),
-    (
-        RowFault::Statements(StatementRule::Layout, 300),
-        "statements: fault 42: value that the layout does not have there, at offset 300",
-    ),
-    (
-        RowFault::Fingerprints(64),
-        "fingerprint cut short at offset 64",
-    ),
-    (RowFault::Memory, "no memory"),
-];
-
 #[test]
-fn row_faults_are_printed(rt: HostRuntime) -> Result<(), Fail> {
-    for (value, text) in ROW_FAULT {
-        assert!(rt; prints(&rt, value, text)?, "{text}");
-    }
+fn refused_statements_are_printed(rt: HostRuntime) -> Result<(), Fail> {
+    let refused = StatementsFault {
+        statement: 1,
+        fault: ReadingFault::Refused(StatementRule::Layout, 300),
+    };
+    let text = "statement 1 is refused: \
+        fault 42: value that the layout does not have there, at offset 300";
+    assert!(rt; prints(&rt, &refused, text)?);
     Ok(())
 }
 

@@ -34,8 +34,7 @@
 //!        let statements = [Statement::read(alloc, list_octets)?];
 //!        let verdict = at_hand::verdict(alloc, &verifier, &query, &statements)?;
 //!
-//!    `at_hand::questions` tells beforehand what the verifier may be asked. `rows` has both calls on texts in which certificates, and
-//!    statements, stand one behind the other.
+//!    `at_hand::questions` tells beforehand what the verifier may be asked.
 //!
 //! 6. **Compare two parties** ([`compare`]). If both judge signatures alike and hold the same newest statements for the path, their
 //!    verdicts are equal, however the statements came: [`node_laws`] says so of the calls above.
@@ -130,15 +129,7 @@ pub mod revocation {
 /// Verdicts by statements at hand, without a store, and what a verifier may be asked for them.
 pub mod at_hand {
     pub use relying_questions::{Part, SignatureQuestion, Source, question_laws, questions};
-    pub use relying_texts::{delivery_laws, verdict};
-}
-
-/// The same if certificates, statements and fingerprints stand in rows of octets, one behind the other.
-pub mod rows {
-    pub use relying_rows::{
-        Row, RowFault, RowPart, RowQuestion, Rows, answer_laws, print_laws, questions_in_rows,
-        row_laws, verdict_in_rows,
-    };
+    pub use relying_texts::{StatementsFault, delivery_laws, read_statements, verdict};
 }
 
 /// What a store holds, and how a connection is taken for a store and looked up.

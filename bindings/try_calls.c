@@ -1,0 +1,230 @@
+/* Tries the calls of the library for C where examples/validate_path.c does not reach them, in the folder testdata: null pointers, texts
+ * without octets, purposes, long paths, places and names. The status is 1 if an answer is another than expected; its line says which. */
+#include <stdio.h>
+#include <stdlib.h>
+#include <string.h>
+
+#include "x509check.h"
+
+#define LENGTH(array) (sizeof(array) / sizeof *(array))
+#define MOMENT 1796083200 /* 2026-12-01T00:00:00Z */
+#define EXPECT(holds) expect(holds, #holds, __LINE__)
+
+static const struct x509check_text nothing = {NULL, 0}, empty = {(const uint8_t *)"", 0};
+static struct x509check_text root, middle, leaf, root_list, middle_list;
+static uint8_t good[8][X509CHECK_FINGERPRINT_LENGTH];
+static size_t good_count;
+static int failed;
+
+static void expect(int holds, const char *what, int line)
+{
+    if (holds)
+        return;
+    printf("bindings: try_calls.c: line %d: %s\n", line, what);
+    failed = 1;
+}
+
+static struct x509check_text text_of(const char *path)
+{
+    static uint8_t octets[1 << 16], *at = octets;
+    FILE *file = fopen(path, "rb");
+    struct x509check_text text = {at, 0};
+
+    if (file == NULL) {
+        perror(path);
+        exit(1);
+    }
+    text.length = fread(at, 1, (size_t)(octets + sizeof octets - at), file);
+    at += text.length;
+    fclose(file);
+    return text;
+}
+
+/* ---- A query, and answers in short. ---- */
+
+static struct x509check_query query_of(struct x509check_text anchor, const struct x509check_text *path, size_t count)
+{
+    struct x509check_query query = {anchor, path, count, MOMENT, {NULL, 0}};
+
+    return query;
+}
+
+static struct x509check_verdict verdict_by(const struct x509check_query *query, const struct x509check_text *statements, size_t count)
+{
+    return x509check_validate(query, statements, count, good[0], good_count);
+}
+
+static int is_refusal(struct x509check_refusal refusal, uint32_t text, size_t index, uint32_t fault, uint32_t der_fault, size_t offset)
+{
+    return refusal.text == text && refusal.index == index && refusal.fault == fault && refusal.der_fault == der_fault
+        && refusal.offset == offset;
+}
+
+static int is_verdict(struct x509check_verdict answer, uint32_t verdict, size_t certificate, uint32_t reason)
+{
+    return answer.verdict == verdict && answer.certificate == certificate && answer.reason == reason
+        && is_refusal(answer.refusal, 0, 0, 0, 0, 0);
+}
+
+/* Whether a verdict and questions are both refused so. */
+static int are_refused(const struct x509check_query *query, const struct x509check_text *statements, size_t count, uint32_t text,
+                       size_t index, uint32_t fault, uint32_t der_fault, size_t offset)
+{
+    struct x509check_signature_question question = {.fingerprint = {0xA5}};
+    struct x509check_verdict answer = verdict_by(query, statements, count);
+    struct x509check_asked asked = x509check_questions(query, statements, count, &question, 1);
+
+    return answer.verdict == X509CHECK_REFUSED && answer.certificate == 0 && answer.reason == 0
+        && is_refusal(answer.refusal, text, index, fault, der_fault, offset) && is_refusal(asked.refusal, text, index, fault, der_fault, offset)
+        && asked.count == 0 && question.fingerprint[0] == 0xA5;
+}
+
+/* ---- What is tried. ---- */
+
+/* A text of no octets is no DER, whether its pointer is null or not. */
+static void try_texts_without_octets(struct x509check_text none)
+{
+    struct x509check_text path[] = {middle, none}, statements[] = {root_list, none, middle_list};
+    struct x509check_query without_anchor = query_of(none, path, 2), without_leaf = query_of(root, path, 2);
+    struct x509check_query whole = query_of(root, path, 1);
+    struct x509check_answer answer = x509check_check(none.octets, none.length);
+    struct x509check_certificate certificate = x509check_read_certificate(none.octets, none.length);
+
+    EXPECT(answer.fault == 4 && answer.offset == 0);
+    EXPECT(certificate.fault == X509CHECK_FAULT_DER && certificate.der_fault == 4 && certificate.offset == 0);
+    EXPECT(are_refused(&without_anchor, statements, 3, X509CHECK_CERTIFICATES, 0, X509CHECK_FAULT_DER, 4, 0));
+    EXPECT(are_refused(&without_leaf, statements, 3, X509CHECK_CERTIFICATES, 2, X509CHECK_FAULT_DER, 4, 0));
+    EXPECT(are_refused(&whole, statements, 3, X509CHECK_STATEMENTS, 1, X509CHECK_FAULT_STATEMENT_DER, 4, 0));
+    whole.purpose = none;
+    EXPECT(is_verdict(verdict_by(&whole, statements, 1), X509CHECK_VALID, 0, 0));
+}
+
+static void try_null_pointers(void)
+{
+    static const struct x509check_query zeros;
+    const struct x509check_text path[] = {middle, leaf};
+    struct x509check_query query = query_of(root, path, 2), alone = query_of(root, NULL, 0);
+    struct x509check_asked asked = x509check_questions(&query, NULL, 0, NULL, 0);
+    uint8_t one[32], other[32];
+
+    EXPECT(are_refused(&zeros, NULL, 0, X509CHECK_CERTIFICATES, 0, X509CHECK_FAULT_DER, 4, 0));
+    EXPECT(is_verdict(verdict_by(&alone, NULL, 0), X509CHECK_INVALID, 0, 15));
+    EXPECT(is_verdict(verdict_by(&query, NULL, 0), X509CHECK_UNKNOWN, 1, 0));
+    EXPECT(is_verdict(x509check_validate(&query, &root_list, 1, NULL, 0), X509CHECK_INVALID, 1, 2));
+    EXPECT(asked.refusal.fault == 0 && asked.count == 2);
+    x509check_fingerprint(NULL, 0, NULL, 0, NULL, 0, NULL, 0, one);
+    x509check_fingerprint(empty.octets, 0, empty.octets, 0, empty.octets, 0, empty.octets, 0, other);
+    EXPECT(memcmp(one, other, sizeof one) == 0);
+    x509check_sha256(NULL, 0, one);
+    x509check_sha256(empty.octets, 0, other);
+    EXPECT(memcmp(one, other, sizeof one) == 0 && one[0] == 0xE3 && one[31] == 0x55);
+    EXPECT(x509check_fault_name(X509CHECK_FAULT_DER, NULL, 0) == 3);
+    EXPECT(x509check_reason_name(X509CHECK_INVALID, 4, NULL, 0) == 7);
+}
+
+/* The leaf is for id-kp-serverAuth, and not for id-kp-clientAuth (RFC 5280, 4.2.1.12). */
+static void try_purposes(void)
+{
+    static const uint8_t server[] = {0x2B, 6, 1, 5, 5, 7, 3, 1}, client[] = {0x2B, 6, 1, 5, 5, 7, 3, 2};
+    const struct x509check_text path[] = {middle, leaf}, statements[] = {root_list, middle_list};
+    struct x509check_query query = query_of(root, path, 2);
+
+    query.purpose = (struct x509check_text){server, sizeof server};
+    EXPECT(is_verdict(verdict_by(&query, statements, 2), X509CHECK_VALID, 0, 0));
+    query.purpose = (struct x509check_text){client, sizeof client};
+    EXPECT(is_verdict(verdict_by(&query, statements, 2), X509CHECK_INVALID, 2, 14));
+}
+
+/* Where a second statement is refused, and that certificates come before statements. */
+static void try_places(void)
+{
+    const struct x509check_text path[] = {middle, leaf}, cut[] = {middle, {leaf.octets, leaf.length - 1}};
+    const struct x509check_text statements[] = {root_list, root};
+    const struct x509check_text more[] = {root_list, {(const uint8_t *)"\x30\x00\x00", 3}};
+    struct x509check_query query = query_of(root, path, 2), broken = query_of(root, cut, 2);
+
+    /* The [0] of the certificate stands where a list has its version. */
+    EXPECT(are_refused(&query, statements, 2, X509CHECK_STATEMENTS, 1, 43, 0, 8));
+    EXPECT(are_refused(&query, more, 2, X509CHECK_STATEMENTS, 1, X509CHECK_FAULT_STATEMENT_DER, 7, 2));
+    EXPECT(are_refused(&broken, statements, 2, X509CHECK_CERTIFICATES, 2, X509CHECK_FAULT_DER, 4, 0));
+}
+
+static void try_questions(void)
+{
+    const struct x509check_text path[] = {middle, leaf}, statements[] = {root_list, middle_list};
+    struct x509check_query query = query_of(root, path, 2);
+    struct x509check_signature_question questions[5];
+    struct x509check_asked asked;
+
+    for (size_t room = 0; room <= 5; room++) {
+        size_t written = room < 4 ? room : 4;
+
+        memset(questions, 0xA5, sizeof questions);
+        asked = x509check_questions(&query, statements, 2, questions, room);
+        EXPECT(asked.refusal.fault == 0 && asked.count == 4);
+        for (size_t i = 0; i < written; i++)
+            EXPECT(memcmp(questions[i].fingerprint, good[i], sizeof good[i]) == 0);
+        for (const uint8_t *octet = (const uint8_t *)&questions[written]; octet < (const uint8_t *)(questions + 5); octet++)
+            EXPECT(*octet == 0xA5);
+    }
+    EXPECT(questions[3].algorithm.text == X509CHECK_STATEMENTS && questions[3].algorithm.index == 1);
+    EXPECT(questions[3].key_info.text == X509CHECK_CERTIFICATES && questions[3].key_info.index == 1);
+}
+
+static void try_200_certificates(void)
+{
+    struct x509check_text path[200];
+    struct x509check_query query = query_of(root, path, LENGTH(path));
+
+    for (size_t i = 0; i < LENGTH(path); i++)
+        path[i] = i % 2 == 0 ? middle : leaf;
+    EXPECT(is_verdict(verdict_by(&query, &root_list, 1), X509CHECK_INVALID, 0, 16));
+    path[199] = (struct x509check_text){(const uint8_t *)"\x30\x00", 2};
+    EXPECT(are_refused(&query, &root_list, 1, X509CHECK_CERTIFICATES, 200, 22, 0, 2));
+}
+
+static void try_names(void)
+{
+    char name[X509CHECK_NAME_ROOM];
+
+    EXPECT(x509check_fault_name(4, name, 10) == 9 && strcmp(name, "Truncated") == 0);
+    EXPECT(x509check_fault_name(4, name, 9) == 9);
+    EXPECT(x509check_fault_name(0, name, sizeof name) == 0 && name[0] == '\0');
+    EXPECT(x509check_reason_name(X509CHECK_INVALID, 16, name, sizeof name) == 7 && strcmp(name, "TooLong") == 0);
+    EXPECT(x509check_reason_name(X509CHECK_REVOKED, 1, name, sizeof name) == 13 && strcmp(name, "keyCompromise") == 0);
+    EXPECT(x509check_reason_name(X509CHECK_VALID, 1, name, sizeof name) == 0 && name[0] == '\0');
+    for (uint32_t number = 0; number < 300; number++) {
+        for (uint32_t verdict = 0; verdict < 8; verdict++) {
+            size_t length = x509check_reason_name(verdict, number, name, sizeof name);
+
+            EXPECT(length < sizeof name && strlen(name) == length);
+        }
+        EXPECT(x509check_fault_name(number, name, sizeof name) < sizeof name && strlen(name) == x509check_fault_name(number, NULL, 0));
+    }
+    EXPECT(x509check_fault_name(UINT32_MAX, name, sizeof name) == 0 && name[0] == '\0');
+}
+
+int main(void)
+{
+    struct x509check_text prints;
+
+    root = text_of("root.der");
+    middle = text_of("middle.der");
+    leaf = text_of("leaf.der");
+    root_list = text_of("root.crl");
+    middle_list = text_of("middle.crl");
+    prints = text_of("good");
+    good_count = prints.length / sizeof *good;
+    EXPECT(0 < good_count && good_count <= LENGTH(good));
+    memcpy(good, prints.octets, good_count * sizeof *good);
+    EXPECT(x509check_version() == X509CHECK_VERSION_NUMBER);
+    try_texts_without_octets(nothing);
+    try_texts_without_octets(empty);
+    try_null_pointers();
+    try_purposes();
+    try_places();
+    try_questions();
+    try_200_certificates();
+    try_names();
+    return failed;
+}

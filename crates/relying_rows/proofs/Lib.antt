@@ -1,9 +1,0 @@
-mod Values
-mod Prints
-mod Steps
-mod Unique
-mod DerRows
-mod OneAnswer
-mod Standing
-mod Adding
-mod AskedOfRows
