@@ -170,20 +170,18 @@ fn certificates<'a>() -> [Text<'a>; 3] {
     [text(root), text(middle), text(leaf)]
 }
 
-/// Two statements, of which the first has so many octets.
-fn statements(octets: &[u8], first: usize) -> [Text<'_>; 2] {
-    let (one, other) = octets.split_at(first);
-    [text(one), text(other)]
+fn pair<'a>(octets: (&'a [u8], &'a [u8])) -> [Text<'a>; 2] {
+    [text(octets.0), text(octets.1)]
 }
 
 fn lists<'a>() -> [Text<'a>; 2] {
-    statements(LISTS, 187)
+    pair(LISTS.split_at(187))
 }
 
-fn query<'a>(certificates: &'a [Text<'a>], moment: i64, purpose: &'a [u8]) -> Query<'a> {
+fn query<'a>(anchor: Text<'a>, path: &'a [Text<'a>], moment: i64, purpose: &'a [u8]) -> Query<'a> {
     Query {
-        anchor: certificates[0],
-        path: &certificates[1..],
+        anchor,
+        path,
         moment,
         purpose: text(purpose),
     }
@@ -205,8 +203,9 @@ fn answer(
     prints: &[[u8; 32]],
     moment: i64,
 ) -> VerdictAnswer {
-    let path = certificates();
-    x509check_validate(alloc, &query(&path, moment, b""), statements, prints)
+    let [root, middle, leaf] = certificates();
+    let path = [middle, leaf];
+    x509check_validate(alloc, &query(root, &path, moment, b""), statements, prints)
 }
 
 fn verdict(verdict: u32, certificate: usize, reason: u32) -> VerdictAnswer {
@@ -239,7 +238,7 @@ fn refused(refusal: Refusal) -> VerdictAnswer {
 #[test]
 fn validates(rt: HostRuntime) {
     let (alloc, lists, good) = (rt.alloc(), lists(), good());
-    let revoking = statements(REVOKING, 226);
+    let revoking = pair(REVOKING.split_at(226));
     assert!(rt; answer(alloc, &lists, &good, DECEMBER) == verdict(1, 0, 0));
     assert!(rt; answer(alloc, &lists, &good, 0) == verdict(2, 1, 3));
     assert!(rt; answer(alloc, &lists, &[], DECEMBER) == verdict(2, 1, 2));
@@ -250,41 +249,55 @@ fn validates(rt: HostRuntime) {
 /// A purpose that the leaf's extKeyUsage does not have (id-kp-clientAuth).
 #[test]
 fn validates_for_a_purpose(rt: HostRuntime) {
-    let path = certificates();
-    let asked = query(&path, DECEMBER, b"\x2B\x06\x01\x05\x05\x07\x03\x02");
+    let [root, middle, leaf] = certificates();
+    let path = [middle, leaf];
+    let asked = query(root, &path, DECEMBER, b"\x2B\x06\x01\x05\x05\x07\x03\x02");
     let answer = x509check_validate(rt.alloc(), &asked, &lists(), &good());
     assert!(rt; answer == verdict(2, 2, 14));
 }
 
 /// The answer for these certificates and statements, which are refused.
-fn refused_of(alloc: Global, path: &[Text<'_>], statements: &[Text<'_>]) -> VerdictAnswer {
-    x509check_validate(alloc, &query(path, DECEMBER, b""), statements, &good())
+fn refused_of(
+    alloc: Global,
+    anchor: Text<'_>,
+    path: &[Text<'_>],
+    statements: &[Text<'_>],
+) -> VerdictAnswer {
+    x509check_validate(
+        alloc,
+        &query(anchor, path, DECEMBER, b""),
+        statements,
+        &good(),
+    )
 }
 
 #[test]
 fn refuses_certificates(rt: HostRuntime) {
     let (alloc, lists) = (rt.alloc(), lists());
     let [root, _, leaf] = certificates();
-    let none = refused_of(alloc, &[text(b"")], &lists);
+    let none = refused_of(alloc, text(b""), &[], &lists);
     assert!(rt; none == refused(refusal(1, 21, 4, 0, 0)));
     // The UTCTime of thisUpdate stands where a certificate has its validity.
-    let other = refused_of(alloc, &lists, &lists);
+    let other = refused_of(alloc, lists[0], &[leaf], &lists);
     assert!(rt; other == refused(refusal(1, 22, 0, 0, 55)));
-    let second = refused_of(alloc, &[root, lists[0], leaf], &lists);
+    let second = refused_of(alloc, root, &[lists[0], leaf], &lists);
     assert!(rt; second == refused(refusal(1, 22, 0, 1, 55)));
-    let empty = refused_of(alloc, &[root, leaf, text(b"")], &[text(b"")]);
+    let empty = refused_of(alloc, root, &[leaf, text(b"")], &[text(b"")]);
     assert!(rt; empty == refused(refusal(1, 21, 4, 2, 0)));
 }
 
 #[test]
 fn refuses_statements(rt: HostRuntime) {
-    let (alloc, path) = (rt.alloc(), certificates());
+    let alloc = rt.alloc();
+    let [root, middle, leaf] = certificates();
+    let path = [middle, leaf];
     // The [0] of the version stands where a list has its version.
-    let other = refused_of(alloc, &path, &path);
+    let other = refused_of(alloc, root, &path, &path);
     assert!(rt; other == refused(refusal(2, 43, 0, 0, 8)));
-    let cut = refused_of(alloc, &path, &statements(&LISTS[..376 - 1], 187));
+    let (first, second) = LISTS.split_at(187);
+    let cut = refused_of(alloc, root, &path, &[text(first), text(&second[..189 - 1])]);
     assert!(rt; cut == refused(refusal(2, 41, 4, 1, 0)));
-    let behind = refused_of(alloc, &path, &[text(LISTS)]);
+    let behind = refused_of(alloc, root, &path, &[text(LISTS)]);
     assert!(rt; behind == refused(refusal(2, 41, 7, 0, 187)));
 }
 
@@ -296,9 +309,11 @@ fn validation_wants_memory_or_answers(rt: HostRuntime) {
 
 /// The questions about the path and statements, written to an array of five.
 fn questions(alloc: Global, statements: &[Text<'_>]) -> (Asked, [SignatureQuestion; 5]) {
-    let path = certificates();
+    let [root, middle, leaf] = certificates();
+    let path = [middle, leaf];
     let mut questions = [SignatureQuestion::default(); 5];
-    let asked = x509check_questions(alloc, &query(&path, 0, b""), statements, &mut questions);
+    let query = query(root, &path, 0, b"");
+    let asked = x509check_questions(alloc, &query, statements, &mut questions);
     (asked, questions)
 }
 
@@ -351,8 +366,10 @@ fn tells_places(rt: HostRuntime) {
 
 #[test]
 fn counts_questions_without_room(rt: HostRuntime) {
-    let (alloc, path) = (rt.alloc(), certificates());
-    let query = query(&path, DECEMBER, b"");
+    let alloc = rt.alloc();
+    let [root, middle, leaf] = certificates();
+    let path = [middle, leaf];
+    let query = query(root, &path, DECEMBER, b"");
     let mut one = [SignatureQuestion::default(); 1];
     assert!(rt; x509check_questions(alloc, &query, &lists(), &mut one) == counted(4));
     assert!(rt; has_print(&one[0], &GOOD[..32]));
@@ -368,16 +385,17 @@ fn asks_nothing_of_what_is_refused(rt: HostRuntime) {
     };
     assert!(rt; asked == of_statement);
     assert!(rt; written[0] == SignatureQuestion::default());
-    let nothing = [text(b"")];
-    let of_nothing = query(&nothing, DECEMBER, b"");
+    let of_nothing = query(text(b""), &[], DECEMBER, b"");
     let none = x509check_questions(rt.alloc(), &of_nothing, &lists(), &mut []);
     assert!(rt; none.refusal == refusal(1, 21, 4, 0, 0));
 }
 
 #[test]
 fn questioning_wants_memory_or_answers(rt: HostRuntime) {
-    let path = certificates();
-    let asked = x509check_questions(rt.alloc(), &query(&path, 0, b""), &lists(), &mut []);
+    let [root, middle, leaf] = certificates();
+    let path = [middle, leaf];
+    let query = query(root, &path, 0, b"");
+    let asked = x509check_questions(rt.alloc(), &query, &lists(), &mut []);
     assert!(rt; asked == counted(4) || asked.refusal.fault == 33);
 }
 

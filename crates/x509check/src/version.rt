@@ -1,2 +1,2 @@
 /// The SHA-256 of the sources that the program is made from, as `.ci/sources` prints it.
-pub(crate) const SOURCES: &str = "0d2cfd3315cbba7b0845ed3af5f4185b4ab10cde93d8cbf382eb58187bf76ec1";
+pub(crate) const SOURCES: &str = "96c9b084cd924771466abcfaf7e4b1dafebb77b92ccdcb1f62374cc630ed1412";
