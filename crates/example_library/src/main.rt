@@ -60,38 +60,93 @@ fn deliver<W: Write>(
     Ok(())
 }
 
-fn run<W: Write>(alloc: Global, octets: &Octets, out: &mut W) -> Result<(), Failure> {
-    validate_path(alloc, octets, out)?;
+/// Asks for the verdict, and writes it behind the word.
+fn ask<W: Write>(
+    alloc: Global,
+    party: &mut Party,
+    query: &Query<'_>,
+    when: &str,
+    out: &mut W,
+) -> Result<(), Failure> {
+    let verdict = party.verdict(alloc, query)?;
+    writeln!(out, "{when} {verdict:?}")?;
+    Ok(())
+}
 
-    // The path is fine, but nothing is known yet of its certificates.
-    let path = [octets.ca.as_slice(), octets.mail.as_slice()];
-    let query = Query::read(alloc, &octets.root, &path, MOMENT, None)?;
-    let mut party = new_party(alloc)?;
-    writeln!(out, "at first {:?}", party.verdict(alloc, &query)?)?;
+/// Nothing is known of the certificates at first. The root's list is about the CA, and the CA's response is about the mail server.
+fn learn<W: Write>(
+    alloc: Global,
+    party: &mut Party,
+    octets: &Octets,
+    query: &Query<'_>,
+    out: &mut W,
+) -> Result<(), Failure> {
+    ask(alloc, party, query, "at first", out)?;
+    deliver(alloc, party, &octets.root, &octets.root_list, out)?;
+    deliver(alloc, party, &octets.ca, &octets.response, out)?;
+    ask(alloc, party, query, "then", out)
+}
 
-    // The root's list is about the CA, and the CA's response is about the mail server.
-    deliver(alloc, &mut party, &octets.root, &octets.root_list, out)?;
-    deliver(alloc, &mut party, &octets.ca, &octets.response, out)?;
-    writeln!(out, "then {:?}", party.verdict(alloc, &query)?)?;
+/// What reaches the second party: the CA's list, which revokes, and what the first has, in another order and once more.
+fn deliver_to_other<W: Write>(
+    alloc: Global,
+    other: &mut Party,
+    octets: &Octets,
+    out: &mut W,
+) -> Result<(), Failure> {
+    deliver(alloc, other, &octets.ca, &octets.response, out)?;
+    deliver(alloc, other, &octets.ca, &octets.ca_list, out)?;
+    deliver(alloc, other, &octets.root, &octets.root_list, out)?;
+    deliver(alloc, other, &octets.root, &octets.root_list, out)
+}
 
-    // What is held survives a restart.
-    let mut party = party.restart(alloc).ok().ok_or(Failure::NoStore)?;
-    writeln!(out, "restarted {:?}", party.verdict(alloc, &query)?)?;
-
-    // A second party was handed the CA's list, which revokes, and what the first has, in another order.
-    let mut other = new_party(alloc)?;
-    deliver(alloc, &mut other, &octets.ca, &octets.response, out)?;
-    deliver(alloc, &mut other, &octets.ca, &octets.ca_list, out)?;
-    deliver(alloc, &mut other, &octets.root, &octets.root_list, out)?;
-    deliver(alloc, &mut other, &octets.root, &octets.root_list, out)?;
-    let comparison = compare(alloc, &mut party, &mut other, &query)?;
-    writeln!(out, "compared {comparison:?}")?;
-
-    // Now both hold the same, and agree.
-    deliver(alloc, &mut party, &octets.ca, &octets.ca_list, out)?;
-    let comparison = compare(alloc, &mut party, &mut other, &query)?;
+fn compare_parties<W: Write>(
+    alloc: Global,
+    party: &mut Party,
+    other: &mut Party,
+    query: &Query<'_>,
+    out: &mut W,
+) -> Result<(), Failure> {
+    let comparison = compare(alloc, party, other, query)?;
     writeln!(out, "compared {comparison:?}")?;
     Ok(())
+}
+
+/// Two parties differ, and agree once both hold the same.
+fn agree<W: Write>(
+    alloc: Global,
+    party: &mut Party,
+    other: &mut Party,
+    octets: &Octets,
+    query: &Query<'_>,
+    out: &mut W,
+) -> Result<(), Failure> {
+    deliver_to_other(alloc, other, octets, out)?;
+    compare_parties(alloc, party, other, query, out)?;
+    deliver(alloc, party, &octets.ca, &octets.ca_list, out)?;
+    compare_parties(alloc, party, other, query, out)
+}
+
+/// A party learns, and what it holds survives a restart.
+fn learn_and_restart<W: Write>(
+    alloc: Global,
+    octets: &Octets,
+    query: &Query<'_>,
+    out: &mut W,
+) -> Result<Party, Failure> {
+    let mut party = new_party(alloc)?;
+    learn(alloc, &mut party, octets, query, out)?;
+    party.restart(alloc).ok().ok_or(Failure::NoStore)
+}
+
+fn run<W: Write>(alloc: Global, octets: &Octets, out: &mut W) -> Result<(), Failure> {
+    validate_path(alloc, octets, out)?;
+    let path = [octets.ca.as_slice(), octets.mail.as_slice()];
+    let query = Query::read(alloc, &octets.root, &path, MOMENT, None)?;
+    let mut party = learn_and_restart(alloc, octets, &query, out)?;
+    ask(alloc, &mut party, &query, "restarted", out)?;
+    let mut other = new_party(alloc)?;
+    agree(alloc, &mut party, &mut other, octets, &query, out)
 }
 
 fn main(rt: HostRuntime) -> ExitCode {

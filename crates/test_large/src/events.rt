@@ -1,10 +1,10 @@
 //! Runs of many events.
 
-use crate::stores::made;
-use relying::{DeliverAnswer, Event, Node};
+use crate::stores::answers_to;
+use relying::{DeliverAnswer, Event};
 use statements_facts::Counts;
 use std::alloc::Global;
-use vectors::{ToyVerifier, certificate, revocation_list};
+use vectors::{certificate, revocation_list};
 
 const EVENTS: usize = 2_000;
 
@@ -43,13 +43,16 @@ fn are_kept(answers: &[DeliverAnswer]) -> bool {
 }
 
 /// How many answers there are, and whether they are as wanted.
+fn answered_to(alloc: Global, issuer: &[u8], list: &[u8]) -> Option<(usize, bool)> {
+    let events = events(alloc, issuer, list)?;
+    let answers = answers_to(alloc, &events)?;
+    Some((answers.len(), are_kept(&answers)))
+}
+
 fn answered(alloc: Global) -> Option<(usize, bool)> {
     let issuer = certificate(alloc, "ca(R,R)").ok()?;
     let list = revocation_list(alloc, "crl(R,5,[05 1])").ok()?;
-    let events = events(alloc, &issuer, &list)?;
-    let node = Node::new(ToyVerifier, made(alloc)?);
-    let (_node, answers) = node.run(alloc, &events).ok()?;
-    Some((answers.len(), are_kept(&answers)))
+    answered_to(alloc, &issuer, &list)
 }
 
 #[test]

@@ -1,10 +1,10 @@
 //! A store of version 1 with many lists.
 
-use crate::stores::{Disks, adopted_from, empty};
+use crate::stores::{Disks, adopted_from, empty, reason};
 use sqlite::types::ValueRef;
 use sqlite::{Connection, Files, Options, Transaction};
 use sqlite_disk::Memory;
-use statements_facts::{Issuer, NameKey, Scope};
+use statements_facts::{Issuer, NameKey};
 use std::alloc::Global;
 use store_migration::version_1_tables;
 
@@ -68,16 +68,21 @@ fn filled(alloc: Global) -> Files<Memory> {
     }
 }
 
+/// An issuer of that key, whose name has the same octets.
+fn issuer(alloc: Global, key: &[u8]) -> Option<Issuer<'_>> {
+    let name = Vec::from_slice(alloc, key).ok()?;
+    Some(Issuer {
+        name: NameKey::from_octets(name),
+        key_info: key,
+    })
+}
+
 /// The reason that the last list gives behind the migration.
 fn migrated(alloc: Global) -> Option<Option<u8>> {
-    let mut store = adopted_from(alloc, filled(alloc))?;
     let key = LISTS.to_be_bytes();
-    let issuer = Issuer {
-        name: NameKey::from_octets(Vec::from_slice(alloc, &key).ok()?),
-        key_info: &key,
-    };
-    let held = store.crl(&issuer, Scope::All, b"\x05").ok()??;
-    Some(held.reason)
+    let issuer = issuer(alloc, &key)?;
+    let mut store = adopted_from(alloc, filled(alloc))?;
+    reason(&mut store, &issuer, b"\x05")
 }
 
 #[test]

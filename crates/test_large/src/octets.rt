@@ -1,10 +1,10 @@
 //! A certificate of 60 kilobytes, and a list of 2 megabytes.
 
-use crate::stores::made;
-use relying::{Event, Node};
+use crate::stores::answers_to;
+use relying::Event;
 use statements_facts::Counts;
 use std::alloc::Global;
-use vectors::{ToyVerifier, certificate, revocation_list};
+use vectors::{certificate, revocation_list};
 
 const SUBTREES: u32 = 4_000;
 
@@ -31,16 +31,18 @@ fn list(alloc: Global) -> Option<Vec<u8>> {
     revocation_list(alloc, text.as_str()).ok()
 }
 
+/// What a delivery of them counts.
+fn counts(alloc: Global, issuer: &[u8], list: &[u8]) -> Option<Counts> {
+    let answers = answers_to(alloc, &[Event::Deliver(issuer, list)])?;
+    answers.first().and_then(|answer| answer.ok())
+}
+
 /// Whether certificate and list are as large as wanted, and what a delivery of them counts.
 fn delivered(alloc: Global) -> Option<(bool, Option<Counts>)> {
     let issuer = issuer(alloc)?;
     let list = list(alloc)?;
     let are_large = issuer.len() >= 60_000 && list.len() >= 2_000_000;
-    let events = vec![in alloc; Event::Deliver(&issuer, &list)].ok()?;
-    let node = Node::new(ToyVerifier, made(alloc)?);
-    let (_node, answers) = node.run(alloc, &events).ok()?;
-    let counts = answers.first().and_then(|answer| answer.ok());
-    Some((are_large, counts))
+    Some((are_large, counts(alloc, &issuer, &list)))
 }
 
 #[test]

@@ -1,6 +1,6 @@
 //! Large statements, and many of them.
 
-use crate::stores::{adopted, made};
+use crate::stores::{adopted, made, put, reason};
 use asn::Number20;
 use sqlite_disk::Memory;
 use statements_facts::{
@@ -94,21 +94,37 @@ fn stored(count: usize) -> Counts {
     }
 }
 
+/// The store takes a list of the issuer that revokes all of these, and counts it.
+fn put_list(
+    alloc: Global,
+    store: &mut Store<Memory>,
+    key_info: &[u8],
+    serials: &[u8],
+) -> Option<Counts> {
+    let list = list(alloc, key_info, serials)?;
+    put(store, &list)
+}
+
 /// The reason for which the list of the issuer revokes a serial number; 255 where it does not list it.
-fn reason(alloc: Global, store: &mut Store<Memory>, key_info: &[u8], serial: u32) -> Option<u8> {
+fn told(alloc: Global, store: &mut Store<Memory>, key_info: &[u8], serial: u32) -> Option<u8> {
     let issuer = issuer(alloc, key_info)?;
-    let held = store.crl(&issuer, Scope::All, &serial.to_be_bytes()).ok()??;
-    Some(held.reason.unwrap_or(255))
+    let reason = reason(store, &issuer, &serial.to_be_bytes())?;
+    Some(reason.unwrap_or(255))
+}
+
+/// A store that took a list of these, opened again, and how the list was counted.
+fn with_list(alloc: Global, serials: &[u8]) -> Option<(Counts, Store<Memory>)> {
+    let mut store = made(alloc)?;
+    let counts = put_list(alloc, &mut store, KEY, serials)?;
+    Some((counts, adopted(alloc, store)?))
 }
 
 /// What is answered where a list of many entries is put, and of the last of them and the serial number behind it.
 fn of_a_long_list(alloc: Global) -> Option<(Counts, u8, u8)> {
     let octets = serials(alloc, LISTED)?;
-    let mut store = made(alloc)?;
-    let counts = store.put(&list(alloc, KEY, &octets)?).ok()?;
-    let mut store = adopted(alloc, store)?;
-    let last = reason(alloc, &mut store, KEY, FIRST | (LISTED - 1))?;
-    let next = reason(alloc, &mut store, KEY, FIRST | LISTED)?;
+    let (counts, mut store) = with_list(alloc, &octets)?;
+    let last = told(alloc, &mut store, KEY, FIRST | (LISTED - 1))?;
+    let next = told(alloc, &mut store, KEY, FIRST | LISTED)?;
     Some((counts, last, next))
 }
 
@@ -118,18 +134,23 @@ fn a_list_of_200_000_entries(rt: HostRuntime) {
     assert_eq!(rt; of_a_long_list(rt.alloc()), Some((stored(1), last, 255)));
 }
 
-/// Whether a store that took a list of so many entries tells the reason of each, and of no serial number behind them.
-fn tells_each(alloc: Global, count: u32) -> Option<bool> {
-    let octets = serials(alloc, count)?;
-    let mut store = made(alloc)?;
-    store.put(&list(alloc, KEY, &octets)?).ok()?;
+/// Whether the store tells the reason of each of so many, and of no serial number behind them.
+fn tells_all(alloc: Global, store: &mut Store<Memory>, count: u32) -> Option<bool> {
     for index in 0..count {
-        let told = reason(alloc, &mut store, KEY, FIRST | index)?;
-        if told != given(&index.to_be_bytes()) {
+        let reason = told(alloc, store, KEY, FIRST | index)?;
+        if reason != given(&index.to_be_bytes()) {
             return Some(false);
         }
     }
-    Some(reason(alloc, &mut store, KEY, FIRST | count)? == 255)
+    Some(told(alloc, store, KEY, FIRST | count)? == 255)
+}
+
+/// The same of a store that took a list of so many entries.
+fn tells_each(alloc: Global, count: u32) -> Option<bool> {
+    let octets = serials(alloc, count)?;
+    let mut store = made(alloc)?;
+    put_list(alloc, &mut store, KEY, &octets)?;
+    tells_all(alloc, &mut store, count)
 }
 
 /// Entries are written eight by a statement, and what is left one by one.
@@ -140,15 +161,25 @@ fn lists_of_a_few_entries(rt: HostRuntime) {
     }
 }
 
+/// How a response about all of these is counted.
+fn put_response(alloc: Global, store: &mut Store<Memory>, serials: &[u8]) -> Option<Counts> {
+    let response = response(alloc, serials)?;
+    put(store, &response)
+}
+
+/// The status of the last of the serial numbers, if one is held.
+fn status_of_last(alloc: Global, store: &mut Store<Memory>) -> Option<Option<Status>> {
+    let issuer = issuer(alloc, KEY)?;
+    let last = FIRST | (SINGLES - 1);
+    let held = store.ocsp(&issuer, NAME_HASH, &last.to_be_bytes()).ok()?;
+    Some(held.map(|held| held.status))
+}
+
 fn of_a_long_response(alloc: Global) -> Option<(Counts, Option<Status>)> {
     let octets = serials(alloc, SINGLES)?;
     let mut store = made(alloc)?;
-    let counts = store.put(&response(alloc, &octets)?).ok()?;
-    let last = FIRST | (SINGLES - 1);
-    let held = store
-        .ocsp(&issuer(alloc, KEY)?, NAME_HASH, &last.to_be_bytes())
-        .ok()?;
-    Some((counts, held.map(|held| held.status)))
+    let counts = put_response(alloc, &mut store, &octets)?;
+    Some((counts, status_of_last(alloc, &mut store)?))
 }
 
 #[test]
@@ -162,8 +193,7 @@ fn a_response_of_256_singles(rt: HostRuntime) {
 /// Whether each of many issuers' lists is stored.
 fn puts_lists(alloc: Global, store: &mut Store<Memory>, serials: &[u8]) -> Option<()> {
     for index in 0..LISTS {
-        let key = index.to_be_bytes();
-        let counts = store.put(&list(alloc, &key, serials)?).ok()?;
+        let counts = put_list(alloc, store, &index.to_be_bytes(), serials)?;
         if counts != stored(1) {
             return None;
         }
@@ -171,13 +201,18 @@ fn puts_lists(alloc: Global, store: &mut Store<Memory>, serials: &[u8]) -> Optio
     Some(())
 }
 
+/// A store that took them, opened again.
+fn with_lists(alloc: Global, serials: &[u8]) -> Option<Store<Memory>> {
+    let mut store = made(alloc)?;
+    puts_lists(alloc, &mut store, serials)?;
+    adopted(alloc, store)
+}
+
 /// The reason that the last list gives, behind a restart.
 fn of_many_lists(alloc: Global) -> Option<u8> {
     let octets = serials(alloc, 1)?;
-    let mut store = made(alloc)?;
-    puts_lists(alloc, &mut store, &octets)?;
-    let mut store = adopted(alloc, store)?;
-    reason(alloc, &mut store, &(LISTS - 1).to_be_bytes(), FIRST)
+    let mut store = with_lists(alloc, &octets)?;
+    told(alloc, &mut store, &(LISTS - 1).to_be_bytes(), FIRST)
 }
 
 #[test]
