@@ -11,7 +11,7 @@ use Rattle.cli_failures.specs.Failures.{Holding}
 use Rattle.cli_failures.specs.Report.{UnlessLate, report_line, exit_status}
 use Rattle.cli_failures.specs.declared.failure.Failure.{Failure}
 use Rattle.cli_failures.specs.declared.failure.Failure.TheVariants.{Unwritable}
-use Rattle.cli_store.specs.Standing.{Leaving, Standing}
+use Rattle.cli.specs.Host.{HostState}
 use Rattle.cli_showing.specs.Shown.{ArePrintLines, HoldsKind, IsShownText}
 use Rattle.cli.specs.Outcome.{HasAnswered, IsDone, IsLineFailure}
 use Rattle.cli.specs.Ended.{EndedAs, HasEndedSo, RunHasEnded, IsAnswering, IsFailing}
@@ -23,22 +23,28 @@ pub either : (result : Result ℕ Failure) (ended : ℕ) (same : Type 0) (Told :
 either (Ok status) ended same Told is done failed = inl (subst IsAnswering (sym done.0) is)
 either (Err failure) ended same Told is done failed = inr (subst IsFailing (sym failed.0) (is_failing failure))
 
-pub answered : (holds : Holding) (stands : Standing) (leaves : Leaving) (words : List Text) (line : Line) (input source old new : Option (List ℕ)) (result : Result ℕ Failure) (ended : ℕ) (same : Type 0) (Told : List ℕ → Type 0)
-    → Reads words line → IfOk result (IsDone holds stands leaves line input source old new)
+pub answered : (host : HostState) (words : List Text) (line : Line) (input source old new : Option (List ℕ)) (result : Result ℕ Failure) (ended : ℕ) (same : Type 0) (Told : List ℕ → Type 0)
+    → Reads words line → IfOk result (IsDone host line input source old new)
     → IfOk result (λ status. (ended ≡ status) × same) → IfErr result (λ failure. (ended ≡ exit_status failure) × Told (report_line failure))
-    → IsAnswering ended → HasAnswered holds stands leaves words input source old new ended × same
-answered holds stands leaves words line input source old new (Ok status) ended same Told reads did done failed answers =
-    (inl (line, reads, subst (IsDone holds stands leaves line input source old new) (sym done.0) did), done.1)
-answered holds stands leaves words line input source old new (Err failure) ended same Told reads did done failed answers =
+    → IsAnswering ended → HasAnswered host words input source old new ended
+answered host words line input source old new (Ok status) ended same Told reads did done failed answers =
+    inl (line, reads, subst (IsDone host line input source old new) (sym done.0) did)
+answered host words line input source old new (Err failure) ended same Told reads did done failed answers =
     absurd (not_both ended answers (subst IsFailing (sym failed.0) (is_failing failure)))
 
-pub failed : (holds : Holding) (stands : Standing) (leaves : Leaving) (words : List Text) (line : Line) (result : Result ℕ Failure) (ended : ℕ) (same unchanged : Type 0) (Told : List ℕ → Type 0)
-    → Reads words line → IfOk result IsAnswering → IfErr result (IsLineFailure holds stands leaves line) → IfErr result (λ failure. UnlessLate failure unchanged)
+-- nothing was told
+pub silent : (result : Result ℕ Failure) (ended : ℕ) (same : Type 0) (Told : List ℕ → Type 0) → IfOk result (λ status. (ended ≡ status) × same) → IfErr result (λ failure. (ended ≡ exit_status failure) × Told (report_line failure))
+    → IsAnswering ended → same
+silent (Ok status) ended same Told done failed answers = done.1
+silent (Err failure) ended same Told done failed answers = absurd (not_both ended answers (subst IsFailing (sym failed.0) (is_failing failure)))
+
+pub failed : (host : HostState) (words : List Text) (line : Line) (result : Result ℕ Failure) (ended : ℕ) (same unchanged : Type 0) (Told : List ℕ → Type 0)
+    → Reads words line → IfOk result IsAnswering → IfErr result (IsLineFailure host line) → IfErr result (λ failure. UnlessLate failure unchanged)
     → IfOk result (λ status. (ended ≡ status) × same) → IfErr result (λ failure. (ended ≡ exit_status failure) × Told (report_line failure))
-    → IsFailing ended → RunHasEnded holds stands leaves words unchanged Told ended
-failed holds stands leaves words line (Ok status) ended same unchanged Told reads is fails quiet done told failing =
+    → IsFailing ended → RunHasEnded host words unchanged Told ended
+failed host words line (Ok status) ended same unchanged Told reads is fails quiet done told failing =
     absurd (not_both ended (subst IsAnswering (sym done.0) is) failing)
-failed holds stands leaves words line (Err failure) ended same unchanged Told reads is fails quiet done told failing =
+failed host words line (Err failure) ended same unchanged Told reads is fails quiet done told failing =
     inl (failure, inl (line, reads, fails), told.0, quiet, told.1)
 
 -- ---- the same of a line alone
@@ -59,9 +65,9 @@ line_failed Fails (Ok status) ended same unchanged Told is fails quiet done told
 line_failed Fails (Err failure) ended same unchanged Told is fails quiet done told failing = (failure, fails, told.0, quiet)
 
 -- so does the run of the words that it is
-pub words_ended : (holds : Holding) (stands : Standing) (leaves : Leaving) (words : List Text) (line : Line) (unchanged : Type 0) (ended : ℕ) → Reads words line
-    → EndedAs (IsLineFailure holds stands leaves line) unchanged ended → HasEndedSo holds stands leaves words unchanged ended
-words_ended holds stands leaves words line unchanged ended reads (failure, fails, is, quiet) = inl (failure, inl (line, reads, fails), is, quiet, tt)
+pub words_ended : (host : HostState) (words : List Text) (line : Line) (unchanged : Type 0) (ended : ℕ) → Reads words line
+    → EndedAs (IsLineFailure host line) unchanged ended → HasEndedSo host words unchanged ended
+words_ended host words line unchanged ended reads (failure, fails, is, quiet) = inl (failure, inl (line, reads, fails), is, quiet, tt)
 
 -- ---- standard output fails behind the text
 
@@ -75,16 +81,16 @@ printed holds key_info Certificate with_parts file text are = (are.0, are.1)
 printed holds key_info RevocationList with_parts file text are = (are.0, are.1)
 printed holds key_info Response with_parts file text are = (are.0, are.1)
 
-pub unflushed : (holds : Holding) (stands : Standing) (leaves : Leaving) (line : Line) (input source old new : Option (List ℕ)) (status : ℕ) → IsDone holds stands leaves line input source old new status
-    → IsLineFailure holds stands leaves line Unwritable
-unflushed holds stands leaves (Tree file) input source old new status (text, (zero, is), written) = inr ((is.0, is.1, is.2, is.3), refl)
-unflushed holds stands leaves (Show kind with_details file) input source old new status (text, (zero, is), written) =
-    inr (shown holds kind with_details file.now text is, refl)
-unflushed holds stands leaves (Prints issuer kind with_parts file) input source old new status (text, (zero, (signer, held, are)), written) =
-    inr (((signer, held), printed holds signer.key_info kind with_parts file.now text are), refl)
-unflushed holds stands leaves (Deliver store verdicts issuer file) input source old new status (text, (zero, (counts, is, line)), written) = inr ((counts, is), refl)
-unflushed holds stands leaves (Check question) input source old new status (text, (verdict, is, ends, said), written) = inr ((verdict, is), refl)
-unflushed holds stands leaves (Compare question other) input source old new status (text, (comparison, is, ends, said), written) = inr ((comparison, is), refl)
-unflushed holds stands leaves (Listing store moment) input source old new status (text, (zero, is), written) = inr ((text, is), refl)
-unflushed holds stands leaves (Explain words) input source old new status (text, (zero, is), written) = inr ((text, is), refl)
-unflushed holds stands leaves (Session store verdicts) input source old new status (text, (zero, is), written) = inr ((is.prints, is.begins), inr (inl refl))
+pub unflushed : (host : HostState) (line : Line) (input source old new : Option (List ℕ)) (status : ℕ) → IsDone host line input source old new status
+    → IsLineFailure host line Unwritable
+unflushed host (Tree file) input source old new status (text, (zero, is), written) = inr ((is.0, is.1, is.2, is.3), refl)
+unflushed host (Show kind with_details file) input source old new status (text, (zero, is), written) =
+    inr (shown host.holds kind with_details file.now text is, refl)
+unflushed host (Prints issuer kind with_parts file) input source old new status (text, (zero, (signer, held, are)), written) =
+    inr (((signer, held), printed host.holds signer.key_info kind with_parts file.now text are), refl)
+unflushed host (Deliver store verdicts issuer file) input source old new status (text, (zero, (counts, is, line)), written) = inr ((counts, is), refl)
+unflushed host (Check store verdicts query) input source old new status (text, (verdict, is, ends, said), written) = inr ((verdict, is), refl)
+unflushed host (Compare store other verdicts query) input source old new status (text, (comparison, is, ends, said), written) = inr ((comparison, is), refl)
+unflushed host (Listing store moment) input source old new status (text, (zero, is), written) = inr ((text, is), refl)
+unflushed host (Explain words) input source old new status (text, (zero, is), written) = inr ((text, is), refl)
+unflushed host (Session store verdicts) input source old new status (text, (zero, is), written) = inr ((is.prints, is.begins), inr (inl refl))

@@ -5,9 +5,8 @@ use Rattle.clap.specs.declared.error.kind.ErrorKind.{ErrorKind}
 use Rattle.clap.specs.declared.error.kind.ErrorKind.TheVariants.{OutOfMemory}
 use Rattle.cli_words.specs.CommandLine.{AreRefusedWith}
 use Rattle.cli_failures.specs.declared.failure.Failure.TheVariants.{NoMemory, Unwritable}
-use Rattle.cli_failures.specs.Failures.{Holding}
 use Rattle.cli_failures.specs.Report.{report_line, exit_status}
-use Rattle.cli_store.specs.Standing.{Leaving, Standing}
+use Rattle.cli.specs.Host.{HostState}
 use Rattle.cli.specs.Outcome.{HasAnswered, IsHelp, IsMistake}
 use Rattle.cli.specs.Ended.{RunHasEnded, IsAnswering, IsFailing, IsUnexplained}
 use Rattle.cli.proofs.Statuses.{not_both}
@@ -28,19 +27,23 @@ pub either : (status : ℕ) → (status ≡ 0) ⊎ IsFailing status → IsAnswer
 either status (inl done) = inl (inl done)
 either status (inr fails) = inr fails
 
-pub helped : (holds : Holding) (stands : Standing) (leaves : Leaving) (words : List Text) (kind : ErrorKind) (input source old new : Option (List ℕ)) (status : ℕ) (same : Type 0)
+pub helped : (host : HostState) (words : List Text) (kind : ErrorKind) (input source old new : Option (List ℕ)) (status : ℕ) (same : Type 0)
     → (kind ≡ OutOfMemory) ⊎ AreRefusedWith words kind → (status ≡ 0) ⊎ IsFailing status → (status ≡ 0 → IsHelp kind × same)
-    → IsAnswering status → HasAnswered holds stands leaves words input source old new status × same
-helped holds stands leaves words kind input source old new status same refused (inl done) help answers =
-    (inr (kind, refused_help words kind refused (help done).0, (help done).0, done), (help done).1)
-helped holds stands leaves words kind input source old new status same refused (inr fails) help answers = absurd (not_both status answers fails)
+    → IsAnswering status → HasAnswered host words input source old new status
+helped host words kind input source old new status same refused (inl done) help answers =
+    inr (kind, refused_help words kind refused (help done).0, (help done).0, done)
+helped host words kind input source old new status same refused (inr fails) help answers = absurd (not_both status answers fails)
 
-pub unexplained : (holds : Holding) (stands : Standing) (leaves : Leaving) (words : List Text) (kind : ErrorKind) (status : ℕ) (unchanged : Type 0) (Told : List ℕ → Type 0)
-    → (kind ≡ OutOfMemory) ⊎ AreRefusedWith words kind → IsUnexplained kind unchanged Told status → RunHasEnded holds stands leaves words unchanged Told status
-unexplained holds stands leaves words kind status unchanged Told refused (inl (failure, inl memory, told, quiet, line)) = inl (failure, inr (inl memory), told, quiet, line)
-unexplained holds stands leaves words kind status unchanged Told refused (inl (failure, inr (help, late), told, quiet, line)) =
+pub silent : (kind : ErrorKind) (status : ℕ) (same : Type 0) → (status ≡ 0) ⊎ IsFailing status → (status ≡ 0 → IsHelp kind × same) → IsAnswering status → same
+silent kind status same (inl done) help answers = (help done).1
+silent kind status same (inr fails) help answers = absurd (not_both status answers fails)
+
+pub unexplained : (host : HostState) (words : List Text) (kind : ErrorKind) (status : ℕ) (unchanged : Type 0) (Told : List ℕ → Type 0)
+    → (kind ≡ OutOfMemory) ⊎ AreRefusedWith words kind → IsUnexplained kind unchanged Told status → RunHasEnded host words unchanged Told status
+unexplained host words kind status unchanged Told refused (inl (failure, inl memory, told, quiet, line)) = inl (failure, inr (inl memory), told, quiet, line)
+unexplained host words kind status unchanged Told refused (inl (failure, inr (help, late), told, quiet, line)) =
     inl (failure, inr (inr (kind, refused_help words kind refused help, help, late)), told, quiet, line)
-unexplained holds stands leaves words kind status unchanged Told refused (inr (mistake, told, quiet)) = inr ((kind, refused_mistake words kind refused mistake, mistake), told, quiet)
+unexplained host words kind status unchanged Told refused (inr (mistake, told, quiet)) = inr ((kind, refused_mistake words kind refused mistake, mistake), told, quiet)
 
 -- whatever was told
 pub untold : (kind : ErrorKind) (unchanged : Type 0) (Told : List ℕ → Type 0) (status : ℕ)

@@ -1,6 +1,4 @@
-mod Believing
-mod Refusing
-mod Questions
+mod Asked
 mod Seeing
 mod Unanswered
 mod Statuses

@@ -18,9 +18,8 @@ use Rattle.relying_verdicts.specs.declared.fault.Fault.{Fault}
 use Rattle.relying_verdicts.specs.declared.fault.Fault.TheVariants as F
 use Rattle.cli_failures.specs.declared.failure.Failure.{Failure}
 use Rattle.cli_failures.specs.declared.failure.Failure.TheVariants.{NoMemory}
-use Rattle.cli_store.specs.Standing.{IsFound, IsFoundOrMade, IsNoAnswer, Leaving, Seen, Standing, seen_of, told_of, told_of_party}
-use Rattle.cli.specs.Delivered.{IsNotTaken}
-use Rattle.cli.specs.Checked.{AreUnanswered, IsNoComparison, IsNotCompared, IsNotChecked}
+use Rattle.cli_store.specs.Standing.{IsFound, IsNoAnswer, Leaving, Seen, Standing, seen_of, told_of}
+use Rattle.cli.specs.Checked.{IsNoComparison, IsNotChecked}
 
 -- ---- a verdict
 
@@ -30,21 +29,21 @@ other same = omega (arith, same)
 kept : (old new : State) → StaysIfOpen old new → IsTrue new.is_open → (held : Holdings) → IsStoreOf old.now held → IsStoreOf new.now held
 kept old new keeps is_open held stands = subst (λ now. IsStoreOf now held) (sym (keeps.now_is is_open)) stands
 
-pub not_checked : (leaves : Seen → Type 0) (old new : State) (fault : Fault) (failure : Failure)
-    → failure ≡ told_of_party fault → leaves (seen_of new) → (HasCleanDisk new → StaysIfOpen old new × IsFormed old fault) → IsNoAnswer leaves (seen_of old) failure
-not_checked leaves old new (F.Store S.Store) failure told left looks =
+pub no_verdict : (leaves : Seen → Type 0) (old new : State) (fault : Fault) (failure : Failure)
+    → failure ≡ told_of fault → leaves (seen_of new) → (HasCleanDisk new → StaysIfOpen old new × IsFormed old fault) → IsNoAnswer leaves (seen_of old) failure
+no_verdict leaves old new (F.Store S.Store) failure told left looks =
     inr (71, told, inl refl, (seen_of new, left, λ intact is_open held stands. (kept old new (looks intact).0 is_open held stands, other)))
-not_checked leaves old new (F.Store S.Schema) failure told left looks =
+no_verdict leaves old new (F.Store S.Schema) failure told left looks =
     inr (72, told, inr refl, (seen_of new, left, λ intact is_open held stands. absurd ((looks intact).1 refl held stands)))
-not_checked leaves old new (F.Store S.Memory) failure told left looks = inl told
-not_checked leaves old new F.Memory failure told left looks = inl told
+no_verdict leaves old new (F.Store S.Memory) failure told left looks = inl told
+no_verdict leaves old new F.Memory failure told left looks = inl told
 
 -- ---- a comparison
 
-pub not_compared : (leaves others_leave : Seen → Type 0) (old new other_old other_new : State) (fault : Fault) (failure : Failure)
-    → failure ≡ told_of_party fault → leaves (seen_of new) → others_leave (seen_of other_new)
+pub no_comparison : (leaves others_leave : Seen → Type 0) (old new other_old other_new : State) (fault : Fault) (failure : Failure)
+    → failure ≡ told_of fault → leaves (seen_of new) → others_leave (seen_of other_new)
     → (HasCleanDisk new → HasCleanDisk other_new → StaysIfOpen old new × StaysIfOpen other_old other_new × IsFormedOfEither old other_old fault) → IsNoComparison leaves others_leave (seen_of old) (seen_of other_old) failure
-not_compared leaves others_leave old new other_old other_new (F.Store S.Store) failure told left other_left looks = inr (
+no_comparison leaves others_leave old new other_old other_new (F.Store S.Store) failure told left other_left looks = inr (
   71,
   told,
   inl refl,
@@ -60,20 +59,20 @@ not_compared leaves others_leave old new other_old other_new (F.Store S.Store) f
     ),
   ),
 )
-not_compared leaves others_leave old new other_old other_new (F.Store S.Schema) failure told left other_left looks =
+no_comparison leaves others_leave old new other_old other_new (F.Store S.Schema) failure told left other_left looks =
     inr (72, told, inr refl, (seen_of new, seen_of other_new, left, other_left, λ intact other_intact is_open other_open held others one two. absurd ((looks intact other_intact).2 refl held others one two)))
-not_compared leaves others_leave old new other_old other_new (F.Store S.Memory) failure told left other_left looks = inl told
-not_compared leaves others_leave old new other_old other_new F.Memory failure told left other_left looks = inl told
+no_comparison leaves others_leave old new other_old other_new (F.Store S.Memory) failure told left other_left looks = inl told
+no_comparison leaves others_leave old new other_old other_new F.Memory failure told left other_left looks = inl told
 
 -- ---- a delivery
 
-pub not_taken : (leaves : Seen → Type 0) (old new : State) (facts : Facts) (fault : StoreFault) (failure : Failure)
-    → failure ≡ told_of fault → leaves (seen_of new) → PutsFacts old new facts (Err fault) → IsNoAnswer leaves (seen_of old) failure
-not_taken leaves old new facts S.Store failure told left puts =
+pub no_answer_on_facts : (leaves : Seen → Type 0) (old new : State) (facts : Facts) (fault : StoreFault) (failure : Failure)
+    → failure ≡ told_of (F.Store fault) → leaves (seen_of new) → PutsFacts old new facts (Err fault) → IsNoAnswer leaves (seen_of old) failure
+no_answer_on_facts leaves old new facts S.Store failure told left puts =
     inr (71, told, inl refl, (seen_of new, left, λ intact is_open held stands. (subst (λ now. IsStoreOf now held) (sym ((puts intact).same is_open)) stands, other)))
-not_taken leaves old new facts S.Schema failure told left puts =
+no_answer_on_facts leaves old new facts S.Schema failure told left puts =
     inr (72, told, inr refl, (seen_of new, left, λ intact is_open held stands. absurd ((puts intact).formed refl held stands)))
-not_taken leaves old new facts S.Memory failure told left puts = inl told
+no_answer_on_facts leaves old new facts S.Memory failure told left puts = inl told
 
 -- ---- a listing
 
@@ -81,7 +80,7 @@ still : (old new : State) → IsSettled old → IsSettled new → KeepsCommit ol
 still old new settled settled_then keeps is_open = settled_then is_open ∙ keeps.committed is_open ∙ sym (settled (keeps.was_open is_open))
 
 pub not_listed : (leaves : Seen → Type 0) (old new : State) (fault : StoreFault) (failure : Failure)
-    → failure ≡ told_of fault → leaves (seen_of new) → ListingShowsHeld → IsSettled old → IsSettled new
+    → failure ≡ told_of (F.Store fault) → leaves (seen_of new) → ListingShowsHeld → IsSettled old → IsSettled new
     → (HasCleanDisk new → Reads {A = Listing} old new IsListing (Err fault)) → IsNoAnswer leaves (seen_of old) failure
 not_listed leaves old new S.Store failure told left shows settled settled_then reads = inr (
   71,
@@ -101,22 +100,9 @@ pub without_memory : {T : Type 0} (leaves : Seen → Type 0) (old : Seen) (resul
 without_memory leaves old (Ok x) fails = tt
 without_memory leaves old (Err failure) fails = inl fails
 
--- ---- stores at paths
+-- ---- the store at a path
 
-pub not_checked_by : {T : Type 0} (stands : Standing) (leaves : Leaving) (path : List ℕ) (old : Seen) (result : Result T Failure) → IsFound stands path old
+pub not_listed_at : {T : Type 0} (stands : Standing) (leaves : Leaving) (path : List ℕ) (old : Seen) (result : Result T Failure) → IsFound stands path old
     → IfErr result (IsNoAnswer (leaves path) old) → IfErr result (IsNotChecked stands leaves path)
-not_checked_by stands leaves path old (Ok x) found fails = tt
-not_checked_by stands leaves path old (Err failure) found fails = inr (old, found, fails)
-
-pub not_taken_at : {T : Type 0} (stands : Standing) (leaves : Leaving) (path : List ℕ) (old : Seen) (result : Result T Failure) → IsFoundOrMade stands path old
-    → IfErr result (IsNoAnswer (leaves path) old) → IfErr result (IsNotTaken stands leaves path)
-not_taken_at stands leaves path old (Ok x) found fails = tt
-not_taken_at stands leaves path old (Err failure) found fails = inr (old, found, fails)
-
-pub not_compared_by : {T : Type 0} (stands : Standing) (leaves : Leaving) (path beside : List ℕ) (old other_old : Seen) (result : Result T Failure)
-    → IsFound stands path old → IsFound stands beside other_old
-    → IfErr result (IsNoComparison (leaves path) (leaves beside) old other_old) → IfErr result (IsNotCompared stands leaves path beside)
-not_compared_by stands leaves path beside old other_old (Ok x) found other_found fails = tt
-not_compared_by stands leaves path beside old other_old (Err failure) found other_found fails =
-    let both : AreUnanswered stands leaves path beside failure = (old, other_old, found, other_found, fails) in
-    inr (inr both)
+not_listed_at stands leaves path old (Ok x) found fails = tt
+not_listed_at stands leaves path old (Err failure) found fails = inr (old, found, fails)

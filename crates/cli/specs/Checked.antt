@@ -1,5 +1,5 @@
 -- Verdicts and comparisons by what stores at paths hold, and why there is none.
-use Rattle.std.specs.Prelude.{◌≡◌, ◌≢◌, ◌⊎◌, ℕ, List, IsTrue}
+use Rattle.std.specs.Prelude.{◌≡◌, ◌≢◌, ◌⊎◌, ℕ, List, IsTrue, Result, Ok, Err}
 use Rattle.statements_facts.specs.Statement.{Holdings}
 use Rattle.store_maps.specs.Held.{IsStoreOf}
 use Rattle.path.specs.Query.{Query, Accepts}
@@ -7,90 +7,75 @@ use Rattle.relying_agreement.specs.Verdict.{IsVerdict}
 use Rattle.relying_agreement.specs.Comparison.{IsComparison}
 use Rattle.relying_agreement.specs.declared.verdict.Verdict.{Verdict}
 use Rattle.relying_agreement.specs.declared.verdict.Comparison.{Comparison}
-use Rattle.cli_words.specs.declared.question.Question.{Question}
-use Rattle.cli_failures.specs.Failures.{Holding}
+use Rattle.cli_words.specs.QueryTexts.{QueryTexts}
+use Rattle.cli_failures.specs.Failures.{OrUnwritable}
 use Rattle.cli_failures.specs.declared.failure.Failure.{Failure}
 use Rattle.cli_failures.specs.declared.failure.Failure.TheVariants.{StoreFailed, NoMemory}
+use Rattle.cli_operands.specs.Asked.{IsFailureOfQuestion}
 use Rattle.cli_operands.specs.InOrder.{FailsFirst}
-use Rattle.cli_operands.specs.Operands.{IsQueryOf, IsRefusalIn}
-use Rattle.cli_operands.specs.Question.{Asks, IsFailureOfQuestion}
-use Rattle.cli_operands.specs.declared.operand_files.Operands.{Operands}
-use Rattle.cli.specs.Asked.{IsAsked}
-use Rattle.cli.specs.Believed.{accepted_by}
+use Rattle.cli_steps.specs.Commands.{IsAsked}
 use Rattle.cli_store.specs.Standing.{IsFaultNumber, IsFound, IsIntact, IsNotFound, IsUnanswered, Leaving, Seen, Standing}
+use Rattle.cli.specs.Host.{HostState}
+use Rattle.cli.specs.declared.at_path.StorePair.{StorePair}
 
--- the verdict of a party that held what a store held in its old state, which was left in another
-abbrev pub HasChecked : (Seen → Type 0) → Accepts → Query → Seen → Verdict → Type 0
-HasChecked leaves accepts query old verdict =
-    (new : Seen) × leaves new
-    × (IsIntact new → (held : Holdings) → IsStoreOf old.now held → IsVerdict accepts query held verdict)
+-- ---- verdicts
 
--- the verdict by what the store at the path holds
-abbrev pub IsCheckedBy : Standing → Leaving → List ℕ → Accepts → Query → Verdict → Type 0
-IsCheckedBy stands leaves path accepts query verdict =
-    (old : Seen) × IsFound stands path old × HasChecked (leaves path) accepts query old verdict
-
--- the same, of the question that operands ask
-abbrev pub IsCheckedOf : Standing → Leaving → List ℕ → Operands → Verdict → Type 0
-IsCheckedOf stands leaves path operands verdict =
-    (query : Query) × IsQueryOf operands query × IsCheckedBy stands leaves path (accepted_by operands.verifier) query verdict
-
--- the verdict that is asked for
-pub record IsChecked (holds : Holding) (stands : Standing) (leaves : Leaving) (question : Question) (verdict : Verdict) : Type 0 where
-  pub accepts : Accepts
-  pub query : Query
-  pub asked : IsAsked holds question accepts query
-  pub checked : IsCheckedBy stands leaves question.store.now accepts query verdict
-
--- one or another
-abbrev pub WasChecked : Holding → Standing → Leaving → Question → Type 0
-WasChecked holds stands leaves question =
-    (verdict : Verdict) × IsChecked holds stands leaves question verdict
-
--- ---- comparisons
-
--- the comparison of two parties that held what stores held in their old states, which were left in others
-abbrev pub HasCompared : (Seen → Type 0) → (Seen → Type 0) → Accepts → Query → Seen → Seen → Comparison → Type 0
-HasCompared leaves other_leaves accepts query old other_old comparison =
-    (new other_new : Seen) × leaves new × other_leaves other_new
-    × (IsIntact new → IsIntact other_new → (held others : Holdings) → IsStoreOf old.now held →
-    IsStoreOf other_old.now others → IsComparison accepts query held others comparison)
-
--- the comparison by what the stores at two paths hold
-abbrev pub IsComparedBy : Standing → Leaving → List ℕ → List ℕ → Accepts → Query → Comparison → Type 0
-IsComparedBy stands leaves path other accepts query comparison =
-    (old other_old : Seen) × IsFound stands path old × IsFound stands other other_old
-    × HasCompared (leaves path) (leaves other) accepts query old other_old comparison
-
--- the same, of the question that operands ask
-abbrev pub IsComparedOf : Standing → Leaving → List ℕ → List ℕ → Operands → Comparison → Type 0
-IsComparedOf stands leaves path other operands comparison =
-    (query : Query) × IsQueryOf operands query
-    × IsComparedBy stands leaves path other (accepted_by operands.verifier) query comparison
-
--- the comparison that is asked for
-pub record IsCompared (holds : Holding) (stands : Standing) (leaves : Leaving) (question : Question) (other : List ℕ) (comparison : Comparison) : Type 0 where
-  pub accepts : Accepts
-  pub query : Query
-  pub asked : IsAsked holds question accepts query
-  pub compared : IsComparedBy stands leaves question.store.now other accepts query comparison
-
--- one or another
-abbrev pub WereCompared : Holding → Standing → Leaving → Question → List ℕ → Type 0
-WereCompared holds stands leaves question other =
-    (comparison : Comparison) × IsCompared holds stands leaves question other comparison
-
--- ---- what is wrong
+-- the verdict by what the store at the path held when it was opened; it was closed behind
+pub record IsCheckedBy (stands : Standing) (leaves : Leaving) (path : List ℕ) (accepts : Accepts) (query : Query) (verdict : Verdict) : Type 0 where
+  pub old : Seen
+  pub found : IsFound stands path old
+  pub new : Seen
+  pub left : leaves path new
+  pub is :
+      IsIntact new → (held : Holdings) → IsStoreOf old.now held →
+      IsVerdict accepts query held verdict
 
 -- the store is not found, or does not answer
 abbrev pub IsNotChecked : Standing → Leaving → List ℕ → Failure → Type 0
 IsNotChecked stands leaves path failure =
     IsNotFound stands path failure ⊎ IsUnanswered (IsFound stands path) (leaves path) failure
 
--- the same, of operands: a certificate of theirs is refused first
-abbrev pub IsNotCheckedOf : Standing → Leaving → List ℕ → Operands → Failure → Type 0
-IsNotCheckedOf stands leaves path operands =
-    FailsFirst (IsRefusalIn operands) ((query : Query) × IsQueryOf operands query) (IsNotChecked stands leaves path)
+-- one or the other
+abbrev pub ChecksAt : Standing → Leaving → List ℕ → Accepts → Query → Result Verdict Failure → Type 0
+ChecksAt stands leaves path accepts query (Ok verdict) =
+    IsCheckedBy stands leaves path accepts query verdict
+ChecksAt stands leaves path accepts query (Err failure) = IsNotChecked stands leaves path failure
+
+-- the verdict that is asked for
+pub record IsChecked (host : HostState) (store verdicts : List ℕ) (texts : QueryTexts) (verdict : Verdict) : Type 0 where
+  pub accepts : Accepts
+  pub query : Query
+  pub asked : IsAsked host.holds verdicts texts accepts query
+  pub checked : IsCheckedBy host.stands host.leaves store accepts query verdict
+
+-- What is wrong, the first of it: the words in their order, the store.
+abbrev pub IsFailureOfCheck : HostState → List ℕ → List ℕ → QueryTexts → Failure → Type 0
+IsFailureOfCheck host store verdicts texts =
+    FailsFirst (IsFailureOfQuestion host.holds verdicts texts)
+    ((accepts : Accepts) × (query : Query) × IsAsked host.holds verdicts texts accepts query)
+    (IsNotChecked host.stands host.leaves store)
+
+-- or there is a verdict, and standard output failed
+abbrev pub FailsToCheck : HostState → List ℕ → List ℕ → QueryTexts → Failure → Type 0
+FailsToCheck host store verdicts texts =
+    OrUnwritable (IsFailureOfCheck host store verdicts texts)
+    ((verdict : Verdict) × IsChecked host store verdicts texts verdict)
+
+-- ---- comparisons
+
+-- the comparison by what the stores at two paths held when they were opened; they were closed behind
+pub record IsComparedBy (stands : Standing) (leaves : Leaving) (stores : StorePair) (accepts : Accepts) (query : Query) (comparison : Comparison) : Type 0 where
+  pub old : Seen
+  pub other_old : Seen
+  pub found : IsFound stands stores.store.now old
+  pub other_found : IsFound stands stores.other.now other_old
+  pub new : Seen
+  pub other_new : Seen
+  pub left : leaves stores.store.now new
+  pub other_left : leaves stores.other.now other_new
+  pub is :
+      IsIntact new → IsIntact other_new → (held others : Holdings) → IsStoreOf old.now held →
+      IsStoreOf other_old.now others → IsComparison accepts query held others comparison
 
 -- As long as both connections are open two stores hold what they held, and the fault with this number is not that one is no store.
 abbrev pub HaveKept : Seen → Seen → Seen → Seen → ℕ → Type 0
@@ -108,31 +93,43 @@ IsNoComparison leaves other_leaves old other_old failure =
     × (IsIntact new → IsIntact other_new → HaveKept old new other_old other_new number)))
 
 -- the stores at two paths were found, and one did not answer
-abbrev pub AreUnanswered : Standing → Leaving → List ℕ → List ℕ → Failure → Type 0
-AreUnanswered stands leaves path other failure =
-    (old other_old : Seen) × IsFound stands path old × IsFound stands other other_old
-    × IsNoComparison (leaves path) (leaves other) old other_old failure
+abbrev pub AreUnanswered : Standing → Leaving → StorePair → Failure → Type 0
+AreUnanswered stands leaves stores failure =
+    (old other_old : Seen) × IsFound stands stores.store.now old
+    × IsFound stands stores.other.now other_old
+    × IsNoComparison (leaves stores.store.now) (leaves stores.other.now) old other_old failure
 
 -- the store is not found; or it is and the other is not; or one does not answer
-abbrev pub IsNotCompared : Standing → Leaving → List ℕ → List ℕ → Failure → Type 0
-IsNotCompared stands leaves path other failure =
-    IsNotFound stands path failure
-    ⊎ (((old : Seen) × IsFound stands path old × IsNotFound stands other failure)
-    ⊎ AreUnanswered stands leaves path other failure)
+abbrev pub IsNotCompared : Standing → Leaving → StorePair → Failure → Type 0
+IsNotCompared stands leaves stores failure =
+    IsNotFound stands stores.store.now failure
+    ⊎ (((old : Seen) × IsFound stands stores.store.now old
+    × IsNotFound stands stores.other.now failure)
+    ⊎ AreUnanswered stands leaves stores failure)
 
--- the same, of operands
-abbrev pub IsNotComparedOf : Standing → Leaving → List ℕ → List ℕ → Operands → Failure → Type 0
-IsNotComparedOf stands leaves path other operands =
-    FailsFirst (IsRefusalIn operands) ((query : Query) × IsQueryOf operands query) (IsNotCompared stands leaves path other)
+-- there is a comparison, or none for that
+abbrev pub ComparesAt : Standing → Leaving → StorePair → Accepts → Query → Result Comparison Failure → Type 0
+ComparesAt stands leaves stores accepts query (Ok comparison) =
+    IsComparedBy stands leaves stores accepts query comparison
+ComparesAt stands leaves stores accepts query (Err failure) =
+    IsNotCompared stands leaves stores failure
 
--- The first of it: the operands in their order, the store.
-abbrev pub IsFailureOfCheck : Holding → Standing → Leaving → Question → Failure → Type 0
-IsFailureOfCheck holds stands leaves question =
-    FailsFirst (IsFailureOfQuestion holds question) ((query : Query) × Asks holds question query)
-    (IsNotChecked stands leaves question.store.now)
+-- the comparison that is asked for
+pub record IsCompared (host : HostState) (stores : StorePair) (verdicts : List ℕ) (texts : QueryTexts) (comparison : Comparison) : Type 0 where
+  pub accepts : Accepts
+  pub query : Query
+  pub asked : IsAsked host.holds verdicts texts accepts query
+  pub compared : IsComparedBy host.stands host.leaves stores accepts query comparison
 
--- the same, and then the other store
-abbrev pub IsFailureOfComparison : Holding → Standing → Leaving → Question → List ℕ → Failure → Type 0
-IsFailureOfComparison holds stands leaves question other =
-    FailsFirst (IsFailureOfQuestion holds question) ((query : Query) × Asks holds question query)
-    (IsNotCompared stands leaves question.store.now other)
+-- What is wrong, the first of it: the words in their order, the store, the other store.
+abbrev pub IsFailureOfComparison : HostState → StorePair → List ℕ → QueryTexts → Failure → Type 0
+IsFailureOfComparison host stores verdicts texts =
+    FailsFirst (IsFailureOfQuestion host.holds verdicts texts)
+    ((accepts : Accepts) × (query : Query) × IsAsked host.holds verdicts texts accepts query)
+    (IsNotCompared host.stands host.leaves stores)
+
+-- or there is a comparison, and standard output failed
+abbrev pub FailsToCompare : HostState → StorePair → List ℕ → QueryTexts → Failure → Type 0
+FailsToCompare host stores verdicts texts =
+    OrUnwritable (IsFailureOfComparison host stores verdicts texts)
+    ((comparison : Comparison) × IsCompared host stores verdicts texts comparison)

@@ -1,13 +1,16 @@
 -- How a run ends.
-use Rattle.std.specs.Prelude.{◌≡◌, ◌⊎◌, ℕ, List}
+use Rattle.std.specs.Prelude.{◌≡◌, ◌⊎◌, ℕ, List, OnOk, Option, map}
+use Rattle.std.specs.Borrow.{Bor}
+use Rattle.std.specs.Io.KnownBytes.{Appends}
 use Rattle.clap.specs.Words.{Text}
-use Rattle.cli_failures.specs.Failures.{Holding}
 use Rattle.cli_failures.specs.Report.{UnlessLate, report_line, exit_status}
 use Rattle.cli_failures.specs.declared.failure.Failure.{Failure}
 use Rattle.clap.specs.declared.error.kind.ErrorKind.{ErrorKind}
 use Rattle.cli_failures.specs.declared.failure.Failure.TheVariants.{NoMemory, Unwritable}
-use Rattle.cli_store.specs.Standing.{Leaving, Standing}
-use Rattle.cli.specs.Outcome.{AreMistaken, HasFailed, IsHelp, IsMistake}
+use Rattle.cli.specs.Host.{HostState}
+use Rattle.cli.specs.OnMachine.{IsCommandOf, any_host}
+use Rattle.cli.specs.Outcome.{AreMistaken, HasAnswered, HasFailed, IsHelp, IsMistake}
+use Rattle.cli.specs.declared.execution.Ended.{Ended}
 
 -- what the words ask for was done: of a verdict 1 says that the path is invalid, 2 that a certificate is revoked and 3 that nothing
 -- current speaks of one; 7 says that two verdicts differ
@@ -26,16 +29,16 @@ EndedAs Fails unchanged status =
 
 -- This failed, with its status, and its line was told; standard output is as it was, except for what came before a late failure. Or the
 -- words are mistaken.
-abbrev pub RunHasEnded : Holding → Standing → Leaving → List Text → Type 0 → (List ℕ → Type 0) → ℕ → Type 0
-RunHasEnded holds stands leaves words unchanged Told status =
-    ((failure : Failure) × HasFailed holds stands leaves words failure × (status ≡ exit_status failure)
+abbrev pub RunHasEnded : HostState → List Text → Type 0 → (List ℕ → Type 0) → ℕ → Type 0
+RunHasEnded host words unchanged Told status =
+    ((failure : Failure) × HasFailed host words failure × (status ≡ exit_status failure)
     × UnlessLate failure unchanged × Told (report_line failure))
     ⊎ (AreMistaken words × (status ≡ 5) × unchanged)
 
 -- whatever was told
-abbrev pub HasEndedSo : Holding → Standing → Leaving → List Text → Type 0 → ℕ → Type 0
-HasEndedSo holds stands leaves words unchanged status =
-    RunHasEnded holds stands leaves words unchanged (λ line. Unit {0}) status
+abbrev pub HasEndedSo : HostState → List Text → Type 0 → ℕ → Type 0
+HasEndedSo host words unchanged status =
+    RunHasEnded host words unchanged (λ line. Unit {0}) status
 
 -- an error of clap's in place of a line: memory ran out, help could not be written, or the words are mistaken
 abbrev pub IsUnexplained : ErrorKind → Type 0 → (List ℕ → Type 0) → ℕ → Type 0
@@ -43,3 +46,40 @@ IsUnexplained kind unchanged Told status =
     ((failure : Failure) × ((failure ≡ NoMemory) ⊎ (IsHelp kind × (failure ≡ Unwritable)))
     × (status ≡ exit_status failure) × UnlessLate failure unchanged × Told (report_line failure))
     ⊎ (IsMistake kind × (status ≡ 5) × unchanged)
+
+-- ---- of words as they are given
+
+-- what they say
+abbrev pub texts : List (Bor (List ℕ)) → List Text
+texts words = map (λ word. word.now) words
+
+-- if the status is that of an answer, what the words ask for was written
+abbrev pub Answers : {I O : Type 0} → HostState → List (Bor (List ℕ)) → (I → Option (List ℕ)) → I → I → (O → Option (List ℕ)) → O → O → ℕ → Type 0
+Answers host words remaining input source contents old new status =
+    IsAnswering status →
+    HasAnswered host (texts words) (remaining input) (remaining source) (contents old) (contents new) status
+
+-- if it is that of a failure, that has happened
+abbrev pub Fails : HostState → List (Bor (List ℕ)) → Type 0 → ℕ → Type 0
+Fails host words unchanged status =
+    IsFailing status → HasEndedSo host (texts words) unchanged status
+
+-- the same, with the line that was told, if a writer took it
+abbrev pub FailsTelling : {E : Type 0} → HostState → List (Bor (List ℕ)) → Type 0 → (E → Option (List ℕ)) → E → E → Ended → Type 0
+FailsTelling host words unchanged contents old new ended =
+    IsFailing ended.status →
+    RunHasEnded host (texts words) unchanged
+    (λ line. OnOk ended.told (Appends (contents old) (contents new) line)) ended.status
+
+-- ---- over the system's files, with options for the run in front of the command
+
+abbrev pub AnswersCommand : {I O : Type 0} → List (Bor (List ℕ)) → (I → Option (List ℕ)) → I → I → (O → Option (List ℕ)) → O → O → ℕ → Type 0
+AnswersCommand words remaining input source contents old new status =
+    IsAnswering status →
+    (command : List Text) × IsCommandOf (texts words) command
+    × HasAnswered any_host command (remaining input) (remaining source) (contents old) (contents new) status
+
+abbrev pub FailsCommand : List (Bor (List ℕ)) → Type 0 → ℕ → Type 0
+FailsCommand words unchanged status =
+    IsFailing status →
+    (command : List Text) × IsCommandOf (texts words) command × HasEndedSo any_host command unchanged status

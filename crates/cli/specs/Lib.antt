@@ -1,5 +1,4 @@
-pub mod Believed
-pub mod Asked
+pub mod Host
 pub mod Delivered
 pub mod Checked
 pub mod Listed
@@ -9,6 +8,8 @@ pub mod Outcome
 pub mod Ended
 pub mod OnMachine
 pub use Rattle.cli_store.specs.Standing
+pub use Rattle.cli_steps.specs.Commands
+pub use Rattle.cli_steps.specs.Passing
 pub use Rattle.cli_answers.specs.Status
 pub use Rattle.cli_failures.specs.Report
 pub use Rattle.cli_failures.specs.Failures

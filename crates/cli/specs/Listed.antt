@@ -1,14 +1,17 @@
 -- What the store at a path holds, listed, and why it is not.
-use Rattle.std.specs.Prelude.{◌≡◌, ℕ, ℤ, List, Option, Some, None}
+use Rattle.std.specs.Prelude.{◌≡◌, ℕ, ℤ, List, Option, Some, None, option_map}
+use Rattle.std.specs.Borrow.{Bor}
 use Rattle.statements_facts.specs.Statement.{Holdings}
 use Rattle.store_maps.specs.Held.{IsStoreOf}
 use Rattle.store_listing.specs.Listing.{Overview}
 use Rattle.store_listing.specs.Laws.{ListsOnce, ShowsHeld}
 use Rattle.cli_listing.specs.ListingText.{listing_text}
+use Rattle.cli_failures.specs.Failures.{OrUnwritable}
+use Rattle.cli_failures.specs.Report.{WritesText}
 use Rattle.cli_failures.specs.declared.failure.Failure.{Failure}
 use Rattle.cli_operands.specs.InOrder.{FailsFirst}
 use Rattle.cli_operands.specs.Moment.{IsMoment}
-use Rattle.cli_operands.specs.Question.{IsBadTime}
+use Rattle.cli_operands.specs.Asked.{IsBadTime}
 use Rattle.cli_store.specs.Standing.{IsFound, IsIntact, Leaving, Seen, Standing}
 use Rattle.cli.specs.Checked.{IsNotChecked}
 
@@ -49,3 +52,20 @@ abbrev pub IsFailureOfListing : Standing → Leaving → List ℕ → Option (Li
 IsFailureOfListing stands leaves path moment =
     FailsFirst (IsBadMoment moment) ((at : Option ℤ) × IsMomentOf moment at)
     (IsNotChecked stands leaves path)
+
+-- ---- of words as they are given
+
+-- the text of a word, if there is one
+abbrev pub given : Option (Bor (List ℕ)) → Option (List ℕ)
+given word = option_map (λ text. text.now) word
+
+-- the lines were written
+abbrev pub WritesListing : {S O : Type 0} → (S → Standing) → (S → Leaving) → S → List ℕ → Option (Bor (List ℕ)) → (O → Option (List ℕ)) → O → O → Type 0
+WritesListing stands leaves source path moment contents old new =
+    WritesText (IsListed (stands source) (leaves source) path (given moment)) (contents old) (contents new)
+
+-- or that is wrong, or the lines are those, and standard output failed
+abbrev pub FailsToList : Standing → Leaving → List ℕ → Option (List ℕ) → Failure → Type 0
+FailsToList stands leaves path moment =
+    OrUnwritable (IsFailureOfListing stands leaves path moment)
+    ((text : List ℕ) × IsListed stands leaves path moment text)

@@ -3,17 +3,21 @@ use Rattle.std.specs.Prelude.{◌≡◌, ◌⊎◌, ℕ, List, [], ◌∷◌, �
 use Rattle.statements_facts.specs.Statement.{Holdings}
 use Rattle.store_maps.specs.Held.{IsStoreOf}
 use Rattle.cli_failures.specs.Failures.{Holding}
+use Rattle.cli_failures.specs.Report.{WritesText}
 use Rattle.cli_failures.specs.declared.failure.Failure.{Failure}
 use Rattle.cli_failures.specs.declared.failure.Failure.TheVariants.{Unwritable, NoMemory, Shut, NoInput}
 use Rattle.cli_operands.specs.InOrder.{FailsFirst}
-use Rattle.cli_operands.specs.Question.{HoldsFingerprints, IsFailureOnFingerprints}
+use Rattle.cli_operands.specs.Asked.{HoldsFingerprints, IsFailureOnFingerprints}
 use Rattle.cli_session.specs.Held.{holding_of}
 use Rattle.std.specs.Io.KnownBytes.{Consumes, IsAtEnd}
 use Rattle.cli_serving.specs.Serving.{AreAnswersToLines, GivesLines, GoOn, text_of}
 use Rattle.cli_steps.specs.State.{SessionState}
 use Rattle.cli_steps.specs.declared.answer.SessionAnswer.{SessionAnswer}
 use Rattle.cli_steps.specs.declared.answer.SessionAnswer.TheVariants.{Ends}
-use Rattle.cli_store.specs.Standing.{IsFoundOrMade, IsIntact, MakesNoStore, Leaving, Seen, Standing}
+use Rattle.cli_store.specs.Standing.{IsFoundOrMade, IsIntact, MakesNoStore, Seen}
+use Rattle.cli.specs.Host.{HostState}
+use Rattle.cli.specs.Listed.{given}
+use Rattle.cli.specs.declared.sessions.SessionWords.{SessionWords}
 
 -- the fingerprints that are believed in the beginning: those of the file, or none
 abbrev pub BelievesAtFirst : Holding → Option (List ℕ) → List (List ℕ) → Type 0
@@ -45,18 +49,23 @@ IsReadToEnd input source lines answers =
 -- The answers to the lines that the source gave, in order, over the store at the path, by a verifier that believes those fingerprints in
 -- the beginning.
 -- What one line leaves the next finds.
-pub record IsSessionText (holds : Holding) (stands : Standing) (leaves : Leaving) (path : List ℕ) (verdicts : Option (List ℕ)) (input source : Option (List ℕ)) (text : List ℕ) : Type 0 where
+pub record IsSessionText (host : HostState) (words : SessionWords) (input source : Option (List ℕ)) (text : List ℕ) : Type 0 where
   pub prints : List (List ℕ)
-  pub begins : BelievesAtFirst holds verdicts prints
+  pub begins : BelievesAtFirst host.holds (given words.verdicts) prints
   pub old : Seen
-  pub found : IsFoundOrMade stands path old
+  pub found : IsFoundOrMade host.stands words.store.now old
   pub new : Seen
-  pub left : leaves path new
+  pub left : host.leaves words.store.now new
   pub lines : List (List ℕ)
   pub answers : List SessionAnswer
   pub read : IsReadToQuit input source lines answers ⊎ IsReadToEnd input source lines answers
   pub text_is : text ≡ text_of answers
-  pub come : HasComeTo old new prints (λ before now. AreAnswersToLines (holding_of holds) lines answers before now)
+  pub come : HasComeTo old new prints (λ before now. AreAnswersToLines (holding_of host.holds) lines answers before now)
+
+-- it was written
+abbrev pub WritesSession : {R O : Type 0} → HostState → SessionWords → (R → Option (List ℕ)) → R → R → (O → Option (List ℕ)) → O → O → Type 0
+WritesSession host words remaining input source contents old new =
+    WritesText (IsSessionText host words (remaining input) (remaining source)) (contents old) (contents new)
 
 -- ---- why a session fails
 
@@ -71,8 +80,8 @@ CutsSessionShort failure =
     (failure ≡ Unwritable) ⊎ (failure ≡ NoMemory) ⊎ (failure ≡ Shut) ⊎ (failure ≡ NoInput)
 
 -- What is wrong, the first of it: the verdicts, and then the store; or it began, and was cut short.
-abbrev pub IsFailureOfSession : Holding → Standing → List ℕ → Option (List ℕ) → Failure → Type 0
-IsFailureOfSession holds stands path verdicts =
-    FailsFirst (IsFailureOnVerdicts holds verdicts)
-    ((prints : List (List ℕ)) × BelievesAtFirst holds verdicts prints)
-    (λ failure. MakesNoStore stands path failure ⊎ CutsSessionShort failure)
+abbrev pub IsFailureOfSession : HostState → SessionWords → Failure → Type 0
+IsFailureOfSession host words =
+    FailsFirst (IsFailureOnVerdicts host.holds (given words.verdicts))
+    ((prints : List (List ℕ)) × BelievesAtFirst host.holds (given words.verdicts) prints)
+    (λ failure. MakesNoStore host.stands words.store.now failure ⊎ CutsSessionShort failure)

@@ -1,16 +1,18 @@
 //! One run of the program.
-ghost use Rattle.std.specs.Prelude.{◌≡◌, ◌⊎◌, IfErr, IfOk, OnOk, map};
+ghost use Rattle.std.specs.Prelude.{◌≡◌, ◌⊎◌, IfErr, IfOk, OnOk};
 ghost use Rattle.std.specs.Io.KnownBytes.{Appends};
 ghost use Rattle.clap.specs.Words.{kind_of};
 ghost use Rattle.cli_failures.specs.Report.{UnlessLate, report_line, exit_status};
-ghost use Rattle.cli.specs.Ended.{RunHasEnded, HasEndedSo, IsAnswering, IsFailing, IsUnexplained};
-ghost use Rattle.cli.specs.Outcome.{HasAnswered, IsDone, IsLineFailure, IsHelp};
+ghost use Rattle.cli.specs.Ended.{Answers, Fails, FailsTelling, IsAnswering, IsFailing, IsUnexplained};
+ghost use Rattle.cli.specs.Host.{host};
+ghost use Rattle.cli.specs.Outcome.{IsDone, IsLineFailure, IsHelp};
 
 use crate::{
-    Delivery, Stores, check, compare, comparison_status, deliver, explain, list, session,
-    verdict_status,
+    Delivery, SessionWords, StorePair, Stores, check, compare, comparison_status, deliver, explain,
+    list, session, verdict_status,
 };
 use clap::error::ErrorKind;
+use cli_answers::{DONE, MISTAKEN};
 use cli_failures::{Failure, Source};
 use cli_showing::{prints, show, tree};
 use cli_words::{Line, command_of};
@@ -19,10 +21,6 @@ use std::alloc::Global;
 use std::io;
 use std::io::{Read, Write};
 use store::Store;
-
-const DONE: u8 = 0;
-
-const MISTAKEN: u8 = 5;
 
 /// How a run ended.
 #[derive(Drop)]
@@ -46,13 +44,10 @@ pub fn execute<D: Disk + Drop, S: Source + Stores<Store<D>>, I: Read, O: Write, 
     err: &mut E,
 ) -> u8
     ensures status { IsAnswering result ⊎ IsFailing result }
-    ensures answered { IsAnswering result
-        → HasAnswered (S.holds source.now) (S.stands source.now) (S.leaves source.now)
-        (map (λ w. w.now) words.now) (I.remaining input.old) (I.remaining input.new)
-        (O.contents out.old) (O.contents out.new) result
-        × (err.new ≡ err.old) }
-    ensures failed { IsFailing result → HasEndedSo (S.holds source.now)
-        (S.stands source.now) (S.leaves source.now) (map (λ w. w.now) words.now)
+    ensures answered { Answers (host S.holds S.stands S.leaves source.now) words.now
+        I.remaining input.old input.new O.contents out.old out.new result }
+    ensures silent { IsAnswering result → err.new ≡ err.old }
+    ensures failed { Fails (host S.holds S.stands S.leaves source.now) words.now
         (out.new ≡ out.old) result }
 {
     executed(source, alloc, words, input, out, err).status
@@ -68,15 +63,11 @@ pub fn executed<D: Disk + Drop, S: Source + Stores<Store<D>>, I: Read, O: Write,
     err: &mut E,
 ) -> Ended
     ensures status { IsAnswering result.status ⊎ IsFailing result.status }
-    ensures answered { IsAnswering result.status
-        → HasAnswered (S.holds source.now) (S.stands source.now) (S.leaves source.now)
-        (map (λ w. w.now) words.now) (I.remaining input.old) (I.remaining input.new)
-        (O.contents out.old) (O.contents out.new) result.status
-        × (err.new ≡ err.old) }
-    ensures failed { IsFailing result.status → RunHasEnded (S.holds source.now)
-        (S.stands source.now) (S.leaves source.now) (map (λ w. w.now) words.now) (out.new ≡ out.old)
-        (λ line. OnOk result.told (Appends (E.contents err.old) (E.contents err.new) line))
-        result.status }
+    ensures answered { Answers (host S.holds S.stands S.leaves source.now) words.now
+        I.remaining input.old input.new O.contents out.old out.new result.status }
+    ensures silent { IsAnswering result.status → err.new ≡ err.old }
+    ensures failed { FailsTelling (host S.holds S.stands S.leaves source.now) words.now
+        (out.new ≡ out.old) E.contents err.old err.new result }
 {
     match command_of(alloc, words) {
         Ok(line) => finish(run(source, alloc, &line, input, out), err),
@@ -110,12 +101,12 @@ pub(crate) fn run<'a, D: Disk + Drop, S: Source + Stores<Store<D>>, I: Read, O: 
     input: &mut I,
     out: &mut O,
 ) -> Result<u8, Failure<'a>>
-    ensures done { IfOk result (IsDone (S.holds source.now) (S.stands source.now)
-        (S.leaves source.now) line.now (I.remaining input.old) (I.remaining input.new)
+    ensures done { IfOk result (IsDone (host S.holds S.stands S.leaves source.now) line.now
+        (I.remaining input.old) (I.remaining input.new)
         (O.contents out.old) (O.contents out.new)) }
     ensures status { IfOk result IsAnswering }
     ensures fails { IfErr result
-        (IsLineFailure (S.holds source.now) (S.stands source.now) (S.leaves source.now) line.now) }
+        (IsLineFailure (host S.holds S.stands S.leaves source.now) line.now) }
     ensures quiet { IfErr result (λ failure. UnlessLate failure (out.new ≡ out.old)) }
 {
     let status = answer(source, alloc, line, input, out)?;
@@ -132,12 +123,12 @@ fn answer<'a, D: Disk + Drop, S: Source + Stores<Store<D>>, I: Read, O: Write>(
     input: &mut I,
     out: &mut O,
 ) -> Result<u8, Failure<'a>>
-    ensures done { IfOk result (IsDone (S.holds source.now) (S.stands source.now)
-        (S.leaves source.now) line.now (I.remaining input.old) (I.remaining input.new)
+    ensures done { IfOk result (IsDone (host S.holds S.stands S.leaves source.now) line.now
+        (I.remaining input.old) (I.remaining input.new)
         (O.contents out.old) (O.contents out.new)) }
     ensures status { IfOk result IsAnswering }
     ensures fails { IfErr result
-        (IsLineFailure (S.holds source.now) (S.stands source.now) (S.leaves source.now) line.now) }
+        (IsLineFailure (host S.holds S.stands S.leaves source.now) line.now) }
     ensures quiet { IfErr result (λ failure. UnlessLate failure (out.new ≡ out.old)) }
 {
     match line {
@@ -167,11 +158,24 @@ fn answer<'a, D: Disk + Drop, S: Source + Stores<Store<D>>, I: Read, O: Write>(
             };
             deliver(source, alloc, words, out)?;
         }
-        Line::Check(question) => {
-            return Ok(verdict_status(check(source, alloc, question, out)?));
+        Line::Check {
+            store,
+            verdicts,
+            query,
+        } => {
+            return Ok(verdict_status(check(source, alloc, store, verdicts, query, out)?));
         }
-        Line::Compare { question, other } => {
-            return Ok(comparison_status(compare(source, alloc, question, other, out)?));
+        Line::Compare {
+            store,
+            other,
+            verdicts,
+            query,
+        } => {
+            let stores = StorePair {
+                store: *store,
+                other: *other,
+            };
+            return Ok(comparison_status(compare(source, alloc, stores, verdicts, query, out)?));
         }
         Line::List { store, moment } => {
             return match list(source, alloc, store, *moment, out) {
@@ -186,7 +190,11 @@ fn answer<'a, D: Disk + Drop, S: Source + Stores<Store<D>>, I: Read, O: Write>(
             };
         }
         Line::Session { store, verdicts } => {
-            return match session(source, alloc, store, *verdicts, input, out) {
+            let words = SessionWords {
+                store: *store,
+                verdicts: *verdicts,
+            };
+            return match session(source, alloc, words, input, out) {
                 Ok(()) => Ok(DONE),
                 Err(failure) => Err(failure),
             };

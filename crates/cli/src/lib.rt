@@ -2,6 +2,7 @@
 //! paths hold, what one holds, and how it says what failed.
 #![tactic(auto)]
 
+mod at_path;
 mod checking;
 mod comparing;
 mod delivering;
@@ -11,6 +12,7 @@ mod listing;
 mod sessions;
 mod starting;
 
+pub use at_path::StorePair;
 pub use checking::check;
 pub use cli_answers::{comparison_status, verdict_status};
 pub use cli_failures::{Extent, Failure, Source};
@@ -20,5 +22,5 @@ pub use delivering::{Delivery, deliver};
 pub use execution::{Ended, execute, executed};
 pub use explanation::explain;
 pub use listing::list;
-pub use sessions::session;
+pub use sessions::{SessionWords, session};
 pub use starting::start;

@@ -1,18 +1,18 @@
 //! What the store at a path holds, as lines of text.
-ghost use Rattle.std.specs.Prelude.{◌≡◌, List, ℕ, IfErr, IfOk, OnOk, map, option_map};
+ghost use Rattle.std.specs.Prelude.{◌≡◌, IfErr, IfOk, OnOk, map};
 ghost use Rattle.store_listing.specs.Listing.{seen_issuer, seen_listing};
 ghost use Rattle.cli_listing.specs.ListingText.{IdsRise, listing_text};
 ghost use Rattle.cli_failures.specs.declared.failure.Failure.TheVariants.{NoMemory};
-ghost use Rattle.cli_failures.specs.Failures.{OrUnwritable};
-ghost use Rattle.cli_failures.specs.Report.{UnlessLate, WritesText};
+ghost use Rattle.cli_failures.specs.Report.{UnlessLate};
 ghost use Rattle.cli_store.specs.Standing.{IsNoAnswer, seen_in};
 ghost use Rattle.cli.specs.Checked.{IsNotChecked};
-ghost use Rattle.cli.specs.Listed.{HasListed, IsBadMoment, IsFailureOfListing, IsListed, IsListedAt, IsMomentOf};
+ghost use Rattle.cli.specs.Listed.{FailsToList, HasListed, IsBadMoment, IsFailureOfListing, IsListed, IsListedAt, IsMomentOf, WritesListing, given};
 
 use cli_failures::Failure;
 use cli_listing::listing_to;
 use cli_operands::moment_of;
 use cli_store::{Stores, failed};
+use relying::Fault;
 use sqlite_disk::Disk;
 use std::alloc::Global;
 use std::io::Write;
@@ -21,8 +21,8 @@ use store_listing::{Listing, held_laws, read_listing};
 
 // The moment that is asked about, if one is.
 fn moment_asked<'a>(moment: Option<&str>) -> Result<Option<i64>, Failure<'a>>
-    ensures asked { IfOk result (IsMomentOf (option_map (λ w. w.now) moment.entry)) }
-    ensures fails { IfErr result (IsBadMoment (option_map (λ w. w.now) moment.entry)) }
+    ensures asked { IfOk result (IsMomentOf (given moment.entry)) }
+    ensures fails { IfErr result (IsBadMoment (given moment.entry)) }
 {
     match moment {
         Some(text) => match moment_of(text) {
@@ -64,7 +64,7 @@ fn list_in<'a, D: Disk + Drop, S: Stores<Store<D>>>(
     source.close_store(path, store);
     match all {
         Ok(all) => lines_of(alloc, &all, at),
-        Err(fault) => Err(failed(fault)),
+        Err(fault) => Err(failed(Fault::Store(fault))),
     }
 }
 
@@ -92,9 +92,9 @@ fn list_asked<'a, D: Disk + Drop, S: Stores<Store<D>>>(
     moment: Option<&'a str>,
 ) -> Result<Vec<u8>, Failure<'a>>
     ensures listed { IfOk result (λ text. IsListed (S.stands source.now) (S.leaves source.now)
-        path.entry.now (option_map (λ w. w.now) moment.entry) text.items) }
+        path.entry.now (given moment.entry) text.items) }
     ensures fails { IfErr result (IsFailureOfListing (S.stands source.now) (S.leaves source.now)
-        path.entry.now (option_map (λ w. w.now) moment.entry)) }
+        path.entry.now (given moment.entry)) }
 {
     let at = moment_asked(moment)?;
     list_at(source, alloc, path, at)
@@ -109,13 +109,10 @@ pub fn list<'a, D: Disk + Drop, S: Stores<Store<D>>, O: Write>(
     moment: Option<&'a str>,
     out: &mut O,
 ) -> Result<(), Failure<'a>>
-    ensures done { OnOk result (WritesText (IsListed (S.stands source.now) (S.leaves source.now)
-        path.entry.now (option_map (λ w. w.now) moment.entry))
-        (O.contents out.old) (O.contents out.new)) }
-    ensures fails { IfErr result (OrUnwritable (IsFailureOfListing (S.stands source.now)
-        (S.leaves source.now) path.entry.now (option_map (λ w. w.now) moment.entry))
-        ((text : List ℕ) × IsListed (S.stands source.now) (S.leaves source.now) path.entry.now
-        (option_map (λ w. w.now) moment.entry) text)) }
+    ensures done { OnOk result (WritesListing S.stands S.leaves source.now path.entry.now
+        moment.entry O.contents out.old out.new) }
+    ensures fails { IfErr result (FailsToList (S.stands source.now) (S.leaves source.now)
+        path.entry.now (given moment.entry)) }
     ensures quiet { IfErr result (λ failure. UnlessLate failure (out.new ≡ out.old)) }
 {
     let text = list_asked(source, alloc, path, moment)?;

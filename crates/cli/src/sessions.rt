@@ -1,7 +1,9 @@
 //! Sessions over a store at a path.
-ghost use Rattle.std.specs.Prelude.{◌≡◌, IfErr, IfOk, OnOk, option_map};
-ghost use Rattle.cli_failures.specs.Report.{UnlessLate, WritesText};
-ghost use Rattle.cli.specs.Session.{BelievesAtFirst, CutsSessionShort, IsFailureOfSession, IsFailureOnVerdicts, IsSessionText};
+ghost use Rattle.std.specs.Prelude.{◌≡◌, IfErr, IfOk, OnOk};
+ghost use Rattle.cli_failures.specs.Report.{UnlessLate};
+ghost use Rattle.cli.specs.Host.{host};
+ghost use Rattle.cli.specs.Listed.{given};
+ghost use Rattle.cli.specs.Session.{BelievesAtFirst, CutsSessionShort, IsFailureOfSession, IsFailureOnVerdicts, WritesSession};
 ghost use Rattle.cli.specs.Serves.{SessionIsServed, IsWholeSession};
 ghost use Rattle.cli_store.specs.Standing.{seen_in};
 ghost use Rattle.sqlite.specs.Files.{file_state};
@@ -20,6 +22,15 @@ use std::alloc::Global;
 use std::io::{Read, Write};
 use store::Store;
 
+/// What `session` names.
+#[derive(Clone, Copy, Debug, PartialEq, Eq)]
+pub struct SessionWords<'a> {
+    /// The file of the store.
+    pub store: &'a str,
+    /// The file of the fingerprints of good signatures, if there is one.
+    pub verdicts: Option<&'a str>,
+}
+
 // The fingerprints that are believed in the beginning.
 fn prints_of<'a, S: Source>(
     source: &S,
@@ -27,9 +38,9 @@ fn prints_of<'a, S: Source>(
     verdicts: Option<&'a str>,
 ) -> Result<Vec<[u8; 32]>, Failure<'a>>
     ensures begins { IfOk result (λ prints. BelievesAtFirst (S.holds source.now)
-        (option_map (λ w. w.now) verdicts.entry) prints.items) }
+        (given verdicts.entry) prints.items) }
     ensures fails { IfErr result (IsFailureOnVerdicts (S.holds source.now)
-        (option_map (λ w. w.now) verdicts.entry)) }
+        (given verdicts.entry)) }
 {
     match verdicts {
         Some(file) => read_fingerprints(source, alloc, file),
@@ -87,26 +98,23 @@ fn serve_over<D: Disk + Drop, S: Source + Stores<Store<D>>, R: Read, O: Write>(
 pub fn session<'a, D: Disk + Drop, S: Source + Stores<Store<D>>, R: Read, O: Write>(
     source: &S,
     alloc: Global,
-    path: &'a str,
-    verdicts: Option<&'a str>,
+    words: SessionWords<'a>,
     input: &mut R,
     out: &mut O,
 ) -> Result<(), Failure<'a>>
-    ensures done { OnOk result (WritesText (IsSessionText (S.holds source.now) (S.stands source.now)
-        (S.leaves source.now) path.entry.now (option_map (λ w. w.now) verdicts.entry)
-        (R.remaining input.old) (R.remaining input.new))
-        (O.contents out.old) (O.contents out.new)) }
-    ensures fails { IfErr result (IsFailureOfSession (S.holds source.now) (S.stands source.now)
-        path.entry.now (option_map (λ w. w.now) verdicts.entry)) }
+    ensures done { OnOk result (WritesSession (host S.holds S.stands S.leaves source.now)
+        words.entry R.remaining input.old input.new O.contents out.old out.new) }
+    ensures fails { IfErr result
+        (IsFailureOfSession (host S.holds S.stands S.leaves source.now) words.entry) }
     ensures quiet { IfErr result (λ failure. UnlessLate failure (out.new ≡ out.old)) }
 {
-    let prints = match prints_of(source, alloc, verdicts) {
+    let prints = match prints_of(source, alloc, words.verdicts) {
         Ok(prints) => prints,
         Err(failure) => return Err(failure),
     };
-    let store = match source.open_or_make_store(path) {
+    let store = match source.open_or_make_store(words.store) {
         Ok(store) => store,
         Err(failure) => return Err(failure),
     };
-    outcome_of(serve_over(source, alloc, path, prints, store, input, out))
+    outcome_of(serve_over(source, alloc, words.store, prints, store, input, out))
 }

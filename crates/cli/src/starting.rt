@@ -1,18 +1,17 @@
 //! A run over the system's files, with what the words in front of the command ask of it.
-ghost use Rattle.std.specs.Prelude.{◌≡◌, ◌⊎◌, ◌++◌, IfOk, map};
-ghost use Rattle.cli.specs.Ended.{EndedAs, HasEndedSo, IsAnswering, IsFailing};
-ghost use Rattle.cli.specs.OnMachine.{IsCommandOf, any_file, any_store, any_end};
-ghost use Rattle.cli.specs.Outcome.{HasAnswered, IsDone, IsLineFailure};
+ghost use Rattle.std.specs.Prelude.{◌≡◌, ◌⊎◌, ◌++◌, IfOk};
+ghost use Rattle.cli.specs.Ended.{Answers, AnswersCommand, EndedAs, Fails, FailsCommand, IsAnswering, IsFailing};
+ghost use Rattle.cli.specs.OnMachine.{any_host};
+ghost use Rattle.cli.specs.Outcome.{IsDone, IsLineFailure};
 
 use crate::execution::{answer_of_clap, finish, run};
+use cli_answers::FAILED;
 use cli_failures::Failure;
 use cli_hints::{hint_after_delivery, hint_to};
 use cli_store::Machine;
 use cli_words::{Line, RunOptions, RunWords, command_of, run_options};
 use std::alloc::{AllocError, Global};
 use std::io::{Read, Write};
-
-const NO_MEMORY: u8 = 6;
 
 // The program's name, where the system gives one, and the words of the command.
 fn words_of<'a>(
@@ -53,11 +52,11 @@ fn run_line<I: Read, O: Write, E: Write>(
     err: &mut E,
 ) -> u8
     ensures status { IsAnswering result ⊎ IsFailing result }
-    ensures answered { IsAnswering result → IsDone any_file any_store any_end line.now
+    ensures answered { IsAnswering result → IsDone any_host line.now
         (I.remaining input.old) (I.remaining input.new)
         (O.contents out.old) (O.contents out.new) result }
     ensures failed { IsFailing result
-        → EndedAs (IsLineFailure any_file any_store any_end line.now) (out.new ≡ out.old) result }
+        → EndedAs (IsLineFailure any_host line.now) (out.new ≡ out.old) result }
 {
     let outcome = run(machine, alloc, line, input, out);
     let status = finish(outcome, err).status;
@@ -78,11 +77,9 @@ fn run_words<I: Read, O: Write, E: Write>(
     err: &mut E,
 ) -> u8
     ensures status { IsAnswering result ⊎ IsFailing result }
-    ensures answered { IsAnswering result → HasAnswered any_file any_store any_end
-        (map (λ w. w.now) words.now) (I.remaining input.old) (I.remaining input.new)
-        (O.contents out.old) (O.contents out.new) result }
-    ensures failed { IsFailing result → HasEndedSo any_file any_store any_end
-        (map (λ w. w.now) words.now) (out.new ≡ out.old) result }
+    ensures answered { Answers any_host words.now I.remaining input.old input.new
+        O.contents out.old out.new result }
+    ensures failed { Fails any_host words.now (out.new ≡ out.old) result }
 {
     let machine = Machine {
         rt,
@@ -106,14 +103,9 @@ pub fn start<I: Read, O: Write, E: Write>(
     err: &mut E,
 ) -> u8
     ensures status { IsAnswering result ⊎ IsFailing result }
-    ensures answered { IsAnswering result → (command : _)
-        × IsCommandOf (map (λ w. w.now) words.now) command
-        × HasAnswered any_file any_store any_end command
-        (I.remaining input.old) (I.remaining input.new)
-        (O.contents out.old) (O.contents out.new) result }
-    ensures failed { IsFailing result → (command : _)
-        × IsCommandOf (map (λ w. w.now) words.now) command
-        × HasEndedSo any_file any_store any_end command (out.new ≡ out.old) result }
+    ensures answered { AnswersCommand words.now I.remaining input.old input.new
+        O.contents out.old out.new result }
+    ensures failed { FailsCommand words.now (out.new ≡ out.old) result }
 {
     let (name, behind) = words.split_at(words.len().min(1));
     let RunWords { options, words } = run_options(behind);
@@ -121,7 +113,7 @@ pub fn start<I: Read, O: Write, E: Write>(
         Ok(command) => run_words(rt, alloc, options, command.as_slice(), input, out, err),
         Err(_) => {
             let _ = Failure::NoMemory.report(err);
-            NO_MEMORY
+            FAILED
         }
     }
 }

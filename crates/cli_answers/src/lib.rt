@@ -1,4 +1,4 @@
-//! Lines that answer: the counts of a delivery, a verdict, a comparison of two verdicts. The exit statuses of verdicts.
+//! Lines that answer: the counts of a delivery, a verdict, a comparison of two verdicts. The exit statuses of a run.
 #![tactic(auto)]
 
 mod counted;
@@ -6,5 +6,8 @@ mod status;
 mod verdict_lines;
 
 pub use counted::counts_to;
-pub use status::{comparison_status, verdict_status};
+pub use status::{
+    DIFFERENT, DONE, FAILED, INVALID, MISTAKEN, REFUSED, REVOKED, UNKNOWN, comparison_status,
+    verdict_status,
+};
 pub use verdict_lines::{comparison_to, verdict_to};

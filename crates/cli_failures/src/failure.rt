@@ -5,6 +5,7 @@ ghost use Rattle.cli_failures.specs.Report.{bad_line, line_words, place_text, pr
 
 use asn::Fault;
 use cert::CertRule;
+use cli_answers::{FAILED, MISTAKEN, REFUSED};
 use statements_parts::{StatementFault, StatementRule};
 use std::io;
 use std::io::Write;
@@ -240,14 +241,14 @@ impl<'a> Failure<'a> {
             | Failure::NoRevocationList { .. }
             | Failure::NoResponse { .. }
             | Failure::NotGenuine { .. }
-            | Failure::BadLine { .. } => 4,
-            Failure::BadTime | Failure::BadPurpose | Failure::BadTopic => 5,
+            | Failure::BadLine { .. } => REFUSED,
+            Failure::BadTime | Failure::BadPurpose | Failure::BadTopic => MISTAKEN,
             Failure::Unreadable { .. }
             | Failure::Unwritable
             | Failure::StoreFailed { .. }
             | Failure::NoMemory
             | Failure::Shut
-            | Failure::NoInput => 6,
+            | Failure::NoInput => FAILED,
         }
     }
 

@@ -93,15 +93,15 @@ fn hint_about_stores<W: Write>(
     writer: &mut W,
 ) -> io::Result<()> {
     match line {
-        Line::Deliver { store, .. } | Line::List { store, .. } | Line::Session { store, .. } => {
-            hint_about_store(rt, store, writer)
-        }
-        Line::Check(question) => hint_about_store(rt, question.store, writer),
-        Line::Compare { question, other } => {
-            let first = look_at(rt, question.store);
-            let is_first = first != Found::Database || is_in_use(rt, question.store);
-            let store = if is_first { question.store } else { *other };
-            hint_about_store(rt, store, writer)
+        Line::Deliver { store, .. }
+        | Line::Check { store, .. }
+        | Line::List { store, .. }
+        | Line::Session { store, .. } => hint_about_store(rt, store, writer),
+        Line::Compare { store, other, .. } => {
+            let first = look_at(rt, store);
+            let is_first = first != Found::Database || is_in_use(rt, store);
+            let failed = if is_first { *store } else { *other };
+            hint_about_store(rt, failed, writer)
         }
         _ => writeln!(writer, "no store is used by this command"),
     }
@@ -117,7 +117,7 @@ fn hint_about_schema<W: Write>(writer: &mut W) -> io::Result<()> {
 
 fn hint_about_time<W: Write>(line: &Line<'_>, writer: &mut W) -> io::Result<()> {
     let moment = match line {
-        Line::Check(question) | Line::Compare { question, .. } => question.moment,
+        Line::Check { query, .. } | Line::Compare { query, .. } => query.moment,
         Line::List {
             moment: Some(moment),
             ..

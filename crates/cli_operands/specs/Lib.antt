@@ -5,6 +5,6 @@ pub mod InOrder
 pub mod PathText
 pub mod CertificateValues
 pub mod PathFiles
-pub mod Question
+pub mod Asked
 pub mod Operands
 pub use Rattle.asn.specs.Time

@@ -2,7 +2,7 @@
 ghost use Rattle.std.specs.Prelude.{IfErr, IfOk};
 ghost use Rattle.cli_operands.specs.VerdictLines.{NamePrints, text_lines};
 ghost use Rattle.cli_failures.specs.Failures.{IsJust};
-ghost use Rattle.cli_operands.specs.Question.{HoldsFingerprints, IsFailureOnFingerprints};
+ghost use Rattle.cli_operands.specs.Asked.{HoldsFingerprints, IsFailureOnFingerprints};
 
 use crate::{FingerprintsFault, fingerprints_of};
 use cli_failures::{Extent, Failure, Source};

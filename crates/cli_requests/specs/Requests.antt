@@ -5,28 +5,21 @@ use Rattle.std.specs.List.{slice_split}
 use Rattle.std.specs.Str.{bytes_eq, is_utf8}
 use Rattle.std.specs.Result.{result_ok}
 use Rattle.hex.specs.Hex.{decode_sized}
+use Rattle.cli_words.specs.QueryTexts.{QueryTexts, seen_words}
 use Rattle.cli_words.specs.declared.line.Kind.{Kind}
 use Rattle.cli_words.specs.declared.line.Kind.TheVariants.{Certificate, RevocationList, Response}
 use Rattle.cli_requests.specs.Operands.{operand_in}
 use Rattle.cli_requests.specs.declared.request.Request.{Request as Owned}
 use Rattle.cli_requests.specs.declared.request.Request.TheVariants.{Nothing, Believe, Deliver, Check, Prints, Forget, Quit}
-use Rattle.cli_requests.specs.declared.request.PathRequest.{PathRequest}
 use Rattle.cli_requests.specs.declared.request.RequestFault.{RequestFault}
 use Rattle.cli_requests.specs.declared.request.RequestFault.TheVariants.{Malformed, Memory}
-
--- what is asked of a path, in the words of the line
-pub record Path : Type 0 where
-  pub moment : List ℕ
-  pub purpose : Option (List ℕ)
-  pub anchor : List ℕ
-  pub files : List (List ℕ)
 
 -- what a line asks for
 pub data Request : Type 0 where
   nothing : Request
   believe : List ℕ → Request
   deliver : List ℕ → List ℕ → Request
-  check : Path → Request
+  check : QueryTexts → Request
   prints : Kind → Bool → List ℕ → List ℕ → Request
   forget : Request
   quit : Request
@@ -135,19 +128,11 @@ request_on line =
 abbrev pub texts_of : List (Bor (List ℕ)) → List (List ℕ)
 texts_of words = map (λ word. word.now) words
 
-abbrev pub seen_path : PathRequest → Path
-seen_path path = record {
-  moment = path.moment.now;
-  purpose = option_map (λ purpose. purpose.now) path.purpose;
-  anchor = path.anchor.now;
-  files = texts_of path.files.items;
-}
-
 abbrev pub seen_request : Owned → Request
 seen_request Nothing = nothing
 seen_request (Believe print) = believe print
 seen_request (Deliver issuer file) = deliver issuer.now file.now
-seen_request (Check path) = check (seen_path path)
+seen_request (Check words) = check (seen_words words)
 seen_request (Prints kind with_parts issuer file) = prints kind with_parts issuer.now file.now
 seen_request Forget = forget
 seen_request Quit = quit

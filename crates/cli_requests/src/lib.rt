@@ -5,4 +5,4 @@ mod operand;
 mod request;
 
 pub use operand::{Operand, operand_of};
-pub use request::{PathRequest, Request, RequestFault, request_of};
+pub use request::{Request, RequestFault, request_of};

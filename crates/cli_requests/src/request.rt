@@ -3,23 +3,10 @@ ghost use Rattle.std.specs.Prelude.{◌≡◌, IfErr, IfOk, OnOk, Some, map, opt
 ghost use Rattle.cli_requests.specs.Requests.{IsFalse, IsNone, alone, are_operands, believe_in, check_in, deliver_in, is_passed_over, kind_named, path_in, print_in, prints_in, prints_of, purpose_in, request_in, request_named, request_on, seen_request, texts_of, words_of};
 
 use crate::operand::is_operand;
-use cli_words::Kind;
+use cli_words::{Kind, QueryWords};
 use std::alloc::{AllocError, Global};
 use std::str;
 use thiserror::Error;
-
-/// What is asked of a path of certificates. Operands are as they stand in the line.
-#[derive(Debug, Drop, PartialEq, Eq)]
-pub struct PathRequest<'a> {
-    /// The moment.
-    pub moment: &'a str,
-    /// The purpose, if there is one.
-    pub purpose: Option<&'a str>,
-    /// The operand that holds the anchor's certificate.
-    pub anchor: &'a str,
-    /// The operands that hold the certificates, at least one.
-    pub files: Vec<&'a str>,
-}
 
 /// What a line asks for. Operands are as they stand in the line: `operand_of` reads them.
 #[derive(Debug, Drop, PartialEq, Eq)]
@@ -33,8 +20,8 @@ pub enum Request<'a> {
         issuer: &'a str,
         file: &'a str,
     },
-    /// Tell the verdict on a path.
-    Check(PathRequest<'a>),
+    /// Tell the verdict on a path. The anchor and the certificates are operands.
+    Check(QueryWords<'a>),
     /// Tell the fingerprints of what a verifier is asked about a value of that kind, under the issuer's key, and with parts what is
     /// verified too: algorithm, key, message and signature.
     Prints {
@@ -168,7 +155,7 @@ fn path_in<'a>(
         return Err(RequestFault::Malformed);
     }
     check_operands(alloc, words)?;
-    Ok(Request::Check(PathRequest {
+    Ok(Request::Check(QueryWords {
         moment,
         purpose,
         anchor,

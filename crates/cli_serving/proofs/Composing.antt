@@ -1,7 +1,7 @@
 -- What is known of a party, step by step.
 use Rattle.std.proofs.Common.{refl}
-use Rattle.cli_keeping.specs.Keeping.{Keeping, Keeps}
 use Rattle.cli_session.specs.declared.believed.Believed.{Believed}
+use Rattle.cli_steps.specs.Keeping.{Keeping, Keeps}
 use Rattle.cli_steps.specs.State.{SessionState}
 use Rattle.cli_steps.specs.Ways.{Steps}
 use Rattle.cli_serving.specs.Serving.{IsSame}

@@ -3,8 +3,8 @@ use Rattle.std.proofs.Common.{◌≡◌, ℕ, List, [], ◌∷◌, Option, Some,
 use Rattle.statements_facts.specs.Fact.{Fact}
 use Rattle.cli_failures.specs.Failures.{Holding}
 use Rattle.cli_failures.specs.declared.failure.Failure.{Failure}
-use Rattle.cli_keeping.specs.Keeping.{Kept, taking, trying}
 use Rattle.cli_requests.specs.Requests.{Request, nothing, believe, deliver, check, prints, forget, quit}
+use Rattle.cli_steps.specs.Keeping.{Kept, taking, trying}
 use Rattle.cli_steps.specs.State.{SessionState, believing, forgetting, keeping}
 use Rattle.cli_steps.specs.Steps.{BelievesMore, DeliversFile, FailsToDeliver, IsStep}
 use Rattle.cli_steps.specs.declared.answer.SessionAnswer.{SessionAnswer}

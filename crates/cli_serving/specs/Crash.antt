@@ -5,7 +5,7 @@ use Rattle.statements_facts.specs.Coming.{after_all}
 use Rattle.statements_facts.specs.Fact.{Fact}
 use Rattle.statements_facts.specs.Statement.{Holdings}
 use Rattle.cli_failures.specs.Failures.{Holding}
-use Rattle.cli_keeping.specs.Keeping.{Kept}
+use Rattle.cli_steps.specs.Keeping.{Kept}
 use Rattle.cli_steps.specs.State.{SessionState}
 use Rattle.cli_steps.specs.declared.answer.SessionAnswer.{SessionAnswer}
 use Rattle.cli_serving.specs.Serving.{AreAnswersToLines}

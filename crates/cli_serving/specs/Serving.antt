@@ -6,11 +6,15 @@ use Rattle.cli_failures.specs.Failures.{Holding}
 use Rattle.cli_failures.specs.declared.failure.Failure.TheVariants.{NoMemory, StoreFailed}
 use Rattle.cli_lines.specs.Lines.{GivesLine}
 use Rattle.cli_requests.specs.Requests.{Request, request_on}
+use Rattle.cli_session.specs.Held.{holding_of}
 use Rattle.cli_steps.specs.AnswerText.{answer_text, failed_text}
+use Rattle.cli_steps.specs.Keeping.{Keeping}
 use Rattle.cli_steps.specs.State.{SessionState}
 use Rattle.cli_steps.specs.Steps.{IsStep}
+use Rattle.cli_steps.specs.Ways.{Moves}
 use Rattle.cli_steps.specs.declared.answer.SessionAnswer.{SessionAnswer}
 use Rattle.cli_steps.specs.declared.answer.SessionAnswer.TheVariants.{BadLine, Ends, Failed, LongLine}
+use Rattle.cli_steps.specs.declared.party.Party.{Party}
 use Rattle.cli_serving.specs.declared.ending.End.{End}
 use Rattle.cli_serving.specs.declared.ending.End.TheVariants as ended
 
@@ -136,6 +140,16 @@ SessionHasEnded holds input source output written Knows Before ended.Unreadable 
     (middle : Option (List ℕ)) × HasServed holds input middle output written Knows
 SessionHasEnded holds input source output written Knows Before ended.NoMemory =
     (source ≡ input) × (written ≡ output) × Knows IsSame
+
+-- what became of a party until some moment
+abbrev pub Moved : {K : Type 0} → (K → Type 0) → (K → Keeping) → Party K → Known
+Moved {K} is_sound keeps old Are = (now : Party K) × Moves is_sound keeps old now Are
+
+-- How a session ended that served a party. Files hold so; what a source has left and what a writer took are seen so.
+abbrev pub SessionEnds : {R W K : Type 0} → Holding → (R → Option (List ℕ)) → R → R → (W → Option (List ℕ)) → W → W → (K → Type 0) → (K → Keeping) → Party K → Party K → End → Type 0
+SessionEnds holds remaining input source contents output written is_sound keeps old new =
+    SessionHasEnded (holding_of holds) (remaining input) (remaining source) (contents output)
+    (contents written) (Moves is_sound keeps old new) (Moved is_sound keeps old)
 
 -- ---- on the way
 

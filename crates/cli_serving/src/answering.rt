@@ -1,17 +1,16 @@
 //! One line, and its answer.
 ghost use Rattle.std.specs.Prelude.{◌≡◌, OnOk};
 ghost use Rattle.std.specs.Io.KnownBytes.{Appends};
-ghost use Rattle.cli_keeping.specs.Keeping.{Keeps};
 ghost use Rattle.cli_session.specs.Held.{holding_of};
 ghost use Rattle.cli_steps.specs.AnswerText.{answer_text};
-ghost use Rattle.cli_steps.specs.Ways.{Steps};
+ghost use Rattle.cli_steps.specs.Keeping.{Keeps};
+ghost use Rattle.cli_steps.specs.Ways.{Moves};
 ghost use Rattle.cli_serving.specs.Serving.{IsFollowedBy, IsAnswerWithin, WritesAnswer, is_end, is_refusal};
 
 use crate::ending::End;
 use cli_failures::{Failure, Source};
-use cli_keeping::Keeper;
 use cli_requests::{RequestFault, request_of};
-use cli_steps::{Party, SessionAnswer, step};
+use cli_steps::{Keeper, Party, SessionAnswer, step};
 use std::alloc::Global;
 use std::io;
 use std::io::Write;
@@ -46,11 +45,8 @@ fn answer_line<'a, K: Keeper, S: Source>(
     line: &'a [u8],
 ) -> SessionAnswer<'a>
     ensures sound { K.is_sound party.new.keeper → K.is_sound party.old.keeper }
-    ensures steps { K.is_sound party.new.keeper
-        → Steps party.old.believed (K.keeps party.old.keeper)
-        party.new.believed (K.keeps party.new.keeper)
-        (λ old new. IsAnswerWithin (holding_of (S.holds source.now)) line.entry.now
-        old new result) }
+    ensures steps { Moves K.is_sound K.keeps party.old party.new (λ old new.
+        IsAnswerWithin (holding_of (S.holds source.now)) line.entry.now old new result) }
 {
     match request_of(alloc, line) {
         Ok(request) => step(party, source, alloc, request),
@@ -93,8 +89,7 @@ pub(crate) fn answer_read<K: Keeper, S: Source, W: Write>(
 ) -> Option<End>
     ensures sound { K.is_sound party.new.keeper → K.is_sound party.old.keeper }
     ensures says { WritesAnswer (W.contents out.old) (W.contents out.new)
-        (λ Are. K.is_sound party.new.keeper → Steps party.old.believed (K.keeps party.old.keeper)
-        party.new.believed (K.keeps party.new.keeper) Are)
+        (Moves K.is_sound K.keeps party.old party.new)
         (IsAnswerWithin (holding_of (S.holds source.now)) line.now) result }
 {
     let answer = answer_line(party, source, alloc, line);

@@ -1,16 +1,14 @@
 //! The loop of a session.
 ghost use Rattle.std.specs.Prelude.{◌≡◌, ◌≤◌, ◌^◌, vec_capacity};
 ghost use Rattle.cli_session.specs.Held.{holding_of};
-ghost use Rattle.cli_session.specs.declared.believed.Believed.{Believed as WasBelieved};
-ghost use Rattle.cli_steps.specs.Ways.{Steps};
-ghost use Rattle.cli_serving.specs.Serving.{SessionHasEnded, SaysLong, ServesLine};
+ghost use Rattle.cli_steps.specs.Ways.{Moves};
+ghost use Rattle.cli_serving.specs.Serving.{SaysLong, ServesLine, SessionEnds};
 
 use crate::answering::{answer_read, write_answer};
 use crate::ending::End;
 use cli_failures::Source;
-use cli_keeping::Keeper;
 use cli_lines::{LINE_MOST, LineRead, read_line};
-use cli_steps::{Party, SessionAnswer};
+use cli_steps::{Keeper, Party, SessionAnswer};
 use std::alloc::Global;
 use std::io::{Read, Write};
 
@@ -38,8 +36,7 @@ fn serve_line<R: Read, K: Keeper, S: Source, W: Write>(
     ensures sound { K.is_sound party.new.keeper → K.is_sound party.old.keeper }
     ensures serves { ServesLine (holding_of (S.holds source.now))
         (R.remaining input.old) (R.remaining input.new) (W.contents out.old) (W.contents out.new)
-        (λ Are. K.is_sound party.new.keeper → Steps party.old.believed (K.keeps party.old.keeper)
-        party.new.believed (K.keeps party.new.keeper) Are) result }
+        (Moves K.is_sound K.keeps party.old party.new) result }
 {
     match read_line(input, line) {
         Ok(LineRead::Line) => answer_read(party, source, alloc, line.as_slice(), out),
@@ -60,13 +57,8 @@ fn serve_lines<R: Read, K: Keeper, S: Source, W: Write>(
 ) -> End
     requires room { 2 ^ 20 ≤ vec_capacity line.old }
     ensures sound { K.is_sound party.new.keeper → K.is_sound party.old.keeper }
-    ensures ended { SessionHasEnded (holding_of (S.holds source.now))
-        (R.remaining input.old) (R.remaining input.new) (W.contents out.old) (W.contents out.new)
-        (λ Are. K.is_sound party.new.keeper → Steps party.old.believed (K.keeps party.old.keeper)
-        party.new.believed (K.keeps party.new.keeper) Are)
-        (λ Are. (keeper : K) × (believed : WasBelieved) × (K.is_sound keeper
-        → Steps party.old.believed (K.keeps party.old.keeper) believed (K.keeps keeper) Are))
-        result }
+    ensures ended { SessionEnds (S.holds source.now) R.remaining input.old input.new
+        W.contents out.old out.new K.is_sound K.keeps party.old party.new result }
 {
     for _ in 0..u64::MAX {
         match serve_line(input, party, source, alloc, line, out) {
@@ -88,13 +80,8 @@ pub fn serve<R: Read, K: Keeper, S: Source, W: Write>(
     out: &mut W,
 ) -> End
     ensures sound { K.is_sound party.new.keeper → K.is_sound party.old.keeper }
-    ensures ended { SessionHasEnded (holding_of (S.holds source.now))
-        (R.remaining input.old) (R.remaining input.new) (W.contents out.old) (W.contents out.new)
-        (λ Are. K.is_sound party.new.keeper → Steps party.old.believed (K.keeps party.old.keeper)
-        party.new.believed (K.keeps party.new.keeper) Are)
-        (λ Are. (keeper : K) × (believed : WasBelieved) × (K.is_sound keeper
-        → Steps party.old.believed (K.keeps party.old.keeper) believed (K.keeps keeper) Are))
-        result }
+    ensures ended { SessionEnds (S.holds source.now) R.remaining input.old input.new
+        W.contents out.old out.new K.is_sound K.keeps party.old party.new result }
 {
     match Vec::with_capacity(alloc, LINE_MOST) {
         Ok(line) => {

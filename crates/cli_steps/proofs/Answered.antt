@@ -1,5 +1,5 @@
 -- Steps, from what was done on their way.
-use Rattle.std.proofs.Common.{◌≡◌, ◌⊎◌, ℕ, List, ◌∷◌, Ok, Err, inl, inr, refl, subst, sym}
+use Rattle.std.proofs.Common.{◌≡◌, ◌⊎◌, ℕ, List, ◌∷◌, Result, Ok, Err, inl, inr, refl, subst, sym}
 use Rattle.path_verifiers.specs.Fingerprint.{fingerprint_of}
 use Rattle.path_verifiers.specs.ListVerifier.{Believes}
 use Rattle.path_verifiers.specs.declared.list_verifier.ListVerifier.{ListVerifier}
@@ -8,57 +8,84 @@ use Rattle.statements_facts.specs.declared.counts.Counts.{Counts}
 use Rattle.cli_failures.specs.Failures.{Holding}
 use Rattle.cli_failures.specs.declared.failure.Failure.{Failure}
 use Rattle.cli_failures.specs.declared.failure.Failure.TheVariants.{Refused, NoCertificate, NoRevocationList, NoResponse, NotGenuine, BadLine, BadTime, BadPurpose, BadTopic, Unreadable, Unwritable, StoreFailed, NoMemory, Shut, NoInput}
-use Rattle.cli_keeping.specs.Keeping.{Keeping, taking, trying}
-use Rattle.cli_operands.specs.Question.{AcceptsJust}
-use Rattle.cli_requests.specs.Requests.{Path}
+use Rattle.cli_operands.specs.Asked.{AcceptsJust}
 use Rattle.cli_session.specs.Believed.{BelievesJust, accepted_by}
 use Rattle.cli_session.specs.declared.believed.Believed.{Believed}
+use Rattle.cli_words.specs.QueryTexts.{QueryTexts}
+use Rattle.cli_steps.specs.Keeping.{AnswersSoundly, AnswersWithVerdict, Keeping, Soundly, Takes, TakesSoundly, taking, trying}
+use Rattle.cli_steps.specs.Passing.{AsksByWords, DeliversTo, PassesOn}
 use Rattle.cli_steps.specs.State.{believing, forgetting, keeping}
 use Rattle.cli_steps.specs.Steps.{BelievesMore, ChecksPath, DeliversFile}
-use Rattle.cli_steps.specs.Ways.{FindsAsked, Steps, TakesFromFiles, without_writer}
+use Rattle.cli_steps.specs.Ways.{Steps, without_writer}
 use Rattle.cli_steps.specs.declared.answer.SessionAnswer.TheVariants.{Believes as Told_more, Delivered, Told, Failed}
 
 -- a verifier that believes these fingerprints accepts just them
 accepts_just : (believed : Believed) (prints : List (List ℕ)) → BelievesJust believed prints → AcceptsJust prints (accepted_by believed)
 accepts_just believed prints believes = λ algorithm key message signature. believes (fingerprint_of algorithm key message signature)
 
-module _ (believed : Believed) (old new : Keeping) (holds : Holding) where
-  pub delivered : (issuer file : List ℕ) (counts : Counts) → TakesFromFiles holds old new (accepted_by believed) issuer file (Ok counts)
-      → Steps believed old believed new (λ before after. DeliversFile holds issuer file before after (Delivered counts))
-  delivered issuer file counts (facts, statement, takes) before is = (
-    keeping (taking facts before.kept) before,
-    record { listed = is.listed; believes = is.believes; keeps = (takes before.kept is.keeps).0 },
-    (accepted_by believed, accepts_just believed before.prints is.believes, (facts, statement, (takes before.kept is.keeps).1, refl)),
-  )
+-- ---- a keeper that takes facts and answers
 
-  pub not_delivered : (issuer file : List ℕ) (failure : Failure) → TakesFromFiles holds old new (accepted_by believed) issuer file (Err failure)
-      → Steps believed old believed new (λ before after. DeliversFile holds issuer file before after (Failed failure))
-  not_delivered issuer file failure (inl (refused, same)) before is = (
+module _ {K : Type 0} (is_sound : K → Type 0) (keeps : K → Keeping) (old new : K) where
+  -- it was sound if it is
+  was_sound : {A T : Type 0} (Reads : A → Type 0) (Refuses : Failure → Type 0) (Did : K → K → A → Result T Failure → Type 0) (result : Result T Failure)
+      → PassesOn Reads Refuses (λ old new it result. Soundly (is_sound old) (is_sound new) (Did old new it result)) old new result → is_sound new → is_sound old
+  was_sound Reads Refuses Did (Ok answer) (it, reads, did) sound = did.0 sound
+  was_sound Reads Refuses Did (Err failure) (inl (refused, same)) sound = subst is_sound same sound
+  was_sound Reads Refuses Did (Err failure) (inr (it, reads, did)) sound = did.0 sound
+
+module _ {K : Type 0} (is_sound : K → Type 0) (keeps : K → Keeping) (old new : K) (believed : Believed) (holds : Holding) where
+  pub delivers_soundly : (issuer file : List ℕ) (result : Result Counts Failure) → DeliversTo holds (accepted_by believed) issuer file (TakesSoundly is_sound keeps) old new result → is_sound new → is_sound old
+  delivers_soundly issuer file result = was_sound is_sound keeps old new _ _ (λ old new facts result. Takes (keeps old) (keeps new) facts result) result
+
+  pub delivered : (issuer file : List ℕ) (counts : Counts) → DeliversTo holds (accepted_by believed) issuer file (TakesSoundly is_sound keeps) old new (Ok counts) → is_sound new
+      → Steps believed (keeps old) believed (keeps new) (λ before after. DeliversFile holds issuer file before after (Delivered counts))
+  delivered issuer file counts (facts, says, did) sound before is =
+      let done = did.1 sound before.kept is.keeps in (
+        keeping (taking facts before.kept) before,
+        record { listed = is.listed; believes = is.believes; keeps = done.0 },
+        (accepted_by believed, accepts_just believed before.prints is.believes, (facts, says, done.1, refl)),
+      )
+
+  pub not_delivered : (issuer file : List ℕ) (failure : Failure) → DeliversTo holds (accepted_by believed) issuer file (TakesSoundly is_sound keeps) old new (Err failure) → is_sound new
+      → Steps believed (keeps old) believed (keeps new) (λ before after. DeliversFile holds issuer file before after (Failed failure))
+  not_delivered issuer file failure (inl (refused, same)) sound before is = (
     before,
-    record { listed = is.listed; believes = is.believes; keeps = same before.kept is.keeps },
+    record { listed = is.listed; believes = is.believes; keeps = subst (λ (keeper : K). keeps keeper before.kept) (sym same) is.keeps },
     (accepted_by believed, accepts_just believed before.prints is.believes, (before.kept, inl (refused, refl), refl)),
   )
-  not_delivered issuer file failure (inr (facts, statement, takes)) before is = (
-    keeping (trying facts before.kept) before,
-    record { listed = is.listed; believes = is.believes; keeps = (takes before.kept is.keeps).0 },
-    (accepted_by believed, accepts_just believed before.prints is.believes, (trying facts before.kept, inr (facts, statement, (takes before.kept is.keeps).1, refl), refl)),
-  )
+  not_delivered issuer file failure (inr (facts, says, did)) sound before is =
+      let done = did.1 sound before.kept is.keeps in (
+        keeping (trying facts before.kept) before,
+        record { listed = is.listed; believes = is.believes; keeps = done.0 },
+        (accepted_by believed, accepts_just believed before.prints is.believes, (trying facts before.kept, inr (facts, says, done.1, refl), refl)),
+      )
 
-  pub checked : (path : Path) (verdict : Verdict) → FindsAsked holds old new (accepted_by believed) path (Ok verdict)
-      → Steps believed old believed new (λ before after. ChecksPath holds path before (Told verdict) × (after ≡ before))
-  checked path verdict (query, asks, finds) before is = (
-    before,
-    record { listed = is.listed; believes = is.believes; keeps = (finds before.kept is.keeps).0 },
-    ((accepted_by believed, accepts_just believed before.prints is.believes, (query, asks, (finds before.kept is.keeps).1)), refl),
-  )
+  pub asks_soundly : (texts : QueryTexts) (result : Result Verdict Failure) → AsksByWords holds (accepted_by believed) texts (AnswersSoundly is_sound keeps) old new result → is_sound new → is_sound old
+  asks_soundly texts result =
+      was_sound is_sound keeps old new _ _ (λ old new query result. AnswersWithVerdict (keeps old) (keeps new) (accepted_by believed) query result) result
 
-  pub not_checked : (path : Path) (failure : Failure) → FindsAsked holds old new (accepted_by believed) path (Err failure)
-      → Steps believed old believed new (λ before after. ChecksPath holds path before (Failed failure) × (after ≡ before))
-  not_checked path failure stays before is = (
+  pub checked : (texts : QueryTexts) (verdict : Verdict) → AsksByWords holds (accepted_by believed) texts (AnswersSoundly is_sound keeps) old new (Ok verdict) → is_sound new
+      → Steps believed (keeps old) believed (keeps new) (λ before after. ChecksPath holds texts before (Told verdict) × (after ≡ before))
+  checked texts verdict (query, asks, did) sound before is =
+      let done = did.1 sound before.kept is.keeps in (
+        before,
+        record { listed = is.listed; believes = is.believes; keeps = done.0 },
+        ((accepted_by believed, accepts_just believed before.prints is.believes, (query, asks, done.1)), refl),
+      )
+
+  pub not_checked : (texts : QueryTexts) (failure : Failure) → AsksByWords holds (accepted_by believed) texts (AnswersSoundly is_sound keeps) old new (Err failure) → is_sound new
+      → Steps believed (keeps old) believed (keeps new) (λ before after. ChecksPath holds texts before (Failed failure) × (after ≡ before))
+  not_checked texts failure (inl (refused, same)) sound before is = (
     before,
-    record { listed = is.listed; believes = is.believes; keeps = (stays before.kept is.keeps).0 },
-    ((stays before.kept is.keeps).1, refl),
+    record { listed = is.listed; believes = is.believes; keeps = subst (λ (keeper : K). keeps keeper before.kept) (sym same) is.keeps },
+    (inl refused, refl),
   )
+  not_checked texts failure (inr (query, asks, did)) sound before is =
+      let done = did.1 sound before.kept is.keeps in (
+        before,
+        record { listed = is.listed; believes = is.believes; keeps = done.0 },
+        (inr ((query, asks), done.1), refl),
+      )
 
 -- ---- fingerprints
 

@@ -1,3 +1,2 @@
 mod Answered
-mod Finding
-mod Taking
+mod Passed

@@ -5,9 +5,9 @@ ghost use Rattle.cli_steps.specs.Steps.{BelievesMore};
 ghost use Rattle.cli_steps.specs.Ways.{Steps};
 
 use crate::answer::SessionAnswer;
+use crate::keeper::Keeper;
 use crate::party::Party;
 use cli_failures::Failure;
-use cli_keeping::Keeper;
 
 /// Believes one fingerprint more.
 pub(crate) fn believe<'a, K: Keeper>(party: &mut Party<K>, print: [u8; 32]) -> SessionAnswer<'a>

@@ -1,72 +1,85 @@
-//! Verdicts on paths.
+//! Queries: what words ask of a path is passed to a receiver; and the verdicts of a session.
 ghost use Rattle.std.specs.Prelude.{◌≡◌};
-ghost use Rattle.cli_requests.specs.Requests.{seen_path};
-ghost use Rattle.cli_session.specs.Held.{holding_of};
+ghost use Rattle.cli_operands.specs.Asked.{Asks, IsFailureOfCertificates, NameTerms};
+ghost use Rattle.cli_operands.specs.Operands.{IsQueryOf, IsRefusalIn};
+ghost use Rattle.cli_words.specs.QueryTexts.{seen_words};
+ghost use Rattle.cli_steps.specs.Passing.{AsksByWords, PassesOn};
 ghost use Rattle.cli_steps.specs.Steps.{ChecksPath};
-ghost use Rattle.cli_steps.specs.Ways.{FindsAsked, FindsOf, Steps};
+ghost use Rattle.cli_steps.specs.Ways.{Moves};
 
 use crate::answer::SessionAnswer;
-use crate::asking::question_of;
-use crate::kept::find_verdict;
+use crate::keeper::Keeper;
 use crate::party::Party;
+use crate::receiver::AnswerQuery;
 use cli_failures::{Failure, Source};
-use cli_keeping::Keeper;
-use cli_operands::{Operands, read_operands};
-use cli_requests::PathRequest;
-use cli_session::OperandSource;
+use cli_operands::{Operands, Terms, read_operands, read_terms};
+use cli_words::QueryWords;
 use path_verifiers::Verifier;
-use relying_agreement::Verdict;
 use std::alloc::Global;
 
-// The verdict that the operands ask for.
-fn find_asked<'a, K: Keeper, V: Verifier>(
-    keeper: &mut K,
+// The answer to the query on these terms about the certificates of the operands.
+fn ask_of<'a, T, R: AnswerQuery<'a, T>, V: Verifier>(
+    receiver: &mut R,
     alloc: Global,
     verifier: &V,
     operands: &Operands<'a>,
-) -> Result<Verdict, Failure<'a>>
-    ensures sound { K.is_sound keeper.new → K.is_sound keeper.old }
-    ensures finds { K.is_sound keeper.new → FindsOf (K.keeps keeper.old) (K.keeps keeper.new)
-        (V.accepts verifier.now) operands.now result }
+    terms: &Terms,
+) -> Result<T, Failure<'a>>
+    ensures { PassesOn (IsQueryOf operands.now terms.now) (IsRefusalIn operands.now)
+        (λ old new query result. R.answers old new (V.accepts verifier.now) query result)
+        receiver.old receiver.new result }
 {
-    let query = operands.query(alloc)?;
-    find_verdict(keeper, alloc, verifier, &query)
+    let query = operands.query(alloc, terms)?;
+    receiver.answer(alloc, verifier, &query)
 }
 
-// The verdict that the request asks for.
-fn find_for<'a, K: Keeper, V: Verifier, S: Source>(
-    keeper: &mut K,
-    source: &OperandSource<'_, S>,
+/// The answer to the query on these terms about the certificates that the words name.
+pub(crate) fn ask_on<'a, T, R: AnswerQuery<'a, T>, V: Verifier, S: Source>(
+    receiver: &mut R,
+    source: &S,
     alloc: Global,
     verifier: &V,
-    path: PathRequest<'a>,
-) -> Result<Verdict, Failure<'a>>
-    ensures sound { K.is_sound keeper.new → K.is_sound keeper.old }
-    ensures finds { K.is_sound keeper.new
-        → FindsAsked (holding_of (S.holds source.now.source.now))
-        (K.keeps keeper.old) (K.keeps keeper.new) (V.accepts verifier.now)
-        (seen_path path.entry) result }
+    terms: &Terms,
+    words: &QueryWords<'a>,
+) -> Result<T, Failure<'a>>
+    ensures { NameTerms (seen_words words.now) terms.now
+        → PassesOn (Asks (S.holds source.now) (seen_words words.now))
+        (IsFailureOfCertificates (S.holds source.now) (seen_words words.now))
+        (λ old new query result. R.answers old new (V.accepts verifier.now) query result)
+        receiver.old receiver.new result }
 {
-    let question = question_of(path);
-    let operands = read_operands(source, alloc, &question)?;
-    find_asked(keeper, alloc, verifier, &operands)
+    let operands = read_operands(source, alloc, words)?;
+    ask_of(receiver, alloc, verifier, &operands, terms)
 }
 
-/// Tells the verdict on the path that the request names, by what is held.
+// The answer to the query that the words ask.
+fn ask<'a, T, R: AnswerQuery<'a, T>, V: Verifier, S: Source>(
+    receiver: &mut R,
+    source: &S,
+    alloc: Global,
+    verifier: &V,
+    words: &QueryWords<'a>,
+) -> Result<T, Failure<'a>>
+    ensures { AsksByWords (S.holds source.now) (V.accepts verifier.now) (seen_words words.now)
+        R.answers receiver.old receiver.new result }
+{
+    let terms = read_terms(alloc, words)?;
+    ask_on(receiver, source, alloc, verifier, &terms, words)
+}
+
+/// Tells a session's verdict on the path that the words name, by what is held.
 pub(crate) fn check<'a, K: Keeper, S: Source>(
     party: &mut Party<K>,
-    source: &OperandSource<'_, S>,
+    source: &S,
     alloc: Global,
-    path: PathRequest<'a>,
+    words: &QueryWords<'a>,
 ) -> SessionAnswer<'a>
     ensures sound { K.is_sound party.new.keeper → K.is_sound party.old.keeper }
-    ensures steps { K.is_sound party.new.keeper
-        → Steps party.old.believed (K.keeps party.old.keeper)
-        party.new.believed (K.keeps party.new.keeper)
-        (λ old new. ChecksPath (holding_of (S.holds source.now.source.now)) (seen_path path.entry)
-        old result × (new ≡ old)) }
+    ensures steps { Moves K.is_sound K.keeps party.old party.new (λ old new.
+        ChecksPath (S.holds source.now) (seen_words words.now) old result × (new ≡ old)) }
 {
-    match find_for(&mut party.keeper, source, alloc, &party.believed, path) {
+    let (keeper, verifier) = (&mut party.keeper, &party.believed);
+    match ask(keeper, source, alloc, verifier, words) {
         Ok(verdict) => SessionAnswer::Told(verdict),
         Err(failure) => SessionAnswer::Failed(failure),
     }

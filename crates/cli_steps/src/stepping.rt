@@ -3,16 +3,16 @@ ghost use Rattle.std.specs.Prelude.{◌≡◌};
 ghost use Rattle.cli_requests.specs.Requests.{seen_request};
 ghost use Rattle.cli_session.specs.Held.{holding_of};
 ghost use Rattle.cli_steps.specs.Steps.{IsStep};
-ghost use Rattle.cli_steps.specs.Ways.{Steps};
+ghost use Rattle.cli_steps.specs.Ways.{Moves};
 
 use crate::answer::SessionAnswer;
 use crate::believing::{believe, forget};
 use crate::checking::check;
 use crate::delivering::deliver;
+use crate::keeper::Keeper;
 use crate::party::Party;
 use crate::printing::show_prints;
 use cli_failures::Source;
-use cli_keeping::Keeper;
 use cli_requests::Request;
 use cli_session::OperandSource;
 use std::alloc::Global;
@@ -26,18 +26,15 @@ pub fn step<'a, K: Keeper, S: Source>(
     request: Request<'a>,
 ) -> SessionAnswer<'a>
     ensures sound { K.is_sound party.new.keeper → K.is_sound party.old.keeper }
-    ensures steps { K.is_sound party.new.keeper
-        → Steps party.old.believed (K.keeps party.old.keeper)
-        party.new.believed (K.keeps party.new.keeper)
-        (λ old new. IsStep (holding_of (S.holds source.now)) (seen_request request.entry)
-        old new result) }
+    ensures steps { Moves K.is_sound K.keeps party.old party.new (λ old new.
+        IsStep (holding_of (S.holds source.now)) (seen_request request.entry) old new result) }
 {
     let operands = OperandSource { source, alloc };
     match request {
         Request::Nothing => SessionAnswer::Nothing,
         Request::Believe(print) => believe(party, print),
         Request::Deliver { issuer, file } => deliver(party, &operands, alloc, issuer, file),
-        Request::Check(path) => check(party, &operands, alloc, path),
+        Request::Check(words) => check(party, &operands, alloc, &words),
         Request::Prints {
             kind,
             with_parts,

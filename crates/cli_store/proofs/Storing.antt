@@ -1,5 +1,5 @@
 -- A store's calls, as those of a keeper.
-use Rattle.std.proofs.Common.{◌≡◌, ◌≢◌, ℕ, suc, false, List, [], ◌∷◌, Contains, IsTrue, Result, Ok, Err, IfErr, IfOk, arith, inl, inr, refl, sym, subst, ◌∙◌, true≢false}
+use Rattle.std.proofs.Common.{◌≡◌, ℕ, suc, false, List, [], ◌∷◌, Contains, IsTrue, Result, Ok, Err, IfErr, IfOk, arith, inl, inr, refl, sym, subst, ◌∙◌, true≢false}
 use Rattle.sqlite.specs.Order.{Row}
 use Rattle.sqlite.specs.State.{HasCause, HasCleanDisk, IsNoStatement, IsNotRun, IsUnchanged, State, Survives, store_error}
 use Rattle.sqlite.specs.declared.error.Error.{Error}
@@ -25,10 +25,10 @@ use Rattle.store_sql.specs.Statements.{CommitsNothing}
 use Rattle.store_sql.specs.declared.fault.StoreFault.{StoreFault}
 use Rattle.store_sql.specs.declared.fault.StoreFault.TheVariants.{Store, Schema, Memory}
 use Rattle.store_taking.specs.Delivery.{AllOrNothing, PutsFacts}
-use Rattle.cli_keeping.specs.Keeping.{AnswersWithVerdict, Keeps, Takes}
-use Rattle.cli_keeping.specs.declared.fault.KeeperFault.{KeeperFault}
-use Rattle.cli_keeping.specs.declared.fault.KeeperFault.TheVariants.{NoKeeper}
-use Rattle.cli_store.specs.Stored.{IsSoundIn, LeavesOneOf, keeper_fault, fault_of_party, keeping_in}
+use Rattle.cli_failures.specs.declared.failure.Failure.{Failure}
+use Rattle.cli_steps.specs.Keeping.{AnswersWithVerdict, IsNotKept, Keeps, Takes}
+use Rattle.cli_store.specs.Standing.{told_of}
+use Rattle.cli_store.specs.Stored.{IsSoundIn, LeavesOneOf, keeping_in}
 
 at_head : (left : List Holdings) (held : Holdings) → Contains (held ∷ left) held
 at_head left held = (0, omega arith, refl)
@@ -69,13 +69,13 @@ module _ (old new : State) where
       ((taken.hold, λ trees may. (after_all kept.held (facts_in facts), at_head [] _, it.durable kept.held is trees may)), taken.counted)
 
   -- the fault is not for the form of the rows
-  other_fault : (fault : StoreFault) → (fault ≡ Schema → ⊥) → keeper_fault fault ≢ NoKeeper
-  other_fault Store not is = absurd cc
-  other_fault Schema not is = not refl
-  other_fault Memory not is = absurd cc
+  other_fault : (fault : StoreFault) → (fault ≡ Schema → ⊥) → IsNotKept (told_of (OfStore fault))
+  other_fault Store not = inr refl
+  other_fault Schema not = absurd (not refl)
+  other_fault Memory not = inl refl
 
   pub takes_nothing : (facts : Facts) (fault : StoreFault) → PutsFacts old new facts (Err fault) → AllOrNothing old new facts → IsSoundIn new
-      → Takes (keeping_in old) (keeping_in new) (facts_in facts) (Err (keeper_fault fault))
+      → Takes (keeping_in old) (keeping_in new) (facts_in facts) (Err (told_of (OfStore fault)))
   takes_nothing facts fault puts survives (clean, is_open) kept (is, leaves) =
       let it = puts clean in
       let held : IsStoreOf new.now kept.held = subst (λ db. IsStoreOf db kept.held) (sym (it.same is_open)) is in (
@@ -100,17 +100,17 @@ module _ (old new : State) where
   finds accepts query verdict looks survives sound kept (is, leaves) = (kept_same (looks sound.0).0 survives sound kept (is, leaves), (looks sound.0).1 kept.held is)
 
   finds_nothing : (accepts : Accepts) (query : Query) (fault : Fault) → Looks {A = Verdict} old new (IsVerdict accepts query) (Err fault) → CommitsNothing old new → IsSoundIn new
-      → AnswersWithVerdict (keeping_in old) (keeping_in new) accepts query (Err (fault_of_party fault))
+      → AnswersWithVerdict (keeping_in old) (keeping_in new) accepts query (Err (told_of fault))
   finds_nothing accepts query (OfStore fault) looks survives sound kept (is, leaves) =
       (kept_same (looks sound.0).0 survives sound kept (is, leaves), other_fault fault (λ schema. (looks sound.0).1 schema kept.held is))
-  finds_nothing accepts query WithoutMemory looks survives sound kept (is, leaves) = (kept_same (looks sound.0).0 survives sound kept (is, leaves), λ is. absurd cc)
+  finds_nothing accepts query WithoutMemory looks survives sound kept (is, leaves) = (kept_same (looks sound.0).0 survives sound kept (is, leaves), inl refl)
 
-  pub finds_no_verdict : (accepts : Accepts) (query : Query) (fault : Fault) (told : KeeperFault) → told ≡ fault_of_party fault
+  pub finds_no_verdict : (accepts : Accepts) (query : Query) (fault : Fault) (told : Failure) → told ≡ told_of fault
       → Looks {A = Verdict} old new (IsVerdict accepts query) (Err fault) → CommitsNothing old new → IsSoundIn new → AnswersWithVerdict (keeping_in old) (keeping_in new) accepts query (Err told)
   finds_no_verdict accepts query fault told is looks survives sound =
       subst (λ t. AnswersWithVerdict (keeping_in old) (keeping_in new) accepts query (Err t)) (sym is) (finds_nothing accepts query fault looks survives sound)
 
-  pub takes_none : (facts : Facts) (fault : StoreFault) (told : KeeperFault) → told ≡ keeper_fault fault → PutsFacts old new facts (Err fault) → AllOrNothing old new facts → IsSoundIn new
+  pub takes_none : (facts : Facts) (fault : StoreFault) (told : Failure) → told ≡ told_of (OfStore fault) → PutsFacts old new facts (Err fault) → AllOrNothing old new facts → IsSoundIn new
       → Takes (keeping_in old) (keeping_in new) (facts_in facts) (Err told)
   takes_none facts fault told is puts survives sound =
       subst (λ t. Takes (keeping_in old) (keeping_in new) (facts_in facts) (Err t)) (sym is) (takes_nothing facts fault puts survives sound)

@@ -10,7 +10,6 @@ use Rattle.statements_facts.specs.Statement.{Holdings, empty_holdings}
 use Rattle.store_maps.specs.Held.{IsStoreOf}
 use Rattle.store_sql.specs.Tables.{no_schema}
 use Rattle.store.specs.declared.handle.Store as handle
-use Rattle.store_sql.specs.declared.fault.StoreFault.{StoreFault}
 use Rattle.store_sql.specs.declared.fault.StoreFault.TheVariants.{Store, Schema, Memory}
 use Rattle.relying_verdicts.specs.declared.fault.Fault.{Fault}
 use Rattle.relying_verdicts.specs.declared.fault.Fault.TheVariants.{Store as OfStore, Memory as WithoutMemory}
@@ -71,16 +70,12 @@ IsFoundOrMade stands path old = IsFound stands path old ⊎ IsMade stands path o
 
 -- ---- no store
 
--- what a fault of a store is for a run
-abbrev pub told_of : StoreFault → Failure
-told_of Store = StoreFailed 71
-told_of Schema = StoreFailed 72
-told_of Memory = NoMemory
-
--- and a fault of a party
-abbrev pub told_of_party : Fault → Failure
-told_of_party (OfStore fault) = told_of fault
-told_of_party WithoutMemory = NoMemory
+-- what a fault of a store or of a party is for a run
+abbrev pub told_of : Fault → Failure
+told_of (OfStore Store) = StoreFailed 71
+told_of (OfStore Schema) = StoreFailed 72
+told_of (OfStore Memory) = NoMemory
+told_of WithoutMemory = NoMemory
 
 -- the database refused, or its tables are not those of a store
 abbrev pub IsFaultNumber : ℕ → Type 0

@@ -3,10 +3,12 @@ ghost use Rattle.std.specs.Prelude.{◌≡◌, Err, false};
 ghost use Rattle.sqlite.specs.Files.{file_state};
 ghost use Rattle.statements_facts.specs.Fact.{facts_in};
 ghost use Rattle.path.specs.Reading.{seen_query};
-ghost use Rattle.cli_keeping.specs.Keeping.{AnswersWithVerdict, Keeps, Takes};
-ghost use Rattle.cli_store.specs.Stored.{IsSoundIn, keeper_fault, fault_of_party, keeping_in};
+ghost use Rattle.cli_steps.specs.Keeping.{AnswersWithVerdict, Keeps, Takes};
+ghost use Rattle.cli_store.specs.Stored.{IsSoundIn, keeping_in};
 
-use cli_keeping::{Keeper, KeeperFault};
+use crate::stores::failed;
+use cli_failures::Failure;
+use cli_steps::Keeper;
 use path_verifiers::Verifier;
 use relying::{Fault, Query, Verdict, verdict_of};
 use sqlite::{Error, ErrorCode};
@@ -14,7 +16,6 @@ use sqlite_disk::Disk;
 use statements_facts::{Counts, Facts};
 use std::alloc::Global;
 use store::Store;
-use store_sql::StoreFault;
 
 /// A store that keeps a session's statements.
 pub struct StoreKeeper<D: Disk> {
@@ -37,28 +38,11 @@ impl<D: Disk + Drop> StoreKeeper<D> {
     }
 }
 
-// What a store's fault is for a session.
-fn fault_of(fault: StoreFault) -> KeeperFault
-    ensures { result ≡ keeper_fault fault }
-{
-    match fault {
-        StoreFault::Store => KeeperFault::Refused,
-        StoreFault::Schema => KeeperFault::NoKeeper,
-        StoreFault::Memory => KeeperFault::Memory,
-    }
-}
-
-// And a party's fault.
-fn fault_of_party(fault: Fault) -> KeeperFault
-    ensures { result ≡ fault_of_party fault }
-{
-    match fault {
-        Fault::Store(fault) => fault_of(fault),
-        Fault::Memory => KeeperFault::Memory,
-    }
-}
-
-fn take_into<D: Disk + Drop>(store: &mut Store<D>, facts: &Facts<'_>) -> Result<Counts, KeeperFault>
+// The store takes the facts.
+fn take_into<'a, D: Disk + Drop>(
+    store: &mut Store<D>,
+    facts: &Facts<'_>,
+) -> Result<Counts, Failure<'a>>
     ensures sound { IsSoundIn (file_state store.new.conn) → IsSoundIn (file_state store.old.conn) }
     ensures takes { IsSoundIn (file_state store.new.conn)
         → Takes (keeping_in (file_state store.old.conn)) (keeping_in (file_state store.new.conn))
@@ -66,16 +50,17 @@ fn take_into<D: Disk + Drop>(store: &mut Store<D>, facts: &Facts<'_>) -> Result<
 {
     match store.put(facts) {
         Ok(counts) => Ok(counts),
-        Err(fault) => Err(fault_of(fault)),
+        Err(fault) => Err(failed(Fault::Store(fault))),
     }
 }
 
-fn find_in<D: Disk + Drop, V: Verifier>(
+// The verdict by what the store holds.
+fn find_in<'a, D: Disk + Drop, V: Verifier>(
     store: &mut Store<D>,
     alloc: Global,
     verifier: &V,
     query: &Query<'_>,
-) -> Result<Verdict, KeeperFault>
+) -> Result<Verdict, Failure<'a>>
     ensures sound { IsSoundIn (file_state store.new.conn) → IsSoundIn (file_state store.old.conn) }
     ensures finds { IsSoundIn (file_state store.new.conn)
         → AnswersWithVerdict (keeping_in (file_state store.old.conn))
@@ -84,7 +69,7 @@ fn find_in<D: Disk + Drop, V: Verifier>(
 {
     match verdict_of(alloc, verifier, &mut store.conn, query) {
         Ok(verdict) => Ok(verdict),
-        Err(fault) => Err(fault_of_party(fault)),
+        Err(fault) => Err(failed(fault)),
     }
 }
 
@@ -124,16 +109,16 @@ impl<D: Disk + Drop> Keeper for StoreKeeper<D> {
 
     ghost is_sound = { λ keeper. IsSoundIn (file_state keeper.store.conn) };
 
-    fn take(&mut self, facts: &Facts<'_>) -> Result<Counts, KeeperFault> {
+    fn take<'a>(&mut self, facts: &Facts<'_>) -> Result<Counts, Failure<'a>> {
         take_into(&mut self.store, facts)
     }
 
-    fn verdict<V: Verifier>(
+    fn verdict<'a, V: Verifier>(
         &mut self,
         alloc: Global,
         verifier: &V,
         query: &Query<'_>,
-    ) -> Result<Verdict, KeeperFault> {
+    ) -> Result<Verdict, Failure<'a>> {
         find_in(&mut self.store, alloc, verifier, query)
     }
 

@@ -9,6 +9,7 @@ ghost use Rattle.store_sql.specs.Statements.{IsDurable};
 ghost use Rattle.cli_store.specs.Standing.{IsFound, IsFoundOrMade, IsNotFound, MakesNoStore, seen_of, told_of};
 
 use cli_failures::Failure;
+use relying::Fault;
 use sqlite::{Connection, FileStore};
 use sqlite_disk::Disk;
 use sqlite_std_file::File;
@@ -65,10 +66,13 @@ pub trait Stores<T: Connected> {
         ensures leaves { leaves self.now path.now (seen_of (T.state store)) };
 }
 
-/// What a store's fault is for a run.
-pub fn failed<'a>(fault: StoreFault) -> Failure<'a>
+/// What a fault of a store or of a party is for a run: a store that does not answer fails with the number of its fault.
+pub fn failed<'a>(fault: Fault) -> Failure<'a>
     ensures { result ≡ told_of fault }
 {
+    let Fault::Store(fault) = fault else {
+        return Failure::NoMemory;
+    };
     match fault {
         StoreFault::Memory => Failure::NoMemory,
         StoreFault::Store | StoreFault::Schema => Failure::StoreFailed {
@@ -83,11 +87,12 @@ fn open<'a>(rt: &HostRuntime, path: &str) -> Result<Store<File>, Failure<'a>>
         HasCleanDisk (file_state store.conn) → IsStore (file_state store.conn).now) }
     ensures settled { IfOk result (λ store. IsSettled (file_state store.conn)) }
     ensures durable { IfOk result (λ store. IsDurable (file_state store.conn)) }
-    ensures fails { IfErr result (λ failure. (fault : StoreFault) × (failure ≡ told_of fault)) }
+    ensures fails { IfErr result (λ failure. (fault : StoreFault)
+        × (failure ≡ told_of (Fault.Store fault))) }
 {
     match Store::open(rt, path) {
         Ok(store) => Ok(store),
-        Err(refusal) => Err(failed(refusal.fault())),
+        Err(refusal) => Err(failed(Fault::Store(refusal.fault()))),
     }
 }
 
@@ -96,14 +101,15 @@ fn make<'a>(rt: &HostRuntime, path: &str) -> Result<Store<File>, Failure<'a>>
     ensures empty { IfOk result (λ store. IsEmptyStoreOn store.conn) }
     ensures settled { IfOk result (λ store. IsSettled (file_state store.conn)) }
     ensures durable { IfOk result (λ store. IsDurable (file_state store.conn)) }
-    ensures fails { IfErr result (λ failure. (fault : StoreFault) × (failure ≡ told_of fault)) }
+    ensures fails { IfErr result (λ failure. (fault : StoreFault)
+        × (failure ≡ told_of (Fault.Store fault))) }
 {
     match Store::make(rt, path) {
         Ok(store) => {
             let _settled = store.conn.is_autocommit();
             Ok(store)
         }
-        Err(refusal) => Err(failed(refusal.fault())),
+        Err(refusal) => Err(failed(Fault::Store(refusal.fault()))),
     }
 }
 
@@ -113,14 +119,15 @@ fn create<'a>(conn: Connection<FileStore<File>>) -> Result<Store<File>, Failure<
     ensures empty { IfOk result (λ store. IsEmptyStoreOn store.conn) }
     ensures settled { IfOk result (λ store. IsSettled (file_state store.conn)) }
     ensures durable { IfOk result (λ store. IsDurable (file_state store.conn)) }
-    ensures fails { IfErr result (λ failure. (fault : StoreFault) × (failure ≡ told_of fault)) }
+    ensures fails { IfErr result (λ failure. (fault : StoreFault)
+        × (failure ≡ told_of (Fault.Store fault))) }
 {
     match Store::create(conn) {
         Ok(store) => {
             let _settled = store.conn.is_autocommit();
             Ok(store)
         }
-        Err(refused) => Err(failed(refused.fault)),
+        Err(refused) => Err(failed(Fault::Store(refused.fault))),
     }
 }
 
@@ -129,13 +136,14 @@ fn fill<'a>(refused: Refused<File>) -> Result<Store<File>, Failure<'a>>
     ensures empty { IfOk result (λ store. IsEmptyStoreOn store.conn) }
     ensures settled { IfOk result (λ store. IsSettled (file_state store.conn)) }
     ensures durable { IfOk result (λ store. IsDurable (file_state store.conn)) }
-    ensures fails { IfErr result (λ failure. (fault : StoreFault) × (failure ≡ told_of fault)) }
+    ensures fails { IfErr result (λ failure. (fault : StoreFault)
+        × (failure ≡ told_of (Fault.Store fault))) }
 {
     let Refused { fault, conn } = refused;
     if is_empty(conn.schema()) {
         create(conn)
     } else {
-        Err(failed(fault))
+        Err(failed(Fault::Store(fault)))
     }
 }
 
@@ -144,12 +152,13 @@ fn open_or_fill<'a>(rt: &HostRuntime, path: &str) -> Result<Store<File>, Failure
     ensures store { IfOk result (λ store. IsStoreOn store.conn ⊎ IsEmptyStoreOn store.conn) }
     ensures settled { IfOk result (λ store. IsSettled (file_state store.conn)) }
     ensures durable { IfOk result (λ store. IsDurable (file_state store.conn)) }
-    ensures fails { IfErr result (λ failure. (fault : StoreFault) × (failure ≡ told_of fault)) }
+    ensures fails { IfErr result (λ failure. (fault : StoreFault)
+        × (failure ≡ told_of (Fault.Store fault))) }
 {
     match Store::open(rt, path) {
         Ok(store) => Ok(store),
         Err(OpenFault::Refused(refused)) => fill(refused),
-        Err(OpenFault::Unconnected(fault)) => Err(failed(fault)),
+        Err(OpenFault::Unconnected(fault)) => Err(failed(Fault::Store(fault))),
     }
 }
 

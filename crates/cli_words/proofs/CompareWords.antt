@@ -12,7 +12,7 @@ use Rattle.clap.specs.Walk.{Walk, finished, nothing_held, positional, rows_after
 use Rattle.clap.specs.declared.builder.value_parser.ValueParser.TheVariants as vp
 use Rattle.clap.proofs.OnLiterals.{clap_on_literals}
 use Rattle.cli_words.specs.App.{program}
-use Rattle.cli_words.specs.CommandLine.{IsPlainWord}
+use Rattle.cli_words.specs.PlainLine.{IsPlainWord}
 use Rattle.cli_words.proofs.Turns.{EntersFiles, WalksTo, all_accepted, at, goes_more, goes_none, goes_option, halted, halted_on, halted_well, is_other, later_fault, level_well, rest_fault, rows_are, shape_of, top_fault}
 
 -- the words behind the subcommand

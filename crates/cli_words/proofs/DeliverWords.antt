@@ -7,7 +7,7 @@ use Rattle.clap.specs.Simple.{Shape}
 use Rattle.clap.specs.Walk.{Walk, arg_by_index, nothing_held, rows_after, settled_rows, to_positional, walk_from, walked}
 use Rattle.clap.proofs.OnLiterals.{clap_on_literals}
 use Rattle.cli_words.specs.App.{program}
-use Rattle.cli_words.specs.CommandLine.{IsPlainWord}
+use Rattle.cli_words.specs.PlainLine.{IsPlainWord}
 use Rattle.cli_words.proofs.Turns.{Enters, WalksTo, at, goes_more, goes_none, goes_option, is_other, level_well, rest_fault, rows_are, shape_of}
 
 -- the words behind the subcommand

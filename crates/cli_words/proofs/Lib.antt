@@ -12,4 +12,5 @@ mod Flaws
 pub mod Values
 mod Behind
 pub mod Outcomes
+mod PlainLines
 mod Adding

@@ -6,7 +6,7 @@ use Rattle.clap.specs.Simple.{Shape}
 use Rattle.clap.specs.Walk.{Walk, nothing_held, rows_after, settled_rows, walk_from}
 use Rattle.clap.proofs.OnLiterals.{clap_on_literals}
 use Rattle.cli_words.specs.App.{program}
-use Rattle.cli_words.specs.CommandLine.{IsPlainWord}
+use Rattle.cli_words.specs.PlainLine.{IsPlainWord}
 use Rattle.cli_words.proofs.Turns.{Enters, WalksTo, at, goes_none, goes_option, level_well, rest_fault, rows_are, shape_of}
 
 -- the words behind the subcommand

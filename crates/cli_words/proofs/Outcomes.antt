@@ -5,7 +5,8 @@ use Rattle.cli_words.specs.App.{program}
 use Rattle.clap.specs.Kinds.{Kinds, HasKind, IsAmong}
 use Rattle.clap.specs.declared.error.Error.{Error}
 use Rattle.clap.specs.declared.error.kind.ErrorKind.TheVariants.{OutOfMemory}
-use Rattle.cli_words.specs.CommandLine.{Ask, AreRefusedWith, HasFlaw, HasNoLine, HasOtherKind, IsCheck, IsCompare, IsDeliver, IsErrorOf, IsExplain, IsQuestion, IsLine, IsLineOf, IsList, IsListAt, IsPlainWord, IsPrints, IsRefusedWith, IsSession, IsShow, IsTree, LacksOneOf, Reads, TakesKind, is_set, kind_in_rows, kind_named, of_check, of_compare, of_deliver, of_file, of_prints, of_store, words_in}
+use Rattle.cli_words.specs.CommandLine.{Ask, AreRefusedWith, HasFlaw, HasNoLine, HasOtherKind, IsErrorOf, IsLine, IsLineOf, IsRefusedWith, LacksOneOf, Reads, TakesKind, is_set, kind_in_rows, kind_named, of_check, of_compare, of_deliver, of_file, of_prints, of_store, words_in}
+use Rattle.cli_words.specs.PlainLine.{IsCheck, IsCompare, IsDeliver, IsExplain, IsList, IsListAt, IsPlainWord, IsPrints, IsSession, IsShow, IsTree}
 use Rattle.cli_words.specs.declared.line.Kind.TheVariants.{Certificate}
 use Rattle.cli_words.specs.declared.line.Line.{Line}
 use Rattle.cli_words.specs.declared.line.Line.TheVariants.{Tree, Show, Prints, Deliver, Check, Compare, Explain, Session, List as Lists}
@@ -21,7 +22,7 @@ use Rattle.cli_words.proofs.SessionWords.{entered as entered_session, no_fault a
 use Rattle.cli_words.proofs.ListWords.{entered as entered_list, entered_at as entered_list_at, list_at_words, list_words, no_fault as no_fault_of_list, no_fault_at as no_fault_of_list_at}
 use Rattle.cli_words.specs.declared.line.Flaw.{Flaw}
 use Rattle.cli_words.specs.declared.line.Flaw.TheVariants.{ArgumentMissing, OtherKind, NoMemory}
-use Rattle.cli_words.specs.declared.question.Question.{Question}
+use Rattle.cli_words.specs.QueryTexts.{QueryTexts}
 use Rattle.clap.specs.declared.error.kind.ErrorKind.{ErrorKind}
 use Rattle.clap.specs.Lexer.{usize_max}
 use Rattle.std.specs.List.{All}
@@ -141,11 +142,11 @@ tree_means entered rows file found (Prints signer kind parts given) is line =
 tree_means entered rows file found (Deliver path prints signer given) is line =
     let letter : 116 ≡ 100 = ap (λ (text : Text). slice_index text 0) (line_in entered (codes "tree") rows (Deliver path prints signer given) is line).0 in
     absurd (omega (arith, letter))
-tree_means entered rows file found (Check asked) is line =
-    let letter : 116 ≡ 99 = ap (λ (text : Text). slice_index text 0) (line_in entered (codes "tree") rows (Check asked) is line).0 in
+tree_means entered rows file found (Check path prints asked) is line =
+    let letter : 116 ≡ 99 = ap (λ (text : Text). slice_index text 0) (line_in entered (codes "tree") rows (Check path prints asked) is line).0 in
     absurd (omega (arith, letter))
-tree_means entered rows file found (Compare asked beside) is line =
-    let letter : 116 ≡ 99 = ap (λ (text : Text). slice_index text 0) (line_in entered (codes "tree") rows (Compare asked beside) is line).0 in
+tree_means entered rows file found (Compare path beside prints asked) is line =
+    let letter : 116 ≡ 99 = ap (λ (text : Text). slice_index text 0) (line_in entered (codes "tree") rows (Compare path beside prints asked) is line).0 in
     absurd (omega (arith, letter))
 tree_means entered rows file found (Lists path time) is line =
     let letter : 116 ≡ 108 = ap (λ (text : Text). slice_index text 0) (line_in entered (codes "tree") rows (Lists path time) is line).0 in
@@ -182,11 +183,11 @@ show_means entered rows file finds (Prints signer kind parts given) is line =
 show_means entered rows file finds (Deliver path prints signer given) is line =
     let letter : 115 ≡ 100 = ap (λ (text : Text). slice_index text 0) (line_in entered (codes "show") rows (Deliver path prints signer given) is line).0 in
     absurd (omega (arith, letter))
-show_means entered rows file finds (Check asked) is line =
-    let letter : 115 ≡ 99 = ap (λ (text : Text). slice_index text 0) (line_in entered (codes "show") rows (Check asked) is line).0 in
+show_means entered rows file finds (Check path prints asked) is line =
+    let letter : 115 ≡ 99 = ap (λ (text : Text). slice_index text 0) (line_in entered (codes "show") rows (Check path prints asked) is line).0 in
     absurd (omega (arith, letter))
-show_means entered rows file finds (Compare asked beside) is line =
-    let letter : 115 ≡ 99 = ap (λ (text : Text). slice_index text 0) (line_in entered (codes "show") rows (Compare asked beside) is line).0 in
+show_means entered rows file finds (Compare path beside prints asked) is line =
+    let letter : 115 ≡ 99 = ap (λ (text : Text). slice_index text 0) (line_in entered (codes "show") rows (Compare path beside prints asked) is line).0 in
     absurd (omega (arith, letter))
 show_means entered rows file finds (Lists path time) is line =
     let letter : 115 ≡ 108 = ap (λ (text : Text). slice_index text 0) (line_in entered (codes "show") rows (Lists path time) is line).0 in
@@ -223,11 +224,11 @@ prints_means entered rows issuer file finds (Show kind details given) is line =
 prints_means entered rows issuer file finds (Deliver path prints signer given) is line =
     let letter : 112 ≡ 100 = ap (λ (text : Text). slice_index text 0) (line_in entered (codes "prints") rows (Deliver path prints signer given) is line).0 in
     absurd (omega (arith, letter))
-prints_means entered rows issuer file finds (Check asked) is line =
-    let letter : 112 ≡ 99 = ap (λ (text : Text). slice_index text 0) (line_in entered (codes "prints") rows (Check asked) is line).0 in
+prints_means entered rows issuer file finds (Check path prints asked) is line =
+    let letter : 112 ≡ 99 = ap (λ (text : Text). slice_index text 0) (line_in entered (codes "prints") rows (Check path prints asked) is line).0 in
     absurd (omega (arith, letter))
-prints_means entered rows issuer file finds (Compare asked beside) is line =
-    let letter : 112 ≡ 99 = ap (λ (text : Text). slice_index text 0) (line_in entered (codes "prints") rows (Compare asked beside) is line).0 in
+prints_means entered rows issuer file finds (Compare path beside prints asked) is line =
+    let letter : 112 ≡ 99 = ap (λ (text : Text). slice_index text 0) (line_in entered (codes "prints") rows (Compare path beside prints asked) is line).0 in
     absurd (omega (arith, letter))
 prints_means entered rows issuer file finds (Lists path time) is line =
     let letter : 112 ≡ 108 = ap (λ (text : Text). slice_index text 0) (line_in entered (codes "prints") rows (Lists path time) is line).0 in
@@ -268,11 +269,11 @@ deliver_means entered rows store verdicts issuer file finds (Show kind details g
 deliver_means entered rows store verdicts issuer file finds (Prints signer kind parts given) is line =
     let letter : 100 ≡ 112 = ap (λ (text : Text). slice_index text 0) (line_in entered (codes "deliver") rows (Prints signer kind parts given) is line).0 in
     absurd (omega (arith, letter))
-deliver_means entered rows store verdicts issuer file finds (Check asked) is line =
-    let letter : 100 ≡ 99 = ap (λ (text : Text). slice_index text 0) (line_in entered (codes "deliver") rows (Check asked) is line).0 in
+deliver_means entered rows store verdicts issuer file finds (Check path prints asked) is line =
+    let letter : 100 ≡ 99 = ap (λ (text : Text). slice_index text 0) (line_in entered (codes "deliver") rows (Check path prints asked) is line).0 in
     absurd (omega (arith, letter))
-deliver_means entered rows store verdicts issuer file finds (Compare asked beside) is line =
-    let letter : 100 ≡ 99 = ap (λ (text : Text). slice_index text 0) (line_in entered (codes "deliver") rows (Compare asked beside) is line).0 in
+deliver_means entered rows store verdicts issuer file finds (Compare path beside prints asked) is line =
+    let letter : 100 ≡ 99 = ap (λ (text : Text). slice_index text 0) (line_in entered (codes "deliver") rows (Compare path beside prints asked) is line).0 in
     absurd (omega (arith, letter))
 deliver_means entered rows store verdicts issuer file finds (Lists path time) is line =
     let letter : 100 ≡ 108 = ap (λ (text : Text). slice_index text 0) (line_in entered (codes "deliver") rows (Lists path time) is line).0 in
@@ -310,113 +311,131 @@ no_purpose (Some text) none = cc
 some_files : (found : Option (List Text)) (files given : List Text) → found ≡ Some files → found ≡ Some given → given ≡ files
 some_files found files given there gives = let both = sym there ∙ gives in cc
 
-asks : (rows : List Row) (store verdicts moment anchor : Text) (files : List Text) (question : Question)
-    → first_of (codes "purpose") rows ≡ None → first_of (codes "store") rows ≡ Some store → first_of (codes "verdicts") rows ≡ Some verdicts
-    → first_of (codes "at") rows ≡ Some moment → first_of (codes "anchor") rows ≡ Some anchor → all_of (codes "file") rows ≡ Some files
-    → Ask rows question → IsQuestion store verdicts moment anchor files question
-asks rows store verdicts moment anchor files question p s v t a f ask =
-    record {
-      store_is = same_text (first_of (codes "store") rows) store question.store.now s ask.store;
-      verdicts_is = same_text (first_of (codes "verdicts") rows) verdicts question.verdicts.now v ask.verdicts;
-      moment_is = same_text (first_of (codes "at") rows) moment question.moment.now t ask.moment;
-      anchor_is = same_text (first_of (codes "anchor") rows) anchor question.anchor.now a ask.anchor;
-      purpose_is = no_purpose question.purpose (sym ask.purpose ∙ p);
-      files_are = some_files (all_of (codes "file") rows) files _ f ask.files;
-    }
+-- the same rows give the same texts
+same_texts : (one other : QueryTexts) → one.moment ≡ other.moment → one.purpose ≡ other.purpose → one.anchor ≡ other.anchor → one.files ≡ other.files → one ≡ other
+same_texts one other moment purpose anchor files =
+    ap (λ (text : Text). record one { moment = text }) moment
+    ∙ ap (λ (text : Option Text). record one { moment = other.moment; purpose = text }) purpose
+    ∙ ap (λ (text : Text). record other { anchor = text; files = one.files }) anchor
+    ∙ ap (λ (texts : List Text). record other { files = texts }) files
 
-check_means : (entered : Option (Text × List Row)) (rows : List Row) (store verdicts moment anchor : Text) (files : List Text)
-    → ((question : Question) → Ask rows question → IsQuestion store verdicts moment anchor files question)
-    → (line : Line) → entered ≡ Some (codes "check", rows) → IsLineOf entered line → IsCheck store verdicts moment anchor files line
-check_means entered rows store verdicts moment anchor files found (Check asked) is line = found asked (line_in entered (codes "check") rows (Check asked) is line).1
-check_means entered rows store verdicts moment anchor files found (Tree given) is line =
+asks : (rows : List Row) (texts found : QueryTexts) → Ask rows found → Ask rows texts → texts ≡ found
+asks rows texts found there ask =
+    same_texts texts found
+    (same_text (first_of (codes "at") rows) found.moment texts.moment there.moment ask.moment)
+    (sym ask.purpose ∙ there.purpose)
+    (same_text (first_of (codes "anchor") rows) found.anchor texts.anchor there.anchor ask.anchor)
+    (some_files (all_of (codes "file") rows) found.files texts.files there.files ask.files)
+
+-- the rows give these words of `check`
+record IsFound (rows : List Row) (store verdicts : Text) (texts : QueryTexts) : Type 0 where
+  pub store_is : first_of (codes "store") rows ≡ Some store
+  pub verdicts_is : first_of (codes "verdicts") rows ≡ Some verdicts
+  pub asks : Ask rows texts
+
+check_means : (entered : Option (Text × List Row)) (rows : List Row) (store verdicts : Text) (texts : QueryTexts) → IsFound rows store verdicts texts
+    → (line : Line) → entered ≡ Some (codes "check", rows) → IsLineOf entered line → IsCheck store verdicts texts line
+check_means entered rows store verdicts texts found (Check path prints asked) is line =
+    let says = line_in entered (codes "check") rows (Check path prints asked) is line in (
+      same_text (first_of (codes "store") rows) store path.now found.store_is says.1,
+      same_text (first_of (codes "verdicts") rows) verdicts prints.now found.verdicts_is says.2,
+      asks rows _ texts found.asks says.3,
+    )
+check_means entered rows store verdicts texts found (Tree given) is line =
     let letter : 99 ≡ 116 = ap (λ (text : Text). slice_index text 0) (line_in entered (codes "check") rows (Tree given) is line).0 in
     absurd (omega (arith, letter))
-check_means entered rows store verdicts moment anchor files found (Explain words) is line =
+check_means entered rows store verdicts texts found (Explain words) is line =
     let letter : 99 ≡ 101 = ap (λ (text : Text). slice_index text 0) (line_in entered (codes "check") rows (Explain words) is line).0 in
     absurd (omega (arith, letter))
-check_means entered rows store verdicts moment anchor files found (Session path known) is line =
+check_means entered rows store verdicts texts found (Session path known) is line =
     let letter : 99 ≡ 115 = ap (λ (text : Text). slice_index text 0) (line_in entered (codes "check") rows (Session path known) is line).0 in
     absurd (omega (arith, letter))
-check_means entered rows store verdicts moment anchor files found (Show kind details given) is line =
+check_means entered rows store verdicts texts found (Show kind details given) is line =
     let letter : 99 ≡ 115 = ap (λ (text : Text). slice_index text 0) (line_in entered (codes "check") rows (Show kind details given) is line).0 in
     absurd (omega (arith, letter))
-check_means entered rows store verdicts moment anchor files found (Prints signer kind parts given) is line =
+check_means entered rows store verdicts texts found (Prints signer kind parts given) is line =
     let letter : 99 ≡ 112 = ap (λ (text : Text). slice_index text 0) (line_in entered (codes "check") rows (Prints signer kind parts given) is line).0 in
     absurd (omega (arith, letter))
-check_means entered rows store verdicts moment anchor files found (Deliver path prints signer given) is line =
+check_means entered rows store verdicts texts found (Deliver path prints signer given) is line =
     let letter : 99 ≡ 100 = ap (λ (text : Text). slice_index text 0) (line_in entered (codes "check") rows (Deliver path prints signer given) is line).0 in
     absurd (omega (arith, letter))
-check_means entered rows store verdicts moment anchor files found (Compare asked beside) is line =
-    let letter : 104 ≡ 111 = ap (λ (text : Text). slice_index text 1) (line_in entered (codes "check") rows (Compare asked beside) is line).0 in
+check_means entered rows store verdicts texts found (Compare path beside prints asked) is line =
+    let letter : 104 ≡ 111 = ap (λ (text : Text). slice_index text 1) (line_in entered (codes "check") rows (Compare path beside prints asked) is line).0 in
     absurd (omega (arith, letter))
-check_means entered rows store verdicts moment anchor files found (Lists path time) is line =
+check_means entered rows store verdicts texts found (Lists path time) is line =
     let letter : 99 ≡ 108 = ap (λ (text : Text). slice_index text 0) (line_in entered (codes "check") rows (Lists path time) is line).0 in
     absurd (omega (arith, letter))
 
 pub check_known : (name store verdicts moment anchor file : Text) (more : List Text) (r : Result Line Error)
     → IsPlainWord store → IsPlainWord verdicts → IsPlainWord moment → IsPlainWord anchor → All IsPlainWord (file ∷ more) → length more < usize_max
     → IsReadAs (name ∷ codes "check" ∷ check_words store verdicts moment anchor (file ∷ more)) r
-    → MatchResult r (IsCheck store verdicts moment anchor (file ∷ more)) (λ e. kind_of e ≡ OutOfMemory)
+    → MatchResult r (IsCheck store verdicts (record { moment = moment; purpose = None; anchor = anchor; files = file ∷ more })) (λ e. kind_of e ≡ OutOfMemory)
 check_known name store verdicts moment anchor file more r s v t a f few is =
     let enters = entered_check name store verdicts moment anchor file more s v t a f in
     let finds = enters.finds in
-    known (IsCheck store verdicts moment anchor (file ∷ more)) (name ∷ codes "check" ∷ check_words store verdicts moment anchor (file ∷ more)) r
+    known (IsCheck store verdicts (record { moment = moment; purpose = None; anchor = anchor; files = file ∷ more })) (name ∷ codes "check" ∷ check_words store verdicts moment anchor (file ∷ more)) r
     (no_fault_of_check name store verdicts moment anchor file more s v t a f few)
     (λ none. not_lacking of_check enters.rows
     ((store, finds.1.0), ((verdicts, finds.1.1.0), ((moment, finds.1.1.1.0), ((anchor, finds.1.1.1.1.0), ((file, finds.1.1.1.1.1.0), tt)))))
     (none.check enters.rows enters.is))
     (no_kind _ (codes "check") enters.rows enters.is check_takes_no_kind)
-    (λ line. check_means _ enters.rows store verdicts moment anchor (file ∷ more)
-    (λ question. asks enters.rows store verdicts moment anchor (file ∷ more) question finds.0 finds.1.0 finds.1.1.0 finds.1.1.1.0 finds.1.1.1.1.0 enters.files) line enters.is)
+    (λ line. check_means _ enters.rows store verdicts _
+    (record { store_is = finds.1.0; verdicts_is = finds.1.1.0; asks = record { moment = finds.1.1.1.0; purpose = finds.0; anchor = finds.1.1.1.1.0; files = enters.files } })
+    line enters.is)
     is.reads is.refuses
 
 -- `compare`
-compare_means : (entered : Option (Text × List Row)) (rows : List Row) (store verdicts moment anchor other : Text) (files : List Text)
-    → ((question : Question) → Ask rows question → IsQuestion store verdicts moment anchor files question) → first_of (codes "other") rows ≡ Some other
-    → (line : Line) → entered ≡ Some (codes "compare", rows) → IsLineOf entered line → IsCompare store verdicts moment anchor other files line
-compare_means entered rows store verdicts moment anchor other files found there (Compare asked beside) is line =
-    let says = line_in entered (codes "compare") rows (Compare asked beside) is line in
-    (found asked says.1, same_text (first_of (codes "other") rows) other beside.now there says.2)
-compare_means entered rows store verdicts moment anchor other files found there (Tree given) is line =
+compare_means : (entered : Option (Text × List Row)) (rows : List Row) (store verdicts : Text) (texts : QueryTexts) (other : Text)
+    → IsFound rows store verdicts texts × (first_of (codes "other") rows ≡ Some other)
+    → (line : Line) → entered ≡ Some (codes "compare", rows) → IsLineOf entered line → IsCompare store verdicts texts other line
+compare_means entered rows store verdicts texts other found (Compare path beside prints asked) is line =
+    let says = line_in entered (codes "compare") rows (Compare path beside prints asked) is line in (
+      same_text (first_of (codes "store") rows) store path.now found.0.store_is says.1,
+      same_text (first_of (codes "other") rows) other beside.now found.1 says.2,
+      same_text (first_of (codes "verdicts") rows) verdicts prints.now found.0.verdicts_is says.3,
+      asks rows _ texts found.0.asks says.4,
+    )
+compare_means entered rows store verdicts texts other found (Tree given) is line =
     let letter : 99 ≡ 116 = ap (λ (text : Text). slice_index text 0) (line_in entered (codes "compare") rows (Tree given) is line).0 in
     absurd (omega (arith, letter))
-compare_means entered rows store verdicts moment anchor other files found there (Explain words) is line =
+compare_means entered rows store verdicts texts other found (Explain words) is line =
     let letter : 99 ≡ 101 = ap (λ (text : Text). slice_index text 0) (line_in entered (codes "compare") rows (Explain words) is line).0 in
     absurd (omega (arith, letter))
-compare_means entered rows store verdicts moment anchor other files found there (Session path known) is line =
+compare_means entered rows store verdicts texts other found (Session path known) is line =
     let letter : 99 ≡ 115 = ap (λ (text : Text). slice_index text 0) (line_in entered (codes "compare") rows (Session path known) is line).0 in
     absurd (omega (arith, letter))
-compare_means entered rows store verdicts moment anchor other files found there (Show kind details given) is line =
+compare_means entered rows store verdicts texts other found (Show kind details given) is line =
     let letter : 99 ≡ 115 = ap (λ (text : Text). slice_index text 0) (line_in entered (codes "compare") rows (Show kind details given) is line).0 in
     absurd (omega (arith, letter))
-compare_means entered rows store verdicts moment anchor other files found there (Prints signer kind parts given) is line =
+compare_means entered rows store verdicts texts other found (Prints signer kind parts given) is line =
     let letter : 99 ≡ 112 = ap (λ (text : Text). slice_index text 0) (line_in entered (codes "compare") rows (Prints signer kind parts given) is line).0 in
     absurd (omega (arith, letter))
-compare_means entered rows store verdicts moment anchor other files found there (Deliver path prints signer given) is line =
+compare_means entered rows store verdicts texts other found (Deliver path prints signer given) is line =
     let letter : 99 ≡ 100 = ap (λ (text : Text). slice_index text 0) (line_in entered (codes "compare") rows (Deliver path prints signer given) is line).0 in
     absurd (omega (arith, letter))
-compare_means entered rows store verdicts moment anchor other files found there (Check asked) is line =
-    let letter : 111 ≡ 104 = ap (λ (text : Text). slice_index text 1) (line_in entered (codes "compare") rows (Check asked) is line).0 in
+compare_means entered rows store verdicts texts other found (Check path prints asked) is line =
+    let letter : 111 ≡ 104 = ap (λ (text : Text). slice_index text 1) (line_in entered (codes "compare") rows (Check path prints asked) is line).0 in
     absurd (omega (arith, letter))
-compare_means entered rows store verdicts moment anchor other files found there (Lists path time) is line =
+compare_means entered rows store verdicts texts other found (Lists path time) is line =
     let letter : 99 ≡ 108 = ap (λ (text : Text). slice_index text 0) (line_in entered (codes "compare") rows (Lists path time) is line).0 in
     absurd (omega (arith, letter))
 
 pub compare_known : (name store verdicts moment anchor other file : Text) (more : List Text) (r : Result Line Error)
     → IsPlainWord store → IsPlainWord verdicts → IsPlainWord moment → IsPlainWord anchor → IsPlainWord other → All IsPlainWord (file ∷ more) → length more < usize_max
     → IsReadAs (name ∷ codes "compare" ∷ compare_words store verdicts moment anchor other (file ∷ more)) r
-    → MatchResult r (IsCompare store verdicts moment anchor other (file ∷ more)) (λ e. kind_of e ≡ OutOfMemory)
+    → MatchResult r (IsCompare store verdicts (record { moment = moment; purpose = None; anchor = anchor; files = file ∷ more }) other) (λ e. kind_of e ≡ OutOfMemory)
 compare_known name store verdicts moment anchor other file more r s v t a o f few is =
     let enters = entered_compare name store verdicts moment anchor other file more s v t a o f in
     let finds = enters.finds in
-    known (IsCompare store verdicts moment anchor other (file ∷ more)) (name ∷ codes "compare" ∷ compare_words store verdicts moment anchor other (file ∷ more)) r
+    known (IsCompare store verdicts (record { moment = moment; purpose = None; anchor = anchor; files = file ∷ more }) other) (name ∷ codes "compare" ∷ compare_words store verdicts moment anchor other (file ∷ more)) r
     (no_fault_of_compare name store verdicts moment anchor other file more s v t a o f few)
     (λ none. not_lacking of_compare enters.rows
-    ((other, finds.1.1.1.1.1.0), ((store, finds.1.0), ((verdicts, finds.1.1.0), ((moment, finds.1.1.1.0), ((anchor, finds.1.1.1.1.0), ((file, finds.1.1.1.1.1.1.0), tt))))))
+    ((store, finds.1.0), ((other, finds.1.1.1.1.1.0), ((verdicts, finds.1.1.0), ((moment, finds.1.1.1.0), ((anchor, finds.1.1.1.1.0), ((file, finds.1.1.1.1.1.1.0), tt))))))
     (none.compare enters.rows enters.is))
     (no_kind _ (codes "compare") enters.rows enters.is compare_takes_no_kind)
-    (λ line. compare_means _ enters.rows store verdicts moment anchor other (file ∷ more)
-    (λ question. asks enters.rows store verdicts moment anchor (file ∷ more) question finds.0 finds.1.0 finds.1.1.0 finds.1.1.1.0 finds.1.1.1.1.0 enters.files) finds.1.1.1.1.1.0 line enters.is)
+    (λ line. compare_means _ enters.rows store verdicts _ other
+    (record { store_is = finds.1.0; verdicts_is = finds.1.1.0; asks = record { moment = finds.1.1.1.0; purpose = finds.0; anchor = finds.1.1.1.1.0; files = enters.files } }, finds.1.1.1.1.1.0)
+    line enters.is)
     is.reads is.refuses
 
 -- `explain`
@@ -443,14 +462,14 @@ explain_means entered rows word found (Prints signer kind parts given) is line =
 explain_means entered rows word found (Deliver path prints signer given) is line =
     let letter : 101 ≡ 100 = ap (λ (text : Text). slice_index text 0) (line_in entered (codes "explain") rows (Deliver path prints signer given) is line).0 in
     absurd (omega (arith, letter))
-explain_means entered rows word found (Check asked) is line =
-    let letter : 101 ≡ 99 = ap (λ (text : Text). slice_index text 0) (line_in entered (codes "explain") rows (Check asked) is line).0 in
+explain_means entered rows word found (Check path prints asked) is line =
+    let letter : 101 ≡ 99 = ap (λ (text : Text). slice_index text 0) (line_in entered (codes "explain") rows (Check path prints asked) is line).0 in
     absurd (omega (arith, letter))
 explain_means entered rows word found (Session path known) is line =
     let letter : 101 ≡ 115 = ap (λ (text : Text). slice_index text 0) (line_in entered (codes "explain") rows (Session path known) is line).0 in
     absurd (omega (arith, letter))
-explain_means entered rows word found (Compare asked beside) is line =
-    let letter : 101 ≡ 99 = ap (λ (text : Text). slice_index text 0) (line_in entered (codes "explain") rows (Compare asked beside) is line).0 in
+explain_means entered rows word found (Compare path beside prints asked) is line =
+    let letter : 101 ≡ 99 = ap (λ (text : Text). slice_index text 0) (line_in entered (codes "explain") rows (Compare path beside prints asked) is line).0 in
     absurd (omega (arith, letter))
 explain_means entered rows word found (Lists path time) is line =
     let letter : 101 ≡ 108 = ap (λ (text : Text). slice_index text 0) (line_in entered (codes "explain") rows (Lists path time) is line).0 in
@@ -490,11 +509,11 @@ session_means entered rows store finds (Prints signer kind parts given) is line 
 session_means entered rows store finds (Deliver path prints signer given) is line =
     let letter : 115 ≡ 100 = ap (λ (text : Text). slice_index text 0) (line_in entered (codes "session") rows (Deliver path prints signer given) is line).0 in
     absurd (omega (arith, letter))
-session_means entered rows store finds (Check asked) is line =
-    let letter : 115 ≡ 99 = ap (λ (text : Text). slice_index text 0) (line_in entered (codes "session") rows (Check asked) is line).0 in
+session_means entered rows store finds (Check path prints asked) is line =
+    let letter : 115 ≡ 99 = ap (λ (text : Text). slice_index text 0) (line_in entered (codes "session") rows (Check path prints asked) is line).0 in
     absurd (omega (arith, letter))
-session_means entered rows store finds (Compare asked beside) is line =
-    let letter : 115 ≡ 99 = ap (λ (text : Text). slice_index text 0) (line_in entered (codes "session") rows (Compare asked beside) is line).0 in
+session_means entered rows store finds (Compare path beside prints asked) is line =
+    let letter : 115 ≡ 99 = ap (λ (text : Text). slice_index text 0) (line_in entered (codes "session") rows (Compare path beside prints asked) is line).0 in
     absurd (omega (arith, letter))
 session_means entered rows store finds (Explain words) is line =
     let letter : 115 ≡ 101 = ap (λ (text : Text). slice_index text 0) (line_in entered (codes "session") rows (Explain words) is line).0 in
@@ -539,11 +558,11 @@ list_line entered rows P means (Prints signer kind parts given) is line =
 list_line entered rows P means (Deliver path prints signer given) is line =
     let letter : 108 ≡ 100 = ap (λ (text : Text). slice_index text 0) (line_in entered (codes "list") rows (Deliver path prints signer given) is line).0 in
     absurd (omega (arith, letter))
-list_line entered rows P means (Check asked) is line =
-    let letter : 108 ≡ 99 = ap (λ (text : Text). slice_index text 0) (line_in entered (codes "list") rows (Check asked) is line).0 in
+list_line entered rows P means (Check path prints asked) is line =
+    let letter : 108 ≡ 99 = ap (λ (text : Text). slice_index text 0) (line_in entered (codes "list") rows (Check path prints asked) is line).0 in
     absurd (omega (arith, letter))
-list_line entered rows P means (Compare asked beside) is line =
-    let letter : 108 ≡ 99 = ap (λ (text : Text). slice_index text 0) (line_in entered (codes "list") rows (Compare asked beside) is line).0 in
+list_line entered rows P means (Compare path beside prints asked) is line =
+    let letter : 108 ≡ 99 = ap (λ (text : Text). slice_index text 0) (line_in entered (codes "list") rows (Compare path beside prints asked) is line).0 in
     absurd (omega (arith, letter))
 list_line entered rows P means (Explain words) is line =
     let letter : 108 ≡ 101 = ap (λ (text : Text). slice_index text 0) (line_in entered (codes "list") rows (Explain words) is line).0 in

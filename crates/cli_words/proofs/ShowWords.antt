@@ -4,7 +4,7 @@ use Rattle.clap.specs.Words.{Text, fault_of, first_of, subcommand_of}
 use Rattle.clap.specs.Walk.{rows_after}
 use Rattle.clap.proofs.OnLiterals.{clap_on_literals}
 use Rattle.cli_words.specs.App.{program}
-use Rattle.cli_words.specs.CommandLine.{IsPlainWord}
+use Rattle.cli_words.specs.PlainLine.{IsPlainWord}
 use Rattle.cli_words.proofs.Turns.{Enters, Finds, is_other, shape_of}
 
 no_fault_at : (name xs : Text) (x : ℕ) → (x == 45) ≡ false → fault_of program (name ∷ codes "show" ∷ (x ∷ xs) ∷ []) ≡ []

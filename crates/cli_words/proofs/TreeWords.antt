@@ -4,7 +4,7 @@ use Rattle.clap.specs.Words.{Text, fault_of, first_of, subcommand_of, is_simple,
 use Rattle.clap.specs.Walk.{rows_after}
 use Rattle.clap.proofs.OnLiterals.{clap_on_literals}
 use Rattle.cli_words.specs.App.{program}
-use Rattle.cli_words.specs.CommandLine.{IsPlainWord}
+use Rattle.cli_words.specs.PlainLine.{IsPlainWord}
 use Rattle.cli_words.proofs.Turns.{Enters, is_other, shape_of}
 
 -- the program's command is one of which clap gives the matches

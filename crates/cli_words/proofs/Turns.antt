@@ -11,7 +11,7 @@ use Rattle.clap.specs.Simple.{Shape, built, entered, label_of}
 use Rattle.clap.specs.Walk.{Names, Walk, answers_to, arg_by_id, finished, idle, most_values, nothing_held, option, rows_after, settled, walk_from, walked}
 use Rattle.clap.proofs.OnLiterals.{clap_on_literals}
 use Rattle.cli_words.specs.App.{program}
-use Rattle.cli_words.specs.CommandLine.{IsPlainWord}
+use Rattle.cli_words.specs.PlainLine.{IsPlainWord}
 
 -- a letter that is no hyphen
 pub is_other : (x : ℕ) → x ≢ 45 → (x == 45) ≡ false

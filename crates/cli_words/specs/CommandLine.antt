@@ -1,5 +1,5 @@
 -- What a line is, by the matches that clap's definition of a simple command gives for the words.
-use Rattle.std.specs.Prelude.{◌≡◌, ◌≢◌, ◌⊎◌, [], ◌∷◌, Bool, false, List, Option, Some, None, codes, map, option_map, slice_index, if◌then◌else◌}
+use Rattle.std.specs.Prelude.{◌≡◌, ◌⊎◌, [], ◌∷◌, Bool, false, List, Option, Some, None, codes, map, option_map, if◌then◌else◌}
 use Rattle.std.specs.Str.{bytes_eq}
 use Rattle.std.specs.Borrow.{Bor}
 use Rattle.clap.specs.Words.{IsAmong, Row, Text, all_of, fault_of, first_of, subcommand_of}
@@ -8,7 +8,7 @@ use Rattle.clap.specs.declared.error.kind.ErrorKind.TheVariants.{InvalidValue, M
 use Rattle.cli_words.specs.App.{program}
 use Rattle.cli_words.specs.declared.line.Line.{Line}
 use Rattle.cli_words.specs.declared.line.Line.TheVariants.{Tree, Show, Prints, Deliver, Check, Compare, Explain, Session, List as Lists}
-use Rattle.cli_words.specs.declared.question.Question.{Question}
+use Rattle.cli_words.specs.QueryTexts.{QueryTexts, seen_words}
 use Rattle.cli_words.specs.declared.line.Kind.{Kind}
 use Rattle.cli_words.specs.declared.line.Kind.TheVariants.{Certificate, RevocationList, Response}
 use Rattle.cli_words.specs.declared.line.Flaw.{Flaw}
@@ -39,13 +39,11 @@ abbrev pub flag_in : List Row → Text → Bool
 flag_in rows id = is_set (first_of id rows)
 
 -- the rows have what is asked of a path
-pub record Ask (rows : List Row) (question : Question) : Type 0 where
-  pub store : GivesText rows (codes "store") question.store
-  pub verdicts : GivesText rows (codes "verdicts") question.verdicts
-  pub moment : GivesText rows (codes "at") question.moment
-  pub anchor : GivesText rows (codes "anchor") question.anchor
-  pub purpose : first_of (codes "purpose") rows ≡ option_map (λ s. s.now) question.purpose
-  pub files : all_of (codes "file") rows ≡ Some (map (λ s. s.now) question.files.items)
+pub record Ask (rows : List Row) (texts : QueryTexts) : Type 0 where
+  pub moment : first_of (codes "at") rows ≡ Some texts.moment
+  pub purpose : first_of (codes "purpose") rows ≡ texts.purpose
+  pub anchor : first_of (codes "anchor") rows ≡ Some texts.anchor
+  pub files : all_of (codes "file") rows ≡ Some texts.files
 
 -- the words of an argument that may be left out
 abbrev pub words_in : Option (List Text) → List Text
@@ -65,9 +63,13 @@ IsLine (name, rows) (Deliver store verdicts issuer file) =
     (name ≡ codes "deliver") × GivesText rows (codes "store") store
     × GivesText rows (codes "verdicts") verdicts × GivesText rows (codes "issuer") issuer
     × GivesText rows (codes "file") file
-IsLine (name, rows) (Check question) = (name ≡ codes "check") × Ask rows question
-IsLine (name, rows) (Compare question other) =
-    (name ≡ codes "compare") × Ask rows question × GivesText rows (codes "other") other
+IsLine (name, rows) (Check store verdicts query) =
+    (name ≡ codes "check") × GivesText rows (codes "store") store
+    × GivesText rows (codes "verdicts") verdicts × Ask rows (seen_words query)
+IsLine (name, rows) (Compare store other verdicts query) =
+    (name ≡ codes "compare") × GivesText rows (codes "store") store
+    × GivesText rows (codes "other") other × GivesText rows (codes "verdicts") verdicts
+    × Ask rows (seen_words query)
 IsLine (name, rows) (Explain words) =
     (name ≡ codes "explain")
     × (map (λ s. s.now) words.items ≡ words_in (all_of (codes "topic") rows))
@@ -97,12 +99,14 @@ of_prints = codes "issuer" ∷ codes "file" ∷ []
 abbrev pub of_deliver : List Text
 of_deliver = codes "store" ∷ codes "verdicts" ∷ codes "issuer" ∷ codes "file" ∷ []
 
+abbrev pub of_query : List Text
+of_query = codes "at" ∷ codes "anchor" ∷ codes "file" ∷ []
+
 abbrev pub of_check : List Text
-of_check =
-    codes "store" ∷ codes "verdicts" ∷ codes "at" ∷ codes "anchor" ∷ codes "file" ∷ []
+of_check = codes "store" ∷ codes "verdicts" ∷ of_query
 
 abbrev pub of_compare : List Text
-of_compare = codes "other" ∷ of_check
+of_compare = codes "store" ∷ codes "other" ∷ codes "verdicts" ∷ of_query
 
 abbrev pub of_store : List Text
 of_store = codes "store" ∷ []
@@ -176,72 +180,3 @@ abbrev pub IsErrorOf : Flaw → ErrorKind → Type 0
 IsErrorOf ArgumentMissing kind = kind ≡ MissingRequiredArgument
 IsErrorOf OtherKind kind = kind ≡ InvalidValue
 IsErrorOf NoMemory kind = ⊥
-
--- a word that is no option: it does not begin with a hyphen
-abbrev pub IsPlainWord : Text → Type 0
-IsPlainWord word = slice_index word 0 ≢ 45
-
--- `tree FILE`
-abbrev pub IsTree : Text → Line → Type 0
-IsTree text (Tree file) = file.now ≡ text
-IsTree text _ = ⊥
-
--- `show FILE`, of a certificate, without details
-abbrev pub IsShow : Text → Line → Type 0
-IsShow text (Show kind with_details file) =
-    (kind ≡ Certificate) × (with_details ≡ false) × (file.now ≡ text)
-IsShow text _ = ⊥
-
--- `prints --issuer ISSUER FILE`, of a certificate, without parts
-abbrev pub IsPrints : Text → Text → Line → Type 0
-IsPrints signer text (Prints issuer kind with_parts file) =
-    (issuer.now ≡ signer) × (kind ≡ Certificate) × (with_parts ≡ false) × (file.now ≡ text)
-IsPrints signer text _ = ⊥
-
--- `deliver --store STORE --verdicts VERDICTS --issuer ISSUER FILE`
-abbrev pub IsDeliver : Text → Text → Text → Text → Line → Type 0
-IsDeliver path prints signer text (Deliver store verdicts issuer file) =
-    (store.now ≡ path) × (verdicts.now ≡ prints) × (issuer.now ≡ signer) × (file.now ≡ text)
-IsDeliver path prints signer text _ = ⊥
-
--- what is asked of a path by these words, without a purpose
-pub record IsQuestion (store verdicts moment anchor : Text) (files : List Text) (question : Question) : Type 0 where
-  pub store_is : question.store.now ≡ store
-  pub verdicts_is : question.verdicts.now ≡ verdicts
-  pub moment_is : question.moment.now ≡ moment
-  pub anchor_is : question.anchor.now ≡ anchor
-  pub purpose_is : question.purpose ≡ None
-  pub files_are : map (λ s. s.now) question.files.items ≡ files
-
--- `check --store STORE --verdicts VERDICTS --at TIME --anchor ANCHOR FILE...`
-abbrev pub IsCheck : Text → Text → Text → Text → List Text → Line → Type 0
-IsCheck store verdicts moment anchor files (Check question) =
-    IsQuestion store verdicts moment anchor files question
-IsCheck store verdicts moment anchor files _ = ⊥
-
--- `compare --store STORE --verdicts VERDICTS --at TIME --anchor ANCHOR --other STORE FILE...`
-abbrev pub IsCompare : Text → Text → Text → Text → Text → List Text → Line → Type 0
-IsCompare store verdicts moment anchor beside files (Compare question other) =
-    IsQuestion store verdicts moment anchor files question × (other.now ≡ beside)
-IsCompare store verdicts moment anchor beside files _ = ⊥
-
--- `explain WORD`
-abbrev pub IsExplain : Text → Line → Type 0
-IsExplain word (Explain words) = map (λ s. s.now) words.items ≡ word ∷ []
-IsExplain word _ = ⊥
-
--- `session --store STORE`
-abbrev pub IsSession : Text → Line → Type 0
-IsSession path (Session store verdicts) = (store.now ≡ path) × (verdicts ≡ None)
-IsSession path _ = ⊥
-
--- `list --store STORE`
-abbrev pub IsList : Text → Line → Type 0
-IsList path (Lists store moment) = (store.now ≡ path) × (moment ≡ None)
-IsList path _ = ⊥
-
--- `list --store STORE --at TIME`
-abbrev pub IsListAt : Text → Text → Line → Type 0
-IsListAt path time (Lists store moment) =
-    (store.now ≡ path) × (option_map (λ s. s.now) moment ≡ Some time)
-IsListAt path time _ = ⊥

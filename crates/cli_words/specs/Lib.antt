@@ -1,3 +1,5 @@
 pub mod App
+pub mod QueryTexts
 pub mod CommandLine
+pub mod PlainLine
 pub mod RunOptions

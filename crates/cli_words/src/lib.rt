@@ -5,9 +5,9 @@ mod app;
 mod building;
 mod leading;
 mod line;
-mod question;
+mod query;
 mod topic;
 
 pub use leading::{RunOptions, RunWords, run_options};
 pub use line::{Kind, Line, command_of};
-pub use question::Question;
+pub use query::QueryWords;

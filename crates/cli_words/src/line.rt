@@ -1,14 +1,14 @@
 //! What a command line asks for.
-ghost use Rattle.std.specs.Prelude.{◌≡◌, ◌<◌, ◌^◌, ◌⊎◌, [], ◌∷◌, List, IfErr, IfOk, MatchResult, codes, length, map, option_map};
-ghost use Rattle.std.specs.List.{All};
+ghost use Rattle.std.specs.Prelude.{◌≡◌, ◌<◌, ◌^◌, ◌⊎◌, ◌∷◌, IfErr, IfOk, MatchResult, codes, length, map, option_map};
 ghost use Rattle.clap.specs.Words.{Text, app_of, first_of, found_of, kind_of, rows_of, subcommand_rows_of};
 ghost use Rattle.clap.specs.declared.error.kind.ErrorKind.TheVariants.{OutOfMemory};
 ghost use Rattle.cli_words.specs.declared.line.Flaw.TheVariants.{NoMemory, OtherKind};
 ghost use Rattle.cli_words.specs.App.{program as program_app};
-ghost use Rattle.cli_words.specs.CommandLine.{AreRefusedWith, HasFlaw, IsCheck, IsCompare, IsDeliver, IsErrorOf, IsExplain, IsFlaw, IsFlawOfQuestion, IsLack, IsLine, IsLineOf, IsList, IsListAt, IsPlainWord, IsPrints, IsRefusedWith, IsSession, IsShow, IsTree, Reads, flag_in, kind_in_rows, kind_named, of_check, of_compare, of_deliver, of_file, of_prints, of_store};
+ghost use Rattle.cli_words.specs.CommandLine.{AreRefusedWith, HasFlaw, IsErrorOf, IsFlaw, IsFlawOfQuestion, IsLack, IsLine, IsLineOf, IsRefusedWith, Reads, flag_in, kind_in_rows, kind_named, of_check, of_compare, of_deliver, of_file, of_prints, of_store};
+ghost use Rattle.cli_words.specs.PlainLine.{IsOutOfMemory, PlainLine, Says, plain_words};
 
 use crate::app::program;
-use crate::question::{Question, asked};
+use crate::query::{QueryWords, asked};
 use crate::topic::topic_words;
 use clap::error::ErrorKind;
 use clap::{ArgMatches, Command, Error};
@@ -56,12 +56,18 @@ pub enum Line<'a> {
         issuer: &'a str,
         file: &'a str,
     },
-    /// Print the verdict on a path.
-    Check(Question<'a>),
+    /// Print the verdict on a path, by what the store holds. A signature is good if its fingerprint is among the verdicts.
+    Check {
+        store: &'a str,
+        verdicts: &'a str,
+        query: QueryWords<'a>,
+    },
     /// Print whether the other store gives the same verdict.
     Compare {
-        question: Question<'a>,
+        store: &'a str,
         other: &'a str,
+        verdicts: &'a str,
+        query: QueryWords<'a>,
     },
     /// Print what the fault, reason or status of these words means; all of them if there is no word.
     Explain {
@@ -191,18 +197,33 @@ fn check_line<'a>(alloc: Global, matches: &ArgMatches<'a>) -> Result<Line<'a>, F
     ensures line { IfOk result (IsLine (codes "check", rows_of (found_of matches.now))) }
     ensures flaw { IfErr result (IsFlawOfQuestion of_check (rows_of (found_of matches.now))) }
 {
-    Ok(Line::Check(asked(alloc, matches)?))
+    let (Some(store), Some(verdicts)) = (text(matches, "store"), text(matches, "verdicts")) else {
+        return Err(Flaw::ArgumentMissing);
+    };
+    Ok(Line::Check {
+        store,
+        verdicts,
+        query: asked(alloc, matches)?,
+    })
 }
 
 fn compare_line<'a>(alloc: Global, matches: &ArgMatches<'a>) -> Result<Line<'a>, Flaw>
     ensures line { IfOk result (IsLine (codes "compare", rows_of (found_of matches.now))) }
     ensures flaw { IfErr result (IsFlawOfQuestion of_compare (rows_of (found_of matches.now))) }
 {
-    let question = asked(alloc, matches)?;
-    match text(matches, "other") {
-        Some(other) => Ok(Line::Compare { question, other }),
-        None => Err(Flaw::ArgumentMissing),
-    }
+    let (Some(store), Some(other), Some(verdicts)) = (
+        text(matches, "store"),
+        text(matches, "other"),
+        text(matches, "verdicts"),
+    ) else {
+        return Err(Flaw::ArgumentMissing);
+    };
+    Ok(Line::Compare {
+        store,
+        other,
+        verdicts,
+        query: asked(alloc, matches)?,
+    })
 }
 
 fn explain_line<'a>(alloc: Global, matches: &ArgMatches<'a>) -> Result<Line<'a>, Flaw>
@@ -335,55 +356,9 @@ fn line_of_words<'a>(alloc: Global, words: &'a [&'a str]) -> Result<Line<'a>, Er
 /// command line: an error has clap's text, and for help `use_stderr()` of it is false.
 pub fn command_of<'a>(alloc: Global, words: &'a [&'a str]) -> Result<Line<'a>, Error>
     ensures reads { IfOk result (Reads (map (λ w. w.now) words.entry.now)) }
-    ensures tree { (name file : Text)
-        → map (λ w. w.now) words.entry.now ≡ name ∷ codes "tree" ∷ file ∷ []
-        → IsPlainWord file → MatchResult result (IsTree file) (λ e. kind_of e ≡ OutOfMemory) }
-    ensures show { (name file : Text)
-        → map (λ w. w.now) words.entry.now ≡ name ∷ codes "show" ∷ file ∷ []
-        → IsPlainWord file → MatchResult result (IsShow file) (λ e. kind_of e ≡ OutOfMemory) }
-    ensures prints { (name issuer file : Text)
-        → map (λ w. w.now) words.entry.now
-        ≡ name ∷ codes "prints" ∷ codes "--issuer" ∷ issuer ∷ file ∷ []
-        → IsPlainWord issuer → IsPlainWord file
-        → MatchResult result (IsPrints issuer file) (λ e. kind_of e ≡ OutOfMemory) }
-    ensures deliver { (name store verdicts issuer file : Text)
-        → map (λ w. w.now) words.entry.now
-        ≡ name ∷ codes "deliver" ∷ codes "--store" ∷ store ∷ codes "--verdicts" ∷ verdicts
-        ∷ codes "--issuer" ∷ issuer ∷ file ∷ []
-        → IsPlainWord store → IsPlainWord verdicts → IsPlainWord issuer → IsPlainWord file
-        → MatchResult result (IsDeliver store verdicts issuer file)
-        (λ e. kind_of e ≡ OutOfMemory) }
-    ensures check { (name store verdicts moment anchor file : Text) (more : List Text)
-        → map (λ w. w.now) words.entry.now
-        ≡ name ∷ codes "check" ∷ codes "--store" ∷ store ∷ codes "--verdicts" ∷ verdicts
-        ∷ codes "--at" ∷ moment ∷ codes "--anchor" ∷ anchor ∷ file ∷ more
-        → IsPlainWord store → IsPlainWord verdicts → IsPlainWord moment → IsPlainWord anchor
-        → All IsPlainWord (file ∷ more)
-        → MatchResult result (IsCheck store verdicts moment anchor (file ∷ more))
-        (λ e. kind_of e ≡ OutOfMemory) }
-    ensures compare { (name store verdicts moment anchor other file : Text) (more : List Text)
-        → map (λ w. w.now) words.entry.now
-        ≡ name ∷ codes "compare" ∷ codes "--store" ∷ store ∷ codes "--verdicts" ∷ verdicts
-        ∷ codes "--at" ∷ moment ∷ codes "--anchor" ∷ anchor ∷ codes "--other" ∷ other ∷ file ∷ more
-        → IsPlainWord store → IsPlainWord verdicts → IsPlainWord moment → IsPlainWord anchor
-        → IsPlainWord other → All IsPlainWord (file ∷ more)
-        → MatchResult result (IsCompare store verdicts moment anchor other (file ∷ more))
-        (λ e. kind_of e ≡ OutOfMemory) }
-    ensures explain { (name word : Text)
-        → map (λ w. w.now) words.entry.now ≡ name ∷ codes "explain" ∷ word ∷ []
-        → IsPlainWord word → MatchResult result (IsExplain word) (λ e. kind_of e ≡ OutOfMemory) }
-    ensures session { (name store : Text)
-        → map (λ w. w.now) words.entry.now
-        ≡ name ∷ codes "session" ∷ codes "--store" ∷ store ∷ []
-        → IsPlainWord store → MatchResult result (IsSession store) (λ e. kind_of e ≡ OutOfMemory) }
-    ensures list { (name store : Text)
-        → map (λ w. w.now) words.entry.now ≡ name ∷ codes "list" ∷ codes "--store" ∷ store ∷ []
-        → IsPlainWord store → MatchResult result (IsList store) (λ e. kind_of e ≡ OutOfMemory) }
-    ensures list_at { (name store moment : Text)
-        → map (λ w. w.now) words.entry.now
-        ≡ name ∷ codes "list" ∷ codes "--store" ∷ store ∷ codes "--at" ∷ moment ∷ []
-        → IsPlainWord store → IsPlainWord moment
-        → MatchResult result (IsListAt store moment) (λ e. kind_of e ≡ OutOfMemory) }
+    ensures plain { (name : Text) (line : PlainLine)
+        → map (λ w. w.now) words.entry.now ≡ name ∷ plain_words line
+        → MatchResult result (Says line) IsOutOfMemory }
     ensures refuses { IfErr result (λ e. (kind_of e ≡ OutOfMemory)
         ⊎ AreRefusedWith (map (λ w. w.now) words.entry.now) (kind_of e)) }
 {

@@ -42,45 +42,34 @@ module _ (stores : List Kept) (path : List ℕ) where
   holds_if has old (inr (inr (empty, (rows, at, held, intact), lacks), is)) = absurd (no_store empty.now (after_these empty_holdings rows) held (lacks intact))
 
 pub checks : ChecksByTexts
-checks texts stores question verdict it =
-    let path = question.store.now in
-    let old = it.checked.0 in
-    let found = it.checked.1 in
-    let looks = it.checked.2 in record {
+checks texts stores store verdicts words verdict it =
+    let by = it.checked in record {
       accepts = it.accepts;
       query = it.query;
       asked = it.asked;
-      stands = stands stores path old found;
-      is = looks.2 looks.1 (held_at stores path) (holds stores path old found);
+      stands = stands stores store by.old by.found;
+      is = by.is by.left (held_at stores store) (holds stores store by.old by.found);
     }
 
 pub compares : ComparesByTexts
-compares texts stores question other comparison it =
-    let path = question.store.now in
-    let old = it.compared.0 in
-    let other_old = it.compared.1 in
-    let found = it.compared.2 in
-    let other_found = it.compared.3 in
-    let looks = it.compared.4 in record {
+compares texts stores pair verdicts words comparison it =
+    let by = it.compared in
+    let path = pair.store.now in
+    let other = pair.other.now in record {
       accepts = it.accepts;
       query = it.query;
       asked = it.asked;
-      stands = stands stores path old found;
-      other_stands = stands stores other other_old other_found;
-      is = looks.4 looks.2 looks.3 (held_at stores path) (held_at stores other) (holds stores path old found) (holds stores other other_old other_found);
+      stands = stands stores path by.old by.found;
+      other_stands = stands stores other by.other_old by.other_found;
+      is = by.is by.left by.other_left (held_at stores path) (held_at stores other) (holds stores path by.old by.found) (holds stores other by.other_old by.other_found);
     }
 
 pub delivers : DeliversByTexts
-delivers texts stores words counts (prints, accepts, verdicts, believed, (issuer, issued, (statement, text, (facts, said, (old, found, (new, left, takes)))))) = record {
-  prints = prints;
-  accepts = accepts;
-  verdicts = verdicts;
-  believed = believed;
-  issuer = issuer;
-  issued = issued;
-  statement = statement;
-  text = text;
-  facts = facts;
-  said = said;
-  counted = λ has. (takes left (held_at stores words.store.now) (holds_if stores words.store.now has old found)).1;
-}
+delivers texts stores words counts it =
+    let by = it.taken in record {
+      accepts = it.accepts;
+      believes = it.believes;
+      facts = it.facts;
+      says = it.says;
+      counted = λ has. (by.taken by.left (held_at stores words.store.now) (holds_if stores words.store.now has by.old by.found)).1;
+    }

@@ -8,10 +8,11 @@ ghost use Rattle.statements_facts.specs.Statement.{Holdings, empty_holdings};
 ghost use Rattle.store_adoption.specs.Creates.{IsSettled};
 ghost use Rattle.store_maps.specs.Held.{IsStoreOf};
 ghost use Rattle.store_sql.specs.Statements.{IsDurable};
-ghost use Rattle.cli_store.specs.Standing.{told_of};
 ghost use Rattle.test_program.specs.Shelves.{after_these, octets_under, statements_at};
 
 use cli::{Extent, Failure, Source, Stores};
+use cli_store::failed;
+use relying::Fault;
 use sqlite::{Connection, FileStore, Files, Options};
 use sqlite_disk::{Fuse, Memory};
 use statements_facts::Facts;
@@ -203,18 +204,6 @@ fn standing(medium: Medium, rows: &[Facts<'_>]) -> Result<Store<Disks>, StoreFau
     reopened(medium.alloc, store)
 }
 
-// What a store's fault is for a run.
-fn failed<'a>(fault: StoreFault) -> Failure<'a>
-    ensures { result ≡ told_of fault }
-{
-    match fault {
-        StoreFault::Memory => Failure::NoMemory,
-        StoreFault::Store | StoreFault::Schema => Failure::StoreFailed {
-            number: fault.number(),
-        },
-    }
-}
-
 impl Source for Shelf<'_> {
     ghost use Rattle.test_program.specs.Shelves.{holding_in};
 
@@ -243,7 +232,7 @@ impl Stores<Store<Disks>> for Shelf<'_> {
         };
         match standing(self.medium, rows) {
             Ok(store) => Ok(store),
-            Err(fault) => Err(failed(fault)),
+            Err(fault) => Err(failed(Fault::Store(fault))),
         }
     }
 
@@ -251,11 +240,11 @@ impl Stores<Store<Disks>> for Shelf<'_> {
         match rows_of(self.stores.as_slice(), path) {
             Some(rows) => match standing(self.medium, rows) {
                 Ok(store) => Ok(store),
-                Err(fault) => Err(failed(fault)),
+                Err(fault) => Err(failed(Fault::Store(fault))),
             },
             None => match made(self.medium) {
                 Ok(store) => Ok(store),
-                Err(fault) => Err(failed(fault)),
+                Err(fault) => Err(failed(Fault::Store(fault))),
             },
         }
     }

@@ -1,10 +1,9 @@
 //! A keeper that answers as it was told, files that are not there, and sessions over both.
 
 use cli_failures::{Extent, Failure, Source};
-use cli_keeping::{Keeper, KeeperFault};
 use cli_serving::{End, serve};
 use cli_session::Believed;
-use cli_steps::Party;
+use cli_steps::{Keeper, Party};
 use path::Query;
 use path_verifiers::{ListVerifier, Verifier};
 use relying_agreement::Verdict;
@@ -12,13 +11,16 @@ use statements_facts::{Counts, Facts};
 use std::alloc::Global;
 use std::io::{Read, Write};
 
-/// A keeper that answers so.
+/// A keeper that answers so, or refuses.
 #[derive(Clone, Copy)]
 pub struct Told {
-    pub taken: Result<Counts, KeeperFault>,
-    pub verdict: Result<Verdict, KeeperFault>,
+    pub taken: Option<Counts>,
+    pub verdict: Option<Verdict>,
     pub may_answer: bool,
 }
+
+/// What a store answers that refuses.
+const REFUSAL: Failure<'static> = Failure::StoreFailed { number: 71 };
 
 impl Keeper for Told {
     ghost use Rattle.std.specs.Prelude.{⊤};
@@ -27,17 +29,17 @@ impl Keeper for Told {
 
     ghost is_sound = { λ _. ⊥ };
 
-    fn take(&mut self, _facts: &Facts<'_>) -> Result<Counts, KeeperFault> {
-        self.taken
+    fn take<'a>(&mut self, _facts: &Facts<'_>) -> Result<Counts, Failure<'a>> {
+        self.taken.ok_or(REFUSAL)
     }
 
-    fn verdict<V: Verifier>(
+    fn verdict<'a, V: Verifier>(
         &mut self,
         _alloc: Global,
         _verifier: &V,
         _query: &Query<'_>,
-    ) -> Result<Verdict, KeeperFault> {
-        self.verdict
+    ) -> Result<Verdict, Failure<'a>> {
+        self.verdict.ok_or(REFUSAL)
     }
 
     fn may_answer(&mut self) -> bool {
@@ -71,12 +73,12 @@ pub fn ends<R: Read, W: Write>(alloc: Global, keeper: Told, input: &mut R, out: 
 /// A keeper that stores one fact, and knows nothing.
 pub fn obliging() -> Told {
     Told {
-        taken: Ok(Counts {
+        taken: Some(Counts {
             stored: 1,
             kept: 0,
             contradicted: 0,
         }),
-        verdict: Ok(Verdict::Unknown(1)),
+        verdict: Some(Verdict::Unknown(1)),
         may_answer: true,
     }
 }
@@ -84,8 +86,8 @@ pub fn obliging() -> Told {
 /// A keeper that refuses.
 pub fn refusing(may_answer: bool) -> Told {
     Told {
-        taken: Err(KeeperFault::Refused),
-        verdict: Err(KeeperFault::Refused),
+        taken: None,
+        verdict: None,
         may_answer,
     }
 }

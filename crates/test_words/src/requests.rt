@@ -1,7 +1,7 @@
 //! What lines ask for.
 
-use cli_requests::{Operand, PathRequest, Request, RequestFault, operand_of, request_of};
-use cli_words::Kind;
+use cli_requests::{Operand, Request, RequestFault, operand_of, request_of};
+use cli_words::{Kind, QueryWords};
 use std::alloc::Global;
 use std::process::Abort;
 use std::test::Fail;
@@ -110,7 +110,7 @@ fn reads_questions(rt: HostRuntime) -> Result<(), Fail> {
     let mut files = Vec::new(alloc);
     files.push("b")?;
     files.push("c")?;
-    let expected = Request::Check(PathRequest {
+    let expected = Request::Check(QueryWords {
         moment: "20250615000000Z",
         purpose: Some("1.2.3"),
         anchor: "a",

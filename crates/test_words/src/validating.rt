@@ -1,6 +1,6 @@
 //! Command lines of `deliver`, `check` and `compare`.
 
-use cli_words::{Line, Question, command_of};
+use cli_words::{Line, QueryWords, command_of};
 
 // Whether each command line is refused (its text belongs on standard error) or asks for help.
 const ANSWERED: &[(&[&str], bool)] = &[
@@ -379,15 +379,13 @@ const CHECKS: &[(&[&str], Option<&str>, usize)] = &[
 ];
 
 // Whether that is asked of the files.
-fn is_asked(question: &Question<'_>, purpose: Option<&str>, count: usize) -> bool {
+fn is_asked(query: &QueryWords<'_>, purpose: Option<&str>, count: usize) -> bool {
     let files = ["f", "g", "h"];
-    question.store == "s"
-        && question.verdicts == "v"
-        && question.moment == "t"
-        && question.anchor == "a"
-        && question.purpose == purpose
-        && question.files.len() == count
-        && question
+    query.moment == "t"
+        && query.anchor == "a"
+        && query.purpose == purpose
+        && query.files.len() == count
+        && query
             .files
             .iter()
             .zip(&files)
@@ -397,7 +395,11 @@ fn is_asked(question: &Question<'_>, purpose: Option<&str>, count: usize) -> boo
 // Whether the line checks that.
 fn is_check(line: &Line<'_>, purpose: Option<&str>, count: usize) -> bool {
     match line {
-        Line::Check(question) => is_asked(question, purpose, count),
+        Line::Check {
+            store,
+            verdicts,
+            query,
+        } => *store == "s" && *verdicts == "v" && is_asked(query, purpose, count),
         _ => false,
     }
 }
@@ -450,7 +452,12 @@ const COMPARISONS: &[&[&str]] = &[
 // Whether the line compares that with the store `o`.
 fn is_comparison(line: &Line<'_>) -> bool {
     match line {
-        Line::Compare { question, other } => *other == "o" && is_asked(question, None, 2),
+        Line::Compare {
+            store,
+            other,
+            verdicts,
+            query,
+        } => *store == "s" && *other == "o" && *verdicts == "v" && is_asked(query, None, 2),
         _ => false,
     }
 }

@@ -1,12 +1,14 @@
-use Rattle.cli.proofs.Questions.{check_fails, checked_asked}
+use Rattle.cli_words.specs.QueryTexts.{seen_words}
+use Rattle.cli.specs.Host.{host}
+use Rattle.cli.proofs.Asked.{checked, not_checked}
 use Rattle.cli.proofs.checking.check_path.Goals as goal
 
 pub returns-clause-checked : goal.returns-clause-checked
 returns-clause-checked g c =
-    checked_asked (g.S.Source.holds c.args.source.now) c.args.question.now c.in_ok-operands.operands c.in_ok-operands.ensures.reads (g.S.Stores.stands c.args.source.now) (g.S.Stores.leaves c.args.source.now)
-    c.check_asked.result c.check_asked.ensures.checked
+    checked g.S.Stores.stands g.S.Stores.leaves (host g.S.Source.holds g.S.Stores.stands g.S.Stores.leaves c.args.source.now) c.args.store.now c.args.verdicts.now (seen_words c.args.query.now)
+    _ c.ask_believing.new.receiver (λ accepts query result found. found) c.ask_believing.result c.ask_believing.ensures
 
 pub returns-clause-fails : goal.returns-clause-fails
 returns-clause-fails g c =
-    check_fails (g.S.Source.holds c.args.source.now) c.args.question.now c.in_ok-operands.operands c.in_ok-operands.ensures.reads (g.S.Stores.stands c.args.source.now) (g.S.Stores.leaves c.args.source.now)
-    c.check_asked.result c.check_asked.ensures.fails
+    not_checked g.S.Stores.stands g.S.Stores.leaves (host g.S.Source.holds g.S.Stores.stands g.S.Stores.leaves c.args.source.now) c.args.store.now c.args.verdicts.now (seen_words c.args.query.now)
+    _ c.ask_believing.new.receiver (λ accepts query result found. found) c.ask_believing.result c.ask_believing.ensures

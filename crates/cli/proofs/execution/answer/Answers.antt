@@ -6,6 +6,11 @@ returns-in_err-deliver-in-Deliver-clause-fails g c =
     let p = err_from_is_err_and c.from_residual-in_err-deliver-in-Deliver.result c.from_residual-in_err-deliver-in-Deliver.ensures.1 in
     rw (p.1, p.2, c.in-Deliver.is) c.in_err-deliver-in-Deliver.ensures.fails
 
+pub returns-in_err-check-in-Check-clause-fails : goal.returns-in_err-check-in-Check-clause-fails
+returns-in_err-check-in-Check-clause-fails g c =
+    let p = err_from_is_err_and c.from_residual-in_err-check-in-Check.result c.from_residual-in_err-check-in-Check.ensures.1 in
+    rw (p.1, p.2, c.in-Check.is) c.in_err-check-in-Check.ensures.fails
+
 pub returns-in_err-compare-in-Compare-clause-fails :
     goal.returns-in_err-compare-in-Compare-clause-fails
 returns-in_err-compare-in-Compare-clause-fails g c =

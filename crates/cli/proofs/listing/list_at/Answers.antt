@@ -1,6 +1,6 @@
 use Rattle.cli_store.specs.Standing.{seen_in}
 use Rattle.cli.proofs.Lines.{listed_at}
-use Rattle.cli.proofs.Unanswered.{not_checked_by}
+use Rattle.cli.proofs.Unanswered.{not_listed_at}
 use Rattle.cli.proofs.listing.list_at.Goals as goal
 
 pub returns-clause-listed : goal.returns-clause-listed
@@ -10,5 +10,5 @@ returns-clause-listed g c =
 
 pub returns-clause-fails : goal.returns-clause-fails
 returns-clause-fails g c =
-    not_checked_by (g.S.Stores.stands c.args.source.now) (g.S.Stores.leaves c.args.source.now) c.args.path.now (seen_in c.in_ok-store.store) c.list_in.result
+    not_listed_at (g.S.Stores.stands c.args.source.now) (g.S.Stores.leaves c.args.source.now) c.args.path.now (seen_in c.in_ok-store.store) c.list_in.result
     c.in_ok-store.ensures.found c.list_in.ensures.fails

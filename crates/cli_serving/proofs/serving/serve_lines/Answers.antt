@@ -1,8 +1,8 @@
 use Rattle.std.proofs.Common.{[], arith, refl}
 use Rattle.std.proofs.KnownBytes.{Appends-nil}
 use Rattle.cli_session.specs.Held.{holding_of}
-use Rattle.cli_session.specs.declared.believed.Believed.{Believed as WasBelieved}
-use Rattle.cli_steps.specs.Ways.{Steps}
+use Rattle.cli_steps.specs.Ways.{Moves}
+use Rattle.cli_serving.specs.Serving.{Moved}
 use Rattle.cli_serving.proofs.Composing.{further, stays}
 use Rattle.cli_serving.proofs.Lines.{ends, one_more}
 use Rattle.cli_serving.proofs.serving.serve_lines.Goals as goal
@@ -33,14 +33,14 @@ returns-in-Some-clause-ended g c =
     ends
     (holding_of (g.S.Source.holds c.args.source.now)) (g.R.Read.remaining c.args.input.now) (g.R.Read.remaining c.loop.input) (g.R.Read.remaining c.serve_line.new.input)
     (g.W.Write.contents c.args.out.now) (g.W.Write.contents c.loop.out) (g.W.Write.contents c.serve_line.new.out)
-    (λ Are. g.K.Keeper.is_sound c.loop.party.keeper → Steps c.args.party.now.believed (g.K.Keeper.keeps c.args.party.now.keeper) c.loop.party.believed (g.K.Keeper.keeps c.loop.party.keeper) Are)
-    (λ Are. g.K.Keeper.is_sound c.serve_line.new.party.keeper → Steps c.loop.party.believed (g.K.Keeper.keeps c.loop.party.keeper) c.serve_line.new.party.believed (g.K.Keeper.keeps c.serve_line.new.party.keeper) Are)
-    (λ Are. g.K.Keeper.is_sound c.serve_line.new.party.keeper → Steps c.args.party.now.believed (g.K.Keeper.keeps c.args.party.now.keeper) c.serve_line.new.party.believed (g.K.Keeper.keeps c.serve_line.new.party.keeper) Are)
+    (Moves g.K.Keeper.is_sound g.K.Keeper.keeps c.args.party.now c.loop.party)
+    (Moves g.K.Keeper.is_sound g.K.Keeper.keeps c.loop.party c.serve_line.new.party)
+    (Moves g.K.Keeper.is_sound g.K.Keeper.keeps c.args.party.now c.serve_line.new.party)
     (λ One Other Both so before line sound. further c.args.party.now.believed c.loop.party.believed c.serve_line.new.party.believed (g.K.Keeper.keeps c.args.party.now.keeper) (g.K.Keeper.keeps c.loop.party.keeper) (g.K.Keeper.keeps c.serve_line.new.party.keeper) One Other Both so
     (before (c.serve_line.ensures.sound sound)) (line sound))
-    (λ Are. (keeper : g.row.K.Denot) × (believed : WasBelieved) × (g.K.Keeper.is_sound keeper → Steps c.args.party.now.believed (g.K.Keeper.keeps c.args.party.now.keeper) believed (g.K.Keeper.keeps keeper) Are))
+    (Moved g.K.Keeper.is_sound g.K.Keeper.keeps c.args.party.now)
     c.in-Some.end served
-    (record { lines = served.lines; answers = served.answers; read = served.read; said = served.said; go_on = served.go_on; known = (c.loop.party.keeper, c.loop.party.believed, served.known) })
+    (record { lines = served.lines; answers = served.answers; read = served.read; said = served.said; go_on = served.go_on; known = (c.loop.party, served.known) })
     c.in-Some.ensures.serves
 
 pub loop-preserved : goal.loop-preserved
@@ -50,9 +50,9 @@ loop-preserved g c = record {
   served = one_more
       (holding_of (g.S.Source.holds c.args.source.now)) (g.R.Read.remaining c.args.input.now) (g.R.Read.remaining c.loop.input) (g.R.Read.remaining c.serve_line.new.input)
       (g.W.Write.contents c.args.out.now) (g.W.Write.contents c.loop.out) (g.W.Write.contents c.serve_line.new.out)
-      (λ Are. g.K.Keeper.is_sound c.loop.party.keeper → Steps c.args.party.now.believed (g.K.Keeper.keeps c.args.party.now.keeper) c.loop.party.believed (g.K.Keeper.keeps c.loop.party.keeper) Are)
-      (λ Are. g.K.Keeper.is_sound c.serve_line.new.party.keeper → Steps c.loop.party.believed (g.K.Keeper.keeps c.loop.party.keeper) c.serve_line.new.party.believed (g.K.Keeper.keeps c.serve_line.new.party.keeper) Are)
-      (λ Are. g.K.Keeper.is_sound c.serve_line.new.party.keeper → Steps c.args.party.now.believed (g.K.Keeper.keeps c.args.party.now.keeper) c.serve_line.new.party.believed (g.K.Keeper.keeps c.serve_line.new.party.keeper) Are)
+      (Moves g.K.Keeper.is_sound g.K.Keeper.keeps c.args.party.now c.loop.party)
+      (Moves g.K.Keeper.is_sound g.K.Keeper.keeps c.loop.party c.serve_line.new.party)
+      (Moves g.K.Keeper.is_sound g.K.Keeper.keeps c.args.party.now c.serve_line.new.party)
       (λ One Other Both so before line sound. further c.args.party.now.believed c.loop.party.believed c.serve_line.new.party.believed (g.K.Keeper.keeps c.args.party.now.keeper) (g.K.Keeper.keeps c.loop.party.keeper) (g.K.Keeper.keeps c.serve_line.new.party.keeper) One Other Both so
       (before (c.serve_line.ensures.sound sound)) (line sound))
       c.loop.invariant.served c.in-None.ensures.serves;

@@ -11,5 +11,5 @@ returns-in-Ok-clause-finds g c =
 pub returns-in-Err-clause-finds : goal.returns-in-Err-clause-finds
 returns-in-Err-clause-finds g c =
     finds_no_verdict (file_state c.args.store.now.conn) (file_state c.verdict_of.new.conn) (g.V.Verifier.accepts c.args.verifier.now)
-    (seen_query c.args.query.now) c.in-Err.fault c.fault_of_party.result c.fault_of_party.ensures
+    (seen_query c.args.query.now) c.in-Err.fault c.failed.result c.failed.ensures
     c.in-Err.ensures.looks c.in-Err.ensures.survives

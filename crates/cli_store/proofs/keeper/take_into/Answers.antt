@@ -13,5 +13,5 @@ returns-in-Err-clause-sound g c =
 
 pub returns-in-Err-clause-takes : goal.returns-in-Err-clause-takes
 returns-in-Err-clause-takes g c =
-    takes_none (file_state c.args.store.now.conn) (file_state c.put.new.self.conn) c.args.facts.now c.in-Err.fault c.fault_of.result c.fault_of.ensures
+    takes_none (file_state c.args.store.now.conn) (file_state c.put.new.self.conn) c.args.facts.now c.in-Err.fault c.failed.result c.failed.ensures
     c.in-Err.ensures.puts c.in-Err.ensures.survives

@@ -1,0 +1,77 @@
+-- What commands delivered and were answered, by what the stores at their paths did.
+use Rattle.std.proofs.Common.{ℕ, inl, inr, List, Result, Ok, Err, IfErr, IfOk}
+use Rattle.path.specs.Query.{Accepts, Query}
+use Rattle.relying_agreement.specs.declared.verdict.Comparison.{Comparison}
+use Rattle.relying_agreement.specs.declared.verdict.Verdict.{Verdict}
+use Rattle.statements_facts.specs.Fact.{Fact}
+use Rattle.statements_facts.specs.declared.counts.Counts.{Counts}
+use Rattle.cli_failures.specs.declared.failure.Failure.{Failure}
+use Rattle.cli_words.specs.QueryTexts.{QueryTexts}
+use Rattle.cli_steps.specs.Commands.{AsksBelieving, DeliversBelieving}
+use Rattle.cli_steps.specs.Passing.{AnsweringBy, TakingBy}
+use Rattle.cli_store.specs.Standing.{Leaving, Standing}
+use Rattle.cli.specs.Checked.{ChecksAt, ComparesAt, IsChecked, IsCompared, IsFailureOfCheck, IsFailureOfComparison}
+use Rattle.cli.specs.Delivered.{IsDelivered, IsFailureOfDelivery, TakesAt}
+use Rattle.cli.specs.Host.{HostState}
+use Rattle.cli.specs.declared.at_path.AtPath.{AtPath}
+use Rattle.cli.specs.declared.at_path.AtPaths.{AtPaths}
+use Rattle.cli.specs.declared.at_path.StorePair.{StorePair}
+use Rattle.cli.specs.declared.delivering.Delivery.{Delivery}
+
+-- ---- deliveries
+
+abbrev pub taking_at : {D S : Type 0} → (S → Standing) → (S → Leaving) → TakingBy (AtPath D S)
+taking_at stands leaves at new facts result = TakesAt (stands at.source.now) (leaves at.source.now) at.path.now facts result
+
+-- the store is that of the words
+module _ {D S : Type 0} (stands : S → Standing) (leaves : S → Leaving) (host : HostState) (words : Delivery) (old new : AtPath D S) (so : (facts : List Fact) (result : Result Counts Failure) → taking_at stands leaves old new facts result → TakesAt host.stands host.leaves words.store.now facts result) where
+  abbrev Delivers : Result Counts Failure → Type 0
+  Delivers = DeliversBelieving host.holds words.verdicts.now words.issuer.now words.file.now (taking_at stands leaves) old new
+
+  pub delivered : (result : Result Counts Failure) → Delivers result → IfOk result (IsDelivered host words)
+  delivered (Ok counts) (facts, (accepts, believes, says), taken) =
+      record { accepts = accepts; believes = believes; facts = facts; says = says; taken = so facts (Ok counts) taken }
+  delivered (Err failure) did = tt
+
+  pub not_delivered : (result : Result Counts Failure) → Delivers result → IfErr result (IsFailureOfDelivery host words)
+  not_delivered (Ok counts) did = tt
+  not_delivered (Err failure) (inl (refused, same)) = inl refused
+  not_delivered (Err failure) (inr (facts, says, fails)) = inr ((facts, says), so facts (Err failure) fails)
+
+-- ---- verdicts
+
+abbrev pub checking_at : {D S : Type 0} → (S → Standing) → (S → Leaving) → AnsweringBy (AtPath D S) Verdict
+checking_at stands leaves at new accepts query result = ChecksAt (stands at.source.now) (leaves at.source.now) at.path.now accepts query result
+
+module _ {D S : Type 0} (stands : S → Standing) (leaves : S → Leaving) (host : HostState) (store verdicts : List ℕ) (texts : QueryTexts) (old new : AtPath D S) (so : (accepts : Accepts) (query : Query) (result : Result Verdict Failure) → checking_at stands leaves old new accepts query result → ChecksAt host.stands host.leaves store accepts query result) where
+  abbrev Asks : Result Verdict Failure → Type 0
+  Asks = AsksBelieving host.holds verdicts texts (checking_at stands leaves) old new
+
+  pub checked : (result : Result Verdict Failure) → Asks result → IfOk result (IsChecked host store verdicts texts)
+  checked (Ok verdict) ((accepts, query), asked, found) =
+      record { accepts = accepts; query = query; asked = asked; checked = so accepts query (Ok verdict) found }
+  checked (Err failure) did = tt
+
+  pub not_checked : (result : Result Verdict Failure) → Asks result → IfErr result (IsFailureOfCheck host store verdicts texts)
+  not_checked (Ok verdict) did = tt
+  not_checked (Err failure) (inl (refused, same)) = inl refused
+  not_checked (Err failure) (inr ((accepts, query), asked, fails)) = inr ((accepts, query, asked), so accepts query (Err failure) fails)
+
+-- ---- comparisons
+
+abbrev pub comparing_at : {D S : Type 0} → (S → Standing) → (S → Leaving) → AnsweringBy (AtPaths D S) Comparison
+comparing_at stands leaves at new accepts query result = ComparesAt (stands at.source.now) (leaves at.source.now) at.stores accepts query result
+
+module _ {D S : Type 0} (stands : S → Standing) (leaves : S → Leaving) (host : HostState) (stores : StorePair) (verdicts : List ℕ) (texts : QueryTexts) (old new : AtPaths D S) (so : (accepts : Accepts) (query : Query) (result : Result Comparison Failure) → comparing_at stands leaves old new accepts query result → ComparesAt host.stands host.leaves stores accepts query result) where
+  abbrev AsksBoth : Result Comparison Failure → Type 0
+  AsksBoth = AsksBelieving host.holds verdicts texts (comparing_at stands leaves) old new
+
+  pub compared : (result : Result Comparison Failure) → AsksBoth result → IfOk result (IsCompared host stores verdicts texts)
+  compared (Ok comparison) ((accepts, query), asked, found) =
+      record { accepts = accepts; query = query; asked = asked; compared = so accepts query (Ok comparison) found }
+  compared (Err failure) did = tt
+
+  pub not_compared : (result : Result Comparison Failure) → AsksBoth result → IfErr result (IsFailureOfComparison host stores verdicts texts)
+  not_compared (Ok comparison) did = tt
+  not_compared (Err failure) (inl (refused, same)) = inl refused
+  not_compared (Err failure) (inr ((accepts, query), asked, fails)) = inr ((accepts, query, asked), so accepts query (Err failure) fails)

@@ -1,0 +1,73 @@
+//! Receivers: what takes the facts of a delivery, and what answers a query. That is a session's keeper, or a store that is opened when it
+//! is called.
+ghost use Rattle.statements_facts.specs.Fact.{facts_in};
+ghost use Rattle.path.specs.Reading.{seen_query};
+
+use crate::keeper::Keeper;
+use cli_failures::Failure;
+use path::{Query, Verifier};
+use relying_agreement::Verdict;
+use statements_facts::{Counts, Facts};
+use std::alloc::Global;
+
+/// Takes the facts of a genuine statement. A failure names files or operands, which live as long as `'a`.
+pub trait TakeFacts<'a> {
+    ghost use Rattle.std.specs.Prelude.{List, Result};
+    ghost use Rattle.statements_facts.specs.Fact.{Fact};
+    ghost use Rattle.statements_facts.specs.declared.counts.Counts.{Counts};
+    ghost use Rattle.cli_failures.specs.declared.failure.Failure.{Failure};
+
+    /// Whether a call with these facts takes it from one state to the other, and returns this.
+    ghost takes: { Self → Self → List Fact → Result Counts Failure → Type 0 };
+
+    /// Takes them, and returns how they were counted.
+    fn take_facts(&mut self, facts: &Facts<'_>) -> Result<Counts, Failure<'a>>
+        ensures { takes self.old self.new (facts_in facts.now) result };
+}
+
+/// Answers a query about a path with a `T`. A failure names files or operands, which live as long as `'a`.
+pub trait AnswerQuery<'a, T> {
+    ghost use Rattle.std.specs.Prelude.{Result};
+    ghost use Rattle.path.specs.Query.{Accepts, Query};
+    ghost use Rattle.cli_failures.specs.declared.failure.Failure.{Failure};
+
+    /// Whether a call with a verifier that accepts so and with this query takes it from one state to the other, and returns this.
+    ghost answers: { Self → Self → Accepts → Query → Result T Failure → Type 0 };
+
+    /// The answer, with this verifier.
+    fn answer<V: Verifier>(
+        &mut self,
+        alloc: Global,
+        verifier: &V,
+        query: &Query<'_>,
+    ) -> Result<T, Failure<'a>>
+        ensures { answers self.old self.new (V.accepts verifier.now) (seen_query query.now)
+            result };
+}
+
+/// A keeper takes facts as its own clauses say, if it is sound.
+impl<'a, K: Keeper> TakeFacts<'a> for K {
+    ghost use Rattle.cli_steps.specs.Keeping.{TakesSoundly};
+
+    ghost takes = { TakesSoundly K.is_sound K.keeps };
+
+    fn take_facts(&mut self, facts: &Facts<'_>) -> Result<Counts, Failure<'a>> {
+        self.take(facts)
+    }
+}
+
+/// A keeper answers with a verdict as its own clauses say, if it is sound.
+impl<'a, K: Keeper> AnswerQuery<'a, Verdict> for K {
+    ghost use Rattle.cli_steps.specs.Keeping.{AnswersSoundly};
+
+    ghost answers = { AnswersSoundly K.is_sound K.keeps };
+
+    fn answer<V: Verifier>(
+        &mut self,
+        alloc: Global,
+        verifier: &V,
+        query: &Query<'_>,
+    ) -> Result<Verdict, Failure<'a>> {
+        self.verdict(alloc, verifier, query)
+    }
+}
