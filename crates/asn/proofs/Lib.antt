@@ -5,7 +5,7 @@ mod Shown
 mod NextShown
 mod PlaceLemmas
 mod Sizes
-mod Judgements
+mod OutermostLaws
 mod MemberLemmas
 mod PartLemmas
 mod EncodedParts

@@ -4,7 +4,7 @@ pub mod Members
 pub mod Shows
 pub mod Walk
 pub mod Reading
-pub mod Judgement
+pub mod Outermost
 pub mod Layout
 pub mod ListLayout
 pub mod Size

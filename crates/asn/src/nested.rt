@@ -4,7 +4,7 @@ ghost use Rattle.std.specs.Prelude.{◌≤◌, length, IfErr, OnOk};
 ghost use Rattle.asn.specs.Part.{IsWhole};
 ghost use Rattle.asn.specs.Place.{seen_tlv};
 ghost use Rattle.asn.specs.Walk.{Gives};
-ghost use Rattle.asn.specs.Judgement.{judgement, nested, outermost};
+ghost use Rattle.asn.specs.Outermost.{first_fault_in, nested, outermost};
 
 use crate::cursor::whole_at;
 use crate::tlv::Tlv;
@@ -12,7 +12,7 @@ use der::{Fault, Rule, check};
 
 /// What `check` answers, as the rule and the place.
 fn judge(octets: &[u8]) -> Result<(), (Rule, usize)>
-    ensures judgement { Gives (λ _. tt) result (judgement octets.now) }
+    ensures first_fault_in { Gives (λ _. tt) result (first_fault_in octets.now) }
     ensures whole { OnOk result (IsWhole octets.now) }
     ensures within { IfErr result (λ fault. fault.1 ≤ length octets.now) }
 {
@@ -25,7 +25,7 @@ fn judge(octets: &[u8]) -> Result<(), (Rule, usize)>
 
 impl<'a> Tlv<'a> {
     /// The one value that the octets encode, or the first fault in them, as a step of a walk: the rule and its place. See `whole`.
-    #[tactic(auto, unfolding(crate::specs::Judgement::outermost))]
+    #[tactic(auto, unfolding(crate::specs::Outermost::outermost))]
     pub fn outermost(octets: &'a [u8]) -> Result<Tlv<'a>, (Rule, usize)>
         ensures { Gives seen_tlv result (outermost octets.now) }
     {
@@ -35,7 +35,7 @@ impl<'a> Tlv<'a> {
 
     /// The one value that the contents encode, or the first fault in them, with its offset in the text handed to `whole`. Depth is counted
     /// anew, from 1. Time is linear in the contents; no memory is taken.
-    #[tactic(auto, unfolding(crate::specs::Judgement::nested))]
+    #[tactic(auto, unfolding(crate::specs::Outermost::nested))]
     pub fn nested(&self) -> Result<Tlv<'a>, (Rule, usize)>
         ensures { Gives seen_tlv result (nested (seen_tlv self.now)) }
     {

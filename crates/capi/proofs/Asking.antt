@@ -9,19 +9,19 @@ use Rattle.cert.proofs.Laws.{certificate_is_exact}
 use Rattle.statements.specs.OneIssuer.{WasRead}
 use Rattle.statements.specs.Statement.{Statement, statement}
 use Rattle.path.specs.Query.{Query}
-use Rattle.relying_questions.specs.Places.{AllInTexts, AreInTexts, Stands, WereRead, WereStatementsRead, octets_of_each, texts_at, texts_in}
+use Rattle.relying_questions.specs.Places.{AllInTexts, AreInTexts, Stands, WereRead, WereStatementsRead, certificate_octets, texts_at, texts_in}
 use Rattle.relying_questions.specs.Questions.{questions_of}
 use Rattle.relying_questions.specs.Seen.{seen_all, seen_question}
-use Rattle.relying_questions.specs.declared.part.Part as of_text
-use Rattle.relying_questions.specs.declared.part.Source.{Source}
-use Rattle.relying_questions.specs.declared.part.Source.TheVariants as source
+use Rattle.relying_questions.specs.declared.part.TextPart as of_text
+use Rattle.relying_questions.specs.declared.part.WhichText.{WhichText}
+use Rattle.relying_questions.specs.declared.part.WhichText.TheVariants as source
 use Rattle.relying_questions.specs.declared.question.SignatureQuestion as asked
 use Rattle.relying_texts.specs.Reading.{AreStatementsRead}
 use Rattle.capi.specs.Parts.{IsPart}
 use Rattle.capi.specs.Questions.{AreWritten, IsPlace, TellEach, TellsQuestion, place_of, question_of, text_index, text_number}
-use Rattle.capi.specs.Texts.{AreAllOctets, AreCertificates, IsRead, certificates_in, octets_in}
+use Rattle.capi.specs.Texts.{AreAllOctets, AreCertificates, IsRead, certificate_texts, octets_of_texts}
 use Rattle.capi.specs.declared.questions.SignatureQuestion.{SignatureQuestion}
-use Rattle.capi.specs.declared.texts.Query as code
+use Rattle.capi.specs.declared.texts.QueryOfTexts as code
 use Rattle.capi.specs.declared.texts.Text.{Text}
 
 -- ---- parts of a text
@@ -56,7 +56,7 @@ is_there [] i at octets is some = absurd (omega (arith, some, is.place, ap lengt
 is_there (text ∷ texts) zero at octets is some = omega arith
 is_there (text ∷ texts) (suc i) at octets is some = omega (arith, is_there texts i at octets is some)
 
-placed : (certificates statements : List (List ℕ)) (from : Source) (at : ℕ) (octets : List ℕ) → IsPartOf (texts_at certificates statements from) at octets → 0 < at + length octets
+placed : (certificates statements : List (List ℕ)) (from : WhichText) (at : ℕ) (octets : List ℕ) → IsPartOf (texts_at certificates statements from) at octets → 0 < at + length octets
     → IsPlace certificates statements (record { text = text_number from; index = text_index from; offset = at; length = length octets }) octets
 placed certificates statements (source.Certificate i) at octets is some = record {
   text = slice_index_or certificates i [];
@@ -69,7 +69,7 @@ placed certificates statements (source.Statement i) at octets is some = record {
   is_part = is_part (slice_index_or statements i []) at octets is;
 }
 
-place_tells : (certificates statements : List (List ℕ)) (part : of_text.Part) → Stands (texts_at certificates statements) part → IsPlace certificates statements (place_of part) part.octets.now
+place_tells : (certificates statements : List (List ℕ)) (part : of_text.TextPart) → Stands (texts_at certificates statements) part → IsPlace certificates statements (place_of part) part.octets.now
 place_tells certificates statements part is = placed certificates statements part.source part.at part.octets.now is.is_part is.is_there
 
 -- ---- questions
@@ -91,7 +91,7 @@ tell_each certificates statements (one ∷ asked) all = (tells certificates stat
 -- ---- what was read from texts
 
 -- certificates that were read from octets have these octets
-were_read : (texts : List (List ℕ)) (these : List Certificate) → AllByRecursion AreOctets texts → AreCertificates texts these → AllByRecursion WasRead these × (octets_of_each these ≡ texts)
+were_read : (texts : List (List ℕ)) (these : List Certificate) → AllByRecursion AreOctets texts → AreCertificates texts these → AllByRecursion WasRead these × (certificate_octets these ≡ texts)
 were_read [] [] octets each = (tt, refl)
 were_read [] (it ∷ these) octets each = absurd (omega (arith, ap length each))
 were_read (text ∷ texts) [] octets each = absurd (omega (arith, ap length each))
@@ -101,7 +101,7 @@ were_read (text ∷ texts) (it ∷ these) octets each =
     let rest = were_read texts these octets.1 others in
     let same : it.octets ≡ text = ap (λ (c : Certificate). c.octets) ((certificate_is_exact text it octets.0).0 read).layout.fields_are in (
       (record { octets = text; are_octets = octets.0; reads = read }, rest.0),
-      ap (λ (octets : List ℕ). octets ∷ octets_of_each these) same ∙ ap (λ (others : List (List ℕ)). text ∷ others) rest.1,
+      ap (λ (octets : List ℕ). octets ∷ certificate_octets these) same ∙ ap (λ (others : List (List ℕ)). text ∷ others) rest.1,
     )
 
 were_statements_read : (texts : List (List ℕ)) (these : List Statement) → AllByRecursion AreOctets texts → AreStatementsRead texts these → WereStatementsRead texts these
@@ -159,8 +159,8 @@ get_map f (x ∷ xs) (suc i) d e below = get_map f xs i d e (omega (arith, below
 
 -- ---- what is written and told
 
-pub are_written : (query : code.Query) (statements : List Text) (read : Query) (these : List Statement) (asked : List asked.SignatureQuestion) (old new : List SignatureQuestion) (count : ℕ)
-    → AreAllOctets (certificates_in query) × AreAllOctets (octets_in statements) → IsRead query statements read these → seen_all asked ≡ questions_of read these
+pub are_written : (query : code.QueryOfTexts) (statements : List Text) (read : Query) (these : List Statement) (asked : List asked.SignatureQuestion) (old new : List SignatureQuestion) (count : ℕ)
+    → AreAllOctets (certificate_texts query) × AreAllOctets (octets_of_texts statements) → IsRead query statements read these → seen_all asked ≡ questions_of read these
     → ((octets : List (List ℕ)) → WereRead read → WereStatementsRead octets these → AllInTexts (texts_in read octets) asked)
     → new ≡ take (length old) (map question_of asked) ++ drop (length asked) old → count ≡ length asked → AreWritten query statements old new count
 are_written query statements read these asked old new count fit is are places written count_is = record {
@@ -170,15 +170,15 @@ are_written query statements read these asked old new count fit is are places wr
   asked = seen_all asked;
   may_be_asked = λ moment purpose. are;
   questions = map question_of asked;
-  tell_each = tell_each (certificates_in query) (octets_in statements) asked stand;
+  tell_each = tell_each (certificate_texts query) (octets_of_texts statements) asked stand;
   written = written ∙ ap (λ (n : ℕ). take (length old) (map question_of asked) ++ drop n old) (sym (length-map asked question_of));
   count_is = count_is ∙ sym (length-map asked seen_question);
 }
   where
-    certificates : AllByRecursion WasRead (read.anchor ∷ read.certificates) × (octets_of_each (read.anchor ∷ read.certificates) ≡ certificates_in query)
-    certificates = were_read (certificates_in query) (read.anchor ∷ read.certificates) fit.0 is.query_is.certificates
+    certificates : AllByRecursion WasRead (read.anchor ∷ read.certificates) × (certificate_octets (read.anchor ∷ read.certificates) ≡ certificate_texts query)
+    certificates = were_read (certificate_texts query) (read.anchor ∷ read.certificates) fit.0 is.query_is.certificates
 
-    stand : AllInTexts (texts_at (certificates_in query) (octets_in statements)) asked
+    stand : AllInTexts (texts_at (certificate_texts query) (octets_of_texts statements)) asked
     stand =
-        subst (λ (them : List (List ℕ)). AllInTexts (texts_at them (octets_in statements)) asked) certificates.1
-        (places (octets_in statements) certificates.0 (were_statements_read (octets_in statements) these fit.1 is.statements_are))
+        subst (λ (them : List (List ℕ)). AllInTexts (texts_at them (octets_of_texts statements)) asked) certificates.1
+        (places (octets_of_texts statements) certificates.0 (were_statements_read (octets_of_texts statements) these fit.1 is.statements_are))

@@ -5,7 +5,7 @@ use Rattle.std.proofs.Math.Seq.{drop-cons}
 use Rattle.std.proofs.lemmas.List.{map-append}
 use Rattle.asn.specs.DerLaws.{AreOctets}
 use Rattle.path.specs.Reading.{texts_of}
-use Rattle.capi.specs.Texts.{AreAllOctets, octets_in}
+use Rattle.capi.specs.Texts.{AreAllOctets, octets_of_texts}
 use Rattle.capi.specs.declared.texts.Text.{Text}
 
 -- the next of those that are left
@@ -15,14 +15,14 @@ next_left xs i d below =
     drop-cons xs i d below ∙ ap (λ n. get_or xs i d ∷ drop n xs) later
 
 pub one_more : (octets new : List (Bor (List ℕ))) (one : Bor (List ℕ)) (texts : List Text) (i : ℕ) (d : Text) → i < length texts → new ≡ octets ++ one ∷ [] → one ≡ (get_or texts i d).octets
-    → texts_of octets ++ octets_in (drop i texts) ≡ octets_in texts → texts_of new ++ octets_in (drop (i + 1) texts) ≡ octets_in texts
+    → texts_of octets ++ octets_of_texts (drop i texts) ≡ octets_of_texts texts → texts_of new ++ octets_of_texts (drop (i + 1) texts) ≡ octets_of_texts texts
 one_more octets new one texts i d below grown is so_far =
     let left = drop (i + 1) texts in
-    ap (λ them. texts_of them ++ octets_in left) grown
-    ∙ ap (λ front. front ++ octets_in left) (map-append (λ (text : Bor (List ℕ)). text.now) octets (one ∷ []))
-    ∙ append_assoc (texts_of octets) (one.now ∷ []) (octets_in left)
-    ∙ ap (λ (it : Bor (List ℕ)). texts_of octets ++ (it.now ∷ octets_in left)) is
-    ∙ ap (λ rest. texts_of octets ++ octets_in rest) (sym (next_left texts i d below))
+    ap (λ them. texts_of them ++ octets_of_texts left) grown
+    ∙ ap (λ front. front ++ octets_of_texts left) (map-append (λ (text : Bor (List ℕ)). text.now) octets (one ∷ []))
+    ∙ append_assoc (texts_of octets) (one.now ∷ []) (octets_of_texts left)
+    ∙ ap (λ (it : Bor (List ℕ)). texts_of octets ++ (it.now ∷ octets_of_texts left)) is
+    ∙ ap (λ rest. texts_of octets ++ octets_of_texts rest) (sym (next_left texts i d below))
     ∙ so_far
 
 with_one : (octets : List (Bor (List ℕ))) (one : Bor (List ℕ)) → AreAllOctets (texts_of octets) → AreOctets one.now → AreAllOctets (texts_of (octets ++ one ∷ []))

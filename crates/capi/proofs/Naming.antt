@@ -3,7 +3,7 @@ use Rattle.std.proofs.Common.{◌≡◌, ◌+◌, ◌<◌, ℕ, suc, List, [], �
 use Rattle.der.specs.declared.fault.Rule.{Rule}
 use Rattle.der.specs.declared.fault.Rule.TheVariants as der
 use Rattle.der.specs.Fault.{rule_number as der_rule_number, rule_name as der_rule_name}
-use Rattle.names.specs.Fault.{fault_number as name_rule_number, fault_name as name_rule_name}
+use Rattle.names.specs.Fault.{name_rule_number, name_rule_name}
 use Rattle.names.specs.NameRule.{NameRule}
 use Rattle.names.specs.NameRule.TheVariants as name
 use Rattle.cert.specs.declared.fault.CertFault.{CertFault}
@@ -15,9 +15,9 @@ use Rattle.statements_parts.specs.declared.fault.StatementFault.TheVariants as s
 use Rattle.statements_parts.specs.declared.fault.StatementRule.TheVariants as rule
 use Rattle.statements_parts.specs.Fault.{statement_fault_number, statement_fault_name}
 use Rattle.path.specs.declared.reason.Reason.TheVariants as reason
-use Rattle.capi.specs.Names.{NamesAreOfFaults, NamesAreOfRanks, fault_name}
+use Rattle.capi.specs.Names.{NamesAreOfFaults, NamesAreOfRanks, numbered_fault_name}
 
-of_der : (one : Rule) → fault_name (der_rule_number one) ≡ der_rule_name one
+of_der : (one : Rule) → numbered_fault_name (der_rule_number one) ≡ der_rule_name one
 of_der der.TagForm = refl
 of_der der.LengthForm = refl
 of_der der.TooLong = refl
@@ -26,7 +26,7 @@ of_der der.TooDeep = refl
 of_der der.Content = refl
 of_der der.Trailing = refl
 
-of_names : (one : NameRule) → fault_name (name_rule_number one) ≡ name_rule_name one
+of_names : (one : NameRule) → numbered_fault_name (name_rule_number one) ≡ name_rule_name one
 of_names name.NameLayout = refl
 of_names name.RdnRepeat = refl
 of_names name.SetOrder = refl
@@ -35,7 +35,7 @@ of_names name.DnsForm = refl
 of_names name.IpForm = refl
 of_names name.MaskForm = refl
 
-of_certificates : (fault : CertFault) → fault_name (cert_fault_number fault) ≡ cert_fault_name fault
+of_certificates : (fault : CertFault) → numbered_fault_name (cert_fault_number fault) ≡ cert_fault_name fault
 of_certificates (cert.Refused (cert_rule.Der one) at) = refl
 of_certificates (cert.Refused (cert_rule.Name one) at) = of_names one
 of_certificates (cert.Refused cert_rule.Layout at) = refl
@@ -51,7 +51,7 @@ of_certificates (cert.Refused cert_rule.SignatureBits at) = refl
 of_certificates (cert.Refused cert_rule.Limit at) = refl
 of_certificates cert.Memory = refl
 
-of_statements : (fault : StatementFault) → fault_name (statement_fault_number fault) ≡ statement_fault_name fault
+of_statements : (fault : StatementFault) → numbered_fault_name (statement_fault_number fault) ≡ statement_fault_name fault
 of_statements (statement.Refused (rule.Der one) at) = refl
 of_statements (statement.Refused (rule.Name one) at) = of_names one
 of_statements (statement.Refused rule.Layout at) = refl

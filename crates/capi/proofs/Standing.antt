@@ -13,7 +13,7 @@ use Rattle.cert.specs.BitString.{BitString}
 use Rattle.cert.specs.Certificate.{Certificate, certificate}
 use Rattle.cert.specs.CertificateForms.{IsNameOf, IsCertificateAt}
 use Rattle.cert.proofs.Laws.{certificate_is_exact}
-use Rattle.capi.specs.Parts.{IsPlaceIn}
+use Rattle.relying_questions.specs.Places.{IsPlaceIn}
 use Rattle.capi.specs.Fields.{ComponentsStandIn}
 
 later : (text : List ℕ) (first others : List Place) → AllParts text (first ++ others) → AllParts text others

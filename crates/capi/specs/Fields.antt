@@ -7,7 +7,7 @@ use Rattle.cert.specs.declared.fault.CertFault.TheVariants.{Refused, Memory}
 use Rattle.cert.specs.Fault.{cert_rule_number}
 use Rattle.cert.specs.Version.{version_number}
 use Rattle.cert.specs.KeyUsage.{has_bit}
-use Rattle.cert.specs.BasicConstraints.{BasicConstraints}
+use Rattle.cert.specs.BasicConstraints.{BasicConstraints, path_len_constraint}
 use Rattle.cert.specs.Extensions.{Extensions}
 use Rattle.cert.specs.Certificate.{Certificate}
 use Rattle.asn.specs.Part.{IsPartOf}
@@ -17,16 +17,13 @@ use Rattle.capi.specs.declared.answer.CertificateAnswer.{CertificateAnswer}
 use Rattle.capi.specs.declared.fields.Part.{Part}
 use Rattle.capi.specs.declared.fields.Fields as code
 use Rattle.capi.specs.declared.fields.ExtensionFields as extension
-use Rattle.capi.specs.Parts.{IsPart, IsPlaceIn, bits_at}
+use Rattle.relying_questions.specs.Places.{IsPlaceIn, bits_at}
+use Rattle.capi.specs.Parts.{IsPart}
 
--- basicConstraints (4.2.1.9): cA, and the path length where it is there
+-- basicConstraints (4.2.1.9): cA
 abbrev pub is_ca : Option BasicConstraints → Bool
 is_ca None = false
 is_ca (Some constraints) = constraints.ca
-
-abbrev pub path_length_of : Option BasicConstraints → Option ℕ
-path_length_of None = None
-path_length_of (Some constraints) = constraints.path_length
 
 abbrev pub or_zero : Option ℕ → ℕ
 or_zero None = 0
@@ -45,8 +42,8 @@ usage_number (Some bits) = bits_below 9 bits
 pub record TellsExtensions (told : extension.ExtensionFields) (extensions : Extensions) : Type 0 where
   pub has_basic_constraints : told.has_basic_constraints ≡ is_some extensions.basic_constraints
   pub is_authority : told.is_authority ≡ is_ca extensions.basic_constraints
-  pub has_path_length : told.has_path_length ≡ is_some (path_length_of extensions.basic_constraints)
-  pub path_length : told.path_length ≡ or_zero (path_length_of extensions.basic_constraints)
+  pub has_path_length : told.has_path_length ≡ is_some (path_len_constraint extensions.basic_constraints)
+  pub path_length : told.path_length ≡ or_zero (path_len_constraint extensions.basic_constraints)
   pub has_key_usage : told.has_key_usage ≡ is_some extensions.key_usage
   pub key_usage : told.key_usage ≡ usage_number extensions.key_usage
   pub needs_policy_processing : told.needs_policy_processing ≡ extensions.needs_policy_processing
@@ -140,15 +137,15 @@ no_fields = record {
   extensions = no_extension_fields;
 }
 
-pub record TellsRefusal (answer : CertificateAnswer) (rule : CertRule) (at : ℕ) : Type 0 where
+pub record TellsRule (answer : CertificateAnswer) (rule : CertRule) (at : ℕ) : Type 0 where
   pub fault : answer.fault ≡ cert_rule_number rule
   pub der_fault : answer.der_fault ≡ der_number rule
   pub offset : answer.offset ≡ at
   pub nothing : answer.fields ≡ no_fields
 
 -- the answer of a call that was refused memory
-abbrev pub no_memory : CertificateAnswer
-no_memory = record { fault = 33; der_fault = 0; offset = 0; fields = no_fields }
+abbrev pub certificate_no_memory : CertificateAnswer
+certificate_no_memory = record { fault = 33; der_fault = 0; offset = 0; fields = no_fields }
 
 pub record TellsCertificate (text : List ℕ) (answer : CertificateAnswer) (certificate : Certificate) : Type 0 where
   pub fault : answer.fault ≡ 0
@@ -159,10 +156,10 @@ pub record TellsCertificate (text : List ℕ) (answer : CertificateAnswer) (cert
 
 -- The answer tells what reading the text gives, unless memory was refused.
 abbrev pub TellsReading : List ℕ → CertificateAnswer → Result Certificate (CertRule × ℕ) → Type 0
-TellsReading text answer (Ok certificate) = (answer ≡ no_memory) ⊎ TellsCertificate text answer certificate
-TellsReading text answer (Err (rule, at)) = (answer ≡ no_memory) ⊎ TellsRefusal answer rule at
+TellsReading text answer (Ok certificate) = (answer ≡ certificate_no_memory) ⊎ TellsCertificate text answer certificate
+TellsReading text answer (Err (rule, at)) = (answer ≡ certificate_no_memory) ⊎ TellsRule answer rule at
 
 -- The answer tells of a fault.
 abbrev pub IsRefusalOf : CertificateAnswer → CertFault → Type 0
-IsRefusalOf answer (Refused rule at) = TellsRefusal answer rule at
-IsRefusalOf answer Memory = answer ≡ no_memory
+IsRefusalOf answer (Refused rule at) = TellsRule answer rule at
+IsRefusalOf answer Memory = answer ≡ certificate_no_memory

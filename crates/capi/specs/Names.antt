@@ -3,7 +3,7 @@ use Rattle.std.specs.Prelude.{◌≡◌, ◌++◌, ◌∷◌, ◌+◌, ℕ, List
 use Rattle.std.specs.Prelude.{nat_lt}
 use Rattle.der.specs.declared.fault.Rule.{Rule}
 use Rattle.der.specs.Fault.{rule_number as der_rule_number, rule_name as der_rule_name}
-use Rattle.names.specs.Fault.{fault_number as name_rule_number, fault_name as name_rule_name}
+use Rattle.names.specs.Fault.{name_rule_number, name_rule_name}
 use Rattle.names.specs.NameRule.{NameRule}
 use Rattle.cert.specs.declared.fault.CertFault.{CertFault}
 use Rattle.cert.specs.Fault.{cert_fault_number, cert_fault_name}
@@ -75,18 +75,18 @@ statement_fault number =
     if number == 60 then codes "Memory" else
     []
 
-abbrev pub fault_name : ℕ → List ℕ
-fault_name number =
+abbrev pub numbered_fault_name : ℕ → List ℕ
+numbered_fault_name number =
     if nat_lt number 21 then der_or_name_fault number else
     if nat_lt number 41 then certificate_fault number else
     statement_fault number
 
 -- these are the names that the faults have
 pub record NamesAreOfFaults : Type 0 where
-  pub der : (rule : Rule) → fault_name (der_rule_number rule) ≡ der_rule_name rule
-  pub names : (rule : NameRule) → fault_name (name_rule_number rule) ≡ name_rule_name rule
-  pub certificates : (fault : CertFault) → fault_name (cert_fault_number fault) ≡ cert_fault_name fault
-  pub statements : (fault : StatementFault) → fault_name (statement_fault_number fault) ≡ statement_fault_name fault
+  pub der : (rule : Rule) → numbered_fault_name (der_rule_number rule) ≡ der_rule_name rule
+  pub names : (rule : NameRule) → numbered_fault_name (name_rule_number rule) ≡ name_rule_name rule
+  pub certificates : (fault : CertFault) → numbered_fault_name (cert_fault_number fault) ≡ cert_fault_name fault
+  pub statements : (fault : StatementFault) → numbered_fault_name (statement_fault_number fault) ≡ statement_fault_name fault
 
 -- ---- reasons
 

@@ -1,9 +1,10 @@
 -- Parts of a text, by offset and length.
-use Rattle.std.specs.Prelude.{◌≡◌, ◌≤◌, ◌+◌, ℕ, List, slice_range, length, take}
+use Rattle.std.specs.Prelude.{◌≡◌, ◌≤◌, ◌+◌, ℕ, List, slice_range, length}
 use Rattle.asn.specs.Part.{IsPartOf}
 use Rattle.asn.specs.declared.tlv.Tlv.{Tlv}
-use Rattle.asn.specs.Place.{Place, seen_tlv, body, body_place}
+use Rattle.asn.specs.Place.{seen_tlv, body, body_place}
 use Rattle.cert.specs.BitString.{bits_in}
+use Rattle.relying_questions.specs.Places.{IsPlaceIn}
 use Rattle.capi.specs.declared.fields.Part.{Part}
 
 -- where the part ends
@@ -14,10 +15,6 @@ part_end part = part.offset + part.length
 pub record IsPart (text : List ℕ) (part : Part) (octets : List ℕ) : Type 0 where
   pub within : part_end part ≤ length text
   pub octets_are : slice_range text part.offset (part_end part) ≡ octets
-
--- the place is a part of the text
-abbrev pub IsPlaceIn : List ℕ → Place → Type 0
-IsPlaceIn text place = IsPartOf text place.at place.octets
 
 -- in each text in which these octets stand at the offset, the part is these octets
 abbrev pub IsPartAt : ℕ → List ℕ → Part → Type 0
@@ -32,7 +29,3 @@ IsContentsOf value part =
 abbrev pub IsBitsOf : Tlv → Part → Type 0
 IsBitsOf value part =
     (text : List ℕ) → IsPlaceIn text (body_place (seen_tlv value)) → IsPart text part (bits_in (body (seen_tlv value)))
-
--- where the bits of a BIT STRING begin, behind the count of unused bits
-abbrev pub bits_at : Place → ℕ
-bits_at value = (body_place value).at + length (take 1 (body value))

@@ -3,16 +3,16 @@ use Rattle.std.specs.Prelude.{◌≡◌, ◌⊎◌, ◌++◌, ℕ, ℤ, List, []
 use Rattle.path.specs.Query as of_path
 use Rattle.statements.specs.Statement.{Statement}
 use Rattle.relying_questions.specs.Questions.{Judgement, questions_of}
-use Rattle.relying_questions.specs.Seen.{print_of, seen_question}
-use Rattle.relying_questions.specs.declared.part.Part as of_text
-use Rattle.relying_questions.specs.declared.part.Source.{Source}
-use Rattle.relying_questions.specs.declared.part.Source.TheVariants as source
+use Rattle.relying_questions.specs.Seen.{judgement_print, seen_question}
+use Rattle.relying_questions.specs.declared.part.TextPart as of_text
+use Rattle.relying_questions.specs.declared.part.WhichText.{WhichText}
+use Rattle.relying_questions.specs.declared.part.WhichText.TheVariants as source
 use Rattle.relying_questions.specs.declared.question.SignatureQuestion as asked
 use Rattle.capi.specs.Parts.{IsPart}
 use Rattle.capi.specs.Refusal.{TellsRefusal, no_refusal}
-use Rattle.capi.specs.Texts.{IsAt, IsRead, certificates_in, octets_in}
+use Rattle.capi.specs.Texts.{IsAt, IsRead, certificate_texts, octets_of_texts}
 use Rattle.capi.specs.declared.refusal.Refusal.{Refusal}
-use Rattle.capi.specs.declared.texts.Query.{Query}
+use Rattle.capi.specs.declared.texts.QueryOfTexts.{QueryOfTexts}
 use Rattle.capi.specs.declared.texts.Text.{Text}
 use Rattle.capi.specs.declared.questions.Place.{Place}
 use Rattle.capi.specs.declared.questions.SignatureQuestion.{SignatureQuestion}
@@ -37,7 +37,7 @@ pub record TellsQuestion (certificates statements : List (List ℕ)) (question :
   pub key_info : IsPlace certificates statements question.key_info asked.key_info
   pub message : IsPlace certificates statements question.message asked.message
   pub signature : IsPlace certificates statements question.signature asked.signature
-  pub fingerprint : question.fingerprint ≡ print_of asked
+  pub fingerprint : question.fingerprint ≡ judgement_print asked
 
 -- each of the questions, in order
 abbrev pub TellEach : List (List ℕ) → List (List ℕ) → List SignatureQuestion → List Judgement → Type 0
@@ -54,41 +54,41 @@ AreQuestionsAbout read these asked =
     asked ≡ questions_of (record { anchor = read.anchor; certificates = read.certificates; moment = moment; purpose = purpose }) these
 
 -- Of the questions that may be asked as many are written as there is room for, and there are so many.
-pub record AreWritten (query : Query) (statements : List Text) (old new : List SignatureQuestion) (count : ℕ) : Type 0 where
+pub record AreWritten (query : QueryOfTexts) (statements : List Text) (old new : List SignatureQuestion) (count : ℕ) : Type 0 where
   pub read : of_path.Query
   pub these : List Statement
   pub is_read : IsRead query statements read these
   pub asked : List Judgement
   pub may_be_asked : AreQuestionsAbout read these asked
   pub questions : List SignatureQuestion
-  pub tell_each : TellEach (certificates_in query) (octets_in statements) questions asked
+  pub tell_each : TellEach (certificate_texts query) (octets_of_texts statements) questions asked
   pub written : new ≡ take (length old) questions ++ drop (length questions) old
   pub count_is : count ≡ length asked
 
 -- The questions about what the texts hold, or what is refused; nothing is written then.
-abbrev pub WritesQuestions : Query → List Text → List SignatureQuestion → List SignatureQuestion → Result ℕ Refusal → Type 0
+abbrev pub WritesQuestions : QueryOfTexts → List Text → List SignatureQuestion → List SignatureQuestion → Result ℕ Refusal → Type 0
 WritesQuestions query statements old new (Ok count) = AreWritten query statements old new count
 WritesQuestions query statements old new (Err told) = TellsRefusal query statements told × (new ≡ old)
 
-abbrev pub answer_of : Result ℕ Refusal → Asked
-answer_of (Ok count) = record { refusal = no_refusal; count = count }
-answer_of (Err told) = record { refusal = told; count = 0 }
+abbrev pub asked_answer : Result ℕ Refusal → Asked
+asked_answer (Ok count) = record { refusal = no_refusal; count = count }
+asked_answer (Err told) = record { refusal = told; count = 0 }
 
-abbrev pub TellsQuestions : Query → List Text → List SignatureQuestion → List SignatureQuestion → Asked → Type 0
+abbrev pub TellsQuestions : QueryOfTexts → List Text → List SignatureQuestion → List SignatureQuestion → Asked → Type 0
 TellsQuestions query statements old new answer =
-    (result : Result ℕ Refusal) × WritesQuestions query statements old new result × (answer ≡ answer_of result)
+    (result : Result ℕ Refusal) × WritesQuestions query statements old new result × (answer ≡ asked_answer result)
 
 -- ---- what was asked, as it is written
 
-abbrev pub text_number : Source → ℕ
+abbrev pub text_number : WhichText → ℕ
 text_number (source.Certificate number) = 1
 text_number (source.Statement index) = 2
 
-abbrev pub text_index : Source → ℕ
+abbrev pub text_index : WhichText → ℕ
 text_index (source.Certificate number) = number
 text_index (source.Statement index) = index
 
-abbrev pub place_of : of_text.Part → Place
+abbrev pub place_of : of_text.TextPart → Place
 place_of part = record {
   text = text_number part.source;
   index = text_index part.source;
@@ -102,5 +102,5 @@ question_of asked = record {
   key_info = place_of asked.key_info;
   message = place_of asked.message;
   signature = place_of asked.signature;
-  fingerprint = print_of (seen_question asked);
+  fingerprint = judgement_print (seen_question asked);
 }

@@ -8,7 +8,7 @@ use Rattle.cert.specs.declared.fault.CertFault.TheVariants as cert
 use Rattle.cert.specs.declared.fault.CertRule.{CertRule}
 use Rattle.path.specs.Reading.{IsFirstRefused}
 use Rattle.path.specs.declared.query.QueryFault.{QueryFault}
-use Rattle.statements_parts.specs.Fault.{rule_number}
+use Rattle.statements_parts.specs.Fault.{statement_rule_number}
 use Rattle.statements_parts.specs.declared.fault.ReadingFault.{ReadingFault}
 use Rattle.statements_parts.specs.declared.fault.ReadingFault.TheVariants as reading
 use Rattle.statements_parts.specs.declared.fault.StatementRule.{StatementRule}
@@ -16,9 +16,9 @@ use Rattle.statements_parts.specs.declared.fault.StatementRule.TheVariants.{Der}
 use Rattle.relying_texts.specs.Reading.{IsFirstStatementRefused}
 use Rattle.relying_texts.specs.declared.reading.StatementsFault.{StatementsFault}
 use Rattle.capi.specs.Fields.{der_number}
-use Rattle.capi.specs.Texts.{AreCertificates, certificates_in, octets_in}
+use Rattle.capi.specs.Texts.{AreCertificates, certificate_texts, octets_of_texts}
 use Rattle.capi.specs.declared.refusal.Refusal.{Refusal}
-use Rattle.capi.specs.declared.texts.Query.{Query}
+use Rattle.capi.specs.declared.texts.QueryOfTexts.{QueryOfTexts}
 use Rattle.capi.specs.declared.texts.Text.{Text}
 
 -- where the fault is one of DER, the number of the rule of DER that is broken
@@ -46,29 +46,29 @@ abbrev pub certificate_refused : CertRule → ℕ → ℕ → Refusal
 certificate_refused rule index offset = refused 1 (cert_rule_number rule) (der_number rule) index offset
 
 abbrev pub statement_refused : StatementRule → ℕ → ℕ → Refusal
-statement_refused rule index offset = refused 2 (rule_number rule) (der_number_of rule) index offset
+statement_refused rule index offset = refused 2 (statement_rule_number rule) (der_number_of rule) index offset
 
 -- ---- of what was handed in
 
 -- a certificate is none, and those before it are; or memory ran out
-abbrev pub TellsCertificate : Query → Refusal → Type 0
-TellsCertificate query told =
-    ((rule : CertRule) × IsFirstRefused (certificates_in query) told.index (cert.Refused rule told.offset)
+abbrev pub TellsBadCertificate : QueryOfTexts → Refusal → Type 0
+TellsBadCertificate query told =
+    ((rule : CertRule) × IsFirstRefused (certificate_texts query) told.index (cert.Refused rule told.offset)
     × (told ≡ certificate_refused rule told.index told.offset))
     ⊎ (told ≡ no_memory)
 
 -- the same of a statement
 abbrev pub TellsStatement : List Text → Refusal → Type 0
 TellsStatement statements told =
-    ((rule : StatementRule) × IsFirstStatementRefused (octets_in statements) told.index (reading.Refused rule told.offset)
+    ((rule : StatementRule) × IsFirstStatementRefused (octets_of_texts statements) told.index (reading.Refused rule told.offset)
     × (told ≡ statement_refused rule told.index told.offset))
     ⊎ (told ≡ no_memory)
 
 -- the certificates are looked at first, and then the statements
-abbrev pub TellsRefusal : Query → List Text → Refusal → Type 0
+abbrev pub TellsRefusal : QueryOfTexts → List Text → Refusal → Type 0
 TellsRefusal query statements told =
-    TellsCertificate query told
-    ⊎ ((these : List Certificate) × AreCertificates (certificates_in query) these × TellsStatement statements told)
+    TellsBadCertificate query told
+    ⊎ ((these : List Certificate) × AreCertificates (certificate_texts query) these × TellsStatement statements told)
 
 -- ---- of what a reader answers
 

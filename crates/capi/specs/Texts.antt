@@ -7,38 +7,38 @@ use Rattle.path.specs.Query.{Query}
 use Rattle.statements.specs.Statement.{Statement}
 use Rattle.relying_texts.specs.Reading.{AreStatementsRead}
 use Rattle.capi.specs.declared.texts.Text.{Text}
-use Rattle.capi.specs.declared.texts.Query as code
+use Rattle.capi.specs.declared.texts.QueryOfTexts as code
 
-abbrev pub octets_in : List Text → List (List ℕ)
-octets_in texts = map (λ (text : Text). text.octets.now) texts
+abbrev pub octets_of_texts : List Text → List (List ℕ)
+octets_of_texts texts = map (λ (text : Text). text.octets.now) texts
 
 -- no octet is greater than 255
 abbrev pub AreAllOctets : List (List ℕ) → Type 0
 AreAllOctets texts = AllByRecursion AreOctets texts
 
 -- the certificates of a query, the anchor first
-abbrev pub certificates_in : code.Query → List (List ℕ)
-certificates_in query = query.anchor.octets.now ∷ octets_in query.path.now
+abbrev pub certificate_texts : code.QueryOfTexts → List (List ℕ)
+certificate_texts query = query.anchor.octets.now ∷ octets_of_texts query.path.now
 
 -- the purpose, if there are octets of one
-abbrev pub purpose_in : List ℕ → Option (List ℕ)
-purpose_in [] = None
-purpose_in (octet ∷ octets) = Some (octet ∷ octets)
+abbrev pub purpose_if_any : List ℕ → Option (List ℕ)
+purpose_if_any [] = None
+purpose_if_any (octet ∷ octets) = Some (octet ∷ octets)
 
 -- the certificates are what the texts are
 abbrev pub AreCertificates : List (List ℕ) → List Certificate → Type 0
 AreCertificates texts these = map certificate texts ≡ map (λ c. Ok c) these
 
 -- what was read is the query
-pub record IsQueryRead (query : code.Query) (read : Query) : Type 0 where
-  pub certificates : AreCertificates (certificates_in query) (read.anchor ∷ read.certificates)
+pub record IsQueryRead (query : code.QueryOfTexts) (read : Query) : Type 0 where
+  pub certificates : AreCertificates (certificate_texts query) (read.anchor ∷ read.certificates)
   pub moment : read.moment ≡ query.moment
-  pub purpose : read.purpose ≡ purpose_in query.purpose.octets.now
+  pub purpose : read.purpose ≡ purpose_if_any query.purpose.octets.now
 
 -- what was read is the query, and these are the statements
-pub record IsRead (query : code.Query) (statements : List Text) (read : Query) (these : List Statement) : Type 0 where
+pub record IsRead (query : code.QueryOfTexts) (statements : List Text) (read : Query) (these : List Statement) : Type 0 where
   pub query_is : IsQueryRead query read
-  pub statements_are : AreStatementsRead (octets_in statements) these
+  pub statements_are : AreStatementsRead (octets_of_texts statements) these
 
 -- the text with the index is there, and has these octets
 abbrev pub IsAt : List (List ℕ) → ℕ → List ℕ → Type 0

@@ -11,7 +11,7 @@ use Rattle.capi.specs.Refusal.{TellsRefusal, no_refusal}
 use Rattle.capi.specs.Texts.{IsRead}
 use Rattle.capi.specs.declared.answer.VerdictAnswer.{VerdictAnswer}
 use Rattle.capi.specs.declared.refusal.Refusal.{Refusal}
-use Rattle.capi.specs.declared.texts.Query.{Query}
+use Rattle.capi.specs.declared.texts.QueryOfTexts.{QueryOfTexts}
 use Rattle.capi.specs.declared.texts.Text.{Text}
 
 -- the number of a verdict, the certificate that decides, and the reason; no verdict has the number 0
@@ -33,7 +33,7 @@ abbrev pub refusal_answer : Refusal → VerdictAnswer
 refusal_answer told = record { verdict = 5; reason = 0; certificate = 0; refusal = told }
 
 -- The verdict on the path by the statements, of who accepts exactly the signatures that have these fingerprints.
-pub record IsVerdictOn (query : Query) (statements : List Text) (prints : List (List ℕ)) (verdict : Verdict) : Type 0 where
+pub record IsVerdictOn (query : QueryOfTexts) (statements : List Text) (prints : List (List ℕ)) (verdict : Verdict) : Type 0 where
   pub read : of_path.Query
   pub these : List Statement
   pub is_read : IsRead query statements read these
@@ -42,7 +42,7 @@ pub record IsVerdictOn (query : Query) (statements : List Text) (prints : List (
   pub is_verdict : IsVerdictByStatements accepts read these verdict
 
 -- the answer tells the verdict, or what is refused
-abbrev pub TellsAnswer : VerdictAnswer → Query → List Text → List (List ℕ) → Type 0
+abbrev pub TellsAnswer : VerdictAnswer → QueryOfTexts → List Text → List (List ℕ) → Type 0
 TellsAnswer answer query statements prints =
     ((verdict : Verdict) × IsVerdictOn query statements prints verdict × TellsVerdict answer verdict)
     ⊎ ((told : Refusal) × TellsRefusal query statements told × (answer ≡ refusal_answer told))

@@ -5,10 +5,10 @@ ghost use Rattle.path.specs.Reading.{seen_query};
 ghost use Rattle.statements.specs.Statement.{seen_statement};
 ghost use Rattle.relying_texts.specs.Reading.{AreStatementsRead};
 ghost use Rattle.capi.specs.Refusal.{TellsRefusal, TellsStatement};
-ghost use Rattle.capi.specs.Texts.{AreAllOctets, IsRead, certificates_in, octets_in};
+ghost use Rattle.capi.specs.Texts.{AreAllOctets, IsRead, certificate_texts, octets_of_texts};
 
 use crate::refusal::Refusal;
-use crate::texts::{Query, Text, octets_of};
+use crate::texts::{QueryOfTexts, Text, octets_of};
 use relying_texts::read_statements;
 use statements::Statement;
 use std::alloc::Global;
@@ -23,8 +23,8 @@ pub(crate) struct Case<'a> {
 /// The statements that the texts are.
 fn read_each<'a>(alloc: Global, texts: &[Text<'a>]) -> Result<Vec<Statement<'a>>, Refusal>
     ensures reads { IfOk result (λ read.
-        AreStatementsRead (octets_in texts.now) (map seen_statement read.items)) }
-    ensures fit { IfOk result (λ _. AreAllOctets (octets_in texts.now)) }
+        AreStatementsRead (octets_of_texts texts.now) (map seen_statement read.items)) }
+    ensures fit { IfOk result (λ _. AreAllOctets (octets_of_texts texts.now)) }
     ensures refuses { IfErr result (TellsStatement texts.now) }
 {
     let octets = octets_of(alloc, texts)?;
@@ -38,13 +38,13 @@ impl<'a> Case<'a> {
     /// Reads the certificates, and then the statements, each once.
     pub(crate) fn read(
         alloc: Global,
-        query: &Query<'a>,
+        query: &QueryOfTexts<'a>,
         statements: &[Text<'a>],
     ) -> Result<Case<'a>, Refusal>
         ensures reads { IfOk result (λ case. IsRead query.now statements.now
             (seen_query case.query) (map seen_statement case.statements.items)) }
         ensures fit { IfOk result (λ _.
-            AreAllOctets (certificates_in query.now) × AreAllOctets (octets_in statements.now)) }
+            AreAllOctets (certificate_texts query.now) × AreAllOctets (octets_of_texts statements.now)) }
         ensures refuses { IfErr result (TellsRefusal query.now statements.now) }
     {
         let query = query.read(alloc)?;

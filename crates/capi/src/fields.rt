@@ -54,7 +54,8 @@ impl Part {
     ghost use Rattle.std.specs.Prelude.{◌≡◌, ◌<◌, ◌+◌, length};
     ghost use Rattle.asn.specs.Place.{seen_tlv, body_place};
     ghost use Rattle.names.specs.GeneralView.{name_contents};
-    ghost use Rattle.capi.specs.Parts.{IsPartAt, IsContentsOf, IsBitsOf, bits_at};
+    ghost use Rattle.relying_questions.specs.Places.{bits_at};
+    ghost use Rattle.capi.specs.Parts.{IsPartAt, IsContentsOf, IsBitsOf};
 
     /// The octets that stand at this offset.
     fn at(offset: usize, octets: &[u8]) -> Part

@@ -24,7 +24,7 @@ pub use name_calls::{x509check_fault_name, x509check_reason_name};
 pub use questions::{Asked, Place, SignatureQuestion, x509check_questions};
 pub use reading::x509check_read_certificate;
 pub use refusal::Refusal;
-pub use texts::{Query, Text};
+pub use texts::{QueryOfTexts, Text};
 pub use validating::x509check_validate;
 pub use version_call::x509check_version;
 

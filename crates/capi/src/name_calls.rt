@@ -1,7 +1,7 @@
 //! `x509check_fault_name` and `x509check_reason_name`.
 
 ghost use Rattle.std.specs.Prelude.{◌≡◌, length};
-ghost use Rattle.capi.specs.Names.{NamesAreOfFaults, NamesAreOfRanks, certificate_fault, der_or_name_fault, fault_name, rank_name, revocation_name, statement_fault, verdict_reason, written_over};
+ghost use Rattle.capi.specs.Names.{NamesAreOfFaults, NamesAreOfRanks, certificate_fault, der_or_name_fault, numbered_fault_name, rank_name, revocation_name, statement_fault, verdict_reason, written_over};
 
 use crate::validating::{INVALID, REVOKED};
 
@@ -123,7 +123,7 @@ fn revocation_name(number: u32) -> &'static str
 
 /// The name of a fault, or of a rule of DER; empty if none has the number.
 fn fault_name(number: u32) -> &'static str
-    ensures named { result.now ≡ fault_name number }
+    ensures named { result.now ≡ numbered_fault_name number }
     ensures of_faults { NamesAreOfFaults }
 {
     match number {
@@ -163,8 +163,8 @@ fn write_name(name: &str, room: &mut [u8]) -> usize
 /// how many octets the name has; if no fault has the number, it is 0, and the name is empty.
 #[unsafe(no_mangle)]
 pub extern "C" fn x509check_fault_name(fault: u32, name: &mut [u8]) -> usize
-    ensures written { name.new ≡ written_over (fault_name fault) name.old }
-    ensures length { result ≡ length (fault_name fault) }
+    ensures written { name.new ≡ written_over (numbered_fault_name fault) name.old }
+    ensures length { result ≡ length (numbered_fault_name fault) }
     ensures of_faults { NamesAreOfFaults }
 {
     write_name(fault_name(fault), name)

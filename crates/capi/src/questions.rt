@@ -5,8 +5,8 @@ ghost use Rattle.capi.specs.Questions.{TellsQuestions, WritesQuestions, place_of
 
 use crate::case::Case;
 use crate::refusal::Refusal;
-use crate::texts::{Query, Text};
-use relying_questions::{Part, SignatureQuestion as Asking, Source, questions};
+use crate::texts::{QueryOfTexts, Text};
+use relying_questions::{TextPart, SignatureQuestion as Asking, WhichText, questions};
 use std::alloc::Global;
 
 /// Octets of a certificate or of a statement.
@@ -41,12 +41,12 @@ pub struct Asked {
 }
 
 impl Place {
-    fn of(part: &Part<'_>) -> Place
+    fn of(part: &TextPart<'_>) -> Place
         ensures { result ≡ place_of part.now }
     {
         let (text, index) = match part.source {
-            Source::Certificate(number) => (1, number),
-            Source::Statement(index) => (2, index),
+            WhichText::Certificate(number) => (1, number),
+            WhichText::Statement(index) => (2, index),
         };
         Place {
             text,
@@ -85,7 +85,7 @@ fn write(asked: &[Asking<'_>], questions: &mut [SignatureQuestion])
 /// Writes the questions about the path and the statements, and answers how many there are.
 fn write_questions(
     alloc: Global,
-    query: &Query<'_>,
+    query: &QueryOfTexts<'_>,
     statements: &[Text<'_>],
     written: &mut [SignatureQuestion],
 ) -> Result<usize, Refusal>
@@ -103,7 +103,7 @@ fn write_questions(
 #[unsafe(no_mangle)]
 pub extern "C" fn x509check_questions(
     alloc: Global,
-    query: &Query<'_>,
+    query: &QueryOfTexts<'_>,
     statements: &[Text<'_>],
     questions: &mut [SignatureQuestion],
 ) -> Asked

@@ -114,7 +114,7 @@ fn reads_extensions(rt: HostRuntime) {
 fn structs_have_their_sizes(rt: HostRuntime) {
     const SIZES: [usize; 12] = [
         size_of::<Text<'static>>(),
-        size_of::<Query<'static>>(),
+        size_of::<QueryOfTexts<'static>>(),
         size_of::<Part>(),
         size_of::<Answer>(),
         size_of::<ExtensionFields>(),
@@ -178,8 +178,8 @@ fn lists<'a>() -> [Text<'a>; 2] {
     pair(LISTS.split_at(187))
 }
 
-fn query<'a>(anchor: Text<'a>, path: &'a [Text<'a>], moment: i64, purpose: &'a [u8]) -> Query<'a> {
-    Query {
+fn query<'a>(anchor: Text<'a>, path: &'a [Text<'a>], moment: i64, purpose: &'a [u8]) -> QueryOfTexts<'a> {
+    QueryOfTexts {
         anchor,
         path,
         moment,

@@ -3,9 +3,9 @@
 ghost use Rattle.std.specs.Prelude.{◌≡◌, IfErr, IfOk};
 ghost use Rattle.std.specs.Option.{option_copied};
 ghost use Rattle.path.specs.Reading.{seen_query, texts_of};
-ghost use Rattle.capi.specs.Refusal.{TellsCertificate};
+ghost use Rattle.capi.specs.Refusal.{TellsBadCertificate};
 ghost use Rattle.asn.specs.DerLaws.{AreOctets};
-ghost use Rattle.capi.specs.Texts.{AreAllOctets, IsQueryRead, certificates_in, octets_in, purpose_in};
+ghost use Rattle.capi.specs.Texts.{AreAllOctets, IsQueryRead, certificate_texts, octets_of_texts, purpose_if_any};
 
 use crate::refusal::Refusal;
 use std::alloc::{AllocError, Global};
@@ -20,7 +20,7 @@ pub struct Text<'a> {
 /// A query about a path, as `path::Query`, in texts. If the purpose has no octets, no purpose is asked for.
 #[derive(Clone, Copy)]
 #[repr(C)]
-pub struct Query<'a> {
+pub struct QueryOfTexts<'a> {
     pub anchor: Text<'a>,
     pub path: &'a [Text<'a>],
     pub moment: i64,
@@ -44,7 +44,7 @@ impl<'a> Text<'a> {
 
 /// The octets of each text.
 pub(crate) fn octets_of<'a>(alloc: Global, texts: &[Text<'a>]) -> Result<Vec<&'a [u8]>, AllocError>
-    ensures texts { IfOk result (λ octets. texts_of octets.items ≡ octets_in texts.now) }
+    ensures texts { IfOk result (λ octets. texts_of octets.items ≡ octets_of_texts texts.now) }
     ensures fit { IfOk result (λ octets. AreAllOctets (texts_of octets.items)) }
 {
     let mut octets = Vec::new(alloc);
@@ -56,7 +56,7 @@ pub(crate) fn octets_of<'a>(alloc: Global, texts: &[Text<'a>]) -> Result<Vec<&'a
 
 /// The purpose that is asked for, if there are octets of one.
 fn purpose_of(octets: &[u8]) -> Option<&[u8]>
-    ensures { option_copied result ≡ purpose_in octets.now }
+    ensures { option_copied result ≡ purpose_if_any octets.now }
 {
     if octets.is_empty() {
         None
@@ -65,12 +65,12 @@ fn purpose_of(octets: &[u8]) -> Option<&[u8]>
     }
 }
 
-impl<'a> Query<'a> {
+impl<'a> QueryOfTexts<'a> {
     /// Reads the certificates, the anchor first.
     pub(crate) fn read(&self, alloc: Global) -> Result<path::Query<'a>, Refusal>
         ensures reads { IfOk result (λ query. IsQueryRead self.now (seen_query query)) }
-        ensures fit { IfOk result (λ _. AreAllOctets (certificates_in self.now)) }
-        ensures refuses { IfErr result (TellsCertificate self.now) }
+        ensures fit { IfOk result (λ _. AreAllOctets (certificate_texts self.now)) }
+        ensures refuses { IfErr result (TellsBadCertificate self.now) }
     {
         let path = octets_of(alloc, self.path)?;
         let purpose = purpose_of(self.purpose.octets);

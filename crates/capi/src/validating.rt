@@ -8,7 +8,7 @@ ghost use Rattle.capi.specs.Verdict.{IsVerdictOn, TellsAnswer, TellsVerdict, ref
 use crate::answer::VerdictAnswer;
 use crate::case::Case;
 use crate::refusal::Refusal;
-use crate::texts::{Query, Text};
+use crate::texts::{QueryOfTexts, Text};
 use path_verifiers::ListVerifier;
 use relying_agreement::Verdict;
 use relying_texts::verdict;
@@ -76,7 +76,7 @@ fn believing(alloc: Global, fingerprints: &[[u8; 32]]) -> Result<ListVerifier, A
 /// The verdict by the statements.
 fn verdict_on(
     alloc: Global,
-    query: &Query<'_>,
+    query: &QueryOfTexts<'_>,
     statements: &[Text<'_>],
     fingerprints: &[[u8; 32]],
 ) -> Result<Verdict, Refusal>
@@ -93,7 +93,7 @@ fn verdict_on(
 #[unsafe(no_mangle)]
 pub extern "C" fn x509check_validate(
     alloc: Global,
-    query: &Query<'_>,
+    query: &QueryOfTexts<'_>,
     statements: &[Text<'_>],
     fingerprints: &[[u8; 32]],
 ) -> VerdictAnswer

@@ -11,7 +11,7 @@ use Rattle.names.specs.GeneralForms.{IsGeneralName}
 use Rattle.names.proofs.Laws.{general_names_are_read}
 use Rattle.cert.specs.declared.fault.CertRule.{CertRule}
 use Rattle.cert.specs.declared.fault.CertRule.TheVariants.{Name, ExtensionValue}
-use Rattle.cert.specs.AlternativeNames.{has_form, one_more_name, alternative_names, AreAlternativeNames}
+use Rattle.cert.specs.AlternativeNames.{has_name_form, one_more_name, alternative_names, AreAlternativeNames}
 use Rattle.cert.proofs.ContainedValues.{contained_ok, contained_again}
 use Rattle.cert.proofs.AddedItems.{Adds, RoomBelow, at_most, some_items_ok, some_items_again}
 use Rattle.cert.proofs.Rooms.{as_name_ok, room_ok, room_again}
@@ -25,7 +25,7 @@ formed value (other_name number contents) is = rw is.0 refl
 name_ok : (from : List GeneralName) (value : Place) (to : List GeneralName) → one_more_name from value ≡ Ok to → Adds IsGeneralName (RoomBelow 4096) from value to
 unfolding one_more_name
 name_ok from value to e =
-    let form = bind_ok (has_form value) _ to e in
+    let form = bind_ok (has_name_form value) _ to e in
     let room = bind_ok _ _ to form.2 in
     let name = bind_ok _ _ to room.2 in
     record {
@@ -36,7 +36,7 @@ name_ok from value to e =
     }
 
 name_again : (from : List GeneralName) (value : Place) (to : List GeneralName) → Adds IsGeneralName (RoomBelow 4096) from value to → one_more_name from value ≡ Ok to
-unfolding one_more_name has_form
+unfolding one_more_name has_name_form
 name_again from value to adds =
     let read = (general_names_are_read value adds.item).1 adds.is_item in
     rw (check_again (is_some (form_of_identifier (tag value))) (Name NameLayout) value.at (formed value adds.item adds.is_item), room_again 4096 (length from) value.at adds.room, read, ← adds.added) refl

@@ -5,7 +5,7 @@ use Rattle.asn.specs.Rule.{Rule}
 use Rattle.asn.specs.Identifier.{is_constructed}
 use Rattle.asn.specs.Place.{Place, tag, body}
 use Rattle.asn.specs.Members.{Members, members}
-use Rattle.asn.specs.Judgement.{judgement, outermost, placed}
+use Rattle.asn.specs.Outermost.{first_fault_in, outermost, placed}
 use Rattle.asn.specs.Walk.{check_that, is_a, required, next_or, optional, any, ended, or_fault, time}
 use Rattle.asn.proofs.Laws.{IsEncodedPart, judgement_within, outermost_ok}
 use Rattle.names.specs.NameLayout.{name}
@@ -167,12 +167,12 @@ at_within text value octets is =
 
 outermost_within : (text : List ℕ) → AreOctets text → Within text (IsEncodedPart text) (as_der (outermost text))
 unfolding outermost
-outermost_within text octets = der_within text (IsEncodedPart text) (outermost text) (by (judgement text) refl)
+outermost_within text octets = der_within text (IsEncodedPart text) (outermost text) (by (first_fault_in text) refl)
   where
     whole : Place
     whole = record { octets = text; at = 0 }
 
-    by : (r : Result (Unit {0}) (Rule × ℕ)) → judgement text ≡ r → Within text (IsEncodedPart text) (outermost text)
+    by : (r : Result (Unit {0}) (Rule × ℕ)) → first_fault_in text ≡ r → Within text (IsEncodedPart text) (outermost text)
     by (Ok u) e =
         let read : outermost text ≡ Ok whole = ap (λ r. placed r whole) e in
         let is = (outermost_ok text whole octets read).1 in

@@ -8,7 +8,7 @@ use Rattle.asn.specs.DerLaws.{AreOctets}
 use Rattle.asn.specs.Place.{Place, tag, body}
 use Rattle.asn.specs.Members.{Members, members, begins, begins_in}
 use Rattle.asn.specs.Walk.{optional}
-use Rattle.asn.specs.Judgement.{outermost}
+use Rattle.asn.specs.Outermost.{outermost}
 use Rattle.asn.proofs.Laws.{bind_ok, ok_is, check_ok, check_again, is_a_ok, is_a_again, next_or_ok, next_or_again, TakesOptional, optional_is, optional_there, optional_absent, ended_ok, ended_again, members_octets, outermost_ok, outermost_again}
 use Rattle.cert.specs.declared.fault.CertRule.{CertRule}
 use Rattle.cert.specs.declared.fault.CertRule.TheVariants as R

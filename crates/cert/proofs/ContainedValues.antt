@@ -5,7 +5,7 @@ use Rattle.asn.specs.DerLaws.{AreOctets}
 use Rattle.asn.specs.Rule.{Rule}
 use Rattle.asn.specs.Part.{IsWhole, contents}
 use Rattle.asn.specs.Place.{Place, body, body_place}
-use Rattle.asn.specs.Judgement.{nested}
+use Rattle.asn.specs.Outermost.{nested}
 use Rattle.asn.specs.Layout.{IsEncodingOf}
 use Rattle.asn.proofs.Laws.{nested_ok, nested_again}
 use Rattle.cert.specs.Fault.{as_der}

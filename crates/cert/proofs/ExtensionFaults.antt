@@ -7,7 +7,7 @@ use Rattle.asn.specs.Encoding.{EncodesAt}
 use Rattle.asn.specs.Part.{IsPartOf}
 use Rattle.asn.specs.Place.{Place, tag, body, body_place}
 use Rattle.asn.specs.Members.{Members, members, begins, next_at}
-use Rattle.asn.specs.Judgement.{judgement, placed, nested}
+use Rattle.asn.specs.Outermost.{first_fault_in, placed, nested}
 use Rattle.asn.specs.Walk.{check_that, is_a, required, optional, next_or, ended, some, default_false, each}
 use Rattle.asn.proofs.Laws.{IsEncodedPart, contents_stand, judgement_within, nested_ok}
 use Rattle.names.specs.NameRule.{NameRule}
@@ -23,7 +23,7 @@ use Rattle.cert.specs.Extension.{Extension, extension}
 use Rattle.cert.specs.Extensions.{Taken, nothing_taken, kind_of_extension, saying_of, told_by, one_extension, extensions}
 use Rattle.cert.specs.KeyUsage.{key_usage}
 use Rattle.cert.specs.BasicConstraints.{basic_constraints, is_negative, path_length, path_length_in, saturated}
-use Rattle.cert.specs.AlternativeNames.{has_form, one_more_name, alternative_names}
+use Rattle.cert.specs.AlternativeNames.{has_name_form, one_more_name, alternative_names}
 use Rattle.cert.specs.NameConstraints.{no_bounds, subtree, one_more_subtree, some_subtrees, subtrees, subtrees_in, name_constraints}
 use Rattle.cert.specs.Purposes.{one_more_purpose, purposes}
 use Rattle.cert.proofs.FaultPlaces.{part_ends, part_octets, begins_at, next_begins, Left, members_left}
@@ -46,12 +46,12 @@ room_within text most count at low = check_within text (nat_lt count most) R.Lim
 -- the value that the contents of an OCTET STRING are
 nested_within : (text : List ℕ) (value : Place) → AreOctets text → IsEncodedPart text value → Within text (IsEncodedPart text) (as_der (nested value))
 unfolding nested body_place Rattle.asn.specs.Part.contents
-nested_within text value octets is = der_within text (IsEncodedPart text) (nested value) (by (judgement (body_place value).octets) refl)
+nested_within text value octets is = der_within text (IsEncodedPart text) (nested value) (by (first_fault_in (body_place value).octets) refl)
   where
     stands : IsPartOf text (body_place value).at (body_place value).octets
     stands = contents_stand text value is
 
-    by : (r : Result (Unit {0}) (Rule × ℕ)) → judgement (body_place value).octets ≡ r → Within text (IsEncodedPart text) (nested value)
+    by : (r : Result (Unit {0}) (Rule × ℕ)) → first_fault_in (body_place value).octets ≡ r → Within text (IsEncodedPart text) (nested value)
     by (Ok u) e =
         let read : nested value ≡ Ok (body_place value) = ap (λ r. placed r (body_place value)) e in
         let whole = (nested_ok value (body_place value) (part_octets text (body_place value).at (body_place value).octets octets stands) read).1 in
@@ -90,7 +90,7 @@ basic_within text value octets is =
     and_then text Any Any (ended R.ExtensionValue number.1) _ (ended_within text R.ExtensionValue number.1 last) (λ _ _. tt)))))
 
 one_name_within : (text : List ℕ) (earlier : List GeneralName) (value : Place) → IsEncodedPart text value → Within text Any (one_more_name earlier value)
-unfolding one_more_name has_form
+unfolding one_more_name has_name_form
 one_name_within text earlier value is =
     and_then text Any Any (check_that (is_some (form_of_identifier (tag value))) (R.Name NameLayout) value.at) _ (check_within text (is_some (form_of_identifier (tag value))) (R.Name NameLayout) value.at (begins_at text value is)) (λ _ _.
     and_then text Any Any (has_room 4096 (length earlier) value.at) _ (room_within text 4096 (length earlier) value.at (begins_at text value is)) (λ _ _.

@@ -11,7 +11,7 @@ use Rattle.std.specs.FinSet.{contains, insert, contains_tied, contains-insert, c
 use Rattle.std.specs.FinMap.{nat_cmp-IsAntisymmetric, slice_cmp-IsAntisymmetric}
 use Rattle.std.proofs.lemmas.Cmp.{nat_list_cmp_total}
 use Rattle.std.proofs.lemmas.List.Folds.{list_any-append, list_any_more, list_any_at}
-use Rattle.cert.specs.OidSet.{Oids, octets_in}
+use Rattle.cert.specs.OidSet.{Oids, oids_from}
 
 abbrev by_octets : Bor (List ℕ) → Bor (List ℕ) → Ordering
 by_octets x y = slice_cmp nat_cmp x.now y.now
@@ -50,35 +50,35 @@ any_mapped : (octets : List ℕ) (keys : List (Bor (List ℕ))) → list_any (eq
 any_mapped octets [] = refl
 any_mapped octets (x ∷ keys) = ap (λ b. has_octets octets x || b) (any_mapped octets keys)
 
-in_list : (octets : List ℕ) (oids : List (Bor (List ℕ))) → contains (octets_in oids) octets ≡ list_any (has_octets octets) oids
+in_list : (octets : List ℕ) (oids : List (Bor (List ℕ))) → contains (oids_from oids) octets ≡ list_any (has_octets octets) oids
 in_list octets oids = contains-from_list nat_list_cmp_total (map (λ oid. oid.now) oids) octets ∙ any_mapped octets oids
 
 -- the search through a list
-pub is_in_list : (octets : List ℕ) (oids : List (Bor (List ℕ))) (i : ℕ) (d : Bor (List ℕ)) → i < length oids → bytes_eq octets (get_or oids i d).now ≡ true → contains (octets_in oids) octets ≡ true
+pub is_in_list : (octets : List ℕ) (oids : List (Bor (List ℕ))) (i : ℕ) (d : Bor (List ℕ)) → i < length oids → bytes_eq octets (get_or oids i d).now ≡ true → contains (oids_from oids) octets ≡ true
 is_in_list octets oids i d lt same = in_list octets oids ∙ list_any_at (has_octets octets) oids i d lt (sym (texts_ties octets (get_or oids i d).now) ∙ same)
 
-pub is_in_no_more : (octets : List ℕ) (oids : List (Bor (List ℕ))) (i : ℕ) (d : Bor (List ℕ)) → i < length oids → contains (octets_in (take i oids)) octets ≡ false → bytes_eq octets (get_or oids i d).now ≡ false
-    → contains (octets_in (take (i + 1) oids)) octets ≡ false
+pub is_in_no_more : (octets : List ℕ) (oids : List (Bor (List ℕ))) (i : ℕ) (d : Bor (List ℕ)) → i < length oids → contains (oids_from (take i oids)) octets ≡ false → bytes_eq octets (get_or oids i d).now ≡ false
+    → contains (oids_from (take (i + 1) oids)) octets ≡ false
 is_in_no_more octets oids i d lt none differ =
     in_list octets (take (i + 1) oids)
     ∙ list_any_more (has_octets octets) oids i d lt
     ∙ (λ k. (sym (in_list octets (take i oids)) ∙ none) k || (sym (texts_ties octets (get_or oids i d).now) ∙ differ) k)
 
 -- what is in the set is in the list or in the tree
-in_either : (octets : List ℕ) (few keys : List (Bor (List ℕ))) → contains (octets_in (few ++ keys)) octets ≡ (list_any (has_octets octets) few || list_any (has_octets octets) keys)
+in_either : (octets : List ℕ) (few keys : List (Bor (List ℕ))) → contains (oids_from (few ++ keys)) octets ≡ (list_any (has_octets octets) few || list_any (has_octets octets) keys)
 in_either octets few keys = in_list octets (few ++ keys) ∙ list_any-append (has_octets octets) few keys
 
 -- what the search through the list says of the whole set
-pub is_found : (octets : List ℕ) (few slice keys : List (Bor (List ℕ))) → slice ≡ few → true ≡ contains (octets_in slice) octets → contains (octets_in (few ++ keys)) octets ≡ true
+pub is_found : (octets : List ℕ) (few slice keys : List (Bor (List ℕ))) → slice ≡ few → true ≡ contains (oids_from slice) octets → contains (oids_from (few ++ keys)) octets ≡ true
 is_found octets few slice keys same is =
-    in_either octets few keys ∙ ap (λ b. b || list_any (has_octets octets) keys) (sym (is ∙ ap (λ oids. contains (octets_in oids) octets) same ∙ in_list octets few))
+    in_either octets few keys ∙ ap (λ b. b || list_any (has_octets octets) keys) (sym (is ∙ ap (λ oids. contains (oids_from oids) octets) same ∙ in_list octets few))
 
-pub is_not_found : (octets : List ℕ) (few slice keys : List (Bor (List ℕ))) → slice ≡ few → false ≡ contains (octets_in slice) octets → contains (octets_in (few ++ keys)) octets ≡ list_any (has_octets octets) keys
+pub is_not_found : (octets : List ℕ) (few slice keys : List (Bor (List ℕ))) → slice ≡ few → false ≡ contains (oids_from slice) octets → contains (oids_from (few ++ keys)) octets ≡ list_any (has_octets octets) keys
 is_not_found octets few slice keys same is =
-    in_either octets few keys ∙ ap (λ b. b || list_any (has_octets octets) keys) (sym (is ∙ ap (λ oids. contains (octets_in oids) octets) same ∙ in_list octets few))
+    in_either octets few keys ∙ ap (λ b. b || list_any (has_octets octets) keys) (sym (is ∙ ap (λ oids. contains (oids_from oids) octets) same ∙ in_list octets few))
 
 -- where the tree is empty
-pub is_new : (octets : List ℕ) (few slice keys : List (Bor (List ℕ))) → slice ≡ few → false ≡ contains (octets_in slice) octets → length keys ≡ 0 → contains (octets_in (few ++ keys)) octets ≡ false
+pub is_new : (octets : List ℕ) (few slice keys : List (Bor (List ℕ))) → slice ≡ few → false ≡ contains (oids_from slice) octets → length keys ≡ 0 → contains (oids_from (few ++ keys)) octets ≡ false
 is_new octets few slice [] same is none = is_not_found octets few slice [] same is
 is_new octets few slice (x ∷ keys) same is none = absurd (omega arith)
 
@@ -92,18 +92,18 @@ with_known types octets is =
     by other true same = sym is ∙ contains_tied nat_list_cmp_total types other octets ((Equal-is (slice_cmp nat_cmp other octets)).0 same)
     by other false same = refl
 
-pub with_inserted : (few keys : List (Bor (List ℕ))) (key : Bor (List ℕ)) → octets_in (few ++ insert_key by_octets keys key) ≡ insert (octets_in (few ++ keys)) key.now
+pub with_inserted : (few keys : List (Bor (List ℕ))) (key : Bor (List ℕ)) → oids_from (few ++ insert_key by_octets keys key) ≡ insert (oids_from (few ++ keys)) key.now
 with_inserted few keys key =
     same_set nat_list_cmp_total (slice_cmp-IsAntisymmetric nat_cmp-IsAntisymmetric) _ _
     (λ octets. in_either octets few (insert_key by_octets keys key)
     ∙ ap (λ b. list_any (has_octets octets) few || b) (any_inserted octets keys key)
     ∙ or_swap (list_any (has_octets octets) few) (has_octets octets key) (list_any (has_octets octets) keys)
-    ∙ sym (contains-insert nat_list_cmp_total (octets_in (few ++ keys)) key.now octets ∙ ap (λ b. has_octets octets key || b) (in_either octets few keys)))
+    ∙ sym (contains-insert nat_list_cmp_total (oids_from (few ++ keys)) key.now octets ∙ ap (λ b. has_octets octets key || b) (in_either octets few keys)))
 
-pub with_pushed : (few keys : List (Bor (List ℕ))) (key : Bor (List ℕ)) → octets_in ((few ++ key ∷ []) ++ keys) ≡ insert (octets_in (few ++ keys)) key.now
+pub with_pushed : (few keys : List (Bor (List ℕ))) (key : Bor (List ℕ)) → oids_from ((few ++ key ∷ []) ++ keys) ≡ insert (oids_from (few ++ keys)) key.now
 with_pushed few keys key =
     same_set nat_list_cmp_total (slice_cmp-IsAntisymmetric nat_cmp-IsAntisymmetric) _ _
     (λ octets. in_either octets (few ++ key ∷ []) keys
     ∙ ap (λ b. b || list_any (has_octets octets) keys) (list_any-append (has_octets octets) few (key ∷ []))
     ∙ or_last (list_any (has_octets octets) few) (has_octets octets key) (list_any (has_octets octets) keys)
-    ∙ sym (contains-insert nat_list_cmp_total (octets_in (few ++ keys)) key.now octets ∙ ap (λ b. has_octets octets key || b) (in_either octets few keys)))
+    ∙ sym (contains-insert nat_list_cmp_total (oids_from (few ++ keys)) key.now octets ∙ ap (λ b. has_octets octets key || b) (in_either octets few keys)))

@@ -9,7 +9,7 @@ use Rattle.asn.specs.Part.{IsWhole}
 use Rattle.asn.specs.Place.{Place, seen_tlv, tag, body, body_place}
 use Rattle.asn.specs.Members.{Members, members}
 use Rattle.asn.specs.Walk.{◌>>=◌, check_that, is_a, some, each}
-use Rattle.asn.specs.Judgement.{nested}
+use Rattle.asn.specs.Outermost.{nested}
 use Rattle.names.specs.NameRule.TheVariants.{NameLayout}
 use Rattle.names.specs.GeneralLayout.{GeneralName, form_of_identifier, general}
 use Rattle.names.specs.GeneralForms.{IsGeneralName}
@@ -21,13 +21,13 @@ use Rattle.cert.specs.declared.fault.CertRule.{CertRule}
 use Rattle.cert.specs.declared.fault.CertRule.TheVariants.{Name, ExtensionValue}
 
 -- the value has the identifier of a general name
-unfoldable pub has_form : Place → Result (Unit {0}) (CertRule × ℕ)
-has_form value = check_that (is_some (form_of_identifier (tag value))) (Name NameLayout) value.at
+unfoldable pub has_name_form : Place → Result (Unit {0}) (CertRule × ℕ)
+has_name_form value = check_that (is_some (form_of_identifier (tag value))) (Name NameLayout) value.at
 
 -- the names, with one more
 unfoldable pub one_more_name : List GeneralName → Place → Result (List GeneralName) (CertRule × ℕ)
 one_more_name earlier value = do
-  form ← has_form value
+  form ← has_name_form value
   room ← has_room 4096 (length earlier) value.at
   name ← as_name (general value)
   Ok (earlier ++ name ∷ [])

@@ -6,7 +6,7 @@ use Rattle.asn.specs.Part.{IsWhole}
 use Rattle.asn.specs.Place.{Place, tag, body, body_place}
 use Rattle.asn.specs.Members.{Members, members}
 use Rattle.asn.specs.Walk.{◌>>=◌, is_a, optional, default_false, ended}
-use Rattle.asn.specs.Judgement.{nested}
+use Rattle.asn.specs.Outermost.{nested}
 use Rattle.asn.specs.Layout.{IsDefaultFalse}
 use Rattle.asn.specs.Integer.{binary_value, integer_value}
 use Rattle.cert.specs.Fault.{as_der}
@@ -20,6 +20,11 @@ pub record BasicConstraints : Type 0 where
 
 abbrev pub seen_basic_constraints : code.BasicConstraints → BasicConstraints
 seen_basic_constraints read = record { ca = read.ca; path_length = read.path_length }
+
+-- its pathLenConstraint, if there is one
+abbrev pub path_len_constraint : Option BasicConstraints → Option ℕ
+path_len_constraint None = None
+path_len_constraint (Some constraints) = constraints.path_length
 
 -- contents of a negative INTEGER have the first bit set (X.690, 8.3.3)
 abbrev pub is_negative : List ℕ → Bool

@@ -4,7 +4,7 @@ use Rattle.std.specs.Str.{bytes_eq}
 use Rattle.asn.specs.Place.{Place, seen_tlv, body}
 use Rattle.asn.specs.Members.{Members, left, members}
 use Rattle.asn.specs.Walk.{◌>>=◌, is_a, next_or, optional, ended, check_that}
-use Rattle.asn.specs.Judgement.{outermost}
+use Rattle.asn.specs.Outermost.{outermost}
 use Rattle.names.specs.DistinguishedName.{NamesMatch, matching}
 use Rattle.names.specs.GeneralLayout.{NameContents}
 use Rattle.names.specs.GeneralView.{name_contents}
@@ -24,7 +24,7 @@ use Rattle.cert.specs.SubjectPublicKeyInfo.{SubjectPublicKeyInfo, seen_key_info}
 use Rattle.cert.specs.BitString.{BitString, bit_string_at, seen_bit_string, has_no_unused_bits}
 use Rattle.cert.specs.Version.{is_v3}
 use Rattle.cert.specs.Extensions.{Extensions, no_extensions, extensions, seen_extensions}
-use Rattle.cert.specs.TbsCertificate.{TbsHead, Subject, component, tbs_head, tbs_subject, seen_head, seen_subject}
+use Rattle.cert.specs.TbsCertificate.{TbsHead, Subject, component, tbs_head, tbs_subject, seen_tbs_head, seen_subject}
 
 -- extensions [3] EXPLICIT Extensions OPTIONAL (4.1.2.9): in v3 alone
 abbrev pub extensions_in : Version → Option Place → Members → Result (Extensions × Members) (CertRule × ℕ)
@@ -52,7 +52,7 @@ pub record TbsCertificate : Type 0 where
   pub extensions : Extensions
 
 abbrev pub seen_tbs : signed_part.TbsCertificate → TbsCertificate
-seen_tbs read = record { head = seen_head read.head; subject = seen_subject read.subject; extensions = seen_extensions read.extensions }
+seen_tbs read = record { head = seen_tbs_head read.head; subject = seen_subject read.subject; extensions = seen_extensions read.extensions }
 
 unfoldable pub tbs_certificate : Place → Result TbsCertificate (CertRule × ℕ)
 tbs_certificate value = do

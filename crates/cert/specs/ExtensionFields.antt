@@ -12,7 +12,7 @@ use Rattle.cert.specs.BasicConstraints.{BasicConstraints, IsBasicConstraints}
 use Rattle.cert.specs.NameConstraints.{IsNameConstraints}
 use Rattle.cert.specs.Purposes.{ArePurposes}
 
--- id-ce: 2.5.29 and a number
+-- id-ce OBJECT IDENTIFIER ::= { joint-iso-ccitt(2) ds(5) 29 } (4.2), and one number behind it
 abbrev pub id_ce : ℕ → List ℕ
 id_ce number = 0x55 ∷ 0x1D ∷ number ∷ []
 

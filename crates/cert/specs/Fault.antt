@@ -4,7 +4,7 @@ use Rattle.asn.specs.declared.tlv.Tlv.{Tlv}
 use Rattle.asn.specs.Place.{Place, seen_tlv}
 use Rattle.asn.specs.Rule.{Rule}
 use Rattle.names.specs.NameRule.{NameRule}
-use Rattle.names.specs.Fault.{fault_number, fault_name}
+use Rattle.names.specs.Fault.{name_rule_number, name_rule_name}
 use Rattle.cert.specs.declared.fault.CertFault.{CertFault}
 use Rattle.cert.specs.declared.fault.CertFault.TheVariants.{Refused, Memory}
 use Rattle.cert.specs.declared.fault.CertRule.{CertRule}
@@ -12,7 +12,7 @@ use Rattle.cert.specs.declared.fault.CertRule.TheVariants.{Der, Name, Layout, Ve
 
 abbrev pub cert_rule_number : CertRule → ℕ
 cert_rule_number (Der rule) = 21
-cert_rule_number (Name fault) = fault_number fault
+cert_rule_number (Name fault) = name_rule_number fault
 cert_rule_number Layout = 22
 cert_rule_number Version = 23
 cert_rule_number AlgorithmsDiffer = 24
@@ -27,7 +27,7 @@ cert_rule_number Limit = 32
 
 abbrev pub cert_rule_name : CertRule → List ℕ
 cert_rule_name (Der rule) = codes "Der"
-cert_rule_name (Name fault) = fault_name fault
+cert_rule_name (Name fault) = name_rule_name fault
 cert_rule_name Layout = codes "Layout"
 cert_rule_name Version = codes "Version"
 cert_rule_name AlgorithmsDiffer = codes "AlgorithmsDiffer"

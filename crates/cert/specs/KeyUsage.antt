@@ -5,7 +5,7 @@ use Rattle.asn.specs.DerLaws.{AreOctets}
 use Rattle.asn.specs.Part.{IsWhole}
 use Rattle.asn.specs.Place.{Place, tag, body, body_place}
 use Rattle.asn.specs.Walk.{◌>>=◌, is_a}
-use Rattle.asn.specs.Judgement.{nested}
+use Rattle.asn.specs.Outermost.{nested}
 use Rattle.names.specs.Ip.{bit}
 use Rattle.cert.specs.BitString.{bits_in}
 use Rattle.cert.specs.Fault.{as_der}

@@ -26,7 +26,7 @@ pub use Rattle.asn.specs.Time
 pub use Rattle.asn.specs.Oid
 pub use Rattle.asn.specs.Value
 pub use Rattle.asn.specs.Encoding
-pub use Rattle.asn.specs.Judgement
+pub use Rattle.asn.specs.Outermost
 pub use Rattle.names.specs.Ip
 pub use Rattle.asn.specs.Integer
 pub use Rattle.names.specs.GeneralLayout

@@ -9,7 +9,7 @@ use Rattle.asn.specs.Part.{IsWhole}
 use Rattle.asn.specs.Place.{Place, seen_tlv, tag, body, body_place}
 use Rattle.asn.specs.Members.{Members, left, members, begins, next_at}
 use Rattle.asn.specs.Walk.{◌>>=◌, check_that, is_a, optional, next_or, some, ended, each}
-use Rattle.asn.specs.Judgement.{nested}
+use Rattle.asn.specs.Outermost.{nested}
 use Rattle.names.specs.GeneralLayout.{SubtreeBase, base}
 use Rattle.names.specs.GeneralView.{subtree_base}
 use Rattle.names.specs.GeneralForms.{IsSubtreeBase}

@@ -9,8 +9,8 @@ use Rattle.cert.specs.declared.oid_set.OidSet.{OidSet}
 abbrev pub Oids : Type 0
 Oids = FinSet {K = List ℕ} (slice_cmp nat_cmp)
 
-abbrev pub octets_in : List (Bor (List ℕ)) → Oids
-octets_in oids = from_list (map (λ oid. oid.now) oids)
+abbrev pub oids_from : List (Bor (List ℕ)) → Oids
+oids_from oids = from_list (map (λ oid. oid.now) oids)
 
 unfoldable pub oids_in : OidSet → Oids
-oids_in set = octets_in (set.few.items ++ set.many.keys)
+oids_in set = oids_from (set.few.items ++ set.many.keys)

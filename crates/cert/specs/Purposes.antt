@@ -9,7 +9,7 @@ use Rattle.asn.specs.Part.{IsWhole}
 use Rattle.asn.specs.Place.{Place, seen_tlv, tag, body, body_place}
 use Rattle.asn.specs.Members.{Members, members}
 use Rattle.asn.specs.Walk.{◌>>=◌, is_a, some, each}
-use Rattle.asn.specs.Judgement.{nested}
+use Rattle.asn.specs.Outermost.{nested}
 use Rattle.cert.specs.Fault.{as_der, GivesUnlessFull}
 use Rattle.cert.specs.declared.fault.CertFault.{CertFault}
 use Rattle.asn.specs.declared.tlv.Tlv.{Tlv}

@@ -78,8 +78,8 @@ pub record TbsHead : Type 0 where
   pub issuer : NameContents
   pub validity : Validity
 
-abbrev pub seen_head : head.TbsHead → TbsHead
-seen_head read = record { version = read.version; serial = seen_tlv read.serial; signature = seen_algorithm read.signature; issuer = name_contents read.issuer; validity = seen_validity read.validity }
+abbrev pub seen_tbs_head : head.TbsHead → TbsHead
+seen_tbs_head read = record { version = read.version; serial = seen_tlv read.serial; signature = seen_algorithm read.signature; issuer = name_contents read.issuer; validity = seen_validity read.validity }
 
 unfoldable pub tbs_head : Members → Result (TbsHead × Members) (CertRule × ℕ)
 tbs_head left = do

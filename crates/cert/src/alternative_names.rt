@@ -3,19 +3,19 @@
 ghost use Rattle.asn.specs.Reading.{seen_tlv, left, Gives};
 ghost use Rattle.names.specs.GeneralLayout.{general};
 ghost use Rattle.cert.specs.Fault.{GivesUnlessFull, ReadsUnlessFull};
-ghost use Rattle.cert.specs.AlternativeNames.{has_form, alternative_names, seen_names, all_names, AddsName};
+ghost use Rattle.cert.specs.AlternativeNames.{has_name_form, alternative_names, seen_names, all_names, AddsName};
 
 use crate::contained::contained_value;
-use crate::fault::{CertFault, CertRule, Refusal, name_refusal};
+use crate::fault::{CertFault, CertRule, CertRefusal, name_refusal};
 use crate::limit::{MOST_NAMES, check_room};
 use asn::{Cursor, SEQUENCE, Tlv};
 use names::{General, NameRule, form_of_tag};
 use std::alloc::Global;
 
 /// The fault `NameLayout`, at the value, if it has the identifier of no general name.
-#[tactic(auto, unfolding(crate::specs::AlternativeNames::has_form, asn::specs::Walk::check_that))]
-fn check_form(value: Tlv<'_>) -> Result<(), Refusal>
-    ensures { Gives (λ _. tt) result (has_form (seen_tlv value.entry)) }
+#[tactic(auto, unfolding(crate::specs::AlternativeNames::has_name_form, asn::specs::Walk::check_that))]
+fn check_form(value: Tlv<'_>) -> Result<(), CertRefusal>
+    ensures { Gives (λ _. tt) result (has_name_form (seen_tlv value.entry)) }
 {
     match form_of_tag(value.tag) {
         Some(_) => Ok(()),

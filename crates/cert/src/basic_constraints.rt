@@ -5,7 +5,7 @@ ghost use Rattle.asn.specs.Reading.{StepGives, ReadsAs};
 ghost use Rattle.cert.specs.BasicConstraints.{is_negative, saturated, path_length, basic_constraints, seen_basic_constraints};
 
 use crate::contained::contained_value;
-use crate::fault::{CertRule, Refusal};
+use crate::fault::{CertRule, CertRefusal};
 use asn::{Cursor, INTEGER, SEQUENCE, Tlv};
 
 /// BasicConstraints ::= SEQUENCE { cA BOOLEAN DEFAULT FALSE, pathLenConstraint INTEGER (0..MAX) OPTIONAL }
@@ -39,7 +39,7 @@ fn saturated_number(octets: &[u8]) -> u32
 
 /// The path length, if it is there; else the fault, at it, if it is negative.
 #[tactic(auto, unfolding(crate::specs::BasicConstraints::path_length))]
-fn take_path_length(members: &mut Cursor<'_>) -> Result<Option<u32>, Refusal>
+fn take_path_length(members: &mut Cursor<'_>) -> Result<Option<u32>, CertRefusal>
     ensures { StepGives (λ number. number) result members.old members.new path_length }
 {
     match members.optional(INTEGER) {
@@ -58,7 +58,7 @@ impl BasicConstraints {
     /// Reads the basic constraints in the OCTET STRING; else the first fault: `Der` in its contents, or `ExtensionValue` at a value with a
     /// wrong identifier or left over, at a BOOLEAN that is not TRUE, or at a negative path length. A path length without `ca` is accepted.
     #[tactic(auto, unfolding(crate::specs::BasicConstraints::basic_constraints))]
-    pub fn read(octet_string: Tlv<'_>) -> Result<BasicConstraints, Refusal>
+    pub fn read(octet_string: Tlv<'_>) -> Result<BasicConstraints, CertRefusal>
         ensures { ReadsAs seen_basic_constraints result octet_string.entry basic_constraints }
     {
         let value = contained_value(octet_string)?;

@@ -2,7 +2,7 @@
 
 ghost use Rattle.std.specs.Prelude.{◌≡◌, IsTrue, ◌↔◌};
 ghost use Rattle.asn.specs.Reading.{seen_tlv, Gives, StepGives};
-ghost use Rattle.asn.specs.Judgement.{outermost as asn_outermost};
+ghost use Rattle.asn.specs.Outermost.{outermost as asn_outermost};
 ghost use Rattle.cert.specs.BitString.{seen_bit_string};
 ghost use Rattle.cert.specs.Certificate.{TakesOptionalExtensions, tbs_certificate, seen_tbs, repeats_algorithm, next_signature, signature_value, certificate_at, certificate, seen_certificate, IsSelfIssued, is_self_issued};
 ghost use Rattle.cert.specs.Fault.{GivesUnlessFull, as_der};
@@ -10,7 +10,7 @@ ghost use Rattle.cert.specs.Fault.{GivesUnlessFull, as_der};
 use crate::algorithm::AlgorithmIdentifier;
 use crate::bit_string::{BitString, is_of_whole_octets};
 use crate::extensions::Extensions;
-use crate::fault::{CertFault, CertRule, Refusal};
+use crate::fault::{CertFault, CertRule, CertRefusal};
 use crate::key_info::SubjectPublicKeyInfo;
 use crate::tbs::{Subject, TbsHead};
 use crate::validity::Validity;
@@ -98,7 +98,7 @@ impl<'a> TbsCertificate<'a> {
 fn take_same_algorithm(
     inner: AlgorithmIdentifier<'_>,
     members: &mut Cursor<'_>,
-) -> Result<(), Refusal>
+) -> Result<(), CertRefusal>
     ensures { StepGives (λ _. tt) result members.old members.new (repeats_algorithm inner.entry) }
 {
     let value = members.required(SEQUENCE, CertRule::Layout)?;
@@ -111,7 +111,7 @@ fn take_same_algorithm(
 
 /// signatureValue BIT STRING, whose bits must be whole octets
 #[tactic(auto, unfolding(crate::specs::Certificate::signature_value, asn::specs::Walk::check_that))]
-fn signature_at(value: Tlv<'_>) -> Result<BitString<'_>, Refusal>
+fn signature_at(value: Tlv<'_>) -> Result<BitString<'_>, CertRefusal>
     ensures { Gives seen_bit_string result (signature_value (seen_tlv value.entry)) }
 {
     if is_of_whole_octets(value.body) {
@@ -122,14 +122,14 @@ fn signature_at(value: Tlv<'_>) -> Result<BitString<'_>, Refusal>
 }
 
 #[tactic(auto, unfolding(crate::specs::TbsCertificate::component))]
-fn take_signature<'a>(members: &mut Cursor<'a>) -> Result<BitString<'a>, Refusal>
+fn take_signature<'a>(members: &mut Cursor<'a>) -> Result<BitString<'a>, CertRefusal>
     ensures { StepGives seen_bit_string result members.old members.new next_signature }
 {
     signature_at(members.required(BIT_STRING, CertRule::Layout)?)
 }
 
 /// The one value that the octets are the encoding of, with its fault as one of a certificate.
-fn outermost(octets: &[u8]) -> Result<Tlv<'_>, Refusal>
+fn outermost(octets: &[u8]) -> Result<Tlv<'_>, CertRefusal>
     ensures { Gives seen_tlv result (as_der (asn_outermost octets.now)) }
 {
     match Tlv::outermost(octets) {

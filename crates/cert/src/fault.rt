@@ -55,10 +55,10 @@ pub enum CertRule {
 }
 
 /// The rule that is broken, with the offset of the value that breaks it in the text handed to `asn::whole`.
-pub type Refusal = (CertRule, usize);
+pub type CertRefusal = (CertRule, usize);
 
 /// A fault in a name, as one of a certificate.
-pub(crate) fn name_refusal(refusal: (NameRule, usize)) -> Refusal
+pub(crate) fn name_refusal(refusal: (NameRule, usize)) -> CertRefusal
     ensures { result ≡ (Name refusal.0, refusal.1) }
 {
     let (fault, at) = refusal;
@@ -151,10 +151,10 @@ impl CertFault {
     }
 }
 
-impl From<Refusal> for CertFault {
+impl From<CertRefusal> for CertFault {
     ghost from_gives = { λ refusal fault. fault ≡ Refused refusal.0 refusal.1 };
 
-    fn from(refusal: Refusal) -> CertFault {
+    fn from(refusal: CertRefusal) -> CertFault {
         CertFault::Refused(refusal.0, refusal.1)
     }
 }

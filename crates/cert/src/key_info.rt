@@ -6,7 +6,7 @@ ghost use Rattle.cert.specs.SubjectPublicKeyInfo.{key_info, seen_key_info};
 
 use crate::algorithm::AlgorithmIdentifier;
 use crate::bit_string::BitString;
-use crate::fault::{CertRule, Refusal};
+use crate::fault::{CertRule, CertRefusal};
 use asn::{BIT_STRING, SEQUENCE, Tlv};
 
 /// SubjectPublicKeyInfo ::= SEQUENCE { algorithm AlgorithmIdentifier, subjectPublicKey BIT STRING }
@@ -24,7 +24,7 @@ impl<'a> SubjectPublicKeyInfo<'a> {
     /// Reads a public key (RFC 5280, 4.1.2.7); else the fault `Layout`, at a value with a wrong identifier or left over, or at the end of
     /// the value if one is missing. How many bits are unused is not looked at.
     #[tactic(auto, unfolding(crate::specs::SubjectPublicKeyInfo::key_info))]
-    pub fn read(value: Tlv<'a>) -> Result<SubjectPublicKeyInfo<'a>, Refusal>
+    pub fn read(value: Tlv<'a>) -> Result<SubjectPublicKeyInfo<'a>, CertRefusal>
         ensures { Gives seen_key_info result (key_info (seen_tlv value.entry)) }
     {
         value.is_a(SEQUENCE, CertRule::Layout)?;

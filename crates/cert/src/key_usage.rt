@@ -6,7 +6,7 @@ ghost use Rattle.cert.specs.KeyUsage.{has_bit, key_usage, seen_key_usage};
 
 use crate::bit_string::bits_of;
 use crate::contained::contained_value;
-use crate::fault::{CertRule, Refusal};
+use crate::fault::{CertRule, CertRefusal};
 use asn::{BIT_STRING, Tlv};
 
 /// KeyUsage ::= BIT STRING { digitalSignature (0), nonRepudiation (1), keyEncipherment (2), dataEncipherment (3),
@@ -21,7 +21,7 @@ impl<'a> KeyUsage<'a> {
     /// Reads the key usage in the OCTET STRING; else the first fault: `Der` in its contents, or `ExtensionValue` at a value that is no BIT
     /// STRING. Bits may be zero to the last one, and there may be none.
     #[tactic(auto, unfolding(crate::specs::KeyUsage::key_usage))]
-    pub fn read(octet_string: Tlv<'a>) -> Result<KeyUsage<'a>, Refusal>
+    pub fn read(octet_string: Tlv<'a>) -> Result<KeyUsage<'a>, CertRefusal>
         ensures { Gives seen_key_usage result (key_usage (seen_tlv octet_string.entry)) }
     {
         let value = contained_value(octet_string)?;

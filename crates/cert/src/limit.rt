@@ -4,14 +4,14 @@ ghost use Rattle.std.specs.Prelude.{◌<◌, OnOk};
 ghost use Rattle.asn.specs.Reading.{Gives};
 ghost use Rattle.cert.specs.Limit.{has_room};
 
-use crate::fault::{CertRule, Refusal};
+use crate::fault::{CertRule, CertRefusal};
 
 /// The most general names of a subjectAltName, and the most subtrees of a nameConstraints.
 pub const MOST_NAMES: usize = 4096;
 
 /// The fault `Limit`, at this offset, if there are as many as may be.
 #[tactic(auto, unfolding(crate::specs::Limit::has_room, asn::specs::Walk::check_that))]
-pub(crate) fn check_room(most: usize, count: usize, at: usize) -> Result<(), Refusal>
+pub(crate) fn check_room(most: usize, count: usize, at: usize) -> Result<(), CertRefusal>
     ensures walk { Gives (λ _. tt) result (has_room most count at) }
     ensures room { OnOk result (count < most) }
 {

@@ -3,7 +3,7 @@
 ghost use Rattle.std.specs.Prelude.{◌≡◌, not, OnOk, IfOk};
 ghost use Rattle.std.specs.Str.{bytes_eq};
 ghost use Rattle.std.specs.FinSet.{empty, contains, insert};
-ghost use Rattle.cert.specs.OidSet.{octets_in, oids_in};
+ghost use Rattle.cert.specs.OidSet.{oids_from, oids_in};
 
 use arrayvec::ArrayVec;
 use std::alloc::{AllocError, Global};
@@ -21,7 +21,7 @@ fn is_same(oid: &[u8], other: &[u8]) -> bool
 
 /// Whether it is one of the others.
 fn is_among(oid: &[u8], others: &[&[u8]]) -> bool
-    ensures { result ≡ contains (octets_in others.now) oid.now }
+    ensures { result ≡ contains (oids_from others.now) oid.now }
 {
     for other in others {
         if is_same(oid, other) {

@@ -7,7 +7,7 @@ ghost use Rattle.names.specs.GeneralView.{subtree_base};
 ghost use Rattle.cert.specs.Fault.{GivesUnlessFull};
 ghost use Rattle.cert.specs.NameConstraints.{no_bounds, subtree, all_subtrees, AddsSubtree, some_subtrees, seen_bases, TakesSubtrees};
 
-use crate::fault::{CertFault, CertRule, Refusal, name_refusal};
+use crate::fault::{CertFault, CertRule, CertRefusal, name_refusal};
 use crate::limit::{MOST_NAMES, check_room};
 use asn::{Cursor, SEQUENCE, Tlv};
 use names::Subtree;
@@ -15,7 +15,7 @@ use std::alloc::Global;
 
 /// The fault, at the next value, if a minimum or a maximum comes, or another value is left over.
 #[tactic(auto, unfolding(crate::specs::NameConstraints::no_bounds, asn::specs::Walk::check_that))]
-fn check_no_bounds(members: Cursor<'_>) -> Result<(), Refusal>
+fn check_no_bounds(members: Cursor<'_>) -> Result<(), CertRefusal>
     ensures { Gives (λ _. tt) result (no_bounds (left members.entry)) }
 {
     if members.begins(0x80) || members.begins(0x81) {
@@ -28,7 +28,7 @@ fn check_no_bounds(members: Cursor<'_>) -> Result<(), Refusal>
 ///
 /// The base of the subtree that has these members.
 #[tactic(auto, unfolding(crate::specs::NameConstraints::subtree))]
-fn read_subtree<'a>(members: Cursor<'a>) -> Result<Subtree<'a>, Refusal>
+fn read_subtree<'a>(members: Cursor<'a>) -> Result<Subtree<'a>, CertRefusal>
     ensures { Gives subtree_base result (subtree (left members.entry)) }
 {
     let mut members = members;

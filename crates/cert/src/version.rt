@@ -4,7 +4,7 @@ ghost use Rattle.std.specs.Prelude.{◌≡◌};
 ghost use Rattle.asn.specs.Reading.{left, Gives};
 ghost use Rattle.cert.specs.Version.{is_v1, is_v3, version, version_of, version_number};
 
-use crate::fault::{CertRule, Refusal};
+use crate::fault::{CertRule, CertRefusal};
 use asn::{Cursor, INTEGER};
 
 /// Version ::= INTEGER { v1(0), v2(1), v3(2) }
@@ -52,7 +52,7 @@ impl Version {
 
     /// Takes [0] EXPLICIT Version DEFAULT v1, if it is there.
     #[tactic(auto, unfolding(crate::specs::Version::version))]
-    pub(crate) fn take(members: &mut Cursor<'_>) -> Result<Version, Refusal>
+    pub(crate) fn take(members: &mut Cursor<'_>) -> Result<Version, CertRefusal>
         ensures { Gives (λ read. (read, left members.new)) result (version (left members.old)) }
     {
         let Some(explicit) = members.optional(0xA0) else {

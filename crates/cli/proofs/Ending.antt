@@ -1,7 +1,7 @@
 -- How a run of a line ends, from what it did.
 use Rattle.std.proofs.Common.{◌≡◌, ◌⊎◌, inl, inr, refl, sym, subst, ℕ, Bool, List, Option, Result, Ok, Err, IfErr, IfOk}
 use Rattle.clap.specs.Words.{Text}
-use Rattle.cli_words.specs.CommandLine.{Reads}
+use Rattle.cli_words.specs.CommandLine.{ReadsLine}
 use Rattle.cert.specs.SubjectPublicKeyInfo.{SubjectPublicKeyInfo}
 use Rattle.cli_words.specs.declared.line.Kind.{Kind}
 use Rattle.cli_words.specs.declared.line.Kind.TheVariants.{Certificate, RevocationList, Response}
@@ -24,7 +24,7 @@ either (Ok status) ended same Told is done failed = inl (subst IsAnswering (sym 
 either (Err failure) ended same Told is done failed = inr (subst IsFailing (sym failed.0) (is_failing failure))
 
 pub answered : (host : HostState) (words : List Text) (line : Line) (input source old new : Option (List ℕ)) (result : Result ℕ Failure) (ended : ℕ) (same : Type 0) (Told : List ℕ → Type 0)
-    → Reads words line → IfOk result (IsDone host line input source old new)
+    → ReadsLine words line → IfOk result (IsDone host line input source old new)
     → IfOk result (λ status. (ended ≡ status) × same) → IfErr result (λ failure. (ended ≡ exit_status failure) × Told (report_line failure))
     → IsAnswering ended → HasAnswered host words input source old new ended
 answered host words line input source old new (Ok status) ended same Told reads did done failed answers =
@@ -39,7 +39,7 @@ silent (Ok status) ended same Told done failed answers = done.1
 silent (Err failure) ended same Told done failed answers = absurd (not_both ended answers (subst IsFailing (sym failed.0) (is_failing failure)))
 
 pub failed : (host : HostState) (words : List Text) (line : Line) (result : Result ℕ Failure) (ended : ℕ) (same unchanged : Type 0) (Told : List ℕ → Type 0)
-    → Reads words line → IfOk result IsAnswering → IfErr result (IsLineFailure host line) → IfErr result (λ failure. UnlessLate failure unchanged)
+    → ReadsLine words line → IfOk result IsAnswering → IfErr result (IsLineFailure host line) → IfErr result (λ failure. UnlessLate failure unchanged)
     → IfOk result (λ status. (ended ≡ status) × same) → IfErr result (λ failure. (ended ≡ exit_status failure) × Told (report_line failure))
     → IsFailing ended → RunHasEnded host words unchanged Told ended
 failed host words line (Ok status) ended same unchanged Told reads is fails quiet done told failing =
@@ -65,7 +65,7 @@ line_failed Fails (Ok status) ended same unchanged Told is fails quiet done told
 line_failed Fails (Err failure) ended same unchanged Told is fails quiet done told failing = (failure, fails, told.0, quiet)
 
 -- so does the run of the words that it is
-pub words_ended : (host : HostState) (words : List Text) (line : Line) (unchanged : Type 0) (ended : ℕ) → Reads words line
+pub words_ended : (host : HostState) (words : List Text) (line : Line) (unchanged : Type 0) (ended : ℕ) → ReadsLine words line
     → EndedAs (IsLineFailure host line) unchanged ended → HasEndedSo host words unchanged ended
 words_ended host words line unchanged ended reads (failure, fails, is, quiet) = inl (failure, inl (line, reads, fails), is, quiet, tt)
 

@@ -5,8 +5,8 @@ use Rattle.sqlite.specs.State.{State, HasCleanDisk}
 use Rattle.store_maps.specs.Held.{IsStoreOf}
 use Rattle.store_listing.specs.declared.held.Listing.{Listing}
 use Rattle.store_listing.specs.Laws.{ShowsStore}
-use Rattle.store_listing.specs.Listing.{IsListing, seen_issuer, seen_listing}
-use Rattle.store_listing.specs.Reads.{Reads}
+use Rattle.store_listing.specs.Listing.{IsListing, seen_held_issuer, seen_listing}
+use Rattle.store_listing.specs.Reads.{ReadsStore}
 use Rattle.cli_listing.specs.ListingText.{IdsRise, listing_text}
 use Rattle.cli_failures.specs.declared.failure.Failure.{Failure}
 use Rattle.cli_store.specs.Standing.{IsFound, Leaving, Seen, Standing, seen_of}
@@ -14,8 +14,8 @@ use Rattle.cli.specs.Listed.{HasListed, IsListedAt}
 use Rattle.std.specs.Prelude.{ℕ, List}
 
 pub listed : (leaves : Seen → Type 0) (at : Option ℤ) (old new : State) (all : Listing) (result : Result (Vec ℕ) Failure) → leaves (seen_of new)
-    → (HasCleanDisk new → Reads {A = Listing} old new IsListing (Ok all)) → (HasCleanDisk new → ShowsStore old.now all)
-    → IfOk result (λ text. IdsRise (map seen_issuer all.issuers.items) → text.items ≡ listing_text at (seen_listing all))
+    → (HasCleanDisk new → ReadsStore {A = Listing} old new IsListing (Ok all)) → (HasCleanDisk new → ShowsStore old.now all)
+    → IfOk result (λ text. IdsRise (map seen_held_issuer all.issuers.items) → text.items ≡ listing_text at (seen_listing all))
     → IfOk result (λ text. HasListed leaves at (seen_of old) text.items)
 listed leaves at old new all (Ok text) left reads shows lines = (
   seen_of new,

@@ -19,7 +19,7 @@ use Rattle.sqlite_disk.specs.declared.Disk.{Ghosts}
 use Rattle.store.specs.declared.handle.Store.{Store}
 use Rattle.cli_failures.specs.declared.failure.Failure.{Failure}
 use Rattle.cli_store.specs.Standing.{IsFound, IsFoundOrMade, Leaving, Seen, Standing, seen_in, seen_of, told_of}
-use Rattle.cli.specs.Delivered.{IsNotTaken, IsTaken}
+use Rattle.cli.specs.Delivered.{IsNotTaken, IsTakenAtPath}
 use Rattle.cli.specs.Checked.{IsCheckedBy, IsComparedBy, IsNotChecked, IsNotCompared}
 use Rattle.cli.specs.declared.at_path.StorePair.{StorePair}
 use Rattle.cli.proofs.Unanswered.{no_answer_on_facts, no_comparison, no_verdict}
@@ -31,7 +31,7 @@ left_as {D} {g} leaves given kept same left = subst (λ (store : Store D g). lea
 -- ---- the store at a path, found in its old state and left in the new one
 
 module _ (stands : Standing) (leaves : Leaving) (path : List ℕ) (old new : State) where
-  pub taken : (facts : Facts) (counts : Counts) → PutsFacts old new facts (Ok counts) → IsFoundOrMade stands path (seen_of old) → leaves path (seen_of new) → IsTaken stands leaves path (facts_in facts) counts
+  pub taken : (facts : Facts) (counts : Counts) → PutsFacts old new facts (Ok counts) → IsFoundOrMade stands path (seen_of old) → leaves path (seen_of new) → IsTakenAtPath stands leaves path (facts_in facts) counts
   taken facts counts puts found left = record {
     old = seen_of old;
     found = found;

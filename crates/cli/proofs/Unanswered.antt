@@ -11,7 +11,7 @@ use Rattle.store_adoption.specs.Creates.{IsSettled}
 use Rattle.store_listing.specs.declared.held.Listing.{Listing}
 use Rattle.store_listing.specs.Laws.{ListingShowsHeld}
 use Rattle.store_listing.specs.Listing.{IsListing}
-use Rattle.store_listing.specs.Reads.{Reads}
+use Rattle.store_listing.specs.Reads.{ReadsStore}
 use Rattle.store_sql.specs.declared.fault.StoreFault.{StoreFault}
 use Rattle.store_sql.specs.declared.fault.StoreFault.TheVariants as S
 use Rattle.relying_verdicts.specs.declared.fault.Fault.{Fault}
@@ -81,7 +81,7 @@ still old new settled settled_then keeps is_open = settled_then is_open ∙ keep
 
 pub not_listed : (leaves : Seen → Type 0) (old new : State) (fault : StoreFault) (failure : Failure)
     → failure ≡ told_of (F.Store fault) → leaves (seen_of new) → ListingShowsHeld → IsSettled old → IsSettled new
-    → (HasCleanDisk new → Reads {A = Listing} old new IsListing (Err fault)) → IsNoAnswer leaves (seen_of old) failure
+    → (HasCleanDisk new → ReadsStore {A = Listing} old new IsListing (Err fault)) → IsNoAnswer leaves (seen_of old) failure
 not_listed leaves old new S.Store failure told left shows settled settled_then reads = inr (
   71,
   told,

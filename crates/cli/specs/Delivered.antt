@@ -19,7 +19,7 @@ use Rattle.cli.specs.declared.delivering.Delivery.{Delivery}
 
 -- The store at the path, as it was found or made, has taken the facts, and was left in a state in which it holds what they make of what it
 -- held: all are taken, and counted so.
-pub record IsTaken (stands : Standing) (leaves : Leaving) (path : List ℕ) (facts : List Fact) (counts : Counts) : Type 0 where
+pub record IsTakenAtPath (stands : Standing) (leaves : Leaving) (path : List ℕ) (facts : List Fact) (counts : Counts) : Type 0 where
   pub old : Seen
   pub found : IsFoundOrMade stands path old
   pub new : Seen
@@ -35,7 +35,7 @@ IsNotTaken stands leaves path failure =
 
 -- one or the other
 abbrev pub TakesAt : Standing → Leaving → List ℕ → List Fact → Result Counts Failure → Type 0
-TakesAt stands leaves path facts (Ok counts) = IsTaken stands leaves path facts counts
+TakesAt stands leaves path facts (Ok counts) = IsTakenAtPath stands leaves path facts counts
 TakesAt stands leaves path facts (Err failure) = IsNotTaken stands leaves path failure
 
 -- ---- deliveries
@@ -47,7 +47,7 @@ pub record IsDelivered (host : HostState) (words : Delivery) (counts : Counts) :
   pub believes : BelievesFile host.holds words.verdicts.now accepts
   pub facts : List Fact
   pub says : HoldsStatement host.holds accepts words.issuer.now words.file.now facts
-  pub taken : IsTaken host.stands host.leaves words.store.now facts counts
+  pub taken : IsTakenAtPath host.stands host.leaves words.store.now facts counts
 
 -- What is wrong, the first of it: the verdicts, the issuer's certificate, the file, the statement in it, the store.
 abbrev pub IsFailureOfDelivery : HostState → Delivery → Failure → Type 0

@@ -24,8 +24,8 @@ IsFailing status = (status ≡ 4) ⊎ (status ≡ 5) ⊎ (status ≡ 6)
 
 -- This failed, with its status; standard output is as it was, except for what came before a late failure.
 abbrev pub EndedAs : (Failure → Type 0) → Type 0 → ℕ → Type 0
-EndedAs Fails unchanged status =
-    (failure : Failure) × Fails failure × (status ≡ exit_status failure) × UnlessLate failure unchanged
+EndedAs FailsByStatus unchanged status =
+    (failure : Failure) × FailsByStatus failure × (status ≡ exit_status failure) × UnlessLate failure unchanged
 
 -- This failed, with its status, and its line was told; standard output is as it was, except for what came before a late failure. Or the
 -- words are mistaken.
@@ -54,14 +54,14 @@ abbrev pub texts : List (Bor (List ℕ)) → List Text
 texts words = map (λ word. word.now) words
 
 -- if the status is that of an answer, what the words ask for was written
-abbrev pub Answers : {I O : Type 0} → HostState → List (Bor (List ℕ)) → (I → Option (List ℕ)) → I → I → (O → Option (List ℕ)) → O → O → ℕ → Type 0
-Answers host words remaining input source contents old new status =
+abbrev pub AnswersByStatus : {I O : Type 0} → HostState → List (Bor (List ℕ)) → (I → Option (List ℕ)) → I → I → (O → Option (List ℕ)) → O → O → ℕ → Type 0
+AnswersByStatus host words remaining input source contents old new status =
     IsAnswering status →
     HasAnswered host (texts words) (remaining input) (remaining source) (contents old) (contents new) status
 
 -- if it is that of a failure, that has happened
-abbrev pub Fails : HostState → List (Bor (List ℕ)) → Type 0 → ℕ → Type 0
-Fails host words unchanged status =
+abbrev pub FailsByStatus : HostState → List (Bor (List ℕ)) → Type 0 → ℕ → Type 0
+FailsByStatus host words unchanged status =
     IsFailing status → HasEndedSo host (texts words) unchanged status
 
 -- the same, with the line that was told, if a writer took it

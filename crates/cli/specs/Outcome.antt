@@ -8,7 +8,7 @@ use Rattle.relying_agreement.specs.declared.verdict.Comparison.{Comparison}
 use Rattle.relying_agreement.specs.declared.verdict.Verdict.{Verdict}
 use Rattle.cli_answers.specs.AnswerText.{comparison_line, counts_line, verdict_line}
 use Rattle.statements_facts.specs.declared.counts.Counts.{Counts}
-use Rattle.cli_words.specs.CommandLine.{AreRefusedWith, Reads}
+use Rattle.cli_words.specs.CommandLine.{AreRefusedWith, ReadsLine}
 use Rattle.cli_words.specs.QueryTexts.{seen_words}
 use Rattle.cli_words.specs.declared.line.Line.{Line}
 use Rattle.cli_words.specs.declared.line.Line.TheVariants.{Tree, Show, Prints, Deliver, Check, Compare, List as Listing, Explain, Session}
@@ -123,13 +123,13 @@ IsMistake kind = (kind ≢ OutOfMemory) × (IsHelp kind → ⊥)
 -- what the words ask for was written, or they ask for help
 abbrev pub HasAnswered : HostState → List Text → Option (List ℕ) → Option (List ℕ) → Option (List ℕ) → Option (List ℕ) → ℕ → Type 0
 HasAnswered host words input source old new status =
-    ((line : Line) × Reads words line × IsDone host line input source old new status)
+    ((line : Line) × ReadsLine words line × IsDone host line input source old new status)
     ⊎ ((kind : ErrorKind) × AreRefusedWith words kind × IsHelp kind × (status ≡ 0))
 
 -- The words are a line, and this failed; or memory ran out while they were read, or the text of help could not be written.
 abbrev pub HasFailed : HostState → List Text → Failure → Type 0
 HasFailed host words failure =
-    ((line : Line) × Reads words line × IsLineFailure host line failure)
+    ((line : Line) × ReadsLine words line × IsLineFailure host line failure)
     ⊎ (failure ≡ NoMemory)
     ⊎ ((kind : ErrorKind) × AreRefusedWith words kind × IsHelp kind × (failure ≡ Unwritable))
 

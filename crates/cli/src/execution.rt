@@ -3,7 +3,7 @@ ghost use Rattle.std.specs.Prelude.{◌≡◌, ◌⊎◌, IfErr, IfOk, OnOk};
 ghost use Rattle.std.specs.Io.KnownBytes.{Appends};
 ghost use Rattle.clap.specs.Words.{kind_of};
 ghost use Rattle.cli_failures.specs.Report.{UnlessLate, report_line, exit_status};
-ghost use Rattle.cli.specs.Ended.{Answers, Fails, FailsTelling, IsAnswering, IsFailing, IsUnexplained};
+ghost use Rattle.cli.specs.Ended.{AnswersByStatus, FailsByStatus, FailsTelling, IsAnswering, IsFailing, IsUnexplained};
 ghost use Rattle.cli.specs.Host.{host};
 ghost use Rattle.cli.specs.Outcome.{IsDone, IsLineFailure, IsHelp};
 
@@ -44,10 +44,10 @@ pub fn execute<D: Disk + Drop, S: Source + Stores<Store<D>>, I: Read, O: Write, 
     err: &mut E,
 ) -> u8
     ensures status { IsAnswering result ⊎ IsFailing result }
-    ensures answered { Answers (host S.holds S.stands S.leaves source.now) words.now
+    ensures answered { AnswersByStatus (host S.holds S.stands S.leaves source.now) words.now
         I.remaining input.old input.new O.contents out.old out.new result }
     ensures silent { IsAnswering result → err.new ≡ err.old }
-    ensures failed { Fails (host S.holds S.stands S.leaves source.now) words.now
+    ensures failed { FailsByStatus (host S.holds S.stands S.leaves source.now) words.now
         (out.new ≡ out.old) result }
 {
     executed(source, alloc, words, input, out, err).status
@@ -63,7 +63,7 @@ pub fn executed<D: Disk + Drop, S: Source + Stores<Store<D>>, I: Read, O: Write,
     err: &mut E,
 ) -> Ended
     ensures status { IsAnswering result.status ⊎ IsFailing result.status }
-    ensures answered { Answers (host S.holds S.stands S.leaves source.now) words.now
+    ensures answered { AnswersByStatus (host S.holds S.stands S.leaves source.now) words.now
         I.remaining input.old input.new O.contents out.old out.new result.status }
     ensures silent { IsAnswering result.status → err.new ≡ err.old }
     ensures failed { FailsTelling (host S.holds S.stands S.leaves source.now) words.now

@@ -1,6 +1,6 @@
 //! What the store at a path holds, as lines of text.
 ghost use Rattle.std.specs.Prelude.{◌≡◌, IfErr, IfOk, OnOk, map};
-ghost use Rattle.store_listing.specs.Listing.{seen_issuer, seen_listing};
+ghost use Rattle.store_listing.specs.Listing.{seen_held_issuer, seen_listing};
 ghost use Rattle.cli_listing.specs.ListingText.{IdsRise, listing_text};
 ghost use Rattle.cli_failures.specs.declared.failure.Failure.TheVariants.{NoMemory};
 ghost use Rattle.cli_failures.specs.Report.{UnlessLate};
@@ -35,7 +35,7 @@ fn moment_asked<'a>(moment: Option<&str>) -> Result<Option<i64>, Failure<'a>>
 
 // The lines of what was listed, in memory, so that nothing is written of a store that does not answer.
 fn lines_of<'a>(alloc: Global, all: &Listing, at: Option<i64>) -> Result<Vec<u8>, Failure<'a>>
-    ensures lines { IfOk result (λ text. IdsRise (map seen_issuer all.now.issuers.items)
+    ensures lines { IfOk result (λ text. IdsRise (map seen_held_issuer all.now.issuers.items)
         → text.items ≡ listing_text at (seen_listing all.now)) }
     ensures fails { IfErr result (λ failure. failure ≡ NoMemory) }
 {

@@ -1,6 +1,6 @@
 //! A run over the system's files, with what the words in front of the command ask of it.
 ghost use Rattle.std.specs.Prelude.{◌≡◌, ◌⊎◌, ◌++◌, IfOk};
-ghost use Rattle.cli.specs.Ended.{Answers, AnswersCommand, EndedAs, Fails, FailsCommand, IsAnswering, IsFailing};
+ghost use Rattle.cli.specs.Ended.{AnswersByStatus, AnswersCommand, EndedAs, FailsByStatus, FailsCommand, IsAnswering, IsFailing};
 ghost use Rattle.cli.specs.OnMachine.{any_host};
 ghost use Rattle.cli.specs.Outcome.{IsDone, IsLineFailure};
 
@@ -77,9 +77,9 @@ fn run_words<I: Read, O: Write, E: Write>(
     err: &mut E,
 ) -> u8
     ensures status { IsAnswering result ⊎ IsFailing result }
-    ensures answered { Answers any_host words.now I.remaining input.old input.new
+    ensures answered { AnswersByStatus any_host words.now I.remaining input.old input.new
         O.contents out.old out.new result }
-    ensures failed { Fails any_host words.now (out.new ≡ out.old) result }
+    ensures failed { FailsByStatus any_host words.now (out.new ≡ out.old) result }
 {
     let machine = Machine {
         rt,

@@ -6,8 +6,8 @@ use Rattle.std.specs.Str.{bytes_eq}
 abbrev pub is_colon : ℕ → Bool
 is_colon octet = octet == 58
 
-abbrev pub is_space : ℕ → Bool
-is_space octet = octet == 32
+abbrev pub is_blank : ℕ → Bool
+is_blank octet = octet == 32
 
 abbrev pub is_feed : ℕ → Bool
 is_feed octet = octet == 10
@@ -21,15 +21,15 @@ abbrev pub entry_head : List ℕ → List ℕ
 entry_head entry = before_colon (position is_colon entry) entry
 
 abbrev pub head_words : List ℕ → List (List ℕ)
-head_words head = slice_split is_space head
+head_words head = slice_split is_blank head
 
 -- the head has all of these words
 abbrev pub about_all : List ℕ → List (List ℕ) → Bool
 about_all head words = list_all (λ word. list_any (λ piece. bytes_eq piece word) (head_words head)) words
 
 -- the entry is about the topic of these words: its head has all of them
-abbrev pub is_about : List (List ℕ) → List ℕ → Bool
-is_about words entry = about_all (entry_head entry) words
+abbrev pub is_on_topic : List (List ℕ) → List ℕ → Bool
+is_on_topic words entry = about_all (entry_head entry) words
 
 -- entries are lines
 abbrev pub text_entries : List ℕ → List (List ℕ)
@@ -37,10 +37,10 @@ text_entries text = slice_split is_feed text
 
 -- one of the entries is about the topic
 abbrev pub is_known : List ℕ → List (List ℕ) → Bool
-is_known text words = list_any (is_about words) (text_entries text)
+is_known text words = list_any (is_on_topic words) (text_entries text)
 
 abbrev pub line_if_about : List (List ℕ) → List ℕ → List ℕ
-line_if_about words entry = if is_about words entry then entry ++ 10 ∷ [] else []
+line_if_about words entry = if is_on_topic words entry then entry ++ 10 ∷ [] else []
 
 -- the entries that are about the topic, a line each
 abbrev pub explanation : List ℕ → List (List ℕ) → List ℕ

@@ -3,7 +3,7 @@ ghost use Rattle.std.specs.Prelude.{◌≡◌, OnOk, map};
 ghost use Rattle.std.specs.List.{list_any, position};
 ghost use Rattle.std.specs.Str.{bytes_eq};
 ghost use Rattle.std.specs.Io.KnownBytes.{Appends};
-ghost use Rattle.cli_explaining.specs.Topics.{about_all, explanation, entry_head, is_about, is_colon, is_known, line_if_about, head_words};
+ghost use Rattle.cli_explaining.specs.Topics.{about_all, explanation, entry_head, is_on_topic, is_colon, is_known, line_if_about, head_words};
 
 use std::io;
 use std::io::Write;
@@ -42,7 +42,7 @@ fn is_about(head: &[u8], words: &[&str]) -> bool
 
 /// Whether the entry is about the topic.
 fn entry_is_about(entry: &[u8], words: &[&str]) -> bool
-    ensures { result ≡ is_about (map (λ w. w.now) words.now) entry.now }
+    ensures { result ≡ is_on_topic (map (λ w. w.now) words.now) entry.now }
 {
     is_about(head_of(entry), words)
 }

@@ -27,9 +27,9 @@ IsLineRead old new held End = Consumes old new [] × IsAtEnd new
 -- ---- on the way
 
 -- an octet was read, or the source is at its end
-abbrev pub ReadsOctet : Option (List ℕ) → Option (List ℕ) → Option ℕ → Type 0
-ReadsOctet old new (Some octet) = Consumes old new (octet ∷ [])
-ReadsOctet old new None = Consumes old new [] × IsAtEnd new
+abbrev pub TakesOctet : Option (List ℕ) → Option (List ℕ) → Option ℕ → Type 0
+TakesOctet old new (Some octet) = Consumes old new (octet ∷ [])
+TakesOctet old new None = Consumes old new [] × IsAtEnd new
 
 -- the rest of a line was read
 abbrev pub PassesLine : Option (List ℕ) → Option (List ℕ) → Type 0

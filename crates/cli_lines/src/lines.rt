@@ -1,6 +1,6 @@
 //! Lines, read one at a time into a buffer that is used again.
 ghost use Rattle.std.specs.Prelude.{◌≡◌, ◌<◌, ◌≤◌, ◌^◌, IfOk, OnOk, length, vec_capacity};
-ghost use Rattle.cli_lines.specs.Lines.{EndsFull, IsLineRead, PassesLine, ReadsOctet};
+ghost use Rattle.cli_lines.specs.Lines.{EndsFull, IsLineRead, PassesLine, TakesOctet};
 
 use std::io;
 use std::io::Read;
@@ -21,7 +21,7 @@ pub enum LineRead {
 
 // The next octet of the source; `None` at its end.
 fn read_octet<R: Read>(source: &mut R) -> io::Result<Option<u8>>
-    ensures { IfOk result (ReadsOctet (R.remaining source.old) (R.remaining source.new)) }
+    ensures { IfOk result (TakesOctet (R.remaining source.old) (R.remaining source.new)) }
 {
     let mut octet = [0];
     match source.read(&mut octet)? {

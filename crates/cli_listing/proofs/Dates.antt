@@ -8,7 +8,7 @@ use Rattle.jiff_core.proofs.SignedLemmas.{signed_arith}
 use Rattle.jiff_core.proofs.CalendarLemmas.{days_from_civil-day_count, day_count-lt_year, day_count-lt_month, day_count-day_of_year, day_count-day, days_in_month_bounds}
 use Rattle.jiff_core.proofs.MarchLemmas.{day_count-early}
 use Rattle.asn.specs.Time.{CivilTime}
-use Rattle.cli_listing.specs.MomentText.{last_begun, year_of, month_of, civil_time, time_in_year, time_on, time_after, generalized, moment_text}
+use Rattle.cli_listing.specs.MomentText.{last_begun, year_of, month_of, civil_time, civil_time_in_year, time_on, time_after, generalized, moment_text}
 
 -- ---- counting
 
@@ -160,7 +160,7 @@ time_is d days second year p =
     let day = sym p.day in
     let same : shown ≡ civil_time year d.month (day_after days) second = (λ i. record { year = year; month = d.month; day = day i; hour = second / 3600; minute = second / 60 % 60; second = second % 60 }) in
     let months : shown ≡ civil_time year (month_of year (day_after days)) (day_after days) second = subst (λ m. shown ≡ civil_time year m (day_after days) second) (sym p.months) same in
-    subst (λ y. shown ≡ time_in_year y (day_after days) second) (sym p.years) months
+    subst (λ y. shown ≡ civil_time_in_year y (day_after days) second) (sym p.years) months
 
 -- ---- moments that are spelled
 

@@ -28,10 +28,10 @@ scope_text All = codes " all"
 scope_text User = codes " user"
 scope_text Ca = codes " ca"
 
-abbrev pub status_text : Status → List ℕ
-status_text Good = codes " good"
-status_text (Revoked reason) = codes " revoked " ++ decimal reason
-status_text Unknown = codes " unknown"
+abbrev pub held_status_text : Status → List ℕ
+held_status_text Good = codes " good"
+held_status_text (Revoked reason) = codes " revoked " ++ decimal reason
+held_status_text Unknown = codes " unknown"
 
 abbrev pub window_text : ℤ → ℤ → List ℕ
 window_text from until = (codes " from " ++ moment_text from) ++ (codes " until " ++ moment_text until)
@@ -60,10 +60,10 @@ single_head_text issuer listed = (codes "ocsp " ++ issuer_text issuer) ++ (codes
 abbrev pub times_text : OcspFact → List ℕ
 times_text fact = (codes " this " ++ moment_text fact.times.this_update) ++ (codes " produced " ++ moment_text fact.times.produced_at) ++ window_text fact.window.from fact.window.until
 
-abbrev pub single_line : Option IssuerRow → Option ℤ → ListedSingle → List ℕ
-single_line issuer at listed =
+abbrev pub held_single_line : Option IssuerRow → Option ℤ → ListedSingle → List ℕ
+held_single_line issuer at listed =
     single_head_text issuer listed ++ times_text listed.single.fact
-    ++ status_text listed.single.fact.status ++ state_at at listed.single.fact.window.from listed.single.fact.window.until
+    ++ held_status_text listed.single.fact.status ++ state_at at listed.single.fact.window.from listed.single.fact.window.until
 
 -- ---- all lines
 
@@ -71,7 +71,7 @@ abbrev pub list_line_of : List IssuerRow → Option ℤ → ListedCrl → List �
 list_line_of issuers at list = list_line (issuer_under issuers list.issuer) at list
 
 abbrev pub single_line_of : List IssuerRow → Option ℤ → ListedSingle → List ℕ
-single_line_of issuers at listed = single_line (issuer_under issuers listed.issuer) at listed
+single_line_of issuers at listed = held_single_line (issuer_under issuers listed.issuer) at listed
 
 abbrev pub listing_text : Option ℤ → Overview → List ℕ
 listing_text at all = flat_map (list_line_of all.issuers at) all.lists ++ flat_map (single_line_of all.issuers at) all.singles

@@ -28,11 +28,11 @@ civil_time year month day second = record {
   second = second % 60;
 }
 
-abbrev pub time_in_year : ℕ → ℤ → ℕ → CivilTime
-time_in_year year day second = civil_time year (month_of year day) day second
+abbrev pub civil_time_in_year : ℕ → ℤ → ℕ → CivilTime
+civil_time_in_year year day second = civil_time year (month_of year day) day second
 
 abbrev pub time_on : ℤ → ℕ → CivilTime
-time_on day second = time_in_year (year_of day) day second
+time_on day second = civil_time_in_year (year_of day) day second
 
 -- so many seconds after 0000-01-01T00:00:00Z, which is day -719528
 unfoldable pub time_after : ℕ → CivilTime

@@ -2,7 +2,7 @@
 
 ghost use Rattle.std.specs.Prelude.{◌≡◌, ◌++◌, map};
 ghost use Rattle.cli_printing.specs.Written.{Writes};
-ghost use Rattle.store_listing.specs.Listing.{seen_issuer};
+ghost use Rattle.store_listing.specs.Listing.{seen_held_issuer};
 ghost use Rattle.cli_listing.specs.Found.{found_issuer};
 ghost use Rattle.cli_listing.specs.ListingText.{issuer_text, issuer_under, IdsRise};
 
@@ -14,8 +14,8 @@ use store_listing::HeldIssuer;
 
 /// The issuer with this id, found by halving.
 pub(crate) fn issuer_under(issuers: &[HeldIssuer], id: u32) -> Option<&HeldIssuer>
-    ensures { IdsRise (map seen_issuer issuers.now)
-        → found_issuer result ≡ issuer_under (map seen_issuer issuers.now) id }
+    ensures { IdsRise (map seen_held_issuer issuers.now)
+        → found_issuer result ≡ issuer_under (map seen_held_issuer issuers.now) id }
 {
     let at = issuers.partition_point(|issuer| issuer.id < id);
     match issuers.get(at) {

@@ -2,10 +2,10 @@
 
 ghost use Rattle.cli_printing.specs.Written.{Writes};
 ghost use Rattle.statements_facts.specs.Answer.{seen_ocsp};
-ghost use Rattle.store_listing.specs.Listing.{seen_list, seen_single};
+ghost use Rattle.store_listing.specs.Listing.{seen_held_list, seen_held_single};
 ghost use Rattle.cli_listing.specs.Found.{found_issuer};
-ghost use Rattle.cli_listing.specs.ListingText.{scope_text, status_text, window_text, state_text, state_at};
-ghost use Rattle.cli_listing.specs.ListingText.{list_head_text, list_line, single_head_text, times_text, single_line};
+ghost use Rattle.cli_listing.specs.ListingText.{scope_text, held_status_text, window_text, state_text, state_at};
+ghost use Rattle.cli_listing.specs.ListingText.{list_head_text, list_line, single_head_text, times_text, held_single_line};
 
 use crate::issuer::write_issuer;
 use crate::moment::write_moment_behind;
@@ -26,7 +26,7 @@ fn write_scope<W: Write>(scope: Scope, writer: &mut W) -> io::Result<()>
 }
 
 fn write_status<W: Write>(status: Status, writer: &mut W) -> io::Result<()>
-    ensures { Writes W.contents writer.old writer.new result (status_text status) }
+    ensures { Writes W.contents writer.old writer.new result (held_status_text status) }
 {
     match status {
         Status::Good => writer.write_all(b" good"),
@@ -72,7 +72,7 @@ fn write_list_head<W: Write>(
     writer: &mut W,
 ) -> io::Result<()>
     ensures { Writes W.contents writer.old writer.new result
-        (list_head_text (found_issuer issuer.entry) (seen_list list.now)) }
+        (list_head_text (found_issuer issuer.entry) (seen_held_list list.now)) }
 {
     write_issuer("crl ", issuer, writer)?;
     write_scope(list.scope, writer)?;
@@ -87,7 +87,7 @@ pub(crate) fn write_list<W: Write>(
     writer: &mut W,
 ) -> io::Result<()>
     ensures { Writes W.contents writer.old writer.new result
-        (list_line (found_issuer issuer.entry) at (seen_list list.now)) }
+        (list_line (found_issuer issuer.entry) at (seen_held_list list.now)) }
 {
     write_list_head(issuer, list, writer)?;
     write_window(list.head.from, list.head.until, writer)?;
@@ -101,7 +101,7 @@ fn write_single_head<W: Write>(
     writer: &mut W,
 ) -> io::Result<()>
     ensures { Writes W.contents writer.old writer.new result
-        (single_head_text (found_issuer issuer.entry) (seen_single single.now)) }
+        (single_head_text (found_issuer issuer.entry) (seen_held_single single.now)) }
 {
     write_issuer("ocsp ", issuer, writer)?;
     write_hex_behind(" ", single.name_hash.as_slice(), writer)?;
@@ -124,7 +124,7 @@ pub(crate) fn write_single<W: Write>(
     writer: &mut W,
 ) -> io::Result<()>
     ensures { Writes W.contents writer.old writer.new result
-        (single_line (found_issuer issuer.entry) at (seen_single single.now)) }
+        (held_single_line (found_issuer issuer.entry) at (seen_held_single single.now)) }
 {
     write_single_head(issuer, single, writer)?;
     write_times(&single.said, writer)?;

@@ -7,7 +7,7 @@ use Rattle.der.specs.declared.fault.Fault.{Fault}
 use Rattle.der.specs.declared.fault.Fault.TheVariants.{Refused as Breaks}
 use Rattle.der.specs.declared.fault.Rule.{Rule}
 use Rattle.der.specs.declared.fault.Rule.TheVariants.{Truncated}
-use Rattle.der_stream.specs.Sequence.{BeginsWith, joined}
+use Rattle.der_stream.specs.Sequence.{StartsWithValues, joined}
 use Rattle.cli_failures.specs.Failures.{Holding, IsUnread}
 use Rattle.cli_failures.specs.declared.failure.Failure.{Failure}
 use Rattle.cli_failures.specs.declared.failure.Failure.TheVariants.{Refused, NoCertificate, NoMemory}
@@ -23,7 +23,7 @@ longest = 268435461
 
 -- the octets begin with these values, and then these are left
 abbrev pub BeginsWithValues : List ℕ → List (List ℕ) → List ℕ → Type 0
-BeginsWithValues = BeginsWith longest
+BeginsWithValues = StartsWithValues longest
 
 -- the texts are those of the certificates, in order
 abbrev pub AreTexts : List (List ℕ) → List Certificate → Type 0

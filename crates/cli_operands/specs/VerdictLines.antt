@@ -43,6 +43,6 @@ pub record IsFirstBadLine (octets : List ℕ) (number : ℕ) : Type 0 where
   pub first : (earlier : ℕ) → 1 ≤ earlier → earlier < number → IsBad (line_at octets earlier) → ⊥
 
 -- the octets are refused for their first bad line, or memory ran out
-abbrev pub IsRefusedWith : List ℕ → FingerprintsFault → Type 0
-IsRefusedWith octets (Line number) = IsFirstBadLine octets number
-IsRefusedWith octets Memory = Unit {0}
+abbrev pub IsRefusedForLine : List ℕ → FingerprintsFault → Type 0
+IsRefusedForLine octets (Line number) = IsFirstBadLine octets number
+IsRefusedForLine octets Memory = Unit {0}

@@ -1,6 +1,6 @@
 //! Files of verdicts.
 ghost use Rattle.std.specs.Prelude.{◌≡◌, IfErr, IfOk};
-ghost use Rattle.cli_operands.specs.VerdictLines.{IsRefusedWith, NamePrints, is_remark, text_lines, print_on_line};
+ghost use Rattle.cli_operands.specs.VerdictLines.{IsRefusedForLine, NamePrints, is_remark, text_lines, print_on_line};
 
 use std::alloc::{AllocFailed, Global};
 use thiserror::Error;
@@ -56,7 +56,7 @@ fn print_in(line: &[u8]) -> Option<[u8; 32]>
 /// text. Empty lines are passed over; a line that a carriage return ends is bad.
 pub fn fingerprints_of(alloc: Global, octets: &[u8]) -> Result<Vec<[u8; 32]>, FingerprintsFault>
     ensures named { IfOk result (λ prints. NamePrints (text_lines octets.now) prints.items) }
-    ensures refused { IfErr result (IsRefusedWith octets.now) }
+    ensures refused { IfErr result (IsRefusedForLine octets.now) }
 {
     let mut prints = Vec::new(alloc);
     let mut number = 0;

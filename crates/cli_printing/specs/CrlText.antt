@@ -21,11 +21,11 @@ span_lines from until = (codes "from " ++ signed_decimal from ++ codes "\n") ++ 
 abbrev pub entry_line : Entry → List ℕ
 entry_line entry = codes "revoked " ++ encode_lower entry.serial ++ codes " " ++ decimal entry.reason ++ codes "\n"
 
-unfoldable pub title_line : List ℕ
-title_line = codes "crl\n"
+unfoldable pub crl_title : List ℕ
+crl_title = codes "crl\n"
 
 abbrev pub opening_lines : CertificateList → List ℕ
-opening_lines list = title_line ++ name_line (codes "issuer") list.issuer.octets
+opening_lines list = crl_title ++ name_line (codes "issuer") list.issuer.octets
 
 abbrev pub number_lines : CertificateList → List ℕ
 number_lines list = octets_line (codes "number") list.number ++ scope_lines list.scope ++ span_lines list.this_update list.next_update

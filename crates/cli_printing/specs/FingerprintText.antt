@@ -7,20 +7,14 @@ use Rattle.cert.specs.SubjectPublicKeyInfo.{SubjectPublicKeyInfo}
 use Rattle.statements_crl.specs.CertificateList.{CertificateList}
 use Rattle.statements_ocsp.specs.Certificates.{certificates_in}
 use Rattle.statements_ocsp.specs.OcspResponse.{OcspResponse}
-use Rattle.path_verifiers.specs.Fingerprint.{fingerprint_of}
+use Rattle.path_verifiers.specs.Fingerprint.{Judgement}
+pub use Rattle.path_verifiers.specs.Fingerprint.{judgement_print}
 use Rattle.cli_printing.specs.declared.fingerprint.SignatureQuestion as code
 use Rattle.cli_printing.specs.declared.fingerprint.Signed.{Signed}
 use Rattle.cli_printing.specs.declared.fingerprint.Signed.TheVariants as By
 
--- what a verifier is asked: is this the signature of the message, under the key, by the algorithm?
-pub record SignatureQuestion : Type 0 where
-  pub algorithm : List ℕ
-  pub key_info : List ℕ
-  pub message : List ℕ
-  pub signature : List ℕ
-
-abbrev pub seen_question : code.SignatureQuestion → SignatureQuestion
-seen_question question = record {
+abbrev pub seen_judgement : code.SignatureQuestion → Judgement
+seen_judgement question = record {
   algorithm = question.algorithm.now;
   key_info = question.key_info.now;
   message = question.message.now;
@@ -28,7 +22,7 @@ seen_question question = record {
 }
 
 -- of a certificate: is its signature one of its signed part under this key? (RFC 5280, 6.1.3 (a) (1))
-abbrev pub certificate_question : SubjectPublicKeyInfo → Certificate → SignatureQuestion
+abbrev pub certificate_question : SubjectPublicKeyInfo → Certificate → Judgement
 certificate_question key_info certificate = record {
   algorithm = certificate.algorithm.value.octets;
   key_info = key_info.value.octets;
@@ -37,7 +31,7 @@ certificate_question key_info certificate = record {
 }
 
 -- of a revocation list, likewise (6.3.3 (g))
-abbrev pub crl_question : SubjectPublicKeyInfo → CertificateList → SignatureQuestion
+abbrev pub crl_question : SubjectPublicKeyInfo → CertificateList → Judgement
 crl_question key_info list = record {
   algorithm = list.algorithm.value.octets;
   key_info = key_info.value.octets;
@@ -46,7 +40,7 @@ crl_question key_info list = record {
 }
 
 -- of a response, likewise (RFC 6960, 3.2)
-abbrev pub response_question : SubjectPublicKeyInfo → OcspResponse → SignatureQuestion
+abbrev pub response_question : SubjectPublicKeyInfo → OcspResponse → Judgement
 response_question key_info response = record {
   algorithm = response.algorithm.value.octets;
   key_info = key_info.value.octets;
@@ -56,23 +50,18 @@ response_question key_info response = record {
 
 -- ---- its line
 
--- the fingerprint of a question
-abbrev pub print_of : SignatureQuestion → List ℕ
-print_of question =
-    fingerprint_of question.algorithm question.key_info question.message question.signature
-
 -- ` NAME=HEX`
 abbrev pub part_text : List ℕ → List ℕ → List ℕ
 part_text name octets = codes " " ++ name ++ codes "=" ++ encode_lower octets
 
 -- the four texts in hexadecimal
-abbrev pub parts_text : SignatureQuestion → List ℕ
+abbrev pub parts_text : Judgement → List ℕ
 parts_text question =
     part_text (codes "algorithm") question.algorithm ++ part_text (codes "key") question.key_info
     ++ part_text (codes "message") question.message ++ part_text (codes "signature") question.signature
 
 -- what stands behind the words of a line, which tells the four texts if they are asked for
-abbrev pub line_end : Bool → SignatureQuestion → List ℕ
+abbrev pub line_end : Bool → Judgement → List ℕ
 line_end false question = codes "\n"
 line_end true question = parts_text question ++ codes "\n"
 
@@ -85,9 +74,9 @@ signed_words (By.Delegate n) = codes " certificate " ++ decimal n ++ codes " iss
 signed_words (By.ByDelegate n) = codes " response certificate " ++ decimal n
 
 -- the fingerprint in hexadecimal, and what it is of
-abbrev pub question_line : Bool → SignatureQuestion → Signed → List ℕ
+abbrev pub question_line : Bool → Judgement → Signed → List ℕ
 question_line with_parts question signed =
-    encode_lower (print_of question) ++ signed_words signed ++ line_end with_parts question
+    encode_lower (judgement_print question) ++ signed_words signed ++ line_end with_parts question
 
 -- the line of a certificate under its issuer's key
 abbrev pub certificate_print_line : Bool → SubjectPublicKeyInfo → Certificate → List ℕ

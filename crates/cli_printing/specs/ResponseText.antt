@@ -10,8 +10,8 @@ use Rattle.statements_ocsp.specs.Responder.{Responder, by_name, by_key}
 use Rattle.statements_ocsp.specs.Single.{SingleResponse}
 use Rattle.cli_printing.specs.CertificateText.{name_line}
 
-unfoldable pub title_line : List ℕ
-title_line = codes "response\n"
+unfoldable pub response_title : List ℕ
+response_title = codes "response\n"
 
 unfoldable pub key_mark : List ℕ
 key_mark = codes "responder #"
@@ -25,7 +25,7 @@ abbrev pub produced_line : ℤ → List ℕ
 produced_line moment = codes "produced " ++ signed_decimal moment ++ codes "\n"
 
 abbrev pub head_lines : OcspResponse → List ℕ
-head_lines response = title_line ++ responder_line response.responder ++ produced_line response.produced_at
+head_lines response = response_title ++ responder_line response.responder ++ produced_line response.produced_at
 
 abbrev pub status_text : CertStatus → List ℕ
 status_text Good = codes " good"

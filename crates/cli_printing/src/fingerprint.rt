@@ -5,7 +5,7 @@ ghost use Rattle.cert.specs.SubjectPublicKeyInfo.{seen_key_info};
 ghost use Rattle.statements_crl.specs.CertificateList.{seen_list};
 ghost use Rattle.statements_ocsp.specs.OcspResponse.{seen_response};
 ghost use Rattle.statements_ocsp.specs.Certificates.{certificates_left};
-ghost use Rattle.cli_printing.specs.FingerprintText.{both_lines, certificate_print_line, certificate_question, crl_print_line, crl_question, delegate_lines, line_end, part_text, parts_text, print_of, question_line, response_print_lines, response_question, seen_question, signed_words};
+ghost use Rattle.cli_printing.specs.FingerprintText.{both_lines, certificate_print_line, certificate_question, crl_print_line, crl_question, delegate_lines, line_end, part_text, parts_text, judgement_print, question_line, response_print_lines, response_question, seen_judgement, signed_words};
 ghost use Rattle.cli_printing.specs.Written.{Writes};
 
 use crate::text::write_hex;
@@ -52,7 +52,7 @@ struct SignatureQuestion<'m, 'k> {
 
 // Its fingerprint.
 fn print_of(question: &SignatureQuestion<'_, '_>) -> [u8; 32]
-    ensures { result ≡ print_of (seen_question question.now) }
+    ensures { result ≡ judgement_print (seen_judgement question.now) }
 {
     fingerprint(
         question.algorithm,
@@ -72,7 +72,7 @@ fn write_part<W: Write>(name: &str, octets: &[u8], writer: &mut W) -> io::Result
 
 fn write_parts<W: Write>(question: &SignatureQuestion<'_, '_>, writer: &mut W) -> io::Result<()>
     ensures { Writes W.contents writer.old writer.new result
-        (parts_text (seen_question question.now)) }
+        (parts_text (seen_judgement question.now)) }
 {
     write_part("algorithm", question.algorithm, writer)?;
     write_part("key", question.key_info, writer)?;
@@ -87,7 +87,7 @@ fn end_line<W: Write>(
     writer: &mut W,
 ) -> io::Result<()>
     ensures { Writes W.contents writer.old writer.new result
-        (line_end with_parts (seen_question question.now)) }
+        (line_end with_parts (seen_judgement question.now)) }
 {
     if with_parts {
         write_parts(question, writer)?;
@@ -128,7 +128,7 @@ fn write_question<W: Write>(
     writer: &mut W,
 ) -> io::Result<()>
     ensures { Writes W.contents writer.old writer.new result
-        (question_line with_parts (seen_question question.now) signed) }
+        (question_line with_parts (seen_judgement question.now) signed) }
 {
     write_hex(&print_of(question), writer)?;
     write_signed(signed, writer)?;
@@ -140,7 +140,7 @@ fn question_about<'m, 'k>(
     certificate: &Certificate<'m>,
     key_info: &SubjectPublicKeyInfo<'k>,
 ) -> SignatureQuestion<'m, 'k>
-    ensures { seen_question result ≡ certificate_question (seen_key_info key_info.now)
+    ensures { seen_judgement result ≡ certificate_question (seen_key_info key_info.now)
         (seen_certificate certificate.now) }
 {
     SignatureQuestion {
@@ -171,7 +171,7 @@ fn question_about_list<'m, 'k>(
     list: &Crl<'m>,
     key_info: &SubjectPublicKeyInfo<'k>,
 ) -> SignatureQuestion<'m, 'k>
-    ensures { seen_question result
+    ensures { seen_judgement result
         ≡ crl_question (seen_key_info key_info.now) (seen_list list.now) }
 {
     SignatureQuestion {
@@ -202,7 +202,7 @@ fn question_about_response<'m, 'k>(
     response: &Response<'m>,
     key_info: &SubjectPublicKeyInfo<'k>,
 ) -> SignatureQuestion<'m, 'k>
-    ensures { seen_question result
+    ensures { seen_judgement result
         ≡ response_question (seen_key_info key_info.now) (seen_response response.now) }
 {
     SignatureQuestion {

@@ -4,18 +4,18 @@ ghost use Rattle.std.specs.List.{flat_map};
 ghost use Rattle.statements_ocsp.specs.OcspResponse.{seen_response};
 ghost use Rattle.statements_ocsp.specs.Responder.{seen_responder};
 ghost use Rattle.statements_ocsp.specs.Single.{seen_single_response, singles_left};
-ghost use Rattle.cli_printing.specs.ResponseText.{head_lines, key_mark, next_text, produced_line, responder_line, response_text, single_line, status_text, title_line};
+ghost use Rattle.cli_printing.specs.ResponseText.{head_lines, key_mark, next_text, produced_line, responder_line, response_text, single_line, status_text, response_title};
 ghost use Rattle.cli_printing.specs.Written.{Writes};
 
 use crate::certificate::write_named;
 use crate::text::write_hex;
-use statements_ocsp::{CertStatus, ResponderId, Response, SingleResponse, Singles};
+use statements_ocsp::{CertStatus, ResponderId, Response, SingleResponse, SingleResponses};
 use std::io;
 use std::io::Write;
 
-#[tactic(auto, unfolding(crate::specs::ResponseText::title_line))]
+#[tactic(auto, unfolding(crate::specs::ResponseText::response_title))]
 fn write_title<W: Write>(writer: &mut W) -> io::Result<()>
-    ensures { Writes W.contents writer.old writer.new result title_line }
+    ensures { Writes W.contents writer.old writer.new result response_title }
 {
     writer.write_all(b"response\n")
 }
@@ -71,7 +71,7 @@ fn write_single<W: Write>(single: &SingleResponse<'_>, writer: &mut W) -> io::Re
     write_next(single.next_update, writer)
 }
 
-fn write_singles<W: Write>(singles: Singles<'_>, writer: &mut W) -> io::Result<()>
+fn write_singles<W: Write>(singles: SingleResponses<'_>, writer: &mut W) -> io::Result<()>
     ensures { Writes W.contents writer.old writer.new result
         (flat_map single_line (singles_left singles.entry)) }
 {

@@ -3,7 +3,7 @@ ghost use Rattle.std.specs.Prelude.{◌≡◌};
 ghost use Rattle.std.specs.List.{flat_map};
 ghost use Rattle.statements_crl.specs.CertificateList.{seen_list};
 ghost use Rattle.statements_crl.specs.Entry.{entries_left, seen_entry};
-ghost use Rattle.cli_printing.specs.CrlText.{crl_text, entry_line, number_lines, opening_lines, scope_lines, span_lines, title_line};
+ghost use Rattle.cli_printing.specs.CrlText.{crl_text, entry_line, number_lines, opening_lines, scope_lines, span_lines, crl_title};
 ghost use Rattle.cli_printing.specs.Written.{Writes};
 
 use crate::certificate::{write_named, write_octets};
@@ -29,9 +29,9 @@ fn write_span<W: Write>(from: i64, until: i64, writer: &mut W) -> io::Result<()>
     writeln!(writer, "until {until}")
 }
 
-#[tactic(auto, unfolding(crate::specs::CrlText::title_line))]
+#[tactic(auto, unfolding(crate::specs::CrlText::crl_title))]
 fn write_title<W: Write>(writer: &mut W) -> io::Result<()>
-    ensures { Writes W.contents writer.old writer.new result title_line }
+    ensures { Writes W.contents writer.old writer.new result crl_title }
 {
     writer.write_all(b"crl\n")
 }

@@ -7,7 +7,7 @@ use Rattle.std.specs.Result.{result_ok}
 use Rattle.hex.specs.Hex.{decode_sized}
 use Rattle.cli_words.specs.QueryTexts.{QueryTexts, seen_words}
 use Rattle.cli_words.specs.declared.line.Kind.{Kind}
-use Rattle.cli_words.specs.declared.line.Kind.TheVariants.{Certificate, RevocationList, Response}
+pub use Rattle.cli_words.specs.CommandLine.{kind_named}
 use Rattle.cli_requests.specs.Operands.{operand_in}
 use Rattle.cli_requests.specs.declared.request.Request.{Request as Owned}
 use Rattle.cli_requests.specs.declared.request.Request.TheVariants.{Nothing, Believe, Deliver, Check, Prints, Forget, Quit}
@@ -38,12 +38,6 @@ are_operands (word ∷ words) = is_some (operand_in word) && are_operands words
 -- the fingerprint of 64 hexadecimal digits, of either case
 abbrev pub print_in : List ℕ → Option (List ℕ)
 print_in digits = result_ok (decode_sized digits 32)
-
-abbrev pub kind_named : List ℕ → Option Kind
-kind_named name =
-    if bytes_eq name (codes "cert") then Some Certificate
-    else (if bytes_eq name (codes "crl") then Some RevocationList
-    else (if bytes_eq name (codes "ocsp") then Some Response else None))
 
 -- ---- requests, behind their first word
 
@@ -125,8 +119,8 @@ request_on line =
 
 -- ---- what the code holds
 
-abbrev pub texts_of : List (Bor (List ℕ)) → List (List ℕ)
-texts_of words = map (λ word. word.now) words
+abbrev pub octets_of_words : List (Bor (List ℕ)) → List (List ℕ)
+octets_of_words words = map (λ word. word.now) words
 
 abbrev pub seen_request : Owned → Request
 seen_request Nothing = nothing

@@ -1,6 +1,6 @@
 //! What a line of a session asks for.
 ghost use Rattle.std.specs.Prelude.{◌≡◌, IfErr, IfOk, OnOk, Some, map, option_map, true};
-ghost use Rattle.cli_requests.specs.Requests.{IsFalse, IsNone, alone, are_operands, believe_in, check_in, deliver_in, is_passed_over, kind_named, path_in, print_in, prints_in, prints_of, purpose_in, request_in, request_named, request_on, seen_request, texts_of, words_of};
+ghost use Rattle.cli_requests.specs.Requests.{IsFalse, IsNone, alone, are_operands, believe_in, check_in, deliver_in, is_passed_over, kind_named, path_in, print_in, prints_in, prints_of, purpose_in, request_in, request_named, request_on, seen_request, octets_of_words, words_of};
 
 use crate::operand::is_operand;
 use cli_words::{Kind, QueryWords};
@@ -64,7 +64,7 @@ fn is_passed_over(line: &[u8]) -> bool
 
 // The words of a line.
 fn words_of<'a>(alloc: Global, line: &'a str) -> Result<Vec<&'a str>, AllocError>
-    ensures { IfOk result (λ words. texts_of words.items ≡ words_of line.now) }
+    ensures { IfOk result (λ words. octets_of_words words.items ≡ words_of line.now) }
 {
     let mut words = Vec::new(alloc);
     for word in line.split(' ') {
@@ -98,8 +98,8 @@ fn kind_named(name: &str) -> Option<Kind>
 
 // Whether the words are operands.
 fn check_operands(alloc: Global, words: &[&str]) -> Result<(), RequestFault>
-    ensures reads { OnOk result (are_operands (texts_of words.now) ≡ true) }
-    ensures refuses { IfErr result (IsFalse (are_operands (texts_of words.now))) }
+    ensures reads { OnOk result (are_operands (octets_of_words words.now) ≡ true) }
+    ensures refuses { IfErr result (IsFalse (are_operands (octets_of_words words.now))) }
 {
     for word in words {
         if !is_operand(alloc, word.as_bytes())? {
@@ -111,8 +111,8 @@ fn check_operands(alloc: Global, words: &[&str]) -> Result<(), RequestFault>
 
 fn believe_in<'a>(words: &[&'a str]) -> Result<Request<'a>, RequestFault>
     ensures reads { IfOk result (λ request.
-        believe_in (texts_of words.now) ≡ Some (seen_request request)) }
-    ensures refuses { IfErr result (IsNone (believe_in (texts_of words.now))) }
+        believe_in (octets_of_words words.now) ≡ Some (seen_request request)) }
+    ensures refuses { IfErr result (IsNone (believe_in (octets_of_words words.now))) }
 {
     let [digits] = words else {
         return Err(RequestFault::Malformed);
@@ -125,8 +125,8 @@ fn believe_in<'a>(words: &[&'a str]) -> Result<Request<'a>, RequestFault>
 
 fn deliver_in<'a>(alloc: Global, words: &[&'a str]) -> Result<Request<'a>, RequestFault>
     ensures reads { IfOk result (λ request.
-        deliver_in (texts_of words.now) ≡ Some (seen_request request)) }
-    ensures refuses { IfErr result (IsNone (deliver_in (texts_of words.now))) }
+        deliver_in (octets_of_words words.now) ≡ Some (seen_request request)) }
+    ensures refuses { IfErr result (IsNone (deliver_in (octets_of_words words.now))) }
 {
     let [issuer, file] = words else {
         return Err(RequestFault::Malformed);
@@ -142,11 +142,11 @@ fn path_in<'a>(
     words: &[&'a str],
 ) -> Result<Request<'a>, RequestFault>
     ensures reads { IfOk result (λ request.
-        path_in moment.entry.now (option_map (λ text. text.now) purpose.entry) (texts_of words.now)
+        path_in moment.entry.now (option_map (λ text. text.now) purpose.entry) (octets_of_words words.now)
         ≡ Some (seen_request request)) }
     ensures refuses { IfErr result (IsNone
         (path_in moment.entry.now (option_map (λ text. text.now) purpose.entry)
-        (texts_of words.now))) }
+        (octets_of_words words.now))) }
 {
     let [anchor, files @ ..] = words else {
         return Err(RequestFault::Malformed);
@@ -172,8 +172,8 @@ fn purpose_in(word: &str) -> Option<&str>
 
 fn check_in<'a>(alloc: Global, words: &[&'a str]) -> Result<Request<'a>, RequestFault>
     ensures reads { IfOk result (λ request.
-        check_in (texts_of words.now) ≡ Some (seen_request request)) }
-    ensures refuses { IfErr result (IsNone (check_in (texts_of words.now))) }
+        check_in (octets_of_words words.now) ≡ Some (seen_request request)) }
+    ensures refuses { IfErr result (IsNone (check_in (octets_of_words words.now))) }
 {
     let [moment, behind @ ..] = words else {
         return Err(RequestFault::Malformed);
@@ -193,8 +193,8 @@ fn prints_of<'a>(
     words: &[&'a str],
 ) -> Result<Request<'a>, RequestFault>
     ensures reads { IfOk result (λ request.
-        prints_of with_parts (texts_of words.now) ≡ Some (seen_request request)) }
-    ensures refuses { IfErr result (IsNone (prints_of with_parts (texts_of words.now))) }
+        prints_of with_parts (octets_of_words words.now) ≡ Some (seen_request request)) }
+    ensures refuses { IfErr result (IsNone (prints_of with_parts (octets_of_words words.now))) }
 {
     let [kind, behind @ ..] = words else {
         return Err(RequestFault::Malformed);
@@ -216,8 +216,8 @@ fn prints_of<'a>(
 
 fn prints_in<'a>(alloc: Global, words: &[&'a str]) -> Result<Request<'a>, RequestFault>
     ensures reads { IfOk result (λ request.
-        prints_in (texts_of words.now) ≡ Some (seen_request request)) }
-    ensures refuses { IfErr result (IsNone (prints_in (texts_of words.now))) }
+        prints_in (octets_of_words words.now) ≡ Some (seen_request request)) }
+    ensures refuses { IfErr result (IsNone (prints_in (octets_of_words words.now))) }
 {
     let [first, behind @ ..] = words else {
         return Err(RequestFault::Malformed);
@@ -231,9 +231,9 @@ fn prints_in<'a>(alloc: Global, words: &[&'a str]) -> Result<Request<'a>, Reques
 // A request that is one word.
 fn alone<'a>(request: Request<'a>, words: &[&str]) -> Result<Request<'a>, RequestFault>
     ensures reads { IfOk result (λ read.
-        alone (seen_request request.entry) (texts_of words.now) ≡ Some (seen_request read)) }
+        alone (seen_request request.entry) (octets_of_words words.now) ≡ Some (seen_request read)) }
     ensures refuses { IfErr result
-        (IsNone (alone (seen_request request.entry) (texts_of words.now))) }
+        (IsNone (alone (seen_request request.entry) (octets_of_words words.now))) }
 {
     if words.is_empty() {
         Ok(request)
@@ -248,8 +248,8 @@ fn request_named<'a>(
     words: &[&'a str],
 ) -> Result<Request<'a>, RequestFault>
     ensures reads { IfOk result (λ request.
-        request_named name.now (texts_of words.now) ≡ Some (seen_request request)) }
-    ensures refuses { IfErr result (IsNone (request_named name.now (texts_of words.now))) }
+        request_named name.now (octets_of_words words.now) ≡ Some (seen_request request)) }
+    ensures refuses { IfErr result (IsNone (request_named name.now (octets_of_words words.now))) }
 {
     match name {
         "believe" => believe_in(words),
@@ -264,8 +264,8 @@ fn request_named<'a>(
 
 fn request_in<'a>(alloc: Global, words: &[&'a str]) -> Result<Request<'a>, RequestFault>
     ensures reads { IfOk result (λ request.
-        request_in (texts_of words.now) ≡ Some (seen_request request)) }
-    ensures refuses { IfErr result (IsNone (request_in (texts_of words.now))) }
+        request_in (octets_of_words words.now) ≡ Some (seen_request request)) }
+    ensures refuses { IfErr result (IsNone (request_in (octets_of_words words.now))) }
 {
     let [name, behind @ ..] = words else {
         return Err(RequestFault::Malformed);

@@ -6,7 +6,7 @@ use Rattle.cli_failures.specs.declared.failure.Failure.{Failure}
 use Rattle.cli_requests.specs.Requests.{Request, nothing, believe, deliver, check, prints, forget, quit}
 use Rattle.cli_steps.specs.Keeping.{Kept, taking, trying}
 use Rattle.cli_steps.specs.State.{SessionState, believing, forgetting, keeping}
-use Rattle.cli_steps.specs.Steps.{BelievesMore, DeliversFile, FailsToDeliver, IsStep}
+use Rattle.cli_steps.specs.Steps.{BelievesMore, DeliversFile, IsUndelivered, IsStep}
 use Rattle.cli_steps.specs.declared.answer.SessionAnswer.{SessionAnswer}
 use Rattle.cli_steps.specs.declared.answer.SessionAnswer.TheVariants.{Nothing, Believes, Forgets, Ends, Delivered, Told, Prints, Failed, BadLine, LongLine}
 use Rattle.path.specs.Query.{Accepts}
@@ -27,7 +27,7 @@ tried facts kept so = ((facts, refl), so)
 
 -- ---- requests
 
-failed : (holds : Holding) (accepts : Accepts) (issuer file : List ℕ) (old new : Kept) (failure : Failure) → FailsToDeliver holds accepts issuer file old new failure → LosesNothing old
+failed : (holds : Holding) (accepts : Accepts) (issuer file : List ℕ) (old new : Kept) (failure : Failure) → IsUndelivered holds accepts issuer file old new failure → LosesNothing old
     → LosesNothing new
 failed holds accepts issuer file old new failure (inl (refused, is)) so = kept_is old new is so
 failed holds accepts issuer file old new failure (inr (facts, says, why, is)) so = kept_is (trying facts old) new is (tried facts old so)

@@ -11,7 +11,7 @@ use Rattle.cli_steps.specs.AnswerText.{answer_text, failed_text}
 use Rattle.cli_steps.specs.Keeping.{Keeping}
 use Rattle.cli_steps.specs.State.{SessionState}
 use Rattle.cli_steps.specs.Steps.{IsStep}
-use Rattle.cli_steps.specs.Ways.{Moves}
+use Rattle.cli_steps.specs.Ways.{MovesParty}
 use Rattle.cli_steps.specs.declared.answer.SessionAnswer.{SessionAnswer}
 use Rattle.cli_steps.specs.declared.answer.SessionAnswer.TheVariants.{BadLine, Ends, Failed, LongLine}
 use Rattle.cli_steps.specs.declared.party.Party.{Party}
@@ -143,13 +143,13 @@ SessionHasEnded holds input source output written Knows Before ended.NoMemory =
 
 -- what became of a party until some moment
 abbrev pub Moved : {K : Type 0} → (K → Type 0) → (K → Keeping) → Party K → Known
-Moved {K} is_sound keeps old Are = (now : Party K) × Moves is_sound keeps old now Are
+Moved {K} is_sound keeps old Are = (now : Party K) × MovesParty is_sound keeps old now Are
 
 -- How a session ended that served a party. Files hold so; what a source has left and what a writer took are seen so.
 abbrev pub SessionEnds : {R W K : Type 0} → Holding → (R → Option (List ℕ)) → R → R → (W → Option (List ℕ)) → W → W → (K → Type 0) → (K → Keeping) → Party K → Party K → End → Type 0
 SessionEnds holds remaining input source contents output written is_sound keeps old new =
     SessionHasEnded (holding_of holds) (remaining input) (remaining source) (contents output)
-    (contents written) (Moves is_sound keeps old new) (Moved is_sound keeps old)
+    (contents written) (MovesParty is_sound keeps old new) (Moved is_sound keeps old)
 
 -- ---- on the way
 

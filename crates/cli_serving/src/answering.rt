@@ -4,7 +4,7 @@ ghost use Rattle.std.specs.Io.KnownBytes.{Appends};
 ghost use Rattle.cli_session.specs.Held.{holding_of};
 ghost use Rattle.cli_steps.specs.AnswerText.{answer_text};
 ghost use Rattle.cli_steps.specs.Keeping.{Keeps};
-ghost use Rattle.cli_steps.specs.Ways.{Moves};
+ghost use Rattle.cli_steps.specs.Ways.{MovesParty};
 ghost use Rattle.cli_serving.specs.Serving.{IsFollowedBy, IsAnswerWithin, WritesAnswer, is_end, is_refusal};
 
 use crate::ending::End;
@@ -45,7 +45,7 @@ fn answer_line<'a, K: Keeper, S: Source>(
     line: &'a [u8],
 ) -> SessionAnswer<'a>
     ensures sound { K.is_sound party.new.keeper → K.is_sound party.old.keeper }
-    ensures steps { Moves K.is_sound K.keeps party.old party.new (λ old new.
+    ensures steps { MovesParty K.is_sound K.keeps party.old party.new (λ old new.
         IsAnswerWithin (holding_of (S.holds source.now)) line.entry.now old new result) }
 {
     match request_of(alloc, line) {
@@ -89,7 +89,7 @@ pub(crate) fn answer_read<K: Keeper, S: Source, W: Write>(
 ) -> Option<End>
     ensures sound { K.is_sound party.new.keeper → K.is_sound party.old.keeper }
     ensures says { WritesAnswer (W.contents out.old) (W.contents out.new)
-        (Moves K.is_sound K.keeps party.old party.new)
+        (MovesParty K.is_sound K.keeps party.old party.new)
         (IsAnswerWithin (holding_of (S.holds source.now)) line.now) result }
 {
     let answer = answer_line(party, source, alloc, line);

@@ -1,7 +1,7 @@
 //! The loop of a session.
 ghost use Rattle.std.specs.Prelude.{◌≡◌, ◌≤◌, ◌^◌, vec_capacity};
 ghost use Rattle.cli_session.specs.Held.{holding_of};
-ghost use Rattle.cli_steps.specs.Ways.{Moves};
+ghost use Rattle.cli_steps.specs.Ways.{MovesParty};
 ghost use Rattle.cli_serving.specs.Serving.{SaysLong, ServesLine, SessionEnds};
 
 use crate::answering::{answer_read, write_answer};
@@ -36,7 +36,7 @@ fn serve_line<R: Read, K: Keeper, S: Source, W: Write>(
     ensures sound { K.is_sound party.new.keeper → K.is_sound party.old.keeper }
     ensures serves { ServesLine (holding_of (S.holds source.now))
         (R.remaining input.old) (R.remaining input.new) (W.contents out.old) (W.contents out.new)
-        (Moves K.is_sound K.keeps party.old party.new) result }
+        (MovesParty K.is_sound K.keeps party.old party.new) result }
 {
     match read_line(input, line) {
         Ok(LineRead::Line) => answer_read(party, source, alloc, line.as_slice(), out),

@@ -22,8 +22,8 @@ use Rattle.cli_steps.specs.declared.answer.SessionAnswer.TheVariants.{Nothing, B
 -- ---- deliveries
 
 -- A delivery fails: it is refused, and what is kept stays; or the statement says these facts, and the keeper did not take them.
-abbrev pub FailsToDeliver : Holding → Accepts → List ℕ → List ℕ → Kept → Kept → Failure → Type 0
-FailsToDeliver holds accepts issuer file old new failure =
+abbrev pub IsUndelivered : Holding → Accepts → List ℕ → List ℕ → Kept → Kept → Failure → Type 0
+IsUndelivered holds accepts issuer file old new failure =
     (IsRefusedFrom holds accepts issuer file failure × (new ≡ old))
     ⊎ ((facts : List Fact) × HoldsStatement holds accepts issuer file facts × IsNotKept failure
     × (new ≡ trying facts old))
@@ -36,15 +36,15 @@ DeliversFile holds issuer file old new (Delivered counts) =
     × AreCounts old.kept.held facts counts × (new ≡ keeping (taking facts old.kept) old))
 DeliversFile holds issuer file old new (Failed failure) =
     (accepts : Accepts) × AcceptsJust old.prints accepts
-    × ((kept : Kept) × FailsToDeliver holds accepts issuer file old.kept kept failure
+    × ((kept : Kept) × IsUndelivered holds accepts issuer file old.kept kept failure
     × (new ≡ keeping kept old))
 DeliversFile holds issuer file old new answer = ⊥
 
 -- ---- verdicts
 
 -- What is wrong with a request for a verdict, the first of it: its operands, and then the keeper.
-abbrev pub IsFailureOfCheck : Holding → QueryTexts → Failure → Type 0
-IsFailureOfCheck holds texts =
+abbrev pub IsFailureOfVerdict : Holding → QueryTexts → Failure → Type 0
+IsFailureOfVerdict holds texts =
     FailsFirst (IsFailureOfQuery holds texts) ((query : Query) × Asks holds texts query) IsNotKept
 
 -- the verdict by what is held, with a verifier that believes these fingerprints; or a failure
@@ -52,7 +52,7 @@ abbrev pub ChecksPath : Holding → QueryTexts → SessionState → SessionAnswe
 ChecksPath holds texts state (Told verdict) =
     (accepts : Accepts) × AcceptsJust state.prints accepts
     × ((query : Query) × Asks holds texts query × IsVerdict accepts query state.kept.held verdict)
-ChecksPath holds texts state (Failed failure) = IsFailureOfCheck holds texts failure
+ChecksPath holds texts state (Failed failure) = IsFailureOfVerdict holds texts failure
 ChecksPath holds texts state answer = ⊥
 
 -- ---- others

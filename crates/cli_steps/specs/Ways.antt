@@ -13,8 +13,8 @@ Steps old_believed old_keeps believed keeps Are =
     (new : SessionState) × IsState believed keeps new × Are old new
 
 -- the same of a party whose keeper is sound behind the step
-abbrev pub Moves : {K : Type 0} → (K → Type 0) → (K → Keeping) → Party K → Party K → (SessionState → SessionState → Type 0) → Type 0
-Moves is_sound keeps old new Are =
+abbrev pub MovesParty : {K : Type 0} → (K → Type 0) → (K → Keeping) → Party K → Party K → (SessionState → SessionState → Type 0) → Type 0
+MovesParty is_sound keeps old new Are =
     is_sound new.keeper →
     Steps old.believed (keeps old.keeper) new.believed (keeps new.keeper) Are
 

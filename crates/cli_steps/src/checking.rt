@@ -5,7 +5,7 @@ ghost use Rattle.cli_operands.specs.Operands.{IsQueryOf, IsRefusalIn};
 ghost use Rattle.cli_words.specs.QueryTexts.{seen_words};
 ghost use Rattle.cli_steps.specs.Passing.{AsksByWords, PassesOn};
 ghost use Rattle.cli_steps.specs.Steps.{ChecksPath};
-ghost use Rattle.cli_steps.specs.Ways.{Moves};
+ghost use Rattle.cli_steps.specs.Ways.{MovesParty};
 
 use crate::answer::SessionAnswer;
 use crate::keeper::Keeper;
@@ -75,7 +75,7 @@ pub(crate) fn check<'a, K: Keeper, S: Source>(
     words: &QueryWords<'a>,
 ) -> SessionAnswer<'a>
     ensures sound { K.is_sound party.new.keeper → K.is_sound party.old.keeper }
-    ensures steps { Moves K.is_sound K.keeps party.old party.new (λ old new.
+    ensures steps { MovesParty K.is_sound K.keeps party.old party.new (λ old new.
         ChecksPath (S.holds source.now) (seen_words words.now) old result × (new ≡ old)) }
 {
     let (keeper, verifier) = (&mut party.keeper, &party.believed);

@@ -4,7 +4,7 @@ ghost use Rattle.cert.specs.Certificate.{seen_certificate};
 ghost use Rattle.statements.specs.Statement.{genuine_statement};
 ghost use Rattle.cli_steps.specs.Passing.{DeliversTo, DeliversUnder, TakesSaid};
 ghost use Rattle.cli_steps.specs.Steps.{DeliversFile};
-ghost use Rattle.cli_steps.specs.Ways.{Moves};
+ghost use Rattle.cli_steps.specs.Ways.{MovesParty};
 
 use crate::answer::SessionAnswer;
 use crate::keeper::Keeper;
@@ -82,7 +82,7 @@ pub(crate) fn deliver<'a, K: Keeper, S: Source>(
     file: &'a str,
 ) -> SessionAnswer<'a>
     ensures sound { K.is_sound party.new.keeper → K.is_sound party.old.keeper }
-    ensures steps { Moves K.is_sound K.keeps party.old party.new (λ old new.
+    ensures steps { MovesParty K.is_sound K.keeps party.old party.new (λ old new.
         DeliversFile (S.holds source.now) issuer.entry.now file.entry.now old new result) }
 {
     let (keeper, verifier) = (&mut party.keeper, &party.believed);

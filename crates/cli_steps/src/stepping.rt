@@ -3,7 +3,7 @@ ghost use Rattle.std.specs.Prelude.{◌≡◌};
 ghost use Rattle.cli_requests.specs.Requests.{seen_request};
 ghost use Rattle.cli_session.specs.Held.{holding_of};
 ghost use Rattle.cli_steps.specs.Steps.{IsStep};
-ghost use Rattle.cli_steps.specs.Ways.{Moves};
+ghost use Rattle.cli_steps.specs.Ways.{MovesParty};
 
 use crate::answer::SessionAnswer;
 use crate::believing::{believe, forget};
@@ -26,7 +26,7 @@ pub fn step<'a, K: Keeper, S: Source>(
     request: Request<'a>,
 ) -> SessionAnswer<'a>
     ensures sound { K.is_sound party.new.keeper → K.is_sound party.old.keeper }
-    ensures steps { Moves K.is_sound K.keeps party.old party.new (λ old new.
+    ensures steps { MovesParty K.is_sound K.keeps party.old party.new (λ old new.
         IsStep (holding_of (S.holds source.now)) (seen_request request.entry) old new result) }
 {
     let operands = OperandSource { source, alloc };

@@ -5,7 +5,7 @@ use Rattle.cli_words.specs.App.{program}
 use Rattle.clap.specs.Kinds.{Kinds, HasKind, IsAmong}
 use Rattle.clap.specs.declared.error.Error.{Error}
 use Rattle.clap.specs.declared.error.kind.ErrorKind.TheVariants.{OutOfMemory}
-use Rattle.cli_words.specs.CommandLine.{Ask, AreRefusedWith, HasFlaw, HasNoLine, HasOtherKind, IsErrorOf, IsLine, IsLineOf, IsRefusedWith, LacksOneOf, Reads, TakesKind, is_set, kind_in_rows, kind_named, of_check, of_compare, of_deliver, of_file, of_prints, of_store, words_in}
+use Rattle.cli_words.specs.CommandLine.{Ask, AreRefusedWith, HasFlaw, HasNoLine, HasOtherKind, IsErrorOf, IsLine, IsLineOf, IsRefusedWith, LacksOneOf, ReadsLine, TakesKind, is_set, kind_in_rows, kind_or_certificate, of_check, of_compare, of_deliver, of_file, of_prints, of_store, words_in}
 use Rattle.cli_words.specs.PlainLine.{IsCheck, IsCompare, IsDeliver, IsExplain, IsList, IsListAt, IsPlainWord, IsPrints, IsSession, IsShow, IsTree}
 use Rattle.cli_words.specs.declared.line.Kind.TheVariants.{Certificate}
 use Rattle.cli_words.specs.declared.line.Line.{Line}
@@ -52,7 +52,7 @@ or_refused words (Err e) h = elim h [ inl memory ↦ inl memory | inr is ↦ inr
 pub known : (P : Line → Type 0) (words : List Text) (r : Result Line Error) → fault_of program words ≡ []
     → (HasNoLine (subcommand_of program words) → ⊥) → (HasOtherKind (subcommand_of program words) → ⊥)
     → ((line : Line) → IsLineOf (subcommand_of program words) line → P line)
-    → IfOk r (Reads words) → IfErr r (λ e. (kind_of e ≡ OutOfMemory) ⊎ AreRefusedWith words (kind_of e))
+    → IfOk r (ReadsLine words) → IfErr r (λ e. (kind_of e ≡ OutOfMemory) ⊎ AreRefusedWith words (kind_of e))
     → MatchResult r P (λ e. kind_of e ≡ OutOfMemory)
 known P words (Ok line) well there kind means reads refuses = means line reads.1
 known P words (Err e) well there kind means reads refuses =
@@ -65,7 +65,7 @@ known P words (Err e) well there kind means reads refuses =
 
 -- what is said of the line that the words are, or of the error
 pub record IsReadAs (words : List Text) (r : Result Line Error) : Type 0 where
-  pub reads : IfOk r (Reads words)
+  pub reads : IfOk r (ReadsLine words)
   pub refuses : IfErr r (λ e. (kind_of e ≡ OutOfMemory) ⊎ AreRefusedWith words (kind_of e))
 
 -- the line is one of the rows that were entered
@@ -100,7 +100,7 @@ no_kind entered name rows is none (p, here, takes, other) =
 
 -- and one whose kind is left out has that of a certificate
 certificate_kind : (rows : List Row) → first_of (codes "as") rows ≡ None → kind_in_rows rows ≡ Some Certificate
-certificate_kind rows none = ap kind_named none
+certificate_kind rows none = ap kind_or_certificate none
 
 no_other_kind : (entered : Option (Text × List Row)) (name : Text) (rows : List Row) → entered ≡ Some (name, rows) → first_of (codes "as") rows ≡ None → HasOtherKind entered → ⊥
 no_other_kind entered name rows is none (p, here, takes, other) =

@@ -4,7 +4,7 @@ use Rattle.clap.specs.Lexer.{usize_max}
 use Rattle.clap.specs.Words.{Text, kind_of}
 use Rattle.clap.specs.declared.error.Error.{Error}
 use Rattle.clap.specs.declared.error.kind.ErrorKind.TheVariants.{OutOfMemory}
-use Rattle.cli_words.specs.PlainLine.{PlainLine, Says, check, compare, deliver, explain, list, list_at, plain_words, prints, session, show, tree}
+use Rattle.cli_words.specs.PlainLine.{PlainLine, SpellsLine, check, compare, deliver, explain, list, list_at, plain_words, prints, session, show, tree}
 use Rattle.cli_words.specs.declared.line.Line.{Line}
 use Rattle.cli_words.proofs.Outcomes.{IsReadAs, check_known, compare_known, deliver_known, explain_known, list_at_known, list_known, prints_known, session_known, show_known, tree_known}
 
@@ -13,7 +13,7 @@ fewer : (front : ℕ) (words more : List Text) → length words ≡ front + leng
 fewer front words more are some few = omega (arith, are, some, few)
 
 pub plain_known : (name : Text) (line : PlainLine) (r : Result Line Error) → length (plain_words line) + 1 < 2 ^ 64 → IsReadAs (name ∷ plain_words line) r
-    → MatchResult r (Says line) (λ e. kind_of e ≡ OutOfMemory)
+    → MatchResult r (SpellsLine line) (λ e. kind_of e ≡ OutOfMemory)
 plain_known name (tree file) r few is = tree_known name file.text r file.plain is
 plain_known name (show file) r few is = show_known name file.text r file.plain is
 plain_known name (prints issuer file) r few is = prints_known name issuer.text file.text r issuer.plain file.plain is

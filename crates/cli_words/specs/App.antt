@@ -17,16 +17,16 @@ abbrev pub IsCommand : App → Command → Type 0
 IsCommand app command = (app_of command ≡ app) × ((fields_of command).has_globals ≡ false)
 
 -- the command in the making is that, unless memory ran out
-abbrev pub Builds : App → Building → Type 0
-Builds app it = IfOk it.command (IsCommand app)
+abbrev pub MakesCommand : App → Building → Type 0
+MakesCommand app it = IfOk it.command (IsCommand app)
 
 -- `--id VALUE`, which may be left out
-abbrev pub optional : Text → Rule
-optional id = record (new_rule id) { long = Some id; value_names = 1 }
+abbrev pub optional_value : Text → Rule
+optional_value id = record (new_rule id) { long = Some id; value_names = 1 }
 
 -- `--id VALUE`, which has to be there
 abbrev pub needed : Text → Rule
-needed id = record (optional id) { required = true }
+needed id = record (optional_value id) { required = true }
 
 -- `--id`, which may be left out
 abbrev pub flag : Text → Rule
@@ -42,7 +42,7 @@ tree_app = with_rule (new_app (codes "tree")) file_rule
 
 -- `--as KIND`, which may be left out
 abbrev pub kind_rule : Rule
-kind_rule = optional (codes "as")
+kind_rule = optional_value (codes "as")
 
 -- `--all`, which may be left out
 abbrev pub all_rule : Rule
@@ -92,7 +92,7 @@ anchor_rule = needed (codes "anchor")
 
 -- `--purpose OID`, which may be left out
 abbrev pub purpose_rule : Rule
-purpose_rule = optional (codes "purpose")
+purpose_rule = optional_value (codes "purpose")
 
 -- `FILE...`, at least one
 abbrev pub certificates_rule : Rule
@@ -135,7 +135,7 @@ explain_app = with_rule (new_app (codes "explain")) topic_rule
 
 -- `--verdicts VERDICTS`, which may be left out
 abbrev pub known_rule : Rule
-known_rule = optional (codes "verdicts")
+known_rule = optional_value (codes "verdicts")
 
 -- `session --store STORE [--verdicts VERDICTS]`
 abbrev pub session_app : App
@@ -143,7 +143,7 @@ session_app = with_rule (with_rule (new_app (codes "session")) store_rule) known
 
 -- `--at TIME`, which may be left out
 abbrev pub known_moment_rule : Rule
-known_moment_rule = optional (codes "at")
+known_moment_rule = optional_value (codes "at")
 
 -- `list --store STORE [--at TIME]`
 abbrev pub list_app : App

@@ -18,17 +18,21 @@ use Rattle.cli_words.specs.declared.line.Flaw.TheVariants.{ArgumentMissing, Othe
 abbrev pub GivesText : List Row → Text → Bor Text → Type 0
 GivesText rows id text = first_of id rows ≡ Some text.now
 
--- the kind of input that has the name; without a name, a certificate
-abbrev pub kind_named : Option Text → Option Kind
-kind_named None = Some Certificate
-kind_named (Some name) =
+-- the kind of input that has the name
+abbrev pub kind_named : List ℕ → Option Kind
+kind_named name =
     if bytes_eq name (codes "cert") then Some Certificate
     else (if bytes_eq name (codes "crl") then Some RevocationList
     else (if bytes_eq name (codes "ocsp") then Some Response else None))
 
+-- without a name, a certificate
+abbrev pub kind_or_certificate : Option Text → Option Kind
+kind_or_certificate None = Some Certificate
+kind_or_certificate (Some name) = kind_named name
+
 -- the kind that the rows name
 abbrev pub kind_in_rows : List Row → Option Kind
-kind_in_rows rows = kind_named (first_of (codes "as") rows)
+kind_in_rows rows = kind_or_certificate (first_of (codes "as") rows)
 
 -- an option without a value was given: clap notes `true` for it, and `false` if it was left out
 abbrev pub is_set : Option Text → Bool
@@ -161,8 +165,8 @@ IsFlawOfQuestion ids rows OtherKind = ⊥
 IsFlawOfQuestion ids rows NoMemory = Unit {0}
 
 -- the words break no rule of the command, and are this line
-abbrev pub Reads : List Text → Line → Type 0
-Reads words line = (fault_of program words ≡ []) × IsLineOf (subcommand_of program words) line
+abbrev pub ReadsLine : List Text → Line → Type 0
+ReadsLine words line = (fault_of program words ≡ []) × IsLineOf (subcommand_of program words) line
 
 -- the subcommand that was entered is refused with this kind of error: one of its files is missing, or no kind of input has the name
 abbrev pub IsRefusedWith : Option (Text × List Row) → ErrorKind → Type 0

@@ -134,14 +134,14 @@ query_texts query = record {
 }
 
 -- a line says just this
-abbrev pub Says : PlainLine → Line → Type 0
-Says (tree file) = IsTree file.text
-Says (show file) = IsShow file.text
-Says (prints issuer file) = IsPrints issuer.text file.text
-Says (deliver store verdicts issuer file) = IsDeliver store.text verdicts.text issuer.text file.text
-Says (check store verdicts query) = IsCheck store.text verdicts.text (query_texts query)
-Says (compare store verdicts query other) = IsCompare store.text verdicts.text (query_texts query) other.text
-Says (explain word) = IsExplain word.text
-Says (session store) = IsSession store.text
-Says (list store) = IsList store.text
-Says (list_at store moment) = IsListAt store.text moment.text
+abbrev pub SpellsLine : PlainLine → Line → Type 0
+SpellsLine (tree file) = IsTree file.text
+SpellsLine (show file) = IsShow file.text
+SpellsLine (prints issuer file) = IsPrints issuer.text file.text
+SpellsLine (deliver store verdicts issuer file) = IsDeliver store.text verdicts.text issuer.text file.text
+SpellsLine (check store verdicts query) = IsCheck store.text verdicts.text (query_texts query)
+SpellsLine (compare store verdicts query other) = IsCompare store.text verdicts.text (query_texts query) other.text
+SpellsLine (explain word) = IsExplain word.text
+SpellsLine (session store) = IsSession store.text
+SpellsLine (list store) = IsList store.text
+SpellsLine (list_at store moment) = IsListAt store.text moment.text

@@ -4,8 +4,8 @@ ghost use Rattle.clap.specs.Words.{Text, app_of, first_of, found_of, kind_of, ro
 ghost use Rattle.clap.specs.declared.error.kind.ErrorKind.TheVariants.{OutOfMemory};
 ghost use Rattle.cli_words.specs.declared.line.Flaw.TheVariants.{NoMemory, OtherKind};
 ghost use Rattle.cli_words.specs.App.{program as program_app};
-ghost use Rattle.cli_words.specs.CommandLine.{AreRefusedWith, HasFlaw, IsErrorOf, IsFlaw, IsFlawOfQuestion, IsLack, IsLine, IsLineOf, IsRefusedWith, Reads, flag_in, kind_in_rows, kind_named, of_check, of_compare, of_deliver, of_file, of_prints, of_store};
-ghost use Rattle.cli_words.specs.PlainLine.{IsOutOfMemory, PlainLine, Says, plain_words};
+ghost use Rattle.cli_words.specs.CommandLine.{AreRefusedWith, HasFlaw, IsErrorOf, IsFlaw, IsFlawOfQuestion, IsLack, IsLine, IsLineOf, IsRefusedWith, ReadsLine, flag_in, kind_in_rows, kind_or_certificate, of_check, of_compare, of_deliver, of_file, of_prints, of_store};
+ghost use Rattle.cli_words.specs.PlainLine.{IsOutOfMemory, PlainLine, SpellsLine, plain_words};
 
 use crate::app::program;
 use crate::query::{QueryWords, asked};
@@ -123,7 +123,7 @@ fn tree_line<'a>(matches: &ArgMatches<'a>) -> Result<Line<'a>, Flaw>
 
 // The kind that has the name; without a name, a certificate.
 fn kind_named(name: Option<&str>) -> Option<Kind>
-    ensures { result ≡ kind_named (option_map (λ s. s.now) name.entry) }
+    ensures { result ≡ kind_or_certificate (option_map (λ s. s.now) name.entry) }
 {
     match name {
         None | Some("cert") => Some(Kind::Certificate),
@@ -334,7 +334,7 @@ fn line_by<'a>(
     words: &'a [&'a str],
 ) -> Result<Line<'a>, Error>
     requires { app_of command.old ≡ program_app }
-    ensures reads { IfOk result (Reads (map (λ w. w.now) words.entry.now)) }
+    ensures reads { IfOk result (ReadsLine (map (λ w. w.now) words.entry.now)) }
     ensures refuses { IfErr result (λ e. (kind_of e ≡ OutOfMemory)
         ⊎ AreRefusedWith (map (λ w. w.now) words.entry.now) (kind_of e)) }
 {
@@ -344,7 +344,7 @@ fn line_by<'a>(
 
 // The line that clap's definition gives for the words.
 fn line_of_words<'a>(alloc: Global, words: &'a [&'a str]) -> Result<Line<'a>, Error>
-    ensures reads { IfOk result (Reads (map (λ w. w.now) words.entry.now)) }
+    ensures reads { IfOk result (ReadsLine (map (λ w. w.now) words.entry.now)) }
     ensures refuses { IfErr result (λ e. (kind_of e ≡ OutOfMemory)
         ⊎ AreRefusedWith (map (λ w. w.now) words.entry.now) (kind_of e)) }
 {
@@ -355,10 +355,10 @@ fn line_of_words<'a>(alloc: Global, words: &'a [&'a str]) -> Result<Line<'a>, Er
 /// The line that the words are, of which the first is the program's name, as in `env::args`. The words belong to one
 /// command line: an error has clap's text, and for help `use_stderr()` of it is false.
 pub fn command_of<'a>(alloc: Global, words: &'a [&'a str]) -> Result<Line<'a>, Error>
-    ensures reads { IfOk result (Reads (map (λ w. w.now) words.entry.now)) }
+    ensures reads { IfOk result (ReadsLine (map (λ w. w.now) words.entry.now)) }
     ensures plain { (name : Text) (line : PlainLine)
         → map (λ w. w.now) words.entry.now ≡ name ∷ plain_words line
-        → MatchResult result (Says line) IsOutOfMemory }
+        → MatchResult result (SpellsLine line) IsOutOfMemory }
     ensures refuses { IfErr result (λ e. (kind_of e ≡ OutOfMemory)
         ⊎ AreRefusedWith (map (λ w. w.now) words.entry.now) (kind_of e)) }
 {

@@ -10,7 +10,7 @@ use Rattle.der.specs.Encoding.{deepest}
 use Rattle.der.specs.Length.{header_len, contents_of, end_of}
 use Rattle.der.specs.FirstFault.{BreaksFirst, FirstFaultIn, FirstFaultAmong}
 use Rattle.der.specs.Header.{IsHeaderOf, IsSound, BreaksHeaderRule, BeginsWithValue}
-use Rattle.der.specs.Front.{AreEncodings, IsFront, BeginsWith, inside_of, Leads}
+use Rattle.der.specs.Front.{AreEncodings, IsFront, BeginsWith, inside_of, SpeaksForWhole}
 use Rattle.der.specs.declared.header.Header.{Header}
 use Rattle.der.proofs.Faults.{below_among, refused_itself, refused_inside, refused_first, refused_later}
 use Rattle.der.proofs.Headers.{two_octets}
@@ -94,7 +94,7 @@ pub more_encodings : (depth : ℕ) (text others : List ℕ) → IsFront depth te
 more_encodings depth text others first are = (more first.value are.0, (first.front, others, first.joined, first.encodes, are.1))
 
 -- the whole text says so of itself
-pub whole_leads : (whole : List ℕ) → Leads whole 2 whole 0 (AreEncodings 2 whole)
+pub whole_leads : (whole : List ℕ) → SpeaksForWhole whole 2 whole 0 (AreEncodings 2 whole)
 whole_leads whole = record {
   within = omega arith;
   encoded = λ are. are;
@@ -102,14 +102,14 @@ whole_leads whole = record {
 }
 
 -- the first of the values breaks a rule
-pub breaks : (whole : List ℕ) (depth : ℕ) (text : List ℕ) (waiting : ℕ) (decides : Type 0) (rule : Rule) (place : ℕ) → Leads whole depth text waiting decides → 0 < length text
+pub breaks : (whole : List ℕ) (depth : ℕ) (text : List ℕ) (waiting : ℕ) (decides : Type 0) (rule : Rule) (place : ℕ) → SpeaksForWhole whole depth text waiting decides → 0 < length text
     → place + (length text + waiting) ≡ length whole → BreaksFirst rule depth text → FirstFaultAmong 2 whole rule place
 breaks whole depth text waiting decides rule place leads some e broken =
     leads.refused rule 0 place (omega (arith, e)) (refused_first depth text rule 0 some (refused_itself depth text rule broken))
 
 -- a value is passed over
 pub passed : (whole : List ℕ) (depth : ℕ) (text others : List ℕ) (waiting : ℕ) (decides : Type 0) → others ≡ drop (end_of text) text → BeginsWithValue depth text (end_of text)
-    → Leads whole depth text waiting decides → Leads whole depth others waiting decides
+    → SpeaksForWhole whole depth text waiting decides → SpeaksForWhole whole depth others waiting decides
 passed whole depth text others waiting decides behind b leads =
     let size : length others + end_of text ≡ length text = omega (arith, ap length behind, length-drop (end_of text) text, b.sound.within) in
     record {

@@ -3,7 +3,7 @@ use Rattle.std.proofs.Common.{◌≡◌, ◌≢◌, ℕ, zero, suc, ◌+◌, ◌
 use Rattle.std.proofs.lemmas.List.{get_or-set_same, get_or-set_other, get_or-take, length-take-le}
 use Rattle.std.proofs.lemmas.Bool.{cases_lt}
 use Rattle.der.specs.Encoding.{deepest}
-use Rattle.der.specs.Front.{AreEncodings, BeginsWith, Leads, octets_behind}
+use Rattle.der.specs.Front.{AreEncodings, BeginsWith, SpeaksForWhole, octets_behind}
 use Rattle.der.proofs.Faults.{refused_first}
 use Rattle.der.proofs.KnownFronts.{passed}
 
@@ -18,7 +18,7 @@ behind texts n = (get_or texts n nothing).now
 -- outermost text that waits is of values at depth 2
 abbrev pub Lacks : List (Bor (List ℕ)) → ℕ → List ℕ → Type 0
 Lacks texts zero whole = AreEncodings 2 whole
-Lacks texts (suc n) whole = Leads whole (n + 2) (behind texts n) (octets_behind texts n) (Lacks texts n whole)
+Lacks texts (suc n) whole = SpeaksForWhole whole (n + 2) (behind texts n) (octets_behind texts n) (Lacks texts n whole)
 
 -- one more text changes nothing for those before it
 before : (texts : List (Bor (List ℕ))) (text : Bor (List ℕ)) (most n : ℕ) → n < most → behind (set texts most text) n ≡ behind texts n
@@ -29,7 +29,7 @@ octets_before texts text most zero le = refl
 octets_before texts text most (suc n) le = omega (arith, ap length (before texts text most n (omega arith)), octets_before texts text most n (omega arith))
 
 -- what is decided, said of another way to decide
-deciding : (whole : List ℕ) (depth : ℕ) (text : List ℕ) (waiting : ℕ) (one other : Type 0) → (one → other) → Leads whole depth text waiting one → Leads whole depth text waiting other
+deciding : (whole : List ℕ) (depth : ℕ) (text : List ℕ) (waiting : ℕ) (one other : Type 0) → (one → other) → SpeaksForWhole whole depth text waiting one → SpeaksForWhole whole depth text waiting other
 deciding whole depth text waiting one other by leads = record { within = leads.within; encoded = λ are. by (leads.encoded are); refused = leads.refused }
 
 lacks_before : (texts : List (Bor (List ℕ))) (text : Bor (List ℕ)) (most n : ℕ) (whole : List ℕ) → n ≤ most → Lacks texts n whole → Lacks (set texts most text) n whole
@@ -52,7 +52,7 @@ abbrev pub steps_left : List (Bor (List ℕ)) → ℕ → ℕ
 steps_left texts n = octets_behind texts n + n
 
 -- the text that waits last is looked at
-pub taken : (texts : List (Bor (List ℕ))) (n : ℕ) (whole : List ℕ) → n ≢ 0 → Lacks texts n whole → Leads whole (n - 1 + 2) (behind texts (n - 1)) (octets_behind texts (n - 1)) (Lacks texts (n - 1) whole)
+pub taken : (texts : List (Bor (List ℕ))) (n : ℕ) (whole : List ℕ) → n ≢ 0 → Lacks texts n whole → SpeaksForWhole whole (n - 1 + 2) (behind texts (n - 1)) (octets_behind texts (n - 1)) (Lacks texts (n - 1) whole)
 taken texts zero whole some lacks = absurd (some refl)
 taken texts (suc n) whole some lacks = let e : suc n - 1 ≡ n = omega arith in rw e lacks
 
@@ -62,8 +62,8 @@ octets_taken texts (suc n) some = let e : suc n - 1 ≡ n = omega arith in rw e 
 
 -- a value is opened, behind which this text waits
 pub opened : (texts : List (Bor (List ℕ))) (n : ℕ) (whole text inside : List ℕ) (others : Bor (List ℕ)) → n + 2 ≤ deepest → n < length texts
-    → BeginsWith text inside others.now → Leads whole (n + 2) text (octets_behind texts n) (Lacks texts n whole)
-    → Leads whole (n + 1 + 2) inside (octets_behind (set texts n others) (n + 1)) (Lacks (set texts n others) (n + 1) whole)
+    → BeginsWith text inside others.now → SpeaksForWhole whole (n + 2) text (octets_behind texts n) (Lacks texts n whole)
+    → SpeaksForWhole whole (n + 1 + 2) inside (octets_behind (set texts n others) (n + 1)) (Lacks (set texts n others) (n + 1) whole)
 opened texts n whole text inside others deep lt b leads =
     let e : n + 1 ≡ suc n = omega arith in
     let d : n + 1 + 2 ≡ n + 2 + 1 = omega arith in

@@ -73,6 +73,6 @@ IsFirstFault text (Refused rule at) = FirstFaultIn 1 text rule at ⊎ ((rule ≡
 IsFirstFault text Memory = ⊥
 
 -- the place is an octet of the text, or its end
-abbrev pub IsWithin : List ℕ → Fault → Type 0
-IsWithin text (Refused rule at) = at ≤ length text
-IsWithin text Memory = ⊥
+abbrev pub IsPlacedWithin : List ℕ → Fault → Type 0
+IsPlacedWithin text (Refused rule at) = at ≤ length text
+IsPlacedWithin text Memory = ⊥

@@ -43,7 +43,7 @@ IsBroken text = IsSound text → BreaksFirstWherever text Content
 
 -- What the values that fill a text, at this depth, say of a whole text of values at depth 2, at whose end so many octets wait behind them:
 -- if they are encodings, the rest of the whole decides; their first fault is that of the whole.
-pub record Leads (whole : List ℕ) (depth : ℕ) (text : List ℕ) (waiting : ℕ) (decides : Type 0) : Type 0 where
+pub record SpeaksForWhole (whole : List ℕ) (depth : ℕ) (text : List ℕ) (waiting : ℕ) (decides : Type 0) : Type 0 where
   pub within : length text + waiting ≤ length whole
   pub encoded : AreEncodings depth text → decides
   pub refused : (rule : Rule) (at place : ℕ) → place + (length text + waiting) ≡ at + length whole

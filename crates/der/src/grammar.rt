@@ -3,7 +3,7 @@
 ghost use Rattle.std.specs.Prelude.{◌↔◌, IfOk, IfErr, IsOk};
 ghost use Rattle.der.specs.Value.{Value};
 ghost use Rattle.der.specs.Encoding.{Encodes};
-ghost use Rattle.der.specs.FirstFault.{FirstFaultIn, IsFirstFault, IsWithin};
+ghost use Rattle.der.specs.FirstFault.{FirstFaultIn, IsFirstFault, IsPlacedWithin};
 ghost use Rattle.der.specs.Header.{BeginsWithValue};
 
 use crate::fault::{Fault, Rule};
@@ -40,7 +40,7 @@ fn check_value(text: &[u8]) -> Result<usize, (Rule, usize)>
 pub fn check(octets: &[u8]) -> Result<(), Fault>
     ensures accepts { IsOk result ↔ ((value : Value) × Encodes octets.now value) }
     ensures refuses { IfErr result (λ fault. IsFirstFault octets.now fault) }
-    ensures within { IfErr result (λ fault. IsWithin octets.now fault) }
+    ensures within { IfErr result (λ fault. IsPlacedWithin octets.now fault) }
 {
     match check_value(octets) {
         Ok(len) => {

@@ -1,7 +1,7 @@
 //! Values that stand one behind the other, with those inside them: whether octets are such, or the first fault.
 
 ghost use Rattle.std.specs.Prelude.{◌≡◌, ◌+◌, ◌≤◌, length, IfSome, IfNone, IfOk, IfErr, OnOk};
-ghost use Rattle.der.specs.Front.{AreEncodings, BeginsWith, inside_of, IsBroken, BreaksFirstWherever, Leads, octets_behind};
+ghost use Rattle.der.specs.Front.{AreEncodings, BeginsWith, inside_of, IsBroken, BreaksFirstWherever, SpeaksForWhole, octets_behind};
 ghost use Rattle.der.specs.FirstFault.{BreaksFirst, FirstFaultAmong};
 
 use crate::contents::is_contents;
@@ -59,7 +59,7 @@ pub(crate) fn broken_rule(text: &[u8]) -> Rule
 
 /// Passes over values with nothing inside them, at depth 2, and answers what is left from the first other one on.
 fn pass_flat(text: &[u8]) -> Result<&[u8], (Rule, usize)>
-    ensures ok { IfOk result (λ rest. Leads text.now 2 rest.now 0 (AreEncodings 2 text.now)) }
+    ensures ok { IfOk result (λ rest. SpeaksForWhole text.now 2 rest.now 0 (AreEncodings 2 text.now)) }
     ensures err { IfErr result (λ broken. FirstFaultAmong 2 text.now broken.0 broken.1) }
 {
     let mut rest = text;

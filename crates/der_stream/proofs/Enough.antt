@@ -8,12 +8,12 @@ use Rattle.der.specs.declared.fault.Rule.{Rule}
 use Rattle.der.specs.Length.{end_of}
 use Rattle.der.specs.Header.{IsBrokenAhead}
 use Rattle.der_stream.specs.Stream.{HasFaultlessHeader}
-use Rattle.der_stream.specs.Front.{ValuesEndAt, one_more, IsEnough, at_end, octet_behind, refused_header, AreAllNeeded, IsFilled, HasNoValue, IsWhole}
+use Rattle.der_stream.specs.Front.{ValuesEndAt, one_more, IsEnough, at_end, octet_behind, refused_header, AreAllNeeded, IsFilled, HasNoValue, IsWholeOrNone}
 use Rattle.der_stream.proofs.Counted.{values_ahead, values_behind, one_place, each_of, some_broken}
 
 -- all octets were values, and another was read behind them
 pub next_value : (count : ℕ) (held after : List ℕ) (left : Option (List ℕ)) → StartsWith after held
-    → ValuesEndAt held count (length held) → IsWhole (drop (length held) after) left true
+    → ValuesEndAt held count (length held) → IsWholeOrNone (drop (length held) after) left true
     → ValuesEndAt after (count + 1) (length after)
 next_value count held after left front stand whole =
     let long : length held ≤ length after = omega (arith, ap length front, length-take (length held) after) in

@@ -13,7 +13,7 @@ use Rattle.der.specs.declared.fault.Rule.{Rule}
 use Rattle.der.specs.FirstFault.{Breaks}
 use Rattle.der.specs.Length.{end_of}
 use Rattle.der.proofs.Laws.{end_of-ahead}
-use Rattle.der_stream.specs.Front.{ReadsBehind, IsFilled, HasNoValue, IsWhole}
+use Rattle.der_stream.specs.Front.{ReadsBehind, IsFilled, HasNoValue, IsWholeOrNone}
 use Rattle.der_stream.specs.Stream.{HasFaultlessHeader, IsHeaderRead}
 use Rattle.der_stream.proofs.Streams.{short, header_read, faultless-ahead}
 
@@ -161,7 +161,7 @@ module _ {A : Type 0} (a b : Option (List ℕ)) (before held after : Vec ℕ A) 
       subst (λ (n : ℕ). HasNoValue (drop n after.items) left) begin_is (goes_on (drop begin after.items) left on_still end)
 
 whole_or_not : (octets : List ℕ) (left : Option (List ℕ)) (b : Bool)
-    → (b ≡ true → IsWhole octets left true) → (b ≡ false → HasNoValue octets left) → IsWhole octets left b
+    → (b ≡ true → IsWholeOrNone octets left true) → (b ≡ false → HasNoValue octets left) → IsWholeOrNone octets left b
 whole_or_not octets left true p q = p refl
 whole_or_not octets left false p q = q refl
 
@@ -184,7 +184,7 @@ module _ (begin contents len : ℕ) (held after : List ℕ) (left : Option (List
   long = omega (arith, ap length front, length-take (length held) after)
 
   pub whole_value : (full : ℕ) → full ≡ length after → length after ≤ len → IsFilled len after left
-      → IsWhole (drop begin after) left (full == len)
+      → IsWholeOrNone (drop begin after) left (full == len)
   whole_value full full_is within filled =
       whole_or_not (drop begin after) left (full == len)
       (λ yes. let same = eqb-true full len yes in (faultless, omega (arith, same, full_is, end_is, le, long, length-drop begin after)))

@@ -74,6 +74,6 @@ IsHeader octets left (Some contents) = IsHeaderRead octets (length octets + cont
 IsHeader octets left None = HasNoValue octets left
 
 -- the octets are a header and all its contents, or no whole value
-abbrev pub IsWhole : List ℕ → Option (List ℕ) → Bool → Type 0
-IsWhole octets left true = HasFaultlessHeader octets × (length octets ≡ end_of octets)
-IsWhole octets left false = HasNoValue octets left
+abbrev pub IsWholeOrNone : List ℕ → Option (List ℕ) → Bool → Type 0
+IsWholeOrNone octets left true = HasFaultlessHeader octets × (length octets ≡ end_of octets)
+IsWholeOrNone octets left false = HasNoValue octets left

@@ -12,7 +12,7 @@ abbrev pub joined : List (List ℕ) → List ℕ
 joined values = flat_map (λ octets. octets) values
 
 -- the octets begin with these values, in order, and then these are left
-pub record BeginsWith (limit : ℕ) (text : List ℕ) (values : List (List ℕ)) (left : List ℕ) : Type 0 where
+pub record StartsWithValues (limit : ℕ) (text : List ℕ) (values : List (List ℕ)) (left : List ℕ) : Type 0 where
   pub each : AllByRecursion (IsValueWithin limit) values
   pub text_is : text ≡ joined values ++ left
 
@@ -20,7 +20,7 @@ pub record BeginsWith (limit : ℕ) (text : List ℕ) (values : List (List ℕ))
 abbrev pub BeginsFrom : ℕ → Option (List ℕ) → List (List ℕ) → Option (List ℕ) → Type 0
 BeginsFrom limit None values left = ⊤
 BeginsFrom limit (Some text) values None = ⊥
-BeginsFrom limit (Some text) values (Some left) = BeginsWith limit text values left
+BeginsFrom limit (Some text) values (Some left) = StartsWithValues limit text values left
 
 -- Why no more was read: so many were, or the source ended behind them; or the value that starts there is refused.
 abbrev pub StopsBehind : ℕ → ℕ → List (List ℕ) → Option (List ℕ) → Option (List ℕ) → Option (ℕ × ReadFault) → Type 0

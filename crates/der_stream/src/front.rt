@@ -2,7 +2,7 @@
 
 ghost use Rattle.std.specs.Prelude.{◌≡◌, ◌+◌, ◌<◌, ◌≤◌, length, drop, IfErr, IfOk, OnOk};
 ghost use Rattle.std.specs.Io.KnownBytes.{Consumes, IsAtEnd};
-ghost use Rattle.der_stream.specs.Front.{ReadsBehind, IsFilled, IsHeader, IsWhole, IsEnough, AreAllNeeded, OneIsShown, EachIsShown};
+ghost use Rattle.der_stream.specs.Front.{ReadsBehind, IsFilled, IsHeader, IsWholeOrNone, IsEnough, AreAllNeeded, OneIsShown, EachIsShown};
 ghost use Rattle.der_stream.specs.Stream.{IsNoRefusal};
 
 use crate::reading::{ReadFault, read_more};
@@ -71,7 +71,7 @@ fn read_value<R: Read>(source: &mut R, octets: &mut Vec<u8>) -> Result<bool, Rea
     ensures read { OnOk result
         (ReadsBehind (R.remaining source.old) (R.remaining source.new) octets.old octets.new) }
     ensures whole { IfOk result
-        (IsWhole (drop (length octets.old.items) octets.new.items) (R.remaining source.new)) }
+        (IsWholeOrNone (drop (length octets.old.items) octets.new.items) (R.remaining source.new)) }
     ensures err { IfErr result (λ fault. IsNoRefusal fault) }
 {
     let Some(contents) = read_header(source, octets)? else {

@@ -5,11 +5,11 @@ use Rattle.std.proofs.lemmas.Bool.{and_parts, and_from, eqb-true, eq-eqb}
 use Rattle.names.specs.declared.general.General.TheVariants as G
 use Rattle.names.specs.declared.general.Form.TheVariants as F
 use Rattle.names.specs.declared.subtree.Subtree.TheVariants as S
-use Rattle.names.specs.Ip.{agree, is_in_range, is_range_inside}
+use Rattle.names.specs.Ip.{agree, is_in_address_range, is_range_inside}
 use Rattle.names.specs.GeneralSubtree.{is_in_subtree, is_subtree_inside, has_form}
 use Rattle.names.specs.Bases.{DomainNames, every_name, names_within, names_below, AddressRange}
 use Rattle.names.specs.GeneralLayout.{GeneralName, SubtreeBase, directory_name, dns_name, ip_address, directory_base, dns_base, ip_base, other_base}
-use Rattle.names.specs.GeneralCoverage.{is_among, is_address_of, is_range_of, is_covered, is_base_inside, is_of_form, IsAmong, IsAddressOf, CoverageTestIsExact, CoverageIsOfContents, InsideIsOfContents, NameFormIsOfContents, BaseFormIsOfContents, FormTestIsOfContents, BaseInsideIsSound, SharedBasesAreNested, CoveredIsOfForm, CoveredIsProcessed, BaseFormTestIsExact}
+use Rattle.names.specs.GeneralCoverage.{is_domain_among, is_address_of, is_range_of, is_covered, is_base_inside, is_of_form, IsAmong, IsInAddressRange, CoverageTestIsExact, CoverageIsOfContents, InsideIsOfContents, NameFormIsOfContents, BaseFormIsOfContents, FormTestIsOfContents, BaseInsideIsSound, SharedBasesAreNested, CoveredIsOfForm, CoveredIsProcessed, BaseFormTestIsExact}
 use Rattle.names.proofs.DomainLaws.{more_is_exact, names_inside, names_nested, among, among_all}
 use Rattle.names.proofs.Labels.{ends_in_is_exact}
 use Rattle.names.proofs.Ranges.{Same, same_of, agree_of, addresses_inside, addresses_nested}
@@ -17,7 +17,7 @@ use Rattle.names.proofs.Subtrees.{test_within, within_nested, other_same}
 use Rattle.names_distinguished.proofs.Laws.{within_is_exact}
 
 pub coverage_is_of_contents : CoverageIsOfContents
-unfolding is_in_subtree is_covered is_in_range is_address_of
+unfolding is_in_subtree is_covered is_in_address_range is_address_of
 coverage_is_of_contents (G.Directory x) (S.Directory s) = refl
 coverage_is_of_contents (G.Dns x) (S.Dns s) = among x.now s
 coverage_is_of_contents (G.Ip x) (S.Ip s) = refl
@@ -42,13 +42,13 @@ base_form_is_of_contents (S.Dns s) = refl
 base_form_is_of_contents (S.Ip s) = refl
 base_form_is_of_contents (S.Other n s) = refl
 
-among_test : (name : List ℕ) (names : DomainNames) → (IsTrue (is_among name names) ↔ IsAmong name names)
-unfolding is_among
+among_test : (name : List ℕ) (names : DomainNames) → (IsTrue (is_domain_among name names) ↔ IsAmong name names)
+unfolding is_domain_among
 among_test name every_name = (λ _. tt, λ _. refl)
 among_test name (names_within base) = ends_in_is_exact name base
 among_test name (names_below base) = more_is_exact name base
 
-address_test : (address : List ℕ) (range : AddressRange) → (IsTrue (is_address_of address range) ↔ IsAddressOf address range)
+address_test : (address : List ℕ) (range : AddressRange) → (IsTrue (is_address_of address range) ↔ IsInAddressRange address range)
 unfolding is_address_of Same
 address_test address range = (
   λ t.

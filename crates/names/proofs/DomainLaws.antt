@@ -5,7 +5,7 @@ use Rattle.names.specs.declared.dns.Domain.{Domain}
 use Rattle.names.specs.declared.dns.Domain.TheVariants as D
 use Rattle.names.specs.Dns.{labels, EndsIn, EndsInMore, IsInDomain, ends_in_labels, ends_in_more_labels, is_in_domain, is_domain_inside}
 use Rattle.names.specs.Bases.{DomainNames, every_name, names_within, names_below, domain_names}
-use Rattle.names.specs.GeneralCoverage.{is_among, are_among}
+use Rattle.names.specs.GeneralCoverage.{is_domain_among, are_among}
 use Rattle.names.specs.Laws.{DomainTestIsExact, DomainInsideIsSound, SharedDomainsAreNested}
 use Rattle.names.proofs.Labels.{ends_in_is_exact}
 
@@ -80,8 +80,8 @@ domain_test_is_exact x (D.Within s) = ends_in_is_exact x s.now
 domain_test_is_exact x (D.Below s) = more_is_exact x s.now
 
 -- both laws, of what bases say
-pub names_inside : (x : List ℕ) (s t : DomainNames) → IsTrue (are_among s t) → IsTrue (is_among x s) → IsTrue (is_among x t)
-unfolding is_among are_among
+pub names_inside : (x : List ℕ) (s t : DomainNames) → IsTrue (are_among s t) → IsTrue (is_domain_among x s) → IsTrue (is_domain_among x t)
+unfolding is_domain_among are_among
 names_inside x s every_name h k = refl
 names_inside x every_name (names_within t) h k = cc
 names_inside x every_name (names_below t) h k = cc
@@ -96,8 +96,8 @@ names_inside x (names_below s) (names_below t) h k =
     let b = more_count x s k in
     more_of x t (trans x s t h (more_ends x s k)) (omega arith)
 
-pub names_nested : (x : List ℕ) (s t : DomainNames) → IsTrue (is_among x s) → IsTrue (is_among x t) → IsTrue (are_among s t) ⊎ IsTrue (are_among t s)
-unfolding is_among are_among
+pub names_nested : (x : List ℕ) (s t : DomainNames) → IsTrue (is_domain_among x s) → IsTrue (is_domain_among x t) → IsTrue (are_among s t) ⊎ IsTrue (are_among t s)
+unfolding is_domain_among are_among
 names_nested x s every_name h k = inl refl
 names_nested x every_name (names_within t) h k = inr refl
 names_nested x every_name (names_below t) h k = inr refl
@@ -123,8 +123,8 @@ names_nested x (names_below s) (names_below t) h k =
     ]
 
 -- it is what domains say that decides
-pub among : (name : List ℕ) (domain : Domain) → is_in_domain name domain ≡ is_among name (domain_names domain)
-unfolding is_in_domain is_among
+pub among : (name : List ℕ) (domain : Domain) → is_in_domain name domain ≡ is_domain_among name (domain_names domain)
+unfolding is_in_domain is_domain_among
 among name D.Every = refl
 among name (D.Within base) = refl
 among name (D.Below base) = refl

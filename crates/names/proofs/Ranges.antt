@@ -3,7 +3,7 @@ use Rattle.std.specs.Prelude.{nat_le, ◌↔◌}
 use Rattle.std.specs.List.{list_all, range_with_len}
 use Rattle.std.proofs.lemmas.Bool.{and_parts, and_from, eqb-true, eq-eqb, leb-true, le-leb, cases_lt}
 use Rattle.names.specs.declared.ip.IpRange.{IpRange}
-use Rattle.names.specs.Ip.{IsInRange, bit, same_bit, agree, is_in_range, is_range_inside}
+use Rattle.names.specs.Ip.{IsInRange, bit, same_bit, agree, is_in_address_range, is_range_inside}
 use Rattle.names.specs.Bases.{AddressRange, address_range}
 use Rattle.names.specs.GeneralCoverage.{is_address_of, is_range_of}
 use Rattle.names.specs.Laws.{RangeTestIsExact, RangeInsideIsSound, SharedRangesAreNested}
@@ -76,15 +76,15 @@ addresses_nested x s t h k =
     ]
 
 pub range_inside_is_sound : RangeInsideIsSound
-unfolding is_in_range is_range_inside is_address_of is_range_of
+unfolding is_in_address_range is_range_inside is_address_of is_range_of
 range_inside_is_sound x s t h k = addresses_inside x (address_range s) (address_range t) h k
 
 pub shared_ranges_are_nested : SharedRangesAreNested
-unfolding is_in_range is_range_inside is_address_of is_range_of
+unfolding is_in_address_range is_range_inside is_address_of is_range_of
 shared_ranges_are_nested x s t h k = addresses_nested x (address_range s) (address_range t) h k
 
 pub range_test_is_exact : RangeTestIsExact
-unfolding is_in_range Same
+unfolding is_in_address_range Same
 range_test_is_exact x s = (
   λ t.
       let both = and_parts (length x == length s.address.now) _ t in

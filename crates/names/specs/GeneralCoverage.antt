@@ -26,10 +26,10 @@ form_of_base (ip_base range) = F.Ip
 form_of_base (other_base number contents) = F.Other number
 
 -- the name is one of these
-unfoldable pub is_among : List ℕ → DomainNames → Bool
-is_among name every_name = true
-is_among name (names_within base) = ends_in_labels name base
-is_among name (names_below base) = ends_in_more_labels name base
+unfoldable pub is_domain_among : List ℕ → DomainNames → Bool
+is_domain_among name every_name = true
+is_domain_among name (names_within base) = ends_in_labels name base
+is_domain_among name (names_below base) = ends_in_more_labels name base
 
 -- each of the first is one of the second
 unfoldable pub are_among : DomainNames → DomainNames → Bool
@@ -52,7 +52,7 @@ is_range_of inner outer =
 -- the name lies in the subtree
 unfoldable pub is_covered : GeneralName → SubtreeBase → Bool
 is_covered (directory_name name) (directory_base base) = is_within name.rdns base.rdns
-is_covered (dns_name name) (dns_base names) = is_among name names
+is_covered (dns_name name) (dns_base names) = is_domain_among name names
 is_covered (ip_address address) (ip_base range) = is_address_of address range
 is_covered _ _ = false
 
@@ -78,19 +78,19 @@ IsAmong name every_name = Unit {0}
 IsAmong name (names_within base) = EndsIn (labels name) (labels base)
 IsAmong name (names_below base) = EndsInMore (labels name) (labels base)
 
-pub record IsAddressOf (address : List ℕ) (range : AddressRange) : Type 0 where
+pub record IsInAddressRange (address : List ℕ) (range : AddressRange) : Type 0 where
   pub same_length : length address ≡ length range.address
   pub agree : (i : ℕ) → i < range.prefix → bit range.address i ≡ bit address i
 
 -- the name and the subtree are of one processed form, and there the name lies in the subtree
-abbrev pub IsCovered : GeneralName → SubtreeBase → Type 0
-IsCovered (directory_name name) (directory_base base) = IsWithin name.rdns base.rdns
-IsCovered (dns_name name) (dns_base names) = IsAmong name names
-IsCovered (ip_address address) (ip_base range) = IsAddressOf address range
-IsCovered _ _ = ⊥
+abbrev pub LiesInSubtree : GeneralName → SubtreeBase → Type 0
+LiesInSubtree (directory_name name) (directory_base base) = IsWithin name.rdns base.rdns
+LiesInSubtree (dns_name name) (dns_base names) = IsAmong name names
+LiesInSubtree (ip_address address) (ip_base range) = IsInAddressRange address range
+LiesInSubtree _ _ = ⊥
 
 abbrev pub CoverageTestIsExact : Type 0
-CoverageTestIsExact = (name : GeneralName) (base : SubtreeBase) → (IsTrue (is_covered name base) ↔ IsCovered name base)
+CoverageTestIsExact = (name : GeneralName) (base : SubtreeBase) → (IsTrue (is_covered name base) ↔ LiesInSubtree name base)
 
 -- laws: it is what names and subtrees say that decides
 
@@ -111,20 +111,20 @@ FormTestIsOfContents = (s : Subtree) (form : Form) → has_form s form ≡ is_of
 
 -- every name in the first is in the second
 abbrev pub BaseInsideIsSound : Type 0
-BaseInsideIsSound = (name : GeneralName) (s t : SubtreeBase) → IsTrue (is_base_inside s t) → IsCovered name s → IsCovered name t
+BaseInsideIsSound = (name : GeneralName) (s t : SubtreeBase) → IsTrue (is_base_inside s t) → LiesInSubtree name s → LiesInSubtree name t
 
 -- two that share a name are nested, one way or the other
 abbrev pub SharedBasesAreNested : Type 0
 SharedBasesAreNested =
-    (name : GeneralName) (s t : SubtreeBase) → IsCovered name s → IsCovered name t →
+    (name : GeneralName) (s t : SubtreeBase) → LiesInSubtree name s → LiesInSubtree name t →
     IsTrue (is_base_inside s t) ⊎ IsTrue (is_base_inside t s)
 
 -- a name lies in subtrees of its own form alone, and that form is processed
 abbrev pub CoveredIsOfForm : Type 0
-CoveredIsOfForm = (name : GeneralName) (s : SubtreeBase) → IsCovered name s → form_of_base s ≡ form_of_general_name name
+CoveredIsOfForm = (name : GeneralName) (s : SubtreeBase) → LiesInSubtree name s → form_of_base s ≡ form_of_general_name name
 
 abbrev pub CoveredIsProcessed : Type 0
-CoveredIsProcessed = (name : GeneralName) (s : SubtreeBase) → IsCovered name s → IsProcessed (form_of_base s)
+CoveredIsProcessed = (name : GeneralName) (s : SubtreeBase) → LiesInSubtree name s → IsProcessed (form_of_base s)
 
 abbrev pub BaseFormTestIsExact : Type 0
 BaseFormTestIsExact = (s : SubtreeBase) (form : Form) → (IsTrue (is_of_form s form) ↔ (form_of_base s ≡ form))

@@ -9,7 +9,7 @@ use Rattle.names.specs.declared.subtree.Subtree.TheVariants as S
 use Rattle.names_distinguished.specs.DistinguishedName.{IsWithin, is_within}
 use Rattle.names_distinguished.specs.NameOctets.{rdns_of}
 use Rattle.names.specs.Dns.{IsInDomain, is_in_domain, is_domain_inside}
-use Rattle.names.specs.Ip.{IsInRange, is_in_range, is_range_inside}
+use Rattle.names.specs.Ip.{IsInRange, is_in_address_range, is_range_inside}
 use Rattle.names.specs.GeneralName.{form_of_name, IsProcessed}
 
 abbrev pub form_of : Subtree → Form
@@ -30,7 +30,7 @@ IsInSubtree _ _ = ⊥
 unfoldable pub is_in_subtree : General → Subtree → Bool
 is_in_subtree (G.Directory x) (S.Directory s) = is_within (rdns_of x) (rdns_of s)
 is_in_subtree (G.Dns x) (S.Dns s) = is_in_domain x.now s
-is_in_subtree (G.Ip x) (S.Ip s) = is_in_range x.now s
+is_in_subtree (G.Ip x) (S.Ip s) = is_in_address_range x.now s
 is_in_subtree _ _ = false
 
 -- whether the first subtree is a part of the second

@@ -67,8 +67,8 @@ same_bit left right index = bit left index == bit right index
 unfoldable pub agree : ℕ → List ℕ → List ℕ → Bool
 agree count left right = list_all (same_bit left right) (range_with_len 0 count)
 
-unfoldable pub is_in_range : List ℕ → IpRange → Bool
-is_in_range address s = (length address == length s.address.now) && agree s.prefix s.address.now address
+unfoldable pub is_in_address_range : List ℕ → IpRange → Bool
+is_in_address_range address s = (length address == length s.address.now) && agree s.prefix s.address.now address
 
 -- whether the first range is a part of the second
 unfoldable pub is_range_inside : IpRange → IpRange → Bool

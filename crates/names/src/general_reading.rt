@@ -14,7 +14,7 @@ use crate::general::{Form, General};
 use crate::ip::{IpFault, IpRange, is_ip_address};
 use crate::subtree::Subtree;
 use asn::Tlv;
-use names_distinguished::{Name, NameRule, Refusal};
+use names_distinguished::{Name, NameRule, NameRefusal};
 
 const DIRECTORY_NAME: u8 = 0xA4;
 
@@ -41,7 +41,7 @@ pub fn form_of_tag(tag: u8) -> Option<Form>
 
 /// directoryName [4] Name, whose tag is explicit since Name is a CHOICE (X.680, 31.2.7).
 #[tactic(auto, unfolding(crate::specs::GeneralLayout::explicit_name))]
-fn read_explicit_name(value: Tlv<'_>) -> Result<Name<'_>, Refusal>
+fn read_explicit_name(value: Tlv<'_>) -> Result<Name<'_>, NameRefusal>
     requires { value.tag ≡ DIRECTORY_NAME }
     ensures { Gives name_contents result (explicit_name (seen_tlv value.entry)) }
 {
@@ -54,7 +54,7 @@ fn read_explicit_name(value: Tlv<'_>) -> Result<Name<'_>, Refusal>
 
 /// dNSName [2] IA5String
 #[tactic(auto, unfolding(crate::specs::GeneralLayout::dns_name_at, asn::specs::Walk::check_that))]
-fn read_dns_name(value: Tlv<'_>) -> Result<General<'_>, Refusal>
+fn read_dns_name(value: Tlv<'_>) -> Result<General<'_>, NameRefusal>
     ensures { Gives general_name result (dns_name_at (seen_tlv value.entry)) }
 {
     if is_dns_name(value.body) {
@@ -66,7 +66,7 @@ fn read_dns_name(value: Tlv<'_>) -> Result<General<'_>, Refusal>
 
 /// iPAddress [7] OCTET STRING
 #[tactic(auto, unfolding(crate::specs::GeneralLayout::ip_address_at, asn::specs::Walk::check_that))]
-fn read_ip_address(value: Tlv<'_>) -> Result<General<'_>, Refusal>
+fn read_ip_address(value: Tlv<'_>) -> Result<General<'_>, NameRefusal>
     ensures { Gives general_name result (ip_address_at (seen_tlv value.entry)) }
 {
     if is_ip_address(value.body) {
@@ -79,7 +79,7 @@ fn read_ip_address(value: Tlv<'_>) -> Result<General<'_>, Refusal>
 impl<'a> General<'a> {
     /// As `read`, with offsets in the text handed to `asn::whole`.
     #[tactic(auto, unfolding(crate::specs::GeneralLayout::general))]
-    pub fn at(value: Tlv<'a>) -> Result<General<'a>, Refusal>
+    pub fn at(value: Tlv<'a>) -> Result<General<'a>, NameRefusal>
         ensures { Gives general_name result (general (seen_tlv value.entry)) }
     {
         match form_of_tag(value.tag) {
@@ -93,7 +93,7 @@ impl<'a> General<'a> {
 
     /// Reads a general name (RFC 5280, 4.2.1.6), or answers the first fault, with its offset in the value. The contents of forms other
     /// than directoryName, dNSName and iPAddress are free. No memory is taken.
-    pub fn read(value: Tlv<'a>) -> Result<General<'a>, Refusal>
+    pub fn read(value: Tlv<'a>) -> Result<General<'a>, NameRefusal>
         ensures { Gives general_name result (general (text_at value.entry.whole.now 0)) }
     {
         General::at(value.alone())
@@ -102,7 +102,7 @@ impl<'a> General<'a> {
 
 /// The base of a dNSName constraint.
 #[tactic(auto, unfolding(crate::specs::GeneralLayout::dns_base_at))]
-fn read_dns_base(value: Tlv<'_>) -> Result<Subtree<'_>, Refusal>
+fn read_dns_base(value: Tlv<'_>) -> Result<Subtree<'_>, NameRefusal>
     ensures { Gives subtree_base result (dns_base_at (seen_tlv value.entry)) }
 {
     match Domain::of_base(value.body) {
@@ -113,7 +113,7 @@ fn read_dns_base(value: Tlv<'_>) -> Result<Subtree<'_>, Refusal>
 
 /// The base of an iPAddress constraint.
 #[tactic(auto, unfolding(crate::specs::GeneralLayout::ip_base_at))]
-fn read_ip_base(value: Tlv<'_>) -> Result<Subtree<'_>, Refusal>
+fn read_ip_base(value: Tlv<'_>) -> Result<Subtree<'_>, NameRefusal>
     ensures { Gives subtree_base result (ip_base_at (seen_tlv value.entry)) }
 {
     match IpRange::of_base(value.body) {
@@ -126,7 +126,7 @@ fn read_ip_base(value: Tlv<'_>) -> Result<Subtree<'_>, Refusal>
 impl<'a> Subtree<'a> {
     /// As `read_base`, with offsets in the text handed to `asn::whole`.
     #[tactic(auto, unfolding(crate::specs::GeneralLayout::base))]
-    pub fn base_at(value: Tlv<'a>) -> Result<Subtree<'a>, Refusal>
+    pub fn base_at(value: Tlv<'a>) -> Result<Subtree<'a>, NameRefusal>
         ensures { Gives subtree_base result (base (seen_tlv value.entry)) }
     {
         match form_of_tag(value.tag) {
@@ -140,7 +140,7 @@ impl<'a> Subtree<'a> {
 
     /// Reads the base of a subtree (RFC 5280, 4.2.1.10), or answers the first fault, with its offset in the value. The contents of forms
     /// other than directoryName, dNSName and iPAddress are free. No memory is taken.
-    pub fn read_base(value: Tlv<'a>) -> Result<Subtree<'a>, Refusal>
+    pub fn read_base(value: Tlv<'a>) -> Result<Subtree<'a>, NameRefusal>
         ensures { Gives subtree_base result (base (text_at value.entry.whole.now 0)) }
     {
         Subtree::base_at(value.alone())

@@ -1,7 +1,7 @@
 //! IP addresses and the ranges that constrain them (RFC 5280, 4.2.1.6 and 4.2.1.10).
 
 ghost use Rattle.std.specs.Prelude.{◌≡◌, ◌≤◌, ◌<◌, ◌*◌, ◌↔◌, ℕ, IsTrue, IsOk, IfOk, IfErr, IfSome, IfNone, MatchOption, length};
-ghost use Rattle.names.specs.Ip.{IsIpAddress, IsMaskOf, HasHole, HasNoOneFrom, IsOneFrom, IsRangeOf, IsRefusedFor, IsInRange, bit, agree, is_in_range, is_range_inside};
+ghost use Rattle.names.specs.Ip.{IsIpAddress, IsMaskOf, HasHole, HasNoOneFrom, IsOneFrom, IsRangeOf, IsRefusedFor, IsInRange, bit, agree, is_in_address_range, is_range_inside};
 ghost use Rattle.asn.specs.Reading.{Gives};
 ghost use Rattle.names.specs.Bases.{is_ip_address, address_range, range_of_base};
 ghost use Rattle.names.specs.Laws.{RangeTestIsExact, RangeInsideIsSound, SharedRangesAreNested};
@@ -115,10 +115,10 @@ impl<'a> IpRange<'a> {
 
 impl IpRange<'_> {
     /// Whether the address lies in the range.
-    #[tactic(auto, unfolding(crate::specs::Ip::is_in_range))]
+    #[tactic(auto, unfolding(crate::specs::Ip::is_in_address_range))]
     pub fn covers(&self, address: &[u8]) -> bool
         ensures decides { IsTrue result ↔ IsInRange address.now self.now }
-        ensures test { result ≡ is_in_range address.now self.now }
+        ensures test { result ≡ is_in_address_range address.now self.now }
     {
         address.len() == self.address.len() && bits_agree(self.address, address, self.prefix)
     }

@@ -8,7 +8,7 @@ use Rattle.std.proofs.lemmas.List.{take_more, drop_more, map-append, take-append
 use Rattle.std.proofs.lemmas.Slice.Eq.{bytes_eq-Decides}
 use Rattle.names_distinguished.specs.declared.attribute.Attribute.{Attribute}
 use Rattle.names_distinguished.specs.AttributeValue.{compared_value}
-use Rattle.names_distinguished.specs.DistinguishedName.{Entry, value_at}
+use Rattle.names_distinguished.specs.DistinguishedName.{ComparedAttribute, value_at}
 use Rattle.names_distinguished.specs.NameView.{entry_of}
 use Rattle.names_distinguished.specs.Repetition.{Placed, comes_before, IsNew, AreNew, IsRest}
 use Rattle.names_distinguished.specs.Agreement.{SearchesOn}
@@ -24,13 +24,13 @@ all_and P (y ∷ ys) x h p = (h.0, all_and P ys x h.1 p)
 
 -- the place of a type
 abbrev pub AllBefore : List ℕ → List Attribute → Type 0
-AllBefore kind attributes = AllByRecursion (λ (e : Entry). comes_before e.0 kind ≡ true) (map entry_of attributes)
+AllBefore kind attributes = AllByRecursion (λ (e : ComparedAttribute). comes_before e.0 kind ≡ true) (map entry_of attributes)
 
 pub place_more : (kind : List ℕ) (xs : List Attribute) (i : ℕ) (d : Attribute) → i < length xs → AllBefore kind (take i xs) → comes_before (get_or xs i d).kind.now kind ≡ true → AllBefore kind (take (i + 1) xs)
 place_more kind xs i d lt h before =
-    subst (λ (es : List Entry). AllByRecursion (λ (e : Entry). comes_before e.0 kind ≡ true) es)
+    subst (λ (es : List ComparedAttribute). AllByRecursion (λ (e : ComparedAttribute). comes_before e.0 kind ≡ true) es)
     (sym (ap (map entry_of) (take_more xs i d lt) ∙ map-append entry_of (take i xs) (get_or xs i d ∷ [])))
-    (all_and (λ (e : Entry). comes_before e.0 kind ≡ true) (map entry_of (take i xs)) (entry_of (get_or xs i d)) h before)
+    (all_and (λ (e : ComparedAttribute). comes_before e.0 kind ≡ true) (map entry_of (take i xs)) (entry_of (get_or xs i d)) h before)
 
 pub place_here : (kind : List ℕ) (xs : List Attribute) (i : ℕ) (d : Attribute) → i < length xs → comes_before (get_or xs i d).kind.now kind ≡ false → StartsUpto kind (map entry_of (drop i xs))
 place_here kind xs i d lt upto = subst (λ (attributes : List Attribute). StartsUpto kind (map entry_of attributes)) (sym (drop_more xs i d lt)) upto
@@ -54,30 +54,30 @@ added_at xs slice slice_too new a i is is_too place apart inserted up =
     )
 
 -- what a batch has, it still has with one more
-held_in : (kind : List ℕ) (e : Entry) (old new : List Entry) → IsAdded e old new → is_some (value_at kind old) ≡ true → is_some (value_at kind new) ≡ true
+held_in : (kind : List ℕ) (e : ComparedAttribute) (old new : List ComparedAttribute) → IsAdded e old new → is_some (value_at kind old) ≡ true → is_some (value_at kind new) ≡ true
 held_in kind e old new added h =
     elim (cases_Bool (pointwise nat_eq kind e.0)) [
       | inl t ↦ ap is_some (added.values kind ∙ value_first kind e old ((bytes_eq-Decides kind e.0).0 t))
       | inr f ↦ ap is_some (added.values kind ∙ value_later kind e old (λ same. both_ways (pointwise nat_eq kind e.0) f ((bytes_eq-Decides kind e.0).1 same))) ∙ h
     ]
 
-all_held : (e : Entry) (old new : List Entry) (xs : List Placed) → IsAdded e old new → AreHeld old xs → AreHeld new xs
+all_held : (e : ComparedAttribute) (old new : List ComparedAttribute) (xs : List Placed) → IsAdded e old new → AreHeld old xs → AreHeld new xs
 all_held e old new [] added h = tt
 all_held e old new (x ∷ xs) added h = (held_in x.1 e old new added h.0, all_held e old new xs added h.1)
 
-held_itself : (e : Entry) (old new : List Entry) → IsAdded e old new → is_some (value_at e.0 new) ≡ true
+held_itself : (e : ComparedAttribute) (old new : List ComparedAttribute) → IsAdded e old new → is_some (value_at e.0 new) ≡ true
 held_itself e old new added = ap is_some (added.values e.0 ∙ value_first e.0 e old refl)
 
 -- a type that the batch has not is none of those that it has
-unlike_held : (kind : List ℕ) (batch : List Entry) (one : List ℕ) → value_at kind batch ≡ None → is_some (value_at one batch) ≡ true → one ≡ kind → ⊥
+unlike_held : (kind : List ℕ) (batch : List ComparedAttribute) (one : List ℕ) → value_at kind batch ≡ None → is_some (value_at one batch) ≡ true → one ≡ kind → ⊥
 unlike_held kind batch one none held same =
     both_ways (is_some (value_at kind batch)) (ap is_some none) (subst (λ (k : List ℕ). is_some (value_at k batch) ≡ true) same held)
 
-unlike_all : (kind : List ℕ) (batch : List Entry) (xs : List Placed) → value_at kind batch ≡ None → AreHeld batch xs → HaveOther kind xs
+unlike_all : (kind : List ℕ) (batch : List ComparedAttribute) (xs : List Placed) → value_at kind batch ≡ None → AreHeld batch xs → HaveOther kind xs
 unlike_all kind batch [] none held = tt
 unlike_all kind batch (x ∷ xs) none held = (unlike_held kind batch x.1 none held.0, unlike_all kind batch xs none held.1)
 
-unlike_more : (batch : List Entry) (xs : List Placed) (x : Placed) → AreUnlike xs → AreHeld batch xs → value_at x.1 batch ≡ None → AreUnlike (xs ++ x ∷ [])
+unlike_more : (batch : List ComparedAttribute) (xs : List Placed) (x : Placed) → AreUnlike xs → AreHeld batch xs → value_at x.1 batch ≡ None → AreUnlike (xs ++ x ∷ [])
 unlike_more batch [] x h held none = (tt, tt)
 unlike_more batch (y ∷ ys) x h held none = (
   all_and (λ (z : Placed). z.1 ≡ y.1 → ⊥) ys x h.0 (λ same. unlike_held x.1 batch y.1 none held.0 (sym same)),
@@ -85,13 +85,13 @@ unlike_more batch (y ∷ ys) x h held none = (
 )
 
 -- the walk that takes types
-pub record IsTaken (kinds rest : List Placed) (batch : List Entry) : Type 0 where
+pub record IsTaken (kinds rest : List Placed) (batch : List ComparedAttribute) : Type 0 where
   pub taken : List Placed
   pub joined : kinds ≡ taken ++ rest
   pub held : AreHeld batch taken
   pub unlike : AreUnlike taken
 
-pub taken_more : (kinds rest others : List Placed) (x : Placed) (e : Entry) (old new : List Entry) → IsTaken kinds rest old → rest ≡ x ∷ others → e.0 ≡ x.1 → IsAdded e old new → IsTaken kinds others new
+pub taken_more : (kinds rest others : List Placed) (x : Placed) (e : ComparedAttribute) (old new : List ComparedAttribute) → IsTaken kinds rest old → rest ≡ x ∷ others → e.0 ≡ x.1 → IsAdded e old new → IsTaken kinds others new
 taken_more kinds rest others x e old new h is same added = record {
   taken = h.taken ++ x ∷ [];
   joined = h.joined ∙ (ap (λ (xs : List Placed). h.taken ++ xs) is ∙ sym (append_assoc h.taken (x ∷ []) others));
@@ -99,7 +99,7 @@ taken_more kinds rest others x e old new h is same added = record {
   unlike = unlike_more old h.taken x h.unlike h.held (subst (λ (k : List ℕ). value_at k old ≡ None) same added.absent);
 }
 
-pub taken_all : (kinds rest : List Placed) (batch : List Entry) (limit : ℕ) → IsTaken kinds rest batch → rest ≡ [] → IsBatchOf kinds limit batch
+pub taken_all : (kinds rest : List Placed) (batch : List ComparedAttribute) (limit : ℕ) → IsTaken kinds rest batch → rest ≡ [] → IsBatchOf kinds limit batch
 taken_all kinds rest batch limit h is = record {
   taken = h.taken;
   rest = rest;
@@ -110,10 +110,10 @@ taken_all kinds rest batch limit h is = record {
 }
 
 -- types that are new, where none of the earlier ones is in the batch
-NoneIn : List Entry → List Placed → Type 0
+NoneIn : List ComparedAttribute → List Placed → Type 0
 NoneIn batch earlier = AllByRecursion (λ (x : Placed). value_at x.1 batch ≡ None) earlier
 
-none_in : (start : ℕ) (batch : List Entry) (earlier rest : List Placed) → AllByRecursion (λ (x : Placed). x.0 < start) earlier → NoneBefore start batch (earlier ++ rest) → NoneIn batch earlier
+none_in : (start : ℕ) (batch : List ComparedAttribute) (earlier rest : List Placed) → AllByRecursion (λ (x : Placed). x.0 < start) earlier → NoneBefore start batch (earlier ++ rest) → NoneIn batch earlier
 unfolding NoneIn
 none_in start batch [] rest below h = tt
 none_in start batch (x ∷ xs) rest below h = let here = h below.0 in (here.0, none_in start batch xs rest below.1 here.1)
@@ -121,7 +121,7 @@ none_in start batch (x ∷ xs) rest below h = let here = h below.0 in (here.0, n
 Unseen : List Placed → List Placed → Type 0
 Unseen seen taken = AllByRecursion (λ (e : Placed). HaveOther e.1 taken) seen
 
-unseen : (batch : List Entry) (seen taken : List Placed) → NoneIn batch seen → AreHeld batch taken → Unseen seen taken
+unseen : (batch : List ComparedAttribute) (seen taken : List Placed) → NoneIn batch seen → AreHeld batch taken → Unseen seen taken
 unfolding NoneIn Unseen
 unseen batch [] taken none held = tt
 unseen batch (e ∷ es) taken none held = (unlike_all e.1 batch taken none.0 held, unseen batch es taken none.1 held)
@@ -148,14 +148,14 @@ new_taken limit seen (x ∷ xs) rest h unlike begins = λ below. (
       (new_taken limit (seen ++ x ∷ []) xs rest (unseen_tail x xs seen h unlike.0) unlike.1 begins),
 )
 
-pub batch_new : (all run : List Placed) (start limit : ℕ) (batch : List Entry) → IsRest all run start → IsBatchOf run limit batch → NoneBefore start batch all → AreNew all limit run
+pub batch_new : (all run : List Placed) (start limit : ℕ) (batch : List ComparedAttribute) → IsRest all run start → IsBatchOf run limit batch → NoneBefore start batch all → AreNew all limit run
 batch_new all run start limit batch h taken none =
     let unseen_all = unseen batch h.earlier taken.taken (none_in start batch h.earlier run h.below (subst (NoneBefore start batch) h.joined none)) taken.held in
     subst (λ (list : List Placed). AreNew list limit run) (sym h.joined)
     (subst (λ (xs : List Placed). AreNew (h.earlier ++ xs) limit xs) (sym taken.joined) (new_taken limit h.earlier taken.taken taken.rest unseen_all taken.unlike taken.begins))
 
 -- the walk that takes attributes of a set
-same_in_front : (kind : List ℕ) (e : Entry) (front old : List Entry) → value_at kind old ≡ value_at kind front → value_at e.0 old ≡ None → value_at kind (e ∷ old) ≡ value_at kind (front ++ e ∷ [])
+same_in_front : (kind : List ℕ) (e : ComparedAttribute) (front old : List ComparedAttribute) → value_at kind old ≡ value_at kind front → value_at e.0 old ≡ None → value_at kind (e ∷ old) ≡ value_at kind (front ++ e ∷ [])
 same_in_front kind e front old same absent =
     elim (value_or_none (value_at kind front)) [
       | inl n ↦
@@ -170,27 +170,27 @@ same_in_front kind e front old same absent =
           ∙ (same ∙ (s ∙ sym (value_in_first kind front (e ∷ []) v s)))
     ]
 
-pub set_begins : (set others batch : List Entry) (first : Entry) → set ≡ first ∷ others → batch ≡ first ∷ [] → IsBatchOfSet set others batch
+pub set_begins : (set others batch : List ComparedAttribute) (first : ComparedAttribute) → set ≡ first ∷ others → batch ≡ first ∷ [] → IsBatchOfSet set others batch
 set_begins set others batch first is one = record { first = first; others = []; joined = is; values = λ kind. ap (value_at kind) one }
 
-pub set_more : (set rest others : List Entry) (e : Entry) (old new : List Entry) → IsBatchOfSet set rest old → rest ≡ e ∷ others → IsAdded e old new → IsBatchOfSet set others new
+pub set_more : (set rest others : List ComparedAttribute) (e : ComparedAttribute) (old new : List ComparedAttribute) → IsBatchOfSet set rest old → rest ≡ e ∷ others → IsAdded e old new → IsBatchOfSet set others new
 set_more set rest others e old new h is added = record {
   first = h.first;
   others = h.others ++ e ∷ [];
-  joined = h.joined ∙ (ap (λ (es : List Entry). (h.first ∷ h.others) ++ es) is ∙ sym (append_assoc (h.first ∷ h.others) (e ∷ []) others));
+  joined = h.joined ∙ (ap (λ (es : List ComparedAttribute). (h.first ∷ h.others) ++ es) is ∙ sym (append_assoc (h.first ∷ h.others) (e ∷ []) others));
   values = λ kind. added.values kind ∙ same_in_front kind e (h.first ∷ h.others) old (h.values kind) added.absent;
 }
 
 -- the walk over the earlier types
-pub record IsPassed (start : ℕ) (batch : List Entry) (all left : List Placed) : Type 0 where
+pub record IsPassed (start : ℕ) (batch : List ComparedAttribute) (all left : List Placed) : Type 0 where
   pub back : NoneBefore start batch left → NoneBefore start batch all
 
-pub passed_more : (start : ℕ) (batch : List Entry) (all left others : List Placed) (x : Placed) → IsPassed start batch all left → left ≡ x ∷ others → value_at x.1 batch ≡ None → IsPassed start batch all others
+pub passed_more : (start : ℕ) (batch : List ComparedAttribute) (all left others : List Placed) (x : Placed) → IsPassed start batch all left → left ≡ x ∷ others → value_at x.1 batch ≡ None → IsPassed start batch all others
 passed_more start batch all left others x h is none = record { back = λ later. h.back (subst (NoneBefore start batch) (sym is) (λ below. (none, later))) }
 
-pub passed_all : (start : ℕ) (batch : List Entry) (all left : List Placed) → IsPassed start batch all left → left ≡ [] → NoneBefore start batch all
+pub passed_all : (start : ℕ) (batch : List ComparedAttribute) (all left : List Placed) → IsPassed start batch all left → left ≡ [] → NoneBefore start batch all
 passed_all start batch all left h is = h.back (subst (NoneBefore start batch) (sym is) tt)
 
-pub not_found : (kind : List ℕ) (batch run rest : List Entry) (o : Option Attribute) → option_map compared_value o ≡ value_at kind rest → is_some o ≡ false → SearchesOn kind run rest → run ≡ batch → value_at kind batch ≡ None
+pub not_found : (kind : List ℕ) (batch run rest : List ComparedAttribute) (o : Option Attribute) → option_map compared_value o ≡ value_at kind rest → is_some o ≡ false → SearchesOn kind run rest → run ≡ batch → value_at kind batch ≡ None
 not_found kind batch run rest None e f c is = ap (value_at kind) (sym is) ∙ (c.same kind (not_before_itself kind) ∙ sym e)
 not_found kind batch run rest (Some a) e f c is = absurd cc

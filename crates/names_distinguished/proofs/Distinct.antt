@@ -12,7 +12,7 @@ use Rattle.asn.proofs.Laws.{bind_ok, check_ok, each_next}
 use Rattle.names_distinguished.specs.declared.fault.NameRule.{NameRule}
 use Rattle.names_distinguished.specs.declared.fault.NameRule.TheVariants.{RdnRepeat, SetOrder, Text}
 use Rattle.names_distinguished.specs.AttributeValue.{ComparedValue}
-use Rattle.names_distinguished.specs.DistinguishedName.{Entry, value_at}
+use Rattle.names_distinguished.specs.DistinguishedName.{ComparedAttribute, value_at}
 use Rattle.names_distinguished.specs.NameLayout.{AttributePlaces, attribute_members, attribute_order, attribute, has_kind, has_kind_in, has_kind_before, is_less, is_string}
 use Rattle.names_distinguished.specs.NameParts.{entry_in, entry_at, are_distinct}
 use Rattle.names_distinguished.proofs.Matching.{value_later, value_none}
@@ -130,7 +130,7 @@ no_value_of : (o : Option ComparedValue) → is_some o ≡ false → o ≡ None
 no_value_of None e = refl
 no_value_of (Some v) e = absurd cc
 
-pub distinct_parts : (e : Entry) (es : List Entry) → IsTrue (are_distinct (e ∷ es)) → (value_at e.0 es ≡ None) × IsTrue (are_distinct es)
+pub distinct_parts : (e : ComparedAttribute) (es : List ComparedAttribute) → IsTrue (are_distinct (e ∷ es)) → (value_at e.0 es ≡ None) × IsTrue (are_distinct es)
 unfolding are_distinct
 distinct_parts e es h =
     let p = and_parts (not (is_some (value_at e.0 es))) (are_distinct es) h in

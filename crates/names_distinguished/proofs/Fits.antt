@@ -14,7 +14,7 @@ use Rattle.std.proofs.lemmas.List.{nil_from_length, length-map}
 use Rattle.std.proofs.lemmas.List.Splits.{join_with_byte-slice_split}
 use Rattle.names_text.specs.Preparation.{is_space, has_octets, lowered, words, prepared}
 use Rattle.names_distinguished.specs.AttributeValue.{ComparedValue, Text, Other}
-use Rattle.names_distinguished.specs.DistinguishedName.{Entry, rdn_map}
+use Rattle.names_distinguished.specs.DistinguishedName.{ComparedAttribute, rdn_map}
 use Rattle.names_distinguished.specs.NameKey.{ValueFits, EntryFits, RdnFits, SetFits}
 use Rattle.names_text.proofs.Laws.{slice_split_nonempty, spaced, join_first}
 
@@ -53,19 +53,19 @@ value_fits true text octets p q = p
 value_fits false text octets p q = q
 
 -- what is put into a map
-fits_put : (k : List ℕ) (v : ComparedValue) (es : List Entry) → EntryFits (k, v) → AllByRecursion EntryFits es → AllByRecursion EntryFits (put (slice_cmp nat_cmp) k v es)
+fits_put : (k : List ℕ) (v : ComparedValue) (es : List ComparedAttribute) → EntryFits (k, v) → AllByRecursion EntryFits es → AllByRecursion EntryFits (put (slice_cmp nat_cmp) k v es)
 fits_put k v [] h all = (h, tt)
 fits_put k v (e ∷ es) h all =
-    elim (slice_cmp nat_cmp k e.0) as (λ (o : Ordering). AllByRecursion EntryFits (by_order {A = List Entry} o ((k, v) ∷ e ∷ es) ((e.0, v) ∷ es) (e ∷ put (slice_cmp nat_cmp) k v es))) [
+    elim (slice_cmp nat_cmp k e.0) as (λ (o : Ordering). AllByRecursion EntryFits (by_order {A = List ComparedAttribute} o ((k, v) ∷ e ∷ es) ((e.0, v) ∷ es) (e ∷ put (slice_cmp nat_cmp) k v es))) [
       | Less ↦ (h, all)
       | Equal ↦ (record { type_fits = all.0.type_fits; value_fits = h.value_fits }, all.1)
       | Greater ↦ (all.0, fits_put k v es h all.1)
     ]
 
-length_put : (k : List ℕ) (v : ComparedValue) (es : List Entry) → length (put (slice_cmp nat_cmp) k v es) ≤ length es + 1
+length_put : (k : List ℕ) (v : ComparedValue) (es : List ComparedAttribute) → length (put (slice_cmp nat_cmp) k v es) ≤ length es + 1
 length_put k v [] = omega arith
 length_put k v (e ∷ es) =
-    elim (slice_cmp nat_cmp k e.0) as (λ (o : Ordering). length (by_order {A = List Entry} o ((k, v) ∷ e ∷ es) ((e.0, v) ∷ es) (e ∷ put (slice_cmp nat_cmp) k v es)) ≤ length (e ∷ es) + 1) [
+    elim (slice_cmp nat_cmp k e.0) as (λ (o : Ordering). length (by_order {A = List ComparedAttribute} o ((k, v) ∷ e ∷ es) ((e.0, v) ∷ es) (e ∷ put (slice_cmp nat_cmp) k v es)) ≤ length (e ∷ es) + 1) [
       | Less ↦ omega arith
       | Equal ↦ omega arith
       | Greater ↦ let rest = length_put k v es in omega arith
@@ -75,19 +75,19 @@ entries_none : entries (rdn_map []) ≡ []
 unfolding rdn_map
 entries_none = nil_from_length (entries (rdn_map [])) (sym (len-entries (rdn_map [])) ∙ len-empty (slice_cmp nat_cmp) ComparedValue)
 
-entries_more : (e : Entry) (es : List Entry) → entries (rdn_map (e ∷ es)) ≡ put (slice_cmp nat_cmp) e.0 e.1 (entries (rdn_map es))
+entries_more : (e : ComparedAttribute) (es : List ComparedAttribute) → entries (rdn_map (e ∷ es)) ≡ put (slice_cmp nat_cmp) e.0 e.1 (entries (rdn_map es))
 unfolding rdn_map
 entries_more e es = entries-insert nat_list_cmp_total (from_entries es) e.0 e.1
 
-fits_entries : (es : List Entry) → AllByRecursion EntryFits es → AllByRecursion EntryFits (entries (rdn_map es))
+fits_entries : (es : List ComparedAttribute) → AllByRecursion EntryFits es → AllByRecursion EntryFits (entries (rdn_map es))
 fits_entries [] all = subst (AllByRecursion EntryFits) (sym entries_none) tt
 fits_entries (e ∷ es) all =
     subst (AllByRecursion EntryFits) (sym (entries_more e es)) (fits_put e.0 e.1 (entries (rdn_map es)) all.0 (fits_entries es all.1))
 
-length_entries : (es : List Entry) → length (entries (rdn_map es)) ≤ length es
+length_entries : (es : List ComparedAttribute) → length (entries (rdn_map es)) ≤ length es
 length_entries [] = omega (arith, ap length entries_none)
 length_entries (e ∷ es) = omega (arith, ap length (entries_more e es), length_put e.0 e.1 (entries (rdn_map es)), length_entries es)
 
 -- the numbers of a set fit
-pub set_fits : (es : List Entry) → SetFits es → RdnFits (rdn_map es)
+pub set_fits : (es : List ComparedAttribute) → SetFits es → RdnFits (rdn_map es)
 set_fits es set = let count = set.count in record { count_fits = omega (arith, length_entries es); each = fits_entries es set.each }

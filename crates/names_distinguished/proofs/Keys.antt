@@ -11,8 +11,8 @@ use Rattle.std.proofs.lemmas.Slice.Eq.{starts_is}
 use Rattle.names_distinguished.specs.declared.attribute.Attribute.{Attribute}
 use Rattle.names_distinguished.specs.NameView.{entry_of}
 use Rattle.names_distinguished.specs.AttributeValue.{ComparedValue, Text, Other}
-use Rattle.names_distinguished.specs.DistinguishedName.{Entry, RdnMap}
-use Rattle.names_distinguished.specs.NameKey.{number, counted, value_key, entry_key, rdn_key, name_key, rdns_key, ValueFits, EntryFits, RdnFits, NameFits, KeyIsExact, WithinIsByKeys}
+use Rattle.names_distinguished.specs.DistinguishedName.{ComparedAttribute, RdnMap}
+use Rattle.names_distinguished.specs.NameKey.{four_octets, counted, value_key, entry_key, rdn_key, name_key, rdns_key, ValueFits, EntryFits, RdnFits, NameFits, KeyIsExact, WithinIsByKeys}
 use Rattle.names_distinguished.specs.NameOctets.{rdns_of, KeysDecideWithin}
 use Rattle.names_distinguished.proofs.Matching.{within_is_exact}
 use Rattle.names_distinguished.proofs.SequenceFits.{sequence_fits}
@@ -24,14 +24,14 @@ same_fronts a b c d e n = (
   sym (drop_at a b (length a) refl) ∙ (ap (λ (l : List _). drop (length a) l) e ∙ drop_at c d (length a) (sym n)),
 )
 
-number_apart : (m n : ℕ) (r s : List ℕ) → m < 2 ^ 32 → n < 2 ^ 32 → number m ++ r ≡ number n ++ s → (m ≡ n) × (r ≡ s)
+number_apart : (m n : ℕ) (r s : List ℕ) → m < 2 ^ 32 → n < 2 ^ 32 → four_octets m ++ r ≡ four_octets n ++ s → (m ≡ n) × (r ≡ s)
 number_apart m n r s p q e =
-    let both = same_fronts (number m) r (number n) s e refl in
+    let both = same_fronts (four_octets m) r (four_octets n) s e refl in
     (sym (from_be_bytes-to_be_bytes_4 m p) ∙ (ap (from_be_bytes w32) both.0 ∙ from_be_bytes-to_be_bytes_4 n q), both.1)
 
 counted_apart : (x y r s : List ℕ) → length x < 2 ^ 32 → length y < 2 ^ 32 → counted x ++ r ≡ counted y ++ s → (x ≡ y) × (r ≡ s)
 counted_apart x y r s p q e =
-    let f : number (length x) ++ (x ++ r) ≡ number (length y) ++ (y ++ s) = sym (append_assoc (number (length x)) x r) ∙ (e ∙ append_assoc (number (length y)) y s) in
+    let f : four_octets (length x) ++ (x ++ r) ≡ four_octets (length y) ++ (y ++ s) = sym (append_assoc (four_octets (length x)) x r) ∙ (e ∙ append_assoc (four_octets (length y)) y s) in
     let n = number_apart (length x) (length y) (x ++ r) (y ++ s) p q f in
     same_fronts x r y s n.1 n.0
 
@@ -47,7 +47,7 @@ value_apart (Other x) (Other y) r s p q e =
 value_apart (Text x) (Other y) r s p q e = let h : ◌≡◌ {A = ℕ} 1 0 = cc in absurd (omega arith)
 value_apart (Other x) (Text y) r s p q e = let h : ◌≡◌ {A = ℕ} 0 1 = cc in absurd (omega arith)
 
-entry_apart : (d e : Entry) (r s : List ℕ) → EntryFits d → EntryFits e → entry_key d ++ r ≡ entry_key e ++ s → (d ≡ e) × (r ≡ s)
+entry_apart : (d e : ComparedAttribute) (r s : List ℕ) → EntryFits d → EntryFits e → entry_key d ++ r ≡ entry_key e ++ s → (d ≡ e) × (r ≡ s)
 entry_apart d e r s p q h =
     let f : counted d.0 ++ (value_key d.1 ++ r) ≡ counted e.0 ++ (value_key e.1 ++ s) =
     sym (append_assoc (counted d.0) (value_key d.1) r) ∙ (h ∙ append_assoc (counted e.0) (value_key e.1) s) in
@@ -83,8 +83,8 @@ module _ {X : Type 0} (f : X → List ℕ) (Fit : X → Type 0) (apart : (x y : 
 
 rdn_apart : (m n : RdnMap) (r s : List ℕ) → RdnFits m → RdnFits n → rdn_key m ++ r ≡ rdn_key n ++ s → (m ≡ n) × (r ≡ s)
 rdn_apart m n r s p q h =
-    let f : number (length (entries m)) ++ (flat_map entry_key (entries m) ++ r) ≡ number (length (entries n)) ++ (flat_map entry_key (entries n) ++ s) =
-    sym (append_assoc (number (length (entries m))) (flat_map entry_key (entries m)) r) ∙ (h ∙ append_assoc (number (length (entries n))) (flat_map entry_key (entries n)) s) in
+    let f : four_octets (length (entries m)) ++ (flat_map entry_key (entries m) ++ r) ≡ four_octets (length (entries n)) ++ (flat_map entry_key (entries n) ++ s) =
+    sym (append_assoc (four_octets (length (entries m))) (flat_map entry_key (entries m)) r) ∙ (h ∙ append_assoc (four_octets (length (entries n))) (flat_map entry_key (entries n)) s) in
     let a = number_apart (length (entries m)) (length (entries n)) _ _ p.count_fits q.count_fits f in
     let b = all_apart entry_key EntryFits entry_apart (entries m) (entries n) r s p.each q.each a.0 a.1 in
     (same_entries_map m n b.0, b.1)
@@ -102,8 +102,8 @@ key_is_exact n m p q = (same_names n m p q, λ e. ap name_key e)
 
 rdn_key_some : (m : RdnMap) → 0 < length (rdn_key m)
 rdn_key_some m =
-    let four : length (number (length (entries m))) ≡ 4 = refl in
-    omega (arith, length-append (number (length (entries m))) (flat_map entry_key (entries m)))
+    let four : length (four_octets (length (entries m))) ≡ 4 = refl in
+    omega (arith, length-append (four_octets (length (entries m))) (flat_map entry_key (entries m)))
 
 pub within_is_by_keys : WithinIsByKeys
 unfolding rdns_key
@@ -130,5 +130,5 @@ module _ {X Y : Type 0} (f : X → Y) (P : Y → Type 0) where
   each_at (x ∷ xs) zero d h lt = h.0
   each_at (x ∷ xs) (suc k) d h lt = each_at xs k d h.1 (omega arith)
 
-pub fits_at : (items attributes : List Attribute) (es : List Entry) (k : ℕ) (d : Attribute) → items ≡ attributes → map entry_of attributes ≡ es → AllByRecursion EntryFits es → k < length items → EntryFits (entry_of (get_or items k d))
+pub fits_at : (items attributes : List Attribute) (es : List ComparedAttribute) (k : ℕ) (d : Attribute) → items ≡ attributes → map entry_of attributes ≡ es → AllByRecursion EntryFits es → k < length items → EntryFits (entry_of (get_or items k d))
 fits_at items attributes es k d e f h lt = each_at entry_of EntryFits items k d (subst (AllByRecursion EntryFits) (sym (ap (map entry_of) e ∙ f)) h) lt

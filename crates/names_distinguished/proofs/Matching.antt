@@ -12,16 +12,16 @@ use Rattle.std.proofs.lemmas.Bool.{cases_Bool, cond-true, cond-false, and_parts,
 use Rattle.std.specs.Cmp.{both_ways}
 use Rattle.std.proofs.lemmas.Slice.Eq.{bytes_eq-Decides, slice_eq-Decides, starts_is}
 use Rattle.names_distinguished.specs.AttributeValue.{ComparedValue, Text, Other}
-use Rattle.names_distinguished.specs.DistinguishedName.{Entry, RdnMap, rdn_map, value_at, AgreeAt, NamesMatch, IsWithin, same_value, same_entry, same_rdn, matching, is_within, MatchingIsExact, WithinIsExact}
+use Rattle.names_distinguished.specs.DistinguishedName.{ComparedAttribute, RdnMap, rdn_map, value_at, AgreeAt, NamesMatch, IsWithin, same_value, same_entry, same_rdn, matching, is_within, MatchingIsExact, WithinIsExact}
 
 -- the value of a type in a list that begins with an attribute
-pub value_first : (kind : List ℕ) (e : Entry) (es : List Entry) → kind ≡ e.0 → value_at kind (e ∷ es) ≡ Some e.1
+pub value_first : (kind : List ℕ) (e : ComparedAttribute) (es : List ComparedAttribute) → kind ≡ e.0 → value_at kind (e ∷ es) ≡ Some e.1
 unfolding value_at
 value_first kind e es same =
     cond-true (eq_by_cmp (slice_cmp nat_cmp) kind e.0) (Some e.1) (find (slice_cmp nat_cmp) kind es)
     (sym (texts_ties kind e.0) ∙ (bytes_eq-Decides kind e.0).1 same)
 
-pub value_later : (kind : List ℕ) (e : Entry) (es : List Entry) → (kind ≡ e.0 → ⊥) → value_at kind (e ∷ es) ≡ value_at kind es
+pub value_later : (kind : List ℕ) (e : ComparedAttribute) (es : List ComparedAttribute) → (kind ≡ e.0 → ⊥) → value_at kind (e ∷ es) ≡ value_at kind es
 unfolding value_at
 value_later kind e es other =
     let differ = false_from_ne_true (pointwise nat_eq kind e.0) (λ t. other ((bytes_eq-Decides kind e.0).0 t)) in
@@ -32,17 +32,17 @@ unfolding value_at
 value_none kind = refl
 
 -- a search from the front: the value of the whole is that of what is left
-pub found_value : (kind : List ℕ) (whole rest after : List Entry) (e : Entry) → value_at kind whole ≡ value_at kind rest → rest ≡ e ∷ after → kind ≡ e.0 → Some e.1 ≡ value_at kind whole
+pub found_value : (kind : List ℕ) (whole rest after : List ComparedAttribute) (e : ComparedAttribute) → value_at kind whole ≡ value_at kind rest → rest ≡ e ∷ after → kind ≡ e.0 → Some e.1 ≡ value_at kind whole
 found_value kind whole rest after e up is same = sym (up ∙ (ap (value_at kind) is ∙ value_first kind e after same))
 
-pub later_value : (kind : List ℕ) (whole rest after : List Entry) (e : Entry) → value_at kind whole ≡ value_at kind rest → rest ≡ e ∷ after → (kind ≡ e.0 → ⊥) → value_at kind whole ≡ value_at kind after
+pub later_value : (kind : List ℕ) (whole rest after : List ComparedAttribute) (e : ComparedAttribute) → value_at kind whole ≡ value_at kind rest → rest ≡ e ∷ after → (kind ≡ e.0 → ⊥) → value_at kind whole ≡ value_at kind after
 later_value kind whole rest after e up is other = up ∙ (ap (value_at kind) is ∙ value_later kind e after other)
 
-pub no_value : (kind : List ℕ) (whole rest : List Entry) → value_at kind whole ≡ value_at kind rest → rest ≡ [] → None ≡ value_at kind whole
+pub no_value : (kind : List ℕ) (whole rest : List ComparedAttribute) → value_at kind whole ≡ value_at kind rest → rest ≡ [] → None ≡ value_at kind whole
 no_value kind whole rest up is = sym (up ∙ (ap (value_at kind) is ∙ value_none kind))
 
 -- at a type that stands in the list, or nowhere
-pub at_or_none : (P : List ℕ → Type 0) (es : List Entry) → AllByRecursion (λ e. P e.0) es → (kind : List ℕ) → (value_at kind es ≡ None) ⊎ P kind
+pub at_or_none : (P : List ℕ → Type 0) (es : List ComparedAttribute) → AllByRecursion (λ e. P e.0) es → (kind : List ℕ) → (value_at kind es ≡ None) ⊎ P kind
 at_or_none P [] h kind = inl (value_none kind)
 at_or_none P (e ∷ es) h kind =
     elim (cases_Bool (pointwise nat_eq kind e.0)) [
@@ -50,35 +50,35 @@ at_or_none P (e ∷ es) h kind =
       | inr f ↦ elim (at_or_none P es h.1 kind) [ inl n ↦ inl (value_later kind e es (λ same. contradicts _ f ((bytes_eq-Decides kind e.0).1 same)) ∙ n) | inr p ↦ inr p ]
     ]
 
-abbrev pub AgreeOn : List Entry → List Entry → List Entry → Type 0
+abbrev pub AgreeOn : List ComparedAttribute → List ComparedAttribute → List ComparedAttribute → Type 0
 AgreeOn l r es = AllByRecursion (λ e. AgreeAt l r e.0) es
 
-agree_everywhere : (l r : List Entry) → AgreeOn l r l → AgreeOn r l r → (kind : List ℕ) → value_at kind l ≡ value_at kind r
+agree_everywhere : (l r : List ComparedAttribute) → AgreeOn l r l → AgreeOn r l r → (kind : List ℕ) → value_at kind l ≡ value_at kind r
 agree_everywhere l r p s kind =
     elim (at_or_none (AgreeAt l r) l p kind) [
       | inl n ↦ elim (at_or_none (AgreeAt r l) r s kind) [ inl m ↦ n ∙ sym m | inr g ↦ sym (g.same) ]
       | inr g ↦ g.same
     ]
 
-pub get_rdn : (es : List Entry) (kind : List ℕ) → get (rdn_map es) kind ≡ value_at kind es
+pub get_rdn : (es : List ComparedAttribute) (kind : List ℕ) → get (rdn_map es) kind ≡ value_at kind es
 unfolding rdn_map value_at
 get_rdn es kind = get-from_entries nat_list_cmp_total es kind
 
-pub same_by_values : (m : RdnMap) (es : List Entry) → ((kind : List ℕ) → get m kind ≡ value_at kind es) → m ≡ rdn_map es
+pub same_by_values : (m : RdnMap) (es : List ComparedAttribute) → ((kind : List ℕ) → get m kind ≡ value_at kind es) → m ≡ rdn_map es
 same_by_values m es h =
     same_map nat_list_cmp_total (slice_cmp-IsAntisymmetric nat_cmp-IsAntisymmetric) m (rdn_map es) (λ kind. h kind ∙ sym (get_rdn es kind))
 
-pub same_sets : (l r : List Entry) → AgreeOn l r l → AgreeOn r l r → rdn_map l ≡ rdn_map r
+pub same_sets : (l r : List ComparedAttribute) → AgreeOn l r l → AgreeOn r l r → rdn_map l ≡ rdn_map r
 same_sets l r p s = same_by_values (rdn_map l) r (λ kind. get_rdn l kind ∙ agree_everywhere l r p s kind)
 
-pub agree_of_same : (l r : List Entry) → rdn_map l ≡ rdn_map r → (kind : List ℕ) → AgreeAt l r kind
+pub agree_of_same : (l r : List ComparedAttribute) → rdn_map l ≡ rdn_map r → (kind : List ℕ) → AgreeAt l r kind
 agree_of_same l r e kind = record { same = sym (get_rdn l kind) ∙ (ap (λ (m : RdnMap). get m kind) e ∙ get_rdn r kind) }
 
-all_of : (P : List ℕ → Type 0) → ((kind : List ℕ) → P kind) → (es : List Entry) → AllByRecursion (λ e. P e.0) es
+all_of : (P : List ℕ → Type 0) → ((kind : List ℕ) → P kind) → (es : List ComparedAttribute) → AllByRecursion (λ e. P e.0) es
 all_of P h [] = tt
 all_of P h (e ∷ es) = (h e.0, all_of P h es)
 
-pub sets_agree : (l r : List Entry) → rdn_map l ≡ rdn_map r → AgreeOn l r l
+pub sets_agree : (l r : List ComparedAttribute) → rdn_map l ≡ rdn_map r → AgreeOn l r l
 sets_agree l r e = all_of (AgreeAt l r) (agree_of_same l r e) l
 
 -- names, set by set: what is left of both decides whether the first begins with the second
@@ -109,14 +109,14 @@ Decides-value (Other a) (Other b) = (λ t. ap Other ((bytes_eq-Decides a b).0 t)
 Decides-value (Text a) (Other b) = (λ t. cc, λ e. cc)
 Decides-value (Other a) (Text b) = (λ t. cc, λ e. cc)
 
-Decides-entry : (d e : Entry) → Decides (same_entry d e) (d ≡ e)
+Decides-entry : (d e : ComparedAttribute) → Decides (same_entry d e) (d ≡ e)
 Decides-entry d e = (
   λ t.
       let p = and_parts _ (same_value d.1 e.1) t in
       let a = (bytes_eq-Decides d.0 e.0).0 p.0 in
       let b = (Decides-value d.1 e.1).0 p.1 in
       λ i. (a i, b i),
-  λ h. and_from _ (same_value d.1 e.1) ((bytes_eq-Decides d.0 e.0).1 (ap (λ (k : Entry). k.0) h)) ((Decides-value d.1 e.1).1 (ap (λ (k : Entry). k.1) h)),
+  λ h. and_from _ (same_value d.1 e.1) ((bytes_eq-Decides d.0 e.0).1 (ap (λ (k : ComparedAttribute). k.0) h)) ((Decides-value d.1 e.1).1 (ap (λ (k : ComparedAttribute). k.1) h)),
 )
 
 Decides-rdn : (m n : RdnMap) → Decides (same_rdn m n) (m ≡ n)
@@ -168,12 +168,12 @@ module _ {X : Type 0} (P : X → Type 0) where
   }
 
 -- a set has a type where the search finds a value of it
-pub kind_found : (es : List Entry) (kind : List ℕ) → contains_key (rdn_map es) kind ≡ is_some (value_at kind es)
+pub kind_found : (es : List ComparedAttribute) (kind : List ℕ) → contains_key (rdn_map es) kind ≡ is_some (value_at kind es)
 kind_found es kind = ap is_some (get_rdn es kind)
 
 is_some-map : {A B : Type 0} (f : A → B) (o : Option A) → is_some (option_map f o) ≡ is_some o
 is_some-map f None = refl
 is_some-map f (Some a) = refl
 
-pub set_has : {A : Type 0} (f : A → ComparedValue) (es : List Entry) (kind : List ℕ) (o : Option A) → option_map f o ≡ value_at kind es → contains_key (rdn_map es) kind ≡ is_some o
+pub set_has : {A : Type 0} (f : A → ComparedValue) (es : List ComparedAttribute) (kind : List ℕ) (o : Option A) → option_map f o ≡ value_at kind es → contains_key (rdn_map es) kind ≡ is_some o
 set_has f es kind o e = kind_found es kind ∙ (ap is_some (sym e) ∙ is_some-map f o)

@@ -18,7 +18,7 @@ use Rattle.std.proofs.lemmas.List.Elements.{recursion_from_All, All-from_get_or}
 use Rattle.std.proofs.lemmas.List.Sorted.{ranks_by, sorted_far}
 use Rattle.names_distinguished.specs.declared.attribute.Attribute.{Attribute}
 use Rattle.names_distinguished.specs.AttributeValue.{ComparedValue, compared_value}
-use Rattle.names_distinguished.specs.DistinguishedName.{Entry, RdnMap, rdn_map, value_at}
+use Rattle.names_distinguished.specs.DistinguishedName.{ComparedAttribute, RdnMap, rdn_map, value_at}
 use Rattle.names_distinguished.specs.NameView.{entry_of}
 use Rattle.names_distinguished.specs.AttributeOrder.{has_lesser_kind, AscendsByKind, HasSameValues, EndsInKind}
 use Rattle.names_distinguished.proofs.Matching.{get_rdn, at_or_none, same_by_values, value_none, value_first, value_later}
@@ -69,10 +69,10 @@ stable_values xs ys stable kind =
     ]
 
 -- the entries that were taken: they ascend, they have the values of all, and they are below what all are below
-abbrev pub AllBelow : List Entry → List ℕ → Type 0
+abbrev pub AllBelow : List ComparedAttribute → List ℕ → Type 0
 AllBelow es kind = AllByRecursion (λ e. slice_cmp nat_cmp e.0 kind ≡ Less) es
 
-pub record IsFirstOfEach (done taken : List Entry) : Type 0 where
+pub record IsFirstOfEach (done taken : List ComparedAttribute) : Type 0 where
   pub ascends : T (is_sorted (slice_cmp nat_cmp) taken)
   pub values : (kind : List ℕ) → value_at kind taken ≡ value_at kind done
   pub below : (kind : List ℕ) → AllBelow done kind → AllBelow taken kind
@@ -92,25 +92,25 @@ second_part false b p = absurd p
 lesser : (o : Ordering) → o ≡ Less → T (is_lt o)
 lesser o e = subst (λ (r : Ordering). T (is_lt r)) (sym e) tt
 
-below_push : (x : List ℕ) (es : List Entry) (e : Entry) → T (below_all (slice_cmp nat_cmp) x es) → slice_cmp nat_cmp x e.0 ≡ Less → T (below_all (slice_cmp nat_cmp) x (es ++ e ∷ []))
+below_push : (x : List ℕ) (es : List ComparedAttribute) (e : ComparedAttribute) → T (below_all (slice_cmp nat_cmp) x es) → slice_cmp nat_cmp x e.0 ≡ Less → T (below_all (slice_cmp nat_cmp) x (es ++ e ∷ []))
 below_push x [] e h lt = both (is_lt (slice_cmp nat_cmp x e.0)) true (lesser (slice_cmp nat_cmp x e.0) lt) tt
 below_push x (d ∷ es) e h lt =
     both (is_lt (slice_cmp nat_cmp x d.0)) (below_all (slice_cmp nat_cmp) x (es ++ e ∷ []))
     (first_part (is_lt (slice_cmp nat_cmp x d.0)) (below_all (slice_cmp nat_cmp) x es) h)
     (below_push x es e (second_part (is_lt (slice_cmp nat_cmp x d.0)) (below_all (slice_cmp nat_cmp) x es) h) lt)
 
-sorted_push : (es : List Entry) (e : Entry) → T (is_sorted (slice_cmp nat_cmp) es) → AllBelow es e.0 → T (is_sorted (slice_cmp nat_cmp) (es ++ e ∷ []))
+sorted_push : (es : List ComparedAttribute) (e : ComparedAttribute) → T (is_sorted (slice_cmp nat_cmp) es) → AllBelow es e.0 → T (is_sorted (slice_cmp nat_cmp) (es ++ e ∷ []))
 sorted_push [] e h b = tt
 sorted_push (d ∷ es) e h b =
     both (below_all (slice_cmp nat_cmp) d.0 (es ++ e ∷ [])) (is_sorted (slice_cmp nat_cmp) (es ++ e ∷ []))
     (below_push d.0 es e (first_part (below_all (slice_cmp nat_cmp) d.0 es) (is_sorted (slice_cmp nat_cmp) es) h) b.0)
     (sorted_push es e (second_part (below_all (slice_cmp nat_cmp) d.0 es) (is_sorted (slice_cmp nat_cmp) es) h) b.1)
 
-below_append : (kind : List ℕ) (es : List Entry) (e : Entry) → AllBelow (es ++ e ∷ []) kind → AllBelow es kind × (slice_cmp nat_cmp e.0 kind ≡ Less)
+below_append : (kind : List ℕ) (es : List ComparedAttribute) (e : ComparedAttribute) → AllBelow (es ++ e ∷ []) kind → AllBelow es kind × (slice_cmp nat_cmp e.0 kind ≡ Less)
 below_append kind [] e h = (tt, h.0)
 below_append kind (d ∷ es) e h = let rest = below_append kind es e h.1 in ((h.0, rest.0), rest.1)
 
-append_below : (kind : List ℕ) (es : List Entry) (e : Entry) → AllBelow es kind → slice_cmp nat_cmp e.0 kind ≡ Less → AllBelow (es ++ e ∷ []) kind
+append_below : (kind : List ℕ) (es : List ComparedAttribute) (e : ComparedAttribute) → AllBelow es kind → slice_cmp nat_cmp e.0 kind ≡ Less → AllBelow (es ++ e ∷ []) kind
 append_below kind [] e h lt = (lt, tt)
 append_below kind (d ∷ es) e h lt = (h.0, append_below kind es e h.1 lt)
 
@@ -120,7 +120,7 @@ either None w = w
 either (Some v) w = Some v
 
 -- one entry more, at the end: it counts where no entry before it has its type
-value_end : (kind : List ℕ) (es : List Entry) (e : Entry) → value_at kind (es ++ e ∷ []) ≡ either (value_at kind es) (value_at kind (e ∷ []))
+value_end : (kind : List ℕ) (es : List ComparedAttribute) (e : ComparedAttribute) → value_at kind (es ++ e ∷ []) ≡ either (value_at kind es) (value_at kind (e ∷ []))
 unfolding value_at either
 value_end kind [] e = refl
 value_end kind (d ∷ es) e =
@@ -132,7 +132,7 @@ value_end kind (d ∷ es) e =
           ∙ sym (ap (λ (o : Option ComparedValue). either o (find (slice_cmp nat_cmp) kind (e ∷ []))) (cond-false (eq_by_cmp (slice_cmp nat_cmp) kind d.0) (Some d.1) (find (slice_cmp nat_cmp) kind es) f)))
     ]
 
-value_append : (kind : List ℕ) (es ds : List Entry) (e : Entry) → value_at kind es ≡ value_at kind ds → value_at kind (es ++ e ∷ []) ≡ value_at kind (ds ++ e ∷ [])
+value_append : (kind : List ℕ) (es ds : List ComparedAttribute) (e : ComparedAttribute) → value_at kind es ≡ value_at kind ds → value_at kind (es ++ e ∷ []) ≡ value_at kind (ds ++ e ∷ [])
 value_append kind es ds e same =
     value_end kind es e
     ∙ (ap (λ (o : Option ComparedValue). either o (value_at kind (e ∷ []))) same ∙ sym (value_end kind ds e))
@@ -148,7 +148,7 @@ unfolding either
 none_either (Some v) w h = refl
 none_either None w h = h
 
-repeated_value : (kind : List ℕ) (es : List Entry) (e : Entry) → is_some (value_at e.0 es) ≡ true → value_at kind (es ++ e ∷ []) ≡ value_at kind es
+repeated_value : (kind : List ℕ) (es : List ComparedAttribute) (e : ComparedAttribute) → is_some (value_at e.0 es) ≡ true → value_at kind (es ++ e ∷ []) ≡ value_at kind es
 repeated_value kind es e there =
     elim (cases_Bool (pointwise nat_eq kind e.0)) [
       | inl t ↦
@@ -159,7 +159,7 @@ repeated_value kind es e there =
           value_end kind es e ∙ none_either (value_at kind es) (value_at kind (e ∷ [])) (apart ∙ value_none kind)
     ]
 
-pub taken_more : (done taken : List Entry) (e : Entry) → IsFirstOfEach done taken → AllBelow done e.0 → IsFirstOfEach (done ++ e ∷ []) (taken ++ e ∷ [])
+pub taken_more : (done taken : List ComparedAttribute) (e : ComparedAttribute) → IsFirstOfEach done taken → AllBelow done e.0 → IsFirstOfEach (done ++ e ∷ []) (taken ++ e ∷ [])
 taken_more done taken e h b = record {
   ascends = sorted_push taken e h.ascends (h.below e.0 b);
   values = λ kind. value_append kind taken done e (h.values kind);
@@ -168,7 +168,7 @@ taken_more done taken e h b = record {
       append_below kind taken e (h.below kind parts.0) parts.1;
 }
 
-pub taken_same : (done taken : List Entry) (e : Entry) → IsFirstOfEach done taken → is_some (value_at e.0 done) ≡ true → IsFirstOfEach (done ++ e ∷ []) taken
+pub taken_same : (done taken : List ComparedAttribute) (e : ComparedAttribute) → IsFirstOfEach done taken → is_some (value_at e.0 done) ≡ true → IsFirstOfEach (done ++ e ∷ []) taken
 taken_same done taken e h there = record {
   ascends = h.ascends;
   values = λ kind. h.values kind ∙ sym (repeated_value kind done e there);
@@ -176,7 +176,7 @@ taken_same done taken e h there = record {
 }
 
 -- entries that ascend and have the values of all are those of the map
-pub taken_all : (done taken : List Entry) → IsFirstOfEach done taken → taken ≡ entries (rdn_map done)
+pub taken_all : (done taken : List ComparedAttribute) → IsFirstOfEach done taken → taken ≡ entries (rdn_map done)
 unfolding value_at
 taken_all done taken h =
     sym (entries-from_sorted (slice_cmp nat_cmp) taken h.ascends)
@@ -251,8 +251,8 @@ pub place_new : (xs : List Attribute) (i : ℕ) (d : Attribute) (list new : List
 place_new xs i d list new b up lt h ends is_false pushed =
     let done = map entry_of (take i xs) in
     let e = entry_of (get_or xs i d) in
-    subst (λ (es : List Entry). IsFirstOfEach es (map entry_of new)) (sym (take_next xs i d lt))
-    (subst (λ (es : List Entry). IsFirstOfEach (done ++ e ∷ []) es) (sym (ap (map entry_of) pushed ∙ map-append entry_of list (get_or xs i d ∷ [])))
+    subst (λ (es : List ComparedAttribute). IsFirstOfEach es (map entry_of new)) (sym (take_next xs i d lt))
+    (subst (λ (es : List ComparedAttribute). IsFirstOfEach (done ++ e ∷ []) es) (sym (ap (map entry_of) pushed ∙ map-append entry_of list (get_or xs i d ∷ [])))
     (taken_more done (map entry_of list) e h (earlier_below xs i d up lt (λ repeats. both_ways b is_false (ends.1 repeats)))))
 
 value_there : (kind : List ℕ) (xs : List Attribute) (k : ℕ) (d : Attribute) → k < length xs → (get_or xs k d).kind.now ≡ kind → is_some (value_at kind (map entry_of xs)) ≡ true
@@ -274,7 +274,7 @@ pub place_repeated : (xs : List Attribute) (i : ℕ) (d : Attribute) (list new :
     → IsFirstOfEach (map entry_of (take i xs)) (map entry_of list) → (IsTrue b ↔ EndsInKind (take i xs) (get_or xs i d).kind.now) → b ≡ true
     → new ≡ list → IsFirstOfEach (map entry_of (take (i + 1) xs)) (map entry_of new)
 place_repeated xs i d list new b lt h ends is_true same =
-    subst (λ (es : List Entry). IsFirstOfEach es (map entry_of new)) (sym (take_next xs i d lt))
+    subst (λ (es : List ComparedAttribute). IsFirstOfEach es (map entry_of new)) (sym (take_next xs i d lt))
     (subst (λ (l : List Attribute). IsFirstOfEach (map entry_of (take i xs) ++ entry_of (get_or xs i d) ∷ []) (map entry_of l)) (sym same)
     (taken_same (map entry_of (take i xs)) (map entry_of list) (entry_of (get_or xs i d)) h
     (last_has_value (take i xs) (get_or xs i d).kind.now (ends.0 is_true))))
@@ -284,6 +284,6 @@ all_placed xs list i le h =
     taken_all (map entry_of xs) (map entry_of list) (subst (λ (ys : List Attribute). IsFirstOfEach (map entry_of ys) (map entry_of list)) (take_all i xs le) h)
 
 -- lists with the same values make one map
-pub same_map_of : (xs ys : List Attribute) (es : List Entry) → map entry_of xs ≡ es → HasSameValues xs ys → rdn_map (map entry_of ys) ≡ rdn_map es
+pub same_map_of : (xs ys : List Attribute) (es : List ComparedAttribute) → map entry_of xs ≡ es → HasSameValues xs ys → rdn_map (map entry_of ys) ≡ rdn_map es
 same_map_of xs ys es e same =
     same_by_values (rdn_map (map entry_of ys)) es (λ kind. get_rdn (map entry_of ys) kind ∙ (same kind ∙ ap (value_at kind) e))

@@ -7,7 +7,7 @@ use Rattle.asn.proofs.Laws.{values_count}
 use Rattle.names_distinguished.specs.declared.attribute.Attribute.{Attribute}
 use Rattle.names_distinguished.specs.declared.rdn.Rdn.{Rdn}
 use Rattle.names_distinguished.specs.declared.run.Run.{Run}
-use Rattle.names_distinguished.specs.DistinguishedName.{Entry}
+use Rattle.names_distinguished.specs.DistinguishedName.{ComparedAttribute}
 use Rattle.names_distinguished.specs.NameParts.{entry_at, are_distinct}
 use Rattle.names_distinguished.specs.NameView.{entry_of, entries_of}
 use Rattle.names_distinguished.specs.Repetition.{comes_before}
@@ -21,18 +21,18 @@ pub run_left_none : (run : Run) → run.next ≡ None → run_left run ≡ []
 unfolding run_left
 run_left_none run e = ap (λ (o : Option Attribute). run_from o (entries_in run.others)) e
 
-pub rising_more : (last : List ℕ) (rest others : List Entry) (e : Entry) → rest ≡ e ∷ others → comes_before last e.0 ≡ true → rising last rest ≡ e ∷ rising e.0 others
+pub rising_more : (last : List ℕ) (rest others : List ComparedAttribute) (e : ComparedAttribute) → rest ≡ e ∷ others → comes_before last e.0 ≡ true → rising last rest ≡ e ∷ rising e.0 others
 rising_more last rest others e is before = ap (rising last) is ∙ rw before refl
 
-pub rising_ends : (last : List ℕ) (rest others : List Entry) (e : Entry) → rest ≡ e ∷ others → comes_before last e.0 ≡ false → rising last rest ≡ []
+pub rising_ends : (last : List ℕ) (rest others : List ComparedAttribute) (e : ComparedAttribute) → rest ≡ e ∷ others → comes_before last e.0 ≡ false → rising last rest ≡ []
 rising_ends last rest others e is stops = ap (rising last) is ∙ rw stops refl
 
-pub rising_none : (last : List ℕ) (rest : List Entry) → rest ≡ [] → rising last rest ≡ []
+pub rising_none : (last : List ℕ) (rest : List ComparedAttribute) → rest ≡ [] → rising last rest ≡ []
 rising_none last rest is = ap (rising last) is
 
 -- what is behind a run
-abbrev pub LeavesBehind : List Entry → List Entry → List Entry → Type 0
-LeavesBehind whole run rest = (tail : List Entry) → rest ≡ run ++ tail → whole ≡ run_of whole ++ tail
+abbrev pub LeavesBehind : List ComparedAttribute → List ComparedAttribute → List ComparedAttribute → Type 0
+LeavesBehind whole run rest = (tail : List ComparedAttribute) → rest ≡ run ++ tail → whole ≡ run_of whole ++ tail
 
 -- no set is larger than a number can be
 pub entries_short : (set : Rdn) → length (entries_of set) < 2 ^ 64

@@ -10,7 +10,7 @@ use Rattle.std.specs.Cmp.Lexicographic.{slice_cmp}
 use Rattle.std.proofs.lemmas.Bool.{both_ways, false_from_ne_true, cases_order, lt-ltb, le-ltb}
 use Rattle.std.proofs.lemmas.Cmp.{nat_list_cmp_total}
 use Rattle.std.proofs.lemmas.List.Sorted.{ranks_by}
-use Rattle.names_distinguished.specs.Repetition.{Placed, comes_before, Rises, Ascends, IsApart, EndsBefore, Covers, IsPast, GoesOn, IsLimitBefore, IsNew, AreNew, IsRest}
+use Rattle.names_distinguished.specs.Repetition.{Placed, comes_before, Rises, Ascends, LacksType, EndsBefore, Covers, IsPast, SearchGoesOn, IsLimitBefore, IsNew, AreNew, IsRest}
 
 -- the order of types
 rank : IsStrictWeakOrder (λ (kind other : List ℕ). is_lt (slice_cmp nat_cmp (length kind ∷ kind) (length other ∷ other)))
@@ -53,7 +53,7 @@ before_by_octets kind other same =
     ap (λ (r : Ordering). is_lt (ordering_then r (slice_cmp nat_cmp kind other))) (nat_cmp_is (length kind) (length other) Equal same)
 
 -- what ascends behind a type has none that comes before it, nor that type
-rises_apart : (limit : ℕ) (kind last : List ℕ) (xs : List Placed) → comes_before last kind ≡ false → Rises limit last xs → IsApart limit kind xs
+rises_apart : (limit : ℕ) (kind last : List ℕ) (xs : List Placed) → comes_before last kind ≡ false → Rises limit last xs → LacksType limit kind xs
 rises_apart limit kind last [] upto rises = tt
 rises_apart limit kind last (x ∷ xs) upto rises = λ below.
     let r = rises below in (
@@ -61,7 +61,7 @@ rises_apart limit kind last (x ∷ xs) upto rises = λ below.
       rises_apart limit kind x.1 xs (chain x.1 last kind (one_way last x.1 r.0) upto) r.1,
     )
 
-rises_apart_last : (limit : ℕ) (kind : List ℕ) (xs : List Placed) → Rises limit kind xs → IsApart limit kind xs
+rises_apart_last : (limit : ℕ) (kind : List ℕ) (xs : List Placed) → Rises limit kind xs → LacksType limit kind xs
 rises_apart_last limit kind xs rises = rises_apart limit kind kind xs (not_before_itself kind) rises
 
 -- a lesser limit asks for less
@@ -73,7 +73,7 @@ ascends_within : (limit least : ℕ) (xs : List Placed) → least ≤ limit → 
 ascends_within limit least [] le up = tt
 ascends_within limit least (x ∷ xs) le up = λ below. rises_within limit least x.1 xs le (up (omega arith))
 
-apart_within : (limit least : ℕ) (kind : List ℕ) (xs : List Placed) → least ≤ limit → IsApart limit kind xs → IsApart least kind xs
+apart_within : (limit least : ℕ) (kind : List ℕ) (xs : List Placed) → least ≤ limit → LacksType limit kind xs → LacksType least kind xs
 apart_within limit least kind [] le apart = tt
 apart_within limit least kind (x ∷ xs) le apart = λ below. let a = apart (omega arith) in (a.0, apart_within limit least kind xs le a.1)
 
@@ -88,7 +88,7 @@ past_none kind run = record { back = λ other limit upto apart. apart }
 pub past_more : (kind : List ℕ) (run rest others : List Placed) (x : Placed) → Covers kind run rest → rest ≡ x ∷ others → comes_before x.1 kind ≡ true → Covers kind run others
 past_more kind run rest others x c is before = record {
   back = λ other limit upto apart.
-      c.back other limit upto (subst (IsApart limit other) (sym is) (λ below. (
+      c.back other limit upto (subst (LacksType limit other) (sym is) (λ below. (
         λ same. both_ways (comes_before other kind) upto (subst (λ (k : List ℕ). comes_before k kind ≡ true) same before),
         apart,
       )));
@@ -104,13 +104,13 @@ pub stops_at_end : (limit : ℕ) (kind : List ℕ) (rest : List Placed) → rest
 stops_at_end limit kind rest is = subst (EndsBefore limit kind) (sym is) tt
 
 -- a search goes on in the run, or in what is left of it
-pub goes_back : (last kind : List ℕ) (run rest chosen : List Placed) → chosen ≡ run → GoesOn last kind run rest chosen
+pub goes_back : (last kind : List ℕ) (run rest chosen : List Placed) → chosen ≡ run → SearchGoesOn last kind run rest chosen
 goes_back last kind run rest chosen is = record {
   covers = λ c. subst (Covers kind run) (sym is) (past_none kind run);
   ascends = λ limit up rest_up. subst (Ascends limit) (sym is) up;
 }
 
-pub goes_on : (last kind : List ℕ) (run rest : List Placed) → comes_before kind last ≡ false → GoesOn last kind run rest rest
+pub goes_on : (last kind : List ℕ) (run rest : List Placed) → comes_before kind last ≡ false → SearchGoesOn last kind run rest rest
 goes_on last kind run rest upto = record {
   covers = λ c. record { back = λ other limit later apart. c.back other limit (chain other kind last later upto) apart };
   ascends = λ limit up rest_up. rest_up;
@@ -120,13 +120,13 @@ goes_on last kind run rest upto = record {
 pub limit_here : (kind : List ℕ) (limit : ℕ) (rest others : List Placed) (x : Placed) → rest ≡ x ∷ others → x.0 < limit → IsLimitBefore kind limit rest x.0
 limit_here kind limit rest others x is below = record {
   within = omega arith;
-  apart = λ up stops. subst (IsApart x.0 kind) (sym is) (λ wrong. absurd (omega arith));
+  apart = λ up stops. subst (LacksType x.0 kind) (sym is) (λ wrong. absurd (omega arith));
 }
 
 pub limit_stays : (kind : List ℕ) (limit : ℕ) (rest others : List Placed) (x : Placed) → rest ≡ x ∷ others → ((x.0 < limit) → x.1 ≡ kind → ⊥) → IsLimitBefore kind limit rest limit
 limit_stays kind limit rest others x is other = record {
   within = omega arith;
-  apart = λ up stops. subst (IsApart limit kind) (sym is) (λ below. (
+  apart = λ up stops. subst (LacksType limit kind) (sym is) (λ below. (
     other below,
     rises_apart limit kind x.1 others (subst (EndsBefore limit kind) is stops below) (subst (Ascends limit) is up below),
   ));
@@ -135,13 +135,13 @@ limit_stays kind limit rest others x is other = record {
 pub limit_at_end : (kind : List ℕ) (limit : ℕ) (rest : List Placed) → rest ≡ [] → IsLimitBefore kind limit rest limit
 limit_at_end kind limit rest is = record {
   within = omega arith;
-  apart = λ up stops. subst (IsApart limit kind) (sym is) tt;
+  apart = λ up stops. subst (LacksType limit kind) (sym is) tt;
 }
 
 -- the types of these attributes, up to the offset, are apart from a run
 abbrev pub AreApart : ℕ → ℕ → List Placed → List Placed → Type 0
 AreApart start limit run [] = Unit {0}
-AreApart start limit run (x ∷ xs) = x.0 < start → IsApart limit x.1 run × AreApart start limit run xs
+AreApart start limit run (x ∷ xs) = x.0 < start → LacksType limit x.1 run × AreApart start limit run xs
 
 -- the search through a run for the types of all earlier attributes, of which some are left, with what is left of the run
 pub record IsSearch (all run left rest : List Placed) (last : List ℕ) (start limit : ℕ) : Type 0 where
@@ -159,13 +159,13 @@ search_begins all run rest start limit up is = record {
 }
 
 pub search_more : (all run left others rest chosen further : List Placed) (x : Placed) (last : List ℕ) (start limit least : ℕ)
-    → IsSearch all run left rest last start limit → left ≡ x ∷ others → GoesOn last x.1 run rest chosen → IsPast x.1 limit chosen further
+    → IsSearch all run left rest last start limit → left ≡ x ∷ others → SearchGoesOn last x.1 run rest chosen → IsPast x.1 limit chosen further
     → IsLimitBefore x.1 limit further least → IsSearch all run others further x.1 start least
 search_more all run left others rest chosen further x last start limit least h is on past new =
     let up : Ascends limit further = past.ascends (on.ascends limit h.run_ascends h.rest_ascends) in
     let chosen_covers : Covers x.1 run chosen = on.covers h.covers in
     let covers : Covers x.1 run further = record { back = λ other m upto apart. chosen_covers.back other m upto (past.covers.back other m upto apart) } in
-    let apart : IsApart least x.1 run = covers.back x.1 least (not_before_itself x.1) (new.apart up past.stops) in
+    let apart : LacksType least x.1 run = covers.back x.1 least (not_before_itself x.1) (new.apart up past.stops) in
     record {
       run_ascends = ascends_within limit least run new.within h.run_ascends;
       rest_ascends = ascends_within limit least further new.within up;
@@ -175,14 +175,14 @@ search_more all run left others rest chosen further x last start limit least h i
 
 -- where the search ends, nothing earlier is left
 EachApart : ℕ → List Placed → List Placed → Type 0
-EachApart limit run earlier = AllByRecursion (λ e. IsApart limit e.1 run) earlier
+EachApart limit run earlier = AllByRecursion (λ e. LacksType limit e.1 run) earlier
 
 each_apart : (start limit : ℕ) (run earlier rest : List Placed) → AllByRecursion (λ (x : Placed). x.0 < start) earlier → AreApart start limit run (earlier ++ rest) → EachApart limit run earlier
 unfolding EachApart
 each_apart start limit run [] rest below apart = tt
 each_apart start limit run (e ∷ es) rest below apart = let a = apart below.0 in (a.0, each_apart start limit run es rest below.1 a.1)
 
-each_tail : (limit : ℕ) (x : Placed) (xs earlier : List Placed) → x.0 < limit → EachApart limit (x ∷ xs) earlier → IsApart limit x.1 xs → EachApart limit xs (earlier ++ x ∷ [])
+each_tail : (limit : ℕ) (x : Placed) (xs earlier : List Placed) → x.0 < limit → EachApart limit (x ∷ xs) earlier → LacksType limit x.1 xs → EachApart limit xs (earlier ++ x ∷ [])
 unfolding EachApart
 each_tail limit x xs [] below each apart = (apart, tt)
 each_tail limit x xs (e ∷ es) below each apart = ((each.0 below).1, each_tail limit x xs es below each.1 apart)

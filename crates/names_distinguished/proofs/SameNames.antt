@@ -10,7 +10,7 @@ use Rattle.names_distinguished.specs.declared.fault.NameRule.TheVariants.{NameLa
 use Rattle.names_distinguished.specs.declared.name.Name.{Name}
 use Rattle.names_distinguished.specs.declared.rdn.Rdn.{Rdn}
 use Rattle.names_distinguished.specs.AttributeValue.{compared}
-use Rattle.names_distinguished.specs.DistinguishedName.{Entry, rdn_map}
+use Rattle.names_distinguished.specs.DistinguishedName.{ComparedAttribute, rdn_map}
 use Rattle.names_distinguished.specs.NameLayout.{AttributePlaces, attribute_members}
 use Rattle.names_distinguished.specs.NameParts.{entry_in, entry_at, map_at}
 use Rattle.names_distinguished.specs.NameView.{entries_of, map_of, maps_of}
@@ -66,7 +66,7 @@ walk_same (x ∷ xs) (y ∷ ys) a b e =
 checked : Bool → Place → Result (Unit {0}) (NameRule × ℕ)
 checked flag place = if flag then Ok tt else Err (NameLayout, place.at)
 
-in_sequence : Bool → Place → Entry
+in_sequence : Bool → Place → ComparedAttribute
 in_sequence flag place = entry_in (checked flag place >>= λ sequence. walk (members place))
 
 sequence_same : (flag : Bool) → IsOfOctets (in_sequence flag)

@@ -7,60 +7,60 @@ use Rattle.names_distinguished.specs.declared.run.Source.TheVariants.{Set, Batch
 use Rattle.names_distinguished.specs.declared.attribute.Attribute.{Attribute}
 use Rattle.names_distinguished.specs.declared.rdn.Rdn.{Rdn}
 use Rattle.names_distinguished.specs.AttributeValue.{ComparedValue}
-use Rattle.names_distinguished.specs.DistinguishedName.{Entry, value_at}
+use Rattle.names_distinguished.specs.DistinguishedName.{ComparedAttribute, value_at}
 use Rattle.names_distinguished.specs.NameView.{entry_of, entries_of}
 use Rattle.names_distinguished.specs.Repetition.{comes_before}
 
 -- of these attributes the first ones, as long as their types ascend, behind this type
-abbrev pub rising : List ℕ → List Entry → List Entry
+abbrev pub rising : List ℕ → List ComparedAttribute → List ComparedAttribute
 rising last [] = []
 rising last (e ∷ es) = if comes_before last e.0 then e ∷ rising e.0 es else []
 
 -- the first run of a list
-abbrev pub run_of : List Entry → List Entry
+abbrev pub run_of : List ComparedAttribute → List ComparedAttribute
 run_of [] = []
 run_of (e ∷ es) = e ∷ rising e.0 es
 
 -- what is left of a run
-abbrev pub run_from : Option Attribute → List Entry → List Entry
+abbrev pub run_from : Option Attribute → List ComparedAttribute → List ComparedAttribute
 run_from None others = []
 run_from (Some next) others = entry_of next ∷ rising next.kind.now others
 
 -- the attributes of a source
-unfoldable pub entries_in : Source → List Entry
+unfoldable pub entries_in : Source → List ComparedAttribute
 entries_in (Set set) = entries_of set
 entries_in (Batch batch) = map entry_of batch.now
 
-unfoldable pub run_left : Run → List Entry
+unfoldable pub run_left : Run → List ComparedAttribute
 run_left run = run_from run.next (entries_in run.others)
 
 -- what is left of a run has all of its types that do not come before this one
-pub record SearchesOn (kind : List ℕ) (run rest : List Entry) : Type 0 where
+pub record SearchesOn (kind : List ℕ) (run rest : List ComparedAttribute) : Type 0 where
   pub same : (other : List ℕ) → comes_before other kind ≡ false → value_at other run ≡ value_at other rest
 
 -- the first of a run doesn't come before the type
-abbrev pub StopsAt : List ℕ → List Entry → Type 0
+abbrev pub StopsAt : List ℕ → List ComparedAttribute → Type 0
 StopsAt kind [] = Unit {0}
 StopsAt kind (e ∷ es) = comes_before e.0 kind ≡ false
 
 -- the types of a run that come before the type were passed over
-pub record IsFoundPast (kind : List ℕ) (run rest : List Entry) : Type 0 where
+pub record IsFoundPast (kind : List ℕ) (run rest : List ComparedAttribute) : Type 0 where
   pub searches : SearchesOn kind run rest
   pub stops : StopsAt kind rest
 
 -- if the run has the type of the attribute, then with its value
-pub record Fits (run : List Entry) (e : Entry) : Type 0 where
+pub record Fits (run : List ComparedAttribute) (e : ComparedAttribute) : Type 0 where
   pub only : (value : ComparedValue) → value_at e.0 run ≡ Some value → value ≡ e.1
 
-abbrev pub AllFit : List Entry → List Entry → Type 0
+abbrev pub AllFit : List ComparedAttribute → List ComparedAttribute → Type 0
 AllFit run set = AllByRecursion (Fits run) set
 
 -- how many of these attributes have a type of the run
-unfoldable pub found_in : List Entry → List Entry → ℕ
+unfoldable pub found_in : List ComparedAttribute → List ComparedAttribute → ℕ
 found_in run [] = 0
 found_in run (e ∷ es) = (if is_some (value_at e.0 run) then 1 else 0) + found_in run es
 
-pub record IsCount (run set : List Entry) (count : ℕ) : Type 0 where
+pub record IsCount (run set : List ComparedAttribute) (count : ℕ) : Type 0 where
   pub fits : AllFit run set
   pub number : count ≡ found_in run set
 

@@ -3,11 +3,11 @@ use Rattle.std.specs.Prelude.{ℕ, List, ◌∷◌, map, Option, MatchOption}
 use Rattle.names_distinguished.specs.declared.attribute.Attribute.{Attribute}
 use Rattle.names_distinguished.specs.declared.rdn.Rdn.{Rdn}
 use Rattle.names_distinguished.specs.declared.batch.Batch.{Batch}
-use Rattle.names_distinguished.specs.DistinguishedName.{Entry}
+use Rattle.names_distinguished.specs.DistinguishedName.{ComparedAttribute}
 use Rattle.names_distinguished.specs.NameView.{entry_of, entries_of}
 use Rattle.names_distinguished.specs.Batch.{IsAdded, IsBatchOfSet, IsFrontCount, FrontDiffers}
 
-unfoldable pub batched : Batch → List Entry
+unfoldable pub batched : Batch → List ComparedAttribute
 batched batch = map entry_of batch.attributes.items
 
 -- an attribute of a new type was added to a batch

@@ -8,14 +8,14 @@ use Rattle.std.specs.FinMap.{FinMap, from_entries, entries, contains_key, find}
 use Rattle.names_distinguished.specs.AttributeValue.{ComparedValue, Text, Other}
 
 -- an attribute as it is compared: the contents of its type's object identifier, and its value
-abbrev pub Entry : Type 0
-Entry = List ℕ × ComparedValue
+abbrev pub ComparedAttribute : Type 0
+ComparedAttribute = List ℕ × ComparedValue
 
 -- a relative distinguished name, ascending by type; of attributes of one type the first counts
 abbrev pub RdnMap : Type 0
 RdnMap = FinMap (slice_cmp nat_cmp) ComparedValue
 
-unfoldable pub rdn_map : List Entry → RdnMap
+unfoldable pub rdn_map : List ComparedAttribute → RdnMap
 rdn_map attributes = from_entries attributes
 
 -- the names match (RFC 5280, 7.1)
@@ -32,11 +32,11 @@ abbrev pub HasKind : List ℕ → List RdnMap → Type 0
 HasKind kind name = Any (λ rdn. IsTrue (contains_key rdn kind)) name
 
 -- the value of the type in a set, as it is compared
-unfoldable pub value_at : List ℕ → List Entry → Option ComparedValue
+unfoldable pub value_at : List ℕ → List ComparedAttribute → Option ComparedValue
 value_at kind attributes = find (slice_cmp nat_cmp) kind attributes
 
 -- two sets have the same value of the type, or both none
-pub record AgreeAt (left right : List Entry) (kind : List ℕ) : Type 0 where
+pub record AgreeAt (left right : List ComparedAttribute) (kind : List ℕ) : Type 0 where
   pub same : value_at kind left ≡ value_at kind right
 
 -- tests of these facts
@@ -46,7 +46,7 @@ same_value (Text a) (Text b) = pointwise nat_eq a b
 same_value (Other a) (Other b) = pointwise nat_eq a b
 same_value _ _ = false
 
-abbrev pub same_entry : Entry → Entry → Bool
+abbrev pub same_entry : ComparedAttribute → ComparedAttribute → Bool
 same_entry d e = pointwise nat_eq d.0 e.0 && same_value d.1 e.1
 
 abbrev pub same_rdn : RdnMap → RdnMap → Bool

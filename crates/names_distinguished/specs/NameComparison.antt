@@ -5,7 +5,7 @@ use Rattle.asn.specs.Encoding.{EncodesAt}
 use Rattle.asn.specs.Size.{octets_of_all}
 use Rattle.asn.specs.Place.{Place}
 use Rattle.names_distinguished.specs.AttributeValue.{ComparedValue, compared}
-use Rattle.names_distinguished.specs.DistinguishedName.{Entry, RdnMap, rdn_map}
+use Rattle.names_distinguished.specs.DistinguishedName.{ComparedAttribute, RdnMap, rdn_map}
 use Rattle.names_distinguished.specs.NameParts.{rdns_at}
 use Rattle.names_distinguished.specs.NameForms.{NameAttribute, HasNameLayout}
 
@@ -15,7 +15,7 @@ compared_as (primitive identifier contents) = compared identifier contents
 compared_as (constructed identifier values) = compared identifier (octets_of_all values)
 
 -- an attribute by its type and that value
-abbrev pub entry_of_attribute : NameAttribute → Entry
+abbrev pub entry_of_attribute : NameAttribute → ComparedAttribute
 entry_of_attribute attribute = (attribute.kind, compared_as attribute.value)
 
 -- an RDN by the set of its attributes

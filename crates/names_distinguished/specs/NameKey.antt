@@ -4,29 +4,29 @@ use Rattle.std.specs.List.{flat_map, starts_with, AllByRecursion}
 use Rattle.std.specs.Int.{to_be_bytes, w32}
 use Rattle.std.specs.FinMap.{entries}
 use Rattle.names_distinguished.specs.AttributeValue.{ComparedValue, Text, Other}
-use Rattle.names_distinguished.specs.DistinguishedName.{Entry, RdnMap, NamesMatch, is_within}
+use Rattle.names_distinguished.specs.DistinguishedName.{ComparedAttribute, RdnMap, NamesMatch, is_within}
 
 -- a number in four octets, the highest first
-abbrev pub number : ℕ → List ℕ
-number n = to_be_bytes w32 n
+abbrev pub four_octets : ℕ → List ℕ
+four_octets n = to_be_bytes w32 n
 
 -- octets after their number
 abbrev pub counted : List ℕ → List ℕ
-counted octets = number (length octets) ++ octets
+counted octets = four_octets (length octets) ++ octets
 
 abbrev pub value_key : ComparedValue → List ℕ
 value_key (Text text) = 1 ∷ counted text
 value_key (Other octets) = 0 ∷ counted octets
 
-abbrev pub entry_key : Entry → List ℕ
+abbrev pub entry_key : ComparedAttribute → List ℕ
 entry_key e = counted e.0 ++ value_key e.1
 
 -- the attributes, ascending by type
 abbrev pub rdn_key : RdnMap → List ℕ
-rdn_key m = number (length (entries m)) ++ flat_map entry_key (entries m)
+rdn_key m = four_octets (length (entries m)) ++ flat_map entry_key (entries m)
 
 unfoldable pub name_key : List RdnMap → List ℕ
-name_key rdns = number (length rdns) ++ flat_map rdn_key rdns
+name_key rdns = four_octets (length rdns) ++ flat_map rdn_key rdns
 
 -- the same without the number of the sets
 unfoldable pub rdns_key : List RdnMap → List ℕ
@@ -37,7 +37,7 @@ abbrev pub ValueFits : ComparedValue → Type 0
 ValueFits (Text text) = length text < 2 ^ 32
 ValueFits (Other octets) = length octets < 2 ^ 32
 
-pub record EntryFits (e : Entry) : Type 0 where
+pub record EntryFits (e : ComparedAttribute) : Type 0 where
   pub type_fits : length e.0 < 2 ^ 32
   pub value_fits : ValueFits e.1
 
@@ -50,7 +50,7 @@ pub record NameFits (rdns : List RdnMap) : Type 0 where
   pub each : AllByRecursion RdnFits rdns
 
 -- fewer than 2^32 attributes that fit
-pub record SetFits (attributes : List Entry) : Type 0 where
+pub record SetFits (attributes : List ComparedAttribute) : Type 0 where
   pub count : length attributes < 2 ^ 32
   pub each : AllByRecursion EntryFits attributes
 

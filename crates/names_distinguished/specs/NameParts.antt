@@ -5,7 +5,7 @@ use Rattle.asn.specs.Place.{Place, tag, body}
 use Rattle.asn.specs.Members.{members}
 use Rattle.names_distinguished.specs.declared.fault.NameRule.{NameRule}
 use Rattle.names_distinguished.specs.AttributeValue.{compared, Other}
-use Rattle.names_distinguished.specs.DistinguishedName.{Entry, RdnMap, rdn_map, value_at}
+use Rattle.names_distinguished.specs.DistinguishedName.{ComparedAttribute, RdnMap, rdn_map, value_at}
 use Rattle.names_distinguished.specs.NameLayout.{AttributePlaces, attribute_members}
 
 -- the places hold attributes
@@ -17,18 +17,18 @@ AreAttributes [] = Unit {0}
 AreAttributes (place ∷ places) = IsAttribute place × AreAttributes places
 
 -- type and value of the attribute at a place
-abbrev pub entry_of_parts : AttributePlaces → Entry
+abbrev pub entry_of_parts : AttributePlaces → ComparedAttribute
 entry_of_parts parts = (body parts.kind, compared (tag parts.value) (body parts.value))
 
-abbrev pub entry_in : Result AttributePlaces (NameRule × ℕ) → Entry
+abbrev pub entry_in : Result AttributePlaces (NameRule × ℕ) → ComparedAttribute
 entry_in (Ok parts) = entry_of_parts parts
 entry_in (Err fault) = ([], Other [])
 
-unfoldable pub entry_at : Place → Entry
+unfoldable pub entry_at : Place → ComparedAttribute
 entry_at place = entry_in (attribute_members place)
 
 -- no type stands there twice
-unfoldable pub are_distinct : List Entry → Bool
+unfoldable pub are_distinct : List ComparedAttribute → Bool
 are_distinct [] = true
 are_distinct (e ∷ es) = not (is_some (value_at e.0 es)) && are_distinct es
 
@@ -41,7 +41,7 @@ AreRdns [] = Unit {0}
 AreRdns (place ∷ places) = IsRdn place × AreRdns places
 
 -- the entries of the set at a place, and those of all sets of the sequence at a place
-abbrev pub entries_at : Place → List Entry
+abbrev pub entries_at : Place → List ComparedAttribute
 entries_at place = map entry_at (members place).values
 
 unfoldable pub map_at : Place → RdnMap

@@ -6,13 +6,13 @@ use Rattle.names_distinguished.specs.declared.attribute.Attribute.{Attribute}
 use Rattle.names_distinguished.specs.declared.rdn.Rdn.{Rdn}
 use Rattle.names_distinguished.specs.declared.rdn_sequence.RdnSequence.{RdnSequence}
 use Rattle.names_distinguished.specs.AttributeValue.{compared_value}
-use Rattle.names_distinguished.specs.DistinguishedName.{Entry, RdnMap, rdn_map, AgreeAt, IsWithin}
+use Rattle.names_distinguished.specs.DistinguishedName.{ComparedAttribute, RdnMap, rdn_map, AgreeAt, IsWithin}
 use Rattle.names_distinguished.specs.NameParts.{entry_at, map_at}
 
-abbrev pub entry_of : Attribute → Entry
+abbrev pub entry_of : Attribute → ComparedAttribute
 entry_of a = (a.kind.now, compared_value a)
 
-unfoldable pub entries_of : Rdn → List Entry
+unfoldable pub entries_of : Rdn → List ComparedAttribute
 entries_of rdn = map entry_at (left rdn.attributes).values
 
 -- the first attribute of a set, and those behind it

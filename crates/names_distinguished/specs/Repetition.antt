@@ -60,9 +60,9 @@ Ascends limit [] = Unit {0}
 Ascends limit (x ∷ xs) = x.0 < limit → Rises limit x.1 xs
 
 -- none of them has the type
-abbrev pub IsApart : ℕ → List ℕ → List Placed → Type 0
-IsApart limit kind [] = Unit {0}
-IsApart limit kind (x ∷ xs) = x.0 < limit → (x.1 ≡ kind → ⊥) × IsApart limit kind xs
+abbrev pub LacksType : ℕ → List ℕ → List Placed → Type 0
+LacksType limit kind [] = Unit {0}
+LacksType limit kind (x ∷ xs) = x.0 < limit → (x.1 ≡ kind → ⊥) × LacksType limit kind xs
 
 -- the first of them doesn't come before the type
 abbrev pub EndsBefore : ℕ → List ℕ → List Placed → Type 0
@@ -71,7 +71,7 @@ EndsBefore limit kind (x ∷ xs) = x.0 < limit → comes_before x.1 kind ≡ fal
 
 -- what is left of a run has all of it that does not come before the type
 pub record Covers (kind : List ℕ) (run rest : List Placed) : Type 0 where
-  pub back : (other : List ℕ) (limit : ℕ) → comes_before other kind ≡ false → IsApart limit other rest → IsApart limit other run
+  pub back : (other : List ℕ) (limit : ℕ) → comes_before other kind ≡ false → LacksType limit other rest → LacksType limit other run
 
 -- the types of a run that come before the type were passed over
 pub record IsPast (kind : List ℕ) (limit : ℕ) (run rest : List Placed) : Type 0 where
@@ -80,18 +80,18 @@ pub record IsPast (kind : List ℕ) (limit : ℕ) (run rest : List Placed) : Typ
   pub stops : EndsBefore limit kind rest
 
 -- a search goes on for a type behind another, in what is left of the run or in the run
-pub record GoesOn (last kind : List ℕ) (run rest chosen : List Placed) : Type 0 where
+pub record SearchGoesOn (last kind : List ℕ) (run rest chosen : List Placed) : Type 0 where
   pub covers : Covers last run rest → Covers kind run chosen
   pub ascends : (limit : ℕ) → Ascends limit run → Ascends limit rest → Ascends limit chosen
 
 -- the same of places in a run
 abbrev pub GoesOnFrom : List ℕ → List ℕ → Kinds → Pointer → Pointer → Type 0
-GoesOnFrom last kind run old new = GoesOn last kind (kinds_of run) (pointed old) (pointed new)
+GoesOnFrom last kind run old new = SearchGoesOn last kind (kinds_of run) (pointed old) (pointed new)
 
 -- the limit before the type, if it is the first
 pub record IsLimitBefore (kind : List ℕ) (limit : ℕ) (rest : List Placed) (least : ℕ) : Type 0 where
   pub within : least ≤ limit
-  pub apart : Ascends limit rest → EndsBefore limit kind rest → IsApart least kind rest
+  pub apart : Ascends limit rest → EndsBefore limit kind rest → LacksType least kind rest
 
 -- no attribute that stands before the offset has the type
 abbrev pub IsNew : ℕ → List ℕ → List Placed → Type 0

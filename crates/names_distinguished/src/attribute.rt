@@ -12,7 +12,7 @@ ghost use Rattle.names_distinguished.specs.NameParts.{entry_of_parts};
 ghost use Rattle.names_distinguished.specs.NameView.{entry_of};
 ghost use Rattle.names_distinguished.specs.Repetition.{kind_at};
 
-use crate::fault::{NameRule, Refusal};
+use crate::fault::{NameRule, NameRefusal};
 use asn::{Cursor, IA5_STRING, OBJECT_IDENTIFIER, PRINTABLE_STRING, SEQUENCE, Tlv, UTF8_STRING};
 use names_text::same_prepared;
 
@@ -38,7 +38,7 @@ impl<'a> AttributeMembers<'a> {
     /// AttributeTypeAndValue ::= SEQUENCE { type OBJECT IDENTIFIER, value ANY }
     #[inline(always)]
     #[tactic(auto, unfolding(crate::specs::NameLayout::attribute_members))]
-    pub(crate) fn read(attribute: Tlv<'a>) -> Result<AttributeMembers<'a>, Refusal>
+    pub(crate) fn read(attribute: Tlv<'a>) -> Result<AttributeMembers<'a>, NameRefusal>
         ensures { Gives seen_members result (attribute_members (seen_tlv attribute.entry)) }
     {
         attribute.is_a(SEQUENCE, NameRule::NameLayout)?;
@@ -138,7 +138,7 @@ fn check_order(
     before: &[u8],
     kind: &[u8],
     tlv: Tlv<'_>,
-) -> Result<(), Refusal>
+) -> Result<(), NameRefusal>
     requires { tlv.at < clear → has_kind_before kind.now tlv.at (left all).values ≡ false }
     ensures { Gives (λ _. tt) result (order_among all.entry before.now kind.now tlv.entry) }
 {
@@ -166,7 +166,7 @@ pub(crate) fn read_attribute<'a>(
     clear: usize,
     before: &[u8],
     tlv: Tlv<'a>,
-) -> Result<&'a [u8], Refusal>
+) -> Result<&'a [u8], NameRefusal>
     requires { tlv.at < clear
         → has_kind_before (kind_at (seen_tlv tlv)) tlv.at (left all).values ≡ false }
     ensures { Gives (λ octets. octets.now) result (attribute_among all.entry before.now tlv.entry) }
@@ -182,7 +182,7 @@ pub(crate) fn read_attribute<'a>(
 
 /// Reads the only attribute of an RDN.
 #[tactic(auto, unfolding(crate::specs::NameLayout::only_attribute, asn::specs::Walk::check_that))]
-pub(crate) fn read_only_attribute(tlv: Tlv<'_>) -> Result<(), Refusal>
+pub(crate) fn read_only_attribute(tlv: Tlv<'_>) -> Result<(), NameRefusal>
     ensures { Gives (λ _. tt) result (only_attribute (seen_tlv tlv.entry)) }
 {
     let members = AttributeMembers::read(tlv)?;

@@ -1,7 +1,7 @@
 //! Why octets are not a name.
 
 ghost use Rattle.std.specs.Prelude.{◌≡◌};
-ghost use Rattle.names_distinguished.specs.Fault.{fault_number, fault_name};
+ghost use Rattle.names_distinguished.specs.Fault.{name_rule_number, name_rule_name};
 
 use thiserror::Error;
 
@@ -32,12 +32,12 @@ pub enum NameRule {
 }
 
 /// The rule that is broken, and the offset of the value, from the first octet of the value that was handed in.
-pub type Refusal = (NameRule, usize);
+pub type NameRefusal = (NameRule, usize);
 
 impl NameRule {
     /// The number of the fault, from 11 to 17.
     pub fn number(self) -> u8
-        ensures { result ≡ fault_number self }
+        ensures { result ≡ name_rule_number self }
     {
         match self {
             NameRule::NameLayout => 11,
@@ -52,7 +52,7 @@ impl NameRule {
 
     /// The name of the fault, printed beside the number.
     pub fn name(self) -> &'static str
-        ensures { result.now ≡ fault_name self }
+        ensures { result.now ≡ name_rule_name self }
     {
         match self {
             NameRule::NameLayout => "NameLayout",

@@ -15,7 +15,7 @@ ghost use Rattle.names_distinguished.specs.NameComparison.{NameIsComparedByLayou
 ghost use Rattle.names_distinguished.specs.Repetition.{kinds_left, AreNew, IsRest};
 
 use crate::attribute::{read_attribute, read_only_attribute};
-use crate::fault::{NameRule, Refusal};
+use crate::fault::{NameRule, NameRefusal};
 use crate::kinds::Kinds;
 use crate::rdn_sequence::RdnSequence;
 use crate::repetition::new_until;
@@ -50,7 +50,7 @@ fn clear_after(all: Cursor<'_>, clear: usize, at: usize, rest: Cursor<'_>) -> us
 
 /// Reads the attributes of an RDN, however many it has.
 #[inline(never)]
-fn read_several_attributes(all: Cursor<'_>) -> Result<(), Refusal>
+fn read_several_attributes(all: Cursor<'_>) -> Result<(), NameRefusal>
     ensures { Gives (λ _. tt) result (attributes (left all.entry).values) }
 {
     let mut rest = all;
@@ -64,7 +64,7 @@ fn read_several_attributes(all: Cursor<'_>) -> Result<(), Refusal>
 }
 
 /// Reads the attributes of an RDN; most have one.
-fn read_attributes(all: Cursor<'_>) -> Result<(), Refusal>
+fn read_attributes(all: Cursor<'_>) -> Result<(), NameRefusal>
     ensures { Gives (λ _. tt) result (attributes (left all.entry).values) }
 {
     let mut rest = all;
@@ -76,7 +76,7 @@ fn read_attributes(all: Cursor<'_>) -> Result<(), Refusal>
 
 /// RelativeDistinguishedName ::= SET SIZE (1..MAX) OF AttributeTypeAndValue
 #[tactic(auto, unfolding(crate::specs::NameLayout::rdn))]
-fn read_rdn(tlv: Tlv<'_>) -> Result<(), Refusal>
+fn read_rdn(tlv: Tlv<'_>) -> Result<(), NameRefusal>
     ensures { Gives (λ _. tt) result (rdn (seen_tlv tlv.entry)) }
 {
     tlv.is_a(SET, NameRule::NameLayout)?;
@@ -86,7 +86,7 @@ fn read_rdn(tlv: Tlv<'_>) -> Result<(), Refusal>
 }
 
 /// SEQUENCE OF RelativeDistinguishedName
-fn read_rdns(rdns: Cursor<'_>) -> Result<(), Refusal>
+fn read_rdns(rdns: Cursor<'_>) -> Result<(), NameRefusal>
     ensures { Gives (λ _. tt) result (each one_more_rdn tt ((left rdns.entry).values)) }
 {
     let mut rdns = rdns;
@@ -98,7 +98,7 @@ fn read_rdns(rdns: Cursor<'_>) -> Result<(), Refusal>
 
 /// Name ::= CHOICE { rdnSequence SEQUENCE OF RelativeDistinguishedName }
 #[tactic(auto, unfolding(crate::specs::NameLayout::name))]
-fn read_name(tlv: Tlv<'_>) -> Result<Cursor<'_>, Refusal>
+fn read_name(tlv: Tlv<'_>) -> Result<Cursor<'_>, NameRefusal>
     ensures walk { Gives (λ _. tt) result (name (seen_tlv tlv.entry)) }
     ensures rdns { IfOk result (λ rdns. left rdns ≡ members (seen_tlv tlv.entry)) }
     ensures short { IfOk result (λ rdns. length (remaining rdns).octets < contents_limit) }
@@ -113,7 +113,7 @@ impl<'a> Name<'a> {
     ghost use Rattle.names_distinguished.specs.NameOctets.{raw_of, offset_of, rdns_of};
 
     /// As `read`, with offsets in the text handed to `asn::whole`.
-    pub fn at(tlv: Tlv<'a>) -> Result<Name<'a>, Refusal>
+    pub fn at(tlv: Tlv<'a>) -> Result<Name<'a>, NameRefusal>
         ensures walk { Gives (λ _. tt) result (name (seen_tlv tlv.entry)) }
         ensures raw { IfOk result (λ found. raw_of found ≡ tlv.entry.whole.now) }
         ensures offset { IfOk result (λ found. offset_of found ≡ tlv.entry.at) }
@@ -130,7 +130,7 @@ impl<'a> Name<'a> {
     /// Reads a name (RFC 5280, 4.1.2.4), or answers the first fault, with its offset in the value. No memory is taken. Time is linear in
     /// the octets if the attributes of an RDN have one size or are few; else each size of 256 attributes or more, and each 256 attributes
     /// of other sizes, cost a walk over those before.
-    pub fn read(value: Tlv<'a>) -> Result<Name<'a>, Refusal>
+    pub fn read(value: Tlv<'a>) -> Result<Name<'a>, NameRefusal>
         ensures walk { Gives (λ _. tt) result (name (text_at value.entry.whole.now 0)) }
         ensures raw { IfOk result (λ found. raw_of found ≡ value.entry.whole.now) }
         ensures offset { IfOk result (λ found. offset_of found ≡ 0) }

@@ -3,7 +3,7 @@
 ghost use Rattle.std.specs.Prelude.{◌≡◌, ◌↔◌, ◌<◌, ◌^◌, ◌++◌, ◌∷◌, IsTrue, OnOk, IfOk, map, length};
 ghost use Rattle.std.specs.FinMap.{entries};
 ghost use Rattle.names_distinguished.specs.AttributeOrder.{AscendsByKind, HasSameValues, EndsInKind, AreFirstOfEach};
-ghost use Rattle.names_distinguished.specs.NameKey.{number, counted, entry_key, rdn_key, name_key, rdns_key, EntryFits, RdnFits, KeyIsExact, WithinIsByKeys};
+ghost use Rattle.names_distinguished.specs.NameKey.{four_octets, counted, entry_key, rdn_key, name_key, rdns_key, EntryFits, RdnFits, KeyIsExact, WithinIsByKeys};
 ghost use Rattle.names_distinguished.specs.NameOctets.{KeysDecideMatching, KeysDecideWithin};
 ghost use Rattle.names_distinguished.specs.NameView.{entry_of, entries_of, map_of, maps_of};
 
@@ -16,7 +16,7 @@ use std::alloc::{AllocError, Global};
 /// Adds a number in four octets, the highest first.
 fn push_number(out: &mut Vec<u8>, value: usize) -> Result<(), AllocError>
     requires { value < 2 ^ 32 }
-    ensures { OnOk result (out.new.items ≡ out.old.items ++ number value) }
+    ensures { OnOk result (out.new.items ≡ out.old.items ++ four_octets value) }
 {
     out.extend_from_slice(&(value as u32).to_be_bytes())
 }

@@ -14,8 +14,8 @@ abbrev pub not_host_octet : ℕ → Bool
 not_host_octet octet = not (is_host_octet octet)
 
 -- what stands between the dots
-abbrev pub parts : List ℕ → List (List ℕ)
-parts text = slice_split is_dot text
+abbrev pub dotted_parts : List ℕ → List (List ℕ)
+dotted_parts text = slice_split is_dot text
 
 abbrev pub HasLabelLength : List ℕ → Type 0
 HasLabelLength label = (0 < length label) × (length label ≤ 63)
@@ -28,7 +28,7 @@ pub record PartAt (text : List ℕ) (at : ℕ) : Type 0 where
   pub before : List (List ℕ)
   pub part : List ℕ
   pub behind : List (List ℕ)
-  pub cut : parts text ≡ before ++ part ∷ behind
+  pub cut : dotted_parts text ≡ before ++ part ∷ behind
   pub place : at ≡ sum_by octets_and_dot before
 
 -- the first part that is empty, or longer than a label
@@ -41,15 +41,15 @@ IsNumberAt text at = (p : PartAt text at) × (p.behind ≡ []) × AllPass is_asc
 
 -- all labels have lengths of labels, and this is the last one, and where it begins
 pub record IsLastLabelAt (text : List ℕ) (at : ℕ) (label : List ℕ) : Type 0 where
-  pub labels : All HasLabelLength (parts text)
+  pub labels : All HasLabelLength (dotted_parts text)
   pub before : List (List ℕ)
-  pub cut : parts text ≡ before ++ label ∷ []
+  pub cut : dotted_parts text ≡ before ++ label ∷ []
   pub place : at ≡ sum_by octets_and_dot before
 
 -- a DNS name of A-labels, which has no wildcard and is no address
 pub record IsHost (text : List ℕ) : Type 0 where
   pub octets : AllPass is_host_octet text
-  pub labels : All HasLabelLength (parts text)
+  pub labels : All HasLabelLength (dotted_parts text)
   pub short : length text ≤ 253
   pub no_number : (at : ℕ) → IsNumberAt text at → ⊥
 
@@ -58,8 +58,8 @@ pub record IsHost (text : List ℕ) : Type 0 where
 abbrev pub IsHostFault : List ℕ → IdentityRule → ℕ → Type 0
 IsHostFault text R.HostOctet at = position not_host_octet text ≡ Some at
 IsHostFault text R.Label at = AllPass is_host_octet text × IsFirstBadLabelAt text at
-IsHostFault text R.Length at = AllPass is_host_octet text × All HasLabelLength (parts text) × (253 < length text) × (at ≡ 0)
-IsHostFault text R.Number at = AllPass is_host_octet text × All HasLabelLength (parts text) × (length text ≤ 253) × IsNumberAt text at
+IsHostFault text R.Length at = AllPass is_host_octet text × All HasLabelLength (dotted_parts text) × (253 < length text) × (at ≡ 0)
+IsHostFault text R.Number at = AllPass is_host_octet text × All HasLabelLength (dotted_parts text) × (length text ≤ 253) × IsNumberAt text at
 IsHostFault text _ at = ⊥
 
 -- the text without one dot at its end (RFC 1034, 3.1)

@@ -20,8 +20,8 @@ reference_identity (I.Address octets) = address_identity octets.now
 reference_identity (I.Mailbox local host) = mailbox_identity local.now host.now
 
 -- names, likewise
-abbrev pub seen_names : List General → List GeneralName
-seen_names names = map general_name names
+abbrev pub seen_name_list : List General → List GeneralName
+seen_name_list names = map general_name names
 
 abbrev pub folded : List ℕ → List ℕ
 folded text = map to_ascii_lowercase text

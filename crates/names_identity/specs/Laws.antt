@@ -3,8 +3,8 @@ use Rattle.names.specs.Dns.{labels}
 use Rattle.names_identity.specs.Identity.{folded, MatchesHost}
 
 -- whether a name matches a host does not depend on the ASCII case of either
-abbrev pub CaseIsIgnored : Type 0
-CaseIsIgnored =
+abbrev pub HostCaseIsIgnored : Type 0
+HostCaseIsIgnored =
     (name other host written : List ℕ) → folded name ≡ folded other → folded host ≡ folded written →
     MatchesHost name host → MatchesHost other written
 

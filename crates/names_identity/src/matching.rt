@@ -3,8 +3,8 @@
 ghost use Rattle.std.specs.Prelude.{◌≡◌, ◌↔◌, [], ◌∷◌, IsTrue, MatchOption, map};
 ghost use Rattle.names.specs.Dns.{labels};
 ghost use Rattle.names.specs.GeneralView.{general_name};
-ghost use Rattle.names_identity.specs.Identity.{folded, reference_identity, MatchesHost, MatchesByWildcard, MatchesMailbox, Matches, SpeaksFor, IsBehind, HasNoHost, IsOneLabel, IsCut, seen_names};
-ghost use Rattle.names_identity.specs.Laws.{CaseIsIgnored, LabelsAreAsMany};
+ghost use Rattle.names_identity.specs.Identity.{folded, reference_identity, MatchesHost, MatchesByWildcard, MatchesMailbox, Matches, SpeaksFor, IsBehind, HasNoHost, IsOneLabel, IsCut, seen_name_list};
+ghost use Rattle.names_identity.specs.Laws.{HostCaseIsIgnored, LabelsAreAsMany};
 
 use crate::hosts::first_dot;
 use crate::identity::Identity;
@@ -84,13 +84,13 @@ fn matches(name: &General<'_>, identity: &Identity<'_>) -> bool
 /// suffixes are not known: `*.com` matches `example.com`. Time is linear in the octets of the names, and of the identity for each name; no
 /// memory is taken.
 pub fn speaks_for(names: &[General<'_>], identity: &Identity<'_>) -> bool
-    ensures { IsTrue result ↔ SpeaksFor (seen_names names.now) (reference_identity identity.now) }
+    ensures { IsTrue result ↔ SpeaksFor (seen_name_list names.now) (reference_identity identity.now) }
 {
     names.iter().any(|name| matches(name, identity))
 }
 
 /// A name matches hosts without regard to ASCII case, and of as many labels as it has.
 pub fn matching_laws()
-    ensures case { CaseIsIgnored }
+    ensures case { HostCaseIsIgnored }
     ensures labels { LabelsAreAsMany }
 {}

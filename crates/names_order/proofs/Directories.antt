@@ -15,7 +15,7 @@ use Rattle.names.specs.GeneralView.{subtree_base}
 use Rattle.names.specs.GeneralLayout.{SubtreeBase}
 use Rattle.names.specs.GeneralCoverage.{is_base_inside}
 use Rattle.names_order.specs.Order.{begins_with, is_ordered}
-use Rattle.names_order.specs.Index.{is_in_one, lies_in_one, directory_key, directory_keys, octets_in, is_key_before, AreOutermost, AreKeysOf, Decide, AreUnorderedOf}
+use Rattle.names_order.specs.Index.{is_in_one, lies_in_one, directory_key, directory_keys, key_octets, is_key_before, AreOutermost, AreKeysOf, KeysDecide, AreUnorderedOf}
 use Rattle.names_order.proofs.KeyLists.{begins_with_each}
 use Rattle.names_order.proofs.Members.{any_mapped, any_map}
 use Rattle.names_order.proofs.Outermost.{outermost_pass, outermost_sorted, outermost_apart}
@@ -54,23 +54,23 @@ in_one_by_keys s octets e (t ∷ list) =
     ∙ sym (one_more octets (directory_key (subtree_base t)) (directory_keys list)))
 
 -- keys in order, without those that begin with the last one that is kept
-pub outermost_keys : (all sorted keys : List (Vec ℕ)) → IsPermutation all sorted → IsSortedBy is_key_before sorted → keys ≡ dedup (λ one other. begins_with (octets_in one) (octets_in other)) sorted → AreOutermost all keys
+pub outermost_keys : (all sorted keys : List (Vec ℕ)) → IsPermutation all sorted → IsSortedBy is_key_before sorted → keys ≡ dedup (λ one other. begins_with (key_octets one) (key_octets other)) sorted → AreOutermost all keys
 outermost_keys all sorted keys same up is =
-    let rank = ranks_by nat_list_cmp_total octets_in in
-    let inside = λ (one other : Vec ℕ). begins_with (octets_in one) (octets_in other) in
+    let rank = ranks_by nat_list_cmp_total key_octets in
+    let inside = λ (one other : Vec ℕ). begins_with (key_octets one) (key_octets other) in
     rw is record {
       searchable = record { sorted = outermost_sorted inside is_key_before rank sorted up; apart = outermost_apart inside is_key_before rank sorted up };
       same = λ octets.
-          outermost_pass inside (λ key. begins_with octets (octets_in key)) (λ s t inner begun. begins_with_each octets (octets_in s) (octets_in t) begun inner) sorted
-          ∙ sym (list_any-IsPermutation (λ key. begins_with octets (octets_in key)) all sorted same);
+          outermost_pass inside (λ key. begins_with octets (key_octets key)) (λ s t inner begun. begins_with_each octets (key_octets s) (key_octets t) begun inner) sorted
+          ∙ sym (list_any-IsPermutation (λ key. begins_with octets (key_octets key)) all sorted same);
     }
 
-pub keys_of_list : (list : List Subtree) (all keys : List (Vec ℕ)) → map octets_in all ≡ directory_keys list → AreOutermost all keys → AreKeysOf list keys
+pub keys_of_list : (list : List Subtree) (all keys : List (Vec ℕ)) → map key_octets all ≡ directory_keys list → AreOutermost all keys → AreKeysOf list keys
 keys_of_list list all keys are kept = record {
   searchable = kept.searchable;
   decide = λ s octets e.
       kept.same octets
-      ∙ (sym (any_mapped octets_in (begins_with octets) all)
+      ∙ (sym (any_mapped key_octets (begins_with octets) all)
       ∙ (ap (list_any (begins_with octets)) are ∙ sym (in_one_by_keys s octets e list)));
 }
 
@@ -85,35 +85,35 @@ unlike (S.Other k t) octets e = refl
 by_bases : (base : SubtreeBase) (list : List Subtree) → is_in_one list base ≡ lies_in_one (map subtree_base list) base
 by_bases base list = sym (any_map (λ other. is_base_inside base other) list)
 
-pub keys_decide : (list : List Subtree) (keys : List (Vec ℕ)) → map octets_in keys ≡ directory_keys list → Decide keys (map subtree_base list)
+pub keys_decide : (list : List Subtree) (keys : List (Vec ℕ)) → map key_octets keys ≡ directory_keys list → KeysDecide keys (map subtree_base list)
 keys_decide list keys are s octets e =
-    sym (any_mapped octets_in (begins_with octets) keys)
+    sym (any_mapped key_octets (begins_with octets) keys)
     ∙ (ap (list_any (begins_with octets)) are ∙ (sym (in_one_by_keys s octets e list) ∙ by_bases (subtree_base s) list))
 
-pub copies_decide : (rest : List Subtree) (keys copies : List (Vec ℕ)) → AreKeysOf rest keys → map octets_in copies ≡ map octets_in keys → Decide copies (map subtree_base rest)
+pub copies_decide : (rest : List Subtree) (keys copies : List (Vec ℕ)) → AreKeysOf rest keys → map key_octets copies ≡ map key_octets keys → KeysDecide copies (map subtree_base rest)
 copies_decide rest keys copies of same s octets e =
-    sym (any_mapped octets_in (begins_with octets) copies)
+    sym (any_mapped key_octets (begins_with octets) copies)
     ∙ (ap (list_any (begins_with octets)) same
-    ∙ (any_mapped octets_in (begins_with octets) keys ∙ (of.decide s octets e ∙ by_bases (subtree_base s) rest)))
+    ∙ (any_mapped key_octets (begins_with octets) keys ∙ (of.decide s octets e ∙ by_bases (subtree_base s) rest)))
 
-pub decide_same : (keys : List (Vec ℕ)) (one other : List SubtreeBase) → one ≡ other → Decide keys one → Decide keys other
-decide_same keys one other are decide = subst (Decide keys) are decide
+pub decide_same : (keys : List (Vec ℕ)) (one other : List SubtreeBase) → one ≡ other → KeysDecide keys one → KeysDecide keys other
+decide_same keys one other are decide = subst (KeysDecide keys) are decide
 
 -- what has no order lies in one of all just if it lies in one of the rest
-pub rest_decides : (all rest : List Subtree) (keys : List (Vec ℕ)) → ((base : SubtreeBase) → is_ordered base ≡ false → is_in_one rest base ≡ is_in_one all base) → Decide keys (map subtree_base rest) → Decide keys (map subtree_base all)
+pub rest_decides : (all rest : List Subtree) (keys : List (Vec ℕ)) → ((base : SubtreeBase) → is_ordered base ≡ false → is_in_one rest base ≡ is_in_one all base) → KeysDecide keys (map subtree_base rest) → KeysDecide keys (map subtree_base all)
 rest_decides all rest keys alike decide s octets e =
     decide s octets e
     ∙ (sym (by_bases (subtree_base s) rest) ∙ (alike (subtree_base s) (unlike s octets e) ∙ by_bases (subtree_base s) all))
 
 -- the keys of two lists
-pub two_decide : (front back all : List (Vec ℕ)) (one other bases : List SubtreeBase) → all ≡ front ++ back → one ++ other ≡ bases → Decide front one → Decide back other → Decide all bases
+pub two_decide : (front back all : List (Vec ℕ)) (one other bases : List SubtreeBase) → all ≡ front ++ back → one ++ other ≡ bases → KeysDecide front one → KeysDecide back other → KeysDecide all bases
 two_decide front back all one other bases both are front_decide back_decide s octets e =
-    ap (list_any (λ key. begins_with octets (octets_in key))) both
-    ∙ (list_any-append (λ key. begins_with octets (octets_in key)) front back
+    ap (list_any (λ key. begins_with octets (key_octets key))) both
+    ∙ (list_any-append (λ key. begins_with octets (key_octets key)) front back
     ∙ (ap₂ ◌||◌ (front_decide s octets e) (back_decide s octets e)
     ∙ (sym (list_any-append (λ base. is_base_inside (subtree_base s) base) one other) ∙ ap (λ (l : List SubtreeBase). lies_in_one l (subtree_base s)) are)))
 
-pub keys_kept : (rest : List Subtree) (all keys : List (Vec ℕ)) (bases : List SubtreeBase) → Decide all bases → AreUnorderedOf rest bases → AreOutermost all keys → AreKeysOf rest keys
+pub keys_kept : (rest : List Subtree) (all keys : List (Vec ℕ)) (bases : List SubtreeBase) → KeysDecide all bases → AreUnorderedOf rest bases → AreOutermost all keys → AreKeysOf rest keys
 keys_kept rest all keys bases decide are kept = record {
   searchable = kept.searchable;
   decide = λ s octets e. kept.same octets ∙ (decide s octets e ∙ sym (are (subtree_base s) (unlike s octets e)));

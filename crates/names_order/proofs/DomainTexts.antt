@@ -9,7 +9,7 @@ use Rattle.std.proofs.lemmas.Bool.{false≢true}
 use Rattle.names.specs.Dns.{is_dot, labels, EndsIn, EndsInMore, ends_in_labels, ends_in_more_labels}
 use Rattle.names.specs.Bases.{DomainNames, every_name, names_within, names_below}
 use Rattle.names.specs.GeneralLayout.{dns_name, dns_base}
-use Rattle.names.specs.GeneralCoverage.{is_among, are_among, is_covered}
+use Rattle.names.specs.GeneralCoverage.{is_domain_among, are_among, is_covered}
 use Rattle.names.proofs.Laws.{coverage_test_is_exact}
 use Rattle.names_distinguished.proofs.Laws.{slice_split-append, slice_split_nonempty, join-append}
 use Rattle.names_order.specs.Order.{begins_with, backwards, domain_key}
@@ -70,11 +70,11 @@ more_labels name base g =
     (slice_split_nonempty is_dot (reverse g.0))
 
 within_test : (name base : List ℕ) → (ends_in_labels name base ≡ true → EndsIn (labels name) (labels base)) × (EndsIn (labels name) (labels base) → ends_in_labels name base ≡ true)
-unfolding is_covered is_among
+unfolding is_covered is_domain_among
 within_test name base = coverage_test_is_exact (dns_name name) (dns_base (names_within base))
 
 below_test : (name base : List ℕ) → (ends_in_more_labels name base ≡ true → EndsInMore (labels name) (labels base)) × (EndsInMore (labels name) (labels base) → ends_in_more_labels name base ≡ true)
-unfolding is_covered is_among
+unfolding is_covered is_domain_among
 below_test name base = coverage_test_is_exact (dns_name name) (dns_base (names_below base))
 
 pub ends_by_octets : (name base : List ℕ) → ends_in_labels name base ≡ goes_on true (backwards name) (backwards base)

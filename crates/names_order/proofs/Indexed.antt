@@ -10,7 +10,7 @@ use Rattle.names.specs.GeneralView.{subtree_base}
 use Rattle.names.specs.GeneralLayout.{SubtreeBase}
 use Rattle.names.specs.GeneralCoverage.{is_base_inside}
 use Rattle.names_order.specs.Order.{is_ordered}
-use Rattle.names_order.specs.Index.{is_in_one, lies_in_one, stands_before, lies_in_other, outermost, ordered, unordered, IsApart, HasNoLonger, AreUnorderedOf, AreKeysIfMany, IsIndexed}
+use Rattle.names_order.specs.Index.{is_in_one, lies_in_one, stands_before, lies_in_other, outermost_subtrees, ordered, unordered, IsApart, HasNoLonger, AreUnorderedOf, AreKeysIfMany, IsIndexed}
 use Rattle.names_order.proofs.Members.{any_map, unordered_hold}
 use Rattle.names_order.proofs.Halving.{subtrees_rank, ordered_held, inside_each}
 use Rattle.names_order.proofs.Outermost.{outermost_pass, outermost_sorted, outermost_apart}
@@ -28,7 +28,7 @@ ordered_hold : (base : SubtreeBase) → is_ordered base ≡ true → (list : Lis
 ordered_hold base h [] = refl
 ordered_hold base h (s ∷ list) = one_in_order (is_ordered (subtree_base s)) base s list h refl (ordered_hold base h list)
 
-outermost_hold : (q : SubtreeBase) → is_ordered q ≡ true → (list : List Subtree) → is_in_one (outermost list) q ≡ is_in_one list q
+outermost_hold : (q : SubtreeBase) → is_ordered q ≡ true → (list : List Subtree) → is_in_one (outermost_subtrees list) q ≡ is_in_one list q
 outermost_hold q h list =
     outermost_pass lies_in_other (λ s. is_base_inside q (subtree_base s)) (λ s t inner held. inside_each q (subtree_base s) (subtree_base t) h held inner) list
 
@@ -38,7 +38,7 @@ unordered_of list rest bases rest_are are base h =
     ∙ (unordered_hold base list h
     ∙ (sym (any_map (λ other. is_base_inside base other) list) ∙ ap (λ (l : List SubtreeBase). lies_in_one l base) are))
 
-pub indexed : (list all tops rest : List Subtree) (keys : List (Vec ℕ)) (longest : ℕ) → IsPermutation list all → IsSortedBy stands_before all → tops ≡ outermost (ordered all) → rest ≡ unordered list
+pub indexed : (list all tops rest : List Subtree) (keys : List (Vec ℕ)) (longest : ℕ) → IsPermutation list all → IsSortedBy stands_before all → tops ≡ outermost_subtrees (ordered all) → rest ≡ unordered list
     → AreKeysIfMany rest keys → HasNoLonger longest all → IsIndexed all tops rest keys longest
 indexed list all tops rest keys longest same sorted tops_are rest_are keys_are no_longer =
     let in_order = IsSortedBy-filter stands_before subtrees_rank (λ s. is_ordered (subtree_base s)) all sorted in

@@ -10,7 +10,7 @@ use Rattle.names.specs.GeneralView.{subtree_base}
 use Rattle.names.specs.Ip.{agree}
 use Rattle.names.specs.Bases.{DomainNames, every_name, names_within, names_below, AddressRange}
 use Rattle.names.specs.GeneralLayout.{SubtreeBase, NameContents, directory_name, dns_name, ip_address, other_name, directory_base, dns_base, ip_base, other_base}
-use Rattle.names.specs.GeneralCoverage.{is_covered, is_base_inside, is_among, are_among, is_address_of, is_range_of}
+use Rattle.names.specs.GeneralCoverage.{is_covered, is_base_inside, is_domain_among, are_among, is_address_of, is_range_of}
 use Rattle.names_order.specs.Order.{is_ordered}
 use Rattle.names_order.specs.Index.{HasSameMembers, all_of, lies_in_one, holds_name, is_in_one, unordered, prefix_in, HasNoLonger}
 
@@ -80,8 +80,8 @@ directory_is name (dns_base b) = refl
 directory_is name (ip_base b) = refl
 directory_is name (other_base n b) = refl
 
-among_is : (name : List ℕ) (names : DomainNames) → are_among (names_within name) names ≡ is_among name names
-unfolding are_among is_among
+among_is : (name : List ℕ) (names : DomainNames) → are_among (names_within name) names ≡ is_domain_among name names
+unfolding are_among is_domain_among
 among_is name every_name = refl
 among_is name (names_within b) = refl
 among_is name (names_below b) = refl

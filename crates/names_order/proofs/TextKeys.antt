@@ -14,7 +14,7 @@ use Rattle.names.specs.Dns.{is_dot}
 use Rattle.names.specs.declared.dns.Domain.{Domain}
 use Rattle.names.specs.declared.dns.Domain.TheVariants as D
 use Rattle.names.specs.Bases.{domain_names}
-use Rattle.names_order.specs.Order.{begins_with, backwards, text_key, end_of, octet_order, domain_key}
+use Rattle.names_order.specs.Order.{begins_with, backwards, text_key, base_end, octet_order, domain_key}
 use Rattle.names_order.proofs.KeyLists.{then_then, cmp_less, cmp_greater}
 
 -- one more octet, where it is known whether it is a dot
@@ -33,15 +33,15 @@ with_octet_back : (b : Bool) (x : ℕ) (key : List ℕ) → slice_cmp nat_cmp (w
 with_octet_back true x key = refl
 with_octet_back false x key = refl
 
-pub some_less : (xs : List ℕ) (e : Bool) → slice_cmp nat_cmp [] (text_key xs (end_of e)) ≡ Less
+pub some_less : (xs : List ℕ) (e : Bool) → slice_cmp nat_cmp [] (text_key xs (base_end e)) ≡ Less
 some_less [] true = refl
 some_less [] false = refl
-some_less (x ∷ xs) e = with_octet_some (is_dot x) x (text_key xs (end_of e))
+some_less (x ∷ xs) e = with_octet_some (is_dot x) x (text_key xs (base_end e))
 
-pub some_greater : (xs : List ℕ) (e : Bool) → slice_cmp nat_cmp (text_key xs (end_of e)) [] ≡ Greater
+pub some_greater : (xs : List ℕ) (e : Bool) → slice_cmp nat_cmp (text_key xs (base_end e)) [] ≡ Greater
 some_greater [] true = refl
 some_greater [] false = refl
-some_greater (x ∷ xs) e = with_octet_back (is_dot x) x (text_key xs (end_of e))
+some_greater (x ∷ xs) e = with_octet_back (is_dot x) x (text_key xs (base_end e))
 
 -- how keys compare: by their octets, and then by their ends
 
@@ -52,32 +52,32 @@ octets_compare true false x y ks ms o p e = rw (cmp_less 0 (y + 2) (omega arith)
 octets_compare false true x y ks ms o p e = rw (cmp_greater (x + 2) 0 (omega arith)) refl
 octets_compare false false x y ks ms o p e = ap (ordering_then (nat_cmp (x + 2) (y + 2))) e ∙ then_then (nat_cmp (x + 2) (y + 2)) o p
 
-end_first : (d b : Bool) (y : ℕ) (ms : List ℕ) → slice_cmp nat_cmp [] ms ≡ Less → slice_cmp nat_cmp (end_of d) (with_octet b y ms) ≡ Less
+end_first : (d b : Bool) (y : ℕ) (ms : List ℕ) → slice_cmp nat_cmp [] ms ≡ Less → slice_cmp nat_cmp (base_end d) (with_octet b y ms) ≡ Less
 end_first true true y ms e = e
 end_first false true y ms e = refl
 end_first true false y ms e = rw (cmp_less 0 (y + 2) (omega arith)) refl
 end_first false false y ms e = rw (cmp_less 0 (y + 2) (omega arith)) refl
 
-end_last : (b e : Bool) (x : ℕ) (ks : List ℕ) → slice_cmp nat_cmp ks [] ≡ Greater → slice_cmp nat_cmp (with_octet b x ks) (end_of e) ≡ Greater
+end_last : (b e : Bool) (x : ℕ) (ks : List ℕ) → slice_cmp nat_cmp ks [] ≡ Greater → slice_cmp nat_cmp (with_octet b x ks) (base_end e) ≡ Greater
 end_last true true x ks h = h
 end_last true false x ks h = refl
 end_last false true x ks h = rw (cmp_greater (x + 2) 0 (omega arith)) refl
 end_last false false x ks h = rw (cmp_greater (x + 2) 0 (omega arith)) refl
 
 pub keys_compare : (xs ys : List ℕ) (d e : Bool)
-    → slice_cmp nat_cmp (text_key (map to_ascii_lowercase xs) (end_of d)) (text_key (map to_ascii_lowercase ys) (end_of e))
-    ≡ ordering_then (slice_cmp octet_order xs ys) (slice_cmp nat_cmp (end_of d) (end_of e))
+    → slice_cmp nat_cmp (text_key (map to_ascii_lowercase xs) (base_end d)) (text_key (map to_ascii_lowercase ys) (base_end e))
+    ≡ ordering_then (slice_cmp octet_order xs ys) (slice_cmp nat_cmp (base_end d) (base_end e))
 keys_compare [] [] d e = refl
 keys_compare [] (y ∷ ys) d e =
-    end_first d (is_dot (to_ascii_lowercase y)) (to_ascii_lowercase y) (text_key (map to_ascii_lowercase ys) (end_of e)) (some_less (map to_ascii_lowercase ys) e)
+    end_first d (is_dot (to_ascii_lowercase y)) (to_ascii_lowercase y) (text_key (map to_ascii_lowercase ys) (base_end e)) (some_less (map to_ascii_lowercase ys) e)
 keys_compare (x ∷ xs) [] d e =
-    end_last (is_dot (to_ascii_lowercase x)) e (to_ascii_lowercase x) (text_key (map to_ascii_lowercase xs) (end_of d)) (some_greater (map to_ascii_lowercase xs) d)
+    end_last (is_dot (to_ascii_lowercase x)) e (to_ascii_lowercase x) (text_key (map to_ascii_lowercase xs) (base_end d)) (some_greater (map to_ascii_lowercase xs) d)
 keys_compare (x ∷ xs) (y ∷ ys) d e =
     octets_compare (is_dot (to_ascii_lowercase x)) (is_dot (to_ascii_lowercase y)) (to_ascii_lowercase x) (to_ascii_lowercase y)
-    (text_key (map to_ascii_lowercase xs) (end_of d)) (text_key (map to_ascii_lowercase ys) (end_of e)) (slice_cmp octet_order xs ys) (slice_cmp nat_cmp (end_of d) (end_of e))
+    (text_key (map to_ascii_lowercase xs) (base_end d)) (text_key (map to_ascii_lowercase ys) (base_end e)) (slice_cmp octet_order xs ys) (slice_cmp nat_cmp (base_end d) (base_end e))
     (keys_compare xs ys d e)
 
-ends_compare : (d e : Bool) → bool_cmp d e ≡ slice_cmp nat_cmp (end_of d) (end_of e)
+ends_compare : (d e : Bool) → bool_cmp d e ≡ slice_cmp nat_cmp (base_end d) (base_end e)
 ends_compare true true = refl
 ends_compare true false = refl
 ends_compare false true = refl
@@ -92,12 +92,12 @@ map-reverse (x ∷ xs) =
     ∙ sym (reverse-cons (to_ascii_lowercase x) (map to_ascii_lowercase xs))))
 
 pub bases_compare : (one other : List ℕ) (d e : Bool) → ordering_then (slice_cmp octet_order (reverse one) (reverse other)) (bool_cmp d e)
-    ≡ slice_cmp nat_cmp (text_key (backwards one) (end_of d)) (text_key (backwards other) (end_of e))
+    ≡ slice_cmp nat_cmp (text_key (backwards one) (base_end d)) (text_key (backwards other) (base_end e))
 bases_compare one other d e =
     ap (ordering_then (slice_cmp octet_order (reverse one) (reverse other))) (ends_compare d e)
     ∙ (sym (keys_compare (reverse one) (reverse other) d e)
-    ∙ (ap (λ (l : List ℕ). slice_cmp nat_cmp (text_key l (end_of d)) (text_key (map to_ascii_lowercase (reverse other)) (end_of e))) (map-reverse one)
-    ∙ ap (λ (l : List ℕ). slice_cmp nat_cmp (text_key (backwards one) (end_of d)) (text_key l (end_of e))) (map-reverse other)))
+    ∙ (ap (λ (l : List ℕ). slice_cmp nat_cmp (text_key l (base_end d)) (text_key (map to_ascii_lowercase (reverse other)) (base_end e))) (map-reverse one)
+    ∙ ap (λ (l : List ℕ). slice_cmp nat_cmp (text_key (backwards one) (base_end d)) (text_key l (base_end e))) (map-reverse other)))
 
 -- which begin with which: the octets do, up to a dot or to the end
 
@@ -120,13 +120,13 @@ octets_begin false false x y ks ms p q =
     let same : nat_eq (y + 2) (x + 2) ≡ nat_eq y x = grind (arith, nat_tests) in
     ap (λ t. t && begins_with ks ms) same
 
-end_begins : (b e : Bool) (x : ℕ) (ks : List ℕ) → begins_with (with_octet b x ks) (end_of e) ≡ b
+end_begins : (b e : Bool) (x : ℕ) (ks : List ℕ) → begins_with (with_octet b x ks) (base_end e) ≡ b
 end_begins true true x ks = refl
 end_begins true false x ks = refl
 end_begins false true x ks = rw (ne_eqb 0 (x + 2) (λ e. omega arith)) refl
 end_begins false false x ks = rw (ne_eqb 0 (x + 2) (λ e. omega arith)) refl
 
-begins_end : (d b : Bool) (y : ℕ) (ms : List ℕ) → begins_with [] ms ≡ false → begins_with (end_of d) (with_octet b y ms) ≡ false
+begins_end : (d b : Bool) (y : ℕ) (ms : List ℕ) → begins_with [] ms ≡ false → begins_with (base_end d) (with_octet b y ms) ≡ false
 begins_end true true y ms h = h
 begins_end false true y ms h = refl
 begins_end true false y ms h = rw (ne_eqb (y + 2) 0 (λ e. omega arith)) refl
@@ -136,17 +136,17 @@ with_octet_begins : (b : Bool) (y : ℕ) (ms : List ℕ) → begins_with [] (wit
 with_octet_begins true y ms = refl
 with_octet_begins false y ms = refl
 
-pub none_begins : (ys : List ℕ) (e : Bool) → begins_with [] (text_key ys (end_of e)) ≡ false
+pub none_begins : (ys : List ℕ) (e : Bool) → begins_with [] (text_key ys (base_end e)) ≡ false
 none_begins [] true = refl
 none_begins [] false = refl
-none_begins (y ∷ ys) e = with_octet_begins (is_dot y) y (text_key ys (end_of e))
+none_begins (y ∷ ys) e = with_octet_begins (is_dot y) y (text_key ys (base_end e))
 
-pub keys_begin : (xs ys : List ℕ) (d e : Bool) → begins_with (text_key xs (end_of d)) (text_key ys (end_of e)) ≡ goes_on (begins_with (end_of d) (end_of e)) xs ys
+pub keys_begin : (xs ys : List ℕ) (d e : Bool) → begins_with (text_key xs (base_end d)) (text_key ys (base_end e)) ≡ goes_on (begins_with (base_end d) (base_end e)) xs ys
 keys_begin [] [] d e = refl
-keys_begin (x ∷ xs) [] d e = end_begins (is_dot x) e x (text_key xs (end_of d))
-keys_begin [] (y ∷ ys) d e = begins_end d (is_dot y) y (text_key ys (end_of e)) (none_begins ys e)
+keys_begin (x ∷ xs) [] d e = end_begins (is_dot x) e x (text_key xs (base_end d))
+keys_begin [] (y ∷ ys) d e = begins_end d (is_dot y) y (text_key ys (base_end e)) (none_begins ys e)
 keys_begin (x ∷ xs) (y ∷ ys) d e =
-    octets_begin (is_dot x) (is_dot y) x y (text_key xs (end_of d)) (text_key ys (end_of e)) refl refl
+    octets_begin (is_dot x) (is_dot y) x y (text_key xs (base_end d)) (text_key ys (base_end e)) refl refl
     ∙ ap (λ t. (y == x) && t) (keys_begin xs ys d e)
 
 -- the same as a relation

@@ -47,8 +47,8 @@ abbrev pub lies_in_other : Subtree → Subtree → Bool
 lies_in_other s t = is_base_inside (subtree_base s) (subtree_base t)
 
 -- of subtrees in order, those that do not lie in the last one that is kept
-abbrev pub outermost : List Subtree → List Subtree
-outermost list = dedup lies_in_other list
+abbrev pub outermost_subtrees : List Subtree → List Subtree
+outermost_subtrees list = dedup lies_in_other list
 
 -- those that have an order
 abbrev pub ordered : List Subtree → List Subtree
@@ -84,20 +84,20 @@ abbrev pub directory_keys : List Subtree → List (List ℕ)
 directory_keys [] = []
 directory_keys (s ∷ list) = cons_option (directory_key (subtree_base s)) (directory_keys list)
 
-abbrev pub octets_in : Vec ℕ → List ℕ
-octets_in key = key.items
+abbrev pub key_octets : Vec ℕ → List ℕ
+key_octets key = key.items
 
 -- the octets begin with one of the keys
 abbrev pub begins_with_one : List (Vec ℕ) → List ℕ → Bool
-begins_with_one keys octets = list_any (λ key. begins_with octets (octets_in key)) keys
+begins_with_one keys octets = list_any (λ key. begins_with octets (key_octets key)) keys
 
 abbrev pub is_key_before : Vec ℕ → Vec ℕ → Bool
-is_key_before one other = is_lt (slice_cmp nat_cmp (octets_in one) (octets_in other))
+is_key_before one other = is_lt (slice_cmp nat_cmp (key_octets one) (key_octets other))
 
 -- keys that ascend, of which none begins with the one before it
 pub record AreSearchable (keys : List (Vec ℕ)) : Type 0 where
   pub sorted : IsSortedBy is_key_before keys
-  pub apart : (k : ℕ) (d : Vec ℕ) → k + 1 < length keys → begins_with (octets_in (slice_index_or keys (k + 1) d)) (octets_in (slice_index_or keys k d)) ≡ false
+  pub apart : (k : ℕ) (d : Vec ℕ) → k + 1 < length keys → begins_with (key_octets (slice_index_or keys (k + 1) d)) (key_octets (slice_index_or keys k d)) ≡ false
 
 -- some of the keys, with which the same octets begin as with all of them
 pub record AreOutermost (all keys : List (Vec ℕ)) : Type 0 where
@@ -111,8 +111,8 @@ pub record AreKeysOf (list : List Subtree) (keys : List (Vec ℕ)) : Type 0 wher
       → begins_with_one keys octets ≡ is_in_one list (subtree_base s)
 
 -- the octets of a directory name's key begin with one of the keys just if the name lies in one of the subtrees
-abbrev pub Decide : List (Vec ℕ) → List SubtreeBase → Type 0
-Decide keys bases = (s : Subtree) (octets : List ℕ) → directory_key (subtree_base s) ≡ Some octets
+abbrev pub KeysDecide : List (Vec ℕ) → List SubtreeBase → Type 0
+KeysDecide keys bases = (s : Subtree) (octets : List ℕ) → directory_key (subtree_base s) ≡ Some octets
     → begins_with_one keys octets ≡ lies_in_one bases (subtree_base s)
 
 -- what has no order lies in one of the list just if it lies in one of the subtrees

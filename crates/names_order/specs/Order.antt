@@ -35,14 +35,14 @@ abbrev pub octet_order : ℕ → ℕ → Ordering
 octet_order a b = nat_cmp (octet_rank a) (octet_rank b)
 
 -- the end of a base: names below it go on by a dot, names within it end there too
-abbrev pub end_of : Bool → List ℕ
-end_of true = 0 ∷ 1 ∷ []
-end_of false = 0 ∷ []
+abbrev pub base_end : Bool → List ℕ
+base_end true = 0 ∷ 1 ∷ []
+base_end false = 0 ∷ []
 
 abbrev pub domain_key : DomainNames → List ℕ
 domain_key every_name = []
-domain_key (names_within base) = text_key (backwards base) (end_of false)
-domain_key (names_below base) = text_key (backwards base) (end_of true)
+domain_key (names_within base) = text_key (backwards base) (base_end false)
+domain_key (names_below base) = text_key (backwards base) (base_end true)
 
 -- a range: how many octets an address has, and the bits
 abbrev pub prefix_bits : AddressRange → List ℕ

@@ -6,7 +6,7 @@ ghost use Rattle.std.specs.Ordering.{nat_cmp};
 ghost use Rattle.names.specs.Ip.{bit};
 ghost use Rattle.names.specs.Bases.{domain_names, address_range};
 ghost use Rattle.names.specs.GeneralView.{subtree_base};
-ghost use Rattle.names_order.specs.Order.{InsideBegins, backwards, text_key, end_of, base_order, domain_key, prefix_bits, range_key, octet_order, octet_rank, form_rank};
+ghost use Rattle.names_order.specs.Order.{InsideBegins, backwards, text_key, base_end, base_order, domain_key, prefix_bits, range_key, octet_order, octet_rank, form_rank};
 
 use names::{Domain, IpRange, Subtree};
 use std::cmp::Ordering;
@@ -78,7 +78,7 @@ fn compare_texts(left: &[u8], right: &[u8]) -> Ordering
 
 /// Compares a base, whose own name it holds or not, with a domain.
 fn compare_base(one: &[u8], below: bool, right: &Domain<'_>) -> Ordering
-    ensures { result ≡ slice_cmp nat_cmp (text_key (backwards one.now) (end_of below))
+    ensures { result ≡ slice_cmp nat_cmp (text_key (backwards one.now) (base_end below))
         (domain_key (domain_names right.now)) }
 {
     match right {

@@ -4,7 +4,7 @@ ghost use Rattle.std.specs.Prelude.{◌≡◌, ◌++◌, ◌<◌, ◌≤◌, len
 ghost use Rattle.std.specs.List.Sorted.{IsPermutation, IsSortedBy};
 ghost use Rattle.names.specs.GeneralView.{general_name, subtree_base};
 ghost use Rattle.names_order.specs.Order.{begins_with, is_ordered};
-ghost use Rattle.names_order.specs.Index.{HasSameMembers, lies_in_one, holds_name, is_in_one, one_covers, lies_within, stands_before, lies_in, outermost, ordered, unordered, IsApart, HasNoLonger, prefix_in, directory_key, directory_keys, octets_in, begins_with_one, AreSearchable, AreOutermost, AreKeysIfMany, Decide, AreUnorderedOf, all_of};
+ghost use Rattle.names_order.specs.Index.{HasSameMembers, lies_in_one, holds_name, is_in_one, one_covers, lies_within, stands_before, lies_in, outermost_subtrees, ordered, unordered, IsApart, HasNoLonger, prefix_in, directory_key, directory_keys, key_octets, begins_with_one, AreSearchable, AreOutermost, AreKeysIfMany, KeysDecide, AreUnorderedOf, all_of};
 
 use crate::comparison::order;
 use names::{Domain, General, IpRange, Subtree, coverage_laws};
@@ -100,7 +100,7 @@ fn select_outermost<'a>(
     alloc: Global,
     sorted: &[Subtree<'a>],
 ) -> Result<Vec<Subtree<'a>>, AllocError>
-    ensures { IfOk result (λ tops. tops.items ≡ outermost (ordered sorted.now)) }
+    ensures { IfOk result (λ tops. tops.items ≡ outermost_subtrees (ordered sorted.now)) }
 {
     let mut tops = select_ordered(alloc, sorted)?;
     tops.dedup_by(|base, last| is_inside(base, last));
@@ -120,7 +120,7 @@ fn select_unordered<'a>(alloc: Global, list: &[Subtree<'a>]) -> Result<Vec<Subtr
 /// The key of a subtree of directory names.
 fn key_of(alloc: Global, base: &Subtree<'_>) -> Result<Option<Vec<u8>>, AllocError>
     ensures { IfOk result (λ key.
-        option_map octets_in key ≡ directory_key (subtree_base base.now)) }
+        option_map key_octets key ≡ directory_key (subtree_base base.now)) }
 {
     match base {
         Subtree::Directory(name) => Ok(Some(name.rdns_key(alloc)?)),
@@ -130,7 +130,7 @@ fn key_of(alloc: Global, base: &Subtree<'_>) -> Result<Option<Vec<u8>>, AllocErr
 
 /// The keys of those that are subtrees of directory names.
 fn keys_of(alloc: Global, list: &[Subtree<'_>]) -> Result<Vec<Vec<u8>>, AllocError>
-    ensures { IfOk result (λ keys. map octets_in keys.items ≡ directory_keys list.now) }
+    ensures { IfOk result (λ keys. map key_octets keys.items ≡ directory_keys list.now) }
 {
     let mut keys = Vec::new(alloc);
     for base in list {
@@ -171,7 +171,7 @@ fn select_keys(alloc: Global, bases: &[Subtree<'_>]) -> Result<Vec<Vec<u8>>, All
 
 /// The keys once more.
 fn copies_of(alloc: Global, keys: &[Vec<u8>]) -> Result<Vec<Vec<u8>>, AllocError>
-    ensures { IfOk result (λ copies. map octets_in copies.items ≡ map octets_in keys.now) }
+    ensures { IfOk result (λ copies. map key_octets copies.items ≡ map key_octets keys.now) }
 {
     let mut copies = Vec::new(alloc);
     for key in keys {
@@ -311,7 +311,7 @@ impl<'a> Index<'a> {
 impl<'a> Index<'a> {
     /// Keys with which the keys of names begin just if the names lie in one of the subtrees of directory names.
     fn keys(&self, alloc: Global) -> Result<Vec<Vec<u8>>, AllocError>
-        ensures { IfOk result (λ keys. Decide keys.items self.now) }
+        ensures { IfOk result (λ keys. KeysDecide keys.items self.now) }
     {
         if self.all.len() <= SHORT {
             keys_of(alloc, &self.all)
@@ -415,7 +415,7 @@ fn subtrees_of<'a>(alloc: Global, indexes: &[Index<'a>]) -> Result<Vec<Subtree<'
 
 /// Keys with which the keys of names begin just if the names lie in one of the subtrees of directory names of all.
 fn keys_of_all(alloc: Global, indexes: &[Index<'_>]) -> Result<Vec<Vec<u8>>, AllocError>
-    ensures { IfOk result (λ keys. Decide keys.items (all_of indexes.now)) }
+    ensures { IfOk result (λ keys. KeysDecide keys.items (all_of indexes.now)) }
 {
     let mut keys = Vec::new(alloc);
     for index in indexes {

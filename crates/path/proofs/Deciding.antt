@@ -16,7 +16,7 @@ use Rattle.cert.specs.declared.certificate.Certificate as code
 use Rattle.path_conditions.specs.declared.form_set.FormSet.{FormSet}
 use Rattle.path.specs.declared.reason.Reason.{Reason}
 use Rattle.path.specs.declared.reason.Reason.TheVariants.{Repeated, Signature, NotYet, Expired, Issuer, NotPermitted, Excluded, ConstraintForm, NotCa, PathLength, KeyCertSign, Policy, CriticalUnknown, Purpose, Empty, TooLong}
-use Rattle.path.specs.Query.{Query, Accepts, count, certificate_at}
+use Rattle.path.specs.Query.{Query, Accepts, count, certificate_numbered}
 use Rattle.path_conditions.specs.NamesOf.{names_of, BearsForm}
 use Rattle.path.specs.Reason.{reason_rank}
 use Rattle.path.specs.Conditions.{IsNotRepeated, NamesArePermitted, NamesAreNotExcluded, ConstraintsAreProcessed, IsWithinPathLength, MeetsCondition, MeetsConditions}
@@ -61,27 +61,27 @@ pub same_texts : (xs ys : List ℕ) → (bytes_eq xs ys ≡ true) ↔ (xs ≡ ys
 same_texts xs ys = bytes_eq-Decides xs ys
 
 module _ (q : Query) where
-  earlier_is : (k m : ℕ) (c : Certificate) → k ≤ count q → m < k → get_or (take k q.certificates) m c ≡ certificate_at q (m + 1)
+  earlier_is : (k m : ℕ) (c : Certificate) → k ≤ count q → m < k → get_or (take k q.certificates) m c ≡ certificate_numbered q (m + 1)
   earlier_is k m c le h =
       get_or-take k q.certificates m c h ∙ (get_or_default q.certificates m c q.anchor (omega arith) ∙ sym (at_more q m))
 
-  earlier_to : (k : ℕ) (p : Certificate → Bool) → k ≤ count q → list_any p (take k q.certificates) ≡ true → (i : ℕ) × (1 ≤ i) × (i < k + 1) × (p (certificate_at q i) ≡ true)
+  earlier_to : (k : ℕ) (p : Certificate → Bool) → k ≤ count q → list_any p (take k q.certificates) ≡ true → (i : ℕ) × (1 ≤ i) × (i < k + 1) × (p (certificate_numbered q i) ≡ true)
   earlier_to k p le h =
       let a = Any-from_list_any p (take k q.certificates) h in
       let len = length-take k q.certificates in
       let low : a.0 < k = omega (arith, a.2) in
       (a.0 + 1, omega arith, omega arith, subst (λ c. p c ≡ true) (sym a.3 ∙ earlier_is k a.0 a.1 le low) a.4)
 
-  earlier_from : (k : ℕ) (p : Certificate → Bool) → k ≤ count q → (i : ℕ) → 1 ≤ i → i < k + 1 → p (certificate_at q i) ≡ true → list_any p (take k q.certificates) ≡ true
+  earlier_from : (k : ℕ) (p : Certificate → Bool) → k ≤ count q → (i : ℕ) → 1 ≤ i → i < k + 1 → p (certificate_numbered q i) ≡ true → list_any p (take k q.certificates) ≡ true
   earlier_from k p le i l h t =
       let len = length-take k q.certificates in
       let low : i - 1 < length (take k q.certificates) = omega arith in
       let back : (i - 1) + 1 ≡ i = omega arith in
       list_any_at p (take k q.certificates) (i - 1) q.anchor low
-      (subst (λ c. p c ≡ true) (sym (earlier_is k (i - 1) q.anchor le (omega arith) ∙ ap (λ j. certificate_at q j) back)) t)
+      (subst (λ c. p c ≡ true) (sym (earlier_is k (i - 1) q.anchor le (omega arith) ∙ ap (λ j. certificate_numbered q j) back)) t)
 
   -- the octets of certificate k + 1 are not those of an earlier one
-  pub repeated_says : (k : ℕ) (octets : List ℕ) → k < count q → octets ≡ (certificate_at q (k + 1)).octets
+  pub repeated_says : (k : ℕ) (octets : List ℕ) → k < count q → octets ≡ (certificate_numbered q (k + 1)).octets
       → (list_any (λ e. bytes_eq e.octets octets) (take k q.certificates) ≡ true → ⊥) ↔ IsNotRepeated q (k + 1)
   repeated_says k octets below here =
       let test : Certificate → Bool = λ e. bytes_eq e.octets octets in (
@@ -111,10 +111,10 @@ module _ (laws : Laws) (q : Query) (k : ℕ) (issuer : NameContents) (key : List
   permits_unless (ip_address n) f = (permits_says (ip_address n) tt).1 (f tt)
   permits_unless (other_name m n) f = refl
 
-  pub names_permitted : (c : Certificate) → c ≡ certificate_at q (k + 1)
+  pub names_permitted : (c : Certificate) → c ≡ certificate_numbered q (k + 1)
       → (list_all (λ x. permits_name held x) (names_of c) ≡ true) ↔ NamesArePermitted q (k + 1)
   names_permitted c here =
-      let names = names_of (certificate_at q (k + 1)) in
+      let names = names_of (certificate_numbered q (k + 1)) in
       let all : (list_all (λ x. permits_name held x) names ≡ true) ↔ NamesArePermitted q (k + 1) = (
         λ t i low high x among p speaks.
             let pass = AllPass-from_list_all (λ y. permits_name held y) names t in
@@ -124,10 +124,10 @@ module _ (laws : Laws) (q : Query) (k : ℕ) (issuer : NameContents) (key : List
       ) in
       subst (λ e. (list_all (λ x. permits_name held x) (names_of e) ≡ true) ↔ NamesArePermitted q (k + 1)) (sym here) all
 
-  pub names_not_excluded : (c : Certificate) → c ≡ certificate_at q (k + 1)
+  pub names_not_excluded : (c : Certificate) → c ≡ certificate_numbered q (k + 1)
       → (list_any (λ x. is_in_one_of held.excluded x) (names_of c) ≡ true → ⊥) ↔ NamesAreNotExcluded q (k + 1)
   names_not_excluded c here =
-      let names = names_of (certificate_at q (k + 1)) in
+      let names = names_of (certificate_numbered q (k + 1)) in
       let none : (list_any (λ x. is_in_one_of held.excluded x) names ≡ true → ⊥) ↔ NamesAreNotExcluded q (k + 1) = (
         λ no i low high x among ex.
             no (list_any-from_Any (λ y. is_in_one_of held.excluded y) names
@@ -139,7 +139,7 @@ module _ (laws : Laws) (q : Query) (k : ℕ) (issuer : NameContents) (key : List
       ) in
       subst (λ e. (list_any (λ x. is_in_one_of held.excluded x) (names_of e) ≡ true → ⊥) ↔ NamesAreNotExcluded q (k + 1)) (sym here) none
 
-  pub constraints_processed : (c : Certificate) → c ≡ certificate_at q (k + 1)
+  pub constraints_processed : (c : Certificate) → c ≡ certificate_numbered q (k + 1)
       → (((number : ℕ) × (has_number forms number ≡ true) × BearsForm c number) → ⊥) ↔ ConstraintsAreProcessed q (k + 1)
   constraints_processed c here = (
     λ none i low high number bears constrains.
@@ -149,7 +149,7 @@ module _ (laws : Laws) (q : Query) (k : ℕ) (issuer : NameContents) (key : List
         ok e.0 e.1 (omega (arith, e.2)) found.0 (subst (λ e. BearsForm e found.0) here found.2) e.3,
   )
 
-  pub path_length_says : k < count q → (c : Certificate) → c ≡ certificate_at q (k + 1) → (is_self_issued c ≡ false → room ≡ Some 0 → ⊥) ↔ IsWithinPathLength q (k + 1)
+  pub path_length_says : k < count q → (c : Certificate) → c ≡ certificate_numbered q (k + 1) → (is_self_issued c ≡ false → room ≡ Some 0 → ⊥) ↔ IsWithinPathLength q (k + 1)
   path_length_says below c here = (
     λ more. room_allows q k room below (is.room_is below) (λ o. more (subst (λ d. is_self_issued d ≡ false) (sym here) o)),
     λ ok o. room_left q k room below (is.room_is below) ok (subst (λ d. is_self_issued d ≡ false) here o),
@@ -264,10 +264,10 @@ module _ {V : Type 0} {v w : Progress V} (e : v ≡ w) where
   pub below_of : w.done < count w.query → v.done < count v.query
   below_of h = subst (λ u. u.done < count u.query) (sym e) h
 
-  pub here_of : (c : Certificate) → c ≡ certificate_at w.query (w.done + 1) → c ≡ certificate_at v.query (v.done + 1)
-  here_of c h = subst (λ u. c ≡ certificate_at u.query (u.done + 1)) (sym e) h
+  pub here_of : (c : Certificate) → c ≡ certificate_numbered w.query (w.done + 1) → c ≡ certificate_numbered v.query (v.done + 1)
+  here_of c h = subst (λ u. c ≡ certificate_numbered u.query (u.done + 1)) (sym e) h
 
-  module _ (issuer : NameContents) (key : List ℕ) (room : Option ℕ) (forms : FormSet) (is : Represents v.query v.done issuer key room v.constraints forms) (c : Certificate) (here : c ≡ certificate_at w.query (w.done + 1)) where
+  module _ (issuer : NameContents) (key : List ℕ) (room : Option ℕ) (forms : FormSet) (is : Represents v.query v.done issuer key room v.constraints forms) (c : Certificate) (here : c ≡ certificate_numbered w.query (w.done + 1)) where
     pub permitted_at : (b : Bool) → b ≡ list_all (λ x. permits_name v.constraints x) (names_of c) → (b ≡ true) ↔ NamesArePermitted w.query (w.done + 1)
     permitted_at b says =
         let f = subst (λ u. (list_all (λ x. permits_name v.constraints x) (names_of c) ≡ true) ↔ NamesArePermitted u.query (u.done + 1)) e
@@ -294,7 +294,7 @@ module _ {V : Type 0} {v w : Progress V} (e : v ≡ w) where
         (path_length_says laws_of_names v.query v.done issuer key room v.constraints forms is (below_of below) c (here_of c here)) in
         (λ t. f.0 (λ o. says.0 t (same ∙ o)), λ ok. says.1 (λ o. f.1 ok (sym same ∙ o)))
 
-  pub repeated_at : (path : List code.Certificate) → v.query.certificates ≡ map seen_certificate path → w.done < count w.query → (c : code.Certificate) → seen_certificate c ≡ certificate_at w.query (w.done + 1)
+  pub repeated_at : (path : List code.Certificate) → v.query.certificates ≡ map seen_certificate path → w.done < count w.query → (c : code.Certificate) → seen_certificate c ≡ certificate_numbered w.query (w.done + 1)
       → (xs : List code.Certificate) → xs ≡ take v.done path → (b : Bool) → b ≡ list_any (λ d. bytes_eq d.octets.now c.octets.now) xs → (not b ≡ true) ↔ IsNotRepeated w.query (w.done + 1)
   repeated_at path all below c here xs front b says =
       let test : Certificate → Bool = λ d. bytes_eq d.octets c.octets.now in

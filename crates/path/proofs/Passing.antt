@@ -12,13 +12,13 @@ use Rattle.names.specs.declared.general.Form.TheVariants as F
 use Rattle.cert.specs.Certificate.{Certificate, is_self_issued, seen_certificate}
 use Rattle.cert.specs.declared.certificate.Certificate as code
 use Rattle.path_conditions.specs.declared.form_set.FormSet.{FormSet}
-use Rattle.path.specs.Query.{Query, count, certificate_at}
+use Rattle.path.specs.Query.{Query, count, certificate_numbered}
 use Rattle.path_conditions.specs.NamesOf.{IsInOneOf, AreAbout, Permits, Excludes, Constrains}
 use Rattle.path.specs.Conditions.{constraints_at, IsWithinPathLength}
 use Rattle.path_conditions.specs.CertificateConditions.{path_length_of}
 use Rattle.path.specs.Validity.{IsServed}
-use Rattle.path_conditions.specs.Narrowing.{is_in_one_of, are_about, is_processed_base, of_form, narrowed, joined, change_of, changed}
-use Rattle.path_conditions.specs.Constraints.{Constraints, size_of, subtrees_in, narrowed_by, has_number}
+use Rattle.path_conditions.specs.Narrowing.{is_in_one_of, are_about, is_processed_base, of_form, narrowed, narrowed_with, change_of, changed}
+use Rattle.path_conditions.specs.Constraints.{Constraints, size_of, subtree_count, narrowed_by, has_number}
 use Rattle.path.specs.State.{IsPermitted, IsExcluded, AdmitsExactly, Progress, subtrees_of, subtrees_up_to}
 use Rattle.path.specs.Keeping.{spent, lesser, Represents, ListIs, IsConstrained}
 use Rattle.path_conditions.proofs.Laws.{list_any-filter, list_any-weaker, length-filter-le, Laws, laws_of_names, in_one, about, narrowed_sound, narrowed_complete, of_form_is, of_form_from, length-narrowed, processed_test, three_forms}
@@ -79,7 +79,7 @@ module _ (laws : Laws) where
               ((in_one laws carried x).1 (permitted_last q k x p (about_from carried x form e loud)))),
         )
 
-    list_joins : (list : Option (List SubtreeBase)) → ListIs q k form list → are_about (constraints_at q (k + 1)).permitted form ≡ true → ListIs q (k + 1) form (Some (joined form list (constraints_at q (k + 1)).permitted))
+    list_joins : (list : Option (List SubtreeBase)) → ListIs q k form list → are_about (constraints_at q (k + 1)).permitted form ≡ true → ListIs q (k + 1) form (Some (narrowed_with form list (constraints_at q (k + 1)).permitted))
     list_joins None is loud = list_begins is loud
     list_joins (Some held) is loud = list_narrows held is loud
 
@@ -153,7 +153,7 @@ module _ (laws : Laws) where
 
 -- how many subtrees there are
 
-size_joined : (form : Form) (list : Option (List SubtreeBase)) (carried : List SubtreeBase) → length (joined form list carried) ≤ size_of list + length (of_form form carried)
+size_joined : (form : Form) (list : Option (List SubtreeBase)) (carried : List SubtreeBase) → length (narrowed_with form list carried) ≤ size_of list + length (of_form form carried)
 size_joined form None carried = omega arith
 size_joined form (Some held) carried = length-narrowed form held carried
 
@@ -164,10 +164,10 @@ size_more form list carried =
       | inr h ↦ rw h (omega arith)
     ]
 
-carried_more : (q : Query) (k : ℕ) → k < count q → subtrees_up_to q (k + 1) ≡ subtrees_up_to q k + subtrees_of (certificate_at q (k + 1))
+carried_more : (q : Query) (k : ℕ) → k < count q → subtrees_up_to q (k + 1) ≡ subtrees_up_to q k + subtrees_of (certificate_numbered q (k + 1))
 carried_more q k h = rw at_more (sum_by_more subtrees_of q.certificates k q.anchor h)
 
-bound_more : Laws → (q : Query) (k : ℕ) → k < count q → (held : Constraints) → subtrees_in held ≤ subtrees_up_to q k → subtrees_in (narrowed_by (constraints_at q (k + 1)) held) ≤ subtrees_up_to q (k + 1)
+bound_more : Laws → (q : Query) (k : ℕ) → k < count q → (held : Constraints) → subtree_count held ≤ subtrees_up_to q k → subtree_count (narrowed_by (constraints_at q (k + 1)) held) ≤ subtrees_up_to q (k + 1)
 bound_more laws q k below held before =
     let here = constraints_at q (k + 1) in
     let a = size_more F.Directory held.directory here.permitted in
@@ -183,8 +183,8 @@ bound_more laws q k below held before =
 pub keeps_more : Laws → (q : Query) (k : ℕ) (issuer : NameContents) (key : List ℕ) (room : Option ℕ) (held : Constraints) (forms : FormSet) → Represents q k issuer key room held forms
     → k < count q → count q ≤ 128 → (k + 1 < count q → IsWithinPathLength q (k + 1))
     → (forms' : FormSet) → ((number : ℕ) → has_number forms' number ≡ ((has_number forms number || are_about (constraints_at q (k + 1)).permitted (F.Other number)) || are_about (constraints_at q (k + 1)).excluded (F.Other number)))
-    → Represents q (k + 1) (certificate_at q (k + 1)).subject (certificate_at q (k + 1)).key_info.value.octets
-    (lesser (spent room (is_self_issued (certificate_at q (k + 1)))) (path_length_of (certificate_at q (k + 1)))) (narrowed_by (constraints_at q (k + 1)) held) forms'
+    → Represents q (k + 1) (certificate_numbered q (k + 1)).subject (certificate_numbered q (k + 1)).key_info.value.octets
+    (lesser (spent room (is_self_issued (certificate_numbered q (k + 1)))) (path_length_of (certificate_numbered q (k + 1)))) (narrowed_by (constraints_at q (k + 1)) held) forms'
 keeps_more laws q k issuer key room held forms is below few allow forms' more =
     record {
       within = omega arith;
@@ -216,7 +216,7 @@ few_subtrees (c ∷ path) =
     omega (arith, carried.served, carried.permitted.ok.0, carried.excluded.ok.0)
 
 pub held_few : (q : Query) (k : ℕ) (issuer : NameContents) (key : List ℕ) (room : Option ℕ) (held : Constraints) (forms : FormSet) → Represents q k issuer key room held forms
-    → (path : List code.Certificate) → q.certificates ≡ map seen_certificate path → subtrees_in held ≤ 524288
+    → (path : List code.Certificate) → q.certificates ≡ map seen_certificate path → subtree_count held ≤ 524288
 held_few q k issuer key room held forms is path all =
     let some = few_subtrees (take k path) in
     let same : subtrees_up_to q k ≡ sum_by subtrees_of (map seen_certificate (take k path)) = ap (λ l. sum_by subtrees_of (take k l)) all ∙ ap (λ l. sum_by subtrees_of l) (take-map k path) in
@@ -228,7 +228,7 @@ held_few q k issuer key room held forms is path all =
 
 pub keeps_passed : {V : Type 0} {v w : Progress V} → v ≡ w → (issuer : NameContents) (key : List ℕ) (room : Option ℕ) (forms : FormSet) → Represents v.query v.done issuer key room v.constraints forms
     → w.done < count w.query → IsServed w.query → (w.done + 1 < count w.query → IsWithinPathLength w.query (w.done + 1))
-    → (c : Certificate) → c ≡ certificate_at w.query (w.done + 1)
+    → (c : Certificate) → c ≡ certificate_numbered w.query (w.done + 1)
     → (self : Bool) → self ≡ is_self_issued c → (limit room' : Option ℕ) → limit ≡ path_length_of c → room' ≡ lesser (spent room self) limit
     → (held' : Constraints) → held' ≡ narrowed_by c.extensions.name_constraints v.constraints
     → (forms' : FormSet) → ((number : ℕ) → has_number forms' number ≡ ((has_number forms number || are_about c.extensions.name_constraints.permitted (F.Other number)) || are_about c.extensions.name_constraints.excluded (F.Other number)))

@@ -10,13 +10,13 @@ use Rattle.cert.specs.Certificate.{Certificate, is_self_issued}
 use Rattle.cert.specs.NameConstraints.{NameConstraints}
 use Rattle.path.specs.declared.reason.Reason.{Reason}
 use Rattle.path.specs.declared.reason.Reason.TheVariants.{Repeated, Signature, NotYet, Expired, Issuer, NotPermitted, Excluded, ConstraintForm, NotCa, PathLength, KeyCertSign, Policy, CriticalUnknown, Purpose, Empty, TooLong}
-use Rattle.path.specs.Query.{Query, Accepts, count, certificate_at}
+use Rattle.path.specs.Query.{Query, Accepts, count, certificate_numbered}
 use Rattle.path_conditions.specs.NamesOf.{names_of, BearsForm, Permits, Excludes, Constrains}
 use Rattle.path_conditions.specs.CertificateConditions.{HasBegun, HasNotExpired, IsCa, path_length_of, MaySignCertificates, NeedsNoPolicyTree, CriticalExtensionsAreKnown, AllowsPurpose}
 
 -- no earlier certificate of the path has the same octets (a choice of the profile)
 abbrev pub IsNotRepeated : Query → ℕ → Type 0
-IsNotRepeated q j = (i : ℕ) → 1 ≤ i → i < j → (certificate_at q i).octets ≢ (certificate_at q j).octets
+IsNotRepeated q j = (i : ℕ) → 1 ≤ i → i < j → (certificate_numbered q i).octets ≢ (certificate_numbered q j).octets
 
 -- the signature is accepted under the key of the issuer (6.1.3 (a) (1))
 abbrev pub IsSignedByIssuer : Accepts → Certificate → List ℕ → Type 0
@@ -28,28 +28,28 @@ IsNamedByIssuer c name = NamesMatch c.issuer.rdns name.rdns
 
 -- the names of certificate j are checked: it is the last one, or not self-issued (6.1.3 (b) and (c))
 abbrev pub AreNamesChecked : Query → ℕ → Type 0
-AreNamesChecked q j = (j ≡ count q) ⊎ (is_self_issued (certificate_at q j) ≡ false)
+AreNamesChecked q j = (j ≡ count q) ⊎ (is_self_issued (certificate_numbered q j) ≡ false)
 
 -- the constraints of certificate i; the anchor has none
 abbrev pub constraints_at : Query → ℕ → NameConstraints
-constraints_at q i = (certificate_at q i).extensions.name_constraints
+constraints_at q i = (certificate_numbered q i).extensions.name_constraints
 
 -- each name of a processed form is permitted by each earlier certificate (6.1.3 (b))
 abbrev pub NamesArePermitted : Query → ℕ → Type 0
 NamesArePermitted q j =
-    (i : ℕ) → 1 ≤ i → i < j → (name : GeneralName) → Contains (names_of (certificate_at q j)) name →
+    (i : ℕ) → 1 ≤ i → i < j → (name : GeneralName) → Contains (names_of (certificate_numbered q j)) name →
     IsProcessed (form_of_general_name name) → Permits (constraints_at q i) name
 
 -- no earlier certificate excludes a name (6.1.3 (c))
 abbrev pub NamesAreNotExcluded : Query → ℕ → Type 0
 NamesAreNotExcluded q j =
-    (i : ℕ) → 1 ≤ i → i < j → (name : GeneralName) → Contains (names_of (certificate_at q j)) name →
+    (i : ℕ) → 1 ≤ i → i < j → (name : GeneralName) → Contains (names_of (certificate_numbered q j)) name →
     ¬ Excludes (constraints_at q i) name
 
 -- no earlier certificate constrains a form that is not processed and that a name has (4.2.1.10)
 abbrev pub ConstraintsAreProcessed : Query → ℕ → Type 0
 ConstraintsAreProcessed q j =
-    (i : ℕ) → 1 ≤ i → i < j → (number : ℕ) → BearsForm (certificate_at q j) number →
+    (i : ℕ) → 1 ≤ i → i < j → (number : ℕ) → BearsForm (certificate_numbered q j) number →
     ¬ Constrains (constraints_at q i) (F.Other number)
 
 -- how many of the certificates i + 1 to j are not self-issued
@@ -59,24 +59,24 @@ others_between q i j = count_by (λ c. not (is_self_issued c)) (drop i (take j q
 -- behind each certificate with a path length come no more that are not self-issued (6.1.4 (l) and (m))
 abbrev pub IsWithinPathLength : Query → ℕ → Type 0
 IsWithinPathLength q j =
-    (i most : ℕ) → 1 ≤ i → i < j → path_length_of (certificate_at q i) ≡ Some most → others_between q i j ≤ most
+    (i most : ℕ) → 1 ≤ i → i < j → path_length_of (certificate_numbered q i) ≡ Some most → others_between q i j ≤ most
 
 -- the condition whose breach is the reason, on certificate j
 abbrev pub MeetsCondition : Accepts → Query → ℕ → Reason → Type 0
 MeetsCondition accepts q j Repeated = IsNotRepeated q j
-MeetsCondition accepts q j Signature = IsSignedByIssuer accepts (certificate_at q j) (certificate_at q (j - 1)).key_info.value.octets
-MeetsCondition accepts q j NotYet = HasBegun (certificate_at q j) q.moment
-MeetsCondition accepts q j Expired = HasNotExpired (certificate_at q j) q.moment
-MeetsCondition accepts q j Issuer = IsNamedByIssuer (certificate_at q j) (certificate_at q (j - 1)).subject
+MeetsCondition accepts q j Signature = IsSignedByIssuer accepts (certificate_numbered q j) (certificate_numbered q (j - 1)).key_info.value.octets
+MeetsCondition accepts q j NotYet = HasBegun (certificate_numbered q j) q.moment
+MeetsCondition accepts q j Expired = HasNotExpired (certificate_numbered q j) q.moment
+MeetsCondition accepts q j Issuer = IsNamedByIssuer (certificate_numbered q j) (certificate_numbered q (j - 1)).subject
 MeetsCondition accepts q j NotPermitted = AreNamesChecked q j → NamesArePermitted q j
 MeetsCondition accepts q j Excluded = AreNamesChecked q j → NamesAreNotExcluded q j
 MeetsCondition accepts q j ConstraintForm = AreNamesChecked q j → ConstraintsAreProcessed q j
-MeetsCondition accepts q j NotCa = j < count q → IsCa (certificate_at q j)
+MeetsCondition accepts q j NotCa = j < count q → IsCa (certificate_numbered q j)
 MeetsCondition accepts q j PathLength = j < count q → IsWithinPathLength q j
-MeetsCondition accepts q j KeyCertSign = j < count q → MaySignCertificates (certificate_at q j)
-MeetsCondition accepts q j Policy = NeedsNoPolicyTree (certificate_at q j)
-MeetsCondition accepts q j CriticalUnknown = CriticalExtensionsAreKnown (certificate_at q j)
-MeetsCondition accepts q j Purpose = j ≡ count q → AllowsPurpose (certificate_at q j) q.purpose
+MeetsCondition accepts q j KeyCertSign = j < count q → MaySignCertificates (certificate_numbered q j)
+MeetsCondition accepts q j Policy = NeedsNoPolicyTree (certificate_numbered q j)
+MeetsCondition accepts q j CriticalUnknown = CriticalExtensionsAreKnown (certificate_numbered q j)
+MeetsCondition accepts q j Purpose = j ≡ count q → AllowsPurpose (certificate_numbered q j) q.purpose
 MeetsCondition accepts q j Empty = Unit {0}
 MeetsCondition accepts q j TooLong = Unit {0}
 

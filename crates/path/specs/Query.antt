@@ -17,5 +17,5 @@ abbrev pub count : Query → ℕ
 count q = length q.certificates
 
 -- the certificate with the number
-abbrev pub certificate_at : Query → ℕ → Certificate
-certificate_at q j = slice_index_or (q.anchor ∷ q.certificates) j q.anchor
+abbrev pub certificate_numbered : Query → ℕ → Certificate
+certificate_numbered q j = slice_index_or (q.anchor ∷ q.certificates) j q.anchor

@@ -6,10 +6,10 @@ ghost use Rattle.std.specs.Option.{option_copied};
 ghost use Rattle.std.specs.Str.{bytes_eq};
 ghost use Rattle.cert.specs.Certificate.{is_self_issued, seen_certificate};
 ghost use Rattle.path.specs.declared.reason.Reason.TheVariants as reason;
-ghost use Rattle.path.specs.Query.{count, certificate_at};
+ghost use Rattle.path.specs.Query.{count, certificate_numbered};
 ghost use Rattle.path.specs.Conditions.{AreNamesChecked};
 ghost use Rattle.path.specs.Validity.{IsServed};
-ghost use Rattle.path_conditions.specs.Constraints.{subtrees_in};
+ghost use Rattle.path_conditions.specs.Constraints.{subtree_count};
 ghost use Rattle.path.specs.State.{question, TakesStep, NextMeets, MeetsAll, NextBreaks, NextPasses, AdmitsExactly, CarriesNoSubtree, subtrees_up_to};
 ghost use Rattle.path.specs.Keeping.{spent, lesser};
 
@@ -178,7 +178,7 @@ impl<'p, 'c, V: Verifier> State<'p, 'c, V> {
 
     /// How many subtrees are held: at most as many as the certificates that have passed carry.
     pub fn subtrees(&self) -> usize
-        ensures value { result ≡ subtrees_in self.now.constraints }
+        ensures value { result ≡ subtree_count self.now.constraints }
         ensures bound { result ≤ subtrees_up_to self.now.query self.now.done }
     {
         self.constraints.len()
@@ -187,7 +187,7 @@ impl<'p, 'c, V: Verifier> State<'p, 'c, V> {
     /// The certificate behind those that have passed.
     fn certificate(&self) -> &'p Certificate<'c>
         requires { self.now.done < count self.now.query }
-        ensures { seen_certificate result.now ≡ certificate_at self.now.query (self.now.done + 1) }
+        ensures { seen_certificate result.now ≡ certificate_numbered self.now.query (self.now.done + 1) }
     {
         let path = self.path;
         &path[self.done]

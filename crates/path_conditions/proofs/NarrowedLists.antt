@@ -6,13 +6,13 @@ use Rattle.std.proofs.lemmas.Bool.{or_cases, or_left, or_right, and_parts, and_f
 use Rattle.names.specs.GeneralName.{IsProcessed}
 use Rattle.names.specs.GeneralLayout.{GeneralName, SubtreeBase}
 use Rattle.names.specs.GeneralView.{subtree_base}
-use Rattle.names.specs.GeneralCoverage.{is_covered, is_base_inside, is_of_form, IsCovered, form_of_base, form_of_general_name, CoverageTestIsExact, BaseInsideIsSound, SharedBasesAreNested, CoveredIsOfForm, CoveredIsProcessed, BaseFormTestIsExact}
+use Rattle.names.specs.GeneralCoverage.{is_covered, is_base_inside, is_of_form, LiesInSubtree, form_of_base, form_of_general_name, CoverageTestIsExact, BaseInsideIsSound, SharedBasesAreNested, CoveredIsOfForm, CoveredIsProcessed, BaseFormTestIsExact}
 use Rattle.names.specs.declared.subtree.Subtree.{Subtree}
 use Rattle.names.specs.declared.general.Form.{Form}
 use Rattle.names.specs.declared.general.Form.TheVariants as F
 use Rattle.names.proofs.Laws.{coverage_test_is_exact, base_inside_is_sound, shared_bases_are_nested, covered_is_of_form, covered_is_processed, base_form_test_is_exact}
 use Rattle.path_conditions.specs.NamesOf.{IsInOneOf, AreAbout}
-use Rattle.path_conditions.specs.Narrowing.{bases_of, selected, is_in_one_of, are_about, is_inside_one_of, has_processed, is_processed_base, kept, enters, narrowed, of_form, joined, changed, change_of}
+use Rattle.path_conditions.specs.Narrowing.{bases_of, selected, is_in_one_of, are_about, is_inside_one_of, has_processed, is_processed_base, kept, enters, narrowed, of_form, narrowed_with, changed, change_of}
 use Rattle.path_conditions.specs.Constraints.{Constraints}
 use Rattle.path_conditions.proofs.Selecting.{pick, list_any-weaker, none_weaker, any_decides, list_any-filter, map-filter, length-filter-le, length-filter-and, length-filter-cons}
 
@@ -36,7 +36,7 @@ laws_of_names = record {
 }
 
 pub in_one : Laws → (bases : List SubtreeBase) (name : GeneralName) → (is_in_one_of bases name ≡ true) ↔ IsInOneOf bases name
-in_one laws bases name = any_decides (λ base. is_covered name base) (λ base. IsCovered name base) (λ base. laws.test name base) bases
+in_one laws bases name = any_decides (λ base. is_covered name base) (λ base. LiesInSubtree name base) (λ base. laws.test name base) bases
 
 pub about : Laws → (bases : List SubtreeBase) (form : Form) → (are_about bases form ≡ true) ↔ AreAbout bases form
 about laws bases form = any_decides (λ base. is_of_form base form) (λ base. form_of_base base ≡ form) (λ base. laws.form_test base form) bases
@@ -45,7 +45,7 @@ about laws bases form = any_decides (λ base. is_of_form base form) (λ base. fo
 pub bases_of-selected : (p : SubtreeBase → Bool) (list : List Subtree) → bases_of (selected p list) ≡ filter p (bases_of list)
 bases_of-selected p list = map-filter p subtree_base list
 
-change_loud : (form : Form) (held : Option (List SubtreeBase)) (carried : List SubtreeBase) → are_about carried form ≡ true → Some (joined form held carried) ≡ change_of form held carried
+change_loud : (form : Form) (held : Option (List SubtreeBase)) (carried : List SubtreeBase) → are_about carried form ≡ true → Some (narrowed_with form held carried) ≡ change_of form held carried
 change_loud form held carried loud = rw loud refl
 
 pub list_begun : (form : Form) (list carried : List SubtreeBase) → are_about carried form ≡ true → list ≡ of_form form carried → Some list ≡ changed None (change_of form None carried)

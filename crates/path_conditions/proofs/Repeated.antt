@@ -13,7 +13,7 @@ use Rattle.names.specs.DistinguishedName.{is_within}
 use Rattle.names.specs.Ip.{agree}
 use Rattle.names.specs.GeneralLayout.{GeneralName, SubtreeBase, directory_name, dns_name, ip_address, other_name, directory_base, dns_base, ip_base}
 use Rattle.names.specs.GeneralView.{subtree_base}
-use Rattle.names.specs.GeneralCoverage.{is_covered, is_base_inside, is_among, are_among, is_address_of, is_range_of, is_of_form}
+use Rattle.names.specs.GeneralCoverage.{is_covered, is_base_inside, is_domain_among, are_among, is_address_of, is_range_of, is_of_form}
 use Rattle.names.proofs.Laws.{coverage_test_is_exact, matching_is_exact}
 use Rattle.path_conditions.specs.Narrowing.{bases_of, is_in_one_of, is_inside_one_of, are_about, of_form, enters, kept, narrowed, changed, change_of}
 use Rattle.path_conditions.specs.Repetition.{are_same_names, are_same_ranges, is_same_base, begins_same, repeats, repeats_form, repeats_end, is_held_again, HoldSameNames}
@@ -37,7 +37,7 @@ ranges_equal one other h =
 -- a subtree of a processed form is a part of itself
 
 names_inside : (names : DomainNames) → are_among names names ≡ true
-unfolding are_among is_covered is_among
+unfolding are_among is_covered is_domain_among
 names_inside every_name = refl
 names_inside (names_within x) = (coverage_test_is_exact (dns_name x) (dns_base (names_within x))).1 (record { front = []; joined = refl })
 names_inside (names_below x) = (coverage_test_is_exact (dns_name x) (dns_base (names_within x))).1 (record { front = []; joined = refl })

@@ -5,7 +5,7 @@ use Rattle.std.specs.Borrow.{Bor}
 use Rattle.std.specs.Str.{bytes_eq}
 use Rattle.cert.specs.declared.version.Version.TheVariants.{V3}
 use Rattle.cert.specs.Certificate.{Certificate}
-use Rattle.cert.specs.BasicConstraints.{BasicConstraints}
+use Rattle.cert.specs.BasicConstraints.{BasicConstraints, path_len_constraint}
 use Rattle.cert.specs.KeyUsage.{has_bit}
 
 -- the validity includes the moment (6.1.3 (a) (2))
@@ -23,12 +23,8 @@ abbrev pub IsCa : Certificate → Type 0
 IsCa c = (c.version ≡ V3) × HasCa c.extensions.basic_constraints
 
 -- pathLenConstraint
-abbrev pub path_length_in : Option BasicConstraints → Option ℕ
-path_length_in None = None
-path_length_in (Some constraints) = constraints.path_length
-
 abbrev pub path_length_of : Certificate → Option ℕ
-path_length_of c = path_length_in c.extensions.basic_constraints
+path_length_of c = path_len_constraint c.extensions.basic_constraints
 
 -- where there is a keyUsage, it has keyCertSign (5) (6.1.4 (n))
 abbrev pub MaySignCertificates : Certificate → Type 0

@@ -53,8 +53,8 @@ abbrev pub size_of : Option (List SubtreeBase) → ℕ
 size_of None = 0
 size_of (Some list) = length list
 
-abbrev pub subtrees_in : Constraints → ℕ
-subtrees_in held = size_of held.directory + size_of held.dns + size_of held.ip + length held.excluded
+abbrev pub subtree_count : Constraints → ℕ
+subtree_count held = size_of held.directory + size_of held.dns + size_of held.ip + length held.excluded
 
 -- the constraints behind one more certificate
 abbrev pub narrowed_by : NameConstraints → Constraints → Constraints

@@ -5,7 +5,7 @@ use Rattle.names.specs.declared.general.Form.{Form}
 use Rattle.names.specs.declared.general.Form.TheVariants as F
 use Rattle.names.specs.DistinguishedName.{RdnMap, HasKind}
 use Rattle.names.specs.GeneralLayout.{NameContents, GeneralName, SubtreeBase, directory_name}
-use Rattle.names.specs.GeneralCoverage.{form_of_general_name, form_of_base, IsCovered}
+use Rattle.names.specs.GeneralCoverage.{form_of_general_name, form_of_base, LiesInSubtree}
 use Rattle.cert.specs.Certificate.{Certificate}
 use Rattle.cert.specs.NameConstraints.{NameConstraints}
 
@@ -35,7 +35,7 @@ AreAbout bases form = Any (λ base. form_of_base base ≡ form) bases
 
 -- the name lies in one of the subtrees
 abbrev pub IsInOneOf : List SubtreeBase → GeneralName → Type 0
-IsInOneOf bases name = Any (λ base. IsCovered name base) bases
+IsInOneOf bases name = Any (λ base. LiesInSubtree name base) bases
 
 -- where there are permitted subtrees for the form of the name, it lies in one of them
 abbrev pub Permits : NameConstraints → GeneralName → Type 0

@@ -44,13 +44,13 @@ abbrev pub narrowed : Form → List SubtreeBase → List SubtreeBase → List Su
 narrowed form held carried = kept held carried ++ filter (λ base. enters form held (kept held carried) base) carried
 
 -- no list yet takes all of the form
-abbrev pub joined : Form → Option (List SubtreeBase) → List SubtreeBase → List SubtreeBase
-joined form None carried = of_form form carried
-joined form (Some held) carried = narrowed form held carried
+abbrev pub narrowed_with : Form → Option (List SubtreeBase) → List SubtreeBase → List SubtreeBase
+narrowed_with form None carried = of_form form carried
+narrowed_with form (Some held) carried = narrowed form held carried
 
 -- the new list of a form, where a certificate has subtrees of the form
 abbrev pub change_of : Form → Option (List SubtreeBase) → List SubtreeBase → Option (List SubtreeBase)
-change_of form held carried = if are_about carried form then Some (joined form held carried) else None
+change_of form held carried = if are_about carried form then Some (narrowed_with form held carried) else None
 
 abbrev pub changed : Option (List SubtreeBase) → Option (List SubtreeBase) → Option (List SubtreeBase)
 changed held None = held

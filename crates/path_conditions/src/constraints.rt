@@ -5,7 +5,7 @@ ghost use Rattle.names.specs.GeneralView.{general_name, name_contents};
 ghost use Rattle.cert.specs.Certificate.{seen_certificate};
 ghost use Rattle.path_conditions.specs.NamesOf.{names_of};
 ghost use Rattle.path_conditions.specs.Narrowing.{bases_of, has_processed, IsReplacedBy, processed_in};
-ghost use Rattle.path_conditions.specs.Constraints.{seen_constraints, no_constraints, IsNarrowedBy, HasNoProcessed, permits_in, permits_name, permits_each, excludes_one, names_in_subject, size_of, subtrees_in};
+ghost use Rattle.path_conditions.specs.Constraints.{seen_constraints, no_constraints, IsNarrowedBy, HasNoProcessed, permits_in, permits_name, permits_each, excludes_one, names_in_subject, size_of, subtree_count};
 
 use crate::coverage::{is_processed, one_is_processed};
 use crate::excluded::Excluded;
@@ -122,8 +122,8 @@ impl<'a> Constraints<'a> {
 
     /// How many subtrees are held.
     pub fn len(&self) -> usize
-        requires { subtrees_in (seen_constraints self.now) ≤ 524288 }
-        ensures { result ≡ subtrees_in (seen_constraints self.now) }
+        requires { subtree_count (seen_constraints self.now) ≤ 524288 }
+        ensures { result ≡ subtree_count (seen_constraints self.now) }
     {
         len_of(&self.directory) + len_of(&self.dns) + len_of(&self.ip) + self.excluded.len()
     }

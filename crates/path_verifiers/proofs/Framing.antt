@@ -2,8 +2,8 @@
 use Rattle.std.proofs.Common.{◌≡◌, ℕ, List, [], ◌++◌, length, take, drop, refl, sym, ap, ◌∙◌, append_assoc, append-nil, drop_at, take_at}
 use Rattle.std.proofs.lemmas.Nat.{from_be_bytes-to_be_bytes_8}
 use Rattle.std.specs.Int.{w64, to_be_bytes, from_be_bytes}
-use Rattle.path_verifiers.specs.Fingerprint.{framed, judgement}
-use Rattle.path_verifiers.specs.FramingLaws.{HasServedLength, JudgementsAreDistinct}
+use Rattle.path_verifiers.specs.Fingerprint.{framed, framed_judgement}
+use Rattle.path_verifiers.specs.FramingLaws.{FitsEightOctets, JudgementsAreDistinct}
 
 eight : (n : ℕ) → length (to_be_bytes w64 n) ≡ 8
 eight n = refl
@@ -15,7 +15,7 @@ split a b x y same e = (
   sym (drop_at a x (length a) refl) ∙ ap (drop (length a)) e ∙ drop_at b y (length a) (sym same),
 )
 
-first : (a b x y : List ℕ) → HasServedLength a → HasServedLength b → framed a ++ x ≡ framed b ++ y → (a ≡ b) × (x ≡ y)
+first : (a b x y : List ℕ) → FitsEightOctets a → FitsEightOctets b → framed a ++ x ≡ framed b ++ y → (a ≡ b) × (x ≡ y)
 first a b x y fits other e =
     let head = to_be_bytes w64 (length a) in
     let heads = to_be_bytes w64 (length b) in
@@ -24,7 +24,7 @@ first a b x y fits other e =
     let same : length a ≡ length b = sym (from_be_bytes-to_be_bytes_8 (length a) fits) ∙ ap (from_be_bytes w64) lengths.0 ∙ from_be_bytes-to_be_bytes_8 (length b) other in
     split a b x y same lengths.1
 
-grouped : (a k m s : List ℕ) → judgement a k m s ≡ framed a ++ (framed k ++ (framed m ++ (framed s ++ [])))
+grouped : (a k m s : List ℕ) → framed_judgement a k m s ≡ framed a ++ (framed k ++ (framed m ++ (framed s ++ [])))
 grouped a k m s =
     append_assoc (framed a ++ framed k) (framed m) (framed s)
     ∙ append_assoc (framed a) (framed k) (framed m ++ framed s)

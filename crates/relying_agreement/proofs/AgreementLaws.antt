@@ -8,7 +8,7 @@ use Rattle.statements_facts.specs.Statement.{Holdings, CrlSlot, OcspSlot, CrlFac
 use Rattle.path.specs.Query.{Query, Accepts}
 use Rattle.path.specs.Validity.{OutcomeIsOne}
 use Rattle.relying_agreement.specs.declared.verdict.Verdict.{Verdict}
-use Rattle.relying_agreement.specs.Link.{Link, links_of, own_scope, crl_slot, ocsp_slot}
+use Rattle.relying_agreement.specs.Link.{Link, links_of, own_scope, crl_slot_for, ocsp_slot_for}
 use Rattle.statements_facts.specs.Newest.{is_unexceeded, newer_crl, newer_ocsp}
 use Rattle.relying_agreement.specs.Status.{Answers}
 use Rattle.relying_agreement.specs.Verdict.{verdict_of, IsVerdict}
@@ -36,9 +36,9 @@ each_was_seen : (one other : Party) → PartyHoldsNewest one → PartyHoldsNewes
 each_was_seen one other a b [] consistent = tt
 each_was_seen one other a b (link ∷ links) consistent = (
   record {
-    all = crls_were_seen one other a b (crl_slot link All) consistent.0.all;
-    own = crls_were_seen one other a b (crl_slot link (own_scope link.certificate)) consistent.0.own;
-    ocsp = responses_were_seen one other a b (ocsp_slot link) consistent.0.ocsp;
+    all = crls_were_seen one other a b (crl_slot_for link All) consistent.0.all;
+    own = crls_were_seen one other a b (crl_slot_for link (own_scope link.certificate)) consistent.0.own;
+    ocsp = responses_were_seen one other a b (ocsp_slot_for link) consistent.0.ocsp;
   },
   each_was_seen one other a b links consistent.1,
 )
@@ -49,7 +49,7 @@ held_was_seen query one other a b consistent = each_was_seen one other a b (link
 enough : (one other : Party) → AllAreConsistent one other → (links : List Link) → AllByRecursion (IssuerIsConsistent one other) links
 enough one other all [] = tt
 enough one other all (link ∷ links) = (
-  record { all = all.crls (crl_slot link All); own = all.crls (crl_slot link (own_scope link.certificate)); ocsp = all.responses (ocsp_slot link) },
+  record { all = all.crls (crl_slot_for link All); own = all.crls (crl_slot_for link (own_scope link.certificate)); ocsp = all.responses (ocsp_slot_for link) },
   enough one other all links,
 )
 
@@ -70,9 +70,9 @@ same_crl one other slot consistent same = same_by_mark (λ (fact : CrlFact). fac
 pub same_of_newest : SameNewestIsTheSame
 same_of_newest one other link consistent newest =
     same_answers _ _ _ _ _ _
-    (ap (option_map (answer_for (body link.certificate.serial))) (same_crl one other (crl_slot link All) consistent.all newest.all))
-    (ap (option_map (answer_for (body link.certificate.serial))) (same_crl one other (crl_slot link (own_scope link.certificate)) consistent.own newest.own))
-    (same_by_mark (λ (fact : OcspFact). fact.times) (one.ocsp (ocsp_slot link)) (other.ocsp (ocsp_slot link)) consistent.ocsp newest.ocsp)
+    (ap (option_map (answer_for (body link.certificate.serial))) (same_crl one other (crl_slot_for link All) consistent.all newest.all))
+    (ap (option_map (answer_for (body link.certificate.serial))) (same_crl one other (crl_slot_for link (own_scope link.certificate)) consistent.own newest.own))
+    (same_by_mark (λ (fact : OcspFact). fact.times) (one.ocsp (ocsp_slot_for link)) (other.ocsp (ocsp_slot_for link)) consistent.ocsp newest.ocsp)
 
 all_same : (one other : Holdings) (links : List Link) → AllByRecursion (HeldIsConsistent one other) links → AllByRecursion (HoldSameNewestOf one other) links
     → AllByRecursion (HoldSameOf one other) links

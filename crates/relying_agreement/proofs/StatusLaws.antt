@@ -10,7 +10,7 @@ use Rattle.statements_facts.specs.declared.scope.Scope.TheVariants.{All}
 use Rattle.statements_facts.specs.declared.single.Status.{Status}
 use Rattle.statements_facts.specs.declared.single.Status.TheVariants as said
 use Rattle.statements_facts.specs.Statement.{Window, CrlFact, OcspFact, Holdings, CrlAnswer, answer_for}
-use Rattle.relying_agreement.specs.Link.{Link, own_scope, crl_slot, ocsp_slot}
+use Rattle.relying_agreement.specs.Link.{Link, own_scope, crl_slot_for, ocsp_slot_for}
 use Rattle.relying_agreement.specs.Status.{IsCurrent, is_current, may_sign_crls, crl_answer, evidence_of, kept_if, crl_that_counts, ocsp_that_counts, reason_of_status, is_good, crl_reason, ocsp_reason, deciding_reason, is_covered_by, CrlCounts, OcspCounts, CrlRevokes, OcspRevokes, IsNotListed, IsRevoked, SomeRevokes, IsCovered}
 use Rattle.relying_agreement.proofs.Options.{kept_is, is_kept, kept_some, mapped_is, chained_is, is_chained, chained_to, to_chained, first_or, or_first, or_second, none_of, either_decides, some_value}
 
@@ -36,7 +36,7 @@ module _ (held : Holdings) (moment : ℤ) (link : Link) where
 
   -- the list of a scope is held and counts
   abbrev CountsIn : Scope → CrlFact → Type 0
-  CountsIn scope fact = (held.crl (crl_slot link scope) ≡ Some fact) × (may_sign_crls link ≡ true) × IsCurrent fact.window moment
+  CountsIn scope fact = (held.crl (crl_slot_for link scope) ≡ Some fact) × (may_sign_crls link ≡ true) × IsCurrent fact.window moment
 
   abbrev test : CrlAnswer → Bool
   test crl = may_sign_crls link && is_current crl.window moment
@@ -48,7 +48,7 @@ module _ (held : Holdings) (moment : ℤ) (link : Link) where
       → (fact : CrlFact) × CountsIn scope fact × (answer fact ≡ found)
   counted scope found e =
       let kept = kept_some test (crl_answer held link scope) found e in
-      let from = mapped_is answer (held.crl (crl_slot link scope)) found kept.0 in
+      let from = mapped_is answer (held.crl (crl_slot_for link scope)) found kept.0 in
       let parts = and_parts (may_sign_crls link) (is_current from.0.window moment) (ap test from.2 ∙ kept.1) in
       (from.0, (from.1, parts.0, (current_decides from.0.window moment).0 parts.1), from.2)
 
@@ -78,14 +78,14 @@ module _ (held : Holdings) (moment : ℤ) (link : Link) where
   response_test response = is_current response.window moment
 
   abbrev the_response : Option OcspFact
-  the_response = ocsp_that_counts moment (held.ocsp (ocsp_slot link))
+  the_response = ocsp_that_counts moment (held.ocsp (ocsp_slot_for link))
 
   response_counted : (fact : OcspFact) → the_response ≡ Some fact → OcspCounts held moment link fact
-  response_counted fact e = let kept = kept_some response_test (held.ocsp (ocsp_slot link)) fact e in
+  response_counted fact e = let kept = kept_some response_test (held.ocsp (ocsp_slot_for link)) fact e in
       record { is_held = kept.0; current = (current_decides fact.window moment).0 kept.1 }
 
   response_counts : (fact : OcspFact) → OcspCounts held moment link fact → the_response ≡ Some fact
-  response_counts fact c = is_kept response_test (held.ocsp (ocsp_slot link)) fact c.is_held ((current_decides fact.window moment).1 c.current)
+  response_counts fact c = is_kept response_test (held.ocsp (ocsp_slot_for link)) fact c.is_held ((current_decides fact.window moment).1 c.current)
 
   abbrev CoversWell : Type 0
   CoversWell = (fact : OcspFact) × OcspCounts held moment link fact × (fact.status ≡ said.Good)
@@ -100,7 +100,7 @@ module _ (held : Holdings) (moment : ℤ) (link : Link) where
   abbrev RevokesByResponse : Type 0
   RevokesByResponse = (fact : OcspFact) × OcspCounts held moment link fact × IsSome (reason_of_status fact.status)
 
-  response_revokes : Decides (is_some (ocsp_reason moment (held.ocsp (ocsp_slot link)))) RevokesByResponse
+  response_revokes : Decides (is_some (ocsp_reason moment (held.ocsp (ocsp_slot_for link)))) RevokesByResponse
   response_revokes = (
     λ some. let found = chained_is (λ (response : OcspFact). reason_of_status response.status) the_response some in
         (found.0, response_counted found.0 found.1, found.2),
@@ -114,7 +114,7 @@ module _ (held : Holdings) (moment : ℤ) (link : Link) where
   in_words scope fact speaks c = record { scope = scope; speaks = speaks; is_held = c.0; may_sign = c.1; current = c.2 }
 
   at_scope : (scope : Scope) (fact : CrlFact) (c : CrlCounts held moment link fact) → c.scope ≡ scope → CountsIn scope fact
-  at_scope scope fact c same = (subst (λ s. held.crl (crl_slot link s) ≡ Some fact) same c.is_held, c.may_sign, c.current)
+  at_scope scope fact c same = (subst (λ s. held.crl (crl_slot_for link s) ≡ Some fact) same c.is_held, c.may_sign, c.current)
 
   -- the test of cover is the words'
   pub cover_decides : Decides (is_covered_by moment (evidence_of held link)) (IsCovered held moment link)
@@ -168,12 +168,12 @@ module _ (held : Holdings) (moment : ℤ) (link : Link) where
   status_is (said.Revoked other) reason e = ap said.Revoked (same_Some other reason e)
   status_is said.Unknown reason e = absurd (none-some reason e)
 
-  ocsp_revokes : (reason : ℕ) → ocsp_reason moment (held.ocsp (ocsp_slot link)) ≡ Some reason → OcspRevokes held moment link reason
+  ocsp_revokes : (reason : ℕ) → ocsp_reason moment (held.ocsp (ocsp_slot_for link)) ≡ Some reason → OcspRevokes held moment link reason
   ocsp_revokes reason e =
       let found = chained_to (λ (response : OcspFact). reason_of_status response.status) the_response reason e in
       record { fact = found.0; counts = response_counted found.0 found.1; status = status_is found.0.status reason found.2 }
 
-  ocsp_gives : (reason : ℕ) → OcspRevokes held moment link reason → ocsp_reason moment (held.ocsp (ocsp_slot link)) ≡ Some reason
+  ocsp_gives : (reason : ℕ) → OcspRevokes held moment link reason → ocsp_reason moment (held.ocsp (ocsp_slot_for link)) ≡ Some reason
   ocsp_gives reason r =
       to_chained (λ (response : OcspFact). reason_of_status response.status) the_response r.fact reason (response_counts r.fact r.counts) (ap reason_of_status r.status)
 

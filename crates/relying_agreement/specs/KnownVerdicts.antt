@@ -78,16 +78,16 @@ abbrev pub of_a : Scope → ℕ → Option ℕ → Fact
 of_a = list 65
 
 -- a response of R on the certificate that it gave this serial number
-abbrev pub response : ℕ → ℤ → ℤ → Status → Fact
-response serial from until status =
+abbrev pub response_on : ℕ → ℤ → ℤ → Status → Fact
+response_on serial from until status =
     Fact.OfResponse (record { issuer = identity_of root; name_hash = sha1 (82 ∷ []); serial = serial ∷ [] })
     (record { times = record { this_update = from; produced_at = from }; window = record { from = from; until = until }; status = status })
 
 abbrev pub expired_good : Fact
-expired_good = response 5 (pos 1748736000) (pos 1749513600) said.Good
+expired_good = response_on 5 (pos 1748736000) (pos 1749513600) said.Good
 
 abbrev pub day_of : Status → Fact
-day_of status = response 5 noon (pos 1750032000) status
+day_of status = response_on 5 noon (pos 1750032000) status
 
 abbrev pub verdict_under : Outcome → ℤ → List Certificate → List Fact → Verdict
 verdict_under outcome moment path taken = verdict_of outcome (asked moment path) (starting accepts_all taken).held
@@ -118,7 +118,7 @@ pub record KnownVerdicts : Type 0 where
   pub good_past_the_end : verdict_at (pos 1750032001) ee (day_of said.Good ∷ []) ≡ Unknown 1
   pub unknown_covers_nothing : verdict_at noon ee (day_of said.Unknown ∷ []) ≡ Unknown 1
   pub response_revokes : verdict_at noon ee (day_of (said.Revoked 4) ∷ []) ≡ Revoked 1 4
-  pub of_another_serial : verdict_at noon ee (response 6 noon (pos 1750032000) said.Good ∷ []) ≡ Unknown 1
+  pub of_another_serial : verdict_at noon ee (response_on 6 noon (pos 1750032000) said.Good ∷ []) ≡ Unknown 1
   -- scopes
   pub user_list_of_user : verdict_at noon ee (of_r User 5 None ∷ []) ≡ Valid
   pub user_list_of_ca : verdict_at noon ca (of_r User 5 None ∷ []) ≡ Unknown 1

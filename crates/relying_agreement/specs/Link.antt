@@ -34,13 +34,13 @@ abbrev pub own_scope : Certificate → Scope
 own_scope certificate = if has_ca certificate.extensions.basic_constraints then Ca else User
 
 -- The slot of a list that speaks of the certificate: its issuer's, with the scope.
-abbrev pub crl_slot : Link → Scope → CrlSlot
-crl_slot link scope = record { issuer = identity_of link.issuer; scope = scope }
+abbrev pub crl_slot_for : Link → Scope → CrlSlot
+crl_slot_for link scope = record { issuer = identity_of link.issuer; scope = scope }
 
 -- The slot of a response that speaks of it: its issuer's, with the SHA-1 of the issuer field as the certificate spells it, and the
 -- serial number (RFC 6960, 4.1.1).
-abbrev pub ocsp_slot : Link → OcspSlot
-ocsp_slot link = record {
+abbrev pub ocsp_slot_for : Link → OcspSlot
+ocsp_slot_for link = record {
   issuer = identity_of link.issuer;
   name_hash = sha1 link.certificate.issuer.octets;
   serial = body link.certificate.serial;

@@ -11,7 +11,7 @@ use Rattle.statements_facts.specs.declared.single.Status.TheVariants as said
 use Rattle.sha1.specs.Sha1.{sha1}
 use Rattle.statements_facts.specs.Statement.{IssuerIdentity, Window, CrlFact, CrlAnswer, OcspFact, Holdings, answer_for}
 use Rattle.statements.specs.Issuer.{identity_of}
-use Rattle.relying_agreement.specs.Link.{Link, own_scope, ocsp_slot, crl_slot}
+use Rattle.relying_agreement.specs.Link.{Link, own_scope, ocsp_slot_for, crl_slot_for}
 
 -- thisUpdate is not after the moment, nextUpdate not before it (RFC 5280, 6.3.3 (a); RFC 6960, 3.2)
 abbrev pub IsCurrent : Window → ℤ → Type 0
@@ -117,13 +117,13 @@ is_covered_by moment it =
 pub record CrlCounts (held : Holdings) (moment : ℤ) (link : Link) (fact : CrlFact) : Type 0 where
   pub scope : Scope
   pub speaks : (scope ≡ All) ⊎ (scope ≡ own_scope link.certificate)
-  pub is_held : held.crl (crl_slot link scope) ≡ Some fact
+  pub is_held : held.crl (crl_slot_for link scope) ≡ Some fact
   pub may_sign : IsTrue (may_sign_crls link)
   pub current : IsCurrent fact.window moment
 
 -- A response that speaks of the certificate is held, and is current.
 pub record OcspCounts (held : Holdings) (moment : ℤ) (link : Link) (fact : OcspFact) : Type 0 where
-  pub is_held : held.ocsp (ocsp_slot link) ≡ Some fact
+  pub is_held : held.ocsp (ocsp_slot_for link) ≡ Some fact
   pub current : IsCurrent fact.window moment
 
 -- a statement that counts says that it is revoked
@@ -135,7 +135,7 @@ SomeRevokes held moment link =
 -- the list of a scope counts, and lists the certificate for this reason
 pub record CrlRevokes (held : Holdings) (moment : ℤ) (link : Link) (scope : Scope) (reason : ℕ) : Type 0 where
   pub fact : CrlFact
-  pub is_held : held.crl (crl_slot link scope) ≡ Some fact
+  pub is_held : held.crl (crl_slot_for link scope) ≡ Some fact
   pub may_sign : IsTrue (may_sign_crls link)
   pub current : IsCurrent fact.window moment
   pub listed : fact.reasons (body link.certificate.serial) ≡ Some reason

@@ -23,7 +23,7 @@ pub fn verdict_laws()
 }
 
 /// Runs compose, and calls that each do their part make a run.
-pub fn run_laws()
+pub fn composition_laws()
     ensures compose { RunsCompose }
     ensures each { EachHoldsNewest }
     ensures steps { StepsMakeARun }

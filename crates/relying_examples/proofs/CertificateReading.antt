@@ -13,7 +13,7 @@ use Rattle.cert.specs.AlgorithmIdentifier.{AlgorithmIdentifier}
 use Rattle.cert.specs.SubjectPublicKeyInfo.{SubjectPublicKeyInfo}
 use Rattle.cert.specs.Extensions.{no_extensions}
 use Rattle.cert.specs.Certificate.{Certificate, certificate}
-use Rattle.relying_examples.specs.Octets.{anchor, anchor_tbs, anchor_signature, target, target_tbs, target_signature, name_r, name_t, algorithm, key_r, key_t}
+use Rattle.relying_examples.specs.Octets.{anchor_der, anchor_tbs, anchor_signature, target_der, target_tbs, target_signature, name_r, name_t, algorithm, key_r, key_t}
 use Rattle.relying_examples.proofs.OnLiterals.{on_literals}
 use Rattle.relying_examples.proofs.Trees.{anchor_whole, target_whole, ca_octets, ca_whole}
 
@@ -36,7 +36,7 @@ key_at octets letter = record {
 
 abbrev pub root : Certificate
 root = record {
-  octets = anchor;
+  octets = anchor_der;
   tbs = text_at anchor_tbs 3;
   version = V3;
   serial = text_at (0x02 ∷ 0x01 ∷ 0x05 ∷ []) 10;
@@ -51,7 +51,7 @@ root = record {
 
 abbrev pub leaf : Certificate
 leaf = record {
-  octets = target;
+  octets = target_der;
   tbs = text_at target_tbs 3;
   version = V3;
   serial = text_at (0x02 ∷ 0x01 ∷ 0x05 ∷ []) 10;
@@ -64,14 +64,14 @@ leaf = record {
   signature = record { value = text_at target_signature 97; octets = drop 3 target_signature };
 }
 
-pub leaf_is_read : certificate target ≡ Ok leaf
+pub leaf_is_read : certificate target_der ≡ Ok leaf
 unfolding on_literals
-leaf_is_read = rw (outermost_again target target_whole) refl
+leaf_is_read = rw (outermost_again target_der target_whole) refl
 
 -- the OCTET STRING of basicConstraints
 abbrev constraints : Place
 constraints = text_at (0x04 ∷ 0x05 ∷ ca_octets) 105
 
-pub root_is_read : certificate anchor ≡ Ok root
+pub root_is_read : certificate anchor_der ≡ Ok root
 unfolding on_literals
-root_is_read = rw (outermost_again anchor anchor_whole, nested_again constraints ca_whole, contains-empty (slice_cmp nat_cmp) (0x55 ∷ 0x1D ∷ 0x13 ∷ [])) refl
+root_is_read = rw (outermost_again anchor_der anchor_whole, nested_again constraints ca_whole, contains-empty (slice_cmp nat_cmp) (0x55 ∷ 0x1D ∷ 0x13 ∷ [])) refl

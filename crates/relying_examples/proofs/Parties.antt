@@ -9,8 +9,8 @@ use Rattle.statements_facts.specs.Fact.{Fact}
 use Rattle.statements_facts.specs.Statement.{IssuerIdentity, CrlSlot, CrlFact, OcspSlot, OcspFact, Holdings, same_issuer, empty_holdings}
 use Rattle.relying_agreement.specs.Run.{FactsOf, Party, PartyHoldsNewest, facts_taken, after_taking, crls_seen, responses_seen}
 use Rattle.relying_agreement.specs.Agreement.{CrlsAreConsistent, ResponsesAreConsistent}
-use Rattle.relying_examples.specs.Octets.{anchor, list_1, list_2, response}
-use Rattle.relying_examples.specs.Premises.{accepts_toys, events_of_one, answers_of_one, events_of_other, answers_of_other}
+use Rattle.relying_examples.specs.Octets.{anchor_der, list_1, list_2, response_der}
+use Rattle.relying_examples.specs.Premises.{accepts_toys, deliveries_to_one, answers_to_one, deliveries_to_other, answers_to_other}
 use Rattle.relying_examples.proofs.StatementReading.{crl, good, list_of, response_of}
 
 abbrev pub one : IssuerIdentity → List ℕ → Party
@@ -20,14 +20,14 @@ abbrev pub other : IssuerIdentity → List ℕ → Party
 other issuer hash = after_taking accepts_toys empty_holdings (response_of issuer hash ∷ list_of issuer 2 ∷ list_of issuer 1 ∷ [])
 
 -- what was taken, where the statements say these facts
-pub one_takes : (facts_of : FactsOf) (issuer : IssuerIdentity) (hash : List ℕ) → facts_of accepts_toys anchor list_1 ≡ list_of issuer 1 ∷ []
-    → facts_of accepts_toys anchor list_2 ≡ list_of issuer 2 ∷ [] → facts_of accepts_toys anchor response ≡ response_of issuer hash ∷ []
-    → (one issuer hash).taken ≡ facts_taken facts_of accepts_toys events_of_one answers_of_one
+pub one_takes : (facts_of : FactsOf) (issuer : IssuerIdentity) (hash : List ℕ) → facts_of accepts_toys anchor_der list_1 ≡ list_of issuer 1 ∷ []
+    → facts_of accepts_toys anchor_der list_2 ≡ list_of issuer 2 ∷ [] → facts_of accepts_toys anchor_der response_der ≡ response_of issuer hash ∷ []
+    → (one issuer hash).taken ≡ facts_taken facts_of accepts_toys deliveries_to_one answers_to_one
 one_takes facts_of issuer hash first second third = rw (first, second, third) refl
 
-pub other_takes : (facts_of : FactsOf) (issuer : IssuerIdentity) (hash : List ℕ) → facts_of accepts_toys anchor list_1 ≡ list_of issuer 1 ∷ []
-    → facts_of accepts_toys anchor list_2 ≡ list_of issuer 2 ∷ [] → facts_of accepts_toys anchor response ≡ response_of issuer hash ∷ []
-    → (other issuer hash).taken ≡ facts_taken facts_of accepts_toys events_of_other answers_of_other
+pub other_takes : (facts_of : FactsOf) (issuer : IssuerIdentity) (hash : List ℕ) → facts_of accepts_toys anchor_der list_1 ≡ list_of issuer 1 ∷ []
+    → facts_of accepts_toys anchor_der list_2 ≡ list_of issuer 2 ∷ [] → facts_of accepts_toys anchor_der response_der ≡ response_of issuer hash ∷ []
+    → (other issuer hash).taken ≡ facts_taken facts_of accepts_toys deliveries_to_other answers_to_other
 other_takes facts_of issuer hash first second third = rw (first, second, third) refl
 
 pub newest : (taken : List Fact) → PartyHoldsNewest (after_taking accepts_toys empty_holdings taken)

@@ -9,7 +9,7 @@ use Rattle.statements_facts.specs.Statement.{IssuerIdentity, Holdings, CrlFact, 
 use Rattle.statements.specs.Issuer.{identity_of}
 use Rattle.path.specs.declared.reason.Outcome.TheVariants.{Good}
 use Rattle.relying_agreement.specs.declared.verdict.Verdict.TheVariants.{Valid}
-use Rattle.relying_agreement.specs.Link.{Link, crl_slot, ocsp_slot}
+use Rattle.relying_agreement.specs.Link.{Link, crl_slot_for, ocsp_slot_for}
 use Rattle.relying_agreement.specs.Verdict.{IsVerdict, verdict_of}
 use Rattle.relying_agreement.specs.Run.{genuine_facts, Party}
 use Rattle.relying_agreement.specs.Agreement.{HoldSameNewest, IssuersAreConsistent}
@@ -47,7 +47,7 @@ b_holds = other_holds issuer hash itself (same hash)
 abbrev link : Link
 link = record { number = 1; issuer = root; certificate = leaf }
 
-valid_where : (held : Holdings) → held.crl (crl_slot link All) ≡ Some (crl 2) → held.crl (crl_slot link User) ≡ None → held.ocsp (ocsp_slot link) ≡ Some good
+valid_where : (held : Holdings) → held.crl (crl_slot_for link All) ≡ Some (crl 2) → held.crl (crl_slot_for link User) ≡ None → held.ocsp (ocsp_slot_for link) ≡ Some good
     → Valid ≡ verdict_of Good query held
 valid_where held all own ocsp = rw (all, own, ocsp) refl
 

@@ -23,7 +23,7 @@ use Rattle.statements.specs.CrlFact.{of_issuer}
 use Rattle.statements.specs.Responder.{key_hash, signs_itself}
 use Rattle.statements.specs.Statement.{Statement, statement, genuine_statement}
 use Rattle.relying_agreement.specs.Run.{facts_or_none, facts_under, genuine_facts}
-use Rattle.relying_examples.specs.Octets.{octets, anchor, name_r, algorithm, key_r, list_1, list_2, response, basic_response}
+use Rattle.relying_examples.specs.Octets.{octets, anchor_der, name_r, algorithm, key_r, list_1, list_2, response_der, basic_response_der}
 use Rattle.relying_examples.specs.Premises.{accepts_toys}
 use Rattle.relying_examples.proofs.OnLiterals.{on_literals}
 use Rattle.relying_examples.proofs.Trees.{list_1_whole, list_2_whole, response_whole, basic_whole}
@@ -112,7 +112,7 @@ list_says list number signature reads signed counts = rw (reads, same_name, sign
 -- ---- the response
 
 abbrev response_tbs : List ℕ
-response_tbs = drop 3 (take 139 basic_response)
+response_tbs = drop 3 (take 139 basic_response_der)
 
 abbrev response_signature : List ℕ
 response_signature = octets (codes "dc07faaf772eec913d5ce8cf4e7a3b420bd362857c5084ff100e92076100decd")
@@ -140,11 +140,11 @@ response_fields = record {
 
 -- the OCTET STRING of the response
 abbrev contained : Place
-contained = text_at (0x04 ∷ 0x81 ∷ 0xB4 ∷ basic_response) 23
+contained = text_at (0x04 ∷ 0x81 ∷ 0xB4 ∷ basic_response_der) 23
 
-response_is_read : statement response ≡ Ok (Statement.OfResponse response_fields)
+response_is_read : statement response_der ≡ Ok (Statement.OfResponse response_fields)
 unfolding on_literals
-response_is_read = rw (outermost_again response response_whole, nested_again contained basic_whole) refl
+response_is_read = rw (outermost_again response_der response_whole, nested_again contained basic_whole) refl
 
 response_signed : accepts_toys algorithm key_r response_tbs response_signature ≡ true
 unfolding on_literals
@@ -158,7 +158,7 @@ pub name_hash_is : sha1 name_r ≡ octets (codes "8bf669e5210589581d1572ea6afb7a
 unfolding on_literals
 name_hash_is = refl
 
-response_says : genuine_statement accepts_toys root response ≡ Ok (response_of (identity_of root) (sha1 name_r) ∷ [])
+response_says : genuine_statement accepts_toys root response_der ≡ Ok (response_of (identity_of root) (sha1 name_r) ∷ [])
 unfolding genuine_statement signs_itself
 response_says = rw (response_is_read, same_name, response_signed, key_hash_is, name_hash_is) refl
 
@@ -172,11 +172,11 @@ two_counts : binary_value (2 ∷ []) ≡ 2
 unfolding binary_value
 two_counts = refl
 
-pub list_1_gives : genuine_facts accepts_toys anchor list_1 ≡ list_of (identity_of root) 1 ∷ []
+pub list_1_gives : genuine_facts accepts_toys anchor_der list_1 ≡ list_of (identity_of root) 1 ∷ []
 list_1_gives = ap (facts_under accepts_toys list_1) root_is_read ∙ ap facts_or_none (list_says list_1 1 signature_1 list_1_is_read signed_1 one_counts)
 
-pub list_2_gives : genuine_facts accepts_toys anchor list_2 ≡ list_of (identity_of root) 2 ∷ []
+pub list_2_gives : genuine_facts accepts_toys anchor_der list_2 ≡ list_of (identity_of root) 2 ∷ []
 list_2_gives = ap (facts_under accepts_toys list_2) root_is_read ∙ ap facts_or_none (list_says list_2 2 signature_2 list_2_is_read signed_2 two_counts)
 
-pub response_gives : genuine_facts accepts_toys anchor response ≡ response_of (identity_of root) (sha1 name_r) ∷ []
-response_gives = ap (facts_under accepts_toys response) root_is_read ∙ ap facts_or_none response_says
+pub response_gives : genuine_facts accepts_toys anchor_der response_der ≡ response_of (identity_of root) (sha1 name_r) ∷ []
+response_gives = ap (facts_under accepts_toys response_der) root_is_read ∙ ap facts_or_none response_says

@@ -3,7 +3,7 @@ use Rattle.std.proofs.Common.{ℕ, List, [], ◌∷◌, codes, drop, refl}
 use Rattle.asn.specs.Part.{IsWhole}
 use Rattle.asn.specs.Value.{Value, Values, primitive, constructed, none, more}
 use Rattle.asn.proofs.Laws.{encodes}
-use Rattle.relying_examples.specs.Octets.{octets, anchor, anchor_signature, target, target_signature, list_1, list_2, response, basic_response}
+use Rattle.relying_examples.specs.Octets.{octets, anchor_der, anchor_signature, target_der, target_signature, list_1, list_2, response_der, basic_response_der}
 use Rattle.relying_examples.proofs.Encodable.{encodable_if}
 
 abbrev values : List Value → Values
@@ -96,16 +96,16 @@ basic_tree =
 abbrev response_tree : Value
 response_tree = sequence (
     primitive 0x0A (0 ∷ [])
-    ∷ explicit 0xA0 (sequence (oid (0x2B ∷ 0x06 ∷ 0x01 ∷ 0x05 ∷ 0x05 ∷ 0x07 ∷ 0x30 ∷ 0x01 ∷ 0x01 ∷ []) ∷ octet_string basic_response ∷ []))
+    ∷ explicit 0xA0 (sequence (oid (0x2B ∷ 0x06 ∷ 0x01 ∷ 0x05 ∷ 0x05 ∷ 0x07 ∷ 0x30 ∷ 0x01 ∷ 0x01 ∷ []) ∷ octet_string basic_response_der ∷ []))
     ∷ [])
 
 pub ca_whole : IsWhole ca_octets
 ca_whole = (ca, encodes ca 1 (encodable_if ca 1 refl))
 
-pub anchor_whole : IsWhole anchor
+pub anchor_whole : IsWhole anchor_der
 anchor_whole = (anchor_tree, encodes anchor_tree 1 (encodable_if anchor_tree 1 refl))
 
-pub target_whole : IsWhole target
+pub target_whole : IsWhole target_der
 target_whole = (target_tree, encodes target_tree 1 (encodable_if target_tree 1 refl))
 
 list_1_tree : Value
@@ -122,8 +122,8 @@ pub list_2_whole : IsWhole list_2
 unfolding list_2_tree
 list_2_whole = (list_2_tree, encodes list_2_tree 1 (encodable_if list_2_tree 1 refl))
 
-pub basic_whole : IsWhole basic_response
+pub basic_whole : IsWhole basic_response_der
 basic_whole = (basic_tree, encodes basic_tree 1 (encodable_if basic_tree 1 refl))
 
-pub response_whole : IsWhole response
+pub response_whole : IsWhole response_der
 response_whole = (response_tree, encodes response_tree 1 (encodable_if response_tree 1 refl))

@@ -47,8 +47,8 @@ anchor_tbs =
 abbrev pub anchor_signature : List ℕ
 anchor_signature = octets (codes "032100454e02142f1b8e0a28ffede853e53e0436560b089f12ed112d621f232170559d")
 
-abbrev pub anchor : List ℕ
-anchor =
+abbrev pub anchor_der : List ℕ
+anchor_der =
     octets (codes "308196")
     ++ anchor_tbs
     ++ algorithm
@@ -68,8 +68,8 @@ target_tbs =
 abbrev pub target_signature : List ℕ
 target_signature = octets (codes "03210010ac851285f2074fd03ef685e5928a13e6f7d27118ae38a2526dc5c613b1da9c")
 
-abbrev pub target : List ℕ
-target =
+abbrev pub target_der : List ℕ
+target_der =
     octets (codes "308181")
     ++ target_tbs
     ++ algorithm
@@ -97,8 +97,8 @@ list_2 =
     ++ octets (codes "03210032dd0e272ca32c599cf0c698d1766f5735feae1ba75974c4707914c76734a7fd")
 
 -- A response of R, which says that the certificate with serial number 05 is good: its content, and the whole.
-abbrev pub basic_response : List ℕ
-basic_response =
+abbrev pub basic_response_der : List ℕ
+basic_response_der =
     octets (codes "3081b1308185")
     ++ octets (codes "a10e")
     ++ name_r
@@ -114,7 +114,7 @@ basic_response =
     ++ algorithm
     ++ octets (codes "032100dc07faaf772eec913d5ce8cf4e7a3b420bd362857c5084ff100e92076100decd")
 
-abbrev pub response : List ℕ
-response =
+abbrev pub response_der : List ℕ
+response_der =
     octets (codes "3081cb0a0100a081c53081c206092b06010505073001010481b4")
-    ++ basic_response
+    ++ basic_response_der

@@ -9,7 +9,7 @@ use Rattle.statements.specs.Statement.{Statement}
 use Rattle.statements_ocsp.specs.Certificates.{certificate_in, certificates_in}
 use Rattle.statements_ocsp.specs.OcspResponse.{OcspResponse}
 use Rattle.relying_questions.specs.Questions.{Judgement, of_certificate, asked_of_delegate, asked_of_issuer, asked_of_path, asked_of_response, asked_of_statements, questions_of}
-use Rattle.relying_questions.specs.Seen.{asked_of_link, asked_of_links, asked_of_option, asked_of_value, issuer_of_link, issuers_in, seen_all, seen_question}
+use Rattle.relying_questions.specs.Seen.{asked_of_link, asked_of_links, asked_of_option, asked_of_value, issuer_of_link, issuers_of_links, seen_all, seen_question}
 use Rattle.path.specs.Query.{Query}
 use Rattle.relying_agreement.specs.Link.{Link, links_of}
 use Rattle.relying_evidence.specs.View.{seen_link}
@@ -87,17 +87,17 @@ links_asked : (links : List linked.Link) → asked_of_links links ≡ map (λ (l
 links_asked [] = refl
 links_asked (link ∷ links) = ap (λ more. asked_of_link link ∷ more) (links_asked links)
 
-issuers_are : (links : List linked.Link) → issuers_in links ≡ map (λ (link : Link). link.issuer) (map seen_link links)
+issuers_are : (links : List linked.Link) → issuers_of_links links ≡ map (λ (link : Link). link.issuer) (map seen_link links)
 issuers_are [] = refl
 issuers_are (link ∷ links) = ap (λ more. issuer_of_link link ∷ more) (issuers_are links)
 
 pub all_questions : (query : Query) (statements : List Statement) (links one other : List linked.Link) (start : List SignatureQuestion) (middle new : List Judgement)
     → start ≡ [] → one ≡ links → other ≡ links → map seen_link links ≡ links_of query
-    → middle ≡ seen_all start ++ asked_of_links one → new ≡ middle ++ asked_of_statements (issuers_in other) statements → new ≡ questions_of query statements
+    → middle ≡ seen_all start ++ asked_of_links one → new ≡ middle ++ asked_of_statements (issuers_of_links other) statements → new ≡ questions_of query statements
 all_questions query statements links one other start middle new start_is one_is other_is links_are first second =
     let path : asked_of_links one ≡ asked_of_path query =
     ap asked_of_links one_is ∙ links_asked links ∙ ap (map (λ (link : Link). of_certificate link.issuer link.certificate)) links_are in
-    let issuers : issuers_in other ≡ issuers_of query = ap issuers_in other_is ∙ issuers_are links ∙ ap (map (λ (link : Link). link.issuer)) links_are in
+    let issuers : issuers_of_links other ≡ issuers_of query = ap issuers_of_links other_is ∙ issuers_are links ∙ ap (map (λ (link : Link). link.issuer)) links_are in
     second
     ∙ ap (λ is. middle ++ asked_of_statements is statements) issuers
     ∙ ap (λ l. l ++ asked_of_statements (issuers_of query) statements) (first ∙ ap (λ s. seen_all s ++ asked_of_links one) start_is ∙ path)

@@ -9,7 +9,7 @@ use Rattle.statements.specs.OneIssuer.{WasRead}
 use Rattle.statements.specs.Statement.{Statement, StatementIsExact, statement}
 use Rattle.relying_agreement.specs.Link.{links_from, links_of}
 use Rattle.relying_questions.specs.declared.question.SignatureQuestion.{SignatureQuestion}
-use Rattle.relying_questions.specs.declared.part.Source.TheVariants as source
+use Rattle.relying_questions.specs.declared.part.WhichText.TheVariants as source
 use Rattle.relying_questions.specs.Places.{Texts, AllInTexts, AreInTexts, HasParts, KeepsInTexts, LinkStands, StatementStands, StatementsStand, WereRead, WereStatementsRead, statement_text, texts_in}
 use Rattle.relying_questions.proofs.Standing.{has_parts, list_stands, response_stands}
 

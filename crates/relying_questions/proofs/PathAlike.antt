@@ -5,7 +5,7 @@ use Rattle.path.specs.declared.reason.Reason.{Reason}
 use Rattle.path.specs.declared.reason.Reason.TheVariants.{Repeated, Signature, NotYet, Expired, Issuer, NotPermitted, Excluded, ConstraintForm, NotCa, PathLength, KeyCertSign, Policy, CriticalUnknown, Purpose, Empty, TooLong}
 use Rattle.path.specs.declared.reason.Outcome.{Outcome}
 use Rattle.path.specs.declared.reason.Outcome.TheVariants.{Good, Bad}
-use Rattle.path.specs.Query.{Query, Accepts, count, certificate_at}
+use Rattle.path.specs.Query.{Query, Accepts, count, certificate_numbered}
 use Rattle.path.specs.Conditions.{MeetsCondition, IsSignedByIssuer}
 use Rattle.path.specs.Validity.{IsOutcome, IsFirstBroken}
 use Rattle.relying_agreement.specs.Link.{Link, links_from}
@@ -30,9 +30,9 @@ signature_alike accepts other q alike zero from to is = absurd (omega (arith, fr
 signature_alike accepts other q alike (suc j) from to is =
     let earlier : suc j - 1 ≡ j = omega arith in
     let same = signed_alike accepts other 1 q.anchor q.certificates alike j q.anchor (omega (arith, to)) in
-    let signed : IsSignedByIssuer accepts (certificate_at q (suc j)) (certificate_at q j).key_info.value.octets =
-    subst (λ i. IsSignedByIssuer accepts (certificate_at q (suc j)) (certificate_at q i).key_info.value.octets) earlier is in
-    subst (λ i. IsSignedByIssuer other (certificate_at q (suc j)) (certificate_at q i).key_info.value.octets) (sym earlier) (sym same ∙ signed)
+    let signed : IsSignedByIssuer accepts (certificate_numbered q (suc j)) (certificate_numbered q j).key_info.value.octets =
+    subst (λ i. IsSignedByIssuer accepts (certificate_numbered q (suc j)) (certificate_numbered q i).key_info.value.octets) earlier is in
+    subst (λ i. IsSignedByIssuer other (certificate_numbered q (suc j)) (certificate_numbered q i).key_info.value.octets) (sym earlier) (sym same ∙ signed)
 
 condition_alike : (accepts other : Accepts) (q : Query) → Alike accepts other (asked_of_path q) → (j : ℕ) → 1 ≤ j → j ≤ count q
     → (reason : Reason) → MeetsCondition accepts q j reason → MeetsCondition other q j reason

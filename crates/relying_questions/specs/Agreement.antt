@@ -6,21 +6,21 @@ use Rattle.relying_agreement.specs.declared.verdict.Verdict.{Verdict}
 use Rattle.statements.specs.Statement.{Statement}
 use Rattle.relying_texts.specs.Texts.{IsVerdictByStatements}
 use Rattle.relying_questions.specs.Questions.{Judgement, answer, questions_of}
-use Rattle.relying_questions.specs.Seen.{print_of}
+use Rattle.relying_questions.specs.Seen.{judgement_print}
 
 -- both answer each of the questions alike
 abbrev pub AnswerAlike : Accepts → Accepts → List Judgement → Type 0
 AnswerAlike accepts other questions = (asked : Judgement) → Contains questions asked → answer accepts asked ≡ answer other asked
 
 -- Verifiers that answer the questions alike give the same verdict on the path by the statements.
-abbrev pub Decide : List Judgement → Query → List Statement → Type 0
-Decide questions query statements =
+abbrev pub DecideVerdict : List Judgement → Query → List Statement → Type 0
+DecideVerdict questions query statements =
     (accepts other : Accepts) → AnswerAlike accepts other questions →
     (verdict : Verdict) → IsVerdictByStatements accepts query statements verdict ↔ IsVerdictByStatements other query statements verdict
 
 -- The questions about a path and statements do so.
 abbrev pub QuestionsDecide : Type 0
-QuestionsDecide = (query : Query) (statements : List Statement) → Decide (questions_of query statements) query statements
+QuestionsDecide = (query : Query) (statements : List Statement) → DecideVerdict (questions_of query statements) query statements
 
 -- ---- by fingerprints
 
@@ -34,5 +34,5 @@ AcceptsPrints accepts prints =
 abbrev pub PrintsDecide : Type 0
 PrintsDecide =
     (accepts by_prints : Accepts) (query : Query) (statements : List Statement) (prints : List (List ℕ)) → AcceptsPrints by_prints prints →
-    ((asked : Judgement) → Contains (questions_of query statements) asked → (IsTrue (answer accepts asked) ↔ Contains prints (print_of asked))) →
+    ((asked : Judgement) → Contains (questions_of query statements) asked → (IsTrue (answer accepts asked) ↔ Contains prints (judgement_print asked))) →
     (verdict : Verdict) → IsVerdictByStatements accepts query statements verdict ↔ IsVerdictByStatements by_prints query statements verdict

@@ -16,33 +16,33 @@ use Rattle.relying_agreement.specs.Link.{Link}
 use Rattle.relying_evidence.specs.View.{seen_link}
 use Rattle.relying_evidence.specs.declared.link.Link as linked
 use Rattle.relying_questions.specs.declared.question.SignatureQuestion as asked
-use Rattle.relying_questions.specs.declared.part.Part as part
-use Rattle.relying_questions.specs.declared.part.Source.{Source}
-use Rattle.relying_questions.specs.declared.part.Source.TheVariants as source
+use Rattle.relying_questions.specs.declared.part.TextPart as part
+use Rattle.relying_questions.specs.declared.part.WhichText.{WhichText}
+use Rattle.relying_questions.specs.declared.part.WhichText.TheVariants as source
 use Rattle.relying_questions.specs.declared.placed.Placed as placed
 
 -- ---- the texts
 
 abbrev pub Texts : Type 0
-Texts = Source → List ℕ
+Texts = WhichText → List ℕ
 
 -- those of certificates, the anchor first, and of statements; what is not there has no octets
 abbrev pub texts_at : List (List ℕ) → List (List ℕ) → Texts
 texts_at certificates statements (source.Certificate number) = slice_index_or certificates number []
 texts_at certificates statements (source.Statement index) = slice_index_or statements index []
 
-abbrev pub octets_of_each : List Certificate → List (List ℕ)
-octets_of_each certificates = map (λ (c : Certificate). c.octets) certificates
+abbrev pub certificate_octets : List Certificate → List (List ℕ)
+certificate_octets certificates = map (λ (c : Certificate). c.octets) certificates
 
 -- those of a path, and these of statements
 abbrev pub texts_in : Query → List (List ℕ) → Texts
-texts_in query octets = texts_at (octets_of_each (query.anchor ∷ query.certificates)) octets
+texts_in query octets = texts_at (certificate_octets (query.anchor ∷ query.certificates)) octets
 
 abbrev pub statement_text : Texts → ℕ → List ℕ
 statement_text texts index = texts (source.Statement index)
 
 -- the part stands in its text, at its offset
-pub record Stands (texts : Texts) (part : part.Part) : Type 0 where
+pub record Stands (texts : Texts) (part : part.TextPart) : Type 0 where
   pub is_part : IsPartOf (texts part.source) part.at part.octets.now
   -- it is not the empty part at the begin of no octets, so its source is there
   pub is_there : 0 < part.at + length part.octets.now

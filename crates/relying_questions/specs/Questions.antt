@@ -3,6 +3,7 @@ use Rattle.std.specs.Prelude.{◌&&◌, ℕ, Bool, List, [], ◌∷◌, ◌++◌
 use Rattle.std.specs.List.{flat_map}
 use Rattle.names.specs.DistinguishedName.{matching}
 use Rattle.cert.specs.Certificate.{Certificate}
+pub use Rattle.path_verifiers.specs.Fingerprint.{Judgement}
 use Rattle.path.specs.Query.{Query, Accepts}
 use Rattle.statements_crl.specs.CertificateList.{CertificateList}
 use Rattle.statements_ocsp.specs.OcspResponse.{OcspResponse}
@@ -11,13 +12,6 @@ use Rattle.statements.specs.Responder.{is_named_by, may_respond}
 use Rattle.statements.specs.Statement.{Statement}
 use Rattle.relying_agreement.specs.Link.{Link, links_of}
 use Rattle.relying_texts.specs.Texts.{issuers_of}
-
--- Whether the signature of the message is accepted under the key, by the algorithm.
-pub record Judgement : Type 0 where
-  pub algorithm : List ℕ
-  pub key_info : List ℕ
-  pub message : List ℕ
-  pub signature : List ℕ
 
 -- how a verifier answers it
 abbrev pub answer : Accepts → Judgement → Bool

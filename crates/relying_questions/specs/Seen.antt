@@ -2,7 +2,7 @@
 use Rattle.std.specs.Prelude.{◌≡◌, ◌++◌, ℕ, List, [], map, Option, Some, None}
 use Rattle.asn.specs.Place.{Place}
 use Rattle.cert.specs.Certificate.{Certificate, seen_certificate}
-use Rattle.path_verifiers.specs.Fingerprint.{fingerprint_of}
+pub use Rattle.path_verifiers.specs.Fingerprint.{judgement_print}
 use Rattle.statements_crl.specs.CertificateList.{seen_list}
 use Rattle.statements_crl.specs.declared.list.Crl as list
 use Rattle.statements_ocsp.specs.Certificates.{certificate_in}
@@ -24,10 +24,6 @@ seen_question asked = record {
   signature = asked.signature.octets.now;
 }
 
--- the fingerprint of a question
-abbrev pub print_of : Judgement → List ℕ
-print_of asked = fingerprint_of asked.algorithm asked.key_info asked.message asked.signature
-
 -- what the questions are
 abbrev pub seen_all : List code.SignatureQuestion → List Judgement
 seen_all asked = map seen_question asked
@@ -44,8 +40,8 @@ issuer_of_link link = seen_certificate link.issuer.now
 abbrev pub certificate_of : linked.Link → Certificate
 certificate_of link = seen_certificate link.certificate.now
 
-abbrev pub issuers_in : List linked.Link → List Certificate
-issuers_in links = map issuer_of_link links
+abbrev pub issuers_of_links : List linked.Link → List Certificate
+issuers_of_links links = map issuer_of_link links
 
 -- the questions of the certificates, in order
 abbrev pub asked_of_link : linked.Link → Judgement

@@ -4,12 +4,12 @@ ghost use Rattle.std.specs.Prelude.{◌≡◌, ℕ, List, IfOk, map};
 ghost use Rattle.path.specs.Reading.{seen_query};
 ghost use Rattle.statements.specs.Statement.{seen_statement};
 ghost use Rattle.relying_evidence.specs.View.{seen_link};
-ghost use Rattle.relying_questions.specs.Agreement.{Decide};
+ghost use Rattle.relying_questions.specs.Agreement.{DecideVerdict};
 ghost use Rattle.relying_questions.specs.Places.{AllInTexts, IsPlaced, KeepsInTexts, LinkStands, LinksStand, StatementStands, StatementsStand, Texts, WereRead, WereStatementsRead, placed_certificate, statement_text, texts_in};
 ghost use Rattle.relying_questions.specs.Questions.{asked_of_statement, asked_of_statements, questions_of};
-ghost use Rattle.relying_questions.specs.Seen.{Adds, asked_of_links, certificate_of, issuer_of_link, issuers_in, seen_all};
+ghost use Rattle.relying_questions.specs.Seen.{Adds, asked_of_links, certificate_of, issuer_of_link, issuers_of_links, seen_all};
 
-use crate::part::Source;
+use crate::part::WhichText;
 use crate::placed::Placed;
 use crate::question::SignatureQuestion;
 use crate::signatures::of_certificate;
@@ -27,7 +27,7 @@ fn issuer_of<'p, 'a>(link: &Link<'p, 'a>) -> Placed<'p, 'a>
 {
     Placed {
         certificate: link.issuer,
-        source: Source::Certificate(link.number.saturating_sub(1)),
+        source: WhichText::Certificate(link.number.saturating_sub(1)),
     }
 }
 
@@ -39,7 +39,7 @@ fn certificate_of<'p, 'a>(link: &Link<'p, 'a>) -> Placed<'p, 'a>
 {
     Placed {
         certificate: link.certificate,
-        source: Source::Certificate(link.number),
+        source: WhichText::Certificate(link.number),
     }
 }
 
@@ -68,13 +68,13 @@ fn ask_under_each<'a>(
     statement: &Statement<'a>,
 ) -> Result<(), AllocError>
     ensures asked { IfOk result (λ _. Adds asked.old.items asked.new.items
-        (asked_of_statement (issuers_in links.now) (seen_statement statement.now))) }
+        (asked_of_statement (issuers_of_links links.now) (seen_statement statement.now))) }
     ensures places { IfOk result (λ _. KeepsInTexts (λ texts. LinksStand texts links.now
         × StatementStands (statement_text texts index) (seen_statement statement.now))
         asked.old.items asked.new.items) }
 {
     for link in links {
-        let source = Source::Statement(index);
+        let source = WhichText::Statement(index);
         ask_statement(alloc, asked, &issuer_of(link), source, statement)?;
     }
     Ok(())
@@ -88,7 +88,7 @@ fn ask_statements<'a>(
     statements: &[Statement<'a>],
 ) -> Result<(), AllocError>
     ensures asked { IfOk result (λ _. Adds asked.old.items asked.new.items
-        (asked_of_statements (issuers_in links.now) (map seen_statement statements.now))) }
+        (asked_of_statements (issuers_of_links links.now) (map seen_statement statements.now))) }
     ensures places { IfOk result (λ _. KeepsInTexts (λ texts. LinksStand texts links.now
         × StatementsStand texts 0 (map seen_statement statements.now))
         asked.old.items asked.new.items) }
@@ -118,7 +118,7 @@ pub fn questions<'a>(
 ) -> Result<Vec<SignatureQuestion<'a>>, AllocError>
     ensures asked { IfOk result (λ asked. seen_all asked.items
         ≡ questions_of (seen_query query.now) (map seen_statement statements.now)) }
-    ensures decide { IfOk result (λ asked. Decide (seen_all asked.items)
+    ensures decide { IfOk result (λ asked. DecideVerdict (seen_all asked.items)
         (seen_query query.now) (map seen_statement statements.now)) }
     // If certificates and statements were read from octets, each part stands in its text, at its offset.
     ensures places { IfOk result (λ asked. (octets : List (List ℕ))

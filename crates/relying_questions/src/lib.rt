@@ -11,5 +11,5 @@ mod statement_questions;
 
 pub use asking::questions;
 pub use deciding::question_laws;
-pub use part::{Part, Source};
+pub use part::{TextPart, WhichText};
 pub use question::SignatureQuestion;

@@ -11,7 +11,7 @@ use cert::BitString;
 
 /// A text that holds a part of a question.
 #[derive(Clone, Copy, Debug, PartialEq, Eq)]
-pub enum Source {
+pub enum WhichText {
     /// A certificate, by its number: 0 is the anchor, and the path begins with 1.
     Certificate(usize),
     /// A statement, by its index, from 0 on.
@@ -20,8 +20,8 @@ pub enum Source {
 
 /// Octets, and where they stand.
 #[derive(Clone, Copy, Debug, PartialEq, Eq)]
-pub struct Part<'a> {
-    pub source: Source,
+pub struct TextPart<'a> {
+    pub source: WhichText,
     /// The offset in that text.
     pub at: usize,
     pub octets: &'a [u8],
@@ -38,14 +38,14 @@ fn offset_of_bits(value: Tlv<'_>) -> usize
     }
 }
 
-impl<'a> Part<'a> {
+impl<'a> TextPart<'a> {
     /// A value of the text.
-    pub(crate) fn whole(source: Source, value: Tlv<'a>) -> Part<'a>
+    pub(crate) fn whole(source: WhichText, value: Tlv<'a>) -> TextPart<'a>
         ensures octets { result.octets.now ≡ value.entry.whole.now }
         ensures stands { (texts : Texts) → IsPlaceIn (texts source) (seen_tlv value.entry)
             → Stands texts result }
     {
-        Part {
+        TextPart {
             source,
             at: value.at,
             octets: value.whole,
@@ -53,13 +53,13 @@ impl<'a> Part<'a> {
     }
 
     /// The octets of a BIT STRING of the text.
-    pub(crate) fn bits(source: Source, bits: BitString<'a>) -> Part<'a>
+    pub(crate) fn bits(source: WhichText, bits: BitString<'a>) -> TextPart<'a>
         ensures octets { result.octets.now ≡ (seen_bit_string bits.entry).octets }
         ensures stands { (texts : Texts) → IsPartOf (texts source)
             (bits_at (seen_tlv bits.entry.value)) (seen_bit_string bits.entry).octets
             → Stands texts result }
     {
-        Part {
+        TextPart {
             source,
             at: offset_of_bits(bits.value),
             octets: bits.octets(),

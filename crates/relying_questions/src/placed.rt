@@ -1,11 +1,11 @@
 //! Certificates, and the texts that they stand in.
 
-use crate::part::Source;
+use crate::part::WhichText;
 use cert::Certificate;
 
 /// A certificate whose parts stand in a text.
 #[derive(Clone, Copy)]
 pub(crate) struct Placed<'p, 'a> {
     pub(crate) certificate: &'p Certificate<'a>,
-    pub(crate) source: Source,
+    pub(crate) source: WhichText,
 }

@@ -2,9 +2,9 @@
 
 ghost use Rattle.std.specs.Prelude.{◌≡◌};
 ghost use Rattle.relying_questions.specs.Questions.{answer};
-ghost use Rattle.relying_questions.specs.Seen.{print_of, seen_question};
+ghost use Rattle.relying_questions.specs.Seen.{judgement_print, seen_question};
 
-use crate::part::Part;
+use crate::part::TextPart;
 use path_verifiers::{Verifier, fingerprint};
 
 /// A question to a verifier: is the signature of the message accepted under the key, by the algorithm? `algorithm` and `key_info` are the
@@ -12,16 +12,16 @@ use path_verifiers::{Verifier, fingerprint};
 /// signature.
 #[derive(Clone, Copy, Debug, PartialEq, Eq)]
 pub struct SignatureQuestion<'a> {
-    pub algorithm: Part<'a>,
-    pub key_info: Part<'a>,
-    pub message: Part<'a>,
-    pub signature: Part<'a>,
+    pub algorithm: TextPart<'a>,
+    pub key_info: TextPart<'a>,
+    pub message: TextPart<'a>,
+    pub signature: TextPart<'a>,
 }
 
 impl<'a> SignatureQuestion<'a> {
     /// The fingerprint of the question, which a `ListVerifier` looks for. No memory is taken.
     pub fn fingerprint(&self) -> [u8; 32]
-        ensures { result ≡ print_of (seen_question self.now) }
+        ensures { result ≡ judgement_print (seen_question self.now) }
     {
         let (algorithm, key_info) = (self.algorithm.octets, self.key_info.octets);
         let (message, signature) = (self.message.octets, self.signature.octets);

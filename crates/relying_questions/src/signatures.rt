@@ -7,18 +7,18 @@ ghost use Rattle.relying_questions.specs.Questions.{of_certificate, of_revocatio
 ghost use Rattle.relying_questions.specs.Places.{AreInTexts, IsPlaced, ListStands, ResponseStands, Stands, Texts, placed_certificate};
 ghost use Rattle.relying_questions.specs.Seen.{seen_question};
 
-use crate::part::{Part, Source};
+use crate::part::{TextPart, WhichText};
 use crate::placed::Placed;
 use crate::question::SignatureQuestion;
 use statements_crl::Crl;
 use statements_ocsp::Response;
 
 /// The key of a certificate.
-fn key_of<'a>(signer: &Placed<'_, 'a>) -> Part<'a>
+fn key_of<'a>(signer: &Placed<'_, 'a>) -> TextPart<'a>
     ensures octets { result.octets.now ≡ (placed_certificate signer.now).key_info.value.octets }
     ensures places { (texts : Texts) → IsPlaced texts signer.now → Stands texts result }
 {
-    Part::whole(
+    TextPart::whole(
         signer.source,
         signer.certificate.subject_public_key_info.value,
     )
@@ -36,17 +36,17 @@ pub(crate) fn of_certificate<'a>(
 {
     let (source, certificate) = (placed.source, placed.certificate);
     SignatureQuestion {
-        algorithm: Part::whole(source, certificate.algorithm.value),
+        algorithm: TextPart::whole(source, certificate.algorithm.value),
         key_info: key_of(issuer),
-        message: Part::whole(source, certificate.tbs),
-        signature: Part::bits(source, certificate.signature),
+        message: TextPart::whole(source, certificate.tbs),
+        signature: TextPart::bits(source, certificate.signature),
     }
 }
 
 /// Whether the list is signed under the issuer's key.
 pub(crate) fn of_revocations<'a>(
     issuer: &Placed<'_, 'a>,
-    source: Source,
+    source: WhichText,
     list: &Crl<'a>,
 ) -> SignatureQuestion<'a>
     ensures question { seen_question result
@@ -55,17 +55,17 @@ pub(crate) fn of_revocations<'a>(
         → ListStands (texts source) (seen_list list.now) → AreInTexts texts result }
 {
     SignatureQuestion {
-        algorithm: Part::whole(source, list.algorithm.value),
+        algorithm: TextPart::whole(source, list.algorithm.value),
         key_info: key_of(issuer),
-        message: Part::whole(source, list.tbs),
-        signature: Part::bits(source, list.signature),
+        message: TextPart::whole(source, list.tbs),
+        signature: TextPart::bits(source, list.signature),
     }
 }
 
 /// Whether the response is signed under the signer's key.
 pub(crate) fn of_answers<'a>(
     signer: &Placed<'_, 'a>,
-    source: Source,
+    source: WhichText,
     response: &Response<'a>,
 ) -> SignatureQuestion<'a>
     ensures question { seen_question result
@@ -74,9 +74,9 @@ pub(crate) fn of_answers<'a>(
         → ResponseStands (texts source) (seen_response response.now) → AreInTexts texts result }
 {
     SignatureQuestion {
-        algorithm: Part::whole(source, response.algorithm.value),
+        algorithm: TextPart::whole(source, response.algorithm.value),
         key_info: key_of(signer),
-        message: Part::whole(source, response.tbs),
-        signature: Part::bits(source, response.signature),
+        message: TextPart::whole(source, response.tbs),
+        signature: TextPart::bits(source, response.signature),
     }
 }

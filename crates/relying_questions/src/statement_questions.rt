@@ -10,7 +10,7 @@ ghost use Rattle.statements_ocsp.specs.OcspResponse.{certs_left, seen_response};
 ghost use Rattle.relying_questions.specs.Places.{IsPlaced, KeepsInTexts, ListStands, ResponseStands, StatementStands};
 ghost use Rattle.relying_questions.specs.Seen.{Adds, asked_of_delegate_seen, asked_of_issuer_seen, asked_of_list_seen, asked_of_response_seen, asked_of_value_seen, asked_under_seen};
 
-use crate::part::Source;
+use crate::part::WhichText;
 use crate::placed::Placed;
 use crate::question::SignatureQuestion;
 use crate::signatures::{of_answers, of_certificate, of_revocations};
@@ -25,7 +25,7 @@ use std::alloc::{AllocError, Global};
 fn ask_list<'a>(
     asked: &mut Vec<SignatureQuestion<'a>>,
     issuer: &Placed<'_, 'a>,
-    source: Source,
+    source: WhichText,
     list: &Crl<'a>,
 ) -> Result<(), AllocError>
     ensures asked { IfOk result (λ _. Adds asked.old.items asked.new.items
@@ -43,7 +43,7 @@ fn ask_list<'a>(
 fn ask_issuer<'a>(
     asked: &mut Vec<SignatureQuestion<'a>>,
     issuer: &Placed<'_, 'a>,
-    source: Source,
+    source: WhichText,
     response: &Response<'a>,
 ) -> Result<(), AllocError>
     ensures asked { IfOk result (λ _. Adds asked.old.items asked.new.items
@@ -63,7 +63,7 @@ fn ask_issuer<'a>(
 fn ask_delegate<'a>(
     asked: &mut Vec<SignatureQuestion<'a>>,
     issuer: &Placed<'_, 'a>,
-    source: Source,
+    source: WhichText,
     response: &Response<'a>,
     delegate: &Placed<'_, 'a>,
 ) -> Result<(), AllocError>
@@ -90,7 +90,7 @@ fn ask_value<'a>(
     alloc: Global,
     asked: &mut Vec<SignatureQuestion<'a>>,
     issuer: &Placed<'_, 'a>,
-    source: Source,
+    source: WhichText,
     response: &Response<'a>,
     value: Tlv<'a>,
 ) -> Result<(), AllocError>
@@ -118,7 +118,7 @@ fn ask_values<'a>(
     alloc: Global,
     asked: &mut Vec<SignatureQuestion<'a>>,
     issuer: &Placed<'_, 'a>,
-    source: Source,
+    source: WhichText,
     response: &Response<'a>,
 ) -> Result<(), AllocError>
     ensures asked { IfOk result (λ _. Adds asked.old.items asked.new.items
@@ -139,7 +139,7 @@ fn ask_response<'a>(
     alloc: Global,
     asked: &mut Vec<SignatureQuestion<'a>>,
     issuer: &Placed<'_, 'a>,
-    source: Source,
+    source: WhichText,
     response: &Response<'a>,
 ) -> Result<(), AllocError>
     ensures asked { IfOk result (λ _. Adds asked.old.items asked.new.items
@@ -157,7 +157,7 @@ pub(crate) fn ask_statement<'a>(
     alloc: Global,
     asked: &mut Vec<SignatureQuestion<'a>>,
     issuer: &Placed<'_, 'a>,
-    source: Source,
+    source: WhichText,
     statement: &Statement<'a>,
 ) -> Result<(), AllocError>
     ensures asked { IfOk result (λ _. Adds asked.old.items asked.new.items

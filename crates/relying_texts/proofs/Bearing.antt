@@ -10,7 +10,7 @@ use Rattle.statements_facts.specs.Coming.{crl_for, ocsp_for}
 use Rattle.statements_facts.specs.Newest.{newer_crl, newer_ocsp, held_after}
 use Rattle.statements_facts.proofs.Laws.{crls_keep_newest, responses_keep_newest}
 use Rattle.statements.specs.Issuer.{identity_of}
-use Rattle.relying_agreement.specs.Link.{Link, links_of, own_scope, crl_slot}
+use Rattle.relying_agreement.specs.Link.{Link, links_of, own_scope, crl_slot_for}
 use Rattle.relying_agreement.specs.Status.{Evidence, evidence_of, may_sign_crls, list_held}
 use Rattle.relying_agreement.specs.Verdict.{verdict_by}
 use Rattle.relying_agreement.specs.declared.verdict.Verdict.{Verdict}
@@ -21,7 +21,7 @@ use Rattle.relying_texts.specs.Texts.{facts_told, evidence_told}
 use Rattle.relying_texts.specs.View.{held_of}
 
 abbrev pub list_found : List Fact → Link → Scope → List ℕ → Option CrlAnswer
-list_found facts link scope serial = option_map (answer_for serial) (held_after newer_crl None (filter_map (crl_for (crl_slot link scope)) facts))
+list_found facts link scope serial = option_map (answer_for serial) (held_after newer_crl None (filter_map (crl_for (crl_slot_for link scope)) facts))
 
 abbrev pub response_found : List Fact → Link → List ℕ → List ℕ → Option OcspFact
 response_found facts link hash serial =
@@ -31,9 +31,9 @@ list_is : (facts : List Fact) (link : Link) (scope kind : Scope) (serial of : Li
     → answer ≡ list_found facts link scope serial → answer ≡ list_held (held_of facts) (identity_of link.issuer) kind of
 list_is facts link scope kind serial of answer kind_is serial_is is =
     is
-    ∙ ap (option_map (answer_for serial)) (crls_keep_newest.held None (filter_map (crl_for (crl_slot link scope)) facts))
-    ∙ ap (λ k. option_map (answer_for serial) ((held_of facts).crl (crl_slot link k))) kind_is
-    ∙ ap (λ s. option_map (answer_for s) ((held_of facts).crl (crl_slot link kind))) serial_is
+    ∙ ap (option_map (answer_for serial)) (crls_keep_newest.held None (filter_map (crl_for (crl_slot_for link scope)) facts))
+    ∙ ap (λ k. option_map (answer_for serial) ((held_of facts).crl (crl_slot_for link k))) kind_is
+    ∙ ap (λ s. option_map (answer_for s) ((held_of facts).crl (crl_slot_for link kind))) serial_is
 
 pub bears : (facts : List Fact) (link : Link) (kind : Scope) (serial hash : List ℕ) (may : Bool) (all own : Option CrlAnswer) (ocsp : Option OcspFact)
     → kind ≡ own_scope link.certificate → serial ≡ body link.certificate.serial → hash ≡ sha1 link.certificate.issuer.octets → may ≡ may_sign_crls link

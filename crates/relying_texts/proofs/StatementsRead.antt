@@ -5,7 +5,7 @@ use Rattle.std.proofs.lemmas.List.{get_or-take, get_or-map, length-map, map_more
 use Rattle.path.specs.Reading.{texts_of}
 use Rattle.statements.specs.Statement.{Statement, seen_statement, statement}
 use Rattle.statements.specs.declared.statement.Statement as code
-use Rattle.statements_parts.specs.Fault.{FailsUnlessFull}
+use Rattle.statements_parts.specs.Fault.{StatementFailsUnlessFull}
 use Rattle.statements_parts.specs.declared.fault.ReadingFault.{ReadingFault}
 use Rattle.statements_parts.specs.declared.fault.ReadingFault.TheVariants.{Memory}
 use Rattle.statements_parts.specs.declared.fault.StatementRule.{StatementRule}
@@ -38,7 +38,7 @@ each_is_read (text ∷ texts) (one ∷ read) e zero below = let head : statement
 each_is_read (text ∷ texts) (one ∷ read) e (suc i) below = let rest : map statement texts ≡ map read_as read = cc in each_is_read texts read rest i (omega arith)
 
 refused_at : (texts : List (Bor (List ℕ))) (i : ℕ) (read : List code.Statement) (fault : ReadingFault) → i < length texts
-    → FailsUnlessFull fault (statement (get_or (texts_of texts) i [])) → AreReadUpTo texts i read → IsFirstStatementRefused (texts_of texts) i fault
+    → StatementFailsUnlessFull fault (statement (get_or (texts_of texts) i [])) → AreReadUpTo texts i read → IsFirstStatementRefused (texts_of texts) i fault
 refused_at texts i read fault below fails so_far = record {
   within = texts_count texts i below;
   refused = fails;
@@ -49,9 +49,9 @@ refused_at texts i read fault below fails so_far = record {
 }
 
 pub refused_here : (texts : List (Bor (List ℕ))) (i : ℕ) (d : Bor (List ℕ)) (read : List code.Statement) (fault : ReadingFault) → i < length texts
-    → FailsUnlessFull fault (statement (get_or texts i d).now) → AreReadUpTo texts i read → IsFirstStatementRefused (texts_of texts) i fault
+    → StatementFailsUnlessFull fault (statement (get_or texts i d).now) → AreReadUpTo texts i read → IsFirstStatementRefused (texts_of texts) i fault
 refused_here texts i d read fault below fails so_far =
-    refused_at texts i read fault below (subst (λ t. FailsUnlessFull fault (statement t)) (text_is texts i d below) fails) so_far
+    refused_at texts i read fault below (subst (λ t. StatementFailsUnlessFull fault (statement t)) (text_is texts i d below) fails) so_far
 
 pub no_room : (texts : List (Bor (List ℕ))) (i : ℕ) (read : List code.Statement) → i < length texts → AreReadUpTo texts i read → IsFirstStatementRefused (texts_of texts) i Memory
 no_room texts i read below so_far = refused_at texts i read Memory below tt so_far

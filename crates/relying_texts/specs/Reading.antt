@@ -1,7 +1,7 @@
 -- Statements that are read from their octets, and which of several is refused.
 use Rattle.std.specs.Prelude.{◌≡◌, ◌<◌, ℕ, List, [], length, map, slice_index_or, Ok, IsOk}
 use Rattle.statements.specs.Statement.{Statement, statement}
-use Rattle.statements_parts.specs.Fault.{FailsUnlessFull}
+use Rattle.statements_parts.specs.Fault.{StatementFailsUnlessFull}
 use Rattle.statements_parts.specs.declared.fault.ReadingFault.{ReadingFault}
 
 -- the statements are what the octets are
@@ -12,5 +12,5 @@ AreStatementsRead texts statements = map statement texts ≡ map (λ read. Ok re
 -- statements.
 pub record IsFirstStatementRefused (texts : List (List ℕ)) (j : ℕ) (fault : ReadingFault) : Type 0 where
   pub within : j < length texts
-  pub refused : FailsUnlessFull fault (statement (slice_index_or texts j []))
+  pub refused : StatementFailsUnlessFull fault (statement (slice_index_or texts j []))
   pub before : (i : ℕ) → i < j → IsOk (statement (slice_index_or texts i []))

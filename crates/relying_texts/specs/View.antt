@@ -51,12 +51,12 @@ facts_if_some issuer (Some contents) = facts_with issuer contents
 abbrev pub identity_seen : certificate.Certificate → IssuerIdentity
 identity_seen certificate = identity_of (seen_certificate certificate)
 
-abbrev pub facts_in : genuine.GenuineStatement → List Fact
-facts_in statement = facts_with (identity_seen statement.issuer.now) statement.contents
+abbrev pub facts_of_genuine : genuine.GenuineStatement → List Fact
+facts_of_genuine statement = facts_with (identity_seen statement.issuer.now) statement.contents
 
 -- all of them tell this
 abbrev pub facts_in_all : List genuine.GenuineStatement → List Fact
-facts_in_all statements = flat_map facts_in statements
+facts_in_all statements = flat_map facts_of_genuine statements
 
 abbrev pub list_fact_at : Bor list.Crl → CrlFact
 list_fact_at list = list_fact list.now

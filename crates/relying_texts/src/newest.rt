@@ -7,7 +7,7 @@ ghost use Rattle.statements_facts.specs.Coming.{crl_for};
 ghost use Rattle.statements_facts.specs.Newest.{held_after, newer_crl};
 ghost use Rattle.statements_facts.specs.Statement.{answer_for};
 ghost use Rattle.statements_facts.specs.Answer.{seen_crl};
-ghost use Rattle.relying_texts.specs.View.{crl_slot_of, facts_in, facts_in_all, list_fact, list_fact_at};
+ghost use Rattle.relying_texts.specs.View.{crl_slot_of, facts_of_genuine, facts_in_all, list_fact, list_fact_at};
 
 use crate::contents::{Contents, GenuineStatement};
 use crate::same_issuer::is_same_issuer;
@@ -22,7 +22,7 @@ fn list_for<'t, 'a>(
     scope: Scope,
 ) -> Option<&'t Crl<'a>>
     ensures { option_to_list (option_map list_fact_at result)
-        ≡ filter_map (crl_for (crl_slot_of issuer.now scope)) (facts_in statement.now) }
+        ≡ filter_map (crl_for (crl_slot_of issuer.now scope)) (facts_of_genuine statement.now) }
 {
     match &statement.contents {
         Contents::List(list) => {

@@ -6,7 +6,7 @@ ghost use Rattle.statements_facts.specs.Coming.{ocsp_for};
 ghost use Rattle.statements_facts.specs.Newest.{held_after, newer_ocsp, newer_of};
 ghost use Rattle.statements_facts.specs.Single.{seen_single};
 ghost use Rattle.statements_facts.specs.Answer.{seen_ocsp};
-ghost use Rattle.relying_texts.specs.View.{facts_in, facts_in_all, ocsp_slot_of, singles_for};
+ghost use Rattle.relying_texts.specs.View.{facts_of_genuine, facts_in_all, ocsp_slot_of, singles_for};
 
 use crate::contents::{Contents, GenuineStatement};
 use crate::same_issuer::is_same_issuer;
@@ -74,7 +74,7 @@ fn newest_of(
 ) -> Option<OcspAnswer>
     ensures { option_map seen_ocsp result ≡ held_after newer_ocsp (option_map seen_ocsp held)
         (filter_map (ocsp_for (ocsp_slot_of issuer.now name_hash.now serial.now))
-        (facts_in statement.now)) }
+        (facts_of_genuine statement.now)) }
 {
     match &statement.contents {
         Contents::List(_) => held,

@@ -20,7 +20,7 @@ use Rattle.statements.specs.Statement.{Statement, genuine_statement, statement, 
 use Rattle.statements.specs.Genuine.{Accepts, ◌then◌, as_refused, RefusesUnlessFull, AnswersUnlessFull}
 
 -- what is not read is refused so
-pub unread : {Y Z : Type 0} (fault : ReadingFault) (walk : Result Y (StatementRule × ℕ)) (next : Y → Result Z StatementFault) → reading.FailsUnlessFull fault walk → RefusesUnlessFull (reading.not_read fault) (as_refused walk then next)
+pub unread : {Y Z : Type 0} (fault : ReadingFault) (walk : Result Y (StatementRule × ℕ)) (next : Y → Result Z StatementFault) → reading.StatementFailsUnlessFull fault walk → RefusesUnlessFull (reading.not_read fault) (as_refused walk then next)
 unread (read.Refused rule at) walk next fails = rw fails refl
 unread read.Memory walk next fails = tt
 
@@ -77,7 +77,7 @@ module _ (accepts : Accepts) (issuer : Certificate) where
 
   -- ---- octets
 
-  pub not_read_fails : (octets : List ℕ) (fault : ReadingFault) → reading.FailsUnlessFull fault (statement octets) → RefusesUnlessFull (reading.not_read fault) (genuine_statement accepts issuer octets)
+  pub not_read_fails : (octets : List ℕ) (fault : ReadingFault) → reading.StatementFailsUnlessFull fault (statement octets) → RefusesUnlessFull (reading.not_read fault) (genuine_statement accepts issuer octets)
   unfolding genuine_statement
   not_read_fails octets fault fails = unread fault (statement octets) (λ read. statement_said accepts issuer read) fails
 

@@ -1,7 +1,7 @@
 -- Statements are read and believed exactly where the standards say so.
 use Rattle.std.proofs.Common.{◌≡◌, ℕ, Bool, true, false, List, [], ◌∷◌, map, Result, Ok, Err, inl, inr, if◌then◌else◌, refl, sym}
 use Rattle.asn.specs.DerLaws.{AreOctets}
-use Rattle.asn.specs.Judgement.{outermost}
+use Rattle.asn.specs.Outermost.{outermost}
 use Rattle.asn.specs.Members.{begins}
 use Rattle.asn.specs.Place.{Place}
 use Rattle.asn.specs.Walk.{◌>>=◌}
@@ -14,7 +14,7 @@ use Rattle.statements_ocsp.specs.Kind.{is_response}
 use Rattle.statements_ocsp.specs.OcspResponse.{OcspResponse, ocsp_response, ocsp_response_at}
 use Rattle.statements_ocsp.specs.ResponseForms.{IsOcspResponse, IsOcspResponseAt}
 use Rattle.statements_ocsp.proofs.Laws.{response_is_exact}
-use Rattle.statements_parts.specs.Fault.{as_der}
+use Rattle.statements_parts.specs.Fault.{as_statement_der}
 use Rattle.statements_parts.specs.declared.fault.StatementRule.{StatementRule}
 use Rattle.statements_facts.specs.Fact.{Fact}
 use Rattle.statements.specs.CrlFact.{list_said}
@@ -63,13 +63,13 @@ reads_response value response e = by (is_response value) (ocsp_response_at value
 list_read : (octets : List ℕ) (list : CertificateList) → AreOctets octets → statement octets ≡ Ok (Statement.OfList list) → IsCertificateList octets list
 unfolding statement certificate_list
 list_read octets list fits e =
-    let value = bind_ok {A = Place} (as_der (outermost octets)) (λ value. statement_at value) (Statement.OfList list) e in
+    let value = bind_ok {A = Place} (as_statement_der (outermost octets)) (λ value. statement_at value) (Statement.OfList list) e in
     (list_is_exact octets list fits).0 (rw value.1 (reads_list value.0 list value.2))
 
 response_read : (octets : List ℕ) (response : OcspResponse) → AreOctets octets → statement octets ≡ Ok (Statement.OfResponse response) → IsOcspResponse octets response
 unfolding statement ocsp_response
 response_read octets response fits e =
-    let value = bind_ok {A = Place} (as_der (outermost octets)) (λ value. statement_at value) (Statement.OfResponse response) e in
+    let value = bind_ok {A = Place} (as_statement_der (outermost octets)) (λ value. statement_at value) (Statement.OfResponse response) e in
     (response_is_exact octets response fits).0 (rw value.1 (reads_response value.0 response value.2))
 
 read_list : (octets : List ℕ) (list : CertificateList) → AreOctets octets → IsCertificateList octets list → statement octets ≡ Ok (Statement.OfList list)

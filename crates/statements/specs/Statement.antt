@@ -1,7 +1,7 @@
 -- Statements of both kinds: how they are read, and what one that is genuine says.
 use Rattle.std.specs.Prelude.{◌≡◌, ◌↔◌, ◌⊎◌, ℕ, List, [], ◌∷◌, map, Result, Ok, if◌then◌else◌}
 use Rattle.asn.specs.DerLaws.{AreOctets}
-use Rattle.asn.specs.Judgement.{outermost}
+use Rattle.asn.specs.Outermost.{outermost}
 use Rattle.asn.specs.Place.{Place}
 use Rattle.asn.specs.Walk.{◌>>=◌}
 use Rattle.cert.specs.Certificate.{Certificate}
@@ -10,7 +10,7 @@ use Rattle.statements_crl.specs.ListForms.{IsCertificateList}
 use Rattle.statements_ocsp.specs.Kind.{is_response}
 use Rattle.statements_ocsp.specs.OcspResponse.{OcspResponse, ocsp_response_at, seen_response}
 use Rattle.statements_ocsp.specs.ResponseForms.{IsOcspResponse}
-use Rattle.statements_parts.specs.Fault.{as_der}
+use Rattle.statements_parts.specs.Fault.{as_statement_der}
 use Rattle.statements_parts.specs.declared.fault.StatementFault.{StatementFault}
 use Rattle.statements_parts.specs.declared.fault.StatementRule.{StatementRule}
 use Rattle.statements_facts.specs.Fact.{Fact}
@@ -39,7 +39,7 @@ statement_at value =
     else (certificate_list_at value >>= λ list. Ok (Statement.OfList list))
 
 unfoldable pub statement : List ℕ → Result Statement (StatementRule × ℕ)
-statement octets = as_der (outermost octets) >>= λ value. statement_at value
+statement octets = as_statement_der (outermost octets) >>= λ value. statement_at value
 
 -- what is read is exactly what the standards call a list or a response
 abbrev pub IsStatement : List ℕ → Statement → Type 0

@@ -4,7 +4,7 @@ ghost use Rattle.std.specs.Prelude.{◌≡◌};
 ghost use Rattle.asn.specs.Reading.{seen_tlv};
 ghost use Rattle.cert.specs.Certificate.{seen_certificate};
 ghost use Rattle.statements_facts.specs.Fact.{facts_in};
-ghost use Rattle.statements_parts.specs.Fault.{GivesUnlessFull};
+ghost use Rattle.statements_parts.specs.Fault.{StatementGivesUnlessFull};
 ghost use Rattle.statements.specs.Genuine.{AnswersUnlessFull};
 ghost use Rattle.statements.specs.Statement.{genuine_statement, seen_statement, statement, statement_at, statement_said};
 
@@ -33,7 +33,7 @@ impl<'a> Statement<'a> {
     /// fault. Time and memory are those of `Crl::read` and `Response::read`.
     #[tactic(auto, unfolding(crate::specs::Statement::statement))]
     pub fn read(alloc: Global, octets: &'a [u8]) -> Result<Statement<'a>, ReadingFault>
-        ensures { GivesUnlessFull seen_statement result (statement octets.now) }
+        ensures { StatementGivesUnlessFull seen_statement result (statement octets.now) }
     {
         let value = outermost(octets)?;
         Statement::at(alloc, value)
@@ -42,7 +42,7 @@ impl<'a> Statement<'a> {
     /// As `read`, of a value in the text handed to `asn::whole`, with offsets in that text.
     #[tactic(auto, unfolding(crate::specs::Statement::statement_at))]
     pub fn at(alloc: Global, value: Tlv<'a>) -> Result<Statement<'a>, ReadingFault>
-        ensures { GivesUnlessFull seen_statement result (statement_at (seen_tlv value.entry)) }
+        ensures { StatementGivesUnlessFull seen_statement result (statement_at (seen_tlv value.entry)) }
     {
         if is_response(value) {
             Ok(Statement::Response(Response::at(alloc, value)?))

@@ -7,11 +7,11 @@ use Rattle.asn.specs.Members.{Members, members, begins}
 use Rattle.asn.specs.Walk.{is_a, optional, time, each, some, ended}
 use Rattle.asn.proofs.Laws.{bind_ok, ok_is, is_a_ok, is_a_again, time_ok, time_again, ended_ok, ended_again, TakesOptional, optional_is, optional_there, optional_absent}
 use Rattle.cert.specs.CertificateForms.{IsSerialNumber}
-use Rattle.statements_parts.specs.Parts.{component, serial_number}
+use Rattle.statements_parts.specs.Parts.{statement_component, serial_in_statement}
 use Rattle.statements_parts.proofs.Laws.{component_ok, component_again, serial_ok, serial_again}
 use Rattle.statements_parts.specs.declared.fault.StatementRule.{StatementRule}
 use Rattle.statements_parts.specs.declared.fault.StatementRule.TheVariants.{Layout}
-use Rattle.statements_crl.specs.EntryExtension.{TakenOfEntry, nothing_taken, one_extension, reason_of_list, optional_reason}
+use Rattle.statements_crl.specs.EntryExtension.{TakenOfEntry, nothing_taken_of_entry, one_entry_extension, reason_of_list, optional_reason}
 use Rattle.statements_crl.specs.Entry.{Entry, entry, entry_fields, entries, with_reason}
 use Rattle.statements_crl.specs.EntryForms.{GivesOptionalReason, IsEntry, EntryIsExact}
 use Rattle.statements_crl.proofs.ReasonLaws.{reason_ok, some_again_of, reason_again}
@@ -39,7 +39,7 @@ of_reason left None others x took e =
     record { lists = []; values = sym (ap (λ (m : Members). m.values) took.0); is = refl }
 of_reason left (Some list) others x took e =
     let one = bind_ok {A = Unit {0}} (some Layout (members list)) _ x e in
-    let taken = bind_ok {A = TakenOfEntry} (each one_extension nothing_taken ((members list).values)) _ x one.2 in
+    let taken = bind_ok {A = TakenOfEntry} (each one_entry_extension nothing_taken_of_entry ((members list).values)) _ x one.2 in
     let P : ℕ × Members → Type 0 = λ y. TakesReason left y.0 y.1 in
     subst P (ok_is {E = StatementRule × ℕ} (taken.0.reason, others) x taken.2)
     record { lists = list ∷ []; values = took.values; is = reason_ok list one.0 taken.0 took.tag_is one.1 taken.1 }
@@ -76,9 +76,9 @@ fields_ok : (value : Place) (read : Entry × Members) → entry_fields value ≡
 unfolding entry_fields
 fields_ok value read e =
     let sequence = bind_ok {A = Unit {0}} (is_a 0x30 Layout value) _ read e in
-    let serial = bind_ok {A = List ℕ × Members} (component 0x02 serial_number (members value)) _ read sequence.2 in
+    let serial = bind_ok {A = List ℕ × Members} (statement_component 0x02 serial_in_statement (members value)) _ read sequence.2 in
     let date = bind_ok {A = ℤ × Members} (time Layout Layout serial.0.1) _ read serial.2 in
-    let first = component_ok 0x02 serial_number (members value) serial.0 serial.1 in
+    let first = component_ok 0x02 serial_in_statement (members value) serial.0 serial.1 in
     let second = time_ok Layout Layout serial.0.1 date.0 date.1 in
     let found : Entry × Members = (record { serial = serial.0.0; revocation_date = date.0.0; reason = 0 }, date.0.1) in
     subst (TakesFields value) {x = found} (ok_is {E = StatementRule × ℕ} found read date.2) record {
@@ -119,7 +119,7 @@ entry_is value fields is =
     let reason = optional_again (next is.extensions) is.extensions fields.reason refl is.reason_is in
     rw (
       is_a_again 0x30 Layout value is.sequence,
-      component_again 0x02 serial_number (members value) is.user_certificate behind fields.serial is.members_are is.serial_is.integer (serial_again is.user_certificate fields.serial is.serial_is),
+      component_again 0x02 serial_in_statement (members value) is.user_certificate behind fields.serial is.members_are is.serial_is.integer (serial_again is.user_certificate fields.serial is.serial_is),
       time_again Layout Layout (next behind) is.date is.extensions fields.revocation_date refl is.date_is,
       reason.1,
       ended_again Layout reason.0 reason.2,

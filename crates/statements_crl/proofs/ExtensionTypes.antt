@@ -12,8 +12,8 @@ use Rattle.statements_crl.specs.declared.entry_extension.EntryExtensionKind.{Ent
 use Rattle.statements_crl.specs.declared.entry_extension.EntryExtensionKind.TheVariants as OfEntry
 use Rattle.statements_crl.specs.declared.list_extension.ListExtensionKind.{ListExtensionKind}
 use Rattle.statements_crl.specs.declared.list_extension.ListExtensionKind.TheVariants as OfList
-use Rattle.statements_crl.specs.EntryExtension.{entry_extension_kind, kind_in}
-use Rattle.statements_crl.specs.ListExtension.{list_extension_kind, kind_in as list_kind_in}
+use Rattle.statements_crl.specs.EntryExtension.{entry_extension_kind, entry_kind_in}
+use Rattle.statements_crl.specs.ListExtension.{list_extension_kind, list_kind_in}
 use Rattle.statements_crl.specs.EntryForms.{id_ce}
 
 pub some_where : {A : Type 0} (b : Bool) (one found : A) → (if b then Some one else None) ≡ Some found → (b ≡ true) × (one ≡ found)
@@ -69,7 +69,7 @@ by_number oid n false false false e x y z = (
   is_other oid 29 (Some n) e (differs n 29 z),
 )
 
-in_option : (oid : List ℕ) (found : Option ℕ) → certificate_extension oid ≡ found → HasType (kind_in found) oid
+in_option : (oid : List ℕ) (found : Option ℕ) → certificate_extension oid ≡ found → HasType (entry_kind_in found) oid
 in_option oid None e = (is_other oid 21 None e (none_is 21), is_other oid 24 None e (none_is 24), is_other oid 29 None e (none_is 29))
 in_option oid (Some n) e = by_number oid n (n == 21) (n == 24) (n == 29) e refl refl refl
 

@@ -31,7 +31,7 @@ use Rattle.statements_crl.specs.declared.list_extension.ListExtensionKind.{ListE
 use Rattle.statements_crl.specs.declared.list_extension.ListExtensionKind.TheVariants as Kind
 use Rattle.statements_crl.specs.CrlNumber.{is_crl_number, number_in}
 use Rattle.statements_crl.specs.IssuerScope.{user_certificates, ca_certificates, scope_in}
-use Rattle.statements_crl.specs.ListExtension.{list_extension_kind, ListExtensions, numbered, scoped, said_with, said_by, TakenOfList, nothing_taken, one_extension, NumberAndScope, extensions}
+use Rattle.statements_crl.specs.ListExtension.{list_extension_kind, ListExtensions, numbered, scoped, said_with, said_by, TakenOfList, nothing_taken_of_list, one_list_extension, NumberAndScope, number_and_scope}
 use Rattle.statements_crl.specs.EntryForms.{id_ce}
 use Rattle.statements_crl.specs.ListForms.{IsCrlNumber, HasScope, HasListExtensions}
 use Rattle.statements_crl.proofs.Numbers.{test_finds, test_knows}
@@ -248,8 +248,8 @@ taken_with types said = record { types = types; said = said }
 abbrev StepIn : TakenOfList → Place → TakenOfList → Type 0
 StepIn from value to = AreOctets value.octets → Step from value to
 
-step_ok : (from : TakenOfList) (value : Place) (to : TakenOfList) → one_extension from value ≡ Ok to → StepIn from value to
-unfolding one_extension
+step_ok : (from : TakenOfList) (value : Place) (to : TakenOfList) → one_list_extension from value ≡ Ok to → StepIn from value to
+unfolding one_list_extension
 step_ok from value to e fits =
     let read = bind_ok {A = Extension × Oids} (new_extension from.types value) _ to e in
     let said = bind_ok {A = ListExtensions} (said_by read.0.0 from.said) _ to read.2 in
@@ -263,8 +263,8 @@ step_ok from value to e fits =
       tells = said_ok read.0.0 from.said said.0 (value_octets value read.0.0 fits found.is) said.1;
     }
 
-step_again : (from : TakenOfList) (value : Place) (one : Extension) (after : ListExtensions) → IsExtension value one → contains from.types one.oid ≡ false → said_by one from.said ≡ Ok after → one_extension from value ≡ Ok (taken_with (insert from.types one.oid) after)
-unfolding one_extension
+step_again : (from : TakenOfList) (value : Place) (one : Extension) (after : ListExtensions) → IsExtension value one → contains from.types one.oid ≡ false → said_by one from.said ≡ Ok after → one_list_extension from value ≡ Ok (taken_with (insert from.types one.oid) after)
+unfolding one_list_extension
 step_again from value one after is new says = rw (new_extension_again from.types value one is new, says) refl
 
 -- extensions in a list
@@ -340,7 +340,7 @@ record Lacks (fields : NumberAndScope) (list : List Extension) (before : ListExt
   scope : All (Differs 28) list → before.scope ≡ fields.scope
 
 abbrev Reaches : NumberAndScope → TakenOfList → List Place → Type 0
-Reaches fields from values = (to : TakenOfList) × (each one_extension from values ≡ Ok to) × (to.said.number ≡ Some fields.number) × (to.said.scope ≡ fields.scope)
+Reaches fields from values = (to : TakenOfList) × (each one_list_extension from values ≡ Ok to) × (to.said.number ≡ Some fields.number) × (to.said.scope ≡ fields.scope)
 
 each_again : (from : TakenOfList) (values : List Place) (list : List Extension) (fields : NumberAndScope) → AllZip IsExtension values list → AllByRecursion Octets values → AreNew type_of from.types list → Given fields list → Lacks fields list from.said → Reaches fields from values
 each_again from [] [] fields zip fits new all lacks = (from, refl, lacks.number (All-nil (Differs 20)), lacks.scope (All-nil (Differs 28)))
@@ -388,15 +388,15 @@ is_there list o contents e kept = by (some_or_none 20 list) where
 named_from : List ℕ → Scope → NumberAndScope
 named_from number scope = record { number = number; scope = scope }
 
-pub has_extensions : (list : Place) (fields : NumberAndScope) → AreOctets list.octets → extensions list ≡ Ok fields → HasListExtensions list fields
-unfolding extensions named_from
+pub has_extensions : (list : Place) (fields : NumberAndScope) → AreOctets list.octets → number_and_scope list ≡ Ok fields → HasListExtensions list fields
+unfolding number_and_scope named_from
 has_extensions list fields fits e =
     let sequence = bind_ok {A = Unit {0}} (is_a 0x30 R.Layout list) _ fields e in
     let one = bind_ok {A = Unit {0}} (some R.Layout (members list)) _ fields sequence.2 in
-    let taken = bind_ok {A = TakenOfList} (each one_extension nothing_taken ((members list).values)) _ fields one.2 in
+    let taken = bind_ok {A = TakenOfList} (each one_list_extension nothing_taken_of_list ((members list).values)) _ fields one.2 in
     let number = bind_ok {A = List ℕ} (or_fault taken.0.said.number R.NoNumber (members list).end) _ fields taken.2 in
     let is = some_is taken.0.said.number R.NoNumber (members list).end number.0 number.1 in
-    let reads = reads_of nothing_taken ((members list).values) taken.0 (each_ok one_extension StepIn step_ok nothing_taken ((members list).values) taken.0 taken.1) (members_octets list fits) in
+    let reads = reads_of nothing_taken_of_list ((members list).values) taken.0 (each_ok one_list_extension StepIn step_ok nothing_taken_of_list ((members list).values) taken.0 taken.1) (members_octets list fits) in
     let found = named_from number.0 taken.0.said.scope in
     subst (HasListExtensions list) {x = found} (ok_is {E = StatementRule × ℕ} found fields number.2) record {
       extensions = reads.list;
@@ -414,14 +414,14 @@ has_extensions list fields fits e =
 first_of : (list : List Extension) → Any (λ one. one.oid ≡ id_ce 20) list → list ≢ []
 first_of list (k, one, within, at, is) empty_list = let short : length list ≡ 0 = ap length empty_list in absurd (omega arith)
 
-pub extensions_has : (list : Place) (fields : NumberAndScope) → AreOctets list.octets → HasListExtensions list fields → extensions list ≡ Ok fields
-unfolding extensions
+pub extensions_has : (list : Place) (fields : NumberAndScope) → AreOctets list.octets → HasListExtensions list fields → number_and_scope list ≡ Ok fields
+unfolding number_and_scope
 extensions_has list fields fits is =
     let first = is_some_of ((members list).values) is.extensions is.each (first_of is.extensions is.numbered) in
     let all : Given fields is.extensions = record { number = is.number; complete = is.complete; scope = is.scope; known = is.known } in
-    let lacks : Lacks fields is.extensions nothing_taken.said = record {
+    let lacks : Lacks fields is.extensions nothing_taken_of_list.said = record {
       number = λ absent. absurd (not_all_differ 20 is.extensions is.numbered absent);
       scope = λ absent. sym (is.about_all absent);
     } in
-    let taken = each_again nothing_taken ((members list).values) is.extensions fields is.each (members_octets list fits) (pairs_are_new type_of is.extensions is.types) all lacks in
+    let taken = each_again nothing_taken_of_list ((members list).values) is.extensions fields is.each (members_octets list fits) (pairs_are_new type_of is.extensions is.types) all lacks in
     rw (is_a_again 0x30 R.Layout list is.sequence, some_again R.Layout (members list) first.0 first.1 first.2, taken.1, taken.2, taken.3) refl

@@ -9,7 +9,7 @@ use Rattle.asn.specs.Place.{Place, tag, body}
 use Rattle.asn.specs.Members.{Members, members, begins}
 use Rattle.asn.specs.Time.{IsTime}
 use Rattle.asn.specs.Walk.{◌>>=◌, is_a, required, optional, next_or, time, some, ended, check_that}
-use Rattle.asn.specs.Judgement.{outermost}
+use Rattle.asn.specs.Outermost.{outermost}
 use Rattle.asn.proofs.Laws.{bind_ok, ok_is, check_ok, check_again, is_a_ok, is_a_again, required_ok, required_again, next_or_ok, next_or_again, time_ok, time_again, some_again, ended_ok, ended_again, TakesOptional, optional_is, optional_there, optional_absent, outermost_ok, outermost_again, members_octets}
 use Rattle.names.specs.DistinguishedName.{RdnMap}
 use Rattle.names.specs.GeneralLayout.{NameContents}
@@ -18,14 +18,14 @@ use Rattle.cert.specs.BitString.{BitString}
 use Rattle.cert.specs.CertificateForms.{IsNameOf}
 use Rattle.cert.specs.TbsCertificate.{is_empty_name}
 use Rattle.cert.proofs.Laws.{is_algorithm, algorithm_is}
-use Rattle.statements_parts.specs.Fault.{as_der}
-use Rattle.statements_parts.specs.Parts.{component, next_read, signature_value}
+use Rattle.statements_parts.specs.Fault.{as_statement_der}
+use Rattle.statements_parts.specs.Parts.{statement_component, next_in_statement, signature_in_statement}
 use Rattle.statements_parts.proofs.Laws.{as_der_ok, next_read_ok, next_read_again, component_ok, component_again, name_ok, name_again, signature_ok, signature_again}
 use Rattle.statements_parts.specs.declared.fault.StatementRule.{StatementRule}
 use Rattle.statements_parts.specs.declared.fault.StatementRule.TheVariants.{Layout, NotV2, NoNumber, NoNextUpdate}
-use Rattle.statements_crl.specs.Parts.{issuer, same_algorithm}
+use Rattle.statements_crl.specs.Parts.{list_issuer, same_list_algorithm}
 use Rattle.statements_crl.specs.Entry.{Entry, entries}
-use Rattle.statements_crl.specs.ListExtension.{NumberAndScope, extensions, list_extensions}
+use Rattle.statements_crl.specs.ListExtension.{NumberAndScope, number_and_scope, list_extensions}
 use Rattle.statements_crl.specs.CertificateList.{version_2, ListHead, list_head, revoked_in, revoked, TbsCertList, tbs_cert_list, CertificateList, list_with, certificate_list_at, certificate_list}
 use Rattle.statements_crl.specs.ListForms.{AreRevoked, IsTbsCertList, IsCertificateListAt, CertificateListIsExact, CertificateListIsUnique}
 use Rattle.statements_crl.proofs.EntryLaws.{in_order, then, are_entries, entries_are}
@@ -67,8 +67,8 @@ named_again : (rdns : List RdnMap) → rdns ≢ [] → not (is_empty_name rdns) 
 named_again [] some = absurd (some refl)
 named_again (rdn ∷ rdns) some = refl
 
-issuer_ok : (value : Place) (contents : NameContents) → issuer value ≡ Ok contents → IsNameOf value contents × (contents.rdns ≢ [])
-unfolding issuer
+issuer_ok : (value : Place) (contents : NameContents) → list_issuer value ≡ Ok contents → IsNameOf value contents × (contents.rdns ≢ [])
+unfolding list_issuer
 issuer_ok value contents e =
     let read = bind_ok {A = NameContents} _ _ contents e in
     let named = bind_ok {A = Unit {0}} (check_that (not (is_empty_name read.0.rdns)) Layout value.at) _ contents read.2 in
@@ -76,8 +76,8 @@ issuer_ok value contents e =
     let P : NameContents → Type 0 = λ c. IsNameOf value c × (c.rdns ≢ []) in
     subst P (ok_is {E = StatementRule × ℕ} read.0 contents named.2) (name_ok value read.0 read.1, some)
 
-issuer_again : (value : Place) (contents : NameContents) → IsNameOf value contents → contents.rdns ≢ [] → issuer value ≡ Ok contents
-unfolding issuer
+issuer_again : (value : Place) (contents : NameContents) → IsNameOf value contents → contents.rdns ≢ [] → list_issuer value ≡ Ok contents
+unfolding list_issuer
 issuer_again value contents is some =
     rw (name_again value contents is, check_again (not (is_empty_name contents.rdns)) Layout value.at (named_again contents.rdns some)) refl
 
@@ -110,13 +110,13 @@ head_ok : (left : Members) (x : ListHead × Members) → list_head left ≡ Ok x
 unfolding list_head
 head_ok left x e =
     let second = bind_ok {A = Members} (version_2 left) _ x e in
-    let signature = bind_ok {A = AlgorithmIdentifier × Members} (next_read (algorithm_identifier Layout) second.0) _ x second.2 in
-    let name = bind_ok {A = NameContents × Members} (component 0x30 issuer signature.0.1) (λ name. time Layout Layout name.1 >>= head_end signature.0 name) x signature.2 in
+    let signature = bind_ok {A = AlgorithmIdentifier × Members} (next_in_statement (algorithm_identifier Layout) second.0) _ x second.2 in
+    let name = bind_ok {A = NameContents × Members} (statement_component 0x30 list_issuer signature.0.1) (λ name. time Layout Layout name.1 >>= head_end signature.0 name) x signature.2 in
     let this = bind_ok {A = ℤ × Members} (time Layout Layout name.0.1) (head_end signature.0 name.0) x name.2 in
     let next = bind_ok {A = ℤ × Members} (time NoNextUpdate Layout this.0.1) (λ next. Ok (head_from signature.0 name.0 this.0 next)) x this.2 in
     let a = version_ok left second.0 second.1 in
     let b = next_read_ok (algorithm_identifier Layout) second.0 signature.0 signature.1 in
-    let c = component_ok 0x30 issuer signature.0.1 name.0 name.1 in
+    let c = component_ok 0x30 list_issuer signature.0.1 name.0 name.1 in
     let d = time_ok Layout Layout name.0.1 this.0 this.1 in
     let f = time_ok NoNextUpdate Layout this.0.1 next.0 next.1 in
     let named = issuer_ok c.value name.0.0 c.read_is in
@@ -148,7 +148,7 @@ head_again left version signature name this next others head e is =
     rw (
       version_again left version (signature ∷ name ∷ this ∷ next ∷ others) e is.version_integer is.version_2_is,
       next_read_again (algorithm_identifier Layout) (rest (signature ∷ name ∷ this ∷ next ∷ others)) signature (name ∷ this ∷ next ∷ others) head.signature refl (algorithm_is Layout signature head.signature is.signature_is),
-      component_again 0x30 issuer (rest (name ∷ this ∷ next ∷ others)) name (this ∷ next ∷ others) head.issuer refl is.issuer_is.is_name.sequence (issuer_again name head.issuer is.issuer_is is.issuer_named),
+      component_again 0x30 list_issuer (rest (name ∷ this ∷ next ∷ others)) name (this ∷ next ∷ others) head.issuer refl is.issuer_is.is_name.sequence (issuer_again name head.issuer is.issuer_is is.issuer_named),
       time_again Layout Layout (rest (this ∷ next ∷ others)) this (next ∷ others) head.this_update refl is.this_update_is,
       time_again NoNextUpdate Layout (rest (next ∷ others)) next others head.next_update refl is.next_update_is,
     ) refl
@@ -196,7 +196,7 @@ record TakesExtensions (left : Members) (found : NumberAndScope) (others : Membe
   values : left.values ≡ explicit ∷ others.values
   tagged : tag explicit ≡ 0xA0
   one_inside : (members explicit).values ≡ list ∷ []
-  read : extensions list ≡ Ok found
+  read : number_and_scope list ≡ Ok found
 
 abbrev extensions_end : Members → Members → NumberAndScope → Result (NumberAndScope × Members) (StatementRule × ℕ)
 extensions_end others rest said = ended Layout rest >>= λ done. Ok (said, others)
@@ -206,8 +206,8 @@ unfolding list_extensions
 extensions_ok left x e =
     let any = bind_ok {A = Unit {0}} (some NoNumber left) _ x e in
     let explicit = bind_ok {A = Place × Members} (required 0xA0 Layout left) _ x any.2 in
-    let list = bind_ok {A = Place × Members} (next_or Layout (members explicit.0.0)) (λ list. extensions list.0 >>= extensions_end explicit.0.1 list.1) x explicit.2 in
-    let said = bind_ok {A = NumberAndScope} (extensions list.0.0) (extensions_end explicit.0.1 list.0.1) x list.2 in
+    let list = bind_ok {A = Place × Members} (next_or Layout (members explicit.0.0)) (λ list. number_and_scope list.0 >>= extensions_end explicit.0.1 list.1) x explicit.2 in
+    let said = bind_ok {A = NumberAndScope} (number_and_scope list.0.0) (extensions_end explicit.0.1 list.0.1) x list.2 in
     let done = bind_ok {A = Unit {0}} (ended Layout list.0.1) (λ done. Ok (said.0, explicit.0.1)) x said.2 in
     let outer = required_ok 0xA0 Layout left explicit.0 explicit.1 in
     let inner = next_or_ok Layout (members explicit.0.0) list.0 list.1 in
@@ -221,7 +221,7 @@ extensions_ok left x e =
       read = said.1;
     }
 
-extensions_again : (left : Members) (explicit list : Place) (found : NumberAndScope) → left.values ≡ explicit ∷ [] → tag explicit ≡ 0xA0 → (members explicit).values ≡ list ∷ [] → extensions list ≡ Ok found → list_extensions left ≡ Ok (found, record { values = []; end = left.end })
+extensions_again : (left : Members) (explicit list : Place) (found : NumberAndScope) → left.values ≡ explicit ∷ [] → tag explicit ≡ 0xA0 → (members explicit).values ≡ list ∷ [] → number_and_scope list ≡ Ok found → list_extensions left ≡ Ok (found, record { values = []; end = left.end })
 unfolding list_extensions
 extensions_again left explicit list found e tagged inside read =
     rw (
@@ -312,12 +312,12 @@ tbs_is value fields fits is =
     ) refl
 
 -- the whole list
-algorithm_ok : (inner : AlgorithmIdentifier) (value : Place) (u : Unit {0}) → same_algorithm inner value ≡ Ok u → value.octets ≡ inner.value.octets
-unfolding same_algorithm
+algorithm_ok : (inner : AlgorithmIdentifier) (value : Place) (u : Unit {0}) → same_list_algorithm inner value ≡ Ok u → value.octets ≡ inner.value.octets
+unfolding same_list_algorithm
 algorithm_ok inner value u e = (bytes_eq-Decides value.octets inner.value.octets).0 (check_ok _ _ _ u e)
 
-algorithm_again : (inner : AlgorithmIdentifier) (value : Place) → value.octets ≡ inner.value.octets → same_algorithm inner value ≡ Ok tt
-unfolding same_algorithm
+algorithm_again : (inner : AlgorithmIdentifier) (value : Place) → value.octets ≡ inner.value.octets → same_list_algorithm inner value ≡ Ok tt
+unfolding same_list_algorithm
 algorithm_again inner value same = check_again (bytes_eq value.octets inner.value.octets) Layout value.at ((bytes_eq-Decides value.octets inner.value.octets).1 same)
 
 abbrev list_end : Place → TbsCertList → BitString × Members → Result CertificateList (StatementRule × ℕ)
@@ -325,7 +325,7 @@ list_end signed tbs signature = ended Layout signature.1 >>= λ done. Ok (list_w
 
 abbrev list_behind : Place → TbsCertList → Members → Result CertificateList (StatementRule × ℕ)
 list_behind signed tbs left =
-    component 0x30 (same_algorithm tbs.head.signature) left >>= λ algorithm. component 0x03 signature_value algorithm.1 >>= list_end signed tbs
+    statement_component 0x30 (same_list_algorithm tbs.head.signature) left >>= λ algorithm. statement_component 0x03 signature_in_statement algorithm.1 >>= list_end signed tbs
 
 is_list_at : (value : Place) (fields : CertificateList) → AreOctets value.octets → certificate_list_at value ≡ Ok fields → IsCertificateListAt value fields
 unfolding certificate_list_at
@@ -333,12 +333,12 @@ is_list_at value fields fits e =
     let sequence = bind_ok {A = Unit {0}} (is_a 0x30 Layout value) _ fields e in
     let signed = bind_ok {A = Place × Members} (next_or Layout (members value)) _ fields sequence.2 in
     let tbs = bind_ok {A = TbsCertList} (tbs_cert_list signed.0.0) (λ tbs. list_behind signed.0.0 tbs signed.0.1) fields signed.2 in
-    let algorithm = bind_ok {A = Unit {0} × Members} (component 0x30 (same_algorithm tbs.0.head.signature) signed.0.1) (λ algorithm. component 0x03 signature_value algorithm.1 >>= list_end signed.0.0 tbs.0) fields tbs.2 in
-    let signature = bind_ok {A = BitString × Members} (component 0x03 signature_value algorithm.0.1) (list_end signed.0.0 tbs.0) fields algorithm.2 in
+    let algorithm = bind_ok {A = Unit {0} × Members} (statement_component 0x30 (same_list_algorithm tbs.0.head.signature) signed.0.1) (λ algorithm. statement_component 0x03 signature_in_statement algorithm.1 >>= list_end signed.0.0 tbs.0) fields tbs.2 in
+    let signature = bind_ok {A = BitString × Members} (statement_component 0x03 signature_in_statement algorithm.0.1) (list_end signed.0.0 tbs.0) fields algorithm.2 in
     let done = bind_ok {A = Unit {0}} (ended Layout signature.0.1) (λ done. Ok (list_with signed.0.0 tbs.0 signature.0.0)) fields signature.2 in
     let first = next_or_ok Layout (members value) signed.0 signed.1 in
-    let second = component_ok 0x30 (same_algorithm tbs.0.head.signature) signed.0.1 algorithm.0 algorithm.1 in
-    let third = component_ok 0x03 signature_value algorithm.0.1 signature.0 signature.1 in
+    let second = component_ok 0x30 (same_list_algorithm tbs.0.head.signature) signed.0.1 algorithm.0 algorithm.1 in
+    let third = component_ok 0x03 signature_in_statement algorithm.0.1 signature.0 signature.1 in
     let signature_is = signature_ok third.value signature.0.0 third.took.tag_is third.read_is in
     let last = then algorithm.0.1.values signature.0.1.values [] third.value third.took.values (ended_ok Layout signature.0.1 done.0 done.1) in
     let signed_fits = (subst (AllByRecursion Octets) first.values (members_octets value fits)).0 in
@@ -367,8 +367,8 @@ list_at_is value fields fits is =
       is_a_again 0x30 Layout value is.sequence,
       next_or_again Layout (members value) is.signed (is.algorithm ∷ is.signature.value ∷ []) is.members_are,
       tbs_is is.signed is.tbs signed_fits is.signed_is,
-      component_again 0x30 (same_algorithm is.tbs.head.signature) (next (is.algorithm ∷ is.signature.value ∷ [])) is.algorithm (is.signature.value ∷ []) tt refl is.algorithm_sequence (algorithm_again is.tbs.head.signature is.algorithm is.same_algorithm),
-      component_again 0x03 signature_value (next (is.signature.value ∷ [])) is.signature.value [] is.signature refl is.signature_is.bit_string (signature_again is.signature is.signature_is),
+      component_again 0x30 (same_list_algorithm is.tbs.head.signature) (next (is.algorithm ∷ is.signature.value ∷ [])) is.algorithm (is.signature.value ∷ []) tt refl is.algorithm_sequence (algorithm_again is.tbs.head.signature is.algorithm is.same_algorithm),
+      component_again 0x03 signature_in_statement (next (is.signature.value ∷ [])) is.signature.value [] is.signature refl is.signature_is.bit_string (signature_again is.signature is.signature_is),
       ended_again Layout (next []) refl,
       is.fields_are,
     ) refl
@@ -377,7 +377,7 @@ pub list_is_exact : CertificateListIsExact
 unfolding certificate_list
 list_is_exact octets fields fits = (
   λ e.
-      let value = bind_ok {A = Place} (as_der (outermost octets)) (λ value. certificate_list_at value) fields e in
+      let value = bind_ok {A = Place} (as_statement_der (outermost octets)) (λ value. certificate_list_at value) fields e in
       let whole = outermost_ok octets value.0 fits (as_der_ok (outermost octets) value.0 value.1) in
       let at = subst (λ v. certificate_list_at v ≡ Ok fields) whole.0 value.2 in
       record { value = whole.1.0; der = whole.1.1; layout = is_list_at (record { octets = octets; at = 0 }) fields fits at },

@@ -12,7 +12,7 @@ use Rattle.statements_parts.specs.declared.fault.StatementRule.TheVariants.{Layo
 use Rattle.cert.specs.Extension.{Extension, extension}
 use Rattle.cert.specs.OidSet.{Oids}
 use Rattle.statements_parts.specs.Parts.{new_extension}
-use Rattle.statements_crl.specs.EntryExtension.{TakenOfEntry, nothing_taken, one_extension, reason_of_all, reason_of_one, reason_with}
+use Rattle.statements_crl.specs.EntryExtension.{TakenOfEntry, nothing_taken_of_entry, one_entry_extension, reason_of_all, reason_of_one, reason_with}
 
 abbrev taken_with : Oids → ℕ → TakenOfEntry
 taken_with types reason = record { types = types; reason = reason }
@@ -36,8 +36,8 @@ taken_alone value (Ok one) =
 taken_alone value (Err fault) = refl
 
 -- all of the extensions are this one
-pub alone : (value : Place) → reason_taken (each one_extension nothing_taken (value ∷ [])) ≡ reason_of_one value
-unfolding one_extension new_extension
+pub alone : (value : Place) → reason_taken (each one_entry_extension nothing_taken_of_entry (value ∷ [])) ≡ reason_of_one value
+unfolding one_entry_extension new_extension
 alone value = taken_alone value (extension Layout value)
 
 alone_of : (value : Place) (others : List Place) (end : ℕ) → none_left (record { values = others; end = end }) ≡ true → reason_of_all (record { values = value ∷ others; end = end }) ≡ reason_of_one value

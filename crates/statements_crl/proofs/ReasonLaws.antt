@@ -18,7 +18,7 @@ use Rattle.statements_parts.specs.declared.fault.StatementRule.{StatementRule}
 use Rattle.statements_parts.specs.declared.fault.StatementRule.TheVariants.{Layout, CriticalUnknown, BadReason, RemoveInComplete}
 use Rattle.statements_crl.specs.declared.entry_extension.EntryExtensionKind.{EntryExtensionKind}
 use Rattle.statements_crl.specs.declared.entry_extension.EntryExtensionKind.TheVariants as Kind
-use Rattle.statements_crl.specs.EntryExtension.{entry_extension_kind, encoded_reason, reason_code, reason_by_kind, reason_with, TakenOfEntry, nothing_taken, one_extension}
+use Rattle.statements_crl.specs.EntryExtension.{entry_extension_kind, encoded_reason, reason_code, reason_by_kind, reason_with, TakenOfEntry, nothing_taken_of_entry, one_entry_extension}
 use Rattle.statements_crl.specs.EntryForms.{id_ce, IsReasonCode, GivesReason}
 use Rattle.statements_crl.proofs.ExtensionTypes.{some_where, one_number, HasType, has_type, has_number, Differs, others_differ, not_none, is_some_of, false_of, not_critical, uncritical}
 
@@ -145,8 +145,8 @@ record Step (from : TakenOfEntry) (value : Place) (to : TakenOfEntry) : Type 0 w
 abbrev taken_with : Oids → ℕ → TakenOfEntry
 taken_with types reason = record { types = types; reason = reason }
 
-step_ok : (from : TakenOfEntry) (value : Place) (to : TakenOfEntry) → one_extension from value ≡ Ok to → Step from value to
-unfolding one_extension
+step_ok : (from : TakenOfEntry) (value : Place) (to : TakenOfEntry) → one_entry_extension from value ≡ Ok to → Step from value to
+unfolding one_entry_extension
 step_ok from value to e =
     let read = bind_ok {A = Extension × Oids} (new_extension from.types value) _ to e in
     let reason = bind_ok {A = ℕ} (reason_with read.0.0 from.reason) _ to read.2 in
@@ -160,8 +160,8 @@ step_ok from value to e =
       tells = told_ok read.0.0 from.reason reason.0 reason.1;
     }
 
-step_again : (from : TakenOfEntry) (value : Place) (one : Extension) (after : ℕ) → IsExtension value one → contains from.types one.oid ≡ false → Tells one from.reason after → one_extension from value ≡ Ok (taken_with (insert from.types one.oid) after)
-unfolding one_extension
+step_again : (from : TakenOfEntry) (value : Place) (one : Extension) (after : ℕ) → IsExtension value one → contains from.types one.oid ≡ false → Tells one from.reason after → one_entry_extension from value ≡ Ok (taken_with (insert from.types one.oid) after)
+unfolding one_entry_extension
 step_again from value one after is new tells =
     rw (new_extension_again from.types value one is new, told_again one from.reason after tells) refl
 
@@ -218,7 +218,7 @@ rest_given reason one others all = record {
   known = All-tail IsKnown one others all.known;
 }
 
-each_again : (from : TakenOfEntry) (values : List Place) (list : List Extension) (reason : ℕ) → AllZip IsExtension values list → AreNew type_of from.types list → Given reason list → (All (Differs 21) list → from.reason ≡ reason) → (to : TakenOfEntry) × (each one_extension from values ≡ Ok to) × (to.reason ≡ reason)
+each_again : (from : TakenOfEntry) (values : List Place) (list : List Extension) (reason : ℕ) → AllZip IsExtension values list → AreNew type_of from.types list → Given reason list → (All (Differs 21) list → from.reason ≡ reason) → (to : TakenOfEntry) × (each one_entry_extension from values ≡ Ok to) × (to.reason ≡ reason)
 each_again from [] [] reason zip new all kept = (from, refl, kept (All-nil (Differs 21)))
 each_again from [] (one ∷ list) reason zip new all kept = absurd zip
 each_again from (value ∷ values) [] reason zip new all kept = absurd zip
@@ -226,7 +226,7 @@ each_again from (value ∷ values) (one ∷ list) reason zip new all kept =
     by (has_number 21 one.oid) (λ after stays. each_again (taken_with (insert from.types one.oid) after) values list reason zip.1 new.1 (rest_given reason one list all) stays)
   where
     Reaches : TakenOfEntry → List Place → Type 0
-    Reaches start places = (to : TakenOfEntry) × (each one_extension start places ≡ Ok to) × (to.reason ≡ reason)
+    Reaches start places = (to : TakenOfEntry) × (each one_entry_extension start places ≡ Ok to) × (to.reason ≡ reason)
 
     Continues : Type 0
     Continues = (after : ℕ) → (All (Differs 21) list → after ≡ reason) → Reaches (taken_with (insert from.types one.oid) after) values
@@ -246,10 +246,10 @@ each_again from (value ∷ values) (one ∷ list) reason zip new all kept =
     by (inr differ) rest =
         next from.reason record { given = λ is. absurd (differ is); kept = λ differ. refl; own = own; known = known } (rest from.reason (λ none. kept (All-cons (Differs 21) one list differ none)))
 
-pub reason_ok : (list : Place) (u : Unit {0}) (taken : TakenOfEntry) → tag list ≡ 0x30 → some Layout (members list) ≡ Ok u → each one_extension nothing_taken ((members list).values) ≡ Ok taken → GivesReason list taken.reason
+pub reason_ok : (list : Place) (u : Unit {0}) (taken : TakenOfEntry) → tag list ≡ 0x30 → some Layout (members list) ≡ Ok u → each one_entry_extension nothing_taken_of_entry ((members list).values) ≡ Ok taken → GivesReason list taken.reason
 reason_ok list u taken t one e =
     let first = some_ok _ _ _ one in
-    let reads = reads_of nothing_taken ((members list).values) taken (each_ok one_extension Step step_ok nothing_taken ((members list).values) taken e) in
+    let reads = reads_of nothing_taken_of_entry ((members list).values) taken (each_ok one_entry_extension Step step_ok nothing_taken_of_entry ((members list).values) taken e) in
     record {
       extensions = reads.list;
       sequence = t;
@@ -267,7 +267,7 @@ some_again_of list reason is =
     let first = is_some_of ((members list).values) is.extensions is.each is.some in
     some_again Layout (members list) first.0 first.1 first.2
 
-pub reason_again : (list : Place) (reason : ℕ) → GivesReason list reason → (taken : TakenOfEntry) × (each one_extension nothing_taken ((members list).values) ≡ Ok taken) × (taken.reason ≡ reason)
+pub reason_again : (list : Place) (reason : ℕ) → GivesReason list reason → (taken : TakenOfEntry) × (each one_entry_extension nothing_taken_of_entry ((members list).values) ≡ Ok taken) × (taken.reason ≡ reason)
 reason_again list reason is =
-    each_again nothing_taken ((members list).values) is.extensions reason is.each (pairs_are_new type_of is.extensions is.types)
+    each_again nothing_taken_of_entry ((members list).values) is.extensions reason is.each (pairs_are_new type_of is.extensions is.types)
     record { given = is.given; own = is.own; known = is.known } (λ none. sym (is.unspecified none))

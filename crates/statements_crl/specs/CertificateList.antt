@@ -4,7 +4,7 @@ use Rattle.std.specs.Str.{bytes_eq}
 use Rattle.asn.specs.Place.{Place, seen_tlv, tag, body}
 use Rattle.asn.specs.Members.{Members, members}
 use Rattle.asn.specs.Walk.{◌>>=◌, is_a, optional, next_or, time, ended, check_that}
-use Rattle.asn.specs.Judgement.{outermost}
+use Rattle.asn.specs.Outermost.{outermost}
 use Rattle.names.specs.GeneralLayout.{NameContents}
 use Rattle.names.specs.GeneralView.{name_contents}
 use Rattle.cert.specs.AlgorithmIdentifier.{AlgorithmIdentifier, algorithm_identifier, seen_algorithm}
@@ -15,9 +15,9 @@ use Rattle.statements_crl.specs.declared.list.ListHead as head
 use Rattle.statements_crl.specs.declared.list.TbsCertList as signed_part
 use Rattle.statements_parts.specs.declared.fault.StatementRule.{StatementRule}
 use Rattle.statements_parts.specs.declared.fault.StatementRule.TheVariants.{Layout, NotV2, NoNextUpdate}
-use Rattle.statements_parts.specs.Fault.{as_der}
-use Rattle.statements_parts.specs.Parts.{component, next_read, signature_value}
-use Rattle.statements_crl.specs.Parts.{issuer, same_algorithm}
+use Rattle.statements_parts.specs.Fault.{as_statement_der}
+use Rattle.statements_parts.specs.Parts.{statement_component, next_in_statement, signature_in_statement}
+use Rattle.statements_crl.specs.Parts.{list_issuer, same_list_algorithm}
 use Rattle.statements_crl.specs.Entry.{Entry, entries, entries_left}
 use Rattle.statements_crl.specs.ListExtension.{NumberAndScope, seen_named, list_extensions}
 
@@ -35,14 +35,14 @@ pub record ListHead : Type 0 where
   pub this_update : ℤ
   pub next_update : ℤ
 
-abbrev pub seen_head : head.ListHead → ListHead
-seen_head read = record { signature = seen_algorithm read.signature; issuer = name_contents read.issuer; this_update = read.this_update; next_update = read.next_update }
+abbrev pub seen_list_head : head.ListHead → ListHead
+seen_list_head read = record { signature = seen_algorithm read.signature; issuer = name_contents read.issuer; this_update = read.this_update; next_update = read.next_update }
 
 unfoldable pub list_head : Members → Result (ListHead × Members) (StatementRule × ℕ)
 list_head left = do
   second ← version_2 left
-  signature ← next_read (algorithm_identifier Layout) second
-  issuer ← component 0x30 issuer signature.1
+  signature ← next_in_statement (algorithm_identifier Layout) second
+  issuer ← statement_component 0x30 list_issuer signature.1
   this_update ← time Layout Layout issuer.1
   next_update ← time NoNextUpdate Layout this_update.1
   Ok (record { signature = signature.0; issuer = issuer.0; this_update = this_update.0; next_update = next_update.0 }, next_update.1)
@@ -61,8 +61,8 @@ pub record TbsCertList : Type 0 where
   pub entries : List Entry
   pub named : NumberAndScope
 
-abbrev pub seen_tbs : signed_part.TbsCertList → TbsCertList
-seen_tbs read = record { head = seen_head read.head; entries = entries_left read.revoked; named = seen_named read.named }
+abbrev pub seen_tbs_list : signed_part.TbsCertList → TbsCertList
+seen_tbs_list read = record { head = seen_list_head read.head; entries = entries_left read.revoked; named = seen_named read.named }
 
 unfoldable pub tbs_cert_list : Place → Result TbsCertList (StatementRule × ℕ)
 tbs_cert_list value = do
@@ -117,10 +117,10 @@ certificate_list_at value = do
   sequence ← is_a 0x30 Layout value
   signed ← next_or Layout (members value)
   tbs ← tbs_cert_list signed.0
-  algorithm ← component 0x30 (same_algorithm tbs.head.signature) signed.1
-  signature ← component 0x03 signature_value algorithm.1
+  algorithm ← statement_component 0x30 (same_list_algorithm tbs.head.signature) signed.1
+  signature ← statement_component 0x03 signature_in_statement algorithm.1
   done ← ended Layout signature.1
   Ok (list_with signed.0 tbs signature.0)
 
 unfoldable pub certificate_list : List ℕ → Result CertificateList (StatementRule × ℕ)
-certificate_list octets = as_der (outermost octets) >>= λ value. certificate_list_at value
+certificate_list octets = as_statement_der (outermost octets) >>= λ value. certificate_list_at value

@@ -12,15 +12,15 @@ use Rattle.statements_crl.specs.declared.entry_walk.Entries as walk
 use Rattle.statements_parts.specs.declared.fault.StatementRule.{StatementRule}
 use Rattle.statements_parts.specs.declared.fault.StatementRule.TheVariants.{Layout}
 use Rattle.statements_crl.specs.EntryExtension.{reason_given}
-pub use Rattle.statements_crl.specs.EntryWalk.{Entry, with_reason, entries, checked}
+pub use Rattle.statements_crl.specs.EntryWalk.{Entry, with_reason, entries, entries_checked}
 unfoldable pub use Rattle.statements_crl.specs.EntryWalk.{entry_fields, entry}
 
 abbrev pub seen_entry : code.Entry → Entry
 seen_entry read = record { serial = read.serial.now; revocation_date = read.revocation_date; reason = read.reason }
 
 -- the fields that were read, and what is left behind them
-abbrev pub seen_fields : code.Entry × Cursor → Entry × Members
-seen_fields read = (seen_entry read.0, left read.1)
+abbrev pub seen_entry_and_rest : code.Entry × Cursor → Entry × Members
+seen_entry_and_rest read = (seen_entry read.0, left read.1)
 
 -- The walk of an entry that was read once, whose end is not looked at again.
 unfoldable pub entry_again : Place → Result Entry (StatementRule × ℕ)
@@ -40,13 +40,13 @@ listed_again value = do
   date ← next_or Layout serial.1
   Ok (record { serial = body serial.0; reason = reason_given (optional 0x30 date.1).0 })
 
-abbrev pub and_then : Result Entry (StatementRule × ℕ) → List Entry → List Entry
-and_then (Ok first) others = first ∷ others
-and_then (Err fault) others = []
+abbrev pub entry_and_then : Result Entry (StatementRule × ℕ) → List Entry → List Entry
+entry_and_then (Ok first) others = first ∷ others
+entry_and_then (Err fault) others = []
 
 abbrev pub entries_again : List Place → List Entry
 entries_again [] = []
-entries_again (value ∷ values) = and_then (entry_again value) (entries_again values)
+entries_again (value ∷ values) = entry_and_then (entry_again value) (entries_again values)
 
 -- the entries that are still to be handed out
 abbrev pub entries_to_come : Option Cursor → List Entry

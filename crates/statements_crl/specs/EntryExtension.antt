@@ -16,18 +16,18 @@ use Rattle.statements_parts.specs.declared.fault.StatementRule.{StatementRule}
 use Rattle.statements_parts.specs.declared.fault.StatementRule.TheVariants.{Layout, Indirect, CriticalUnknown, BadReason, RemoveInComplete}
 
 -- reasonCode (5.3.1), invalidityDate (5.3.2) and certificateIssuer (5.3.3), by the number behind id-ce
-abbrev pub kind_of_number : ℕ → EntryExtensionKind
-kind_of_number number =
+abbrev pub entry_kind_of_number : ℕ → EntryExtensionKind
+entry_kind_of_number number =
     if number == 21 then Kind.ReasonCode
     else (if number == 24 then Kind.InvalidityDate
     else (if number == 29 then Kind.CertificateIssuer else Kind.Other))
 
-abbrev pub kind_in : Option ℕ → EntryExtensionKind
-kind_in None = Kind.Other
-kind_in (Some number) = kind_of_number number
+abbrev pub entry_kind_in : Option ℕ → EntryExtensionKind
+entry_kind_in None = Kind.Other
+entry_kind_in (Some number) = entry_kind_of_number number
 
 unfoldable pub entry_extension_kind : List ℕ → EntryExtensionKind
-entry_extension_kind oid = kind_in (certificate_extension oid)
+entry_extension_kind oid = entry_kind_in (certificate_extension oid)
 
 -- the CRLReason whose encoding these octets are, all of them
 unfoldable pub encoded_reason : List ℕ → Option ℕ
@@ -60,26 +60,26 @@ pub record TakenOfEntry : Type 0 where
   pub types : Oids
   pub reason : ℕ
 
-abbrev pub seen_taken : taken.TakenOfEntry → TakenOfEntry
-seen_taken read = record { types = oids_in read.types; reason = read.reason }
+abbrev pub seen_taken_of_entry : taken.TakenOfEntry → TakenOfEntry
+seen_taken_of_entry read = record { types = oids_in read.types; reason = read.reason }
 
-abbrev pub nothing_taken : TakenOfEntry
-nothing_taken = record { types = empty; reason = 0 }
+abbrev pub nothing_taken_of_entry : TakenOfEntry
+nothing_taken_of_entry = record { types = empty; reason = 0 }
 
 -- One more extension, of a type that none of the earlier ones has.
-unfoldable pub one_extension : TakenOfEntry → Place → Result TakenOfEntry (StatementRule × ℕ)
-one_extension earlier value = do
+unfoldable pub one_entry_extension : TakenOfEntry → Place → Result TakenOfEntry (StatementRule × ℕ)
+one_entry_extension earlier value = do
   read ← new_extension earlier.types value
   reason ← reason_with read.0 earlier.reason
   Ok (record { types = read.1; reason = reason })
 
 -- the extensions that these values are, one after the other
-abbrev pub all_extensions : Members → Result TakenOfEntry (StatementRule × ℕ)
-all_extensions left = each one_extension nothing_taken left.values
+abbrev pub all_entry_extensions : Members → Result TakenOfEntry (StatementRule × ℕ)
+all_entry_extensions left = each one_entry_extension nothing_taken_of_entry left.values
 
 -- the reason that they give
 abbrev pub reason_of_all : Members → Result ℕ (StatementRule × ℕ)
-reason_of_all left = all_extensions left >>= λ taken. Ok taken.reason
+reason_of_all left = all_entry_extensions left >>= λ taken. Ok taken.reason
 
 -- the reason that an extension gives which is the only one: no other has its type
 abbrev pub reason_of_one : Place → Result ℕ (StatementRule × ℕ)
@@ -90,7 +90,7 @@ abbrev pub reason_of_list : Option Place → Members → Result (ℕ × Members)
 reason_of_list None left = Ok (0, left)
 reason_of_list (Some list) left = do
   one ← some Layout (members list)
-  taken ← all_extensions (members list)
+  taken ← all_entry_extensions (members list)
   Ok (taken.reason, left)
 
 unfoldable pub optional_reason : Members → Result (ℕ × Members) (StatementRule × ℕ)

@@ -8,11 +8,8 @@ use Rattle.asn.specs.Members.{members}
 use Rattle.asn.specs.Time.{IsTime}
 use Rattle.cert.specs.CertificateForms.{IsSerialNumber}
 use Rattle.cert.specs.Extension.{Extension, IsExtension}
+pub use Rattle.cert.specs.ExtensionFields.{id_ce}
 use Rattle.statements_crl.specs.Entry.{Entry, entry}
-
--- id-ce OBJECT IDENTIFIER ::= { joint-iso-ccitt(2) ds(5) 29 } (4.2), and one number behind it
-abbrev pub id_ce : ℕ → List ℕ
-id_ce number = 0x55 ∷ 0x1D ∷ number ∷ []
 
 -- The value of a reasonCode (5.3.1): CRLReason ::= ENUMERATED, from 0 to 10, of which 7 is not used, and 8, removeFromCRL, is for
 -- delta lists alone

@@ -6,7 +6,7 @@ use Rattle.asn.specs.Members.{Members, members}
 use Rattle.asn.specs.Walk.{◌>>=◌, is_a, time, ended}
 use Rattle.statements_parts.specs.declared.fault.StatementRule.{StatementRule}
 use Rattle.statements_parts.specs.declared.fault.StatementRule.TheVariants.{Layout}
-use Rattle.statements_parts.specs.Parts.{component, serial_number}
+use Rattle.statements_parts.specs.Parts.{statement_component, serial_in_statement}
 use Rattle.statements_crl.specs.EntryExtension.{optional_reason}
 
 -- the contents octets of the serial number, the date in seconds from 1970-01-01T00:00:00Z, and the number of the reason, 0 where
@@ -23,7 +23,7 @@ with_reason entry reason = record { serial = entry.serial; revocation_date = ent
 unfoldable pub entry_fields : Place → Result (Entry × Members) (StatementRule × ℕ)
 entry_fields value = do
   sequence ← is_a 0x30 Layout value
-  serial ← component 0x02 serial_number (members value)
+  serial ← statement_component 0x02 serial_in_statement (members value)
   date ← time Layout Layout serial.1
   Ok (record { serial = serial.0; revocation_date = date.0; reason = 0 }, date.1)
 
@@ -44,6 +44,6 @@ entries (value ∷ values) = do
   Ok (first ∷ others)
 
 -- whether all are read, or the first fault
-abbrev pub checked : Result (List Entry) (StatementRule × ℕ) → Result (Unit {0}) (StatementRule × ℕ)
-checked (Ok read) = Ok tt
-checked (Err fault) = Err fault
+abbrev pub entries_checked : Result (List Entry) (StatementRule × ℕ) → Result (Unit {0}) (StatementRule × ℕ)
+entries_checked (Ok read) = Ok tt
+entries_checked (Err fault) = Err fault

@@ -21,18 +21,18 @@ use Rattle.statements_crl.specs.CrlNumber.{number_in}
 use Rattle.statements_crl.specs.IssuerScope.{scope_in}
 
 -- cRLNumber (5.2.3), deltaCRLIndicator (5.2.4) and issuingDistributionPoint (5.2.5), by the number behind id-ce
-abbrev pub kind_of_number : ℕ → ListExtensionKind
-kind_of_number number =
+abbrev pub list_kind_of_number : ℕ → ListExtensionKind
+list_kind_of_number number =
     if number == 20 then Kind.CrlNumber
     else (if number == 27 then Kind.DeltaIndicator
     else (if number == 28 then Kind.IssuingDistributionPoint else Kind.Other))
 
-abbrev pub kind_in : Option ℕ → ListExtensionKind
-kind_in None = Kind.Other
-kind_in (Some number) = kind_of_number number
+abbrev pub list_kind_in : Option ℕ → ListExtensionKind
+list_kind_in None = Kind.Other
+list_kind_in (Some number) = list_kind_of_number number
 
 unfoldable pub list_extension_kind : List ℕ → ListExtensionKind
-list_extension_kind oid = kind_in (certificate_extension oid)
+list_extension_kind oid = list_kind_in (certificate_extension oid)
 
 -- What the extensions say so far: the contents octets of the number, and the scope.
 pub record ListExtensions : Type 0 where
@@ -65,22 +65,22 @@ pub record TakenOfList : Type 0 where
   pub types : Oids
   pub said : ListExtensions
 
-abbrev pub seen_taken : taken.TakenOfList → TakenOfList
-seen_taken read = record { types = oids_in read.types; said = seen_said read.said }
+abbrev pub seen_taken_of_list : taken.TakenOfList → TakenOfList
+seen_taken_of_list read = record { types = oids_in read.types; said = seen_said read.said }
 
-abbrev pub nothing_taken : TakenOfList
-nothing_taken = record { types = empty; said = no_list_extensions }
+abbrev pub nothing_taken_of_list : TakenOfList
+nothing_taken_of_list = record { types = empty; said = no_list_extensions }
 
 -- One more extension, of a type that none of the earlier ones has.
-unfoldable pub one_extension : TakenOfList → Place → Result TakenOfList (StatementRule × ℕ)
-one_extension earlier value = do
+unfoldable pub one_list_extension : TakenOfList → Place → Result TakenOfList (StatementRule × ℕ)
+one_list_extension earlier value = do
   read ← new_extension earlier.types value
   said ← said_by read.0 earlier.said
   Ok (record { types = read.1; said = said })
 
 -- the extensions that these values are, one after the other
-abbrev pub all_extensions : Members → Result TakenOfList (StatementRule × ℕ)
-all_extensions left = each one_extension nothing_taken left.values
+abbrev pub all_list_extensions : Members → Result TakenOfList (StatementRule × ℕ)
+all_list_extensions left = each one_list_extension nothing_taken_of_list left.values
 
 -- What a list is told by its extensions: the contents octets of its number, and its scope.
 pub record NumberAndScope : Type 0 where
@@ -94,11 +94,11 @@ seen_named read = record { number = read.number.contents.now; scope = read.scope
 abbrev pub named : ListExtensions → ℕ → Result NumberAndScope (StatementRule × ℕ)
 named said end = or_fault said.number R.NoNumber end >>= λ number. Ok (record { number = number; scope = said.scope })
 
-unfoldable pub extensions : Place → Result NumberAndScope (StatementRule × ℕ)
-extensions list = do
+unfoldable pub number_and_scope : Place → Result NumberAndScope (StatementRule × ℕ)
+number_and_scope list = do
   sequence ← is_a 0x30 R.Layout list
   one ← some R.Layout (members list)
-  taken ← all_extensions (members list)
+  taken ← all_list_extensions (members list)
   named taken.said (members list).end
 
 -- crlExtensions [0] EXPLICIT Extensions, which have to be there
@@ -107,6 +107,6 @@ list_extensions left = do
   any ← some R.NoNumber left
   explicit ← required 0xA0 R.Layout left
   list ← next_or R.Layout (members explicit.0)
-  said ← extensions list.0
+  said ← number_and_scope list.0
   done ← ended R.Layout list.1
   Ok (said, explicit.1)

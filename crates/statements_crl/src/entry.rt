@@ -1,14 +1,14 @@
 //! Entries of a list (RFC 5280, 5.1.2.6).
 
 ghost use Rattle.asn.specs.Reading.{seen_tlv, Gives};
-ghost use Rattle.statements_crl.specs.Entry.{entry, entry_again, entry_fields, listed_again, seen_entry, seen_fields};
+ghost use Rattle.statements_crl.specs.Entry.{entry, entry_again, entry_fields, listed_again, seen_entry, seen_entry_and_rest};
 ghost use Rattle.statements_facts.specs.Listed.{seen_listed};
-ghost use Rattle.statements_parts.specs.Fault.{GivesUnlessFull};
+ghost use Rattle.statements_parts.specs.Fault.{StatementGivesUnlessFull};
 
 use crate::entry_extension::{reason_in_list, take_reason};
 use asn::{Cursor, SEQUENCE, Tlv};
 use statements_facts::Listed;
-use statements_parts::{ReadingFault, Refusal, StatementRule, take_serial};
+use statements_parts::{ReadingFault, StatementRefusal, StatementRule, take_serial};
 use std::alloc::Global;
 
 /// SEQUENCE { userCertificate CertificateSerialNumber, revocationDate Time, crlEntryExtensions Extensions OPTIONAL }
@@ -25,8 +25,8 @@ pub struct Entry<'a> {
 impl<'a> Entry<'a> {
     /// The components up to revocationDate, with no reason yet, and what stands behind them.
     #[tactic(auto, unfolding(crate::specs::EntryWalk::entry_fields))]
-    fn fields(value: Tlv<'a>) -> Result<(Entry<'a>, Cursor<'a>), Refusal>
-        ensures { Gives seen_fields result (entry_fields (seen_tlv value.entry)) }
+    fn fields(value: Tlv<'a>) -> Result<(Entry<'a>, Cursor<'a>), StatementRefusal>
+        ensures { Gives seen_entry_and_rest result (entry_fields (seen_tlv value.entry)) }
     {
         value.is_a(SEQUENCE, StatementRule::Layout)?;
         let mut members = value.members();
@@ -43,7 +43,7 @@ impl<'a> Entry<'a> {
     /// The entry that the value is, or the first fault.
     #[tactic(auto, unfolding(crate::specs::EntryWalk::entry))]
     pub(crate) fn read(alloc: Global, value: Tlv<'a>) -> Result<Entry<'a>, ReadingFault>
-        ensures { GivesUnlessFull seen_entry result (entry (seen_tlv value.entry)) }
+        ensures { StatementGivesUnlessFull seen_entry result (entry (seen_tlv value.entry)) }
     {
         let (read, behind) = Entry::fields(value)?;
         let mut members = behind;
@@ -54,7 +54,7 @@ impl<'a> Entry<'a> {
 
     /// The same of an entry that was read once, without memory.
     #[tactic(auto, unfolding(crate::specs::Entry::entry_again))]
-    pub(crate) fn again(value: Tlv<'a>) -> Result<Entry<'a>, Refusal>
+    pub(crate) fn again(value: Tlv<'a>) -> Result<Entry<'a>, StatementRefusal>
         ensures { Gives seen_entry result (entry_again (seen_tlv value.entry)) }
     {
         let (read, behind) = Entry::fields(value)?;
@@ -65,7 +65,7 @@ impl<'a> Entry<'a> {
 
     /// The serial number and the reason of an entry that was read once, without memory. The date is passed over.
     #[tactic(auto, unfolding(crate::specs::Entry::listed_again))]
-    pub(crate) fn listed(value: Tlv<'a>) -> Result<Listed<'a>, Refusal>
+    pub(crate) fn listed(value: Tlv<'a>) -> Result<Listed<'a>, StatementRefusal>
         ensures { Gives seen_listed result (listed_again (seen_tlv value.entry)) }
     {
         value.is_a(SEQUENCE, StatementRule::Layout)?;

@@ -4,14 +4,14 @@ ghost use Rattle.std.specs.Prelude.{◌≡◌, IfSome};
 ghost use Rattle.asn.specs.Reading.{seen_tlv, left, Gives, seen};
 ghost use Rattle.asn.specs.Oid.{oid_contents};
 ghost use Rattle.cert.specs.Extension.{seen_extension};
-ghost use Rattle.statements_crl.specs.EntryExtension.{entry_extension_kind, one_extension, optional_reason, reason_of_all, reason_of_one, seen_taken};
+ghost use Rattle.statements_crl.specs.EntryExtension.{entry_extension_kind, one_entry_extension, optional_reason, reason_of_all, reason_of_one, seen_taken_of_entry};
 ghost use Rattle.statements_crl.specs.EntryExtension.{encoded_reason, reason_after, reason_behind, reason_code, reason_given, reason_with};
-ghost use Rattle.statements_parts.specs.Fault.{GivesUnlessFull};
+ghost use Rattle.statements_parts.specs.Fault.{StatementGivesUnlessFull};
 ghost use Rattle.statements_parts.specs.Steps.{StepGivesUnlessFull, TakesUnlessFull};
 
 use asn::{Cursor, ENUMERATED, SEQUENCE, Tlv};
 use cert::{Extension, OidSet, certificate_extension_number};
-use statements_parts::{ReadingFault, Refusal, StatementRule, is_reason, new_extension};
+use statements_parts::{ReadingFault, StatementRefusal, StatementRule, is_reason, new_extension};
 use std::alloc::Global;
 
 /// What an extension of an entry is about.
@@ -62,7 +62,7 @@ fn reason_of(octets: &[u8]) -> Option<u8>
 
 /// The reason that a reasonCode gives; or its fault, at the extension.
 #[tactic(auto, unfolding(crate::specs::EntryExtension::reason_code, asn::specs::Walk::check_that))]
-fn reason_code(extension: Extension<'_>) -> Result<u8, Refusal>
+fn reason_code(extension: Extension<'_>) -> Result<u8, StatementRefusal>
     ensures { Gives (λ code. code) result (reason_code (seen_extension extension.entry)) }
 {
     match reason_of(extension.value.body) {
@@ -74,7 +74,7 @@ fn reason_code(extension: Extension<'_>) -> Result<u8, Refusal>
 
 /// What is known of the reason once one more extension was read; or its fault, at the extension.
 #[tactic(auto, unfolding(crate::specs::EntryExtension::reason_with, asn::specs::Walk::check_that))]
-fn tell_reason(extension: Extension<'_>, before: u8) -> Result<u8, Refusal>
+fn tell_reason(extension: Extension<'_>, before: u8) -> Result<u8, StatementRefusal>
     ensures { Gives (λ code. code) result (reason_with (seen_extension extension.entry) before) }
 {
     match EntryExtensionKind::of(extension.oid.contents()) {
@@ -98,9 +98,9 @@ struct TakenOfEntry<'a> {
 
 impl<'a> TakenOfEntry<'a> {
     /// Takes one more extension, which must be of a type that none of the earlier ones has.
-    #[tactic(auto, unfolding(crate::specs::EntryExtension::one_extension))]
+    #[tactic(auto, unfolding(crate::specs::EntryExtension::one_entry_extension))]
     fn take(&mut self, value: Tlv<'a>) -> Result<(), ReadingFault>
-        ensures { TakesUnlessFull seen_taken self.old self.new value.entry result one_extension }
+        ensures { TakesUnlessFull seen_taken_of_entry self.old self.new value.entry result one_entry_extension }
     {
         let extension = new_extension(&mut self.types, value)?;
         self.reason = tell_reason(extension, self.reason)?;
@@ -110,7 +110,7 @@ impl<'a> TakenOfEntry<'a> {
 
 /// The reason that the extensions give, whose types are kept in a set.
 fn reason_of_several(alloc: Global, members: Cursor<'_>) -> Result<u8, ReadingFault>
-    ensures { GivesUnlessFull (λ code. code) result (reason_of_all (left members.entry)) }
+    ensures { StatementGivesUnlessFull (λ code. code) result (reason_of_all (left members.entry)) }
 {
     let mut members = members;
     let mut taken = TakenOfEntry {
@@ -124,7 +124,7 @@ fn reason_of_several(alloc: Global, members: Cursor<'_>) -> Result<u8, ReadingFa
 }
 
 /// The reason that an extension gives which is the only one of its entry.
-fn reason_of_one(value: Tlv<'_>) -> Result<u8, Refusal>
+fn reason_of_one(value: Tlv<'_>) -> Result<u8, StatementRefusal>
     ensures { Gives (λ code. code) result (reason_of_one (seen_tlv value.entry)) }
 {
     tell_reason(Extension::read(value, StatementRule::Layout)?, 0)
@@ -133,7 +133,7 @@ fn reason_of_one(value: Tlv<'_>) -> Result<u8, Refusal>
 /// The reason that the extensions give. An entry has one extension as a rule: then no set of types is made.
 #[tactic(auto, using(crate::proofs::OneExtension::reason_alone))]
 fn reason_in(alloc: Global, members: Cursor<'_>) -> Result<u8, ReadingFault>
-    ensures { GivesUnlessFull (λ code. code) result (reason_of_all (left members.entry)) }
+    ensures { StatementGivesUnlessFull (λ code. code) result (reason_of_all (left members.entry)) }
 {
     let mut behind = members;
     let Some(value) = behind.next() else {

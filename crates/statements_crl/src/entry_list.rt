@@ -2,9 +2,9 @@
 
 ghost use Rattle.asn.specs.Reading.{left};
 ghost use Rattle.statements_crl.specs.CertificateList.{revoked};
-ghost use Rattle.statements_crl.specs.Entry.{checked, entries, entries_left, seen_entry, serials_left};
+ghost use Rattle.statements_crl.specs.Entry.{entries_checked, entries, entries_left, seen_entry, serials_left};
 ghost use Rattle.statements_facts.specs.Listed.{seen_listed};
-ghost use Rattle.statements_parts.specs.Fault.{GivesUnlessFull};
+ghost use Rattle.statements_parts.specs.Fault.{StatementGivesUnlessFull};
 ghost use Rattle.statements_parts.specs.Steps.{HandsOutFirst, StepGivesUnlessFull};
 
 use crate::entry::Entry;
@@ -49,7 +49,7 @@ impl<'a> Entries<'a> {
 
 /// The first fault of the entries that the values are.
 fn check_entries(alloc: Global, members: Cursor<'_>) -> Result<(), ReadingFault>
-    ensures { GivesUnlessFull (λ _. tt) result (checked (entries (left members.entry).values)) }
+    ensures { StatementGivesUnlessFull (λ _. tt) result (entries_checked (entries (left members.entry).values)) }
 {
     let mut members = members;
     while let Some(value) = members.next() {

@@ -3,7 +3,7 @@
 ghost use Rattle.std.specs.Prelude.{◌≡◌, IfSome, Ok};
 ghost use Rattle.asn.specs.Members.{left};
 ghost use Rattle.std.proofs.Props.{props};
-ghost use Rattle.statements_crl.specs.EntryWalk.{checked, entries};
+ghost use Rattle.statements_crl.specs.EntryWalk.{entries_checked, entries};
 
 use asn::Cursor;
 

@@ -18,4 +18,4 @@ pub use layout::list_laws;
 pub use list::Crl;
 pub use number::{CrlNumber, number_laws};
 pub use statements_facts::Scope;
-pub use statements_parts::{ReadingFault, Refusal, StatementRule};
+pub use statements_parts::{ReadingFault, StatementRefusal, StatementRule};

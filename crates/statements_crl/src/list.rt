@@ -2,9 +2,9 @@
 
 ghost use Rattle.std.specs.Prelude.{◌≡◌, ◌==◌, Some};
 ghost use Rattle.asn.specs.Reading.{seen_tlv, left, Gives};
-ghost use Rattle.statements_crl.specs.CertificateList.{certificate_list, certificate_list_at, list_head, seen_head, seen_list, seen_tbs, tbs_cert_list, version_2};
+ghost use Rattle.statements_crl.specs.CertificateList.{certificate_list, certificate_list_at, list_head, seen_list_head, seen_list, seen_tbs_list, tbs_cert_list, version_2};
 ghost use Rattle.statements_crl.specs.Entry.{entries_left, reason_listed};
-ghost use Rattle.statements_parts.specs.Fault.{GivesUnlessFull};
+ghost use Rattle.statements_parts.specs.Fault.{StatementGivesUnlessFull};
 ghost use Rattle.asn.specs.Walk.{StepGives};
 
 use crate::entry_list::take_entries;
@@ -17,7 +17,7 @@ use cert::{AlgorithmIdentifier, BitString};
 use names::Name;
 use statements_facts::Scope;
 use statements_parts::{
-    ReadingFault, Refusal, StatementRule, outermost, take_algorithm, take_signature,
+    ReadingFault, StatementRefusal, StatementRule, outermost, take_algorithm, take_signature,
 };
 use std::alloc::Global;
 
@@ -54,7 +54,7 @@ pub(crate) struct ListHead<'a> {
 
 /// Takes Version ::= INTEGER { v1(0), v2(1) }, which has to be v2.
 #[tactic(auto, unfolding(crate::specs::CertificateList::version_2, asn::specs::Walk::check_that))]
-fn take_version(members: &mut Cursor<'_>) -> Result<(), Refusal>
+fn take_version(members: &mut Cursor<'_>) -> Result<(), StatementRefusal>
     ensures { Gives (λ _. left members.new) result (version_2 (left members.old)) }
 {
     let value = members.next_or(StatementRule::Layout)?;
@@ -68,8 +68,8 @@ fn take_version(members: &mut Cursor<'_>) -> Result<(), Refusal>
 impl<'a> ListHead<'a> {
     /// version, signature, issuer, thisUpdate, nextUpdate
     #[tactic(auto, unfolding(crate::specs::CertificateList::list_head))]
-    fn take(members: &mut Cursor<'a>) -> Result<ListHead<'a>, Refusal>
-        ensures { StepGives seen_head result members.old members.new list_head }
+    fn take(members: &mut Cursor<'a>) -> Result<ListHead<'a>, StatementRefusal>
+        ensures { StepGives seen_list_head result members.old members.new list_head }
     {
         take_version(members)?;
         let signature = take_algorithm(members)?;
@@ -97,7 +97,7 @@ impl<'a> TbsCertList<'a> {
     /// TBSCertList ::= SEQUENCE { version, signature, issuer, thisUpdate, nextUpdate, revokedCertificates, crlExtensions [0] }
     #[tactic(auto, unfolding(crate::specs::CertificateList::tbs_cert_list))]
     fn read(alloc: Global, value: Tlv<'a>) -> Result<TbsCertList<'a>, ReadingFault>
-        ensures { GivesUnlessFull seen_tbs result (tbs_cert_list (seen_tlv value.entry)) }
+        ensures { StatementGivesUnlessFull seen_tbs_list result (tbs_cert_list (seen_tlv value.entry)) }
     {
         value.is_a(SEQUENCE, StatementRule::Layout)?;
         let mut members = value.members();
@@ -119,7 +119,7 @@ impl<'a> Crl<'a> {
     /// for their types, and n log n time.
     #[tactic(auto, unfolding(crate::specs::CertificateList::certificate_list))]
     pub fn read(alloc: Global, octets: &'a [u8]) -> Result<Crl<'a>, ReadingFault>
-        ensures { GivesUnlessFull seen_list result (certificate_list octets.now) }
+        ensures { StatementGivesUnlessFull seen_list result (certificate_list octets.now) }
     {
         let value = outermost(octets)?;
         Crl::at(alloc, value)
@@ -130,7 +130,7 @@ impl<'a> Crl<'a> {
     /// As `read`, of a value in the text handed to `asn::whole`, with offsets in that text.
     #[tactic(auto, unfolding(crate::specs::CertificateList::certificate_list_at))]
     pub fn at(alloc: Global, value: Tlv<'a>) -> Result<Crl<'a>, ReadingFault>
-        ensures { GivesUnlessFull seen_list result (certificate_list_at (seen_tlv value.entry)) }
+        ensures { StatementGivesUnlessFull seen_list result (certificate_list_at (seen_tlv value.entry)) }
     {
         value.is_a(SEQUENCE, StatementRule::Layout)?;
         let mut members = value.members();

@@ -4,8 +4,8 @@ ghost use Rattle.std.specs.Prelude.{◌≡◌};
 ghost use Rattle.asn.specs.Reading.{seen_tlv, left, members, Gives};
 ghost use Rattle.asn.specs.Oid.{oid_contents};
 ghost use Rattle.cert.specs.Extension.{seen_extension};
-ghost use Rattle.statements_crl.specs.ListExtension.{all_extensions, extensions, list_extension_kind, list_extensions, one_extension, said_by, seen_named, seen_said, seen_taken};
-ghost use Rattle.statements_parts.specs.Fault.{GivesUnlessFull};
+ghost use Rattle.statements_crl.specs.ListExtension.{all_list_extensions, number_and_scope, list_extension_kind, list_extensions, one_list_extension, said_by, seen_named, seen_said, seen_taken_of_list};
+ghost use Rattle.statements_parts.specs.Fault.{StatementGivesUnlessFull};
 ghost use Rattle.statements_parts.specs.Steps.{StepGivesUnlessFull, TakesUnlessFull};
 
 use crate::issuer_scope::scope_of;
@@ -13,7 +13,7 @@ use crate::number::CrlNumber;
 use asn::{Cursor, SEQUENCE, Tlv};
 use cert::{Extension, OidSet, certificate_extension_number};
 use statements_facts::Scope;
-use statements_parts::{ReadingFault, Refusal, StatementRule, new_extension};
+use statements_parts::{ReadingFault, StatementRefusal, StatementRule, new_extension};
 use std::alloc::Global;
 
 /// What an extension of a list is about.
@@ -54,7 +54,7 @@ struct ListExtensions<'a> {
 impl<'a> ListExtensions<'a> {
     /// What is known once one more extension was read; or its fault, at the extension.
     #[tactic(auto, unfolding(crate::specs::ListExtension::said_by, asn::specs::Walk::check_that))]
-    fn with(&self, one: Extension<'a>) -> Result<ListExtensions<'a>, Refusal>
+    fn with(&self, one: Extension<'a>) -> Result<ListExtensions<'a>, StatementRefusal>
         ensures { Gives seen_said result (said_by (seen_extension one.entry) (seen_said self.now)) }
     {
         let at = one.whole.at;
@@ -91,9 +91,9 @@ struct TakenOfList<'a> {
 
 impl<'a> TakenOfList<'a> {
     /// Takes one more extension, which must be of a type that none of the earlier ones has.
-    #[tactic(auto, unfolding(crate::specs::ListExtension::one_extension))]
+    #[tactic(auto, unfolding(crate::specs::ListExtension::one_list_extension))]
     fn take(&mut self, value: Tlv<'a>) -> Result<(), ReadingFault>
-        ensures { TakesUnlessFull seen_taken self.old self.new value.entry result one_extension }
+        ensures { TakesUnlessFull seen_taken_of_list self.old self.new value.entry result one_list_extension }
     {
         let extension = new_extension(&mut self.types, value)?;
         self.said = self.said.with(extension)?;
@@ -103,7 +103,7 @@ impl<'a> TakenOfList<'a> {
 
 /// Takes the extensions that the values are.
 fn take_all<'a>(alloc: Global, members: Cursor<'a>) -> Result<TakenOfList<'a>, ReadingFault>
-    ensures { GivesUnlessFull seen_taken result (all_extensions (left members.entry)) }
+    ensures { StatementGivesUnlessFull seen_taken_of_list result (all_list_extensions (left members.entry)) }
 {
     let mut members = members;
     let mut taken = TakenOfList {
@@ -136,9 +136,9 @@ fn end_of(list: Tlv<'_>) -> usize
 
 impl<'a> NumberAndScope<'a> {
     /// Extensions ::= SEQUENCE SIZE (1..MAX) OF Extension, one of which is the number
-    #[tactic(auto, unfolding(crate::specs::ListExtension::extensions))]
+    #[tactic(auto, unfolding(crate::specs::ListExtension::number_and_scope))]
     fn read(alloc: Global, list: Tlv<'a>) -> Result<NumberAndScope<'a>, ReadingFault>
-        ensures { GivesUnlessFull seen_named result (extensions (seen_tlv list.entry)) }
+        ensures { StatementGivesUnlessFull seen_named result (number_and_scope (seen_tlv list.entry)) }
     {
         list.is_a(SEQUENCE, StatementRule::Layout)?;
         let members = list.members();

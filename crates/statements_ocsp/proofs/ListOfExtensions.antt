@@ -13,8 +13,8 @@ use Rattle.statements_parts.specs.Parts.{new_extension}
 use Rattle.statements_parts.proofs.Laws.{AreNew, new_pairs, pairs_are_new, new_extension_ok, new_extension_again}
 use Rattle.statements_parts.specs.declared.fault.StatementRule.{StatementRule}
 use Rattle.statements_parts.specs.declared.fault.StatementRule.TheVariants.{Layout, CriticalUnknown}
-use Rattle.statements_ocsp.specs.ResponseExtensions.{one_extension, extensions, extensions_of, optional_extensions}
-use Rattle.statements_ocsp.specs.SingleForms.{AreUncritical, AreOptionalExtensions}
+use Rattle.statements_ocsp.specs.ResponseExtensions.{one_response_extension, extensions_of_response, extensions_of, optional_response_extensions}
+use Rattle.statements_ocsp.specs.SingleForms.{AreUncritical, AreUncriticalExtensions}
 
 -- the type of an extension
 abbrev type_of : Extension → List ℕ
@@ -35,8 +35,8 @@ false_of : (b : Bool) → not b ≡ true → b ≡ false
 false_of true e = absurd cc
 false_of false e = refl
 
-step_ok : (from : Oids) (value : Place) (to : Oids) → one_extension from value ≡ Ok to → Step from value to
-unfolding one_extension
+step_ok : (from : Oids) (value : Place) (to : Oids) → one_response_extension from value ≡ Ok to → Step from value to
+unfolding one_response_extension
 step_ok from value to e =
     let read = bind_ok {A = Extension × Oids} (new_extension from value) _ to e in
     let known = bind_ok {A = Unit {0}} (check_that (not read.0.0.critical) CriticalUnknown value.at) _ to read.2 in
@@ -49,8 +49,8 @@ step_ok from value to e =
       added = sym (ok_is {E = StatementRule × ℕ} read.0.1 to known.2) ∙ found.added_is;
     }
 
-step_again : (from : Oids) (value : Place) (one : Extension) → IsExtension value one → one.critical ≡ false → contains from one.oid ≡ false → one_extension from value ≡ Ok (insert from one.oid)
-unfolding one_extension
+step_again : (from : Oids) (value : Place) (one : Extension) → IsExtension value one → one.critical ≡ false → contains from one.oid ≡ false → one_response_extension from value ≡ Ok (insert from one.oid)
+unfolding one_response_extension
 step_again from value one is uncritical new =
     rw (new_extension_again from value one is new, check_again (not one.critical) CriticalUnknown value.at (ap not uncritical)) refl
 
@@ -72,7 +72,7 @@ reads_of from (value ∷ values) to (next, step, others) =
       uncritical = (step.uncritical, rest.uncritical);
     }
 
-each_again : (from : Oids) (values : List Place) (list : List Extension) → AllZip IsExtension values list → AreNew type_of from list → AllByRecursion IsUncritical list → (to : Oids) × (each one_extension from values ≡ Ok to)
+each_again : (from : Oids) (values : List Place) (list : List Extension) → AllZip IsExtension values list → AreNew type_of from list → AllByRecursion IsUncritical list → (to : Oids) × (each one_response_extension from values ≡ Ok to)
 each_again from [] [] zip new uncritical = (from, refl)
 each_again from [] (one ∷ list) zip new uncritical = absurd zip
 each_again from (value ∷ values) [] zip new uncritical = absurd zip
@@ -89,14 +89,14 @@ is_some_of [] [] zip some = absurd (some refl)
 is_some_of [] (one ∷ list) zip some = absurd zip
 is_some_of (value ∷ others) list zip some = (value, others, refl)
 
-are_uncritical : (list : Place) (u : Unit {0}) → extensions list ≡ Ok u → AreUncritical list
-unfolding extensions
+are_uncritical : (list : Place) (u : Unit {0}) → extensions_of_response list ≡ Ok u → AreUncritical list
+unfolding extensions_of_response
 are_uncritical list u e =
     let sequence = bind_ok {A = Unit {0}} (is_a 0x30 Layout list) _ u e in
     let one = bind_ok {A = Unit {0}} (some Layout (members list)) _ u sequence.2 in
-    let types = bind_ok {A = Oids} (each one_extension empty ((members list).values)) _ u one.2 in
+    let types = bind_ok {A = Oids} (each one_response_extension empty ((members list).values)) _ u one.2 in
     let first = some_ok _ _ _ one.1 in
-    let reads = reads_of empty ((members list).values) types.0 (each_ok one_extension Step step_ok empty ((members list).values) types.0 types.1) in
+    let reads = reads_of empty ((members list).values) types.0 (each_ok one_response_extension Step step_ok empty ((members list).values) types.0 types.1) in
     record {
       extensions = reads.list;
       sequence = is_a_ok _ _ _ _ sequence.1;
@@ -106,8 +106,8 @@ are_uncritical list u e =
       uncritical = All-from_recursion IsUncritical reads.list reads.uncritical;
     }
 
-uncritical_are : (list : Place) → AreUncritical list → extensions list ≡ Ok tt
-unfolding extensions
+uncritical_are : (list : Place) → AreUncritical list → extensions_of_response list ≡ Ok tt
+unfolding extensions_of_response
 uncritical_are list is =
     let first = is_some_of ((members list).values) is.extensions is.each is.some in
     let types = each_again empty ((members list).values) is.extensions is.each (pairs_are_new type_of is.extensions is.types) (recursion_from_All IsUncritical is.extensions is.uncritical) in
@@ -117,7 +117,7 @@ uncritical_are list is =
 pub record TakesExtensions (left others : Members) : Type 0 where
   pub tagged : List Place
   pub values : left.values ≡ tagged ++ others.values
-  pub are : AreOptionalExtensions tagged
+  pub are : AreUncriticalExtensions tagged
 
 of_extensions : (left : Members) (found : Option Place) (others x : Members) → TakesOptional 0xA1 left found others → extensions_of found others ≡ Ok x → TakesExtensions left x
 of_extensions left None others x took e =
@@ -126,7 +126,7 @@ of_extensions left None others x took e =
     record { tagged = []; values = sym (ap (λ (m : Members). m.values) took.0); are = tt }
 of_extensions left (Some explicit) others x took e =
     let list = bind_ok {A = Place × Members} (next_or Layout (members explicit)) _ x e in
-    let read = bind_ok {A = Unit {0}} (extensions list.0.0) _ x list.2 in
+    let read = bind_ok {A = Unit {0}} (extensions_of_response list.0.0) _ x list.2 in
     let one = bind_ok {A = Unit {0}} (ended Layout list.0.1) _ x read.2 in
     let inner = next_or_ok _ _ _ list.1 in
     let P : Members → Type 0 = λ m. TakesExtensions left m in
@@ -140,16 +140,16 @@ of_extensions left (Some explicit) others x took e =
       );
     }
 
-pub extensions_ok : (left x : Members) → optional_extensions left ≡ Ok x → TakesExtensions left x
-unfolding optional_extensions
+pub extensions_ok : (left x : Members) → optional_response_extensions left ≡ Ok x → TakesExtensions left x
+unfolding optional_response_extensions
 extensions_ok left x e = of_extensions left (optional 0xA1 left).0 (optional 0xA1 left).1 x (optional_is 0xA1 left) e
 
 begins_none : (identifier : ℕ) (left : Members) → left.values ≡ [] → begins identifier left ≡ false
 unfolding begins
 begins_none identifier left none = rw none refl
 
-pub extensions_again : (left : Members) (tagged : List Place) → left.values ≡ tagged → AreOptionalExtensions tagged → (x : Members) × (optional_extensions left ≡ Ok x) × (x.values ≡ [])
-unfolding optional_extensions
+pub extensions_again : (left : Members) (tagged : List Place) → left.values ≡ tagged → AreUncriticalExtensions tagged → (x : Members) × (optional_response_extensions left ≡ Ok x) × (x.values ≡ [])
+unfolding optional_response_extensions
 extensions_again left [] e are = (left, rw (optional_absent 0xA1 left (begins_none 0xA1 left e)) refl, e)
 extensions_again left (explicit ∷ []) e (list, is_tagged, is) =
     let next : List Place → Members = λ values. record { values = values; end = left.end } in (

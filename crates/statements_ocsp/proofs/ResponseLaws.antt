@@ -9,20 +9,20 @@ use Rattle.asn.specs.Part.{IsWhole}
 use Rattle.asn.specs.Place.{Place, tag, body, body_place}
 use Rattle.asn.specs.Members.{Members, members, begins}
 use Rattle.asn.specs.Walk.{is_a, required, optional, next_or, or_fault, ended, check_that}
-use Rattle.asn.specs.Judgement.{nested, outermost}
+use Rattle.asn.specs.Outermost.{nested, outermost}
 use Rattle.asn.proofs.Laws.{bind_ok, ok_is, check_ok, check_again, is_a_ok, is_a_again, required_ok, required_again, next_or_ok, next_or_again, ended_ok, ended_again, TakesOptional, optional_is, optional_there, optional_absent, outermost_ok, outermost_again, members_octets, body_octets}
 use Rattle.names.specs.GeneralLayout.{NameContents}
 use Rattle.cert.specs.AlgorithmIdentifier.{AlgorithmIdentifier, algorithm_identifier}
 use Rattle.cert.specs.BitString.{BitString}
 use Rattle.cert.specs.CertificateForms.{IsSignature}
 use Rattle.cert.proofs.Laws.{is_algorithm, algorithm_is}
-use Rattle.statements_parts.specs.Fault.{as_der}
-use Rattle.statements_parts.specs.Parts.{component, next_read, distinguished_name, signature_value}
+use Rattle.statements_parts.specs.Fault.{as_statement_der}
+use Rattle.statements_parts.specs.Parts.{statement_component, next_in_statement, name_in_statement, signature_in_statement}
 use Rattle.statements_parts.proofs.Laws.{as_der_ok, contained_ok, contained_again, next_read_ok, next_read_again, component_ok, component_again, name_ok, name_again, signature_ok, signature_again}
 use Rattle.statements_parts.specs.declared.fault.StatementRule.{StatementRule}
 use Rattle.statements_parts.specs.declared.fault.StatementRule.TheVariants.{Layout, NotSuccessful, ResponseType}
 use Rattle.statements_ocsp.specs.GeneralizedTime.{generalized_time}
-use Rattle.statements_ocsp.specs.ResponseExtensions.{optional_extensions}
+use Rattle.statements_ocsp.specs.ResponseExtensions.{optional_response_extensions}
 use Rattle.statements_ocsp.specs.Responder.{Responder, by_name, by_key, named_responder, keyed_responder, responder_at, responder}
 use Rattle.statements_ocsp.specs.Single.{SingleResponse}
 use Rattle.statements_ocsp.specs.OcspResponse.{ResponseData, all_singles, response_data, certs_of, certs, OcspResponse, Signed, signature_part, response_with, basic_response, contained_response, id_basic, basic_type, response_bytes, explicit_bytes, one_octet, successful, ocsp_response_at, ocsp_response}
@@ -37,9 +37,9 @@ named_ok : (value : Place) (found : Responder) → named_responder value ≡ Ok 
 unfolding named_responder
 named_ok value found e =
     let named = bind_ok {A = Unit {0}} (is_a 0xA1 Layout value) _ found e in
-    let name = bind_ok {A = NameContents × Members} (component 0x30 distinguished_name (members value)) _ found named.2 in
+    let name = bind_ok {A = NameContents × Members} (statement_component 0x30 name_in_statement (members value)) _ found named.2 in
     let one = bind_ok {A = Unit {0}} (ended Layout name.0.1) _ found name.2 in
-    let inner = component_ok 0x30 distinguished_name (members value) name.0 name.1 in
+    let inner = component_ok 0x30 name_in_statement (members value) name.0 name.1 in
     subst (IsResponderId value) (ok_is {E = StatementRule × ℕ} (by_name name.0.0) found one.2) (
       inner.value,
       record { explicit = is_a_ok _ _ _ _ named.1; members_are = inner.took.values ∙ ap (◌∷◌ inner.value) (ended_ok _ _ _ one.1) },
@@ -73,7 +73,7 @@ unfolding named_responder
 named_again value name (one, is_tagged, is) =
     rw (
       is_a_again 0xA1 Layout value is_tagged.explicit,
-      component_again 0x30 distinguished_name (members value) one [] name is_tagged.members_are is.is_name.sequence (name_again one name is),
+      component_again 0x30 name_in_statement (members value) one [] name is_tagged.members_are is.is_name.sequence (name_again one name is),
       ended_again Layout (record { values = []; end = (members value).end }) refl,
     ) refl
 
@@ -116,8 +116,8 @@ is_data value fields e =
     let sequence = bind_ok {A = Unit {0}} (is_a 0x30 Layout value) _ fields e in
     let who = bind_ok {A = Responder × Members} (responder (members value)) _ fields sequence.2 in
     let moment = bind_ok {A = ℤ × Members} (generalized_time who.0.1) _ fields who.2 in
-    let list = bind_ok {A = List SingleResponse × Members} (component 0x30 all_singles moment.0.1) _ fields moment.2 in
-    let left = bind_ok {A = Members} (optional_extensions list.0.1) _ fields list.2 in
+    let list = bind_ok {A = List SingleResponse × Members} (statement_component 0x30 all_singles moment.0.1) _ fields moment.2 in
+    let left = bind_ok {A = Members} (optional_response_extensions list.0.1) _ fields list.2 in
     let done = bind_ok {A = Unit {0}} (ended Layout left.0) _ fields left.2 in
     let first = responder_ok (members value) who.0 who.1 in
     let second = moment_ok who.0.1 moment.0 moment.1 in
@@ -220,12 +220,12 @@ signed_from algorithm signature certs = record { algorithm = algorithm; signatur
 signed_ok : (left : Members) (found : Signed) → signature_part left ≡ Ok found → TakesSigned left found
 unfolding signature_part
 signed_ok left found e =
-    let algorithm = bind_ok {A = AlgorithmIdentifier × Members} (next_read (algorithm_identifier Layout) left) _ found e in
-    let signature = bind_ok {A = BitString × Members} (component 0x03 signature_value algorithm.0.1) _ found algorithm.2 in
+    let algorithm = bind_ok {A = AlgorithmIdentifier × Members} (next_in_statement (algorithm_identifier Layout) left) _ found e in
+    let signature = bind_ok {A = BitString × Members} (statement_component 0x03 signature_in_statement algorithm.0.1) _ found algorithm.2 in
     let given = bind_ok {A = List Place × Members} (certs signature.0.1) _ found signature.2 in
     let done = bind_ok {A = Unit {0}} (ended Layout given.0.1) _ found given.2 in
     let first = next_read_ok (algorithm_identifier Layout) left algorithm.0 algorithm.1 in
-    let second = component_ok 0x03 signature_value algorithm.0.1 signature.0 signature.1 in
+    let second = component_ok 0x03 signature_in_statement algorithm.0.1 signature.0 signature.1 in
     let third = certs_ok signature.0.1 given.0 given.1 in
     let behind = at_the_end signature.0.1.values third.tagged given.0.1.values third.values (ended_ok _ _ _ done.1) in
     let read = signature_ok second.value signature.0.0 second.took.tag_is second.read_is in
@@ -272,7 +272,7 @@ signed_again value fields left is e =
     let given = certs_again (next is.certs) is.certs is.behind.certs refl is.certs_are in
     rw (
       next_read_again (algorithm_identifier Layout) left is.algorithm (is.behind.signature.value ∷ is.certs) is.behind.algorithm e (algorithm_is Layout is.algorithm is.behind.algorithm is.algorithm_is),
-      component_again 0x03 signature_value (next (is.behind.signature.value ∷ is.certs)) is.behind.signature.value is.certs is.behind.signature refl is.signature_is.bit_string (signature_again is.behind.signature is.signature_is),
+      component_again 0x03 signature_in_statement (next (is.behind.signature.value ∷ is.certs)) is.behind.signature.value is.certs is.behind.signature refl is.signature_is.bit_string (signature_again is.behind.signature is.signature_is),
       given.1,
       ended_again Layout given.0 given.2,
     ) refl
@@ -311,7 +311,7 @@ type_again left kind others e t is =
 contained_is : (value : Place) (fields : OcspResponse) → AreOctets value.octets → contained_response value ≡ Ok fields → IsWhole (body value) × IsBasicResponse (body_place value) fields
 unfolding contained_response
 contained_is value fields fits e =
-    let found = bind_ok {A = Place} (as_der (nested value)) (λ inner. basic_response inner) fields e in
+    let found = bind_ok {A = Place} (as_statement_der (nested value)) (λ inner. basic_response inner) fields e in
     let whole = contained_ok value found.0 (body_octets value fits) found.1 in
     (whole.1, is_basic (body_place value) fields (subst (λ v. basic_response v ≡ Ok fields) whole.0 found.2))
 
@@ -320,7 +320,7 @@ unfolding response_bytes
 are_bytes value fields fits e =
     let sequence = bind_ok {A = Unit {0}} (is_a 0x30 Layout value) _ fields e in
     let left = bind_ok {A = Members} (basic_type (members value)) _ fields sequence.2 in
-    let response = bind_ok {A = OcspResponse × Members} (component 0x04 contained_response left.0) _ fields left.2 in
+    let response = bind_ok {A = OcspResponse × Members} (statement_component 0x04 contained_response left.0) _ fields left.2 in
     let done = bind_ok {A = Unit {0}} (ended Layout response.0.1) _ fields response.2 in
     let first = type_ok (members value) left.0 left.1 in
     let second = component_ok 0x04 contained_response left.0 response.0 response.1 in
@@ -380,7 +380,7 @@ explicit_ok : (value : Place) (fields : OcspResponse) → AreOctets value.octets
 unfolding explicit_bytes
 explicit_ok value fields fits e =
     let tagged = bind_ok {A = Unit {0}} (is_a 0xA0 Layout value) _ fields e in
-    let response = bind_ok {A = OcspResponse × Members} (next_read response_bytes (members value)) _ fields tagged.2 in
+    let response = bind_ok {A = OcspResponse × Members} (next_in_statement response_bytes (members value)) _ fields tagged.2 in
     let one = bind_ok {A = Unit {0}} (ended Layout response.0.1) _ fields response.2 in
     let inner = next_read_ok response_bytes (members value) response.0 response.1 in
     let bytes_fit = (subst (AllByRecursion Octets) inner.took.values (members_octets value fits)).0 in (
@@ -402,8 +402,8 @@ is_response_at : (value : Place) (fields : OcspResponse) → AreOctets value.oct
 unfolding ocsp_response_at
 is_response_at value fields fits e =
     let sequence = bind_ok {A = Unit {0}} (is_a 0x30 Layout value) _ fields e in
-    let status = bind_ok {A = Unit {0} × Members} (component 0x0A successful (members value)) _ fields sequence.2 in
-    let response = bind_ok {A = OcspResponse × Members} (next_read explicit_bytes status.0.1) _ fields status.2 in
+    let status = bind_ok {A = Unit {0} × Members} (statement_component 0x0A successful (members value)) _ fields sequence.2 in
+    let response = bind_ok {A = OcspResponse × Members} (next_in_statement explicit_bytes status.0.1) _ fields status.2 in
     let done = bind_ok {A = Unit {0}} (ended Layout response.0.1) _ fields response.2 in
     let first = component_ok 0x0A successful (members value) status.0 status.1 in
     let second = next_read_ok explicit_bytes status.0.1 response.0 response.1 in
@@ -437,7 +437,7 @@ pub response_is_exact : OcspResponseIsExact
 unfolding ocsp_response
 response_is_exact octets fields fits = (
   λ e.
-      let value = bind_ok {A = Place} (as_der (outermost octets)) (λ value. ocsp_response_at value) fields e in
+      let value = bind_ok {A = Place} (as_statement_der (outermost octets)) (λ value. ocsp_response_at value) fields e in
       let whole = outermost_ok octets value.0 fits (as_der_ok (outermost octets) value.0 value.1) in
       let at = subst (λ v. ocsp_response_at v ≡ Ok fields) whole.0 value.2 in
       record { value = whole.1.0; der = whole.1.1; layout = is_response_at (record { octets = octets; at = 0 }) fields fits at },

@@ -8,7 +8,7 @@ use Rattle.asn.specs.Walk.{is_a, required, optional, ended, check_that}
 use Rattle.asn.proofs.Laws.{bind_ok, ok_is, check_ok, check_again, is_a_ok, is_a_again, required_ok, required_again, ended_ok, ended_again, TakesOptional, optional_is, optional_there, optional_absent}
 use Rattle.cert.specs.AlgorithmIdentifier.{AlgorithmIdentifier, algorithm_identifier}
 use Rattle.cert.proofs.Laws.{is_algorithm, algorithm_is}
-use Rattle.statements_parts.specs.Parts.{component, next_read, serial_number}
+use Rattle.statements_parts.specs.Parts.{statement_component, next_in_statement, serial_in_statement}
 use Rattle.statements_parts.proofs.Laws.{next_read_ok, next_read_again, component_ok, component_again, serial_ok, serial_again}
 use Rattle.statements_parts.specs.declared.fault.StatementRule.{StatementRule}
 use Rattle.statements_parts.specs.declared.fault.StatementRule.TheVariants.{Layout, TooManySingles}
@@ -16,9 +16,9 @@ use Rattle.statements_ocsp.specs.declared.cert_status.CertStatus.{CertStatus}
 use Rattle.statements_ocsp.specs.CertificateId.{CertId, cert_id}
 use Rattle.statements_ocsp.specs.GeneralizedTime.{generalized_time}
 use Rattle.statements_ocsp.specs.CertificateStatus.{cert_status}
-use Rattle.statements_ocsp.specs.ResponseExtensions.{optional_extensions}
+use Rattle.statements_ocsp.specs.ResponseExtensions.{optional_response_extensions}
 use Rattle.statements_ocsp.specs.Single.{SingleResponse, next_update_of, next_update, single_fields, single, single_after, singles}
-use Rattle.statements_ocsp.specs.SingleForms.{IsGeneralizedTimeAt, IsCertId, IsCertStatus, IsNextUpdate, AreOptionalExtensions, IsSingleResponse, SingleResponseIsExact}
+use Rattle.statements_ocsp.specs.SingleForms.{IsGeneralizedTimeAt, IsCertId, IsCertStatus, IsNextUpdate, AreUncriticalExtensions, IsSingleResponse, SingleResponseIsExact}
 use Rattle.statements_ocsp.proofs.ListOfExtensions.{extensions_ok, extensions_again}
 use Rattle.statements_ocsp.proofs.StatusLaws.{moment_ok, moment_again, status_ok, status_again}
 
@@ -37,15 +37,15 @@ is_id : (value : Place) (fields : CertId) → cert_id value ≡ Ok fields → Is
 unfolding cert_id
 is_id value fields e =
     let sequence = bind_ok {A = Unit {0}} (is_a 0x30 Layout value) _ fields e in
-    let algorithm = bind_ok {A = AlgorithmIdentifier × Members} (next_read (algorithm_identifier Layout) (members value)) _ fields sequence.2 in
+    let algorithm = bind_ok {A = AlgorithmIdentifier × Members} (next_in_statement (algorithm_identifier Layout) (members value)) _ fields sequence.2 in
     let name_hash = bind_ok {A = Place × Members} (required 0x04 Layout algorithm.0.1) _ fields algorithm.2 in
     let key_hash = bind_ok {A = Place × Members} (required 0x04 Layout name_hash.0.1) _ fields name_hash.2 in
-    let serial = bind_ok {A = List ℕ × Members} (component 0x02 serial_number key_hash.0.1) _ fields key_hash.2 in
+    let serial = bind_ok {A = List ℕ × Members} (statement_component 0x02 serial_in_statement key_hash.0.1) _ fields key_hash.2 in
     let done = bind_ok {A = Unit {0}} (ended Layout serial.0.1) _ fields serial.2 in
     let first = next_read_ok (algorithm_identifier Layout) (members value) algorithm.0 algorithm.1 in
     let second = required_ok _ _ _ _ name_hash.1 in
     let third = required_ok _ _ _ _ key_hash.1 in
-    let fourth = component_ok 0x02 serial_number key_hash.0.1 serial.0 serial.1 in
+    let fourth = component_ok 0x02 serial_in_statement key_hash.0.1 serial.0 serial.1 in
     let last = last_in_order key_hash.0.1.values serial.0.1.values [] fourth.value fourth.took.values (ended_ok _ _ _ done.1) in
     subst (IsCertId value) (ok_is {E = StatementRule × ℕ} _ fields done.2) record {
       algorithm = first.value;
@@ -74,7 +74,7 @@ id_is value fields is =
       next_read_again (algorithm_identifier Layout) (members value) is.algorithm after_algorithm is.hash is.members_are (algorithm_is Layout is.algorithm is.hash is.algorithm_is),
       required_again 0x04 Layout (next after_algorithm) is.name_hash (is.key_hash ∷ is.serial ∷ []) refl is.name_hash_string,
       required_again 0x04 Layout (next (is.key_hash ∷ is.serial ∷ [])) is.key_hash (is.serial ∷ []) refl is.key_hash_string,
-      component_again 0x02 serial_number (next (is.serial ∷ [])) is.serial [] fields.serial refl is.serial_is.integer (serial_again is.serial fields.serial is.serial_is),
+      component_again 0x02 serial_in_statement (next (is.serial ∷ [])) is.serial [] fields.serial refl is.serial_is.integer (serial_again is.serial fields.serial is.serial_is),
       ended_again Layout (next []) refl,
       ← is.hash_algorithm,
       ← is.issuer_name_hash,
@@ -112,13 +112,13 @@ unfolding next_update
 next_ok left x e = of_next left (optional 0xA0 left).0 (optional 0xA0 left).1 x (optional_is 0xA0 left) e
 
 -- the tag of the extensions is another
-no_update : (left : Members) (tagged : List Place) → left.values ≡ tagged → AreOptionalExtensions tagged → begins 0xA0 left ≡ false
+no_update : (left : Members) (tagged : List Place) → left.values ≡ tagged → AreUncriticalExtensions tagged → begins 0xA0 left ≡ false
 unfolding begins
 no_update left [] e are = rw e refl
 no_update left (explicit ∷ []) e (list, is_tagged, is) = rw (e, is_tagged.explicit) refl
 no_update left (explicit ∷ other ∷ tagged) e are = absurd are
 
-next_again : (left : Members) (tagged behind : List Place) (moment : Option ℤ) → left.values ≡ tagged ++ behind → IsNextUpdate tagged moment → AreOptionalExtensions behind → (x : Members) × (next_update left ≡ Ok (moment, x)) × (x.values ≡ behind)
+next_again : (left : Members) (tagged behind : List Place) (moment : Option ℤ) → left.values ≡ tagged ++ behind → IsNextUpdate tagged moment → AreUncriticalExtensions behind → (x : Members) × (next_update left ≡ Ok (moment, x)) × (x.values ≡ behind)
 unfolding next_update
 next_again left [] behind None e is are = (left, rw (optional_absent 0xA0 left (no_update left behind e are)) refl, e)
 next_again left [] behind (Some moment) e is are = absurd is
@@ -154,7 +154,7 @@ fields_ok : (value : Place) (x : SingleResponse × Members) → single_fields va
 unfolding single_fields
 fields_ok value x e =
     let sequence = bind_ok {A = Unit {0}} (is_a 0x30 Layout value) _ x e in
-    let id = bind_ok {A = CertId × Members} (next_read cert_id (members value)) _ x sequence.2 in
+    let id = bind_ok {A = CertId × Members} (next_in_statement cert_id (members value)) _ x sequence.2 in
     let status = bind_ok {A = CertStatus × Members} (cert_status id.0.1) _ x id.2 in
     let this = bind_ok {A = ℤ × Members} (generalized_time status.0.1) _ x status.2 in
     let next = bind_ok {A = Option ℤ × Members} (next_update this.0.1) _ x this.2 in
@@ -198,7 +198,7 @@ pub is_single : (value : Place) (fields : SingleResponse) → single value ≡ O
 unfolding single
 is_single value fields e =
     let read = bind_ok {A = SingleResponse × Members} (single_fields value) _ fields e in
-    let left = bind_ok {A = Members} (optional_extensions read.0.1) _ fields read.2 in
+    let left = bind_ok {A = Members} (optional_response_extensions read.0.1) _ fields read.2 in
     let done = bind_ok {A = Unit {0}} (ended Layout left.0) _ fields left.2 in
     let first = fields_ok value read.0 read.1 in
     let second = extensions_ok read.0.1 left.0 left.1 in

@@ -5,7 +5,7 @@ use Rattle.asn.specs.Place.{Place, tag, body, is_empty}
 use Rattle.asn.specs.Members.{Members, members, begins}
 use Rattle.asn.specs.Walk.{or_fault, check_that, is_a, optional, seconds, next_or, ended}
 use Rattle.asn.proofs.Laws.{bind_ok, ok_is, check_ok, check_again, is_a_ok, is_a_again, next_or_ok, next_or_again, ended_ok, ended_again, seconds_ok, seconds_are, TakesOptional, optional_is, optional_there, optional_absent}
-use Rattle.statements_parts.specs.Parts.{component, is_reason}
+use Rattle.statements_parts.specs.Parts.{statement_component, is_reason}
 use Rattle.statements_parts.proofs.Laws.{component_ok, component_again}
 use Rattle.statements_parts.specs.declared.fault.StatementRule.{StatementRule}
 use Rattle.statements_parts.specs.declared.fault.StatementRule.TheVariants.{Layout, BadReason}
@@ -92,7 +92,7 @@ of_reason left None others x took e =
     subst P (ok_is {E = StatementRule × ℕ} (0, others) x e)
     record { tagged = []; values = sym (ap (λ (m : Members). m.values) took.0); is = refl }
 of_reason left (Some explicit) others x took e =
-    let code = bind_ok {A = ℕ × Members} (component 0x0A reason (members explicit)) _ x e in
+    let code = bind_ok {A = ℕ × Members} (statement_component 0x0A reason (members explicit)) _ x e in
     let one = bind_ok {A = Unit {0}} (ended Layout code.0.1) _ x code.2 in
     let inner = component_ok 0x0A reason (members explicit) code.0 code.1 in
     let P : ℕ × Members → Type 0 = λ y. TakesReason left y.0 y.1 in

@@ -3,7 +3,7 @@ use Rattle.std.specs.Prelude.{ℕ, ◌==◌, ◌&&◌, not, List, [], ◌∷◌,
 use Rattle.asn.specs.Place.{Place, tag, body, is_empty}
 use Rattle.asn.specs.Members.{Members, members}
 use Rattle.asn.specs.Walk.{◌>>=◌, is_a, optional, next_or, or_fault, ended, check_that}
-use Rattle.statements_parts.specs.Parts.{component, is_reason}
+use Rattle.statements_parts.specs.Parts.{statement_component, is_reason}
 use Rattle.statements_parts.specs.declared.fault.StatementRule.{StatementRule}
 use Rattle.statements_parts.specs.declared.fault.StatementRule.TheVariants.{Layout, BadReason}
 use Rattle.statements_ocsp.specs.GeneralizedTime.{generalized_time}
@@ -23,7 +23,7 @@ reason value = or_fault (reason_of_contents (body value)) BadReason value.at
 abbrev pub reason_of : Option Place → Members → Result (ℕ × Members) (StatementRule × ℕ)
 reason_of None left = Ok (0, left)
 reason_of (Some explicit) left = do
-  code ← component 0x0A reason (members explicit)
+  code ← statement_component 0x0A reason (members explicit)
   one ← ended Layout code.1
   Ok (code.0, left)
 

@@ -5,11 +5,11 @@ use Rattle.asn.specs.Place.{Place, body, seen_tlv}
 use Rattle.asn.specs.Members.{Members, members, left}
 use Rattle.asn.specs.declared.tlv.Cursor.{Cursor}
 use Rattle.asn.specs.Walk.{◌>>=◌, is_a, required, optional, next_or, or_fault, ended, check_that}
-use Rattle.asn.specs.Judgement.{outermost, nested}
+use Rattle.asn.specs.Outermost.{outermost, nested}
 use Rattle.cert.specs.AlgorithmIdentifier.{AlgorithmIdentifier, algorithm_identifier, seen_algorithm}
 use Rattle.cert.specs.BitString.{BitString, seen_bit_string}
-use Rattle.statements_parts.specs.Fault.{as_der}
-use Rattle.statements_parts.specs.Parts.{component, next_read, signature_value}
+use Rattle.statements_parts.specs.Fault.{as_statement_der}
+use Rattle.statements_parts.specs.Parts.{statement_component, next_in_statement, signature_in_statement}
 use Rattle.statements_parts.specs.declared.fault.StatementRule.{StatementRule}
 use Rattle.statements_parts.specs.declared.fault.StatementRule.TheVariants.{Layout, NotSuccessful, ResponseType}
 use Rattle.statements_ocsp.specs.declared.response.Response as code
@@ -17,7 +17,7 @@ use Rattle.statements_ocsp.specs.declared.response.ResponseData as signed_part
 use Rattle.statements_ocsp.specs.declared.response.Signed as behind
 use Rattle.statements_ocsp.specs.declared.certs.Certs as walk
 use Rattle.statements_ocsp.specs.GeneralizedTime.{generalized_time}
-use Rattle.statements_ocsp.specs.ResponseExtensions.{optional_extensions}
+use Rattle.statements_ocsp.specs.ResponseExtensions.{optional_response_extensions}
 use Rattle.statements_ocsp.specs.Responder.{Responder, responder, seen_responder}
 use Rattle.statements_ocsp.specs.Single.{SingleResponse, singles, singles_left}
 
@@ -38,7 +38,7 @@ all_singles list = singles 0 (members list).values
 
 -- responses: the next value as such a list
 abbrev pub next_singles : Members → Result (List SingleResponse × Members) (StatementRule × ℕ)
-next_singles = component 0x30 all_singles
+next_singles = statement_component 0x30 all_singles
 
 -- The checks in their order.
 unfoldable pub response_data : Place → Result ResponseData (StatementRule × ℕ)
@@ -47,7 +47,7 @@ response_data value = do
   responder ← responder (members value)
   produced_at ← generalized_time responder.1
   responses ← next_singles produced_at.1
-  left ← optional_extensions responses.1
+  left ← optional_response_extensions responses.1
   done ← ended Layout left
   Ok (record { responder = responder.0; produced_at = produced_at.0; responses = responses.0 })
 
@@ -103,8 +103,8 @@ seen_signed read = record { algorithm = seen_algorithm read.algorithm; signature
 
 unfoldable pub signature_part : Members → Result Signed (StatementRule × ℕ)
 signature_part left = do
-  algorithm ← next_read (algorithm_identifier Layout) left
-  signature ← component 0x03 signature_value algorithm.1
+  algorithm ← next_in_statement (algorithm_identifier Layout) left
+  signature ← statement_component 0x03 signature_in_statement algorithm.1
   certs ← certs signature.1
   done ← ended Layout certs.1
   Ok (record { algorithm = algorithm.0; signature = signature.0; certs = certs.0 })
@@ -131,11 +131,11 @@ basic_response value = do
 
 -- the response that an OCTET STRING holds
 unfoldable pub contained_response : Place → Result OcspResponse (StatementRule × ℕ)
-contained_response value = as_der (nested value) >>= λ inside. basic_response inside
+contained_response value = as_statement_der (nested value) >>= λ inside. basic_response inside
 
 -- response: the next value as an OCTET STRING that holds one
 abbrev pub next_contained : Members → Result (OcspResponse × Members) (StatementRule × ℕ)
-next_contained = component 0x04 contained_response
+next_contained = statement_component 0x04 contained_response
 
 -- id-pkix-ocsp-basic (4.2.1): 1.3.6.1.5.5.7.48.1.1
 abbrev pub id_basic : List ℕ
@@ -160,7 +160,7 @@ response_bytes value = do
 unfoldable pub explicit_bytes : Place → Result OcspResponse (StatementRule × ℕ)
 explicit_bytes value = do
   explicit ← is_a 0xA0 Layout value
-  response ← next_read response_bytes (members value)
+  response ← next_in_statement response_bytes (members value)
   one ← ended Layout response.1
   Ok response.0
 
@@ -179,10 +179,10 @@ successful value = do
 unfoldable pub ocsp_response_at : Place → Result OcspResponse (StatementRule × ℕ)
 ocsp_response_at value = do
   sequence ← is_a 0x30 Layout value
-  status ← component 0x0A successful (members value)
-  response ← next_read explicit_bytes status.1
+  status ← statement_component 0x0A successful (members value)
+  response ← next_in_statement explicit_bytes status.1
   done ← ended Layout response.1
   Ok response.0
 
 unfoldable pub ocsp_response : List ℕ → Result OcspResponse (StatementRule × ℕ)
-ocsp_response octets = as_der (outermost octets) >>= λ value. ocsp_response_at value
+ocsp_response octets = as_statement_der (outermost octets) >>= λ value. ocsp_response_at value

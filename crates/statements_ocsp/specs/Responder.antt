@@ -5,7 +5,7 @@ use Rattle.asn.specs.Members.{Members, members}
 use Rattle.asn.specs.Walk.{◌>>=◌, is_a, required, next_or, ended}
 use Rattle.names.specs.GeneralLayout.{NameContents}
 use Rattle.names.specs.GeneralView.{name_contents}
-use Rattle.statements_parts.specs.Parts.{component, distinguished_name}
+use Rattle.statements_parts.specs.Parts.{statement_component, name_in_statement}
 use Rattle.statements_parts.specs.declared.fault.StatementRule.{StatementRule}
 use Rattle.statements_parts.specs.declared.fault.StatementRule.TheVariants.{Layout}
 use Rattle.statements_ocsp.specs.declared.responder.ResponderId.{ResponderId}
@@ -23,7 +23,7 @@ seen_responder (code.ByKey hash) = by_key hash.now
 unfoldable pub named_responder : Place → Result Responder (StatementRule × ℕ)
 named_responder value = do
   named ← is_a 0xA1 Layout value
-  name ← component 0x30 distinguished_name (members value)
+  name ← statement_component 0x30 name_in_statement (members value)
   one ← ended Layout name.1
   Ok (by_name name.0)
 

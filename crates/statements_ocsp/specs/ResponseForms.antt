@@ -9,7 +9,7 @@ use Rattle.asn.specs.Members.{members}
 use Rattle.cert.specs.AlgorithmIdentifier.{IsAlgorithmIdentifier}
 use Rattle.cert.specs.CertificateForms.{IsNameOf, IsSignature}
 use Rattle.statements_ocsp.specs.Responder.{Responder, by_name, by_key}
-use Rattle.statements_ocsp.specs.SingleForms.{IsTagged, IsGeneralizedTimeAt, IsSingleResponse, AreOptionalExtensions}
+use Rattle.statements_ocsp.specs.SingleForms.{IsTagged, IsGeneralizedTimeAt, IsSingleResponse, AreUncriticalExtensions}
 use Rattle.statements_ocsp.specs.OcspResponse.{OcspResponse, ResponseData, Signed, ocsp_response, response_with}
 
 -- ResponderID ::= CHOICE { byName [1] EXPLICIT Name, byKey [2] EXPLICIT KeyHash }, KeyHash ::= OCTET STRING
@@ -31,7 +31,7 @@ pub record IsResponseData (value : Place) (fields : ResponseData) : Type 0 where
   pub responses_sequence : tag responses ≡ 0x30
   pub responses_are : AllZip IsSingleResponse (members responses).values fields.responses
   pub few : length fields.responses ≤ 256
-  pub extensions_are : AreOptionalExtensions extensions
+  pub extensions_are : AreUncriticalExtensions extensions
 
 -- certs [0] EXPLICIT SEQUENCE OF Certificate OPTIONAL: the values, whatever they are
 abbrev pub AreCerts : List Place → List Place → Type 0

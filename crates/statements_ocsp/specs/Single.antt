@@ -5,16 +5,16 @@ use Rattle.asn.specs.Place.{Place}
 use Rattle.asn.specs.Members.{Members, members, left}
 use Rattle.asn.specs.declared.tlv.Cursor.{Cursor}
 use Rattle.asn.specs.Walk.{◌>>=◌, is_a, optional, ended, check_that}
-use Rattle.statements_parts.specs.Parts.{next_read}
+use Rattle.statements_parts.specs.Parts.{next_in_statement}
 use Rattle.statements_parts.specs.declared.fault.StatementRule.{StatementRule}
 use Rattle.statements_parts.specs.declared.fault.StatementRule.TheVariants.{Layout, TooManySingles}
 use Rattle.statements_ocsp.specs.declared.cert_status.CertStatus.{CertStatus}
 use Rattle.statements_ocsp.specs.declared.single.SingleResponse as code
-use Rattle.statements_ocsp.specs.declared.single_list.Singles as walk
+use Rattle.statements_ocsp.specs.declared.single_list.SingleResponses as walk
 use Rattle.statements_ocsp.specs.CertificateId.{CertId, cert_id, seen_id}
 use Rattle.statements_ocsp.specs.GeneralizedTime.{generalized_time}
 use Rattle.statements_ocsp.specs.CertificateStatus.{cert_status}
-use Rattle.statements_ocsp.specs.ResponseExtensions.{optional_extensions}
+use Rattle.statements_ocsp.specs.ResponseExtensions.{optional_response_extensions}
 
 -- times are in seconds from 1970-01-01T00:00:00Z
 pub record SingleResponse : Type 0 where
@@ -27,8 +27,8 @@ abbrev pub seen_single_response : code.SingleResponse → SingleResponse
 seen_single_response read = record { id = seen_id read.id; status = read.status; this_update = read.this_update; next_update = read.next_update }
 
 -- the fields that were read, and what is left behind them
-abbrev pub seen_fields : code.SingleResponse × Cursor → SingleResponse × Members
-seen_fields read = (seen_single_response read.0, left read.1)
+abbrev pub seen_single_and_rest : code.SingleResponse × Cursor → SingleResponse × Members
+seen_single_and_rest read = (seen_single_response read.0, left read.1)
 
 -- nextUpdate [0] EXPLICIT GeneralizedTime OPTIONAL
 abbrev pub next_update_of : Option Place → Members → Result (Option ℤ × Members) (StatementRule × ℕ)
@@ -45,7 +45,7 @@ next_update left = next_update_of (optional 0xA0 left).0 (optional 0xA0 left).1
 unfoldable pub single_fields : Place → Result (SingleResponse × Members) (StatementRule × ℕ)
 single_fields value = do
   sequence ← is_a 0x30 Layout value
-  id ← next_read cert_id (members value)
+  id ← next_in_statement cert_id (members value)
   status ← cert_status id.1
   this_update ← generalized_time status.1
   next_update ← next_update this_update.1
@@ -55,7 +55,7 @@ single_fields value = do
 unfoldable pub single : Place → Result SingleResponse (StatementRule × ℕ)
 single value = do
   read ← single_fields value
-  left ← optional_extensions read.1
+  left ← optional_response_extensions read.1
   done ← ended Layout left
   Ok read.0
 
@@ -75,9 +75,9 @@ singles before (value ∷ values) = do
   Ok (first ∷ others)
 
 -- whether all are read, or the first fault
-abbrev pub checked : Result (List SingleResponse) (StatementRule × ℕ) → Result (Unit {0}) (StatementRule × ℕ)
-checked (Ok read) = Ok tt
-checked (Err fault) = Err fault
+abbrev pub singles_checked : Result (List SingleResponse) (StatementRule × ℕ) → Result (Unit {0}) (StatementRule × ℕ)
+singles_checked (Ok read) = Ok tt
+singles_checked (Err fault) = Err fault
 
 -- The same of single responses that were read once, whose extensions are not looked at again.
 unfoldable pub single_again : Place → Result SingleResponse (StatementRule × ℕ)
@@ -85,14 +85,14 @@ single_again value = do
   read ← single_fields value
   Ok read.0
 
-abbrev pub and_then : Result SingleResponse (StatementRule × ℕ) → List SingleResponse → List SingleResponse
-and_then (Ok first) others = first ∷ others
-and_then (Err fault) others = []
+abbrev pub single_and_then : Result SingleResponse (StatementRule × ℕ) → List SingleResponse → List SingleResponse
+single_and_then (Ok first) others = first ∷ others
+single_and_then (Err fault) others = []
 
 abbrev pub singles_again : List Place → List SingleResponse
 singles_again [] = []
-singles_again (value ∷ values) = and_then (single_again value) (singles_again values)
+singles_again (value ∷ values) = single_and_then (single_again value) (singles_again values)
 
 -- the single responses that are still to be handed out
-abbrev pub singles_left : walk.Singles → List SingleResponse
+abbrev pub singles_left : walk.SingleResponses → List SingleResponse
 singles_left walk = singles_again (left walk.members).values

@@ -87,10 +87,10 @@ pub record AreUncritical (list : Place) : Type 0 where
   pub uncritical : All (λ one. one.critical ≡ false) extensions
 
 -- [1] EXPLICIT Extensions OPTIONAL
-abbrev pub AreOptionalExtensions : List Place → Type 0
-AreOptionalExtensions [] = Unit {0}
-AreOptionalExtensions (value ∷ []) = (list : Place) × IsTagged 0xA1 value list × AreUncritical list
-AreOptionalExtensions (value ∷ other ∷ values) = ⊥
+abbrev pub AreUncriticalExtensions : List Place → Type 0
+AreUncriticalExtensions [] = Unit {0}
+AreUncriticalExtensions (value ∷ []) = (list : Place) × IsTagged 0xA1 value list × AreUncritical list
+AreUncriticalExtensions (value ∷ other ∷ values) = ⊥
 
 -- SingleResponse ::= SEQUENCE { certID, certStatus, thisUpdate, nextUpdate, singleExtensions }
 pub record IsSingleResponse (value : Place) (fields : SingleResponse) : Type 0 where
@@ -105,7 +105,7 @@ pub record IsSingleResponse (value : Place) (fields : SingleResponse) : Type 0 w
   pub status_is : IsCertStatus status fields.status
   pub this_update_is : IsGeneralizedTimeAt this_update fields.this_update
   pub next_update_is : IsNextUpdate next_updates fields.next_update
-  pub extensions_are : AreOptionalExtensions extensions
+  pub extensions_are : AreUncriticalExtensions extensions
 
 -- a place is read as a single response exactly where it is one
 abbrev pub SingleResponseIsExact : Type 0

@@ -4,7 +4,7 @@ ghost use Rattle.asn.specs.Reading.{seen_tlv, Gives};
 ghost use Rattle.statements_ocsp.specs.CertificateId.{cert_id, seen_id};
 
 use asn::{OCTET_STRING, SEQUENCE, Tlv};
-use statements_parts::{Refusal, StatementRule, take_algorithm, take_serial};
+use statements_parts::{StatementRefusal, StatementRule, take_algorithm, take_serial};
 
 /// CertID ::= SEQUENCE { hashAlgorithm AlgorithmIdentifier, issuerNameHash OCTET STRING, issuerKeyHash OCTET STRING, serialNumber
 /// CertificateSerialNumber }
@@ -23,7 +23,7 @@ pub struct CertId<'a> {
 impl<'a> CertId<'a> {
     /// The CertID that the value is, or the first fault.
     #[tactic(auto, unfolding(crate::specs::CertificateId::cert_id))]
-    pub(crate) fn read(value: Tlv<'a>) -> Result<CertId<'a>, Refusal>
+    pub(crate) fn read(value: Tlv<'a>) -> Result<CertId<'a>, StatementRefusal>
         ensures { Gives seen_id result (cert_id (seen_tlv value.entry)) }
     {
         value.is_a(SEQUENCE, StatementRule::Layout)?;

@@ -2,13 +2,13 @@
 
 ghost use Rattle.std.specs.Prelude.{◌≡◌};
 ghost use Rattle.asn.specs.Reading.{seen_tlv, Gives};
-ghost use Rattle.statements_parts.specs.Parts.{component};
+ghost use Rattle.statements_parts.specs.Parts.{statement_component};
 ghost use Rattle.asn.specs.Walk.{StepGives};
 ghost use Rattle.statements_ocsp.specs.CertificateStatus.{cert_status, null, reason, reason_of_contents, revocation_reason, revoked_info, status_at};
 
 use crate::generalized_time::take_time;
 use asn::{Cursor, ENUMERATED, Tlv};
-use statements_parts::{Refusal, StatementRule, is_reason};
+use statements_parts::{StatementRefusal, StatementRule, is_reason};
 
 /// CertStatus ::= CHOICE { good [0] IMPLICIT NULL, revoked [1] IMPLICIT RevokedInfo, unknown [2] IMPLICIT UnknownInfo }
 #[derive(Clone, Copy, Debug, PartialEq, Eq)]
@@ -43,7 +43,7 @@ fn reason_of(contents: &[u8]) -> Option<u8>
 
 /// CRLReason ::= ENUMERATED
 #[tactic(auto, unfolding(crate::specs::CertificateStatus::reason))]
-fn reason_at(value: Tlv<'_>) -> Result<u8, Refusal>
+fn reason_at(value: Tlv<'_>) -> Result<u8, StatementRefusal>
     ensures { Gives (λ code. code) result (reason (seen_tlv value.entry)) }
 {
     match reason_of(value.body) {
@@ -52,16 +52,16 @@ fn reason_at(value: Tlv<'_>) -> Result<u8, Refusal>
     }
 }
 
-#[tactic(auto, unfolding(statements_parts::specs::Parts::component))]
-fn take_code(members: &mut Cursor<'_>) -> Result<u8, Refusal>
-    ensures { StepGives (λ code. code) result members.old members.new (component 0x0A reason) }
+#[tactic(auto, unfolding(statements_parts::specs::Parts::statement_component))]
+fn take_code(members: &mut Cursor<'_>) -> Result<u8, StatementRefusal>
+    ensures { StepGives (λ code. code) result members.old members.new (statement_component 0x0A reason) }
 {
     reason_at(members.required(ENUMERATED, StatementRule::Layout)?)
 }
 
 /// Takes revocationReason [0] EXPLICIT CRLReason OPTIONAL.
 #[tactic(auto, unfolding(crate::specs::CertificateStatus::revocation_reason))]
-fn take_reason(members: &mut Cursor<'_>) -> Result<u8, Refusal>
+fn take_reason(members: &mut Cursor<'_>) -> Result<u8, StatementRefusal>
     ensures { StepGives (λ code. code) result members.old members.new revocation_reason }
 {
     let Some(explicit) = members.optional(0xA0) else {
@@ -75,7 +75,7 @@ fn take_reason(members: &mut Cursor<'_>) -> Result<u8, Refusal>
 
 /// RevokedInfo ::= SEQUENCE { revocationTime GeneralizedTime, revocationReason [0] EXPLICIT CRLReason OPTIONAL }
 #[tactic(auto, unfolding(crate::specs::CertificateStatus::revoked_info))]
-fn revoked_at(value: Tlv<'_>) -> Result<CertStatus, Refusal>
+fn revoked_at(value: Tlv<'_>) -> Result<CertStatus, StatementRefusal>
     ensures { Gives (λ status. status) result (revoked_info (seen_tlv value.entry)) }
 {
     value.is_a(REVOKED, StatementRule::Layout)?;
@@ -88,7 +88,7 @@ fn revoked_at(value: Tlv<'_>) -> Result<CertStatus, Refusal>
 
 /// The status that a NULL says.
 #[tactic(auto, unfolding(crate::specs::CertificateStatus::null, asn::specs::Walk::check_that))]
-fn null_at(status: CertStatus, value: Tlv<'_>) -> Result<CertStatus, Refusal>
+fn null_at(status: CertStatus, value: Tlv<'_>) -> Result<CertStatus, StatementRefusal>
     ensures { Gives (λ status. status) result (null status (seen_tlv value.entry)) }
 {
     match value.body {
@@ -98,7 +98,7 @@ fn null_at(status: CertStatus, value: Tlv<'_>) -> Result<CertStatus, Refusal>
 }
 
 #[tactic(auto, unfolding(crate::specs::CertificateStatus::status_at))]
-fn status_at(value: Tlv<'_>) -> Result<CertStatus, Refusal>
+fn status_at(value: Tlv<'_>) -> Result<CertStatus, StatementRefusal>
     ensures { Gives (λ status. status) result (status_at (seen_tlv value.entry)) }
 {
     match value.tag {
@@ -112,7 +112,7 @@ fn status_at(value: Tlv<'_>) -> Result<CertStatus, Refusal>
 impl CertStatus {
     /// Takes a CertStatus.
     #[tactic(auto, unfolding(crate::specs::CertificateStatus::cert_status))]
-    pub(crate) fn take(members: &mut Cursor<'_>) -> Result<CertStatus, Refusal>
+    pub(crate) fn take(members: &mut Cursor<'_>) -> Result<CertStatus, StatementRefusal>
         ensures { StepGives (λ status. status) result members.old members.new cert_status }
     {
         status_at(members.next_or(StatementRule::Layout)?)

@@ -9,7 +9,7 @@ ghost use Rattle.statements_ocsp.specs.OcspResponse.{certs, certs_left};
 
 use asn::{Cursor, SEQUENCE, Tlv};
 use cert::{CertFault, Certificate};
-use statements_parts::{Refusal, StatementRule};
+use statements_parts::{StatementRefusal, StatementRule};
 use std::alloc::{AllocError, Global};
 
 /// The values in certs, in order. They are not signed, and need not be certificates.
@@ -50,7 +50,7 @@ impl<'a> Certs<'a> {
 
     /// Takes certs [0] EXPLICIT SEQUENCE OF Certificate OPTIONAL.
     #[tactic(auto, unfolding(crate::specs::OcspResponse::certs))]
-    pub(crate) fn take(members: &mut Cursor<'a>) -> Result<Certs<'a>, Refusal>
+    pub(crate) fn take(members: &mut Cursor<'a>) -> Result<Certs<'a>, StatementRefusal>
         ensures { StepGives certs_left result members.old members.new certs }
     {
         let Some(explicit) = members.optional(0xA0) else {

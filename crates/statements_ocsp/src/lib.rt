@@ -23,5 +23,5 @@ pub use layout::response_laws;
 pub use responder::ResponderId;
 pub use response::Response;
 pub use single::SingleResponse;
-pub use single_list::{MOST_SINGLES, Singles};
-pub use statements_parts::{ReadingFault, Refusal, StatementRule};
+pub use single_list::{MOST_SINGLES, SingleResponses};
+pub use statements_parts::{ReadingFault, StatementRefusal, StatementRule};

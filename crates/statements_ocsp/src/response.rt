@@ -2,8 +2,8 @@
 
 ghost use Rattle.std.specs.Prelude.{◌≡◌};
 ghost use Rattle.asn.specs.Reading.{seen_tlv, left, Gives};
-ghost use Rattle.asn.specs.Judgement.{nested};
-ghost use Rattle.statements_parts.specs.Fault.{GivesUnlessFull, as_der};
+ghost use Rattle.asn.specs.Outermost.{nested};
+ghost use Rattle.statements_parts.specs.Fault.{StatementGivesUnlessFull, as_statement_der};
 ghost use Rattle.statements_parts.specs.Steps.{StepGivesUnlessFull};
 ghost use Rattle.statements_ocsp.specs.OcspResponse.{basic_response, basic_type, explicit_bytes, next_contained, ocsp_response, ocsp_response_at, response_bytes, response_data, seen_data, seen_response, seen_signed, signature_part, successful};
 
@@ -11,11 +11,11 @@ use crate::certs::Certs;
 use crate::generalized_time::take_time;
 use crate::responder::ResponderId;
 use crate::response_extensions::skip_extensions;
-use crate::single_list::{Singles, take_singles};
+use crate::single_list::{SingleResponses, take_singles};
 use asn::{Cursor, ENUMERATED, OBJECT_IDENTIFIER, OCTET_STRING, SEQUENCE, Tlv};
 use cert::{AlgorithmIdentifier, BitString};
 use statements_parts::{
-    ReadingFault, Refusal, StatementRule, outermost, take_algorithm, take_signature,
+    ReadingFault, StatementRefusal, StatementRule, outermost, take_algorithm, take_signature,
 };
 use std::alloc::Global;
 
@@ -32,7 +32,7 @@ pub struct Response<'a> {
     /// In seconds from 1970-01-01T00:00:00Z.
     pub produced_at: i64,
     /// The single responses, in order: at most 256.
-    pub responses: Singles<'a>,
+    pub responses: SingleResponses<'a>,
     /// The values in certs, in order; none if it is not there.
     pub certs: Certs<'a>,
 }
@@ -42,7 +42,7 @@ pub struct Response<'a> {
 pub(crate) struct ResponseData<'a> {
     responder: ResponderId<'a>,
     produced_at: i64,
-    responses: Singles<'a>,
+    responses: SingleResponses<'a>,
 }
 
 impl<'a> ResponseData<'a> {
@@ -50,7 +50,7 @@ impl<'a> ResponseData<'a> {
     /// responses SEQUENCE OF SingleResponse, responseExtensions [1] EXPLICIT Extensions OPTIONAL }, where DER leaves v1 out
     #[tactic(auto, unfolding(crate::specs::OcspResponse::response_data))]
     fn read(alloc: Global, value: Tlv<'a>) -> Result<ResponseData<'a>, ReadingFault>
-        ensures { GivesUnlessFull seen_data result (response_data (seen_tlv value.entry)) }
+        ensures { StatementGivesUnlessFull seen_data result (response_data (seen_tlv value.entry)) }
     {
         value.is_a(SEQUENCE, StatementRule::Layout)?;
         let mut members = value.members();
@@ -78,7 +78,7 @@ pub(crate) struct Signed<'a> {
 impl<'a> Signed<'a> {
     /// signatureAlgorithm, signature, certs [0], and nothing more
     #[tactic(auto, unfolding(crate::specs::OcspResponse::signature_part))]
-    fn read(members: Cursor<'a>) -> Result<Signed<'a>, Refusal>
+    fn read(members: Cursor<'a>) -> Result<Signed<'a>, StatementRefusal>
         ensures { Gives seen_signed result (signature_part (left members.entry)) }
     {
         let mut members = members;
@@ -98,7 +98,7 @@ impl<'a> Signed<'a> {
 /// [0] EXPLICIT SEQUENCE OF Certificate OPTIONAL }
 #[tactic(auto, unfolding(crate::specs::OcspResponse::basic_response))]
 fn read_basic<'a>(alloc: Global, value: Tlv<'a>) -> Result<Response<'a>, ReadingFault>
-    ensures { GivesUnlessFull seen_response result (basic_response (seen_tlv value.entry)) }
+    ensures { StatementGivesUnlessFull seen_response result (basic_response (seen_tlv value.entry)) }
 {
     value.is_a(SEQUENCE, StatementRule::Layout)?;
     let mut members = value.members();
@@ -117,8 +117,8 @@ fn read_basic<'a>(alloc: Global, value: Tlv<'a>) -> Result<Response<'a>, Reading
 }
 
 /// The value that the OCTET STRING holds.
-fn contained_value(octet_string: Tlv<'_>) -> Result<Tlv<'_>, Refusal>
-    ensures { Gives seen_tlv result (as_der (nested (seen_tlv octet_string.entry))) }
+fn contained_value(octet_string: Tlv<'_>) -> Result<Tlv<'_>, StatementRefusal>
+    ensures { Gives seen_tlv result (as_statement_der (nested (seen_tlv octet_string.entry))) }
 {
     match octet_string.nested() {
         Ok(value) => Ok(value),
@@ -127,7 +127,7 @@ fn contained_value(octet_string: Tlv<'_>) -> Result<Tlv<'_>, Refusal>
 }
 
 /// response OCTET STRING, which holds a BasicOCSPResponse
-#[tactic(auto, unfolding(crate::specs::OcspResponse::contained_response, statements_parts::specs::Parts::component))]
+#[tactic(auto, unfolding(crate::specs::OcspResponse::contained_response, statements_parts::specs::Parts::statement_component))]
 fn take_contained<'a>(alloc: Global, members: &mut Cursor<'a>) -> Result<Response<'a>, ReadingFault>
     ensures { StepGivesUnlessFull seen_response result members.old members.new next_contained }
 {
@@ -140,7 +140,7 @@ const ID_BASIC: &[u8] = &[0x2B, 0x06, 0x01, 0x05, 0x05, 0x07, 0x30, 0x01, 0x01];
 
 /// Takes responseType, which has to be id-pkix-ocsp-basic.
 #[tactic(auto, unfolding(crate::specs::OcspResponse::basic_type, asn::specs::Walk::check_that))]
-fn take_type(members: &mut Cursor<'_>) -> Result<(), Refusal>
+fn take_type(members: &mut Cursor<'_>) -> Result<(), StatementRefusal>
     ensures { Gives (λ _. left members.new) result (basic_type (left members.old)) }
 {
     let kind = members.required(OBJECT_IDENTIFIER, StatementRule::Layout)?;
@@ -154,7 +154,7 @@ fn take_type(members: &mut Cursor<'_>) -> Result<(), Refusal>
 /// ResponseBytes ::= SEQUENCE { responseType OBJECT IDENTIFIER, response OCTET STRING }
 #[tactic(auto, unfolding(crate::specs::OcspResponse::response_bytes))]
 fn read_bytes<'a>(alloc: Global, value: Tlv<'a>) -> Result<Response<'a>, ReadingFault>
-    ensures { GivesUnlessFull seen_response result (response_bytes (seen_tlv value.entry)) }
+    ensures { StatementGivesUnlessFull seen_response result (response_bytes (seen_tlv value.entry)) }
 {
     value.is_a(SEQUENCE, StatementRule::Layout)?;
     let mut members = value.members();
@@ -165,9 +165,9 @@ fn read_bytes<'a>(alloc: Global, value: Tlv<'a>) -> Result<Response<'a>, Reading
 }
 
 /// [0] EXPLICIT ResponseBytes
-#[tactic(auto, unfolding(crate::specs::OcspResponse::explicit_bytes, statements_parts::specs::Parts::next_read))]
+#[tactic(auto, unfolding(crate::specs::OcspResponse::explicit_bytes, statements_parts::specs::Parts::next_in_statement))]
 fn read_explicit<'a>(alloc: Global, value: Tlv<'a>) -> Result<Response<'a>, ReadingFault>
-    ensures { GivesUnlessFull seen_response result (explicit_bytes (seen_tlv value.entry)) }
+    ensures { StatementGivesUnlessFull seen_response result (explicit_bytes (seen_tlv value.entry)) }
 {
     value.is_a(0xA0, StatementRule::Layout)?;
     let mut members = value.members();
@@ -179,7 +179,7 @@ fn read_explicit<'a>(alloc: Global, value: Tlv<'a>) -> Result<Response<'a>, Read
 
 /// OCSPResponseStatus ::= ENUMERATED, which has to be successful(0)
 #[tactic(auto, unfolding(crate::specs::OcspResponse::successful, asn::specs::Walk::check_that))]
-fn check_status(value: Tlv<'_>) -> Result<(), Refusal>
+fn check_status(value: Tlv<'_>) -> Result<(), StatementRefusal>
     ensures { Gives (λ _. tt) result (successful (seen_tlv value.entry)) }
 {
     match value.body {
@@ -195,7 +195,7 @@ impl<'a> Response<'a> {
     /// types, and n log n time.
     #[tactic(auto, unfolding(crate::specs::OcspResponse::ocsp_response))]
     pub fn read(alloc: Global, octets: &'a [u8]) -> Result<Response<'a>, ReadingFault>
-        ensures { GivesUnlessFull seen_response result (ocsp_response octets.now) }
+        ensures { StatementGivesUnlessFull seen_response result (ocsp_response octets.now) }
     {
         let value = outermost(octets)?;
         Response::at(alloc, value)
@@ -205,9 +205,9 @@ impl<'a> Response<'a> {
     /// successful response has responseBytes
     ///
     /// As `read`, of a value in the text handed to `asn::whole`, with offsets in that text.
-    #[tactic(auto, unfolding(crate::specs::OcspResponse::ocsp_response_at, statements_parts::specs::Parts::component, statements_parts::specs::Parts::next_read))]
+    #[tactic(auto, unfolding(crate::specs::OcspResponse::ocsp_response_at, statements_parts::specs::Parts::statement_component, statements_parts::specs::Parts::next_in_statement))]
     pub fn at(alloc: Global, value: Tlv<'a>) -> Result<Response<'a>, ReadingFault>
-        ensures { GivesUnlessFull seen_response result (ocsp_response_at (seen_tlv value.entry)) }
+        ensures { StatementGivesUnlessFull seen_response result (ocsp_response_at (seen_tlv value.entry)) }
     {
         value.is_a(SEQUENCE, StatementRule::Layout)?;
         let mut members = value.members();

@@ -3,9 +3,9 @@
 ghost use Rattle.std.specs.Prelude.{◌≡◌};
 ghost use Rattle.asn.specs.Reading.{seen_tlv, left};
 ghost use Rattle.cert.specs.OidSet.{oids_in};
-ghost use Rattle.statements_parts.specs.Fault.{GivesUnlessFull};
+ghost use Rattle.statements_parts.specs.Fault.{StatementGivesUnlessFull};
 ghost use Rattle.statements_parts.specs.Steps.{PassesUnlessFull, TakesUnlessFull};
-ghost use Rattle.statements_ocsp.specs.ResponseExtensions.{all_extensions, extensions, one_extension, optional_extensions};
+ghost use Rattle.statements_ocsp.specs.ResponseExtensions.{all_response_extensions, extensions_of_response, one_response_extension, optional_response_extensions};
 
 use asn::{Cursor, SEQUENCE, Tlv};
 use cert::OidSet;
@@ -13,9 +13,9 @@ use statements_parts::{ReadingFault, StatementRule, new_extension};
 use std::alloc::Global;
 
 /// Checks one more extension, which must be of a type that none of the earlier ones has, and not critical.
-#[tactic(auto, unfolding(crate::specs::ResponseExtensions::one_extension, asn::specs::Walk::check_that))]
+#[tactic(auto, unfolding(crate::specs::ResponseExtensions::one_response_extension, asn::specs::Walk::check_that))]
 fn check_extension<'a>(types: &mut OidSet<'a>, value: Tlv<'a>) -> Result<(), ReadingFault>
-    ensures { TakesUnlessFull oids_in types.old types.new value.entry result one_extension }
+    ensures { TakesUnlessFull oids_in types.old types.new value.entry result one_response_extension }
 {
     let extension = new_extension(types, value)?;
     if extension.critical {
@@ -26,7 +26,7 @@ fn check_extension<'a>(types: &mut OidSet<'a>, value: Tlv<'a>) -> Result<(), Rea
 
 /// Checks the extensions that the values are, and gives their types.
 fn check_all<'a>(alloc: Global, members: Cursor<'a>) -> Result<OidSet<'a>, ReadingFault>
-    ensures { GivesUnlessFull oids_in result (all_extensions (left members.entry)) }
+    ensures { StatementGivesUnlessFull oids_in result (all_response_extensions (left members.entry)) }
 {
     let mut members = members;
     let mut types = OidSet::new(alloc);
@@ -37,9 +37,9 @@ fn check_all<'a>(alloc: Global, members: Cursor<'a>) -> Result<OidSet<'a>, Readi
 }
 
 /// Extensions ::= SEQUENCE SIZE (1..MAX) OF Extension
-#[tactic(auto, unfolding(crate::specs::ResponseExtensions::extensions))]
+#[tactic(auto, unfolding(crate::specs::ResponseExtensions::extensions_of_response))]
 fn check_list(alloc: Global, list: Tlv<'_>) -> Result<(), ReadingFault>
-    ensures { GivesUnlessFull (λ _. tt) result (extensions (seen_tlv list.entry)) }
+    ensures { StatementGivesUnlessFull (λ _. tt) result (extensions_of_response (seen_tlv list.entry)) }
 {
     list.is_a(SEQUENCE, StatementRule::Layout)?;
     let members = list.members();
@@ -50,9 +50,9 @@ fn check_list(alloc: Global, list: Tlv<'_>) -> Result<(), ReadingFault>
 
 /// Passes over extensions [1] EXPLICIT Extensions OPTIONAL, once they are checked. Memory is taken for their types if there are
 /// more than 16.
-#[tactic(auto, unfolding(crate::specs::ResponseExtensions::optional_extensions))]
+#[tactic(auto, unfolding(crate::specs::ResponseExtensions::optional_response_extensions))]
 pub(crate) fn skip_extensions(alloc: Global, members: &mut Cursor<'_>) -> Result<(), ReadingFault>
-    ensures { PassesUnlessFull members.old members.new result optional_extensions }
+    ensures { PassesUnlessFull members.old members.new result optional_response_extensions }
 {
     let Some(explicit) = members.optional(0xA1) else {
         return Ok(());

@@ -1,11 +1,11 @@
 //! How single responses are read (RFC 6960, 4.2.1).
 
 ghost use Rattle.asn.specs.Reading.{seen_tlv, Gives};
-ghost use Rattle.statements_parts.specs.Fault.{GivesUnlessFull};
-ghost use Rattle.statements_parts.specs.Parts.{next_read};
+ghost use Rattle.statements_parts.specs.Fault.{StatementGivesUnlessFull};
+ghost use Rattle.statements_parts.specs.Parts.{next_in_statement};
 ghost use Rattle.asn.specs.Walk.{StepGives};
 ghost use Rattle.statements_ocsp.specs.CertificateId.{cert_id, seen_id};
-ghost use Rattle.statements_ocsp.specs.Single.{next_update, seen_fields, seen_single_response, single, single_again, single_fields};
+ghost use Rattle.statements_ocsp.specs.Single.{next_update, seen_single_and_rest, seen_single_response, single, single_again, single_fields};
 
 use crate::cert_id::CertId;
 use crate::cert_status::CertStatus;
@@ -13,19 +13,19 @@ use crate::generalized_time::take_time;
 use crate::response_extensions::skip_extensions;
 use crate::single::SingleResponse;
 use asn::{Cursor, SEQUENCE, Tlv};
-use statements_parts::{ReadingFault, Refusal, StatementRule};
+use statements_parts::{ReadingFault, StatementRefusal, StatementRule};
 use std::alloc::Global;
 
-#[tactic(auto, unfolding(statements_parts::specs::Parts::next_read))]
-fn take_id<'a>(members: &mut Cursor<'a>) -> Result<CertId<'a>, Refusal>
-    ensures { StepGives seen_id result members.old members.new (next_read cert_id) }
+#[tactic(auto, unfolding(statements_parts::specs::Parts::next_in_statement))]
+fn take_id<'a>(members: &mut Cursor<'a>) -> Result<CertId<'a>, StatementRefusal>
+    ensures { StepGives seen_id result members.old members.new (next_in_statement cert_id) }
 {
     CertId::read(members.next_or(StatementRule::Layout)?)
 }
 
 /// Takes nextUpdate [0] EXPLICIT GeneralizedTime OPTIONAL.
 #[tactic(auto, unfolding(crate::specs::Single::next_update))]
-fn take_next_update(members: &mut Cursor<'_>) -> Result<Option<i64>, Refusal>
+fn take_next_update(members: &mut Cursor<'_>) -> Result<Option<i64>, StatementRefusal>
     ensures { StepGives (λ moment. moment) result members.old members.new next_update }
 {
     let Some(explicit) = members.optional(0xA0) else {
@@ -40,8 +40,8 @@ fn take_next_update(members: &mut Cursor<'_>) -> Result<Option<i64>, Refusal>
 impl<'a> SingleResponse<'a> {
     /// The components up to nextUpdate, and what stands behind them.
     #[tactic(auto, unfolding(crate::specs::Single::single_fields))]
-    fn fields(value: Tlv<'a>) -> Result<(SingleResponse<'a>, Cursor<'a>), Refusal>
-        ensures { Gives seen_fields result (single_fields (seen_tlv value.entry)) }
+    fn fields(value: Tlv<'a>) -> Result<(SingleResponse<'a>, Cursor<'a>), StatementRefusal>
+        ensures { Gives seen_single_and_rest result (single_fields (seen_tlv value.entry)) }
     {
         value.is_a(SEQUENCE, StatementRule::Layout)?;
         let mut members = value.members();
@@ -61,7 +61,7 @@ impl<'a> SingleResponse<'a> {
     /// The single response that the value is, or the first fault.
     #[tactic(auto, unfolding(crate::specs::Single::single))]
     pub(crate) fn read(alloc: Global, value: Tlv<'a>) -> Result<SingleResponse<'a>, ReadingFault>
-        ensures { GivesUnlessFull seen_single_response result (single (seen_tlv value.entry)) }
+        ensures { StatementGivesUnlessFull seen_single_response result (single (seen_tlv value.entry)) }
     {
         let (read, behind) = SingleResponse::fields(value)?;
         let mut members = behind;
@@ -72,7 +72,7 @@ impl<'a> SingleResponse<'a> {
 
     /// The same of a single response that was read once, without memory.
     #[tactic(auto, unfolding(crate::specs::Single::single_again))]
-    pub(crate) fn again(value: Tlv<'a>) -> Result<SingleResponse<'a>, Refusal>
+    pub(crate) fn again(value: Tlv<'a>) -> Result<SingleResponse<'a>, StatementRefusal>
         ensures { Gives seen_single_response result (single_again (seen_tlv value.entry)) }
     {
         let (read, _) = SingleResponse::fields(value)?;

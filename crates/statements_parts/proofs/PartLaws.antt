@@ -7,7 +7,7 @@ use Rattle.asn.specs.Rule.{Rule}
 use Rattle.asn.specs.Part.{IsWhole}
 use Rattle.asn.specs.Place.{Place, tag, body, body_place}
 use Rattle.asn.specs.Members.{Members}
-use Rattle.asn.specs.Judgement.{nested}
+use Rattle.asn.specs.Outermost.{nested}
 use Rattle.asn.proofs.Laws.{bind_ok, ok_is, check_ok, check_again, Takes, required_ok, required_again, TakesNext, next_or_ok, next_or_again, nested_ok, nested_again}
 use Rattle.names.specs.NameRule.{NameRule}
 use Rattle.names.specs.NameLayout.{name}
@@ -21,24 +21,24 @@ use Rattle.cert.specs.OidSet.{Oids}
 use Rattle.cert.proofs.Laws.{is_extension, extension_is}
 use Rattle.statements_parts.specs.declared.fault.StatementRule.{StatementRule}
 use Rattle.statements_parts.specs.declared.fault.StatementRule.TheVariants.{Layout}
-use Rattle.statements_parts.specs.Fault.{as_der, as_name}
-use Rattle.statements_parts.specs.Parts.{next_read, component, serial_number, distinguished_name, signature_value, new_extension}
+use Rattle.statements_parts.specs.Fault.{as_statement_der, as_statement_name}
+use Rattle.statements_parts.specs.Parts.{next_in_statement, statement_component, serial_in_statement, name_in_statement, signature_in_statement, new_extension}
 
 -- faults of the layers below
-pub as_der_ok : {A : Type 0} (r : Result A (Rule × ℕ)) (x : A) → as_der r ≡ Ok x → r ≡ Ok x
+pub as_der_ok : {A : Type 0} (r : Result A (Rule × ℕ)) (x : A) → as_statement_der r ≡ Ok x → r ≡ Ok x
 as_der_ok (Ok y) x e = cc
 as_der_ok (Err fault) x e = absurd cc
 
-as_name_ok : {A : Type 0} (r : Result A (NameRule × ℕ)) (x : A) → as_name r ≡ Ok x → r ≡ Ok x
+as_name_ok : {A : Type 0} (r : Result A (NameRule × ℕ)) (x : A) → as_statement_name r ≡ Ok x → r ≡ Ok x
 as_name_ok (Ok y) x e = cc
 as_name_ok (Err fault) x e = absurd cc
 
 -- the value that an OCTET STRING holds
-pub contained_ok : (octet_string value : Place) → AreOctets (body octet_string) → as_der (nested octet_string) ≡ Ok value → (value ≡ body_place octet_string) × IsWhole (body octet_string)
+pub contained_ok : (octet_string value : Place) → AreOctets (body octet_string) → as_statement_der (nested octet_string) ≡ Ok value → (value ≡ body_place octet_string) × IsWhole (body octet_string)
 contained_ok octet_string value fits e = nested_ok octet_string value fits (as_der_ok (nested octet_string) value e)
 
-pub contained_again : (octet_string : Place) → IsWhole (body octet_string) → as_der (nested octet_string) ≡ Ok (body_place octet_string)
-contained_again octet_string whole = ap as_der (nested_again octet_string whole)
+pub contained_again : (octet_string : Place) → IsWhole (body octet_string) → as_statement_der (nested octet_string) ≡ Ok (body_place octet_string)
+contained_again octet_string whole = ap as_statement_der (nested_again octet_string whole)
 
 -- a value that is there, whatever it is
 pub record TakesRead {A : Type 0} (read : Place → Result A (StatementRule × ℕ)) (left : Members) (found : A) (others : Members) : Type 0 where
@@ -46,8 +46,8 @@ pub record TakesRead {A : Type 0} (read : Place → Result A (StatementRule × �
   pub took : TakesNext left value others
   pub read_is : read value ≡ Ok found
 
-pub next_read_ok : {A : Type 0} (read : Place → Result A (StatementRule × ℕ)) (left : Members) (x : A × Members) → next_read read left ≡ Ok x → TakesRead read left x.0 x.1
-unfolding next_read
+pub next_read_ok : {A : Type 0} (read : Place → Result A (StatementRule × ℕ)) (left : Members) (x : A × Members) → next_in_statement read left ≡ Ok x → TakesRead read left x.0 x.1
+unfolding next_in_statement
 next_read_ok {A = A} read left x e =
     let value = bind_ok _ _ x e in
     let found = bind_ok (read value.0.0) _ x value.2 in
@@ -55,8 +55,8 @@ next_read_ok {A = A} read left x e =
     subst P (ok_is {E = StatementRule × ℕ} (found.0, value.0.1) x found.2)
     record { value = value.0.0; took = next_or_ok Layout left value.0 value.1; read_is = found.1 }
 
-pub next_read_again : {A : Type 0} (read : Place → Result A (StatementRule × ℕ)) (left : Members) (value : Place) (others : List Place) (found : A) → left.values ≡ value ∷ others → read value ≡ Ok found → next_read read left ≡ Ok (found, record { values = others; end = left.end })
-unfolding next_read
+pub next_read_again : {A : Type 0} (read : Place → Result A (StatementRule × ℕ)) (left : Members) (value : Place) (others : List Place) (found : A) → left.values ≡ value ∷ others → read value ≡ Ok found → next_in_statement read left ≡ Ok (found, record { values = others; end = left.end })
+unfolding next_in_statement
 next_read_again read left value others found e r = rw (next_or_again Layout left value others e, r) refl
 
 -- a component that is there
@@ -65,8 +65,8 @@ pub record TakesComponent {A : Type 0} (identifier : ℕ) (read : Place → Resu
   pub took : Takes identifier left value others
   pub read_is : read value ≡ Ok found
 
-pub component_ok : {A : Type 0} (identifier : ℕ) (read : Place → Result A (StatementRule × ℕ)) (left : Members) (x : A × Members) → component identifier read left ≡ Ok x → TakesComponent identifier read left x.0 x.1
-unfolding component
+pub component_ok : {A : Type 0} (identifier : ℕ) (read : Place → Result A (StatementRule × ℕ)) (left : Members) (x : A × Members) → statement_component identifier read left ≡ Ok x → TakesComponent identifier read left x.0 x.1
+unfolding statement_component
 component_ok {A = A} identifier read left x e =
     let value = bind_ok _ _ x e in
     let found = bind_ok (read value.0.0) _ x value.2 in
@@ -74,13 +74,13 @@ component_ok {A = A} identifier read left x e =
     subst P (ok_is {E = StatementRule × ℕ} (found.0, value.0.1) x found.2)
     record { value = value.0.0; took = required_ok identifier Layout left value.0 value.1; read_is = found.1 }
 
-pub component_again : {A : Type 0} (identifier : ℕ) (read : Place → Result A (StatementRule × ℕ)) (left : Members) (value : Place) (others : List Place) (found : A) → left.values ≡ value ∷ others → tag value ≡ identifier → read value ≡ Ok found → component identifier read left ≡ Ok (found, record { values = others; end = left.end })
-unfolding component
+pub component_again : {A : Type 0} (identifier : ℕ) (read : Place → Result A (StatementRule × ℕ)) (left : Members) (value : Place) (others : List Place) (found : A) → left.values ≡ value ∷ others → tag value ≡ identifier → read value ≡ Ok found → statement_component identifier read left ≡ Ok (found, record { values = others; end = left.end })
+unfolding statement_component
 component_again identifier read left value others found e t r = rw (required_again identifier Layout left value others e t, r) refl
 
 -- serial numbers
-pub serial_ok : (value : Place) (serial : List ℕ) → tag value ≡ 0x02 → serial_number value ≡ Ok serial → IsSerialNumber value serial
-unfolding serial_number
+pub serial_ok : (value : Place) (serial : List ℕ) → tag value ≡ 0x02 → serial_in_statement value ≡ Ok serial → IsSerialNumber value serial
+unfolding serial_in_statement
 serial_ok value serial t e =
     let short = bind_ok _ _ serial e in
     let both = and_parts (nat_lt 0 (length (body value))) (nat_lt (length (body value)) 33) (check_ok _ _ _ _ short.1) in
@@ -88,8 +88,8 @@ serial_ok value serial t e =
     let high = ltb-true (length (body value)) 33 both.1 in
     record { integer = t; some = low; short = omega arith; contents = sym (ok_is {E = StatementRule × ℕ} (body value) serial short.2) }
 
-pub serial_again : (value : Place) (serial : List ℕ) → IsSerialNumber value serial → serial_number value ≡ Ok serial
-unfolding serial_number
+pub serial_again : (value : Place) (serial : List ℕ) → IsSerialNumber value serial → serial_in_statement value ≡ Ok serial
+unfolding serial_in_statement
 serial_again value serial is =
     let some = is.some in
     let short = is.short in
@@ -97,20 +97,20 @@ serial_again value serial is =
     rw (check_again (is_serial (body value)) Layout value.at fits, ← is.contents) refl
 
 -- names
-pub name_ok : (value : Place) (contents : NameContents) → distinguished_name value ≡ Ok contents → IsNameOf value contents
-unfolding distinguished_name
+pub name_ok : (value : Place) (contents : NameContents) → name_in_statement value ≡ Ok contents → IsNameOf value contents
+unfolding name_in_statement
 name_ok value contents e =
-    let read = bind_ok (as_name (name value)) _ contents e in
+    let read = bind_ok (as_statement_name (name value)) _ contents e in
     let is : name value ≡ Ok tt = as_name_ok (name value) read.0 read.1 in
     record { is_name = (name_is_exact value).0 is; contents = sym (ok_is {E = StatementRule × ℕ} (contents_at value) contents read.2) }
 
-pub name_again : (value : Place) (contents : NameContents) → IsNameOf value contents → distinguished_name value ≡ Ok contents
-unfolding distinguished_name
+pub name_again : (value : Place) (contents : NameContents) → IsNameOf value contents → name_in_statement value ≡ Ok contents
+unfolding name_in_statement
 name_again value contents is = rw ((name_is_exact value).1 is.is_name, ← is.contents) refl
 
 -- signatures
-pub signature_ok : (value : Place) (read : BitString) → tag value ≡ 0x03 → signature_value value ≡ Ok read → (value ≡ read.value) × IsSignature read.value read.octets
-unfolding signature_value
+pub signature_ok : (value : Place) (read : BitString) → tag value ≡ 0x03 → signature_in_statement value ≡ Ok read → (value ≡ read.value) × IsSignature read.value read.octets
+unfolding signature_in_statement
 signature_ok value read t e =
     let whole = bind_ok _ _ read e in
     let P : BitString → Type 0 = λ b. (value ≡ b.value) × IsSignature b.value b.octets in
@@ -120,8 +120,8 @@ signature_ok value read t e =
     by [] f = absurd cc
     by (unused ∷ bits) f = ap (λ (n : ℕ). n ∷ bits) (eqb-true unused 0 f)
 
-pub signature_again : (read : BitString) → IsSignature read.value read.octets → signature_value read.value ≡ Ok read
-unfolding signature_value
+pub signature_again : (read : BitString) → IsSignature read.value read.octets → signature_in_statement read.value ≡ Ok read
+unfolding signature_in_statement
 signature_again read is =
     let whole = check_again (has_no_unused_bits (body read.value)) Layout read.value.at (ap has_no_unused_bits is.contents) in
     rw (whole, is.contents) refl

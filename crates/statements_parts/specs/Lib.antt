@@ -4,7 +4,7 @@ pub mod Steps
 pub use Rattle.asn.specs.Place
 pub use Rattle.asn.specs.Members
 pub use Rattle.asn.specs.Walk
-pub use Rattle.asn.specs.Judgement
+pub use Rattle.asn.specs.Outermost
 pub use Rattle.names.specs.GeneralLayout
 pub use Rattle.names.specs.GeneralView
 pub use Rattle.cert.specs.AlgorithmIdentifier

@@ -1,7 +1,7 @@
 //! Why octets are not a statement about revocation.
 
 ghost use Rattle.std.specs.Prelude.{◌≡◌};
-ghost use Rattle.statements_parts.specs.Fault.{not_read, rule_number, rule_name, statement_fault_number, statement_fault_name, statement_fault_place};
+ghost use Rattle.statements_parts.specs.Fault.{not_read, statement_rule_number, statement_rule_name, statement_fault_number, statement_fault_name, statement_fault_place};
 ghost use Rattle.statements_parts.specs.declared.fault.ReadingFault.TheVariants as unread;
 ghost use Rattle.statements_parts.specs.declared.fault.StatementFault.TheVariants.{Memory};
 ghost use Rattle.statements_parts.specs.declared.fault.StatementRule.TheVariants.{Name};
@@ -65,10 +65,10 @@ pub enum StatementRule {
 }
 
 /// The rule that is broken, with the offset of the value that breaks it in the whole input.
-pub type Refusal = (StatementRule, usize);
+pub type StatementRefusal = (StatementRule, usize);
 
 /// A fault in a name, as one of a statement.
-pub(crate) fn name_refusal(refusal: (NameRule, usize)) -> Refusal
+pub(crate) fn name_refusal(refusal: (NameRule, usize)) -> StatementRefusal
     ensures { result ≡ (Name refusal.0, refusal.1) }
 {
     let (fault, at) = refusal;
@@ -108,7 +108,7 @@ pub enum StatementFault {
 impl StatementRule {
     /// The number of the rule, from 41 to 52, 55, 56 or 59, or from 11 to 14 for a fault in a name.
     pub fn number(self) -> u8
-        ensures { result ≡ rule_number self }
+        ensures { result ≡ statement_rule_number self }
     {
         match self {
             StatementRule::Der(_) => 41,
@@ -132,7 +132,7 @@ impl StatementRule {
 
     /// The name of the rule, printed beside the number.
     pub fn name(self) -> &'static str
-        ensures { result.now ≡ rule_name self }
+        ensures { result.now ≡ statement_rule_name self }
     {
         match self {
             StatementRule::Der(_) => "Der",
@@ -196,10 +196,10 @@ impl StatementFault {
     }
 }
 
-impl From<Refusal> for ReadingFault {
+impl From<StatementRefusal> for ReadingFault {
     ghost from_gives = { λ refusal fault. fault ≡ unread.Refused refusal.0 refusal.1 };
 
-    fn from(refusal: Refusal) -> ReadingFault {
+    fn from(refusal: StatementRefusal) -> ReadingFault {
         ReadingFault::Refused(refusal.0, refusal.1)
     }
 }

@@ -3,16 +3,16 @@
 ghost use Rattle.std.specs.Prelude.{◌≡◌};
 ghost use Rattle.asn.specs.Reading.{seen_tlv, left, Gives};
 ghost use Rattle.asn.specs.Walk.{any, StepGives};
-ghost use Rattle.asn.specs.Judgement.{outermost as asn_outermost};
+ghost use Rattle.asn.specs.Outermost.{outermost as asn_outermost};
 ghost use Rattle.names.specs.GeneralView.{name_contents};
 ghost use Rattle.cert.specs.AlgorithmIdentifier.{seen_algorithm};
 ghost use Rattle.cert.specs.BitString.{seen_bit_string};
 ghost use Rattle.cert.specs.OidSet.{oids_in};
-ghost use Rattle.statements_parts.specs.Fault.{as_der};
-ghost use Rattle.statements_parts.specs.Parts.{distinguished_name, is_reason, next_algorithm, next_serial, next_signature, serial_number, signature_value};
+ghost use Rattle.statements_parts.specs.Fault.{as_statement_der};
+ghost use Rattle.statements_parts.specs.Parts.{name_in_statement, is_reason, next_statement_algorithm, next_serial, next_statement_signature, serial_in_statement, signature_in_statement};
 ghost use Rattle.statements_parts.specs.Steps.{AddsExtension, OnRefused};
 
-use crate::fault::{ReadingFault, Refusal, StatementRule, name_refusal};
+use crate::fault::{ReadingFault, StatementRefusal, StatementRule, name_refusal};
 use asn::{BIT_STRING, Cursor, INTEGER, Tlv};
 use cert::{
     AlgorithmIdentifier, BitString, Extension, OidSet, is_of_whole_octets, is_serial_number,
@@ -20,8 +20,8 @@ use cert::{
 use names::Name;
 
 /// The one value that the octets encode; else the fault `Der`. Time is linear in the octets; no memory is taken.
-pub fn outermost(octets: &[u8]) -> Result<Tlv<'_>, Refusal>
-    ensures { Gives seen_tlv result (as_der (asn_outermost octets.now)) }
+pub fn outermost(octets: &[u8]) -> Result<Tlv<'_>, StatementRefusal>
+    ensures { Gives seen_tlv result (as_statement_der (asn_outermost octets.now)) }
 {
     match Tlv::outermost(octets) {
         Ok(value) => Ok(value),
@@ -30,9 +30,9 @@ pub fn outermost(octets: &[u8]) -> Result<Tlv<'_>, Refusal>
 }
 
 /// CertificateSerialNumber ::= INTEGER, here of 1 to 32 octets and of any sign
-#[tactic(auto, unfolding(crate::specs::Parts::serial_number, asn::specs::Walk::check_that))]
-fn serial_at(value: Tlv<'_>) -> Result<&[u8], Refusal>
-    ensures { Gives (λ contents. contents.now) result (serial_number (seen_tlv value.entry)) }
+#[tactic(auto, unfolding(crate::specs::Parts::serial_in_statement, asn::specs::Walk::check_that))]
+fn serial_at(value: Tlv<'_>) -> Result<&[u8], StatementRefusal>
+    ensures { Gives (λ contents. contents.now) result (serial_in_statement (seen_tlv value.entry)) }
 {
     if is_serial_number(value.body) {
         Ok(value.body)
@@ -42,8 +42,8 @@ fn serial_at(value: Tlv<'_>) -> Result<&[u8], Refusal>
 }
 
 /// Takes a serial number, and gives the contents of its INTEGER.
-#[tactic(auto, unfolding(crate::specs::Parts::component))]
-pub fn take_serial<'a>(members: &mut Cursor<'a>) -> Result<&'a [u8], Refusal>
+#[tactic(auto, unfolding(crate::specs::Parts::statement_component))]
+pub fn take_serial<'a>(members: &mut Cursor<'a>) -> Result<&'a [u8], StatementRefusal>
     ensures walk { StepGives (λ contents. contents.now) result members.old members.new next_serial }
     ensures passed { left members.new ≡ (any (left members.old)).1 }
 {
@@ -51,17 +51,17 @@ pub fn take_serial<'a>(members: &mut Cursor<'a>) -> Result<&'a [u8], Refusal>
 }
 
 /// The name that stands there, with its fault as one of a statement.
-#[tactic(auto, unfolding(crate::specs::Parts::distinguished_name))]
-pub fn name_at(value: Tlv<'_>) -> Result<Name<'_>, Refusal>
-    ensures { Gives name_contents result (distinguished_name (seen_tlv value.entry)) }
+#[tactic(auto, unfolding(crate::specs::Parts::name_in_statement))]
+pub fn name_at(value: Tlv<'_>) -> Result<Name<'_>, StatementRefusal>
+    ensures { Gives name_contents result (name_in_statement (seen_tlv value.entry)) }
 {
     Name::at(value).map_err(name_refusal)
 }
 
 /// Takes an algorithm identifier, whose parameters are not looked at.
-#[tactic(auto, unfolding(crate::specs::Parts::next_read))]
-pub fn take_algorithm<'a>(members: &mut Cursor<'a>) -> Result<AlgorithmIdentifier<'a>, Refusal>
-    ensures walk { StepGives seen_algorithm result members.old members.new next_algorithm }
+#[tactic(auto, unfolding(crate::specs::Parts::next_in_statement))]
+pub fn take_algorithm<'a>(members: &mut Cursor<'a>) -> Result<AlgorithmIdentifier<'a>, StatementRefusal>
+    ensures walk { StepGives seen_algorithm result members.old members.new next_statement_algorithm }
     ensures passed { left members.new ≡ (any (left members.old)).1 }
 {
     AlgorithmIdentifier::read(
@@ -71,9 +71,9 @@ pub fn take_algorithm<'a>(members: &mut Cursor<'a>) -> Result<AlgorithmIdentifie
 }
 
 /// A BIT STRING whose bits must be whole octets.
-#[tactic(auto, unfolding(crate::specs::Parts::signature_value, asn::specs::Walk::check_that))]
-fn signature_at(value: Tlv<'_>) -> Result<BitString<'_>, Refusal>
-    ensures { Gives seen_bit_string result (signature_value (seen_tlv value.entry)) }
+#[tactic(auto, unfolding(crate::specs::Parts::signature_in_statement, asn::specs::Walk::check_that))]
+fn signature_at(value: Tlv<'_>) -> Result<BitString<'_>, StatementRefusal>
+    ensures { Gives seen_bit_string result (signature_in_statement (seen_tlv value.entry)) }
 {
     if is_of_whole_octets(value.body) {
         Ok(BitString { value })
@@ -83,9 +83,9 @@ fn signature_at(value: Tlv<'_>) -> Result<BitString<'_>, Refusal>
 }
 
 /// Takes a signature BIT STRING.
-#[tactic(auto, unfolding(crate::specs::Parts::component))]
-pub fn take_signature<'a>(members: &mut Cursor<'a>) -> Result<BitString<'a>, Refusal>
-    ensures walk { StepGives seen_bit_string result members.old members.new next_signature }
+#[tactic(auto, unfolding(crate::specs::Parts::statement_component))]
+pub fn take_signature<'a>(members: &mut Cursor<'a>) -> Result<BitString<'a>, StatementRefusal>
+    ensures walk { StepGives seen_bit_string result members.old members.new next_statement_signature }
     ensures passed { left members.new ≡ (any (left members.old)).1 }
 {
     signature_at(members.required(BIT_STRING, StatementRule::Layout)?)

@@ -8,7 +8,7 @@ use Rattle.statements_facts.specs.Listed.{ListedSerial}
 use Rattle.store_rows.specs.Contents.{EntryRow}
 use Rattle.store_rows.specs.Places.{IsBelow, is_under, list_base, StandFrom, IsInside, ArePlaced}
 use Rattle.store_rows.proofs.Laws.{Under, under, is_under_of, not_under, in_room}
-use Rattle.store_adoption.specs.Cells.{Begins, Continues, Follows, IsListed, AreChained, last_of}
+use Rattle.store_adoption.specs.Cells.{Begins, Continues, Follows, HasIdsOfPlaces, AreChained, last_of}
 
 abbrev serials : List EntryRow → List ListedSerial
 serials es = map (λ e. e.listed) es
@@ -47,7 +47,7 @@ record Behind (a : EntryRow) (es : List EntryRow) : Type 0 where
 same_base : (i s j t : ℕ) → i ≡ j → s ≡ t → list_base i s ≡ list_base j t
 same_base i s j t a b = omega (arith, a, b)
 
-inside_of : (a e : EntryRow) → IsInside a → IsListed e → Follows (Some a) e → IsInside e
+inside_of : (a e : EntryRow) → IsInside a → HasIdsOfPlaces e → Follows (Some a) e → IsInside e
 inside_of a e ia l (inl k) =
     let same = same_base e.issuer e.scope a.issuer a.scope k.issuer k.scope in
     record { issuer = l.0; scope = l.1; low = omega (arith, same, ia.low, k.place); high = k.room }
@@ -168,7 +168,7 @@ to_chain a (e ∷ es) ia b =
           inr (more.0.0, b.low.0)
     ]
 
-inside_first : (e : EntryRow) → IsListed e → Begins e → IsInside e
+inside_first : (e : EntryRow) → HasIdsOfPlaces e → Begins e → IsInside e
 inside_first e l at = record { issuer = l.0; scope = l.1; low = omega (arith, at); high = omega (arith, at) }
 
 pub placed_of_chain : (es : List EntryRow) → AreChained None es → ArePlaced es
@@ -216,7 +216,7 @@ last_pushed es e = go None es
     go start [] = refl
     go start (x ∷ xs) = go (Some x) xs
 
-pub chain_pushed : (es : List EntryRow) (e : EntryRow) → AreChained None es → IsListed e → Follows (last_of es) e → AreChained None (es ++ e ∷ [])
+pub chain_pushed : (es : List EntryRow) (e : EntryRow) → AreChained None es → HasIdsOfPlaces e → Follows (last_of es) e → AreChained None (es ++ e ∷ [])
 chain_pushed es e c l f = go None es c f
   where
     go : (start : _) (es : List EntryRow) → AreChained start es → Follows (fold (λ last e. Some e) start es) e → AreChained start (es ++ e ∷ [])

@@ -5,7 +5,7 @@ use Rattle.std.specs.List.{AllByRecursion}
 use Rattle.sqlite.specs.Order.{Row, column}
 use Rattle.store_rows.specs.Contents.{EntryRow}
 use Rattle.store_rows.specs.Places.{list_base, IsBelow}
-use Rattle.store_adoption.specs.Cells.{Continues, Follows, IsListed, IsEntryCells, AreChained, last_of, entry_of_row, cell_natural, next_after}
+use Rattle.store_adoption.specs.Cells.{Continues, Follows, HasIdsOfPlaces, IsEntryCells, AreChained, last_of, entry_of_row, cell_natural, next_after}
 use Rattle.store_adoption.proofs.Chained.{last_pushed, chain_pushed, chain_follows}
 
 pub all_here : {X : Type 0} (P : X → Type 0) (rows : List X) (row : X) (later : List X) → AllByRecursion P (rows ++ row ∷ later) → P row
@@ -32,7 +32,7 @@ next_pushed rows row = go 1 rows
 pub continues_is : (last e : EntryRow) → (e.issuer ≡ last.issuer) × (e.scope ≡ last.scope) → e.place ≡ last.place + 1 → e.place < list_base e.issuer e.scope + 4294967296 → IsBelow last.listed e.listed → Continues last e
 continues_is last e list place room serial = record { issuer = list.0; scope = list.1; place = place; room = room; serial = serial }
 
-listed : (row : Row) → IsEntryCells row → IsListed (entry_of_row row)
+listed : (row : Row) → IsEntryCells row → HasIdsOfPlaces (entry_of_row row)
 listed row h = (h.1.1, h.2.1)
 
 pub entry_follows : (rows later : List Row) (row : Row) (last : Option EntryRow) (e : EntryRow) → last ≡ last_of (map entry_of_row rows) → e ≡ entry_of_row row

@@ -17,7 +17,7 @@ use Rattle.sqlite_trees.specs.View.{IsShaped}
 use Rattle.store_sql.specs.Tables.{version_1_schema, meta_table, issuers_table, ocsp_table, crls_table, entries_table}
 use Rattle.store_rows.specs.Contents.{IssuerRow, SingleRow, issuer_row, single_row}
 use Rattle.store_rows.specs.Holding.{HasRoom, HasByte, IsSaid, IsNumbered, next_id}
-use Rattle.store_adoption.specs.Version1.{UnscopedCrl, UnscopedEntry, UnscopedEntryRow, UnscopedContents, unscoped_crl_row, unscoped_entry_row, HoldsVersion1, AreUnscopedInForm, IsVersion1, AreLists, HasLists, held_in_version_1}
+use Rattle.store_adoption.specs.Version1.{UnscopedCrl, UnscopedEntry, UnscopedEntryRow, UnscopedContents, unscoped_crl_row, unscoped_entry_row, HoldsVersion1, AreUnscopedInForm, IsVersion1, AreUnscopedLists, HasLists, held_in_version_1}
 use Rattle.store_adoption.specs.Cells.{cell_natural, cell_octets, cell_integer, IsVersionCells, IsIssuerCells, IsSingleCells, IsUnscopedCrlCells, IsUnscopedEntryCells, unscoped_crl_in, unscoped_entry_in, next_after}
 use Rattle.store_adoption.specs.Inspects.{TablesAreInOrder, InOrderOfVersion1, HasVersion, HasIssuers, HasNext, HasUnder, HasIds, ShowsLists, version_cells, issuer_cells, single_cells, unscoped_crl_cells, unscoped_entry_cells}
 use Rattle.store_adoption.proofs.Typed.{IsKeyed, HasId, AreOf, keyed_rows, rows_with_id}
@@ -92,7 +92,7 @@ entries_back : (xs : List UnscopedEntryRow) → map (λ (r : Row). unscoped_entr
 entries_back [] = refl
 entries_back (x ∷ xs) = ap (λ more. x.entry ∷ more) (entries_back xs)
 
-shown_lists : (db : Database) (shown_crls : List UnscopedCrl) (shown_entries : List UnscopedEntry) (it : UnscopedContents) → HoldsVersion1 db it → AreUnscopedInForm it → ShowsLists shown_crls shown_entries db → AreLists shown_crls shown_entries it
+shown_lists : (db : Database) (shown_crls : List UnscopedCrl) (shown_entries : List UnscopedEntry) (it : UnscopedContents) → HoldsVersion1 db it → AreUnscopedInForm it → ShowsLists shown_crls shown_entries db → AreUnscopedLists shown_crls shown_entries it
 shown_lists db shown_crls shown_entries it rows form shows = (
   sym (shows.0 ∙ map_map unscoped_crl_in unscoped_crl_cells (db.trees 5) ∙ ap (map stored_crl) rows.crls ∙ crls_back (next_id it.issuers) it.crls form.crls),
   sym (shows.1 ∙ map_map unscoped_entry_in unscoped_entry_cells (db.trees 6) ∙ ap (map (λ (r : Row). unscoped_entry_in (unscoped_entry_cells r))) rows.entries ∙ entries_back it.entries),

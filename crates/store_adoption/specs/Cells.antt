@@ -152,12 +152,12 @@ Follows None e = Begins e
 Follows (Some last) e = Continues last e ⊎ (Begins e × (last.place < e.place))
 
 -- the ids of issuer and scope are those that places are made of
-abbrev pub IsListed : EntryRow → Type 0
-IsListed e = (e.issuer < 536870911) × (e.scope < 3)
+abbrev pub HasIdsOfPlaces : EntryRow → Type 0
+HasIdsOfPlaces e = (e.issuer < 536870911) × (e.scope < 3)
 
 abbrev pub AreChained : Option EntryRow → List EntryRow → Type 0
 AreChained last [] = ⊤
-AreChained last (e ∷ es) = IsListed e × Follows last e × AreChained (Some e) es
+AreChained last (e ∷ es) = HasIdsOfPlaces e × Follows last e × AreChained (Some e) es
 
 abbrev pub last_of : List EntryRow → Option EntryRow
 last_of = fold (λ last e. Some e) None

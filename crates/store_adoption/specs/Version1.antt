@@ -110,10 +110,10 @@ abbrev pub IsVersion1 : Database → Type 0
 IsVersion1 db = (held : Holdings) × IsVersion1Of db held
 
 -- these are the lists, and their entries
-abbrev pub AreLists : List UnscopedCrl → List UnscopedEntry → UnscopedContents → Type 0
-AreLists crls entries it = (it.crls ≡ crls) × (unscoped_entries it ≡ entries)
+abbrev pub AreUnscopedLists : List UnscopedCrl → List UnscopedEntry → UnscopedContents → Type 0
+AreUnscopedLists crls entries it = (it.crls ≡ crls) × (unscoped_entries it ≡ entries)
 
 -- the database is of version 1, and these are its lists and their entries
 pub record HasLists (crls : List UnscopedCrl) (entries : List UnscopedEntry) (db : Database) : Type 0 where
   pub version_1 : IsVersion1 db
-  pub lists : (it : UnscopedContents) → HoldsVersion1 db it → AreUnscopedInForm it → AreLists crls entries it
+  pub lists : (it : UnscopedContents) → HoldsVersion1 db it → AreUnscopedInForm it → AreUnscopedLists crls entries it

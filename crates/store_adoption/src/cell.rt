@@ -1,4 +1,4 @@
-//! Cells of the rows that a text shows. `below`, `blob` and `whole` read what `natural`, `octets` and `integer` of `store_rows` read; their
+//! Cells of the rows that a text shows. `below`, `blob` and `signed` read what `natural`, `octets` and `integer` of `store_rows` read; their
 //! clauses also say that a cell is refused only if it holds no such value.
 
 ghost use Rattle.std.specs.Prelude.{IfOk, OnOk, ◌≢◌, Err};
@@ -45,7 +45,7 @@ pub fn blob(row: &Row, at: usize) -> Result<Vec<u8>, StoreFault>
 
 /// The integer in a cell.
 #[tactic(auto, using(crate::proofs::Cells::integer_read, crate::proofs::Cells::integer_refused))]
-pub fn whole(row: &Row, at: usize) -> Result<i64, StoreFault>
+pub fn signed(row: &Row, at: usize) -> Result<i64, StoreFault>
     ensures ok { IfOk result (ReadsInteger row.now at) }
     ensures schema { SchemaRefutes result (HasInteger (column row.now at)) }
     ensures cell { result ≢ Err StoreFault.Store }

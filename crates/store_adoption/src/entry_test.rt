@@ -1,7 +1,7 @@
 //! Entries of revocation lists, at their places.
 
 ghost use Rattle.std.specs.Prelude.{◌≡◌, ◌<◌, ◌↔◌, ◌+◌, Err, IfOk, IsTrue, option_map, ◌≢◌};
-ghost use Rattle.store_adoption.specs.Cells.{Begins, Continues, Follows, IsEntryCells, IsListed, entry_of_row, IsInRoom, IsOfSameList};
+ghost use Rattle.store_adoption.specs.Cells.{Begins, Continues, Follows, IsEntryCells, HasIdsOfPlaces, entry_of_row, IsInRoom, IsOfSameList};
 ghost use Rattle.store_adoption.specs.Seen.{seen_placed, IsPlacedIn};
 ghost use Rattle.store_rows.specs.Places.{IsBelow, list_base};
 
@@ -27,7 +27,7 @@ pub(crate) struct Placed {
 
 /// Where the entries of its list begin.
 fn base(entry: &Placed) -> u64
-    requires { IsListed (seen_placed entry.now) }
+    requires { HasIdsOfPlaces (seen_placed entry.now) }
     ensures value { result ≡ list_base entry.now.issuer entry.now.scope }
     ensures room { result + 4294967296 < 18446744073709551616 }
 {
@@ -36,7 +36,7 @@ fn base(entry: &Placed) -> u64
 
 /// Whether it is the first of its list.
 fn begins(entry: &Placed) -> bool
-    requires { IsListed (seen_placed entry.now) }
+    requires { HasIdsOfPlaces (seen_placed entry.now) }
     ensures { IsTrue result ↔ Begins (seen_placed entry.now) }
 {
     entry.place == base(entry)
@@ -44,7 +44,7 @@ fn begins(entry: &Placed) -> bool
 
 /// Whether it has a place that its list may have.
 fn has_room(entry: &Placed) -> bool
-    requires { IsListed (seen_placed entry.now) }
+    requires { HasIdsOfPlaces (seen_placed entry.now) }
     ensures { IsTrue result ↔ IsInRoom (seen_placed entry.now) }
 {
     entry.place < base(entry) + ROOM
@@ -77,7 +77,7 @@ fn is_above(last: &Placed, entry: &Placed) -> bool
 /// Whether it stands behind another of its list, with a greater serial number.
 #[tactic(auto, using(crate::proofs::Following::continues_is))]
 fn continues(last: &Placed, entry: &Placed) -> bool
-    requires { IsListed (seen_placed entry.now) }
+    requires { HasIdsOfPlaces (seen_placed entry.now) }
     ensures { IsTrue result ↔ Continues (seen_placed last.now) (seen_placed entry.now) }
 {
     is_of_list(last, entry) && is_next(last, entry) && has_room(entry) && is_above(last, entry)
@@ -85,7 +85,7 @@ fn continues(last: &Placed, entry: &Placed) -> bool
 
 /// Whether an entry stands where it may behind the last one.
 fn follows(last: &Option<Placed>, entry: &Placed) -> bool
-    requires { IsListed (seen_placed entry.now) }
+    requires { HasIdsOfPlaces (seen_placed entry.now) }
     ensures { IsTrue result ↔ Follows (option_map seen_placed last.now) (seen_placed entry.now) }
 {
     match last {

@@ -14,7 +14,7 @@ mod unscoped_test;
 mod version_1;
 mod version_test;
 
-pub use cell::{below, blob, number, whole};
+pub use cell::{below, blob, number, signed};
 pub use creation::create;
 pub use inspection::inspect;
 pub use row_test::{RowTest, test_rows};

@@ -5,7 +5,7 @@ ghost use Rattle.store_adoption.specs.Cells.{IsUnscopedCrlCells, IsUnscopedEntry
 ghost use Rattle.store_adoption.specs.Seen.{seen_unscoped_list, seen_own, IsListIn, IsOwnIn};
 ghost use Rattle.store_rows.specs.Seen.{seen_head};
 
-use crate::cell::{below, blob, number, whole};
+use crate::cell::{below, blob, number, signed};
 use crate::row_test::RowTest;
 use crate::unscoped::{OwnEntry, UnscopedList};
 use sqlite::Row;
@@ -26,8 +26,8 @@ fn read_head(row: &Row) -> Result<Head, StoreFault>
     ensures cell { result ≢ Err StoreFault.Store }
 {
     let number = number(row, 1)?;
-    let from = whole(row, 2)?;
-    let until = whole(row, 3)?;
+    let from = signed(row, 2)?;
+    let until = signed(row, 3)?;
     Ok(Head {
         number,
         from,

@@ -10,7 +10,7 @@ use Rattle.sqlite.specs.Order.{Row}
 use Rattle.sqlite_trees.specs.Tree.{IsAscending}
 use Rattle.store_rows.specs.Contents.{EntryRow}
 use Rattle.store_rows.specs.Places.{is_under, entries_under, IsInside, ArePlaced}
-use Rattle.store_listing.specs.Counts.{list_number, how_many, counted, AreCounted, HaveRoom}
+use Rattle.store_listing.specs.Counts.{list_number, how_many, held_count, AreCounted, HaveRoom}
 use Rattle.store_listing.specs.Cells.{list_of}
 use Rattle.store_listing.specs.Reads.{number_of_entry}
 
@@ -92,7 +92,7 @@ counted_under i s (e ∷ es) low inside =
 
 -- ---- a list that is full, before one more
 
-pub never_full : (counts : BTreeMap ℕ ℕ) (rows later : List Row) (row : Row) (list : ℕ) → AreCounted counts (map list_of rows) → list ≡ list_of row → HaveRoom (map list_of (rows ++ row ∷ later)) → 4294967296 ≤ counted counts list → ⊥
+pub never_full : (counts : BTreeMap ℕ ℕ) (rows later : List Row) (row : Row) (list : ℕ) → AreCounted counts (map list_of rows) → list ≡ list_of row → HaveRoom (map list_of (rows ++ row ∷ later)) → 4294967296 ≤ held_count counts list → ⊥
 never_full counts rows later row list so is room full =
     let all : map list_of (rows ++ row ∷ later) ≡ map list_of rows ++ list ∷ map list_of later = map-append list_of rows (row ∷ later) ∙ ap (λ n. map list_of rows ++ n ∷ map list_of later) (sym is) in
     let most : how_many list (map list_of rows ++ list ∷ map list_of later) ≤ 4294967296 = subst (λ xs. how_many list xs ≤ 4294967296) all (room list) in

@@ -14,7 +14,7 @@ use Rattle.store_maps.proofs.HeldLaws.{is_eq_of}
 use Rattle.store_listing.specs.declared.held.Listing.{Listing}
 use Rattle.store_listing.specs.Listing.{ListedCrl, ListedSingle, IsListing, listed_crl, listed_single, overview_of}
 use Rattle.store_listing.specs.Laws.{is_list_of, is_about, crl_listed, single_listed, ShowsHeld, ShowsStore, ListsOnce, ListingListsOnce}
-use Rattle.store_listing.specs.Reads.{IsStoreWith, Reads}
+use Rattle.store_listing.specs.Reads.{IsStoreWith, ReadsStore}
 use Rattle.store_listing.proofs.Shown.{find_mapped, shows_held}
 
 alone : {X : Type 0} (found : Option X) (x : X) → Has (at_most found) x → found ≡ Some x
@@ -80,7 +80,7 @@ lists_once db it s = record { rise = s.rows.issuers_rise; issuers = issuer_found
 
 -- ---- what is read
 
-pub shows_store : (old new : State) (result : Result Listing StoreFault) → Reads old new IsListing result → IfOk result (ShowsStore old.now)
+pub shows_store : (old new : State) (result : Result Listing StoreFault) → ReadsStore old new IsListing result → IfOk result (ShowsStore old.now)
 shows_store old new (Err fault) h = tt
 shows_store old new (Ok all) h = λ held s.
     let it = s.contents in

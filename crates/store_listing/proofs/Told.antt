@@ -17,8 +17,8 @@ use Rattle.store_maps.specs.Held.{held_in}
 use Rattle.store_adoption.specs.Inspects.{TablesAreInOrder}
 use Rattle.store_adoption.proofs.Laws.{order_of_store, one_origin, few_scopes, few_statuses, few_reasons, numbered, both_all, all_shown}
 use Rattle.store_listing.specs.Counts.{list_number, how_many, HaveRoom}
-use Rattle.store_listing.specs.Cells.{scope_in, status_in, IsIssuerRow, issuer_in, IsKeyRow, list_of, IsListRow, list_in, IsSingleRow, single_in}
-use Rattle.store_listing.specs.Listing.{ListHead, ListedSingle, list_head, listed_crl, listed_single, with_count}
+use Rattle.store_listing.specs.Cells.{held_scope_in, status_in, IsIssuerRow, held_issuer_in, IsKeyRow, list_of, IsListRow, list_in, IsSingleRow, single_in}
+use Rattle.store_listing.specs.Listing.{StoredHead, ListedSingle, stored_head, listed_crl, listed_single, with_count}
 use Rattle.store_listing.specs.Reads.{IsStoreWith, number_of_entry}
 use Rattle.store_listing.proofs.Counting.{have_room, counted_under}
 
@@ -46,12 +46,12 @@ next_low xs low = go 1 xs (omega arith) low
 abbrev pub issuer_cells : Row → Row
 issuer_cells row = column row 0 ∷ column row 2 ∷ column row 3 ∷ []
 
-issuers_back : (xs : List IssuerRow) → map issuer_in (map issuer_cells (map issuer_row xs)) ≡ xs
+issuers_back : (xs : List IssuerRow) → map held_issuer_in (map issuer_cells (map issuer_row xs)) ≡ xs
 issuers_back [] = refl
 issuers_back (x ∷ xs) = ap (λ more. x ∷ more) (issuers_back xs)
 
-pub issuers_told : (db : Database) (it : Contents) (seen : List IssuerRow) → IsStoreWith db it → seen ≡ map issuer_in (map issuer_cells (db.trees 1)) → seen ≡ it.issuers
-issuers_told db it seen s is = is ∙ ap (λ rows. map issuer_in (map issuer_cells rows)) s.rows.issuers ∙ issuers_back it.issuers
+pub issuers_told : (db : Database) (it : Contents) (seen : List IssuerRow) → IsStoreWith db it → seen ≡ map held_issuer_in (map issuer_cells (db.trees 1)) → seen ≡ it.issuers
+issuers_told db it seen s is = is ∙ ap (λ rows. map held_issuer_in (map issuer_cells rows)) s.rows.issuers ∙ issuers_back it.issuers
 
 pub issuers_formed : (db : Database) (it : Contents) → IsStoreWith db it → AllByRecursion IsIssuerRow (map issuer_cells (db.trees 1))
 issuers_formed db it s = subst (λ rows. AllByRecursion IsIssuerRow (map issuer_cells rows)) (sym s.rows.issuers)
@@ -62,26 +62,26 @@ issuers_formed db it s = subst (λ rows. AllByRecursion IsIssuerRow (map issuer_
 abbrev pub list_cells : Row → Row
 list_cells row = column row 1 ∷ column row 2 ∷ column row 3 ∷ column row 4 ∷ column row 5 ∷ []
 
-scope_back : (scope : Scope) → scope_in (scope_number scope) ≡ scope
+scope_back : (scope : Scope) → held_scope_in (scope_number scope) ≡ scope
 scope_back All = refl
 scope_back User = refl
 scope_back Ca = refl
 
-list_back : (x : CrlRow) → x.number < 2 ^ 160 → list_in (list_cells (crl_row x)) ≡ list_head x
+list_back : (x : CrlRow) → x.number < 2 ^ 160 → list_in (list_cells (crl_row x)) ≡ stored_head x
 list_back x low =
     let scope = scope_back x.scope in
     let number = value_back 20 x.number low in
     λ i. record { issuer = x.issuer; scope = scope i; head = record { number = number i; window = x.window } }
 
-lists_back : (xs : List CrlRow) → AllByRecursion (λ x. IsNumbered (head_of x)) xs → map list_in (map list_cells (map crl_row xs)) ≡ map list_head xs
+lists_back : (xs : List CrlRow) → AllByRecursion (λ x. IsNumbered (head_of x)) xs → map list_in (map list_cells (map crl_row xs)) ≡ map stored_head xs
 lists_back [] low = refl
 lists_back (x ∷ xs) low = ap₂ (λ a b. a ∷ b) (list_back x low.0) (lists_back xs low.1)
 
 crls_are : (origin : Origin) (db : Database) (it : Contents) → db.schema ≡ store_schema origin → IsStoreWith db it → db.trees (crls_tree origin) ≡ map crl_row it.crls
 crls_are origin db it has s = ap (λ o. db.trees (crls_tree o)) (sym (same_origin origin db it s has)) ∙ s.rows.crls
 
-pub lists_told : (origin : Origin) (db : Database) (it : Contents) (seen : List ListHead) → db.schema ≡ store_schema origin → IsStoreWith db it
-    → seen ≡ map list_in (map list_cells (db.trees (crls_tree origin))) → seen ≡ map list_head it.crls
+pub lists_told : (origin : Origin) (db : Database) (it : Contents) (seen : List StoredHead) → db.schema ≡ store_schema origin → IsStoreWith db it
+    → seen ≡ map list_in (map list_cells (db.trees (crls_tree origin))) → seen ≡ map stored_head it.crls
 lists_told origin db it seen has s is = is ∙ ap (λ rows. map list_in (map list_cells rows)) (crls_are origin db it has s) ∙ lists_back it.crls s.form.numbers
 
 pub lists_formed : (origin : Origin) (db : Database) (it : Contents) → db.schema ≡ store_schema origin → IsStoreWith db it → AllByRecursion IsListRow (map list_cells (db.trees (crls_tree origin)))
@@ -115,7 +115,7 @@ keys_formed origin db it has s = (
 )
 
 -- the lists with the counts of all entries
-pub counts_told : (it : Contents) (count : ℕ → ℕ) (crls : List CrlRow) → AllByRecursion IsInside it.entries → ((number : ℕ) → count number ≡ how_many number (map number_of_entry it.entries)) → map (with_count count) (map list_head crls) ≡ map (listed_crl it.entries) crls
+pub counts_told : (it : Contents) (count : ℕ → ℕ) (crls : List CrlRow) → AllByRecursion IsInside it.entries → ((number : ℕ) → count number ≡ how_many number (map number_of_entry it.entries)) → map (with_count count) (map stored_head crls) ≡ map (listed_crl it.entries) crls
 counts_told it count [] inside so = refl
 counts_told it count (x ∷ xs) inside so =
     let same = so (list_number x.issuer (scope_number x.scope)) ∙ counted_under x.issuer (scope_number x.scope) it.entries (few_scopes x.scope) inside in

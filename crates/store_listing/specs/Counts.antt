@@ -15,16 +15,16 @@ how_many number numbers = count_by (λ other. other == number) numbers
 
 -- ---- as the code counts them
 
-abbrev pub counted : BTreeMap ℕ ℕ → ℕ → ℕ
-counted counts number = unwrap_or (get nat_cmp counts number) 0
+abbrev pub held_count : BTreeMap ℕ ℕ → ℕ → ℕ
+held_count counts number = unwrap_or (get nat_cmp counts number) 0
 
 -- of each list so many as there are
 abbrev pub AreCounted : BTreeMap ℕ ℕ → List ℕ → Type 0
-AreCounted counts numbers = (number : ℕ) → counted counts number ≡ how_many number numbers
+AreCounted counts numbers = (number : ℕ) → held_count counts number ≡ how_many number numbers
 
 -- one more of this list, and of the others as many
 abbrev pub CountsOneMore : BTreeMap ℕ ℕ → BTreeMap ℕ ℕ → ℕ → Type 0
-CountsOneMore old new list = (number : ℕ) → counted new number ≡ counted old number + (if list == number then 1 else 0)
+CountsOneMore old new list = (number : ℕ) → held_count new number ≡ held_count old number + (if list == number then 1 else 0)
 
 -- no list has more entries than there are places for it
 abbrev pub HaveRoom : List ℕ → Type 0

@@ -14,7 +14,7 @@ use Rattle.store_listing.specs.declared.counted.KeyedHead.{KeyedHead}
 use Rattle.store_listing.specs.Counts.{list_number}
 
 -- a list under the id of its issuer, without its entries
-pub record ListHead : Type 0 where
+pub record StoredHead : Type 0 where
   pub issuer : ℕ
   pub scope : Scope
   pub head : CrlHead
@@ -51,29 +51,29 @@ listed_single row = record { issuer = row.issuer; single = record { name_hash = 
 abbrev pub overview_of : Contents → Overview
 overview_of it = record { issuers = it.issuers; lists = map (listed_crl it.entries) it.crls; singles = map listed_single it.singles }
 
-abbrev pub list_head : CrlRow → ListHead
-list_head row = record { issuer = row.issuer; scope = row.scope; head = head_of row }
+abbrev pub stored_head : CrlRow → StoredHead
+stored_head row = record { issuer = row.issuer; scope = row.scope; head = head_of row }
 
 -- a list whose entries are counted by the numbers of lists
-abbrev pub with_count : (ℕ → ℕ) → ListHead → ListedCrl
+abbrev pub with_count : (ℕ → ℕ) → StoredHead → ListedCrl
 with_count count list = record { issuer = list.issuer; scope = list.scope; head = list.head; entries = count (list_number list.issuer (scope_number list.scope)) }
 
 -- ---- as the code has them
 
-abbrev pub seen_issuer : HeldIssuer → IssuerRow
-seen_issuer issuer = record { id = issuer.id; identity = record { name = issuer.name; key_info = issuer.key_info.items } }
+abbrev pub seen_held_issuer : HeldIssuer → IssuerRow
+seen_held_issuer issuer = record { id = issuer.id; identity = record { name = issuer.name; key_info = issuer.key_info.items } }
 
-abbrev pub seen_keyed : KeyedHead → ListHead
+abbrev pub seen_keyed : KeyedHead → StoredHead
 seen_keyed keyed = record { issuer = keyed.list.issuer; scope = keyed.list.scope; head = seen_head keyed.head }
 
-abbrev pub seen_list : HeldList → ListedCrl
-seen_list list = record { issuer = list.issuer; scope = list.scope; head = seen_head list.head; entries = list.entries }
+abbrev pub seen_held_list : HeldList → ListedCrl
+seen_held_list list = record { issuer = list.issuer; scope = list.scope; head = seen_head list.head; entries = list.entries }
 
-abbrev pub seen_single : HeldSingle → ListedSingle
-seen_single single = record { issuer = single.issuer; single = record { name_hash = single.name_hash.items; serial = single.serial.items; fact = seen_ocsp single.said } }
+abbrev pub seen_held_single : HeldSingle → ListedSingle
+seen_held_single single = record { issuer = single.issuer; single = record { name_hash = single.name_hash.items; serial = single.serial.items; fact = seen_ocsp single.said } }
 
 abbrev pub seen_listing : Listing → Overview
-seen_listing all = record { issuers = map seen_issuer all.issuers.items; lists = map seen_list all.lists.items; singles = map seen_single all.singles.items }
+seen_listing all = record { issuers = map seen_held_issuer all.issuers.items; lists = map seen_held_list all.lists.items; singles = map seen_held_single all.singles.items }
 
 -- it lists these rows, and nothing else
 abbrev pub IsListing : Contents → Listing → Type 0

@@ -2,8 +2,8 @@
 
 ghost use Rattle.std.specs.Prelude.{◌≡◌, ◌≢◌, ◌≤◌, OnOk, IfOk, Err, map};
 ghost use Rattle.store_rows.specs.Contents.{scope_number};
-ghost use Rattle.store_listing.specs.Counts.{counted, list_number, CountsOneMore};
-ghost use Rattle.store_listing.specs.Listing.{seen_keyed, seen_list, with_count};
+ghost use Rattle.store_listing.specs.Counts.{held_count, list_number, CountsOneMore};
+ghost use Rattle.store_listing.specs.Listing.{seen_keyed, seen_held_list, with_count};
 
 use crate::held::HeldList;
 use std::alloc::{AllocError, Global};
@@ -30,7 +30,7 @@ pub(crate) fn list_number(issuer: u32, scope: u32) -> u64
 
 /// How many entries of the list with this number were counted. It looks at log n of n lists.
 fn count_of(counts: &BTreeMap<u64, u64>, list: u64) -> u64
-    ensures { result ≡ counted counts.now list }
+    ensures { result ≡ held_count counts.now list }
 {
     match counts.get(&list) {
         Some(count) => *count,
@@ -41,7 +41,7 @@ fn count_of(counts: &BTreeMap<u64, u64>, list: u64) -> u64
 /// Counts one more entry of a list; `StoreFault::Schema` if the list has room for no more.
 pub(crate) fn count_one(counts: &mut BTreeMap<u64, u64>, list: u64) -> Result<(), StoreFault>
     ensures ok { OnOk result (CountsOneMore counts.old counts.new list) }
-    ensures full { result ≡ Err StoreFault.Schema → 4294967296 ≤ counted counts.old list }
+    ensures full { result ≡ Err StoreFault.Schema → 4294967296 ≤ held_count counts.old list }
     ensures cell { result ≢ Err StoreFault.Store }
 {
     let count = count_of(counts, list);
@@ -53,7 +53,7 @@ pub(crate) fn count_one(counts: &mut BTreeMap<u64, u64>, list: u64) -> Result<()
 }
 
 fn with_count(keyed: &KeyedHead, counts: &BTreeMap<u64, u64>) -> HeldList
-    ensures { seen_list result ≡ with_count (counted counts.now) (seen_keyed keyed.now) }
+    ensures { seen_held_list result ≡ with_count (held_count counts.now) (seen_keyed keyed.now) }
 {
     let list = keyed.list;
     let number = list_number(list.issuer, u32::from(scope_number(list.scope)));
@@ -71,8 +71,8 @@ pub(crate) fn with_counts(
     heads: &[KeyedHead],
     counts: &BTreeMap<u64, u64>,
 ) -> Result<Vec<HeldList>, AllocError>
-    ensures { IfOk result (λ lists. map seen_list lists.items
-        ≡ map (with_count (counted counts.now)) (map seen_keyed heads.now)) }
+    ensures { IfOk result (λ lists. map seen_held_list lists.items
+        ≡ map (with_count (held_count counts.now)) (map seen_keyed heads.now)) }
 {
     let mut lists = Vec::with_capacity(alloc, heads.len())?;
     'each: for keyed in heads {

@@ -34,10 +34,10 @@ fn read_issuer(row: &Row) -> Result<HeldIssuer, StoreFault>
 impl RowTest for IssuerTest {
     ghost use Rattle.std.specs.Prelude.{◌≡◌, map};
     ghost use Rattle.std.specs.List.{AllByRecursion};
-    ghost use Rattle.store_listing.specs.Cells.{IsIssuerRow, issuer_in};
-    ghost use Rattle.store_listing.specs.Listing.{seen_issuer};
+    ghost use Rattle.store_listing.specs.Cells.{IsIssuerRow, held_issuer_in};
+    ghost use Rattle.store_listing.specs.Listing.{seen_held_issuer};
 
-    ghost passed = { λ test rows. AllByRecursion IsIssuerRow rows × (map seen_issuer test.issuers.items ≡ map issuer_in rows) };
+    ghost passed = { λ test rows. AllByRecursion IsIssuerRow rows × (map seen_held_issuer test.issuers.items ≡ map held_issuer_in rows) };
 
     ghost are_formed = { λ test rows. AllByRecursion IsIssuerRow rows };
 

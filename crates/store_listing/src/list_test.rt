@@ -1,12 +1,12 @@
 //! Revocation lists, read and kept.
 
 ghost use Rattle.std.specs.Prelude.{◌≡◌, ◌≢◌, ◌<◌, Err, IfOk};
-ghost use Rattle.store_listing.specs.Cells.{HasHead, IsHeadIn, IsListRow, IsListIn, scope_in};
+ghost use Rattle.store_listing.specs.Cells.{HasHeldHead, IsHeadIn, IsListRow, IsHeldListIn, held_scope_in};
 
 use crate::counted::KeyedHead;
 use sqlite::Row;
 use statements_facts::Scope;
-use store_adoption::{RowTest, below, number, whole};
+use store_adoption::{RowTest, below, number, signed};
 use store_rows::{Head, ID_LIMIT, ListKey};
 use store_sql::StoreFault;
 
@@ -18,7 +18,7 @@ pub(crate) struct ListTest {
 
 /// The scope with this number in the tables.
 fn scope_of(number: u32) -> Scope
-    ensures { result ≡ scope_in number }
+    ensures { result ≡ held_scope_in number }
 {
     match number {
         0 => Scope::All,
@@ -29,12 +29,12 @@ fn scope_of(number: u32) -> Scope
 
 fn read_head(row: &Row) -> Result<Head, StoreFault>
     ensures ok { IfOk result (IsHeadIn row.now) }
-    ensures schema { result ≡ Err StoreFault.Schema → HasHead row.now → ⊥ }
+    ensures schema { result ≡ Err StoreFault.Schema → HasHeldHead row.now → ⊥ }
     ensures cell { result ≢ Err StoreFault.Store }
 {
     let number = number(row, 2)?;
-    let from = whole(row, 3)?;
-    let until = whole(row, 4)?;
+    let from = signed(row, 3)?;
+    let until = signed(row, 4)?;
     Ok(Head {
         number,
         from,
@@ -43,7 +43,7 @@ fn read_head(row: &Row) -> Result<Head, StoreFault>
 }
 
 fn read_list(row: &Row) -> Result<KeyedHead, StoreFault>
-    ensures ok { IfOk result (IsListIn row.now) }
+    ensures ok { IfOk result (IsHeldListIn row.now) }
     ensures schema { result ≡ Err StoreFault.Schema → IsListRow row.now → ⊥ }
     ensures cell { result ≢ Err StoreFault.Store }
 {

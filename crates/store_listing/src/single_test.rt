@@ -1,12 +1,12 @@
 //! What responses say of single certificates, read and kept.
 
 ghost use Rattle.std.specs.Prelude.{◌≡◌, ◌≢◌, Err, IfOk};
-ghost use Rattle.store_listing.specs.Cells.{HasStatus, IsStatusIn, HasSaid, IsSaidIn, IsSingleRow, IsSingleIn, status_in};
+ghost use Rattle.store_listing.specs.Cells.{HasHeldStatus, IsStatusIn, HasSaid, IsHeldAnswerIn, IsSingleRow, IsSingleIn, status_in};
 
 use crate::held::HeldSingle;
 use sqlite::Row;
 use statements_facts::{OcspAnswer, Status};
-use store_adoption::{RowTest, below, blob, whole};
+use store_adoption::{RowTest, below, blob, signed};
 use store_rows::ID_LIMIT;
 use store_sql::StoreFault;
 
@@ -29,7 +29,7 @@ fn status_of(number: u32, reason: u8) -> Status
 
 fn read_status(row: &Row) -> Result<Status, StoreFault>
     ensures ok { IfOk result (IsStatusIn row.now) }
-    ensures schema { result ≡ Err StoreFault.Schema → HasStatus row.now → ⊥ }
+    ensures schema { result ≡ Err StoreFault.Schema → HasHeldStatus row.now → ⊥ }
     ensures cell { result ≢ Err StoreFault.Store }
 {
     let number = below(row, 7, 3)?;
@@ -38,14 +38,14 @@ fn read_status(row: &Row) -> Result<Status, StoreFault>
 }
 
 fn read_said(row: &Row) -> Result<OcspAnswer, StoreFault>
-    ensures ok { IfOk result (IsSaidIn row.now) }
+    ensures ok { IfOk result (IsHeldAnswerIn row.now) }
     ensures schema { result ≡ Err StoreFault.Schema → HasSaid row.now → ⊥ }
     ensures cell { result ≢ Err StoreFault.Store }
 {
-    let this_update = whole(row, 3)?;
-    let produced_at = whole(row, 4)?;
-    let from = whole(row, 5)?;
-    let until = whole(row, 6)?;
+    let this_update = signed(row, 3)?;
+    let produced_at = signed(row, 4)?;
+    let from = signed(row, 5)?;
+    let until = signed(row, 6)?;
     let status = read_status(row)?;
     Ok(OcspAnswer {
         this_update,
@@ -77,9 +77,9 @@ impl RowTest for SingleTest {
     ghost use Rattle.std.specs.Prelude.{◌≡◌, map};
     ghost use Rattle.std.specs.List.{AllByRecursion};
     ghost use Rattle.store_listing.specs.Cells.{IsSingleRow, single_in};
-    ghost use Rattle.store_listing.specs.Listing.{seen_single};
+    ghost use Rattle.store_listing.specs.Listing.{seen_held_single};
 
-    ghost passed = { λ test rows. AllByRecursion IsSingleRow rows × (map seen_single test.singles.items ≡ map single_in rows) };
+    ghost passed = { λ test rows. AllByRecursion IsSingleRow rows × (map seen_held_single test.singles.items ≡ map single_in rows) };
 
     ghost are_formed = { λ test rows. AllByRecursion IsSingleRow rows };
 

@@ -8,7 +8,7 @@ pub fn issuer_laws()
 {}
 
 /// A list that replaces another is held in its slot, and no other slot changes.
-pub fn list_laws()
+pub fn replaced_list_laws()
     ensures { ReplacedListIsHeld }
 {}
 

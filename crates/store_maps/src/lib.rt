@@ -9,6 +9,6 @@ mod on_certificate;
 
 pub use creation::make;
 pub use crl_slot::crl;
-pub use laws::{issuer_laws, list_laws, single_laws};
+pub use laws::{issuer_laws, replaced_list_laws, single_laws};
 pub use ocsp_slot::ocsp;
 pub use on_certificate::{CertificateKey, answers_on};

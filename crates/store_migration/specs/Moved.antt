@@ -10,7 +10,7 @@ use Rattle.store_sql.specs.Tables.{store_schema}
 use Rattle.store_rows.specs.Contents.{Contents, issuer_row, single_row}
 use Rattle.store_rows.specs.Holding.{HasContents, AreInForm}
 use Rattle.store_maps.specs.Held.{crl_under, IsOwned}
-use Rattle.store_adoption.specs.Version1.{UnscopedCrl, UnscopedEntry, UnscopedContents, HoldsVersion1, AreUnscopedInForm, AreLists, held_in_version_1, unscoped_crl_under, for_all_certificates, version_1_row}
+use Rattle.store_adoption.specs.Version1.{UnscopedCrl, UnscopedEntry, UnscopedContents, HoldsVersion1, AreUnscopedInForm, AreUnscopedLists, held_in_version_1, unscoped_crl_under, for_all_certificates, version_1_row}
 
 -- what version 1 held, with these lists and their entries
 pub record HeldBefore (crls : List UnscopedCrl) (entries : List UnscopedEntry) (it : UnscopedContents) (held : Holdings) : Type 0 where
@@ -18,7 +18,7 @@ pub record HeldBefore (crls : List UnscopedCrl) (entries : List UnscopedEntry) (
   pub issuers_rise : IsAscending (λ one other. one.id < other.id) it.issuers
   pub singles_rise : IsAscending (λ one other. one.id <ℤ other.id) it.singles
   pub crls_rise : IsAscending (λ one other. one.issuer < other.issuer) it.crls
-  pub lists : AreLists crls entries it
+  pub lists : AreUnscopedLists crls entries it
   pub held_is : held_in_version_1 it ≡ held
 
 -- the database is of version 1

@@ -8,7 +8,7 @@ use Rattle.sqlite_value.specs.declared.value.ValueRef.{ValueRef}
 use Rattle.statements_facts.specs.declared.revoked.Listed.{Listed}
 use Rattle.statements_facts.specs.Listed.{ListedSerial, seen_listed}
 use Rattle.store_sql.specs.declared.entry.EntryCells.{EntryCells}
-use Rattle.store_sql.specs.Bindings.{entry_columns}
+use Rattle.store_sql.specs.Bindings.{entry_cells_row}
 use Rattle.store_rows.specs.declared.entry.ListKey.{ListKey}
 use Rattle.store_rows.specs.Bound.{first_place, columns_at, columns_from, columns_in}
 use Rattle.store_rows.specs.Contents.{scope_number}
@@ -22,14 +22,14 @@ columns_more issuer scope place (q ∷ ps) p =
     ∙ sym (append_assoc (columns_at issuer scope place q) (columns_from issuer scope (suc place) ps) (columns_at issuer scope (place + length (q ∷ ps)) p))
 
 same_columns : (list : ListKey) (at : ℕ) (cells : EntryCells) (p : ListedSerial) → cells.place ≡ pos (first_place list + at) → cells.issuer ≡ pos list.issuer → cells.scope ≡ pos (scope_number list.scope)
-    → cells.serial.now ≡ p.serial → cells.reason ≡ pos p.reason → entry_columns cells ≡ columns_at list.issuer (scope_number list.scope) (first_place list + at) p
+    → cells.serial.now ≡ p.serial → cells.reason ≡ pos p.reason → entry_cells_row cells ≡ columns_at list.issuer (scope_number list.scope) (first_place list + at) p
 same_columns list at cells p place issuer scope serial reason = rw (place, issuer, scope, serial, reason) refl
 
 pub one_more_in : (list : ListKey) (index : ℕ) (group : List Listed) (k : ℕ) (d : Listed) (was now : List ValueRef) (cells : EntryCells) → k < length group
     → bound was ≡ columns_in list index (map seen_listed (take k group))
     → cells.place ≡ pos (first_place list + (index + k)) → cells.issuer ≡ pos list.issuer → cells.scope ≡ pos (scope_number list.scope)
     → cells.serial.now ≡ (seen_listed (get_or group k d)).serial → cells.reason ≡ pos (seen_listed (get_or group k d)).reason
-    → bound now ≡ bound was ++ entry_columns cells → bound now ≡ columns_in list index (map seen_listed (take (k + 1) group))
+    → bound now ≡ bound was ++ entry_cells_row cells → bound now ≡ columns_in list index (map seen_listed (take (k + 1) group))
 one_more_in list index group k d was now cells low so place issuer scope serial reason is =
     let size : k ≡ length (map seen_listed (take k group)) = sym (length_map seen_listed (take k group) ∙ length-take-le k group (omega (arith, low))) in
     is

@@ -55,11 +55,11 @@ abbrev pub entries_deletion : Places → SqlStatement
 entries_deletion places = record { text = delete_entries; params = Int places.first ∷ Int places.end ∷ [] }
 
 -- an entry, column by column
-abbrev pub entry_columns : EntryCells → Row
-entry_columns entry = Int entry.place ∷ Int entry.issuer ∷ Int entry.scope ∷ Blob entry.serial.now ∷ Int entry.reason ∷ []
+abbrev pub entry_cells_row : EntryCells → Row
+entry_cells_row entry = Int entry.place ∷ Int entry.issuer ∷ Int entry.scope ∷ Blob entry.serial.now ∷ Int entry.reason ∷ []
 
 abbrev pub entry_insertion : EntryCells → SqlStatement
-entry_insertion entry = record { text = insert_entry; params = entry_columns entry }
+entry_insertion entry = record { text = insert_entry; params = entry_cells_row entry }
 
 -- a group of entries, each column by column
 abbrev pub entries_insertion : Row → SqlStatement

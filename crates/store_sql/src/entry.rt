@@ -5,7 +5,7 @@ ghost use Rattle.sqlite.specs.Values.{bound};
 ghost use Rattle.store_sql.specs.Statements.{CommitsNothing};
 ghost use Rattle.store_sql.specs.Inside.{inside, KeepsReference, KeepsCommitOnError, SelectsIn, RunsIn};
 ghost use Rattle.store_sql.specs.Cause.{RefusesForCause};
-ghost use Rattle.store_sql.specs.Bindings.{entry_query, entries_query, entries_deletion, entry_insertion, entry_columns, entries_insertion};
+ghost use Rattle.store_sql.specs.Bindings.{entry_query, entries_query, entries_deletion, entry_insertion, entry_cells_row, entries_insertion};
 
 use sqlite::types::ValueRef;
 use sqlite::{Alter, Error, Row, Transaction};
@@ -107,7 +107,7 @@ pub fn push_columns<'a>(
     entry: &EntryCells<'a>,
 ) -> Result<(), AllocError>
     ensures { OnOk result
-        (bound columns.new.items ≡ bound columns.old.items ++ entry_columns entry.now) }
+        (bound columns.new.items ≡ bound columns.old.items ++ entry_cells_row entry.now) }
 {
     columns.extend_from_slice(&[
         ValueRef::Int(entry.place),

@@ -1,7 +1,7 @@
 //! That the definitions are those of RFC 5280: values written by hand, and what they say.
 
 use asn::whole;
-use names::{Domain, Form, General, NameRule, Refusal, Subtree, coverage_laws, general_laws};
+use names::{Domain, Form, General, NameRule, NameRefusal, Subtree, coverage_laws, general_laws};
 use std::test::Fail;
 
 /// The name of one RDN, with the common name A.
@@ -33,7 +33,7 @@ fn said_by(name: General<'_>) -> Said<'_> {
 }
 
 /// What is read of the octets as a general name, where they are one value.
-fn general_name(octets: &[u8]) -> Result<Result<Said<'_>, Refusal>, asn::Fault> {
+fn general_name(octets: &[u8]) -> Result<Result<Said<'_>, NameRefusal>, asn::Fault> {
     let value = whole(octets)?;
     Ok(General::read(value).map(|name| said_by(name)))
 }
@@ -109,7 +109,7 @@ fn general_names_of_each_form_are_read(rt: HostRuntime) -> Result<(), Fail> {
 }
 
 /// Octets that are no general name, and the fault.
-const REFUSED_NAMES: &[(&str, &[u8], Refusal)] = &[
+const REFUSED_NAMES: &[(&str, &[u8], NameRefusal)] = &[
     ("an empty label", b"\x82\x04a..b", (NameRule::DnsForm, 0)),
     ("a leading dot", b"\x82\x02.a", (NameRule::DnsForm, 0)),
     ("an empty dNSName", b"\x82\x00", (NameRule::DnsForm, 0)),
@@ -250,7 +250,7 @@ fn said_by_base(base: Subtree<'_>) -> Base<'_> {
 }
 
 /// What is read of the octets as the base of a subtree, where they are one value.
-fn base_of(octets: &[u8]) -> Result<Result<Base<'_>, Refusal>, asn::Fault> {
+fn base_of(octets: &[u8]) -> Result<Result<Base<'_>, NameRefusal>, asn::Fault> {
     let value = whole(octets)?;
     Ok(Subtree::read_base(value).map(|base| said_by_base(base)))
 }
@@ -325,7 +325,7 @@ fn bases_of_subtrees_are_read(rt: HostRuntime) -> Result<(), Fail> {
 }
 
 /// Octets that are no base, and the fault.
-const REFUSED_BASES: &[(&str, &[u8], Refusal)] = &[
+const REFUSED_BASES: &[(&str, &[u8], NameRefusal)] = &[
     ("a dot", b"\x82\x01.", (NameRule::DnsForm, 0)),
     ("an empty label", b"\x82\x04a..b", (NameRule::DnsForm, 0)),
     ("two leading dots", b"\x82\x03..a", (NameRule::DnsForm, 0)),

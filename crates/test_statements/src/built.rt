@@ -8,7 +8,7 @@ use names::Form;
 use std::alloc::Global;
 use std::process::Abort;
 use std::test::Fail;
-use vectors::{NotationFault, certificate, key_info, name, sign, tree};
+use vectors::{NotationFault, certificate, key_info, name, sign, tree_of};
 
 #[test]
 fn builds_the_octets(rt: HostRuntime) -> Result<(), Fail> {

@@ -11,7 +11,7 @@ use names::{Form, IpFault, NameRule};
 use path::{Outcome, Reason, Step};
 use relying::DeliverFault;
 use relying_agreement::Verdict;
-use relying_questions::Source;
+use relying_questions::WhichText;
 use relying_texts::StatementsFault;
 use relying_verdicts::{Fault as PartyFault, QueryFault};
 use statements_crl::Entry;
@@ -134,7 +134,7 @@ pub fn same_verdict(one: Verdict, other: Verdict) -> bool
     one == other
 }
 
-pub fn same_source(one: Source, other: Source) -> bool
+pub fn same_source(one: WhichText, other: WhichText) -> bool
     ensures { IsTrue result ↔ (one ≡ other) }
 {
     one == other

@@ -69,7 +69,7 @@ pub fn sign(alloc: Global, signed: Tree, key: &str) -> Result<Tree, NotationFaul
 }
 
 /// The tree of the certificate that the text asks for, for tests that damage it.
-pub fn tree(alloc: Global, text: &str) -> Result<Tree, NotationFault> {
+pub fn tree_of(alloc: Global, text: &str) -> Result<Tree, NotationFault> {
     let notation = Notation::read(alloc, text)?;
     let signed = signed_part(alloc, &notation)?;
     sign(alloc, signed, notation.signer)
@@ -77,6 +77,6 @@ pub fn tree(alloc: Global, text: &str) -> Result<Tree, NotationFault> {
 
 /// The DER of the certificate that the text asks for, in the notation at the head of this crate.
 pub fn certificate(alloc: Global, text: &str) -> Result<Vec<u8>, NotationFault> {
-    let tree = tree(alloc, text)?;
+    let tree = tree_of(alloc, text)?;
     Ok(encode(alloc, &tree)?)
 }

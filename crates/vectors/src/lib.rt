@@ -69,9 +69,9 @@ mod notation;
 mod part;
 mod parts;
 
-pub use building::{certificate, sign, tree};
+pub use building::{certificate, sign, tree_of};
 pub use fault::NotationFault;
 pub use list_building::{revocation_list, revocation_list_tree};
-pub use part::Part;
+pub use part::NotationPart;
 pub use parts::{algorithm_tree, bit_string, key_info, name, name_tree, primitive};
 pub use vectors_toy::{ToyVerifier, toy_signature};

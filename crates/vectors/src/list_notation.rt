@@ -1,7 +1,7 @@
 //! What a text of the notation says of a revocation list.
 
 use crate::fault::NotationFault;
-use crate::part::Part;
+use crate::part::NotationPart;
 use crate::parts::integer_contents;
 use std::alloc::Global;
 
@@ -23,7 +23,7 @@ pub(crate) struct ListEntry {
 
 impl ListEntry {
     /// A serial number in hexadecimal, and behind a space a reason in decimal, if there is one.
-    fn read(alloc: Global, text: Part<'_>) -> Result<ListEntry, NotationFault> {
+    fn read(alloc: Global, text: NotationPart<'_>) -> Result<ListEntry, NotationFault> {
         match text.split_at_first(' ') {
             None => Ok(ListEntry {
                 serial: text.octets(alloc)?,
@@ -37,7 +37,7 @@ impl ListEntry {
     }
 
     /// The entries, each in brackets, one after the other.
-    fn read_all(alloc: Global, text: Part<'_>) -> Result<Vec<ListEntry>, NotationFault> {
+    fn read_all(alloc: Global, text: NotationPart<'_>) -> Result<Vec<ListEntry>, NotationFault> {
         let mut entries = Vec::new(alloc);
         for inside in &text.enclosed(alloc, '[', ']')? {
             entries.push(ListEntry::read(alloc, *inside)?)?;
@@ -62,7 +62,7 @@ pub(crate) struct ListNotation<'a> {
 
 impl<'a> ListNotation<'a> {
     /// What stands in the parentheses: `ISSUER,NUMBER` or `ISSUER,NUMBER,ENTRIES`.
-    fn head(alloc: Global, inside: Part<'a>) -> Result<ListNotation<'a>, NotationFault> {
+    fn head(alloc: Global, inside: NotationPart<'a>) -> Result<ListNotation<'a>, NotationFault> {
         let (issuer, behind) = inside.split_at_mark(',')?;
         let (number, entries) = match behind.split_at_first(',') {
             None => (behind, Vec::new(alloc)),
@@ -81,7 +81,7 @@ impl<'a> ListNotation<'a> {
     }
 
     /// An option of a word and a value.
-    fn note(&mut self, alloc: Global, option: Part<'a>) -> Result<(), NotationFault> {
+    fn note(&mut self, alloc: Global, option: NotationPart<'a>) -> Result<(), NotationFault> {
         let (word, value) = option.split_at_first(' ').ok_or(option.fault())?;
         match word.text {
             "signed" => self.signer = value.word()?,
@@ -96,7 +96,7 @@ impl<'a> ListNotation<'a> {
 
     /// What the text says, or the offset at which it is none of the notation.
     pub fn read(alloc: Global, text: &'a str) -> Result<ListNotation<'a>, NotationFault> {
-        let whole = Part { text, at: 0 };
+        let whole = NotationPart { text, at: 0 };
         let (kind, behind) = whole.split_at_mark('(')?;
         if kind.text != "crl" {
             return Err(kind.fault());
@@ -110,7 +110,7 @@ impl<'a> ListNotation<'a> {
     }
 }
 
-fn scope_named(word: Part<'_>) -> Result<ListScope, NotationFault> {
+fn scope_named(word: NotationPart<'_>) -> Result<ListScope, NotationFault> {
     match word.text {
         "user" => Ok(ListScope::User),
         "ca" => Ok(ListScope::Ca),

@@ -1,7 +1,7 @@
 //! What a text of the notation says of a certificate.
 
 use crate::fault::NotationFault;
-use crate::part::Part;
+use crate::part::NotationPart;
 use cert::Version;
 use std::alloc::Global;
 
@@ -19,8 +19,8 @@ pub(crate) enum GeneralName<'a> {
 impl<'a> GeneralName<'a> {
     fn read(
         alloc: Global,
-        form: Part<'a>,
-        value: Part<'a>,
+        form: NotationPart<'a>,
+        value: NotationPart<'a>,
     ) -> Result<GeneralName<'a>, NotationFault> {
         match form.text {
             "dns" => Ok(GeneralName::Dns(value.word()?)),
@@ -32,7 +32,7 @@ impl<'a> GeneralName<'a> {
     }
 
     /// A form and a value with a space between them.
-    fn subtree(alloc: Global, text: Part<'a>) -> Result<GeneralName<'a>, NotationFault> {
+    fn subtree(alloc: Global, text: NotationPart<'a>) -> Result<GeneralName<'a>, NotationFault> {
         let (form, value) = text.split_at_mark(' ')?;
         GeneralName::read(alloc, form, value)
     }
@@ -99,7 +99,7 @@ impl<'a> Notation<'a> {
     }
 
     /// What stands before the options: `ca(SUBJECT,ISSUER)` or `ee(SUBJECT,ISSUER)`.
-    fn head(alloc: Global, kind: Part<'a>, names: Part<'a>) -> Result<Notation<'a>, NotationFault> {
+    fn head(alloc: Global, kind: NotationPart<'a>, names: NotationPart<'a>) -> Result<Notation<'a>, NotationFault> {
         let (subject, issuer) = names.split_at_mark(',')?;
         let ca = match kind.text {
             "ca" => true,
@@ -110,7 +110,7 @@ impl<'a> Notation<'a> {
     }
 
     /// An option of one word.
-    fn note_word(&mut self, word: Part<'a>) -> Result<(), NotationFault> {
+    fn note_word(&mut self, word: NotationPart<'a>) -> Result<(), NotationFault> {
         match word.text {
             "empty" => self.subject = "",
             "policy" => self.policy = Some(true),
@@ -125,8 +125,8 @@ impl<'a> Notation<'a> {
     fn note_field(
         &mut self,
         alloc: Global,
-        word: Part<'a>,
-        value: Part<'a>,
+        word: NotationPart<'a>,
+        value: NotationPart<'a>,
     ) -> Result<(), NotationFault> {
         match word.text {
             "version" => self.version = value.version()?,
@@ -144,8 +144,8 @@ impl<'a> Notation<'a> {
     fn note_extension(
         &mut self,
         alloc: Global,
-        word: Part<'a>,
-        value: Part<'a>,
+        word: NotationPart<'a>,
+        value: NotationPart<'a>,
     ) -> Result<(), NotationFault> {
         match word.text {
             "usage" => self.usage = Some(value.octets(alloc)?),
@@ -162,7 +162,7 @@ impl<'a> Notation<'a> {
         Ok(())
     }
 
-    fn note(&mut self, alloc: Global, option: Part<'a>) -> Result<(), NotationFault> {
+    fn note(&mut self, alloc: Global, option: NotationPart<'a>) -> Result<(), NotationFault> {
         match option.split_at_first(' ') {
             None => self.note_word(option),
             Some((word, value)) => self.note_field(alloc, word, value),
@@ -171,7 +171,7 @@ impl<'a> Notation<'a> {
 
     /// What the text says, or the offset at which it is none of the notation.
     pub fn read(alloc: Global, text: &'a str) -> Result<Notation<'a>, NotationFault> {
-        let whole = Part { text, at: 0 };
+        let whole = NotationPart { text, at: 0 };
         let (kind, behind) = whole.split_at_mark('(')?;
         let (names, options) = behind.split_at_mark(')')?;
         let mut notation = Notation::head(alloc, kind, names)?;

@@ -7,34 +7,34 @@ use std::alloc::Global;
 
 /// A part of a text, and the offset at which it stands there.
 #[derive(Clone, Copy)]
-pub struct Part<'a> {
+pub struct NotationPart<'a> {
     pub text: &'a str,
     pub at: usize,
 }
 
-impl<'a> Part<'a> {
+impl<'a> NotationPart<'a> {
     pub fn fault(self) -> NotationFault {
         NotationFault::Text(self.at)
     }
 
     /// What stands so many octets behind the beginning.
-    pub fn behind(self, octets: usize, text: &'a str) -> Part<'a> {
+    pub fn behind(self, octets: usize, text: &'a str) -> NotationPart<'a> {
         // An offset in a text is never so great that it saturates.
-        Part {
+        NotationPart {
             text,
             at: self.at.saturating_add(octets),
         }
     }
 
     /// What stands before the first such character, and what stands behind it.
-    pub fn split_at_first(self, mark: char) -> Option<(Part<'a>, Part<'a>)> {
+    pub fn split_at_first(self, mark: char) -> Option<(NotationPart<'a>, NotationPart<'a>)> {
         let (before, after) = self.text.split_once(mark)?;
         let skipped = self.text.len().saturating_sub(after.len());
         Some((self.behind(0, before), self.behind(skipped, after)))
     }
 
     /// The same, if there has to be one.
-    pub fn split_at_mark(self, mark: char) -> Result<(Part<'a>, Part<'a>), NotationFault> {
+    pub fn split_at_mark(self, mark: char) -> Result<(NotationPart<'a>, NotationPart<'a>), NotationFault> {
         self.split_at_first(mark)
             .ok_or(self.behind(self.text.len(), "").fault())
     }
@@ -45,7 +45,7 @@ impl<'a> Part<'a> {
         alloc: Global,
         open: char,
         close: char,
-    ) -> Result<Vec<Part<'a>>, NotationFault> {
+    ) -> Result<Vec<NotationPart<'a>>, NotationFault> {
         let mut all = Vec::new(alloc);
         let mut next = self;
         for pair in self.text.split_inclusive(close) {

@@ -1,9 +1,9 @@
 //! Options of a text: each in braces, one after the other.
 
-use vectors::{NotationFault, Part};
+use vectors::{NotationFault, NotationPart};
 
 /// What stands between the braces of a text that stands there.
-pub(crate) fn option_in<'a>(place: Part<'a>, braced: &'a str) -> Result<Part<'a>, NotationFault> {
+pub(crate) fn option_in<'a>(place: NotationPart<'a>, braced: &'a str) -> Result<NotationPart<'a>, NotationFault> {
     let inside = braced
         .strip_prefix('{')
         .and_then(|behind| behind.strip_suffix('}'))
@@ -12,7 +12,7 @@ pub(crate) fn option_in<'a>(place: Part<'a>, braced: &'a str) -> Result<Part<'a>
 }
 
 /// The word of an option, and its value, which is empty if there is none.
-pub(crate) fn word_and_value<'a>(option: Part<'a>) -> (Part<'a>, Part<'a>) {
+pub(crate) fn word_and_value<'a>(option: NotationPart<'a>) -> (NotationPart<'a>, NotationPart<'a>) {
     match option.split_at_first(' ') {
         None => (option, option.behind(option.text.len(), "")),
         Some(both) => both,

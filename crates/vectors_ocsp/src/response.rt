@@ -6,7 +6,7 @@ use sha1::Sha1;
 use std::alloc::Global;
 use vectors::{
     NotationFault, algorithm_tree, bit_string, key_info, name, name_tree, primitive, toy_signature,
-    tree,
+    tree_of,
 };
 
 /// id-sha1, 1.3.14.3.2.26
@@ -106,7 +106,7 @@ fn push_certificates(
     }
     let mut all = Vec::new(alloc);
     for text in certificates {
-        all.push(tree(alloc, text)?)?;
+        all.push(tree_of(alloc, text)?)?;
     }
     members.push(explicit(alloc, 0xA0, Tree::Constructed(0x30, all))?)?;
     Ok(())

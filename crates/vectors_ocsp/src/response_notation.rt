@@ -2,7 +2,7 @@
 
 use crate::options::{option_in, word_and_value};
 use std::alloc::Global;
-use vectors::{NotationFault, Part};
+use vectors::{NotationFault, NotationPart};
 
 /// Whether a certificate is revoked.
 #[derive(Clone, Copy)]
@@ -23,7 +23,7 @@ pub(crate) struct Single {
 
 impl Single {
     /// `SERIAL good`, `SERIAL revoked`, `SERIAL revoked REASON` or `SERIAL unknown`
-    fn read(alloc: Global, text: Part<'_>) -> Result<Single, NotationFault> {
+    fn read(alloc: Global, text: NotationPart<'_>) -> Result<Single, NotationFault> {
         let (serial, status) = text.split_at_mark(' ')?;
         let serial = serial.octets(alloc)?;
         let (word, value) = word_and_value(status);
@@ -63,7 +63,7 @@ pub(crate) struct ResponseNotation<'a> {
 }
 
 /// Fourteen digits and `Z`, of any date or none.
-fn time<'a>(part: Part<'a>) -> Result<&'a str, NotationFault> {
+fn time<'a>(part: NotationPart<'a>) -> Result<&'a str, NotationFault> {
     match part.text.strip_suffix('Z') {
         Some(digits) if digits.len() == 14 && digits.bytes().all(|octet| octet.is_ascii_digit()) =>
             { Ok(part.text) }
@@ -72,7 +72,7 @@ fn time<'a>(part: Part<'a>) -> Result<&'a str, NotationFault> {
 }
 
 /// The single responses, with commas between them.
-fn singles(alloc: Global, text: Part<'_>) -> Result<Vec<Single>, NotationFault> {
+fn singles(alloc: Global, text: NotationPart<'_>) -> Result<Vec<Single>, NotationFault> {
     let mut singles = Vec::new(alloc);
     for one in text.text.split(',') {
         singles.push(Single::read(alloc, text.behind(0, one))?)?;
@@ -84,8 +84,8 @@ impl<'a> ResponseNotation<'a> {
     /// What stands before the options: `ocsp(ISSUER,SERIAL STATUS,..)`.
     fn head(
         alloc: Global,
-        kind: Part<'a>,
-        inside: Part<'a>,
+        kind: NotationPart<'a>,
+        inside: NotationPart<'a>,
     ) -> Result<ResponseNotation<'a>, NotationFault> {
         if kind.text != "ocsp" {
             return Err(kind.fault());
@@ -104,7 +104,7 @@ impl<'a> ResponseNotation<'a> {
         })
     }
 
-    fn note(&mut self, option: Part<'a>) -> Result<(), NotationFault> {
+    fn note(&mut self, option: NotationPart<'a>) -> Result<(), NotationFault> {
         let (word, value) = word_and_value(option);
         match word.text {
             "key" => self.key = value.word()?,
@@ -125,7 +125,7 @@ impl<'a> ResponseNotation<'a> {
 
     /// What the text says, or the offset at which it is none of the notation.
     pub fn read(alloc: Global, text: &'a str) -> Result<ResponseNotation<'a>, NotationFault> {
-        let whole = Part { text, at: 0 };
+        let whole = NotationPart { text, at: 0 };
         let (kind, behind) = whole.split_at_mark('(')?;
         let (inside, options) = behind.split_at_mark(')')?;
         let mut notation = ResponseNotation::head(alloc, kind, inside)?;

@@ -92,7 +92,7 @@ pub mod values {
 /// Names (RFC 5280, 4.1.2.4, 4.2.1.6 and 4.2.1.10): distinguished names, general names, and the subtrees that constrain them.
 pub mod naming {
     pub use names::{
-        Attribute, Domain, Form, General, IpFault, IpRange, Name, NameRule, Refusal, Subtree,
+        Attribute, Domain, Form, General, IpFault, IpRange, Name, NameRefusal, NameRule, Subtree,
         coverage_laws, domain_laws, general_laws, is_dns_name, is_ip_address, is_text, key_laws,
         name_laws, preparation_laws, prepared_text, range_laws, same_prepared, subtree_laws,
     };
@@ -101,8 +101,8 @@ pub mod naming {
 /// The parts of a certificate (RFC 5280, 4.1 and 4.2).
 pub mod certificates {
     pub use cert::{
-        AlgorithmIdentifier, BasicConstraints, BitString, Extension, ExtensionKind, Extensions,
-        KeyUsage, MOST_NAMES, NameConstraints, OidSet, Refusal, SubjectPublicKeyInfo, Validity,
+        AlgorithmIdentifier, BasicConstraints, BitString, CertRefusal, Extension, ExtensionKind,
+        Extensions, KeyUsage, MOST_NAMES, NameConstraints, OidSet, SubjectPublicKeyInfo, Validity,
         Version, certificate_laws, layout_laws, offset_laws,
     };
     pub use path_conditions::{Constraints, FormSet};
@@ -120,15 +120,17 @@ pub mod revocation {
         newest_laws,
     };
     pub use statements_ocsp::{
-        CertId, CertStatus, Certs, ResponderId, SingleResponse, Singles as SingleResponses,
-        is_response, response_laws,
+        CertId, CertStatus, Certs, ResponderId, SingleResponse, SingleResponses, is_response,
+        response_laws,
     };
-    pub use statements_parts::Refusal;
+    pub use statements_parts::StatementRefusal;
 }
 
 /// Verdicts by statements at hand, without a store, and what a verifier may be asked for them.
 pub mod at_hand {
-    pub use relying_questions::{Part, SignatureQuestion, Source, question_laws, questions};
+    pub use relying_questions::{
+        SignatureQuestion, TextPart, WhichText, question_laws, questions,
+    };
     pub use relying_texts::{StatementsFault, delivery_laws, read_statements, verdict};
 }
 

@@ -296,7 +296,7 @@ fn beside_a_number(alloc: Global, name: &[u8]) -> Result<Vec<u8>, Fail> {
 }
 
 /// What `read` answers for the last of the values inside.
-fn read_last(octets: &[u8]) -> Result<Result<Name<'_>, Refusal>, Fail> {
+fn read_last(octets: &[u8]) -> Result<Result<Name<'_>, NameRefusal>, Fail> {
     let mut members = whole(octets)?.inside().ok_or("a constructed value")?;
     members.next().ok_or("a first value")?;
     Ok(Name::read(members.next().ok_or("a second value")?))

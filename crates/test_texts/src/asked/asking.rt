@@ -3,14 +3,14 @@
 use crate::texts::{MIDDLE, StatementText, octets_of, query_of, read_all, statements_of};
 use path::Query;
 use path_verifiers::ListVerifier;
-use relying_questions::{Part, SignatureQuestion, Source, questions};
+use relying_questions::{TextPart, SignatureQuestion, WhichText, questions};
 use relying_texts::{Verdict, verdict};
 use statements::Statement;
 use std::alloc::Global;
 use vectors::ToyVerifier;
 
 /// Whose key a question is about, and which text has the message.
-pub type Pair = (Source, Source);
+pub type Pair = (WhichText, WhichText);
 
 /// Certificates, of which the first is the anchor, and statements, as octets.
 #[derive(Clone, Copy)]
@@ -20,10 +20,10 @@ struct Texts<'t> {
 }
 
 /// Whether the octets of the part stand at its offset.
-fn stands(texts: &Texts<'_>, part: &Part<'_>) -> bool {
+fn stands(texts: &Texts<'_>, part: &TextPart<'_>) -> bool {
     let text = match part.source {
-        Source::Certificate(number) => texts.certificates.get(number),
-        Source::Statement(index) => texts.statements.get(index),
+        WhichText::Certificate(number) => texts.certificates.get(number),
+        WhichText::Statement(index) => texts.statements.get(index),
     };
     match text {
         None => false,

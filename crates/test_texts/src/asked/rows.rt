@@ -3,7 +3,7 @@
 use super::asking::{Pair, are_asked};
 use crate::texts::StatementText;
 use path::Reason;
-use relying_questions::Source::{Certificate, Statement as Told};
+use relying_questions::WhichText::{Certificate, Statement as Told};
 use relying_texts::Verdict;
 use relying_texts::Verdict::{Invalid, Revoked, Unknown, Valid};
 use std::alloc::Global;

@@ -1,5 +1,5 @@
 use Rattle.std.proofs.Common.{arith, refl}
-use Rattle.asn.proofs.Judgements.{judgement_ok, judgement_err}
+use Rattle.asn.proofs.OutermostLaws.{judgement_ok, judgement_err}
 use Rattle.asn.proofs.nested.judge.Goals as goal
 
 pub returns-in-Ok-clause-judgement : goal.returns-in-Ok-clause-judgement

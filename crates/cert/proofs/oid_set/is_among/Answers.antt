@@ -1,7 +1,7 @@
 use Rattle.std.proofs.Common.{◌∙◌, sym, ap}
 use Rattle.std.specs.FinSet.{contains, contains-empty}
 use Rattle.std.proofs.lemmas.List.{take_all}
-use Rattle.cert.specs.OidSet.{octets_in}
+use Rattle.cert.specs.OidSet.{oids_from}
 use Rattle.cert.proofs.OidSets.{is_in_list, is_in_no_more}
 use Rattle.cert.proofs.oid_set.is_among.Goals as goal
 
@@ -16,4 +16,4 @@ loop-other-preserved c = is_in_no_more c.args.oid.now c.args.others.now c.loop-o
 
 pub returns : goal.returns
 returns c =
-    sym (ap (λ oids. contains (octets_in oids) c.args.oid.now) (sym (take_all c.loop-other.other-index c.args.others.now c.loop-other-test.false)) ∙ c.loop-other.invariant)
+    sym (ap (λ oids. contains (oids_from oids) c.args.oid.now) (sym (take_all c.loop-other.other-index c.args.others.now c.loop-other-test.false)) ∙ c.loop-other.invariant)

@@ -3,7 +3,7 @@ use Rattle.std.proofs.lemmas.Bool.{cases_lt}
 use Rattle.std.proofs.lemmas.List.Sorted.{IsPartitionPoint-from_clause, IsPartitionedBy-ltb}
 use borrow.Author.Tests.{ltb-true, ltb-false}
 use Rattle.store_listing.specs.declared.held.HeldIssuer.{HeldIssuer}
-use Rattle.store_listing.specs.Listing.{seen_issuer}
+use Rattle.store_listing.specs.Listing.{seen_held_issuer}
 use Rattle.cli_listing.proofs.Under.{rises, missing, standing, nothing_there}
 use Rattle.cli_listing.proofs.issuer.issuer_under.Goals as goal
 use Rattle.cli_listing.proofs.issuer.issuer_under.Goals.{in_default-via-in-Some+else-issuer-id, in_default-via-in_default}
@@ -16,7 +16,7 @@ returns-in-Some c rise =
     let found = c.in-Some.ensures.lookup in
     let same : slice_index_or xs at here ≡ here = sym found.1 in
     let is : (slice_index_or xs at here).id ≡ c.args.id = ap (λ (x : HeldIssuer). x.id) same ∙ c.if-issuer-id.true in
-    sym (standing xs c.args.id at here rise found.3.0 is ∙ ap (λ (x : HeldIssuer). Some (seen_issuer x)) same)
+    sym (standing xs c.args.id at here rise found.3.0 is ∙ ap (λ (x : HeldIssuer). Some (seen_held_issuer x)) same)
 
 pub returns-in_default : goal.returns-in_default
 returns-in_default c rise =

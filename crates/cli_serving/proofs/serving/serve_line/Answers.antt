@@ -2,7 +2,7 @@ use Rattle.std.proofs.Common.{rules}
 use Rattle.cli_lines.specs.Lines.{IsLineRead}
 use Rattle.cli_lines.specs.declared.lines.LineRead.TheVariants.{TooLong}
 use Rattle.cli_session.specs.Held.{holding_of}
-use Rattle.cli_steps.specs.Ways.{Moves}
+use Rattle.cli_steps.specs.Ways.{MovesParty}
 use Rattle.cli_serving.proofs.Lines.{too_long}
 use Rattle.cli_serving.proofs.serving.serve_line.Goals as goal
 
@@ -11,5 +11,5 @@ returns-in-Ok-TooLong-clause-serves g c =
     let read : IsLineRead (g.R.Read.remaining c.args.input.now) (g.R.Read.remaining c.read_line.new.source) c.read_line.new.line.items TooLong = search rules in
     too_long (holding_of (g.S.Source.holds c.args.source.now)) (g.R.Read.remaining c.args.input.now) (g.R.Read.remaining c.read_line.new.source)
     (g.W.Write.contents c.args.out.now) (g.W.Write.contents c.refuse_line.new.out)
-    (Moves g.K.Keeper.is_sound g.K.Keeper.keeps c.args.party.now c.args.party.now)
+    (MovesParty g.K.Keeper.is_sound g.K.Keeper.keeps c.args.party.now c.args.party.now)
     c.read_line.new.line.items c.refuse_line.result read c.refuse_line.ensures (λ Are stays sound state is. (state, is, stays state))

@@ -1,7 +1,7 @@
 use Rattle.std.proofs.Common.{[], arith, refl}
 use Rattle.std.proofs.KnownBytes.{Appends-nil}
 use Rattle.cli_session.specs.Held.{holding_of}
-use Rattle.cli_steps.specs.Ways.{Moves}
+use Rattle.cli_steps.specs.Ways.{MovesParty}
 use Rattle.cli_serving.specs.Serving.{Moved}
 use Rattle.cli_serving.proofs.Composing.{further, stays}
 use Rattle.cli_serving.proofs.Lines.{ends, one_more}
@@ -33,9 +33,9 @@ returns-in-Some-clause-ended g c =
     ends
     (holding_of (g.S.Source.holds c.args.source.now)) (g.R.Read.remaining c.args.input.now) (g.R.Read.remaining c.loop.input) (g.R.Read.remaining c.serve_line.new.input)
     (g.W.Write.contents c.args.out.now) (g.W.Write.contents c.loop.out) (g.W.Write.contents c.serve_line.new.out)
-    (Moves g.K.Keeper.is_sound g.K.Keeper.keeps c.args.party.now c.loop.party)
-    (Moves g.K.Keeper.is_sound g.K.Keeper.keeps c.loop.party c.serve_line.new.party)
-    (Moves g.K.Keeper.is_sound g.K.Keeper.keeps c.args.party.now c.serve_line.new.party)
+    (MovesParty g.K.Keeper.is_sound g.K.Keeper.keeps c.args.party.now c.loop.party)
+    (MovesParty g.K.Keeper.is_sound g.K.Keeper.keeps c.loop.party c.serve_line.new.party)
+    (MovesParty g.K.Keeper.is_sound g.K.Keeper.keeps c.args.party.now c.serve_line.new.party)
     (λ One Other Both so before line sound. further c.args.party.now.believed c.loop.party.believed c.serve_line.new.party.believed (g.K.Keeper.keeps c.args.party.now.keeper) (g.K.Keeper.keeps c.loop.party.keeper) (g.K.Keeper.keeps c.serve_line.new.party.keeper) One Other Both so
     (before (c.serve_line.ensures.sound sound)) (line sound))
     (Moved g.K.Keeper.is_sound g.K.Keeper.keeps c.args.party.now)
@@ -50,9 +50,9 @@ loop-preserved g c = record {
   served = one_more
       (holding_of (g.S.Source.holds c.args.source.now)) (g.R.Read.remaining c.args.input.now) (g.R.Read.remaining c.loop.input) (g.R.Read.remaining c.serve_line.new.input)
       (g.W.Write.contents c.args.out.now) (g.W.Write.contents c.loop.out) (g.W.Write.contents c.serve_line.new.out)
-      (Moves g.K.Keeper.is_sound g.K.Keeper.keeps c.args.party.now c.loop.party)
-      (Moves g.K.Keeper.is_sound g.K.Keeper.keeps c.loop.party c.serve_line.new.party)
-      (Moves g.K.Keeper.is_sound g.K.Keeper.keeps c.args.party.now c.serve_line.new.party)
+      (MovesParty g.K.Keeper.is_sound g.K.Keeper.keeps c.args.party.now c.loop.party)
+      (MovesParty g.K.Keeper.is_sound g.K.Keeper.keeps c.loop.party c.serve_line.new.party)
+      (MovesParty g.K.Keeper.is_sound g.K.Keeper.keeps c.args.party.now c.serve_line.new.party)
       (λ One Other Both so before line sound. further c.args.party.now.believed c.loop.party.believed c.serve_line.new.party.believed (g.K.Keeper.keeps c.args.party.now.keeper) (g.K.Keeper.keeps c.loop.party.keeper) (g.K.Keeper.keeps c.serve_line.new.party.keeper) One Other Both so
       (before (c.serve_line.ensures.sound sound)) (line sound))
       c.loop.invariant.served c.in-None.ensures.serves;

@@ -1,6 +1,6 @@
 use Rattle.std.proofs.Common.{◌≤◌, ◌^◌, vec_capacity}
 use Rattle.cli_session.specs.Held.{holding_of}
-use Rattle.cli_steps.specs.Ways.{Moves}
+use Rattle.cli_steps.specs.Ways.{MovesParty}
 use Rattle.cli_serving.specs.Serving.{HasServed}
 use Rattle.cli_serving.proofs.serving.serve_lines.Given as goal
 
@@ -9,5 +9,5 @@ invariant-loop g l = record {
   room : 2 ^ 20 ≤ vec_capacity l.line;
   sound : g.K.Keeper.is_sound l.party.keeper → g.K.Keeper.is_sound l.initial.party.keeper;
   served : HasServed (holding_of (g.S.Source.holds l.source)) (g.R.Read.remaining l.initial.input) (g.R.Read.remaining l.input) (g.W.Write.contents l.initial.out) (g.W.Write.contents l.out)
-      (Moves g.K.Keeper.is_sound g.K.Keeper.keeps l.initial.party l.party);
+      (MovesParty g.K.Keeper.is_sound g.K.Keeper.keeps l.initial.party l.party);
 }

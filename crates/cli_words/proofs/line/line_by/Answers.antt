@@ -4,7 +4,7 @@ use Rattle.clap.specs.Words.{App, Row, Text, is_simple, is_simple_and_free, faul
 use Rattle.clap.specs.Kinds.{HasKind}
 use Rattle.clap.specs.declared.error.kind.ErrorKind.TheVariants.{OutOfMemory}
 use Rattle.cli_words.specs.App.{program}
-use Rattle.cli_words.specs.CommandLine.{AreRefusedWith, IsLineOf, IsRefusedWith, Reads}
+use Rattle.cli_words.specs.CommandLine.{AreRefusedWith, IsLineOf, IsRefusedWith, ReadsLine}
 use Rattle.cli_words.proofs.TreeWords.{program_is_simple, program_is_free}
 use Rattle.cli_words.proofs.Outcomes.{errs_as, or_refused, refused_with}
 use Rattle.cli_words.proofs.line.line_by.Goals as goal
@@ -16,7 +16,7 @@ returns-clause-reads c =
     let has = c.in_ok-matches.ensures.ok.2 (ap is_simple app ∙ program_is_simple) in
     let none = c.in_ok-matches.ensures.kinds (ap is_simple_and_free app ∙ program_is_free) in
     let entered = has.1 ∙ ap (λ (a : App). subcommand_of a words) app in
-    IfOk-weaker c.line_or_error.result (IsLineOf (subcommand_of program words)) (Reads words)
+    IfOk-weaker c.line_or_error.result (IsLineOf (subcommand_of program words)) (ReadsLine words)
     (λ read line. (ap (λ (a : App). fault_of a words) (sym app) ∙ none, line))
     (subst (λ (rows : Option (Text × List Row)). IfOk c.line_or_error.result (IsLineOf rows)) entered c.line_or_error.ensures.line)
 

@@ -2,7 +2,7 @@ use Rattle.std.proofs.Common.{◌+◌, ◌++◌, drop, map, ap}
 use Rattle.statements.specs.Statement.{seen_statement}
 use Rattle.relying_questions.specs.Places.{LinksStand, StatementsStand}
 use Rattle.relying_questions.specs.Questions.{asked_of_statement, asked_of_statements}
-use Rattle.relying_questions.specs.Seen.{issuers_in, seen_all}
+use Rattle.relying_questions.specs.Seen.{issuers_of_links, seen_all}
 use Rattle.relying_questions.proofs.Adding.{one_left, one_more}
 use Rattle.relying_questions.proofs.Kept.{kept_more, statement_stands_at}
 use Rattle.relying_questions.proofs.asking.ask_statements.Goals as goal
@@ -10,7 +10,7 @@ use Rattle.relying_questions.proofs.asking.ask_statements.Goals as goal
 pub loop-index-preserved : goal.loop-index-preserved
 loop-index-preserved c =
     let statements = c.args.statements.now in
-    let issuers = issuers_in c.args.links.now in
+    let issuers = issuers_of_links c.args.links.now in
     let i = c.loop-index.index in
     let one = c.index-statements-index.result in
     let old = c.args.asked.now.items in

@@ -4,7 +4,7 @@ use Rattle.cert.specs.Certificate.{seen_certificate}
 use Rattle.path.specs.Reading.{seen_query}
 use Rattle.statements.specs.Statement.{seen_statement}
 use Rattle.relying_agreement.specs.Link.{links_from}
-use Rattle.relying_questions.specs.Agreement.{Decide}
+use Rattle.relying_questions.specs.Agreement.{DecideVerdict}
 use Rattle.relying_questions.specs.Places.{AllInTexts, LinkStands, LinksStand, texts_in}
 use Rattle.relying_questions.specs.Seen.{seen_all}
 use Rattle.relying_questions.proofs.Adding.{all_questions}
@@ -24,7 +24,7 @@ pub returns-clause-decide : goal.returns-clause-decide
 returns-clause-decide c =
     let query = seen_query c.args.query.now in
     let statements = map seen_statement c.args.statements.now in
-    subst (λ asked. Decide asked query statements) (sym (returns-clause-asked c)) (questions_decide query statements)
+    subst (λ asked. DecideVerdict asked query statements) (sym (returns-clause-asked c)) (questions_decide query statements)
 
 pub returns-clause-places : goal.returns-clause-places
 returns-clause-places c = λ octets were read.

@@ -3,8 +3,8 @@ use Rattle.std.proofs.lemmas.Result.{err_from_is_err_and}
 use Rattle.sqlite.specs.Held.{state}
 use Rattle.sqlite.specs.State.{HasCleanDisk}
 use Rattle.store_adoption.proofs.Laws.{later_caused}
-use Rattle.store_listing.specs.Counts.{counted}
-use Rattle.store_listing.specs.Listing.{seen_keyed, seen_list, with_count}
+use Rattle.store_listing.specs.Counts.{held_count}
+use Rattle.store_listing.specs.Listing.{seen_keyed, seen_held_list, with_count}
 use Rattle.store_listing.specs.Reads.{CountsEntries, AreHeads, AreLists}
 use Rattle.store_listing.proofs.Told.{counts_told}
 use Rattle.store_listing.proofs.Composing.{reads_then, reads_both, reads_stop}
@@ -38,7 +38,7 @@ returns-clause-reads g c clean =
     let lists = c.in_ok-with_counts.field-0 in
     let mid = state g.S.Store c.read_counts.new.conn in
     let before : HasCleanDisk mid = omega (arith, clean, c.read_heads.ensures.survives.clean) in
-    let beside : map seen_list lists.items ≡ map (with_count (counted counts)) (map seen_keyed heads.items) = search rules in
+    let beside : map seen_held_list lists.items ≡ map (with_count (held_count counts)) (map seen_keyed heads.items) = search rules in
     reads_both (state g.S.Store c.args.conn.now) mid (state g.S.Store c.read_heads.new.conn) CountsEntries AreHeads AreLists counts heads lists
     (c.in_ok-counts.ensures.reads before) (c.in_ok-heads.ensures.reads clean)
-    (λ it s all are. beside ∙ ap (map (with_count (counted counts))) are ∙ counts_told it (counted counts) it.crls s.form.placed.inside all)
+    (λ it s all are. beside ∙ ap (map (with_count (held_count counts))) are ∙ counts_told it (held_count counts) it.crls s.form.placed.inside all)

@@ -5,7 +5,7 @@ use Rattle.std.specs.Result.{is_ok}
 use Rattle.sqlite.specs.Order.{Row}
 use Rattle.sqlite.specs.Values.{bound}
 use Rattle.sqlite_value.specs.declared.value.ValueRef.{ValueRef}
-use Rattle.store_sql.specs.Bindings.{entry_columns}
+use Rattle.store_sql.specs.Bindings.{entry_cells_row}
 use Rattle.store_sql.proofs.entry.push_columns.Goals as goal
 
 where_ok : {A E Q : Type 0} (result : Result A E) (left longer same : List ValueRef) → left ≡ (if is_ok result then longer else same) → (left ≡ longer → Q) → OnOk result Q
@@ -21,4 +21,4 @@ returns c =
     let e1 : to_z w64 (of_z w64 c.args.entry.now.issuer) ≡ c.args.entry.now.issuer = search rules in
     let e2 : to_z w64 (of_z w64 c.args.entry.now.scope) ≡ c.args.entry.now.scope = search rules in
     let e3 : to_z w64 (of_z w64 c.args.entry.now.reason) ≡ c.args.entry.now.reason = search rules in
-    where_ok c.extend_from_slice.result _ _ _ c.extend_from_slice.ensures.items (λ same. pushed c.args.columns.now.items _ _ (entry_columns c.args.entry.now) same (rw (e0, e1, e2, e3) refl))
+    where_ok c.extend_from_slice.result _ _ _ c.extend_from_slice.ensures.items (λ same. pushed c.args.columns.now.items _ _ (entry_cells_row c.args.entry.now) same (rw (e0, e1, e2, e3) refl))

@@ -3,7 +3,7 @@ use Rattle.std.proofs.Math.Logic.{∥∥₁_elim, ∥∥₁_map}
 use Rattle.std.proofs.Props.{props}
 use Rattle.asn.specs.Members.{Members, left}
 use Rattle.asn.specs.Place.{seen_tlv}
-use Rattle.names_distinguished.specs.DistinguishedName.{Entry}
+use Rattle.names_distinguished.specs.DistinguishedName.{ComparedAttribute}
 use Rattle.names_distinguished.specs.NameParts.{entry_in, entry_at}
 use Rattle.names_distinguished.specs.NameView.{entries_of}
 use Rattle.names_distinguished.proofs.Distinct.{others_distinct}
@@ -26,4 +26,4 @@ pub returns : goal.returns
 unfolding entries_of entry_at
 returns c =
     ap (λ (m : Members). map entry_at m.values) c.in_ok-attribute.ensures.step
-    ∙ ap (λ (e : Entry). e ∷ map entry_at (left c.next.new.self).values) (ap entry_in c.in-Ok.ensures ∙ sym c.attribute.ensures)
+    ∙ ap (λ (e : ComparedAttribute). e ∷ map entry_at (left c.next.new.self).values) (ap entry_in c.in-Ok.ensures ∙ sym c.attribute.ensures)

@@ -1,5 +1,5 @@
 use Rattle.std.proofs.Common.{List, ◌∷◌, length, refl, sym, ap, ◌∙◌, arith}
-use Rattle.names_distinguished.specs.DistinguishedName.{Entry}
+use Rattle.names_distinguished.specs.DistinguishedName.{ComparedAttribute}
 use Rattle.names_distinguished.specs.NameView.{entry_of}
 use Rattle.names_distinguished.specs.Agreement.{entries_in, rising, run_left}
 use Rattle.names_distinguished.proofs.Agreement.{searches_back, found_past_more, stops_first, stops_none}
@@ -31,5 +31,5 @@ loop-rest-smaller c =
 pub loop-rest-preserved : goal.loop-rest-preserved
 loop-rest-preserved c =
     found_past_more c.args.kind.now (run_left c.args.self) (run_left c.loop-rest.rest) (run_left c.behind-rest.result) (entry_of c.in-Some.next) c.loop-rest.invariant
-    (run_left_next c.loop-rest.rest c.in-Some.next c.in-Some.is ∙ ap (λ (es : List Entry). entry_of c.in-Some.next ∷ es) (sym c.behind-rest.ensures))
+    (run_left_next c.loop-rest.rest c.in-Some.next c.in-Some.is ∙ ap (λ (es : List ComparedAttribute). entry_of c.in-Some.next ∷ es) (sym c.behind-rest.ensures))
     (sym c.is_kind_before.ensures ∙ c.if-not-is_kind_before.false)

@@ -9,7 +9,7 @@ use Rattle.der.specs.Laws.{AreOctets, Decision}
 use Rattle.der.proofs.Laws.{decide, never_both, one_fault, are_octets, first_within}
 use Rattle.asn.specs.Part.{IsWhole, contents}
 use Rattle.asn.specs.Place.{Place, body, body_place}
-use Rattle.asn.specs.Judgement.{answer_of, judgement_of, judgement, placed, nested, outermost}
+use Rattle.asn.specs.Outermost.{answer_of, first_fault_if, first_fault_in, placed, nested, outermost}
 
 answers_ok : (text : List ℕ) (d : Decision text) (v : Value) → Encodes text v → answer_of text d ≡ Ok tt
 answers_ok text (inl w) v encodes = refl
@@ -21,20 +21,20 @@ answers_err text (inr (rule', at', first')) rule at first =
     let one = one_fault text rule' rule at' at first' first in
     ap (λ (r : Rule). Err (r, at')) one.0 ∙ ap (λ (k : ℕ). Err (rule, k)) one.1
 
-ok_of : (text : List ℕ) (v : Value) (d : AreOctets text ⊎ (AreOctets text → ⊥)) → Encodes text v → judgement_of text d ≡ Ok tt
+ok_of : (text : List ℕ) (v : Value) (d : AreOctets text ⊎ (AreOctets text → ⊥)) → Encodes text v → first_fault_if text d ≡ Ok tt
 ok_of text v (inl octets) encodes = answers_ok text (decide text octets) v encodes
 ok_of text v (inr none) encodes = refl
 
-err_of : (text : List ℕ) (rule : Rule) (at : ℕ) (d : AreOctets text ⊎ (AreOctets text → ⊥)) → AreOctets text → IsFirstFault text (Refused rule at) → judgement_of text d ≡ Err (rule, at)
+err_of : (text : List ℕ) (rule : Rule) (at : ℕ) (d : AreOctets text ⊎ (AreOctets text → ⊥)) → AreOctets text → IsFirstFault text (Refused rule at) → first_fault_if text d ≡ Err (rule, at)
 err_of text rule at (inl octets) fits first = answers_err text (decide text octets) rule at first
 err_of text rule at (inr none) fits first = absurd (none fits)
 
-pub judgement_ok : (text : List ℕ) (v : Value) → Encodes text v → judgement text ≡ Ok tt
-unfolding judgement
+pub judgement_ok : (text : List ℕ) (v : Value) → Encodes text v → first_fault_in text ≡ Ok tt
+unfolding first_fault_in
 judgement_ok text v encodes = ok_of text v (are_octets text) encodes
 
-pub judgement_err : (text : List ℕ) (rule : Rule) (at : ℕ) → AreOctets text → IsFirstFault text (Refused rule at) → judgement text ≡ Err (rule, at)
-unfolding judgement
+pub judgement_err : (text : List ℕ) (rule : Rule) (at : ℕ) → AreOctets text → IsFirstFault text (Refused rule at) → first_fault_in text ≡ Err (rule, at)
+unfolding first_fault_in
 judgement_err text rule at fits first = err_of text rule at (are_octets text) fits first
 
 answers_within : (text : List ℕ) (d : Decision text) (rule : Rule) (at : ℕ) → answer_of text d ≡ Err (rule, at) → at ≤ length text
@@ -45,12 +45,12 @@ answers_within text (inr (broken, place, first)) rule at e =
     let low = first_within text broken place first in
     omega (arith, same, low)
 
-within_of : (text : List ℕ) (d : AreOctets text ⊎ (AreOctets text → ⊥)) (rule : Rule) (at : ℕ) → judgement_of text d ≡ Err (rule, at) → at ≤ length text
+within_of : (text : List ℕ) (d : AreOctets text ⊎ (AreOctets text → ⊥)) (rule : Rule) (at : ℕ) → first_fault_if text d ≡ Err (rule, at) → at ≤ length text
 within_of text (inl octets) rule at e = answers_within text (decide text octets) rule at e
 within_of text (inr none) rule at e = absurd cc
 
-pub judgement_within : (text : List ℕ) (rule : Rule) (at : ℕ) → judgement text ≡ Err (rule, at) → at ≤ length text
-unfolding judgement
+pub judgement_within : (text : List ℕ) (rule : Rule) (at : ℕ) → first_fault_in text ≡ Err (rule, at) → at ≤ length text
+unfolding first_fault_in
 judgement_within text rule at e = within_of text (are_octets text) rule at e
 
 -- the contents of a value are the encoding of a value of their own
@@ -58,7 +58,7 @@ answers_value : (text : List ℕ) (d : Decision text) (u : Unit {0}) → answer_
 answers_value text (inl value) u e = value
 answers_value text (inr (rule, at, first)) u e = absurd cc
 
-value_of_judgement : (text : List ℕ) (d : AreOctets text ⊎ (AreOctets text → ⊥)) (u : Unit {0}) → AreOctets text → judgement_of text d ≡ Ok u → IsWhole text
+value_of_judgement : (text : List ℕ) (d : AreOctets text ⊎ (AreOctets text → ⊥)) (u : Unit {0}) → AreOctets text → first_fault_if text d ≡ Ok u → IsWhole text
 value_of_judgement text (inl octets) u fits e = answers_value text (decide text octets) u e
 value_of_judgement text (inr none) u fits e = absurd (none fits)
 
@@ -67,9 +67,9 @@ placed_ok (Ok u) place inner e = (u, refl, cc)
 placed_ok (Err fault) place inner e = absurd cc
 
 pub nested_ok : (value inner : Place) → AreOctets (body value) → nested value ≡ Ok inner → (inner ≡ body_place value) × IsWhole (body value)
-unfolding nested judgement body_place contents
+unfolding nested first_fault_in body_place contents
 nested_ok value inner fits e =
-    let p = placed_ok (judgement (body_place value).octets) (body_place value) inner e in
+    let p = placed_ok (first_fault_in (body_place value).octets) (body_place value) inner e in
     (p.2, value_of_judgement (body value) (are_octets (body value)) p.0 fits p.1)
 
 pub nested_again : (value : Place) → IsWhole (body value) → nested value ≡ Ok (body_place value)
@@ -78,9 +78,9 @@ nested_again value (inner, encodes) = ap (λ (r : Result (Unit {0}) (Rule × ℕ
 
 -- the same of the whole input
 pub outermost_ok : (text : List ℕ) (value : Place) → AreOctets text → outermost text ≡ Ok value → (value ≡ record { octets = text; at = 0 }) × IsWhole text
-unfolding outermost judgement
+unfolding outermost first_fault_in
 outermost_ok text value fits e =
-    let p = placed_ok (judgement text) (record { octets = text; at = 0 }) value e in
+    let p = placed_ok (first_fault_in text) (record { octets = text; at = 0 }) value e in
     (p.2, value_of_judgement text (are_octets text) p.0 fits p.1)
 
 pub outermost_again : (text : List ℕ) → IsWhole text → outermost text ≡ Ok (record { octets = text; at = 0 })

@@ -1,6 +1,6 @@
 use Rattle.std.proofs.Common.{arith, subst, sym}
 use Rattle.asn.specs.Part.{IsPartOf}
-use Rattle.relying_questions.proofs.part.Part.bits.Goals as goal
+use Rattle.relying_questions.proofs.part.TextPart.bits.Goals as goal
 
 pub returns-clause-stands : goal.returns-clause-stands
 returns-clause-stands c = λ texts is. record {

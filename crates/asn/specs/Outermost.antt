@@ -11,13 +11,13 @@ abbrev pub answer_of : (text : List ℕ) → Decision text → Result (Unit {0})
 answer_of text (inl value) = Ok tt
 answer_of text (inr (rule, at, first)) = Err (rule, at)
 
-abbrev pub judgement_of : (text : List ℕ) → (AreOctets text ⊎ (AreOctets text → ⊥)) → Result (Unit {0}) (Rule × ℕ)
-judgement_of text (inl octets) = answer_of text (decide text octets)
-judgement_of text (inr none) = Ok tt
+abbrev pub first_fault_if : (text : List ℕ) → (AreOctets text ⊎ (AreOctets text → ⊥)) → Result (Unit {0}) (Rule × ℕ)
+first_fault_if text (inl octets) = answer_of text (decide text octets)
+first_fault_if text (inr none) = Ok tt
 
 -- the first fault of octets: nothing where they are the encoding of a value
-unfoldable pub judgement : List ℕ → Result (Unit {0}) (Rule × ℕ)
-judgement text = judgement_of text (are_octets text)
+unfoldable pub first_fault_in : List ℕ → Result (Unit {0}) (Rule × ℕ)
+first_fault_in text = first_fault_if text (are_octets text)
 
 -- the place of a fault counts from the octets' own place
 abbrev pub placed : Result (Unit {0}) (Rule × ℕ) → Place → Result Place (Rule × ℕ)
@@ -26,8 +26,8 @@ placed (Err fault) place = Err (fault.0, place.at + fault.1)
 
 -- the value that the whole input is
 unfoldable pub outermost : List ℕ → Result Place (Rule × ℕ)
-outermost text = placed (judgement text) (record { octets = text; at = 0 })
+outermost text = placed (first_fault_in text) (record { octets = text; at = 0 })
 
 -- the value that the contents of a value are, which is at depth 1 again
 unfoldable pub nested : Place → Result Place (Rule × ℕ)
-nested value = placed (judgement (body_place value).octets) (body_place value)
+nested value = placed (first_fault_in (body_place value).octets) (body_place value)
