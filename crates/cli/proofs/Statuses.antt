@@ -20,7 +20,7 @@ is_failing Shut = inr (inr refl)
 is_failing NoInput = inr (inr refl)
 is_failing (Unreadable file) = inr (inr refl)
 is_failing Unwritable = inr (inr refl)
-is_failing (StoreFailed number) = inr (inr refl)
+is_failing (StoreFailed why) = inr (inr refl)
 is_failing NoMemory = inr (inr refl)
 
 four : (status : ℕ) → IsAnswering status → status ≡ 4 → ⊥

@@ -18,13 +18,14 @@ use Rattle.relying_verdicts.specs.declared.fault.Fault.{Fault}
 use Rattle.relying_verdicts.specs.declared.fault.Fault.TheVariants as F
 use Rattle.cli_failures.specs.declared.failure.Failure.{Failure}
 use Rattle.cli_failures.specs.declared.failure.Failure.TheVariants.{NoMemory}
+use Rattle.cli_failures.specs.declared.failure.StoreRefusal.TheVariants as refused
 use Rattle.cli_store.specs.Standing.{IsFound, IsNoAnswer, Leaving, Seen, Standing, seen_of, told_of}
 use Rattle.cli.specs.Checked.{IsNoComparison, IsNotChecked}
 
 -- ---- a verdict
 
-other : ◌≢◌ {A = ℕ} 71 72
-other same = omega (arith, same)
+other : refused.Store ≢ refused.Schema
+other same = cc
 
 kept : (old new : State) → StaysIfOpen old new → IsTrue new.is_open → (held : Holdings) → IsStoreOf old.now held → IsStoreOf new.now held
 kept old new keeps is_open held stands = subst (λ now. IsStoreOf now held) (sym (keeps.now_is is_open)) stands
@@ -32,9 +33,9 @@ kept old new keeps is_open held stands = subst (λ now. IsStoreOf now held) (sym
 pub no_verdict : (leaves : Seen → Type 0) (old new : State) (fault : Fault) (failure : Failure)
     → failure ≡ told_of fault → leaves (seen_of new) → (HasCleanDisk new → StaysIfOpen old new × IsFormed old fault) → IsNoAnswer leaves (seen_of old) failure
 no_verdict leaves old new (F.Store S.Store) failure told left looks =
-    inr (71, told, inl refl, (seen_of new, left, λ intact is_open held stands. (kept old new (looks intact).0 is_open held stands, other)))
+    inr (refused.Store, told, (seen_of new, left, λ intact is_open held stands. (kept old new (looks intact).0 is_open held stands, other)))
 no_verdict leaves old new (F.Store S.Schema) failure told left looks =
-    inr (72, told, inr refl, (seen_of new, left, λ intact is_open held stands. absurd ((looks intact).1 refl held stands)))
+    inr (refused.Schema, told, (seen_of new, left, λ intact is_open held stands. absurd ((looks intact).1 refl held stands)))
 no_verdict leaves old new (F.Store S.Memory) failure told left looks = inl told
 no_verdict leaves old new F.Memory failure told left looks = inl told
 
@@ -44,9 +45,8 @@ pub no_comparison : (leaves others_leave : Seen → Type 0) (old new other_old o
     → failure ≡ told_of fault → leaves (seen_of new) → others_leave (seen_of other_new)
     → (HasCleanDisk new → HasCleanDisk other_new → StaysIfOpen old new × StaysIfOpen other_old other_new × IsFormedOfEither old other_old fault) → IsNoComparison leaves others_leave (seen_of old) (seen_of other_old) failure
 no_comparison leaves others_leave old new other_old other_new (F.Store S.Store) failure told left other_left looks = inr (
-  71,
+  refused.Store,
   told,
-  inl refl,
   (
     seen_of new,
     seen_of other_new,
@@ -60,7 +60,7 @@ no_comparison leaves others_leave old new other_old other_new (F.Store S.Store) 
   ),
 )
 no_comparison leaves others_leave old new other_old other_new (F.Store S.Schema) failure told left other_left looks =
-    inr (72, told, inr refl, (seen_of new, seen_of other_new, left, other_left, λ intact other_intact is_open other_open held others one two. absurd ((looks intact other_intact).2 refl held others one two)))
+    inr (refused.Schema, told, (seen_of new, seen_of other_new, left, other_left, λ intact other_intact is_open other_open held others one two. absurd ((looks intact other_intact).2 refl held others one two)))
 no_comparison leaves others_leave old new other_old other_new (F.Store S.Memory) failure told left other_left looks = inl told
 no_comparison leaves others_leave old new other_old other_new F.Memory failure told left other_left looks = inl told
 
@@ -69,9 +69,9 @@ no_comparison leaves others_leave old new other_old other_new F.Memory failure t
 pub no_answer_on_facts : (leaves : Seen → Type 0) (old new : State) (facts : Facts) (fault : StoreFault) (failure : Failure)
     → failure ≡ told_of (F.Store fault) → leaves (seen_of new) → PutsFacts old new facts (Err fault) → IsNoAnswer leaves (seen_of old) failure
 no_answer_on_facts leaves old new facts S.Store failure told left puts =
-    inr (71, told, inl refl, (seen_of new, left, λ intact is_open held stands. (subst (λ now. IsStoreOf now held) (sym ((puts intact).same is_open)) stands, other)))
+    inr (refused.Store, told, (seen_of new, left, λ intact is_open held stands. (subst (λ now. IsStoreOf now held) (sym ((puts intact).same is_open)) stands, other)))
 no_answer_on_facts leaves old new facts S.Schema failure told left puts =
-    inr (72, told, inr refl, (seen_of new, left, λ intact is_open held stands. absurd ((puts intact).formed refl held stands)))
+    inr (refused.Schema, told, (seen_of new, left, λ intact is_open held stands. absurd ((puts intact).formed refl held stands)))
 no_answer_on_facts leaves old new facts S.Memory failure told left puts = inl told
 
 -- ---- a listing
@@ -83,9 +83,8 @@ pub not_listed : (leaves : Seen → Type 0) (old new : State) (fault : StoreFaul
     → failure ≡ told_of (F.Store fault) → leaves (seen_of new) → ListingShowsHeld → IsSettled old → IsSettled new
     → (HasCleanDisk new → ReadsStore {A = Listing} old new IsListing (Err fault)) → IsNoAnswer leaves (seen_of old) failure
 not_listed leaves old new S.Store failure told left shows settled settled_then reads = inr (
-  71,
+  refused.Store,
   told,
-  inl refl,
   (
     seen_of new,
     left,
@@ -93,7 +92,7 @@ not_listed leaves old new S.Store failure told left shows settled settled_then r
   ),
 )
 not_listed leaves old new S.Schema failure told left shows settled settled_then reads =
-    inr (72, told, inr refl, (seen_of new, left, λ intact is_open held stands. let it = shows old.now held stands in absurd ((reads intact).1 refl it.0 it.1)))
+    inr (refused.Schema, told, (seen_of new, left, λ intact is_open held stands. let it = shows old.now held stands in absurd ((reads intact).1 refl it.0 it.1)))
 not_listed leaves old new S.Memory failure told left shows settled settled_then reads = inl told
 
 pub without_memory : {T : Type 0} (leaves : Seen → Type 0) (old : Seen) (result : Result T Failure) → IfErr result (λ failure. failure ≡ NoMemory) → IfErr result (IsNoAnswer leaves old)

@@ -11,10 +11,12 @@ use Rattle.cli_words.specs.QueryTexts.{QueryTexts}
 use Rattle.cli_failures.specs.Failures.{OrUnwritable}
 use Rattle.cli_failures.specs.declared.failure.Failure.{Failure}
 use Rattle.cli_failures.specs.declared.failure.Failure.TheVariants.{StoreFailed, NoMemory}
+use Rattle.cli_failures.specs.declared.failure.StoreRefusal.{StoreRefusal}
+use Rattle.cli_failures.specs.declared.failure.StoreRefusal.TheVariants as refused
 use Rattle.cli_operands.specs.Asked.{IsFailureOfQuestion}
 use Rattle.cli_operands.specs.InOrder.{FailsFirst}
 use Rattle.cli_steps.specs.Commands.{IsAsked}
-use Rattle.cli_store.specs.Standing.{IsFaultNumber, IsFound, IsIntact, IsNotFound, IsUnanswered, Leaving, Seen, Standing}
+use Rattle.cli_store.specs.Standing.{IsFound, IsIntact, IsNotFound, IsUnanswered, Leaving, Seen, Standing}
 use Rattle.cli.specs.Host.{HostState}
 use Rattle.cli.specs.declared.at_path.StorePair.{StorePair}
 
@@ -77,20 +79,20 @@ pub record IsComparedBy (stands : Standing) (leaves : Leaving) (stores : StorePa
       IsIntact new → IsIntact other_new → (held others : Holdings) → IsStoreOf old.now held →
       IsStoreOf other_old.now others → IsComparison accepts query held others comparison
 
--- As long as both connections are open two stores hold what they held, and the fault with this number is not that one is no store.
-abbrev pub HaveKept : Seen → Seen → Seen → Seen → ℕ → Type 0
-HaveKept old new other_old other_new number =
+-- As long as both connections are open two stores hold what they held, and neither refuses for not being a store.
+abbrev pub HaveKept : Seen → Seen → Seen → Seen → StoreRefusal → Type 0
+HaveKept old new other_old other_new why =
     IsTrue new.is_open → IsTrue other_new.is_open → (held others : Holdings) →
     IsStoreOf old.now held → IsStoreOf other_old.now others →
-    IsStoreOf new.now held × IsStoreOf other_new.now others × (number ≢ 72)
+    IsStoreOf new.now held × IsStoreOf other_new.now others × (why ≢ refused.Schema)
 
 -- one of two stores that were opened so did not answer
 abbrev pub IsNoComparison : (Seen → Type 0) → (Seen → Type 0) → Seen → Seen → Failure → Type 0
 IsNoComparison leaves other_leaves old other_old failure =
     (failure ≡ NoMemory)
-    ⊎ ((number : ℕ) × (failure ≡ StoreFailed number) × IsFaultNumber number
+    ⊎ ((why : StoreRefusal) × (failure ≡ StoreFailed why)
     × ((new other_new : Seen) × leaves new × other_leaves other_new
-    × (IsIntact new → IsIntact other_new → HaveKept old new other_old other_new number)))
+    × (IsIntact new → IsIntact other_new → HaveKept old new other_old other_new why)))
 
 -- the stores at two paths were found, and one did not answer
 abbrev pub AreUnanswered : Standing → Leaving → StorePair → Failure → Type 0

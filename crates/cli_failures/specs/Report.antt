@@ -11,6 +11,8 @@ use Rattle.statements_parts.specs.declared.fault.StatementRule.{StatementRule}
 use Rattle.statements_parts.specs.declared.fault.StatementRule.TheVariants.{Der as OfDer, NotSuccessful}
 use Rattle.statements_parts.specs.declared.fault.StatementFault.{StatementFault}
 use Rattle.statements_parts.specs.declared.fault.StatementFault.TheVariants.{Refused as Breaks}
+use Rattle.cli_failures.specs.declared.failure.StoreRefusal.{StoreRefusal}
+use Rattle.cli_failures.specs.declared.failure.StoreRefusal.TheVariants as OfStore
 use Rattle.cli_failures.specs.declared.failure.Failure.{Failure}
 use Rattle.cli_failures.specs.declared.failure.Failure.TheVariants.{Refused, NoCertificate, NoRevocationList, NoResponse, NotGenuine, BadLine, BadTime, BadPurpose, BadTopic, Unreadable, Unwritable, StoreFailed, NoMemory, Shut, NoInput}
 
@@ -72,8 +74,13 @@ bad_line file line = file ++ line_words line
 abbrev pub unreadable_line : List ℕ → List ℕ
 unreadable_line file = codes "cannot read " ++ file ++ codes "\n"
 
-abbrev pub store_fault_line : ℕ → List ℕ
-store_fault_line number = codes "store fault " ++ decimal number ++ codes "\n"
+-- the number of the fault that a store which does not answer has
+abbrev pub store_refusal_number : StoreRefusal → ℕ
+store_refusal_number OfStore.Store = 71
+store_refusal_number OfStore.Schema = 72
+
+abbrev pub store_fault_line : StoreRefusal → List ℕ
+store_fault_line refusal = codes "store fault " ++ decimal (store_refusal_number refusal) ++ codes "\n"
 
 -- what failed, in a line
 abbrev pub told_line : Failure → List ℕ
@@ -91,7 +98,7 @@ told_line BadPurpose = codes "bad purpose\n"
 told_line BadTopic = codes "bad topic\n"
 told_line (Unreadable file) = unreadable_line file.now
 told_line Unwritable = codes "cannot write\n"
-told_line (StoreFailed number) = store_fault_line number
+told_line (StoreFailed refusal) = store_fault_line refusal
 told_line NoMemory = codes "no memory\n"
 told_line Shut = codes "store fault 71\n"
 told_line NoInput = codes "cannot read standard input\n"
@@ -108,7 +115,7 @@ topic_of (NoCertificate file rule at) = printed_number rule
 topic_of (NoRevocationList file rule at) = printed_statement_number rule
 topic_of (NoResponse file rule at) = printed_statement_number rule
 topic_of (NotGenuine file fault) = printed_fault_number fault
-topic_of (StoreFailed number) = number
+topic_of (StoreFailed refusal) = store_refusal_number refusal
 topic_of failure = 0
 
 -- the same behind the name of the program
@@ -128,7 +135,7 @@ exit_status BadPurpose = 5
 exit_status BadTopic = 5
 exit_status (Unreadable file) = 6
 exit_status Unwritable = 6
-exit_status (StoreFailed number) = 6
+exit_status (StoreFailed refusal) = 6
 exit_status NoMemory = 6
 exit_status Shut = 6
 exit_status NoInput = 6

@@ -1,7 +1,7 @@
 //! Why a run failed: the line on standard error and the exit status.
 ghost use Rattle.std.specs.Prelude.{◌≡◌, OnOk};
 ghost use Rattle.std.specs.Io.KnownBytes.{Appends};
-ghost use Rattle.cli_failures.specs.Report.{bad_line, line_words, place_text, printed_fault_number, printed_name, printed_number, printed_statement_name, printed_statement_number, refusal_line, report_line, response_line, statement_line, exit_status, store_fault_line, told_line, topic_of, unreadable_line, unsuccessful_line, unsuccessful_words};
+ghost use Rattle.cli_failures.specs.Report.{bad_line, line_words, place_text, printed_fault_number, printed_name, printed_number, printed_statement_name, printed_statement_number, refusal_line, report_line, response_line, statement_line, exit_status, store_fault_line, store_refusal_number, told_line, topic_of, unreadable_line, unsuccessful_line, unsuccessful_words};
 
 use asn::Fault;
 use cert::CertRule;
@@ -9,6 +9,27 @@ use cli_answers::{FAILED, MISTAKEN, REFUSED};
 use statements_parts::{StatementFault, StatementRule};
 use std::io;
 use std::io::Write;
+
+/// Why a store does not answer, whatever database it is in.
+#[derive(Clone, Copy, Debug, PartialEq, Eq)]
+pub enum StoreRefusal {
+    /// The database refused.
+    Store,
+    /// The tables are not those of a store.
+    Schema,
+}
+
+impl StoreRefusal {
+    /// The number of the fault, 71 or 72.
+    pub fn number(self) -> u8
+        ensures { result ≡ store_refusal_number self }
+    {
+        match self {
+            StoreRefusal::Store => 71,
+            StoreRefusal::Schema => 72,
+        }
+    }
+}
 
 /// Why a run failed, once its words were read.
 #[derive(Clone, Copy, Debug, PartialEq, Eq)]
@@ -58,9 +79,9 @@ pub enum Failure<'a> {
     },
     /// Standard output cannot be written.
     Unwritable,
-    /// The store answers the fault of this number.
+    /// The store does not answer.
     StoreFailed {
-        number: u8,
+        refusal: StoreRefusal,
     },
     /// There is not enough memory.
     NoMemory,
@@ -217,11 +238,11 @@ fn write_unreadable<W: Write>(file: &str, writer: &mut W) -> io::Result<()>
     writeln!(writer, "cannot read {file}")
 }
 
-fn write_store_failed<W: Write>(number: u8, writer: &mut W) -> io::Result<()>
+fn write_store_failed<W: Write>(refusal: StoreRefusal, writer: &mut W) -> io::Result<()>
     ensures { OnOk result (Appends (W.contents writer.old) (W.contents writer.new)
-        (store_fault_line number)) }
+        (store_fault_line refusal)) }
 {
-    writeln!(writer, "store fault {number}")
+    writeln!(writer, "store fault {}", refusal.number())
 }
 
 fn write_text<W: Write>(text: &str, writer: &mut W) -> io::Result<()>
@@ -263,7 +284,7 @@ impl<'a> Failure<'a> {
                 printed_statement_number(*rule)
             }
             Failure::NotGenuine { fault, .. } => printed_fault_number(*fault),
-            Failure::StoreFailed { number } => *number,
+            Failure::StoreFailed { refusal } => refusal.number(),
             _ => 0,
         }
     }
@@ -308,7 +329,7 @@ impl<'a> Failure<'a> {
             Failure::BadTopic => write_text("bad topic\n", writer),
             Failure::Unreadable { file } => write_unreadable(file, writer),
             Failure::Unwritable => write_text("cannot write\n", writer),
-            Failure::StoreFailed { number } => write_store_failed(*number, writer),
+            Failure::StoreFailed { refusal } => write_store_failed(*refusal, writer),
             Failure::NoMemory => write_text("no memory\n", writer),
             Failure::Shut => write_text("store fault 71\n", writer),
             Failure::NoInput => write_text("cannot read standard input\n", writer),

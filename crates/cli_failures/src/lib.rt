@@ -6,5 +6,5 @@ mod failure;
 mod files;
 
 pub use extent::Extent;
-pub use failure::Failure;
+pub use failure::{Failure, StoreRefusal};
 pub use files::{Source, read_certificate, read_facts, read_list, read_response};

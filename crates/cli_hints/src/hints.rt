@@ -1,7 +1,7 @@
 //! What to do about each failure.
 
 use crate::looking::{Found, is_in_use, look_at};
-use cli_failures::Failure;
+use cli_failures::{Failure, StoreRefusal};
 use cli_words::Line;
 use std::io;
 use std::io::Write;
@@ -177,7 +177,9 @@ pub fn hint_to<W: Write>(
         ),
         Failure::Unreadable { file } => hint_about_file(rt, file, writer),
         Failure::Unwritable => writeln!(writer, "standard output was closed, or its disk is full"),
-        Failure::StoreFailed { number: 72 } => hint_about_schema(writer),
+        Failure::StoreFailed {
+            refusal: StoreRefusal::Schema,
+        } => hint_about_schema(writer),
         Failure::StoreFailed { .. } | Failure::Shut => hint_about_stores(rt, line, writer),
         Failure::NoMemory => writeln!(writer, "free memory, or raise the limit of the process"),
         Failure::NoInput => writeln!(writer, "standard input could not be read to its end"),

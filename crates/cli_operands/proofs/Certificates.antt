@@ -75,7 +75,7 @@ among before value behind file Shut read fails = fails
 among before value behind file NoInput read fails = fails
 among before value behind file (Unreadable named) read fails = fails
 among before value behind file Unwritable read fails = fails
-among before value behind file (StoreFailed number) read fails = fails
+among before value behind file (StoreFailed why) read fails = fails
 among before value behind file NoMemory read fails = fails
 
 -- ---- what a file is that begins with values
@@ -139,7 +139,7 @@ module _ (holds : Holding) (octets file : List ℕ) (held : holds file (Some oct
   refused_among values stopped NoInput read fails = of_memory NoInput fails
   refused_among values stopped (Unreadable named) read fails = of_memory (Unreadable named) fails
   refused_among values stopped Unwritable read fails = of_memory Unwritable fails
-  refused_among values stopped (StoreFailed number) read fails = of_memory (StoreFailed number) fails
+  refused_among values stopped (StoreFailed why) read fails = of_memory (StoreFailed why) fails
   refused_among values stopped NoMemory read fails = of_memory NoMemory fails
 
   -- what stands behind certificates is no value
@@ -166,7 +166,7 @@ module _ (holds : Holding) (octets file : List ℕ) (held : holds file (Some oct
   told_behind values place rule at NoInput read are fails = of_memory NoInput fails
   told_behind values place rule at (Unreadable named) read are fails = of_memory (Unreadable named) fails
   told_behind values place rule at Unwritable read are fails = of_memory Unwritable fails
-  told_behind values place rule at (StoreFailed number) read are fails = of_memory (StoreFailed number) fails
+  told_behind values place rule at (StoreFailed why) read are fails = of_memory (StoreFailed why) fails
   told_behind values place rule at NoMemory read are fails = of_memory NoMemory fails
 
   -- nothing is there at all
@@ -204,5 +204,5 @@ module _ (holds : Holding) (octets file : List ℕ) (held : holds file (Some oct
   refused_behind values None NoInput read are fails = absurd fails
   refused_behind values None (Unreadable named) read are fails = absurd fails
   refused_behind values None Unwritable read are fails = absurd fails
-  refused_behind values None (StoreFailed number) read are fails = absurd fails
+  refused_behind values None (StoreFailed why) read are fails = absurd fails
   refused_behind values None NoMemory read are fails = absurd fails

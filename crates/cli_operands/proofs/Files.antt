@@ -89,7 +89,7 @@ unread_on holds file Shut fails = absurd fails
 unread_on holds file NoInput fails = absurd fails
 unread_on holds file (Unreadable named) fails = fails
 unread_on holds file Unwritable fails = absurd fails
-unread_on holds file (StoreFailed number) fails = absurd fails
+unread_on holds file (StoreFailed why) fails = absurd fails
 unread_on holds file NoMemory fails = tt
 
 pub unread_certificate : (holds : Holding) (file : List ℕ) (failure : Failure) → IsUnread holds file failure → IsNoCertificate holds file failure
@@ -106,7 +106,7 @@ unread_certificate holds file Shut fails = absurd fails
 unread_certificate holds file NoInput fails = absurd fails
 unread_certificate holds file (Unreadable named) fails = fails
 unread_certificate holds file Unwritable fails = absurd fails
-unread_certificate holds file (StoreFailed number) fails = absurd fails
+unread_certificate holds file (StoreFailed why) fails = absurd fails
 unread_certificate holds file NoMemory fails = tt
 
 pub no_certificate : (holds : Holding) (octets file : List ℕ) (failure : Failure) → holds file (Some octets) → IsNoCertificate (IsJust octets) file failure → IsNoCertificate holds file failure
@@ -123,7 +123,7 @@ no_certificate holds octets file Shut held fails = absurd fails
 no_certificate holds octets file NoInput held fails = absurd fails
 no_certificate holds octets file (Unreadable named) held (same, none) = absurd (let wrong : ⊥ = cc in wrong)
 no_certificate holds octets file Unwritable held fails = absurd fails
-no_certificate holds octets file (StoreFailed number) held fails = absurd fails
+no_certificate holds octets file (StoreFailed why) held fails = absurd fails
 no_certificate holds octets file NoMemory held fails = tt
 
 holds_certificates : (holds : Holding) (file : List ℕ) (it : PathFile) (certificates : List Certificate) → IsFileRead holds file it → AreCertificatesIn it certificates → HoldsCertificates holds file certificates

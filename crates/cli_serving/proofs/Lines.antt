@@ -2,10 +2,10 @@
 use Rattle.std.proofs.Common.{◌≡◌, ◌∙◌, ℕ, true, false, List, [], ◌∷◌, ◌++◌, Option, Some, None, inr, refl, sym, ap, subst, append-nil}
 use Rattle.std.specs.Io.KnownBytes.{Appends}
 use Rattle.std.proofs.KnownBytes.{Appends-trans}
-use Rattle.std.proofs.lemmas.Bool.{eqb-true}
 use Rattle.std.proofs.lemmas.Grind.{flat_map-append}
 use Rattle.cli_failures.specs.Failures.{Holding}
 use Rattle.cli_failures.specs.declared.failure.Failure.TheVariants.{Refused, NoCertificate, NoRevocationList, NoResponse, NotGenuine, BadLine as OtherLine, BadTime, BadPurpose, BadTopic, Unreadable, Unwritable, StoreFailed, NoMemory, Shut, NoInput}
+use Rattle.cli_failures.specs.declared.failure.StoreRefusal.TheVariants as OfStore
 use Rattle.cli_lines.specs.Lines.{GivesLine, IsLineRead}
 use Rattle.cli_lines.specs.declared.lines.LineRead.TheVariants.{TooLong}
 use Rattle.cli_steps.specs.AnswerText.{answer_text, failed_text}
@@ -42,8 +42,9 @@ not_so : false ≡ true → ⊥
 not_so is = cc
 
 -- what a refusal says
-refused : (answer : SessionAnswer) → is_refusal answer ≡ true → answer_text answer ≡ failed_text (StoreFailed 71)
-refused (Failed (StoreFailed number)) is = ap (λ (it : ℕ). failed_text (StoreFailed it)) (eqb-true number 71 is)
+refused : (answer : SessionAnswer) → is_refusal answer ≡ true → answer_text answer ≡ failed_text (StoreFailed OfStore.Store)
+refused (Failed (StoreFailed OfStore.Store)) is = refl
+refused (Failed (StoreFailed OfStore.Schema)) is = absurd (not_so is)
 refused (Failed (Refused file fault)) is = absurd (not_so is)
 refused (Failed (NoCertificate file rule at)) is = absurd (not_so is)
 refused (Failed (NoRevocationList file rule at)) is = absurd (not_so is)

@@ -4,6 +4,7 @@ use Rattle.std.specs.List.{AllByRecursion, flat_map}
 use Rattle.std.specs.Io.KnownBytes.{Appends, Consumes, IsAtEnd}
 use Rattle.cli_failures.specs.Failures.{Holding}
 use Rattle.cli_failures.specs.declared.failure.Failure.TheVariants.{NoMemory, StoreFailed}
+use Rattle.cli_failures.specs.declared.failure.StoreRefusal.TheVariants as OfStore
 use Rattle.cli_lines.specs.Lines.{GivesLine}
 use Rattle.cli_requests.specs.Requests.{Request, request_on}
 use Rattle.cli_session.specs.Held.{holding_of}
@@ -69,7 +70,7 @@ is_end answer = false
 
 -- whether the keeper of the statements refused
 abbrev pub is_refusal : SessionAnswer → Bool
-is_refusal (Failed (StoreFailed number)) = number == 71
+is_refusal (Failed (StoreFailed OfStore.Store)) = true
 is_refusal answer = false
 
 -- the session goes on after these answers
@@ -123,7 +124,7 @@ pub record HasShut (holds : Holding) (input source output written : Option (List
   pub served : HasServed holds input middle output said Before
   pub line : List ℕ
   pub read : GivesLine middle source line
-  pub refused : Appends said written (failed_text (StoreFailed 71))
+  pub refused : Appends said written (failed_text (StoreFailed OfStore.Store))
 
 -- How a session ended. What is known of its party in the end, and what was known at a moment before.
 abbrev pub SessionHasEnded : Holding → Option (List ℕ) → Option (List ℕ) → Option (List ℕ) → Option (List ℕ) → Known → Known → End → Type 0

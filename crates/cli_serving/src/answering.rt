@@ -8,14 +8,12 @@ ghost use Rattle.cli_steps.specs.Ways.{MovesParty};
 ghost use Rattle.cli_serving.specs.Serving.{IsFollowedBy, IsAnswerWithin, WritesAnswer, is_end, is_refusal};
 
 use crate::ending::End;
-use cli_failures::{Failure, Source};
+use cli_failures::{Failure, Source, StoreRefusal};
 use cli_requests::{RequestFault, request_of};
 use cli_steps::{Keeper, Party, SessionAnswer, step};
 use std::alloc::Global;
 use std::io;
 use std::io::Write;
-
-const REFUSED: u8 = 71;
 
 // Whether the session ends with the answer.
 fn is_end(answer: &SessionAnswer<'_>) -> bool
@@ -32,7 +30,9 @@ fn is_refusal(answer: &SessionAnswer<'_>) -> bool
     ensures { result ≡ is_refusal answer.now }
 {
     match answer {
-        SessionAnswer::Failed(Failure::StoreFailed { number }) => *number == REFUSED,
+        SessionAnswer::Failed(Failure::StoreFailed {
+            refusal: StoreRefusal::Store,
+        }) => true,
         _ => false,
     }
 }

@@ -9,6 +9,7 @@ use Rattle.statements_facts.specs.Statement.{Holdings}
 use Rattle.statements_facts.specs.declared.counts.Counts.{Counts}
 use Rattle.cli_failures.specs.declared.failure.Failure.{Failure}
 use Rattle.cli_failures.specs.declared.failure.Failure.TheVariants.{NoMemory, StoreFailed}
+use Rattle.cli_failures.specs.declared.failure.StoreRefusal.TheVariants as OfStore
 
 -- What is kept: what is held, and what may be found behind a crash at this moment, which is one of these.
 pub record Kept : Type 0 where
@@ -34,7 +35,7 @@ Keeps old new = (kept : Kept) → old kept → new kept
 
 -- the keeper did not answer: memory ran out, or it refused
 abbrev pub IsNotKept : Failure → Type 0
-IsNotKept failure = (failure ≡ NoMemory) ⊎ (failure ≡ StoreFailed 71)
+IsNotKept failure = (failure ≡ NoMemory) ⊎ (failure ≡ StoreFailed OfStore.Store)
 
 -- all facts were taken, and counted so; or none was
 abbrev pub Takes : Keeping → Keeping → List Fact → Result Counts Failure → Type 0

@@ -13,6 +13,8 @@ use Rattle.store.specs.declared.handle.Store as handle
 use Rattle.store_sql.specs.declared.fault.StoreFault.TheVariants.{Store, Schema, Memory}
 use Rattle.relying_verdicts.specs.declared.fault.Fault.{Fault}
 use Rattle.relying_verdicts.specs.declared.fault.Fault.TheVariants.{Store as OfStore, Memory as WithoutMemory}
+use Rattle.cli_failures.specs.declared.failure.StoreRefusal.{StoreRefusal}
+use Rattle.cli_failures.specs.declared.failure.StoreRefusal.TheVariants as refused
 use Rattle.cli_failures.specs.declared.failure.Failure.{Failure}
 use Rattle.cli_failures.specs.declared.failure.Failure.TheVariants.{Unreadable, StoreFailed, NoMemory}
 
@@ -34,12 +36,11 @@ seen_in store = seen_of (file_state store.conn)
 abbrev pub IsIntact : Seen → Type 0
 IsIntact seen = doubt seen.is_clean ≡ 0
 
--- What is met where the store of a path is looked for: a connection to its database, no file that can be read, or the number of a fault
--- of the store.
+-- What is met where the store of a path is looked for: a connection to its database, no file that can be read, or a store that refuses.
 pub data Met : Type 0 where
   database : Seen → Met
   nothing : Met
-  refusal : ℕ → Met
+  refusal : StoreRefusal → Met
 
 -- what stands at paths: a relation of a path and of what is met there
 abbrev pub Standing : Type 1
@@ -72,18 +73,14 @@ IsFoundOrMade stands path old = IsFound stands path old ⊎ IsMade stands path o
 
 -- what a fault of a store or of a party is for a run
 abbrev pub told_of : Fault → Failure
-told_of (OfStore Store) = StoreFailed 71
-told_of (OfStore Schema) = StoreFailed 72
+told_of (OfStore Store) = StoreFailed refused.Store
+told_of (OfStore Schema) = StoreFailed refused.Schema
 told_of (OfStore Memory) = NoMemory
 told_of WithoutMemory = NoMemory
 
--- the database refused, or its tables are not those of a store
-abbrev pub IsFaultNumber : ℕ → Type 0
-IsFaultNumber number = (number ≡ 71) ⊎ (number ≡ 72)
-
--- No store was opened or made: a fault with that number was met at the path, or memory ran out.
+-- No store was opened or made: that was met at the path, or memory ran out.
 abbrev pub MakesNoStore : Standing → List ℕ → Failure → Type 0
-MakesNoStore stands path (StoreFailed number) = IsFaultNumber number × stands path (refusal number)
+MakesNoStore stands path (StoreFailed why) = stands path (refusal why)
 MakesNoStore stands path NoMemory = Unit {0}
 MakesNoStore stands path _ = ⊥
 
@@ -94,18 +91,18 @@ IsNotFound stands path failure = MakesNoStore stands path failure
 
 -- ---- no answer
 
--- As long as the connection is open a store holds what it held, and the fault with this number is not that it is no store.
-abbrev pub HasKept : Seen → Seen → ℕ → Type 0
-HasKept old new number =
+-- As long as the connection is open a store holds what it held, and it does not refuse for not being a store.
+abbrev pub HasKept : Seen → Seen → StoreRefusal → Type 0
+HasKept old new why =
     IsTrue new.is_open → (held : Holdings) → IsStoreOf old.now held →
-    IsStoreOf new.now held × (number ≢ 72)
+    IsStoreOf new.now held × (why ≢ refused.Schema)
 
--- A store that was opened so did not answer: memory ran out; or it was left with that fault, and nothing was taken.
+-- A store that was opened so did not answer: memory ran out; or it refused and was left, and nothing was taken.
 abbrev pub IsNoAnswer : (Seen → Type 0) → Seen → Failure → Type 0
 IsNoAnswer leaves old failure =
     (failure ≡ NoMemory)
-    ⊎ ((number : ℕ) × (failure ≡ StoreFailed number) × IsFaultNumber number
-    × ((new : Seen) × leaves new × (IsIntact new → HasKept old new number)))
+    ⊎ ((why : StoreRefusal) × (failure ≡ StoreFailed why)
+    × ((new : Seen) × leaves new × (IsIntact new → HasKept old new why)))
 
 -- a store that was found so did not answer
 abbrev pub IsUnanswered : (Seen → Type 0) → (Seen → Type 0) → Failure → Type 0

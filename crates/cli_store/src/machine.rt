@@ -1,7 +1,7 @@
 //! The machine on which a run takes place: its files, and its stores, for which a run waits if another process has them open.
 
 use crate::stores::Stores;
-use cli_failures::{Extent, Failure, Source};
+use cli_failures::{Extent, Failure, Source, StoreRefusal};
 use cli_hints::is_in_use;
 use sqlite_std_file::File;
 use std::thread;
@@ -26,7 +26,9 @@ const TRIES_ONCE_CLOSED: u32 = 4;
 
 fn is_refused(opened: &Result<Store<File>, Failure<'_>>) -> bool {
     match opened {
-        Err(Failure::StoreFailed { number: 71 }) => true,
+        Err(Failure::StoreFailed {
+            refusal: StoreRefusal::Store,
+        }) => true,
         _ => false,
     }
 }

@@ -8,7 +8,7 @@ ghost use Rattle.store_adoption.specs.Inspects.{IsStore};
 ghost use Rattle.store_sql.specs.Statements.{IsDurable};
 ghost use Rattle.cli_store.specs.Standing.{IsFound, IsFoundOrMade, IsNotFound, MakesNoStore, seen_of, told_of};
 
-use cli_failures::Failure;
+use cli_failures::{Failure, StoreRefusal};
 use relying::Fault;
 use sqlite::{Connection, FileStore};
 use sqlite_disk::Disk;
@@ -66,7 +66,7 @@ pub trait Stores<T: Connected> {
         ensures leaves { leaves self.now path.now (seen_of (T.state store)) };
 }
 
-/// What a fault of a store or of a party is for a run: a store that does not answer fails with the number of its fault.
+/// What a fault of a store or of a party is for a run.
 pub fn failed<'a>(fault: Fault) -> Failure<'a>
     ensures { result ≡ told_of fault }
 {
@@ -75,8 +75,11 @@ pub fn failed<'a>(fault: Fault) -> Failure<'a>
     };
     match fault {
         StoreFault::Memory => Failure::NoMemory,
-        StoreFault::Store | StoreFault::Schema => Failure::StoreFailed {
-            number: fault.number(),
+        StoreFault::Store => Failure::StoreFailed {
+            refusal: StoreRefusal::Store,
+        },
+        StoreFault::Schema => Failure::StoreFailed {
+            refusal: StoreRefusal::Schema,
         },
     }
 }

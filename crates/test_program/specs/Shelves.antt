@@ -6,6 +6,7 @@ use Rattle.statements_facts.specs.Statement.{Holdings, empty_holdings}
 use Rattle.statements_facts.specs.declared.fact.Facts.{Facts}
 use Rattle.store_maps.specs.Held.{IsStoreOf}
 use Rattle.cli.specs.Failures.{Holding}
+use Rattle.cli_failures.specs.declared.failure.StoreRefusal.TheVariants as refused
 use Rattle.cli_store.specs.Standing.{IsIntact, Leaving, Standing, database, nothing, refusal}
 use Rattle.test_program.specs.declared.shelf.Kept.{Kept}
 use Rattle.test_program.specs.declared.shelf.Text.{Text}
@@ -32,13 +33,13 @@ after_these held [] = held
 after_these held (facts ∷ others) = after_these (after_all held (facts_in facts)) others
 
 -- What stands at paths: a store that holds what the statements of the path say, on a disk that returned what was written; or none, as no
--- statements are kept there. Its disk may stop, or lack memory, which is its fault 71.
+-- statements are kept there. Its disk may stop, or lack memory, and refuses then.
 abbrev pub standing_on : List Kept → Standing
 standing_on stores path (database seen) =
     (statements : List Facts) × (statements_at stores path ≡ Some statements)
     × IsStoreOf seen.now (after_these empty_holdings statements) × IsIntact seen
 standing_on stores path nothing = statements_at stores path ≡ None
-standing_on stores path (refusal number) = number ≡ 71
+standing_on stores path (refusal why) = why ≡ refused.Store
 
 -- how stores are left: their disk has returned what was written
 abbrev pub leaving : Leaving

@@ -1,6 +1,6 @@
 //! A keeper that answers as it was told, files that are not there, and sessions over both.
 
-use cli_failures::{Extent, Failure, Source};
+use cli_failures::{Extent, Failure, Source, StoreRefusal};
 use cli_serving::{End, serve};
 use cli_session::Believed;
 use cli_steps::{Keeper, Party};
@@ -20,7 +20,9 @@ pub struct Told {
 }
 
 /// What a store answers that refuses.
-const REFUSAL: Failure<'static> = Failure::StoreFailed { number: 71 };
+const REFUSAL: Failure<'static> = Failure::StoreFailed {
+    refusal: StoreRefusal::Store,
+};
 
 impl Keeper for Told {
     ghost use Rattle.std.specs.Prelude.{⊤};

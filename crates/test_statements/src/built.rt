@@ -207,7 +207,7 @@ fn says_the_extensions(rt: HostRuntime) -> Result<(), Fail> {
 #[test]
 fn signs_anew(rt: HostRuntime) -> Result<(), Fail> {
     let alloc = rt.alloc();
-    let Tree::Constructed(_, members) = tree(alloc, "ee(T,R)")? else {
+    let Tree::Constructed(_, members) = tree_of(alloc, "ee(T,R)")? else {
         return Err(Fail::from("a SEQUENCE"));
     };
     let mut members = members;
