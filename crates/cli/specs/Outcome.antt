@@ -22,7 +22,7 @@ use Rattle.cli.specs.Host.{HostState}
 use Rattle.cli.specs.Listed.{FailsToList, IsListed, given}
 use Rattle.cli.specs.Session.{IsFailureOfSession, IsSessionText}
 use Rattle.cli_answers.specs.Status.{comparison_status, verdict_status}
-use Rattle.cli_showing.specs.Shown.{ArePrintsUnder, HoldUnder, HoldsKind, HoldsValue, IsFailureOfPrints, IsNotShown, IsShownText, IsTreeText}
+use Rattle.cli_showing.specs.Shown.{ArePrintsUnder, FailsToPrint, HoldsKind, HoldsValue, IsNotShown, IsShownText, IsTreeText}
 
 -- ---- answers
 
@@ -92,8 +92,7 @@ IsLineFailure host (Tree file) =
 IsLineFailure host (Show kind with_details file) =
     OrUnwritable (IsNotShown host.holds kind file.now) (HoldsKind host.holds kind file.now)
 IsLineFailure host (Prints issuer kind with_parts file) =
-    OrUnwritable (IsFailureOfPrints host.holds issuer.now kind file.now)
-    (HoldUnder host.holds issuer.now kind file.now)
+    FailsToPrint host.holds issuer.now kind file.now
 IsLineFailure host (Deliver store verdicts issuer file) =
     FailsToDeliver host
     (record { store = store; verdicts = verdicts; issuer = issuer; file = file })

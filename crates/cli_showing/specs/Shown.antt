@@ -89,3 +89,8 @@ IsFailureOfPrints holds issuer kind file failure =
     IsNoCertificate holds issuer failure
     ⊎ ((signer : Fields) × HoldsCertificate holds issuer signer
     × IsNotShown holds kind file failure)
+
+-- or both files hold what they are to hold, and the writer failed
+abbrev pub FailsToPrint : Holding → List ℕ → Kind → List ℕ → Failure → Type 0
+FailsToPrint holds issuer kind file =
+    OrUnwritable (IsFailureOfPrints holds issuer kind file) (HoldUnder holds issuer kind file)

@@ -12,7 +12,7 @@ ghost use Rattle.cli_printing.specs.ResponseText.{response_text};
 ghost use Rattle.cli_failures.specs.declared.failure.Failure.TheVariants.{NoMemory, Unwritable};
 ghost use Rattle.cli_failures.specs.Failures.{IsJust, IsNoCertificate, IsNoList, IsNoResponse, IsNoValue, OrUnwritable};
 ghost use Rattle.cli_failures.specs.Report.{UnlessLate, WritesText};
-ghost use Rattle.cli_showing.specs.Shown.{ArePrintLines, ArePrintsUnder, HoldUnder, HoldsKind, HoldsValue, IsFailureOfPrints, IsNotShown, IsShownText, IsTreeText, IsWithDetails};
+ghost use Rattle.cli_showing.specs.Shown.{ArePrintLines, ArePrintsUnder, FailsToPrint, HoldsKind, HoldsValue, IsNotShown, IsShownText, IsTreeText, IsWithDetails};
 
 use cert::{Certificate, SubjectPublicKeyInfo};
 use cli_details::{certificate_details, list_details, response_details};
@@ -201,9 +201,7 @@ pub fn prints<'a, S: Source, O: Write>(
         file.entry.now)
         (O.contents out.old) (O.contents out.new)) }
     ensures fails { IfErr result
-        (OrUnwritable
-        (IsFailureOfPrints (S.holds source.now) issuer.entry.now kind file.entry.now)
-        (HoldUnder (S.holds source.now) issuer.entry.now kind file.entry.now)) }
+        (FailsToPrint (S.holds source.now) issuer.entry.now kind file.entry.now) }
     ensures quiet { IfErr result (λ failure. UnlessLate failure (out.new ≡ out.old)) }
 {
     let octets = source.octets_of(issuer, Extent::Value)?;

@@ -3,11 +3,10 @@
 ghost use Rattle.std.specs.Prelude.{◌≡◌, false};
 ghost use Rattle.sqlite.specs.Held.{state};
 ghost use Rattle.sqlite.specs.Files.{file_state};
-ghost use Rattle.sqlite.specs.State.{HasCleanDisk};
 ghost use Rattle.store_sql.specs.Statements.{IsDurable, CommitsNothing};
 ghost use Rattle.relying_agreement.specs.Comparison.{IsComparison};
 ghost use Rattle.relying.specs.Asking.{AreSettled, BothAnswerOnlyIfOpen, LooksAtBoth, LooksAtBothForCause, LooksInsideBoth};
-ghost use Rattle.relying.specs.Never.{NeverDiffer};
+ghost use Rattle.relying.specs.Never.{NeverDifferIfClean};
 ghost use Rattle.relying.specs.View.{stored};
 ghost use Rattle.path.specs.Reading.{seen_query};
 
@@ -132,9 +131,8 @@ pub fn compare<V: Verifier + Drop, D: Disk + Drop>(
     ensures open { BothAnswerOnlyIfOpen (V.accepts one.old.verifier) (seen_query query.now)
         (stored one.old) (stored one.new)
         (stored other.old) (stored other.new) result }
-    ensures never { HasCleanDisk (stored one.new) → HasCleanDisk (stored other.new)
-        → NeverDiffer (V.accepts one.old.verifier) (seen_query query.now)
-        (stored one.old) (stored other.old) result }
+    ensures never { NeverDifferIfClean (V.accepts one.old.verifier) (seen_query query.now)
+        (stored one.old) (stored one.new) (stored other.old) (stored other.new) result }
     ensures durable { IsDurable (stored one.new) }
     ensures other_durable { IsDurable (stored other.new) }
     ensures survives { CommitsNothing (stored one.old) (stored one.new) }

@@ -26,8 +26,10 @@ use store_sql::StoreFault;
 
 /// A relying party: a verifier of signatures, and a store of the newest statements.
 pub struct Node<V: Verifier, D: Disk> {
-    pub(crate) verifier: V,
-    pub(crate) store: Store<D>,
+    /// What judges signatures.
+    pub verifier: V,
+    /// What is held.
+    pub store: Store<D>,
 }
 
 impl<V: Verifier + Drop, D: Disk + Drop> Drop for Node<V, D> {

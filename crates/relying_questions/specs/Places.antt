@@ -74,6 +74,12 @@ pub record WasStatementRead (octets : List ℕ) (read : Statement) : Type 0 wher
 abbrev pub WereStatementsRead : List (List ℕ) → List Statement → Type 0
 WereStatementsRead octets statements = AllZip WasStatementRead octets statements
 
+-- If certificates and statements were read from octets, each part stands in its text, at its offset.
+abbrev pub StandWhereRead : Query → List Statement → List asked.SignatureQuestion → Type 0
+StandWhereRead query statements asked =
+    (octets : List (List ℕ)) → WereRead query → WereStatementsRead octets statements →
+    AllInTexts (texts_in query octets) asked
+
 -- ---- what is signed
 
 -- the place stands in the text

@@ -1,11 +1,11 @@
 //! What a verifier may be asked about a path and statements.
 
-ghost use Rattle.std.specs.Prelude.{◌≡◌, ℕ, List, IfOk, map};
+ghost use Rattle.std.specs.Prelude.{◌≡◌, IfOk, map};
 ghost use Rattle.path.specs.Reading.{seen_query};
 ghost use Rattle.statements.specs.Statement.{seen_statement};
 ghost use Rattle.relying_evidence.specs.View.{seen_link};
 ghost use Rattle.relying_questions.specs.Agreement.{DecideVerdict};
-ghost use Rattle.relying_questions.specs.Places.{AllInTexts, IsPlaced, KeepsInTexts, LinkStands, LinksStand, StatementStands, StatementsStand, Texts, WereRead, WereStatementsRead, placed_certificate, statement_text, texts_in};
+ghost use Rattle.relying_questions.specs.Places.{IsPlaced, KeepsInTexts, LinkStands, LinksStand, StandWhereRead, StatementStands, StatementsStand, Texts, placed_certificate, statement_text};
 ghost use Rattle.relying_questions.specs.Questions.{asked_of_statement, asked_of_statements, questions_of};
 ghost use Rattle.relying_questions.specs.Seen.{Adds, asked_of_links, certificate_of, issuer_of_link, issuers_of_links, seen_all};
 
@@ -120,11 +120,8 @@ pub fn questions<'a>(
         ≡ questions_of (seen_query query.now) (map seen_statement statements.now)) }
     ensures decide { IfOk result (λ asked. DecideVerdict (seen_all asked.items)
         (seen_query query.now) (map seen_statement statements.now)) }
-    // If certificates and statements were read from octets, each part stands in its text, at its offset.
-    ensures places { IfOk result (λ asked. (octets : List (List ℕ))
-        → WereRead (seen_query query.now)
-        → WereStatementsRead octets (map seen_statement statements.now)
-        → AllInTexts (texts_in (seen_query query.now) octets) asked.items) }
+    ensures places { IfOk result (λ asked.
+        StandWhereRead (seen_query query.now) (map seen_statement statements.now) asked.items) }
 {
     statement_laws();
     let links = links_of(alloc, &query.anchor, query.path.as_slice())?;

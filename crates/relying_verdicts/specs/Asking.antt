@@ -1,5 +1,5 @@
 -- What a call does that looks up in stores, inside their transactions, and may also want memory.
-use Rattle.std.specs.Prelude.{◌≡◌, ◌⊎◌, ⊤, Bool, Result, Ok, Err, IfErr, IsTrue}
+use Rattle.std.specs.Prelude.{◌≡◌, ◌⊎◌, ⊤, Bool, Result, Ok, Err, IfErr, IfOk, IsTrue}
 use Rattle.sqlite.specs.State.{State, HasCleanDisk, KeepsCommit}
 use Rattle.sqlite.specs.declared.transaction.Transaction.{Transaction}
 use Rattle.sqlite_trees.specs.declared.store.Store.{Ghosts}
@@ -96,6 +96,12 @@ abbrev pub AreInvalidOrOpen : Accepts → Query → Bool → Bool → Comparison
 AreInvalidOrOpen accepts query is_open other_is_open (Same verdict) =
     IsInvalidOrOpen accepts query is_open verdict × IsInvalidOrOpen accepts query other_is_open verdict
 AreInvalidOrOpen accepts query is_open other_is_open (Differ verdict others j) = IsTrue is_open × IsTrue other_is_open
+
+-- the same of a comparison inside two transactions, if the disks returned what was written
+abbrev pub BothAreInvalidOrOpen : {S D : Type 0} → Ghosts S → Transaction S → Transaction S → Ghosts D → Transaction D → Transaction D → Accepts → Query → Result Comparison Fault → Type 0
+BothAreInvalidOrOpen g old new h other_old other_new accepts query result =
+    HasCleanDisk (inside g new) → HasCleanDisk (inside h other_new) →
+    IfOk result (AreInvalidOrOpen accepts query (inside g old).is_open (inside h other_old).is_open)
 
 -- the stores were asked, and the verdict is theirs
 abbrev pub IsNotInvalid : Verdict → Type 0

@@ -6,7 +6,7 @@ ghost use Rattle.statements_facts.specs.Answer.{seen_crl, seen_ocsp};
 ghost use Rattle.store_sql.specs.Inside.{IsInTransaction, KeepsReference, inside};
 ghost use Rattle.store_sql.specs.Statements.{CommitsNothing};
 ghost use Rattle.relying_agreement.specs.Comparison.{IsComparison};
-ghost use Rattle.relying_verdicts.specs.Asking.{AreAskedOpen, AreInvalidOrOpen, AsksStores, AsksBothForCause};
+ghost use Rattle.relying_verdicts.specs.Asking.{AreAskedOpen, AsksStores, AsksBothForCause, BothAreInvalidOrOpen};
 ghost use Rattle.relying_verdicts.specs.Difference.{ComparesEvidence, IsFirstApart};
 ghost use Rattle.relying_verdicts.specs.Found.{ComparesHeld};
 ghost use Rattle.relying_evidence.specs.View.{seen_answers, seen_evidence};
@@ -160,9 +160,8 @@ pub fn compare<V: Verifier, S: Alter, D: Alter>(
     ensures asks { AsksStores S.Store one.old one.new D.Store other.old other.new
         (IsComparison (V.accepts verifier.now) (seen_query query.now)) result }
     ensures caused { AsksBothForCause S.Store one.old one.new D.Store other.old other.new result }
-    ensures open { HasCleanDisk (inside S.Store one.new) → HasCleanDisk (inside D.Store other.new)
-        → IfOk result (AreInvalidOrOpen (V.accepts verifier.now) (seen_query query.now)
-        (inside S.Store one.old).is_open (inside D.Store other.old).is_open) }
+    ensures open { BothAreInvalidOrOpen S.Store one.old one.new D.Store other.old other.new
+        (V.accepts verifier.now) (seen_query query.now) result }
     ensures survives { CommitsNothing (inside S.Store one.old) (inside S.Store one.new) }
     ensures other_survives { CommitsNothing (inside D.Store other.old) (inside D.Store other.new) }
 {

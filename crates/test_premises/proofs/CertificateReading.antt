@@ -13,9 +13,9 @@ use Rattle.cert.specs.AlgorithmIdentifier.{AlgorithmIdentifier}
 use Rattle.cert.specs.SubjectPublicKeyInfo.{SubjectPublicKeyInfo}
 use Rattle.cert.specs.Extensions.{no_extensions}
 use Rattle.cert.specs.Certificate.{Certificate, certificate}
-use Rattle.relying_examples.specs.Octets.{anchor_der, anchor_tbs, anchor_signature, target_der, target_tbs, target_signature, name_r, name_t, algorithm, key_r, key_t}
-use Rattle.relying_examples.proofs.OnLiterals.{on_literals}
-use Rattle.relying_examples.proofs.Trees.{anchor_whole, target_whole, ca_octets, ca_whole}
+use Rattle.test_premises.specs.Octets.{anchor_der, anchor_tbs, anchor_signature, target_der, target_tbs, target_signature, name_r, name_t, algorithm, key_r, key_t}
+use Rattle.test_premises.proofs.OnLiterals.{on_literals}
+use Rattle.test_premises.proofs.Trees.{anchor_whole, target_whole, ca_octets, ca_whole}
 
 -- a name of one common name, in small letters
 abbrev pub rdns : ℕ → List RdnMap

@@ -5,9 +5,9 @@ use Rattle.path.specs.declared.reason.Reason.TheVariants.{Repeated, Signature, N
 use Rattle.path.specs.Query.{Query}
 use Rattle.path.specs.Conditions.{MeetsConditions}
 use Rattle.path.specs.Validity.{IsServed, IsOutcome}
-use Rattle.relying_examples.specs.Premises.{accepts_toys}
-use Rattle.relying_examples.proofs.OnLiterals.{on_literals}
-use Rattle.relying_examples.proofs.CertificateReading.{root, leaf}
+use Rattle.test_premises.specs.Premises.{accepts_toys}
+use Rattle.test_premises.proofs.OnLiterals.{on_literals}
+use Rattle.test_premises.proofs.CertificateReading.{root, leaf}
 
 abbrev pub query : Query
 query = record { anchor = root; certificates = leaf ∷ []; moment = pos 1749945600; purpose = None }

@@ -23,11 +23,11 @@ use Rattle.statements.specs.CrlFact.{of_issuer}
 use Rattle.statements.specs.Responder.{key_hash, signs_itself}
 use Rattle.statements.specs.Statement.{Statement, statement, genuine_statement}
 use Rattle.relying_agreement.specs.Run.{facts_or_none, facts_under, genuine_facts}
-use Rattle.relying_examples.specs.Octets.{octets, anchor_der, name_r, algorithm, key_r, list_1, list_2, response_der, basic_response_der}
-use Rattle.relying_examples.specs.Premises.{accepts_toys}
-use Rattle.relying_examples.proofs.OnLiterals.{on_literals}
-use Rattle.relying_examples.proofs.Trees.{list_1_whole, list_2_whole, response_whole, basic_whole}
-use Rattle.relying_examples.proofs.CertificateReading.{rdns, name_at, algorithm_at, root, root_is_read}
+use Rattle.test_premises.specs.Octets.{octets, anchor_der, name_r, algorithm, key_r, list_1, list_2, response_der, basic_response_der}
+use Rattle.test_premises.specs.Premises.{accepts_toys}
+use Rattle.test_premises.proofs.OnLiterals.{on_literals}
+use Rattle.test_premises.proofs.Trees.{list_1_whole, list_2_whole, response_whole, basic_whole}
+use Rattle.test_premises.proofs.CertificateReading.{rdns, name_at, algorithm_at, root, root_is_read}
 
 -- ---- the facts
 

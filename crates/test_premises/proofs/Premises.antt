@@ -13,12 +13,12 @@ use Rattle.relying_agreement.specs.Link.{Link, crl_slot_for, ocsp_slot_for}
 use Rattle.relying_agreement.specs.Verdict.{IsVerdict, verdict_of}
 use Rattle.relying_agreement.specs.Run.{genuine_facts, Party}
 use Rattle.relying_agreement.specs.Agreement.{HoldSameNewest, IssuersAreConsistent}
-use Rattle.relying_examples.specs.Octets.{name_r}
-use Rattle.relying_examples.specs.Premises.{accepts_toys, AllPremisesHoldOfOctets}
-use Rattle.relying_examples.proofs.CertificateReading.{root, leaf, root_is_read, leaf_is_read}
-use Rattle.relying_examples.proofs.StatementReading.{crl, good, list_1_gives, list_2_gives, response_gives}
-use Rattle.relying_examples.proofs.PathMeetsConditions.{query, path_is_valid}
-use Rattle.relying_examples.proofs.Parties.{one, other, one_takes, other_takes, newest, all_consistent, own_consistent, responses_consistent, Holds, one_holds, other_holds}
+use Rattle.test_premises.specs.Octets.{name_r}
+use Rattle.test_premises.specs.Premises.{accepts_toys, AllPremisesHoldOfOctets}
+use Rattle.test_premises.proofs.CertificateReading.{root, leaf, root_is_read, leaf_is_read}
+use Rattle.test_premises.proofs.StatementReading.{crl, good, list_1_gives, list_2_gives, response_gives}
+use Rattle.test_premises.proofs.PathMeetsConditions.{query, path_is_valid}
+use Rattle.test_premises.proofs.Parties.{one, other, one_takes, other_takes, newest, all_consistent, own_consistent, responses_consistent, Holds, one_holds, other_holds}
 
 abbrev issuer : IssuerIdentity
 issuer = identity_of root

@@ -9,7 +9,7 @@ use Rattle.relying_agreement.specs.declared.verdict.Verdict.TheVariants.{Valid}
 use Rattle.relying_agreement.specs.Verdict.{IsVerdict}
 use Rattle.relying_agreement.specs.Run.{Event, DeliveryAnswer, Party, genuine_facts, HasRun}
 use Rattle.relying_agreement.specs.Agreement.{HoldSameNewest, IssuersAreConsistent}
-use Rattle.relying_examples.specs.Octets.{anchor_der, target_der, list_1, list_2, response_der}
+use Rattle.test_premises.specs.Octets.{anchor_der, target_der, list_1, list_2, response_der}
 
 -- the signatures are the digests of the key and the message
 abbrev pub accepts_toys : Accepts

@@ -3,8 +3,8 @@ use Rattle.std.proofs.Common.{ℕ, List, [], ◌∷◌, codes, drop, refl}
 use Rattle.asn.specs.Part.{IsWhole}
 use Rattle.asn.specs.Value.{Value, Values, primitive, constructed, none, more}
 use Rattle.asn.proofs.Laws.{encodes}
-use Rattle.relying_examples.specs.Octets.{octets, anchor_der, anchor_signature, target_der, target_signature, list_1, list_2, response_der, basic_response_der}
-use Rattle.relying_examples.proofs.Encodable.{encodable_if}
+use Rattle.test_premises.specs.Octets.{octets, anchor_der, anchor_signature, target_der, target_signature, list_1, list_2, response_der, basic_response_der}
+use Rattle.test_premises.proofs.Encodable.{encodable_if}
 
 abbrev values : List Value → Values
 values [] = none

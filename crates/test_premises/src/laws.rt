@@ -1,6 +1,6 @@
 //! Laws of examples.
 
-ghost use Rattle.relying_examples.specs.Premises.{AllPremisesHoldOfOctets};
+ghost use Rattle.test_premises.specs.Premises.{AllPremisesHoldOfOctets};
 
 /// All premises of agreement hold of two relying parties that the octets of two lists and a response reach in different ways, and both
 /// find the path valid.

@@ -9,9 +9,9 @@ use Rattle.statements_facts.specs.Fact.{Fact}
 use Rattle.statements_facts.specs.Statement.{IssuerIdentity, CrlSlot, CrlFact, OcspSlot, OcspFact, Holdings, same_issuer, empty_holdings}
 use Rattle.relying_agreement.specs.Run.{FactsOf, Party, PartyHoldsNewest, facts_taken, after_taking, crls_seen, responses_seen}
 use Rattle.relying_agreement.specs.Agreement.{CrlsAreConsistent, ResponsesAreConsistent}
-use Rattle.relying_examples.specs.Octets.{anchor_der, list_1, list_2, response_der}
-use Rattle.relying_examples.specs.Premises.{accepts_toys, deliveries_to_one, answers_to_one, deliveries_to_other, answers_to_other}
-use Rattle.relying_examples.proofs.StatementReading.{crl, good, list_of, response_of}
+use Rattle.test_premises.specs.Octets.{anchor_der, list_1, list_2, response_der}
+use Rattle.test_premises.specs.Premises.{accepts_toys, deliveries_to_one, answers_to_one, deliveries_to_other, answers_to_other}
+use Rattle.test_premises.proofs.StatementReading.{crl, good, list_of, response_of}
 
 abbrev pub one : IssuerIdentity → List ℕ → Party
 one issuer hash = after_taking accepts_toys empty_holdings (list_of issuer 1 ∷ list_of issuer 2 ∷ response_of issuer hash ∷ [])

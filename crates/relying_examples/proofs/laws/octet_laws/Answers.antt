@@ -1,5 +1,0 @@
-use Rattle.relying_examples.proofs.Premises.{all_premises_hold}
-use Rattle.relying_examples.proofs.laws.octet_laws.Goals as goal
-
-pub returns : goal.returns
-returns c = record { all_hold = all_premises_hold }
