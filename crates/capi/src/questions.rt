@@ -6,7 +6,7 @@ ghost use Rattle.capi.specs.Questions.{TellsQuestions, WritesQuestions, place_of
 use crate::case::Case;
 use crate::refusal::Refusal;
 use crate::texts::{QueryOfTexts, Text};
-use relying_questions::{TextPart, SignatureQuestion as Asking, WhichText, questions};
+use relying_questions::{SignatureQuestion as Asking, TextPart, WhichText, questions};
 use std::alloc::Global;
 
 /// Octets of a certificate or of a statement.

@@ -178,7 +178,12 @@ fn lists<'a>() -> [Text<'a>; 2] {
     pair(LISTS.split_at(187))
 }
 
-fn query<'a>(anchor: Text<'a>, path: &'a [Text<'a>], moment: i64, purpose: &'a [u8]) -> QueryOfTexts<'a> {
+fn query<'a>(
+    anchor: Text<'a>,
+    path: &'a [Text<'a>],
+    moment: i64,
+    purpose: &'a [u8],
+) -> QueryOfTexts<'a> {
     QueryOfTexts {
         anchor,
         path,

@@ -6,7 +6,7 @@ ghost use Rattle.cert.specs.Fault.{GivesUnlessFull, ReadsUnlessFull};
 ghost use Rattle.cert.specs.AlternativeNames.{has_name_form, alternative_names, seen_names, all_names, AddsName};
 
 use crate::contained::contained_value;
-use crate::fault::{CertFault, CertRule, CertRefusal, name_refusal};
+use crate::fault::{CertFault, CertRefusal, CertRule, name_refusal};
 use crate::limit::{MOST_NAMES, check_room};
 use asn::{Cursor, SEQUENCE, Tlv};
 use names::{General, NameRule, form_of_tag};

@@ -5,7 +5,7 @@ ghost use Rattle.asn.specs.Reading.{StepGives, ReadsAs};
 ghost use Rattle.cert.specs.BasicConstraints.{is_negative, saturated, path_length, basic_constraints, seen_basic_constraints};
 
 use crate::contained::contained_value;
-use crate::fault::{CertRule, CertRefusal};
+use crate::fault::{CertRefusal, CertRule};
 use asn::{Cursor, INTEGER, SEQUENCE, Tlv};
 
 /// BasicConstraints ::= SEQUENCE { cA BOOLEAN DEFAULT FALSE, pathLenConstraint INTEGER (0..MAX) OPTIONAL }

@@ -10,7 +10,7 @@ ghost use Rattle.cert.specs.Fault.{GivesUnlessFull, as_der};
 use crate::algorithm::AlgorithmIdentifier;
 use crate::bit_string::{BitString, is_of_whole_octets};
 use crate::extensions::Extensions;
-use crate::fault::{CertFault, CertRule, CertRefusal};
+use crate::fault::{CertFault, CertRefusal, CertRule};
 use crate::key_info::SubjectPublicKeyInfo;
 use crate::tbs::{Subject, TbsHead};
 use crate::validity::Validity;

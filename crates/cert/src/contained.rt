@@ -4,7 +4,7 @@ ghost use Rattle.asn.specs.Reading.{seen_tlv, Gives};
 ghost use Rattle.asn.specs.Outermost.{nested};
 ghost use Rattle.cert.specs.Fault.{as_der};
 
-use crate::fault::{CertRule, CertRefusal};
+use crate::fault::{CertRefusal, CertRule};
 use asn::Tlv;
 
 /// The one value that the contents are the encoding of; else the first fault in them, as `Der`, with its offset in the text

@@ -6,7 +6,7 @@ ghost use Rattle.cert.specs.SubjectPublicKeyInfo.{key_info, seen_key_info};
 
 use crate::algorithm::AlgorithmIdentifier;
 use crate::bit_string::BitString;
-use crate::fault::{CertRule, CertRefusal};
+use crate::fault::{CertRefusal, CertRule};
 use asn::{BIT_STRING, SEQUENCE, Tlv};
 
 /// SubjectPublicKeyInfo ::= SEQUENCE { algorithm AlgorithmIdentifier, subjectPublicKey BIT STRING }

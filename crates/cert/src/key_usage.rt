@@ -6,7 +6,7 @@ ghost use Rattle.cert.specs.KeyUsage.{has_bit, key_usage, seen_key_usage};
 
 use crate::bit_string::bits_of;
 use crate::contained::contained_value;
-use crate::fault::{CertRule, CertRefusal};
+use crate::fault::{CertRefusal, CertRule};
 use asn::{BIT_STRING, Tlv};
 
 /// KeyUsage ::= BIT STRING { digitalSignature (0), nonRepudiation (1), keyEncipherment (2), dataEncipherment (3),

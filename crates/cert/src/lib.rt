@@ -31,7 +31,7 @@ pub use certificate::Certificate;
 pub use extension::Extension;
 pub use extension_kind::{ExtensionKind, certificate_extension_number};
 pub use extensions::Extensions;
-pub use fault::{CertFault, CertRule, CertRefusal};
+pub use fault::{CertFault, CertRefusal, CertRule};
 pub use key_info::SubjectPublicKeyInfo;
 pub use key_usage::KeyUsage;
 pub use layout::{certificate_laws, layout_laws};

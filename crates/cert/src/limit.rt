@@ -4,7 +4,7 @@ ghost use Rattle.std.specs.Prelude.{◌<◌, OnOk};
 ghost use Rattle.asn.specs.Reading.{Gives};
 ghost use Rattle.cert.specs.Limit.{has_room};
 
-use crate::fault::{CertRule, CertRefusal};
+use crate::fault::{CertRefusal, CertRule};
 
 /// The most general names of a subjectAltName, and the most subtrees of a nameConstraints.
 pub const MOST_NAMES: usize = 4096;

@@ -7,7 +7,7 @@ ghost use Rattle.names.specs.GeneralView.{subtree_base};
 ghost use Rattle.cert.specs.Fault.{GivesUnlessFull};
 ghost use Rattle.cert.specs.NameConstraints.{no_bounds, subtree, all_subtrees, AddsSubtree, some_subtrees, seen_bases, TakesSubtrees};
 
-use crate::fault::{CertFault, CertRule, CertRefusal, name_refusal};
+use crate::fault::{CertFault, CertRefusal, CertRule, name_refusal};
 use crate::limit::{MOST_NAMES, check_room};
 use asn::{Cursor, SEQUENCE, Tlv};
 use names::Subtree;

@@ -9,7 +9,7 @@ ghost use Rattle.cert.specs.TbsCertificate.{next_read, next_algorithm, next_name
 ghost use Rattle.cert.specs.Validity.{validity, seen_validity};
 
 use crate::algorithm::AlgorithmIdentifier;
-use crate::fault::{CertRule, CertRefusal, name_refusal};
+use crate::fault::{CertRefusal, CertRule, name_refusal};
 use crate::key_info::SubjectPublicKeyInfo;
 use crate::validity::Validity;
 use crate::version::Version;
@@ -149,7 +149,10 @@ impl<'a> TbsHead<'a> {
 impl<'a> Subject<'a> {
     /// subject, subjectPublicKeyInfo, issuerUniqueID [1], subjectUniqueID [2]
     #[tactic(auto, unfolding(crate::specs::TbsCertificate::tbs_subject))]
-    pub(crate) fn take(version: Version, members: &mut Cursor<'a>) -> Result<Subject<'a>, CertRefusal>
+    pub(crate) fn take(
+        version: Version,
+        members: &mut Cursor<'a>,
+    ) -> Result<Subject<'a>, CertRefusal>
         ensures { StepGives seen_subject result members.old members.new (tbs_subject version) }
     {
         let name = take_name(members)?;

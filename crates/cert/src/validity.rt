@@ -3,7 +3,7 @@
 ghost use Rattle.asn.specs.Reading.{seen_tlv, Gives};
 ghost use Rattle.cert.specs.Validity.{validity, seen_validity};
 
-use crate::fault::{CertRule, CertRefusal};
+use crate::fault::{CertRefusal, CertRule};
 use asn::{SEQUENCE, Tlv};
 
 /// Validity ::= SEQUENCE { notBefore Time, notAfter Time }, each in seconds from 1970-01-01T00:00:00Z

@@ -4,7 +4,7 @@ ghost use Rattle.std.specs.Prelude.{◌≡◌};
 ghost use Rattle.asn.specs.Reading.{left, Gives};
 ghost use Rattle.cert.specs.Version.{is_v1, is_v3, version, version_of, version_number};
 
-use crate::fault::{CertRule, CertRefusal};
+use crate::fault::{CertRefusal, CertRule};
 use asn::{Cursor, INTEGER};
 
 /// Version ::= INTEGER { v1(0), v2(1), v3(2) }

@@ -30,9 +30,11 @@ fn is_refusal(answer: &SessionAnswer<'_>) -> bool
     ensures { result ≡ is_refusal answer.now }
 {
     match answer {
-        SessionAnswer::Failed(Failure::StoreFailed {
-            refusal: StoreRefusal::Store,
-        }) => true,
+        SessionAnswer::Failed(
+            Failure::StoreFailed {
+                refusal: StoreRefusal::Store,
+            },
+        ) => true,
         _ => false,
     }
 }

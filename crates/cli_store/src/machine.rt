@@ -26,9 +26,11 @@ const TRIES_ONCE_CLOSED: u32 = 4;
 
 fn is_refused(opened: &Result<Store<File>, Failure<'_>>) -> bool {
     match opened {
-        Err(Failure::StoreFailed {
-            refusal: StoreRefusal::Store,
-        }) => true,
+        Err(
+            Failure::StoreFailed {
+                refusal: StoreRefusal::Store,
+            },
+        ) => true,
         _ => false,
     }
 }

@@ -14,7 +14,7 @@ use crate::general::{Form, General};
 use crate::ip::{IpFault, IpRange, is_ip_address};
 use crate::subtree::Subtree;
 use asn::Tlv;
-use names_distinguished::{Name, NameRule, NameRefusal};
+use names_distinguished::{Name, NameRefusal, NameRule};
 
 const DIRECTORY_NAME: u8 = 0xA4;
 

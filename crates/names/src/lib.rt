@@ -12,7 +12,7 @@ pub use general::{Form, General};
 pub use general_reading::{coverage_laws, form_of_tag, general_laws};
 pub use ip::{IpFault, IpRange, is_ip_address, range_laws};
 pub use names_distinguished::{
-    Attribute, Name, NameRule, NameRefusal, is_text, key_laws, name_laws, preparation_laws,
+    Attribute, Name, NameRefusal, NameRule, is_text, key_laws, name_laws, preparation_laws,
     prepared_text, same_prepared,
 };
 pub use subtree::{Subtree, subtree_laws};

@@ -12,7 +12,7 @@ ghost use Rattle.names_distinguished.specs.NameParts.{entry_of_parts};
 ghost use Rattle.names_distinguished.specs.NameView.{entry_of};
 ghost use Rattle.names_distinguished.specs.Repetition.{kind_at};
 
-use crate::fault::{NameRule, NameRefusal};
+use crate::fault::{NameRefusal, NameRule};
 use asn::{Cursor, IA5_STRING, OBJECT_IDENTIFIER, PRINTABLE_STRING, SEQUENCE, Tlv, UTF8_STRING};
 use names_text::same_prepared;
 

@@ -13,7 +13,7 @@ mod repetition;
 mod run;
 
 pub use attribute::{Attribute, is_text};
-pub use fault::{NameRule, NameRefusal};
+pub use fault::{NameRefusal, NameRule};
 pub use name::{Name, name_laws};
 pub use name_key::key_laws;
 pub use names_text::{preparation_laws, prepared_text, same_prepared};

@@ -15,7 +15,7 @@ ghost use Rattle.names_distinguished.specs.NameComparison.{NameIsComparedByLayou
 ghost use Rattle.names_distinguished.specs.Repetition.{kinds_left, AreNew, IsRest};
 
 use crate::attribute::{read_attribute, read_only_attribute};
-use crate::fault::{NameRule, NameRefusal};
+use crate::fault::{NameRefusal, NameRule};
 use crate::kinds::Kinds;
 use crate::rdn_sequence::RdnSequence;
 use crate::repetition::new_until;

@@ -5,6 +5,7 @@ mod laws;
 mod verdict;
 
 pub use laws::{
-    agreement_examples, agreement_laws, comparison_laws, composition_laws, taking_laws, verdict_laws,
+    agreement_examples, agreement_laws, comparison_laws, composition_laws, taking_laws,
+    verdict_laws,
 };
 pub use verdict::{Comparison, Verdict};

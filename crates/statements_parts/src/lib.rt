@@ -4,7 +4,7 @@
 mod fault;
 mod parts;
 
-pub use fault::{ReadingFault, StatementRefusal, StatementFault, StatementRule};
+pub use fault::{ReadingFault, StatementFault, StatementRefusal, StatementRule};
 pub use parts::{
     is_reason, name_at, new_extension, outermost, take_algorithm, take_serial, take_signature,
 };

@@ -60,7 +60,9 @@ pub fn name_at(value: Tlv<'_>) -> Result<Name<'_>, StatementRefusal>
 
 /// Takes an algorithm identifier, whose parameters are not looked at.
 #[tactic(auto, unfolding(crate::specs::Parts::next_in_statement))]
-pub fn take_algorithm<'a>(members: &mut Cursor<'a>) -> Result<AlgorithmIdentifier<'a>, StatementRefusal>
+pub fn take_algorithm<'a>(
+    members: &mut Cursor<'a>,
+) -> Result<AlgorithmIdentifier<'a>, StatementRefusal>
     ensures walk { StepGives seen_algorithm result members.old members.new next_statement_algorithm }
     ensures passed { left members.new ≡ (any (left members.old)).1 }
 {

@@ -2,7 +2,7 @@
 
 use asn::{Oid, whole};
 use names::{
-    Attribute, Name, NameRule, NameRefusal, key_laws, name_laws, preparation_laws, prepared_text,
+    Attribute, Name, NameRefusal, NameRule, key_laws, name_laws, preparation_laws, prepared_text,
     same_prepared,
 };
 use std::alloc::{AllocError, Global};

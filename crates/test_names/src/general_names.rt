@@ -1,7 +1,7 @@
 //! That the definitions are those of RFC 5280: values written by hand, and what they say.
 
 use asn::whole;
-use names::{Domain, Form, General, NameRule, NameRefusal, Subtree, coverage_laws, general_laws};
+use names::{Domain, Form, General, NameRefusal, NameRule, Subtree, coverage_laws, general_laws};
 use std::test::Fail;
 
 /// The name of one RDN, with the common name A.

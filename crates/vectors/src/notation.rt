@@ -99,7 +99,11 @@ impl<'a> Notation<'a> {
     }
 
     /// What stands before the options: `ca(SUBJECT,ISSUER)` or `ee(SUBJECT,ISSUER)`.
-    fn head(alloc: Global, kind: NotationPart<'a>, names: NotationPart<'a>) -> Result<Notation<'a>, NotationFault> {
+    fn head(
+        alloc: Global,
+        kind: NotationPart<'a>,
+        names: NotationPart<'a>,
+    ) -> Result<Notation<'a>, NotationFault> {
         let (subject, issuer) = names.split_at_mark(',')?;
         let ca = match kind.text {
             "ca" => true,

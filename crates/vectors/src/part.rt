@@ -34,7 +34,10 @@ impl<'a> NotationPart<'a> {
     }
 
     /// The same, if there has to be one.
-    pub fn split_at_mark(self, mark: char) -> Result<(NotationPart<'a>, NotationPart<'a>), NotationFault> {
+    pub fn split_at_mark(
+        self,
+        mark: char,
+    ) -> Result<(NotationPart<'a>, NotationPart<'a>), NotationFault> {
         self.split_at_first(mark)
             .ok_or(self.behind(self.text.len(), "").fault())
     }

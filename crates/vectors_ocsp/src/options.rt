@@ -3,7 +3,10 @@
 use vectors::{NotationFault, NotationPart};
 
 /// What stands between the braces of a text that stands there.
-pub(crate) fn option_in<'a>(place: NotationPart<'a>, braced: &'a str) -> Result<NotationPart<'a>, NotationFault> {
+pub(crate) fn option_in<'a>(
+    place: NotationPart<'a>,
+    braced: &'a str,
+) -> Result<NotationPart<'a>, NotationFault> {
     let inside = braced
         .strip_prefix('{')
         .and_then(|behind| behind.strip_suffix('}'))

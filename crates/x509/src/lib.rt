@@ -128,9 +128,7 @@ pub mod revocation {
 
 /// Verdicts by statements at hand, without a store, and what a verifier may be asked for them.
 pub mod at_hand {
-    pub use relying_questions::{
-        SignatureQuestion, TextPart, WhichText, question_laws, questions,
-    };
+    pub use relying_questions::{SignatureQuestion, TextPart, WhichText, question_laws, questions};
     pub use relying_texts::{StatementsFault, delivery_laws, read_statements, verdict};
 }
 

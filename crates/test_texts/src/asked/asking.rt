@@ -3,7 +3,7 @@
 use crate::texts::{MIDDLE, StatementText, octets_of, query_of, read_all, statements_of};
 use path::Query;
 use path_verifiers::ListVerifier;
-use relying_questions::{TextPart, SignatureQuestion, WhichText, questions};
+use relying_questions::{SignatureQuestion, TextPart, WhichText, questions};
 use relying_texts::{Verdict, verdict};
 use statements::Statement;
 use std::alloc::Global;
