@@ -44,7 +44,8 @@ impl<'a> Case<'a> {
         ensures reads { IfOk result (λ case. IsRead query.now statements.now
             (seen_query case.query) (map seen_statement case.statements.items)) }
         ensures fit { IfOk result (λ _.
-            AreAllOctets (certificate_texts query.now) × AreAllOctets (octets_of_texts statements.now)) }
+            AreAllOctets (certificate_texts query.now)
+            × AreAllOctets (octets_of_texts statements.now)) }
         ensures refuses { IfErr result (TellsRefusal query.now statements.now) }
     {
         let query = query.read(alloc)?;

@@ -18,8 +18,10 @@ fn write_lists<W: Write>(
     at: Option<i64>,
     writer: &mut W,
 ) -> io::Result<()>
-    ensures { IdsRise (map seen_held_issuer issuers.now) → Writes W.contents writer.old writer.new result
-        (flat_map (list_line_of (map seen_held_issuer issuers.now) at) (map seen_held_list lists.now)) }
+    ensures { IdsRise (map seen_held_issuer issuers.now)
+        → Writes W.contents writer.old writer.new result
+        (flat_map (list_line_of (map seen_held_issuer issuers.now) at)
+        (map seen_held_list lists.now)) }
 {
     'each: for list in lists {
         write_list(issuer_under(issuers, list.issuer), list, at, writer)?;
@@ -33,8 +35,10 @@ fn write_singles<W: Write>(
     at: Option<i64>,
     writer: &mut W,
 ) -> io::Result<()>
-    ensures { IdsRise (map seen_held_issuer issuers.now) → Writes W.contents writer.old writer.new result
-        (flat_map (single_line_of (map seen_held_issuer issuers.now) at) (map seen_held_single singles.now)) }
+    ensures { IdsRise (map seen_held_issuer issuers.now)
+        → Writes W.contents writer.old writer.new result
+        (flat_map (single_line_of (map seen_held_issuer issuers.now) at)
+        (map seen_held_single singles.now)) }
 {
     'each: for single in singles {
         write_single(issuer_under(issuers, single.issuer), single, at, writer)?;

@@ -142,7 +142,8 @@ fn path_in<'a>(
     words: &[&'a str],
 ) -> Result<Request<'a>, RequestFault>
     ensures reads { IfOk result (λ request.
-        path_in moment.entry.now (option_map (λ text. text.now) purpose.entry) (octets_of_words words.now)
+        path_in moment.entry.now (option_map (λ text. text.now) purpose.entry)
+        (octets_of_words words.now)
         ≡ Some (seen_request request)) }
     ensures refuses { IfErr result (IsNone
         (path_in moment.entry.now (option_map (λ text. text.now) purpose.entry)

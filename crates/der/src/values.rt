@@ -59,7 +59,8 @@ pub(crate) fn broken_rule(text: &[u8]) -> Rule
 
 /// Passes over values with nothing inside them, at depth 2, and answers what is left from the first other one on.
 fn pass_flat(text: &[u8]) -> Result<&[u8], (Rule, usize)>
-    ensures ok { IfOk result (λ rest. SpeaksForWhole text.now 2 rest.now 0 (AreEncodings 2 text.now)) }
+    ensures ok { IfOk result (λ rest. SpeaksForWhole text.now 2 rest.now 0
+        (AreEncodings 2 text.now)) }
     ensures err { IfErr result (λ broken. FirstFaultAmong 2 text.now broken.0 broken.1) }
 {
     let mut rest = text;

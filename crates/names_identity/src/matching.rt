@@ -84,7 +84,8 @@ fn matches(name: &General<'_>, identity: &Identity<'_>) -> bool
 /// suffixes are not known: `*.com` matches `example.com`. Time is linear in the octets of the names, and of the identity for each name; no
 /// memory is taken.
 pub fn speaks_for(names: &[General<'_>], identity: &Identity<'_>) -> bool
-    ensures { IsTrue result ↔ SpeaksFor (seen_name_list names.now) (reference_identity identity.now) }
+    ensures { IsTrue result ↔ SpeaksFor (seen_name_list names.now)
+        (reference_identity identity.now) }
 {
     names.iter().any(|name| matches(name, identity))
 }

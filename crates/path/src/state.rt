@@ -187,7 +187,8 @@ impl<'p, 'c, V: Verifier> State<'p, 'c, V> {
     /// The certificate behind those that have passed.
     fn certificate(&self) -> &'p Certificate<'c>
         requires { self.now.done < count self.now.query }
-        ensures { seen_certificate result.now ≡ certificate_numbered self.now.query (self.now.done + 1) }
+        ensures { seen_certificate result.now ≡ certificate_numbered self.now.query
+            (self.now.done + 1) }
     {
         let path = self.path;
         &path[self.done]

@@ -42,7 +42,8 @@ impl<'a> Statement<'a> {
     /// As `read`, of a value in the text handed to `asn::whole`, with offsets in that text.
     #[tactic(auto, unfolding(crate::specs::Statement::statement_at))]
     pub fn at(alloc: Global, value: Tlv<'a>) -> Result<Statement<'a>, ReadingFault>
-        ensures { StatementGivesUnlessFull seen_statement result (statement_at (seen_tlv value.entry)) }
+        ensures { StatementGivesUnlessFull seen_statement result
+            (statement_at (seen_tlv value.entry)) }
     {
         if is_response(value) {
             Ok(Statement::Response(Response::at(alloc, value)?))

@@ -100,7 +100,8 @@ impl<'a> TakenOfEntry<'a> {
     /// Takes one more extension, which must be of a type that none of the earlier ones has.
     #[tactic(auto, unfolding(crate::specs::EntryExtension::one_entry_extension))]
     fn take(&mut self, value: Tlv<'a>) -> Result<(), ReadingFault>
-        ensures { TakesUnlessFull seen_taken_of_entry self.old self.new value.entry result one_entry_extension }
+        ensures { TakesUnlessFull seen_taken_of_entry self.old self.new value.entry result
+            one_entry_extension }
     {
         let extension = new_extension(&mut self.types, value)?;
         self.reason = tell_reason(extension, self.reason)?;

@@ -49,7 +49,8 @@ impl<'a> Entries<'a> {
 
 /// The first fault of the entries that the values are.
 fn check_entries(alloc: Global, members: Cursor<'_>) -> Result<(), ReadingFault>
-    ensures { StatementGivesUnlessFull (λ _. tt) result (entries_checked (entries (left members.entry).values)) }
+    ensures { StatementGivesUnlessFull (λ _. tt) result
+        (entries_checked (entries (left members.entry).values)) }
 {
     let mut members = members;
     while let Some(value) = members.next() {

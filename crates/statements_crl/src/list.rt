@@ -97,7 +97,8 @@ impl<'a> TbsCertList<'a> {
     /// TBSCertList ::= SEQUENCE { version, signature, issuer, thisUpdate, nextUpdate, revokedCertificates, crlExtensions [0] }
     #[tactic(auto, unfolding(crate::specs::CertificateList::tbs_cert_list))]
     fn read(alloc: Global, value: Tlv<'a>) -> Result<TbsCertList<'a>, ReadingFault>
-        ensures { StatementGivesUnlessFull seen_tbs_list result (tbs_cert_list (seen_tlv value.entry)) }
+        ensures { StatementGivesUnlessFull seen_tbs_list result
+            (tbs_cert_list (seen_tlv value.entry)) }
     {
         value.is_a(SEQUENCE, StatementRule::Layout)?;
         let mut members = value.members();
@@ -130,7 +131,8 @@ impl<'a> Crl<'a> {
     /// As `read`, of a value in the text handed to `asn::whole`, with offsets in that text.
     #[tactic(auto, unfolding(crate::specs::CertificateList::certificate_list_at))]
     pub fn at(alloc: Global, value: Tlv<'a>) -> Result<Crl<'a>, ReadingFault>
-        ensures { StatementGivesUnlessFull seen_list result (certificate_list_at (seen_tlv value.entry)) }
+        ensures { StatementGivesUnlessFull seen_list result
+            (certificate_list_at (seen_tlv value.entry)) }
     {
         value.is_a(SEQUENCE, StatementRule::Layout)?;
         let mut members = value.members();

@@ -93,7 +93,8 @@ impl<'a> TakenOfList<'a> {
     /// Takes one more extension, which must be of a type that none of the earlier ones has.
     #[tactic(auto, unfolding(crate::specs::ListExtension::one_list_extension))]
     fn take(&mut self, value: Tlv<'a>) -> Result<(), ReadingFault>
-        ensures { TakesUnlessFull seen_taken_of_list self.old self.new value.entry result one_list_extension }
+        ensures { TakesUnlessFull seen_taken_of_list self.old self.new value.entry result
+            one_list_extension }
     {
         let extension = new_extension(&mut self.types, value)?;
         self.said = self.said.with(extension)?;
@@ -103,7 +104,8 @@ impl<'a> TakenOfList<'a> {
 
 /// Takes the extensions that the values are.
 fn take_all<'a>(alloc: Global, members: Cursor<'a>) -> Result<TakenOfList<'a>, ReadingFault>
-    ensures { StatementGivesUnlessFull seen_taken_of_list result (all_list_extensions (left members.entry)) }
+    ensures { StatementGivesUnlessFull seen_taken_of_list result
+        (all_list_extensions (left members.entry)) }
 {
     let mut members = members;
     let mut taken = TakenOfList {
@@ -138,7 +140,8 @@ impl<'a> NumberAndScope<'a> {
     /// Extensions ::= SEQUENCE SIZE (1..MAX) OF Extension, one of which is the number
     #[tactic(auto, unfolding(crate::specs::ListExtension::number_and_scope))]
     fn read(alloc: Global, list: Tlv<'a>) -> Result<NumberAndScope<'a>, ReadingFault>
-        ensures { StatementGivesUnlessFull seen_named result (number_and_scope (seen_tlv list.entry)) }
+        ensures { StatementGivesUnlessFull seen_named result
+            (number_and_scope (seen_tlv list.entry)) }
     {
         list.is_a(SEQUENCE, StatementRule::Layout)?;
         let members = list.members();

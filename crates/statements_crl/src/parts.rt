@@ -26,7 +26,8 @@ fn issuer_at(value: Tlv<'_>) -> Result<Name<'_>, StatementRefusal>
 
 #[tactic(auto, unfolding(statements_parts::specs::Parts::statement_component))]
 pub(crate) fn take_issuer<'a>(members: &mut Cursor<'a>) -> Result<Name<'a>, StatementRefusal>
-    ensures { StepGives name_contents result members.old members.new (statement_component 0x30 list_issuer) }
+    ensures { StepGives name_contents result members.old members.new
+        (statement_component 0x30 list_issuer) }
 {
     issuer_at(members.required(SEQUENCE, StatementRule::Layout)?)
 }

@@ -54,7 +54,8 @@ fn reason_at(value: Tlv<'_>) -> Result<u8, StatementRefusal>
 
 #[tactic(auto, unfolding(statements_parts::specs::Parts::statement_component))]
 fn take_code(members: &mut Cursor<'_>) -> Result<u8, StatementRefusal>
-    ensures { StepGives (λ code. code) result members.old members.new (statement_component 0x0A reason) }
+    ensures { StepGives (λ code. code) result members.old members.new
+        (statement_component 0x0A reason) }
 {
     reason_at(members.required(ENUMERATED, StatementRule::Layout)?)
 }

@@ -98,7 +98,8 @@ impl<'a> Signed<'a> {
 /// [0] EXPLICIT SEQUENCE OF Certificate OPTIONAL }
 #[tactic(auto, unfolding(crate::specs::OcspResponse::basic_response))]
 fn read_basic<'a>(alloc: Global, value: Tlv<'a>) -> Result<Response<'a>, ReadingFault>
-    ensures { StatementGivesUnlessFull seen_response result (basic_response (seen_tlv value.entry)) }
+    ensures { StatementGivesUnlessFull seen_response result
+        (basic_response (seen_tlv value.entry)) }
 {
     value.is_a(SEQUENCE, StatementRule::Layout)?;
     let mut members = value.members();
@@ -154,7 +155,8 @@ fn take_type(members: &mut Cursor<'_>) -> Result<(), StatementRefusal>
 /// ResponseBytes ::= SEQUENCE { responseType OBJECT IDENTIFIER, response OCTET STRING }
 #[tactic(auto, unfolding(crate::specs::OcspResponse::response_bytes))]
 fn read_bytes<'a>(alloc: Global, value: Tlv<'a>) -> Result<Response<'a>, ReadingFault>
-    ensures { StatementGivesUnlessFull seen_response result (response_bytes (seen_tlv value.entry)) }
+    ensures { StatementGivesUnlessFull seen_response result
+        (response_bytes (seen_tlv value.entry)) }
 {
     value.is_a(SEQUENCE, StatementRule::Layout)?;
     let mut members = value.members();
@@ -167,7 +169,8 @@ fn read_bytes<'a>(alloc: Global, value: Tlv<'a>) -> Result<Response<'a>, Reading
 /// [0] EXPLICIT ResponseBytes
 #[tactic(auto, unfolding(crate::specs::OcspResponse::explicit_bytes, statements_parts::specs::Parts::next_in_statement))]
 fn read_explicit<'a>(alloc: Global, value: Tlv<'a>) -> Result<Response<'a>, ReadingFault>
-    ensures { StatementGivesUnlessFull seen_response result (explicit_bytes (seen_tlv value.entry)) }
+    ensures { StatementGivesUnlessFull seen_response result
+        (explicit_bytes (seen_tlv value.entry)) }
 {
     value.is_a(0xA0, StatementRule::Layout)?;
     let mut members = value.members();
@@ -207,7 +210,8 @@ impl<'a> Response<'a> {
     /// As `read`, of a value in the text handed to `asn::whole`, with offsets in that text.
     #[tactic(auto, unfolding(crate::specs::OcspResponse::ocsp_response_at, statements_parts::specs::Parts::statement_component, statements_parts::specs::Parts::next_in_statement))]
     pub fn at(alloc: Global, value: Tlv<'a>) -> Result<Response<'a>, ReadingFault>
-        ensures { StatementGivesUnlessFull seen_response result (ocsp_response_at (seen_tlv value.entry)) }
+        ensures { StatementGivesUnlessFull seen_response result
+            (ocsp_response_at (seen_tlv value.entry)) }
     {
         value.is_a(SEQUENCE, StatementRule::Layout)?;
         let mut members = value.members();

@@ -15,7 +15,8 @@ use std::alloc::Global;
 /// Checks one more extension, which must be of a type that none of the earlier ones has, and not critical.
 #[tactic(auto, unfolding(crate::specs::ResponseExtensions::one_response_extension, asn::specs::Walk::check_that))]
 fn check_extension<'a>(types: &mut OidSet<'a>, value: Tlv<'a>) -> Result<(), ReadingFault>
-    ensures { TakesUnlessFull oids_in types.old types.new value.entry result one_response_extension }
+    ensures { TakesUnlessFull oids_in types.old types.new value.entry result
+        one_response_extension }
 {
     let extension = new_extension(types, value)?;
     if extension.critical {
@@ -26,7 +27,8 @@ fn check_extension<'a>(types: &mut OidSet<'a>, value: Tlv<'a>) -> Result<(), Rea
 
 /// Checks the extensions that the values are, and gives their types.
 fn check_all<'a>(alloc: Global, members: Cursor<'a>) -> Result<OidSet<'a>, ReadingFault>
-    ensures { StatementGivesUnlessFull oids_in result (all_response_extensions (left members.entry)) }
+    ensures { StatementGivesUnlessFull oids_in result
+        (all_response_extensions (left members.entry)) }
 {
     let mut members = members;
     let mut types = OidSet::new(alloc);
@@ -39,7 +41,8 @@ fn check_all<'a>(alloc: Global, members: Cursor<'a>) -> Result<OidSet<'a>, Readi
 /// Extensions ::= SEQUENCE SIZE (1..MAX) OF Extension
 #[tactic(auto, unfolding(crate::specs::ResponseExtensions::extensions_of_response))]
 fn check_list(alloc: Global, list: Tlv<'_>) -> Result<(), ReadingFault>
-    ensures { StatementGivesUnlessFull (λ _. tt) result (extensions_of_response (seen_tlv list.entry)) }
+    ensures { StatementGivesUnlessFull (λ _. tt) result
+        (extensions_of_response (seen_tlv list.entry)) }
 {
     list.is_a(SEQUENCE, StatementRule::Layout)?;
     let members = list.members();

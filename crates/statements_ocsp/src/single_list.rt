@@ -68,7 +68,8 @@ fn read_after<'a>(
 
 /// The first fault of the single responses that the values are.
 fn check_singles(alloc: Global, members: Cursor<'_>) -> Result<(), ReadingFault>
-    ensures { StatementGivesUnlessFull (λ _. tt) result (singles_checked (singles 0 (left members.entry).values)) }
+    ensures { StatementGivesUnlessFull (λ _. tt) result
+        (singles_checked (singles 0 (left members.entry).values)) }
 {
     let mut members = members;
     let mut before = 0;

@@ -61,7 +61,8 @@ impl<'a> SingleResponse<'a> {
     /// The single response that the value is, or the first fault.
     #[tactic(auto, unfolding(crate::specs::Single::single))]
     pub(crate) fn read(alloc: Global, value: Tlv<'a>) -> Result<SingleResponse<'a>, ReadingFault>
-        ensures { StatementGivesUnlessFull seen_single_response result (single (seen_tlv value.entry)) }
+        ensures { StatementGivesUnlessFull seen_single_response result
+            (single (seen_tlv value.entry)) }
     {
         let (read, behind) = SingleResponse::fields(value)?;
         let mut members = behind;

@@ -63,7 +63,8 @@ pub fn name_at(value: Tlv<'_>) -> Result<Name<'_>, StatementRefusal>
 pub fn take_algorithm<'a>(
     members: &mut Cursor<'a>,
 ) -> Result<AlgorithmIdentifier<'a>, StatementRefusal>
-    ensures walk { StepGives seen_algorithm result members.old members.new next_statement_algorithm }
+    ensures walk { StepGives seen_algorithm result members.old members.new
+        next_statement_algorithm }
     ensures passed { left members.new ≡ (any (left members.old)).1 }
 {
     AlgorithmIdentifier::read(
@@ -87,7 +88,8 @@ fn signature_at(value: Tlv<'_>) -> Result<BitString<'_>, StatementRefusal>
 /// Takes a signature BIT STRING.
 #[tactic(auto, unfolding(crate::specs::Parts::statement_component))]
 pub fn take_signature<'a>(members: &mut Cursor<'a>) -> Result<BitString<'a>, StatementRefusal>
-    ensures walk { StepGives seen_bit_string result members.old members.new next_statement_signature }
+    ensures walk { StepGives seen_bit_string result members.old members.new
+        next_statement_signature }
     ensures passed { left members.new ≡ (any (left members.old)).1 }
 {
     signature_at(members.required(BIT_STRING, StatementRule::Layout)?)
