@@ -17,8 +17,8 @@ abbrev pub IsCommand : App → Command → Type 0
 IsCommand app command = (app_of command ≡ app) × ((fields_of command).has_globals ≡ false)
 
 -- the command in the making is that, unless memory ran out
-abbrev pub Makes : App → Building → Type 0
-Makes app it = IfOk it.command (IsCommand app)
+abbrev pub IsApp : App → Building → Type 0
+IsApp app it = IfOk it.command (IsCommand app)
 
 -- `--id VALUE`, which may be left out
 abbrev pub optional_value : Text → Rule

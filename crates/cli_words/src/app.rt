@@ -1,7 +1,7 @@
 //! The program and its subcommands, as clap sees them. Each subcommand is built in a function of its own.
 ghost use Rattle.std.specs.Prelude.{◌≡◌, IfOk};
 ghost use Rattle.clap.specs.Words.{App, app_of};
-ghost use Rattle.cli_words.specs.App.{Makes, HasRule, asking as asking_app, certificates_rule, check_app, compare_app, deliver_app, explain_app, file_rule, issuer_rule, kind_rule, list_app, program as program_app, prints_app, session_app, show_app, store_rule, topic_rule, tree_app, verdicts_rule};
+ghost use Rattle.cli_words.specs.App.{IsApp, HasRule, asking as asking_app, certificates_rule, check_app, compare_app, deliver_app, explain_app, file_rule, issuer_rule, kind_rule, list_app, program as program_app, prints_app, session_app, show_app, store_rule, topic_rule, tree_app, verdicts_rule};
 
 use crate::building::{Building, flag, needed, option};
 use clap::{Arg, Command};
@@ -40,7 +40,7 @@ fn file<'a>(alloc: Global) -> Arg<'a>
 }
 
 fn tree<'a>(alloc: Global) -> Building<'a>
-    ensures { Makes tree_app result }
+    ensures { IsApp tree_app result }
 {
     Building::new(
         alloc,
@@ -63,7 +63,7 @@ fn kind<'a>(alloc: Global) -> Arg<'a>
 }
 
 fn show<'a>(alloc: Global) -> Building<'a>
-    ensures { Makes show_app result }
+    ensures { IsApp show_app result }
 {
     Building::new(
         alloc,
@@ -92,7 +92,7 @@ fn issuer<'a>(alloc: Global) -> Arg<'a>
 }
 
 fn prints<'a>(alloc: Global) -> Building<'a>
-    ensures { Makes prints_app result }
+    ensures { IsApp prints_app result }
 {
     Building::new(
         alloc,
@@ -133,7 +133,7 @@ fn verdicts<'a>(alloc: Global) -> Arg<'a>
 }
 
 fn deliver<'a>(alloc: Global) -> Building<'a>
-    ensures { Makes deliver_app result }
+    ensures { IsApp deliver_app result }
 {
     Building::new(
         alloc,
@@ -160,7 +160,7 @@ fn certificates<'a>(alloc: Global) -> Arg<'a>
 
 // What `check` and `compare` ask.
 fn asking<'a>(alloc: Global, command: Building<'a>) -> Building<'a>
-    ensures { (a : App) → Makes a command.entry → Makes (asking_app a) result }
+    ensures { (a : App) → IsApp a command.entry → IsApp (asking_app a) result }
 {
     command
         .arg(store(alloc))
@@ -182,7 +182,7 @@ fn asking<'a>(alloc: Global, command: Building<'a>) -> Building<'a>
 }
 
 fn check<'a>(alloc: Global) -> Building<'a>
-    ensures { Makes check_app result }
+    ensures { IsApp check_app result }
 {
     let command = Building::new(
         alloc,
@@ -194,7 +194,7 @@ fn check<'a>(alloc: Global) -> Building<'a>
 }
 
 fn compare<'a>(alloc: Global) -> Building<'a>
-    ensures { Makes compare_app result }
+    ensures { IsApp compare_app result }
 {
     let command = Building::new(
         alloc,
@@ -218,7 +218,7 @@ fn topic<'a>(alloc: Global) -> Arg<'a>
 }
 
 fn explain<'a>(alloc: Global) -> Building<'a>
-    ensures { Makes explain_app result }
+    ensures { IsApp explain_app result }
 {
     Building::new(
         alloc,
@@ -230,7 +230,7 @@ fn explain<'a>(alloc: Global) -> Building<'a>
 }
 
 fn session<'a>(alloc: Global) -> Building<'a>
-    ensures { Makes session_app result }
+    ensures { IsApp session_app result }
 {
     Building::new(
         alloc,
@@ -248,7 +248,7 @@ fn session<'a>(alloc: Global) -> Building<'a>
 }
 
 fn list<'a>(alloc: Global) -> Building<'a>
-    ensures { Makes list_app result }
+    ensures { IsApp list_app result }
 {
     Building::new(
         alloc,

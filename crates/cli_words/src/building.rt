@@ -1,7 +1,7 @@
 //! Commands in the making, and the arguments that they take.
 ghost use Rattle.std.specs.Prelude.{IfOk};
 ghost use Rattle.clap.specs.Words.{App, Rule, new_app, with_rule, with_subcommand};
-ghost use Rattle.cli_words.specs.App.{Makes, HasRule, IsCommand, flag as flag_rule, needed as needed_rule, optional_value, wanting_subcommand};
+ghost use Rattle.cli_words.specs.App.{IsApp, HasRule, IsCommand, flag as flag_rule, needed as needed_rule, optional_value, wanting_subcommand};
 
 use clap::{Arg, ArgAction, Command};
 use std::alloc::{AllocError, Global};
@@ -15,7 +15,7 @@ pub(crate) struct Building<'a> {
 impl<'a> Building<'a> {
     /// A command with this name, with what it does and what stands behind its options in its help.
     pub(crate) fn new(alloc: Global, name: &'a str, about: &'a str, behind: &'a str) -> Building<'a>
-        ensures { Makes (new_app name.entry.now) result }
+        ensures { IsApp (new_app name.entry.now) result }
     {
         let command = Command::new(alloc, name).about(about).after_help(behind);
         Building {
@@ -25,7 +25,7 @@ impl<'a> Building<'a> {
 
     /// The same, where a subcommand has to be named.
     pub(crate) fn subcommand_required(self) -> Building<'a>
-        ensures { (a : App) → Makes a self.entry → Makes (wanting_subcommand a) result }
+        ensures { (a : App) → IsApp a self.entry → IsApp (wanting_subcommand a) result }
     {
         let command = match self.command {
             Ok(command) => Ok(command.subcommand_required(true)),
@@ -37,7 +37,7 @@ impl<'a> Building<'a> {
     /// The same, with one argument more.
     pub(crate) fn arg(self, arg: Arg<'a>) -> Building<'a>
         ensures { (a : App) (rule : Rule)
-            → Makes a self.entry → HasRule rule arg.entry → Makes (with_rule a rule) result }
+            → IsApp a self.entry → HasRule rule arg.entry → IsApp (with_rule a rule) result }
     {
         let Building { command } = self;
         let command = match command {
@@ -50,7 +50,7 @@ impl<'a> Building<'a> {
     /// The same, with one subcommand more.
     pub(crate) fn subcommand(self, other: Building<'a>) -> Building<'a>
         ensures { (a b : App)
-            → Makes a self.entry → Makes b other.entry → Makes (with_subcommand a b.top) result }
+            → IsApp a self.entry → IsApp b other.entry → IsApp (with_subcommand a b.top) result }
     {
         let Building { command } = self;
         let Building {
