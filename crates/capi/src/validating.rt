@@ -66,7 +66,7 @@ fn refused(refusal: Refusal) -> VerdictAnswer
     }
 }
 
-/// Who believes these fingerprints.
+/// A verifier that accepts the signatures with these fingerprints.
 fn believing(alloc: Global, fingerprints: &[[u8; 32]]) -> Result<ListVerifier, AllocError>
     ensures { IfOk result (λ verifier. Believes verifier fingerprints.now) }
 {

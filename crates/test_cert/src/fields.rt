@@ -5,7 +5,7 @@ use crate::building::{
     certificate_of, plain_but, with_list,
 };
 use crate::holds;
-use cert::{CertFault, CertRule, Certificate, Version};
+use cert::{CertFault, CertRule, Certificate, Extensions, Version};
 use names::Form;
 use std::alloc::{AllocError, Global};
 use std::test::Fail;
@@ -188,23 +188,30 @@ fn with_types(alloc: Global, count: u8, last: u8) -> Result<Vec<u8>, AllocError>
     with_list(alloc, &list)
 }
 
+fn tells_usage(rt: &HostRuntime, said: &Extensions<'_>) -> Result<(), Fail> {
+    let usage = said.key_usage.ok_or("keyUsage")?;
+    holds(rt, usage.bits == b"\x06".as_slice(), "the bits of keyUsage");
+    holds(
+        rt,
+        usage.has(5) && usage.has(6) && !usage.has(0),
+        "its uses",
+    );
+    let basic = said.basic_constraints.ok_or("basicConstraints")?;
+    holds(
+        rt,
+        basic.ca && basic.path_length == Some(0),
+        "a path length of 0",
+    );
+    Ok(())
+}
+
 #[test]
 fn extensions_of_each_kind_are_read(rt: HostRuntime) -> Result<(), Fail> {
     let alloc = rt.alloc();
     let octets = with_extensions(alloc, EXTENSIONS)?;
     let read = Certificate::read(alloc, &octets).map_err(|_| "a certificate")?;
     let said = &read.extensions;
-    let usage = said.key_usage.ok_or("keyUsage")?;
-    holds(
-        &rt,
-        usage.bits == b"\x06".as_slice(),
-        "the bits of keyUsage",
-    );
-    holds(
-        &rt,
-        usage.has(5) && usage.has(6) && !usage.has(0),
-        "its uses",
-    );
+    tells_usage(&rt, said)?;
     assert!(rt; said.alternative_names.len() == 2, "two names");
     holds(
         &rt,
@@ -216,16 +223,8 @@ fn extensions_of_each_kind_are_read(rt: HostRuntime) -> Result<(), Fail> {
         said.alternative_names[1].form() == Form::Ip,
         "an address",
     );
-    let basic = said.basic_constraints.ok_or("basicConstraints")?;
-    holds(
-        &rt,
-        basic.ca && basic.path_length == Some(0),
-        "a path length of 0",
-    );
-    let (permitted, excluded) = (
-        &said.name_constraints.permitted,
-        &said.name_constraints.excluded,
-    );
+    let permitted = &said.name_constraints.permitted;
+    let excluded = &said.name_constraints.excluded;
     assert!(rt;
         permitted.len() == 1 && excluded.len() == 1,
         "a subtree in each list"
