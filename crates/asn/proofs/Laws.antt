@@ -4,7 +4,7 @@ pub use Rattle.asn.proofs.TimeWalks.{seconds_ok, seconds_are, TakesTime, time_ok
 pub use Rattle.asn.proofs.FlagWalks.{TakesDefaultFalse, default_false_ok, default_false_again, as_default_false, of_default_false}
 pub use Rattle.asn.proofs.TimeReading.{time_of, seconds_again}
 pub use Rattle.asn.proofs.Layouts.{of_primitive, of_constructed, as_primitive, as_constructed, of_more, as_more, of_none, as_none, of_at_most_one, as_at_most_one}
-pub use Rattle.asn.proofs.OutermostLaws.{judgement_within, nested_ok, nested_again, outermost_ok, outermost_again}
+pub use Rattle.asn.proofs.OutermostLaws.{first_fault_within, nested_ok, nested_again, outermost_ok, outermost_again}
 pub use Rattle.asn.proofs.Sizes.{encodes, encodable, length-encoding, length-encodings, length-octets_of_all}
 pub use Rattle.asn.proofs.MemberLemmas.{holds, are_members, contents_held}
 pub use Rattle.asn.proofs.PartLemmas.{contents_part, members_are_parts}

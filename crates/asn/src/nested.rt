@@ -11,8 +11,8 @@ use crate::tlv::Tlv;
 use der::{Fault, Rule, check};
 
 /// What `check` answers, as the rule and the place.
-fn judge(octets: &[u8]) -> Result<(), (Rule, usize)>
-    ensures first_fault_in { Gives (λ _. tt) result (first_fault_in octets.now) }
+fn first_fault(octets: &[u8]) -> Result<(), (Rule, usize)>
+    ensures fault { Gives (λ _. tt) result (first_fault_in octets.now) }
     ensures whole { OnOk result (IsWhole octets.now) }
     ensures within { IfErr result (λ fault. fault.1 ≤ length octets.now) }
 {
@@ -29,7 +29,7 @@ impl<'a> Tlv<'a> {
     pub fn outermost(octets: &'a [u8]) -> Result<Tlv<'a>, (Rule, usize)>
         ensures { Gives seen_tlv result (outermost octets.now) }
     {
-        judge(octets)?;
+        first_fault(octets)?;
         Ok(whole_at(octets, 0))
     }
 
@@ -40,7 +40,7 @@ impl<'a> Tlv<'a> {
         ensures { Gives seen_tlv result (nested (seen_tlv self.now)) }
     {
         let base = self.body_at();
-        match judge(self.body) {
+        match first_fault(self.body) {
             Ok(()) => Ok(whole_at(self.body, base)),
             Err((rule, at)) => Err((rule, base + at)),
         }

@@ -7,7 +7,7 @@ use Rattle.asn.specs.Place.{Place, tag, body}
 use Rattle.asn.specs.Members.{Members, members}
 use Rattle.asn.specs.Outermost.{first_fault_in, outermost, placed}
 use Rattle.asn.specs.Walk.{check_that, is_a, required, next_or, optional, any, ended, or_fault, time}
-use Rattle.asn.proofs.Laws.{IsEncodedPart, judgement_within, outermost_ok}
+use Rattle.asn.proofs.Laws.{IsEncodedPart, first_fault_within, outermost_ok}
 use Rattle.names.specs.NameLayout.{name}
 use Rattle.names.specs.GeneralLayout.{general, base}
 use Rattle.cert.specs.declared.fault.CertRule.{CertRule}
@@ -177,7 +177,7 @@ outermost_within text octets = der_within text (IsEncodedPart text) (outermost t
         let read : outermost text ≡ Ok whole = ap (λ r. placed r whole) e in
         let is = (outermost_ok text whole octets read).1 in
         subst (Within text (IsEncodedPart text)) (sym read) (record { stands = record { before = []; behind = []; joined = sym (append-nil text); place = refl }; depth = 1; value = is.0; encodes = is.1 })
-    by (Err fault) e = subst (Within text (IsEncodedPart text)) (sym (ap (λ r. placed r whole) e)) (omega (arith, judgement_within text fault.0 fault.1 e))
+    by (Err fault) e = subst (Within text (IsEncodedPart text)) (sym (ap (λ r. placed r whole) e)) (omega (arith, first_fault_within text fault.0 fault.1 e))
 
 pub certificate_fault_is_within : CertificateFaultIsWithin
 unfolding certificate

@@ -9,7 +9,7 @@ use Rattle.asn.specs.Place.{Place, tag, body, body_place}
 use Rattle.asn.specs.Members.{Members, members, begins, next_at}
 use Rattle.asn.specs.Outermost.{first_fault_in, placed, nested}
 use Rattle.asn.specs.Walk.{check_that, is_a, required, optional, next_or, ended, some, default_false, each}
-use Rattle.asn.proofs.Laws.{IsEncodedPart, contents_stand, judgement_within, nested_ok}
+use Rattle.asn.proofs.Laws.{IsEncodedPart, contents_stand, first_fault_within, nested_ok}
 use Rattle.names.specs.NameRule.{NameRule}
 use Rattle.names.specs.GeneralLayout.{GeneralName, SubtreeBase, form_of_identifier, general, base}
 use Rattle.names.specs.NameRule.TheVariants.{NameLayout}
@@ -57,7 +57,7 @@ nested_within text value octets is = der_within text (IsEncodedPart text) (neste
         let whole = (nested_ok value (body_place value) (part_octets text (body_place value).at (body_place value).octets octets stands) read).1 in
         subst (Within text (IsEncodedPart text)) (sym read) (record { stands = stands; depth = 1; value = whole.0; encodes = whole.1 })
     by (Err fault) e =
-        let low = judgement_within (body_place value).octets fault.0 fault.1 e in
+        let low = first_fault_within (body_place value).octets fault.0 fault.1 e in
         subst (Within text (IsEncodedPart text)) (sym (ap (λ r. placed r (body_place value)) e)) (omega (arith, low, part_ends text (body_place value).at (body_place value).octets stands))
 
 -- what each kind of value says
