@@ -19,11 +19,11 @@ unfolding nested
 returns-in-Ok c =
     let tlv = c.args.self.now in
     let base = c.body_at-base.result in
-    ap (λ (q : Place). placed (first_fault_in q.octets) q) (sym (stands_inside tlv base c.body_at-base.ensures.place)) ∙ ap (λ (r : Result (Unit {0}) (Rule × ℕ)). placed r (record { octets = tlv.body.now; at = base })) c.in-Ok.ensures.judgement ∙ ap (λ (q : Place). Ok q) (sym c.whole_at.ensures.place)
+    ap (λ (q : Place). placed (first_fault_in q.octets) q) (sym (stands_inside tlv base c.body_at-base.ensures.place)) ∙ ap (λ (r : Result (Unit {0}) (Rule × ℕ)). placed r (record { octets = tlv.body.now; at = base })) c.in-Ok.ensures.fault ∙ ap (λ (q : Place). Ok q) (sym c.whole_at.ensures.place)
 
 pub returns-in-Err : goal.returns-in-Err
 unfolding nested
 returns-in-Err c =
     let tlv = c.args.self.now in
     let base = c.body_at-base.result in
-    ap (λ (q : Place). placed (first_fault_in q.octets) q) (sym (stands_inside tlv base c.body_at-base.ensures.place)) ∙ ap (λ (r : Result (Unit {0}) (Rule × ℕ)). placed r (record { octets = tlv.body.now; at = base })) c.in-Err.ensures.judgement
+    ap (λ (q : Place). placed (first_fault_in q.octets) q) (sym (stands_inside tlv base c.body_at-base.ensures.place)) ∙ ap (λ (r : Result (Unit {0}) (Rule × ℕ)). placed r (record { octets = tlv.body.now; at = base })) c.in-Err.ensures.fault
