@@ -19,7 +19,7 @@ abbrev pub GivesText : List Row → Text → Bor Text → Type 0
 GivesText rows id text = first_of id rows ≡ Some text.now
 
 -- the kind of input that has the name
-abbrev pub kind_named : List ℕ → Option Kind
+abbrev pub kind_named : Text → Option Kind
 kind_named name =
     if bytes_eq name (codes "cert") then Some Certificate
     else (if bytes_eq name (codes "crl") then Some RevocationList
