@@ -24,8 +24,8 @@ IsFailing status = (status ≡ 4) ⊎ (status ≡ 5) ⊎ (status ≡ 6)
 
 -- This failed, with its status; standard output is as it was, except for what came before a late failure.
 abbrev pub EndedAs : (Failure → Type 0) → Type 0 → ℕ → Type 0
-EndedAs FailsByStatus unchanged status =
-    (failure : Failure) × FailsByStatus failure × (status ≡ exit_status failure) × UnlessLate failure unchanged
+EndedAs HasHappened unchanged status =
+    (failure : Failure) × HasHappened failure × (status ≡ exit_status failure) × UnlessLate failure unchanged
 
 -- This failed, with its status, and its line was told; standard output is as it was, except for what came before a late failure. Or the
 -- words are mistaken.
