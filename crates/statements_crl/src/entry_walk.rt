@@ -13,5 +13,5 @@ pub struct Entries<'a> {
     /// `None` if revokedCertificates is not there.
     pub(crate) members: Option<Cursor<'a>>,
     // Each value that is left is an entry, so that parts of it can be handed out without a look at the others.
-    pub ghost were_read: { IfSome members (λ cursor. checked (entries (left cursor).values) ≡ Ok tt) } by { Prim.hlevel props },
+    pub ghost were_read: { IfSome members (λ cursor. entries_checked (entries (left cursor).values) ≡ Ok tt) } by { Prim.hlevel props },
 }
