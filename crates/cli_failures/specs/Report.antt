@@ -6,7 +6,7 @@ use Rattle.asn.specs.DerFault.{fault_number, fault_name, fault_place, rule_numbe
 use Rattle.cert.specs.Fault.{cert_rule_number, cert_rule_name}
 use Rattle.cert.specs.declared.fault.CertRule.{CertRule}
 use Rattle.cert.specs.declared.fault.CertRule.TheVariants.{Der}
-use Rattle.statements_parts.specs.Fault.{rule_number as statement_number, rule_name as statement_name, statement_fault_number, statement_fault_name, statement_fault_place}
+use Rattle.statements_parts.specs.Fault.{statement_rule_number, statement_rule_name, statement_fault_number, statement_fault_name, statement_fault_place}
 use Rattle.statements_parts.specs.declared.fault.StatementRule.{StatementRule}
 use Rattle.statements_parts.specs.declared.fault.StatementRule.TheVariants.{Der as OfDer, NotSuccessful}
 use Rattle.statements_parts.specs.declared.fault.StatementFault.{StatementFault}
@@ -39,11 +39,11 @@ printed_name rule = cert_rule_name rule
 -- the same of a rule of statements
 abbrev pub printed_statement_number : StatementRule → ℕ
 printed_statement_number (OfDer rule) = rule_number rule
-printed_statement_number rule = statement_number rule
+printed_statement_number rule = statement_rule_number rule
 
 abbrev pub printed_statement_name : StatementRule → List ℕ
 printed_statement_name (OfDer rule) = rule_name rule
-printed_statement_name rule = statement_name rule
+printed_statement_name rule = statement_rule_name rule
 
 unfoldable pub unsuccessful_words : ℕ → List ℕ
 unsuccessful_words code = codes ": refused 55 NotSuccessful " ++ decimal code ++ codes "\n"
