@@ -8,6 +8,7 @@ use crate::holds;
 use cert::{CertFault, CertRule, Certificate, Extensions, Version};
 use names::Form;
 use std::alloc::{AllocError, Global};
+use std::process::Abort;
 use std::test::Fail;
 
 #[test]
@@ -188,7 +189,7 @@ fn with_types(alloc: Global, count: u8, last: u8) -> Result<Vec<u8>, AllocError>
     with_list(alloc, &list)
 }
 
-fn tells_usage(rt: &HostRuntime, said: &Extensions<'_>) -> Result<(), Fail> {
+fn tells_usage(rt: &impl Abort, said: &Extensions<'_>) -> Result<(), Fail> {
     let usage = said.key_usage.ok_or("keyUsage")?;
     holds(rt, usage.bits == b"\x06".as_slice(), "the bits of keyUsage");
     holds(
