@@ -14,7 +14,7 @@ use Rattle.cli_printing.specs.CrlText.{crl_text}
 use Rattle.cli_printing.specs.FingerprintText.{certificate_print_line, crl_print_line, response_print_lines}
 use Rattle.cli_printing.specs.ResponseText.{response_text}
 use Rattle.cli_failures.specs.declared.failure.Failure.{Failure}
-use Rattle.cli_failures.specs.Failures.{Holding, HoldsCertificate, HoldsList, HoldsResponse, IsNoCertificate, IsNoList, IsNoResponse}
+use Rattle.cli_failures.specs.Failures.{Holding, HoldsCertificate, HoldsList, HoldsResponse, IsNoCertificate, IsNoList, IsNoResponse, OrUnwritable}
 
 -- the lines of the value whose encoding the file holds
 abbrev pub IsTreeText : Holding → List ℕ → List ℕ → Type 0
