@@ -1,2 +1,2 @@
 /// The SHA-256 of the sources that the program is made from, as `.ci/sources` prints it.
-pub(crate) const SOURCES: &str = "f578d41db9c972e524d639c334e8e43639c6d2d8693778a98448f381f326cc07";
+pub(crate) const SOURCES: &str = "d070424992cc3f6478b5536c022617993337ed275c90d4d5bcc3c21542a75b2f";
