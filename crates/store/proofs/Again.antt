@@ -124,7 +124,7 @@ keyed_schema_of_trees tables indexes s trees one a b =
     let views = none_zipped _ _ _ s.views a.lists.listed.views b.lists.listed.views in
     λ i. record { tables = same i; indexes = indexed i; views = views i }
 
-store_schema_of_trees : (origin : Origin) (s : Schema) (trees : Trees) → IsSound (store_schema origin) trees → IsSound s trees → s ≡ store_schema origin
+pub store_schema_of_trees : (origin : Origin) (s : Schema) (trees : Trees) → IsSound (store_schema origin) trees → IsSound s trees → s ≡ store_schema origin
 store_schema_of_trees Made s trees = keyed_schema_of_trees (store_schema Made).tables (store_schema Made).indexes s trees (omega arith, (omega arith, (omega arith, (omega arith, (omega arith, tt)))))
 store_schema_of_trees Migrated s trees = keyed_schema_of_trees (store_schema Migrated).tables (store_schema Migrated).indexes s trees (omega arith, (omega arith, (omega arith, (omega arith, (omega arith, (omega arith, (omega arith, tt)))))))
 

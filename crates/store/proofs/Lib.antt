@@ -3,3 +3,4 @@ mod Over
 mod Looking
 mod Again
 mod Reopened
+mod Crashed

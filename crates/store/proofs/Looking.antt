@@ -1,5 +1,5 @@
 -- A look-up that finds or fails, and the transaction that is dropped.
-use Rattle.std.proofs.Common.{◌≡◌, Result, Ok, Err, true, subst, inr}
+use Rattle.std.proofs.Common.{◌≡◌, Result, Ok, Err, OnOk, IsTrue, true, subst, inr}
 use Rattle.sqlite.specs.Store.{Ghosts}
 use Rattle.sqlite.specs.Held.{Held, state}
 use Rattle.sqlite.specs.State.{State, KeepsCommit, IsRolledBack, Survives}
@@ -34,3 +34,8 @@ pub caused_at : {S : Type 0} (g : Ghosts S) (old begun : Held S) (last new : Sta
     → Survives last new (λ _. ⊥) → IsCausedOverStore (state g old) new fault
 caused_at g old begun last new fault is h later e held store =
     sooner_refuses (state g old) last new (λ _. ⊥) later (subst (λ b. IsCausedOverStore (state g b) last fault) is h e held store)
+
+-- a transaction is open if its connection was
+pub open_at : {S A : Type 0} (g : Ghosts S) (old begun : Held S) (result : Result A StoreFault) → begun ≡ record old { in_transaction = true } → OnOk result (IsTrue (state g begun).is_open)
+    → OnOk result (IsTrue (state g old).is_open)
+open_at g old begun result is h = subst (λ b. OnOk result (IsTrue (state g b).is_open)) is h

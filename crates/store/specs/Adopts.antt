@@ -1,5 +1,5 @@
 -- What the calls of a store say of the database outside a transaction.
-use Rattle.std.specs.Prelude.{◌≡◌, ◌≢◌, ◌⊎◌, Result, Ok, Err, IfErr, IsTrue}
+use Rattle.std.specs.Prelude.{◌≡◌, ◌≢◌, ◌⊎◌, Result, None, Ok, Err, IfErr, OnOk, IsTrue}
 use Rattle.sqlite.specs.Effect.{Database}
 use Rattle.sqlite.specs.State.{State, HasCleanDisk, IsUnchanged, KeepsCommit, Survives}
 use Rattle.sqlite_disk.specs.declared.Disk.{Ghosts}
@@ -68,6 +68,10 @@ IsNoStore db = (held : Holdings) → IsStoreOf db held ⊎ IsVersion1Of db held 
 abbrev pub IsMigratedFrom : State → Trees → Type 0
 IsMigratedFrom old trees = IsVersion1 old.now × ((held : Holdings) → IsVersion1Of old.now held → AreTreesOf held trees)
 
+-- no limit is set on the steps of a query
+abbrev pub IsUnlimited : State → Type 0
+IsUnlimited s = s.step_limit ≡ None
+
 -- ---- look-ups between transactions
 
 -- where the connection is still open the database is as it was, and so are both maps
@@ -83,6 +87,10 @@ FindsOrFails Kept db Is (Err fault) = Kept × (fault ≡ Schema → (held : Hold
 -- if the disk has returned what was written
 abbrev pub FindsHeld : {A : Type 0} → (State → State → Type 0) → State → State → (Holdings → A → Type 0) → Result A StoreFault → Type 0
 FindsHeld Keeps old new Is result = HasCleanDisk new → FindsOrFails (Keeps old new) old.now Is result
+
+-- no look-up on a connection that is shut succeeds, if the disk has returned what was written
+abbrev pub FindsOnlyIfOpen : {A : Type 0} → State → State → Result A StoreFault → Type 0
+FindsOnlyIfOpen old new result = HasCleanDisk new → OnOk result (IsTrue old.is_open)
 
 -- over a store the fault `Store` has a cause, if the disk has returned what was written
 abbrev pub CausedOn : {A : Type 0} → State → State → Result A StoreFault → Type 0

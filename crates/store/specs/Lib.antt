@@ -1,2 +1,3 @@
 pub mod Adopts
 pub mod Opens
+pub mod Crash

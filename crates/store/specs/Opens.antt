@@ -6,6 +6,8 @@ use Rattle.sqlite_store.specs.declared.store.FileStore.{FileStore}
 use Rattle.sqlite.specs.Held.{Held}
 use Rattle.sqlite.specs.Files.{FailsToClose, FailsToOpenFiles, Finds, IsCleanLeft, IsClosed, IsOpened, LeavesFiles, file_state}
 use Rattle.sqlite.specs.State.{HasCleanDisk}
+use Rattle.sqlite.specs.Start.{FindsIn}
+use Rattle.sqlite_wal.specs.Recovery.{Image}
 use Rattle.sqlite.specs.declared.error.Error.{Error}
 use Rattle.sqlite_store.specs.FileStore.{view}
 use Rattle.sqlite_trees.specs.View.{IsClean}
@@ -22,36 +24,60 @@ use Rattle.store.specs.declared.refusal.ReopenFault.{ReopenFault}
 use Rattle.store.specs.declared.refusal.ReopenFault.TheVariants.{Close, Open, Adopt}
 use Rattle.store.specs.declared.refusal.OpenFault.{OpenFault}
 use Rattle.store.specs.declared.refusal.OpenFault.TheVariants.{Unconnected, Refused}
-use Rattle.store.specs.Adopts.{AdoptIsCaused, CopiesTo, IsNoStore, StaysIfOpen}
+use Rattle.store.specs.Adopts.{AdoptIsCaused, CopiesTo, IsCreatedOn, IsNoStore, IsUnlimited, KeepsStoreOn, MigratesStoreOn, StaysIfOpen, WasStoreOn}
 
 -- ---- at a path
 
-abbrev pub fault_of : OpenFault → StoreFault
+-- The files held this as they were opened. A connection found a store there, which is taken as it was, or one of version 1, which is migrated.
+pub record IsTakenFrom {D : Type 0} {g : Ghosts D} (image : Image) (store : Held (FileStore D g)) : Type 0 where
+  pub conn : Held (FileStore D g)
+  pub found : FindsIn image (file_state conn)
+  pub opened : IsOpened conn
+  pub was : WasStoreOn conn store
+  pub unchanged : KeepsStoreOn conn store
+  pub migrated : MigratesStoreOn conn store
+
+-- or it found no table there, and a store is made
+pub record IsMadeFrom {D : Type 0} {g : Ghosts D} (image : Image) (store : Held (FileStore D g)) : Type 0 where
+  pub conn : Held (FileStore D g)
+  pub found : FindsIn image (file_state conn)
+  pub opened : IsOpened conn
+  pub created : IsCreatedOn conn store
+
+-- the same if the disk returned what was written
+abbrev pub IsTakenFromOn : {D : Type 0} {g : Ghosts D} → Image → Held (FileStore D g) → Type 0
+IsTakenFromOn image store = HasCleanDisk (file_state store) → IsTakenFrom image store
+
+abbrev pub IsMadeFromOn : {D : Type 0} {g : Ghosts D} → Image → Held (FileStore D g) → Type 0
+IsMadeFromOn image store = HasCleanDisk (file_state store) → IsMadeFrom image store
+
+abbrev pub fault_of : {D : Type 0} {g : Ghosts D} → OpenFault D g → StoreFault
 fault_of (Unconnected fault) = fault
 fault_of (Refused refused) = refused.fault
 
 -- The fault is for the tables and rows only of a connection that was opened, and where it is still open it shows no store, if the disk
 -- returned what was written.
-abbrev pub IsNotOpened : OpenFault → Type 0
+abbrev pub IsNotOpened : {D : Type 0} {g : Ghosts D} → OpenFault D g → Type 0
 IsNotOpened (Unconnected fault) = fault ≢ Schema
 IsNotOpened (Refused refused) =
     HasCleanDisk (file_state refused.conn) → IsTrue (file_state refused.conn).is_open → refused.fault ≡ Schema →
     IsNoStore (file_state refused.conn).now
 
 -- the fault is never for the tables and rows
-abbrev pub IsNotMade : OpenFault → Type 0
+abbrev pub IsNotMade : {D : Type 0} {g : Ghosts D} → OpenFault D g → Type 0
 IsNotMade (Unconnected fault) = fault ≢ Schema
 IsNotMade (Refused refused) = HasCleanDisk (file_state refused.conn) → refused.fault ≢ Schema
 
--- Why a connection that was opened is not taken for a store, if what is migrated fits. It comes back as it was, if it is still open. Why
--- none could be opened is not said.
+-- Why a connection that was opened is not taken for a store, if what is migrated fits; no limit on steps is the cause. It comes back as it
+-- was, if it is still open. Why none could be opened is not said.
 pub record RefusesToOpenForCause {D : Type 0} {g : Ghosts D} (refused : refusal.Refused D g) : Type 0 where
   pub conn : Held (FileStore D g)
   pub opened : IsOpened conn
+  pub unlimited : IsUnlimited (file_state conn)
   pub stays : StaysIfOpen (file_state conn) (file_state refused.conn)
   pub caused : FitsVersion2 (file_state conn).now → AdoptIsCaused (file_state conn) (file_state refused.conn) refused.fault
 
-abbrev pub IsNotOpenedForCause : OpenFault → Type 0
+abbrev pub IsNotOpenedForCause : {D : Type 0} {g : Ghosts D} → OpenFault D g → Type 0
 IsNotOpenedForCause (Unconnected fault) = ⊤
 IsNotOpenedForCause (Refused refused) = HasCleanDisk (file_state refused.conn) → RefusesToOpenForCause refused
 
@@ -59,10 +85,11 @@ IsNotOpenedForCause (Refused refused) = HasCleanDisk (file_state refused.conn) �
 pub record RefusesToMakeForCause {D : Type 0} {g : Ghosts D} (refused : refusal.Refused D g) : Type 0 where
   pub conn : Held (FileStore D g)
   pub opened : IsOpened conn
+  pub unlimited : IsUnlimited (file_state conn)
   pub stays : StaysIfOpen (file_state conn) (file_state refused.conn)
   pub caused : CreateIsCaused (file_state conn) (file_state refused.conn) refused.fault
 
-abbrev pub IsNotMadeForCause : OpenFault → Type 0
+abbrev pub IsNotMadeForCause : {D : Type 0} {g : Ghosts D} → OpenFault D g → Type 0
 IsNotMadeForCause (Unconnected fault) = ⊤
 IsNotMadeForCause (Refused refused) = HasCleanDisk (file_state refused.conn) → RefusesToMakeForCause refused
 
@@ -101,6 +128,7 @@ pub record AdoptsAgainForCause {D : Type 0} {g : Ghosts D} (old : Held (FileStor
   pub copied : CopiesTo old files
   pub found : Finds files again
   pub opened : IsOpened again
+  pub unlimited : IsUnlimited (file_state again)
   pub caused : AdoptIsCaused (file_state again) (file_state refused.conn) refused.fault
 
 -- of a store that is closed, and not opened or taken for one again

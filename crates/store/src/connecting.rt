@@ -3,10 +3,13 @@
 ghost use Rattle.std.specs.Prelude.{◌≢◌, IfErr, IfOk};
 ghost use Rattle.sqlite.specs.Files.{IsOpened, file_state};
 ghost use Rattle.sqlite.specs.Held.{IsNew};
+ghost use Rattle.sqlite.specs.Start.{FindsIn};
 ghost use Rattle.sqlite.specs.State.{HasCleanDisk};
+ghost use Rattle.sqlite_wal.specs.Files.{image_at};
 
 use sqlite::{Connection, FileStore, Options};
-use sqlite_std_file::{File, OpenError, Unknown};
+use sqlite_disk::Start;
+use sqlite_std_file::{FileFrom, OpenError};
 use std::fs;
 use std::hash::{BuildHasher, RandomState};
 use std::io::ErrorKind;
@@ -57,11 +60,14 @@ fn is_file(rt: &HostRuntime, path: &str) -> Result<bool, StoreFault>
 }
 
 /// Opens the database at the path, if a file is to be there, or else makes an empty one.
-pub(crate) fn connect(
+pub(crate) fn connect<S: Start>(
     rt: &HostRuntime,
     path: &str,
     is_there: bool,
-) -> Result<Connection<FileStore<File>>, StoreFault>
+    start: S,
+) -> Result<Connection<FileStore<FileFrom<S>>>, StoreFault>
+    ensures found { IfOk result (λ conn. HasCleanDisk (file_state conn)
+        → FindsIn (image_at S.Start) (file_state conn)) }
     ensures fresh { IfOk result IsNew }
     ensures opened { IfOk result (λ conn. HasCleanDisk (file_state conn) → IsOpened conn) }
     ensures fault { IfErr result (λ fault. fault ≢ StoreFault.Schema) }
@@ -70,7 +76,10 @@ pub(crate) fn connect(
         return Err(StoreFault::Store);
     }
     let options = random_options(rt)?;
-    let files = sqlite_std_file::open(rt, path, Unknown).map_err(|error| fault_of(&error))?;
+    let files = match sqlite_std_file::open(rt, path, start) {
+        Ok(files) => files,
+        Err(error) => return Err(fault_of(&error)),
+    };
     match Connection::open_files(rt.alloc(), files, options) {
         Ok(conn) => Ok(conn),
         Err((error, _left)) => Err(StoreFault::from(error)),

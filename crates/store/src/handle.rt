@@ -5,13 +5,14 @@ ghost use Rattle.sqlite.specs.Files.{IsClosed, file_state};
 ghost use Rattle.statements_facts.specs.Fact.{seen_issuer};
 ghost use Rattle.store_sql.specs.Statements.{CommitsNothing, IsDurable};
 ghost use Rattle.store_adoption.specs.Creates.{IsSettled, HasTables};
-ghost use Rattle.store.specs.Adopts.{CausedOn, IsRefusedForCause, Reopens, HasOtherTables, MayLeaveVersion2, IsCreatedOn, IsEmptyStoreOn, IsNotAdoptedOn, IsNotCreatedForCause, IsNotCreatedOn, IsOpenOn, MayLeaveEmpty, WasStoreOn, KeepsStoreOn, MigratesStoreOn, IsStoreOn, PutsOn, PutsForCauseOn, AllOrNothingOn, FindsHeldOn, AreUsable, CopiesTo, RestartsOn};
+ghost use Rattle.store.specs.Adopts.{CausedOn, IsRefusedForCause, Reopens, HasOtherTables, MayLeaveVersion2, IsCreatedOn, IsEmptyStoreOn, IsNotAdoptedOn, IsNotCreatedForCause, IsNotCreatedOn, IsOpenOn, MayLeaveEmpty, WasStoreOn, KeepsStoreOn, MigratesStoreOn, IsStoreOn, PutsOn, PutsForCauseOn, AllOrNothingOn, FindsHeldOn, FindsOnlyIfOpen, IsUnlimited, AreUsable, CopiesTo, RestartsOn};
 ghost use Rattle.store.specs.Opens.{ClosesForCause, FailsToReopen, ReopensForCause, reopen_fault};
 ghost use Rattle.store_migration.specs.Migrates.{MayLeaveMigrated};
 ghost use Rattle.store_maps.specs.Held.{IsCrlHeld, IsOcspHeld};
 
 use crate::adopting::{adopt, take_over};
 use crate::look_up::{look_up_crl, look_up_ocsp};
+use crate::putting::put;
 use crate::refusal::{Refused, ReopenFault};
 use crate::reopening::open_again;
 use sqlite::{Connection, FileStore, Files};
@@ -20,7 +21,6 @@ use statements_facts::{Counts, CrlAnswer, Facts, Issuer, OcspAnswer, Scope};
 use std::alloc::Global;
 use store_adoption::create;
 use store_sql::StoreFault;
-use store_taking::put;
 
 /// A store over files, between transactions.
 pub struct Store<D: Disk> {
@@ -54,6 +54,7 @@ impl<D: Disk + Drop> Store<D> {
         ensures created { IfOk result (λ store. IsCreatedOn conn store.conn) }
         ensures nothing { IfOk result (λ store. IsEmptyStoreOn store.conn) }
         ensures is_open { IfOk result (λ store. IsOpenOn store.conn) }
+        ensures settled { IfOk result (λ store. IsSettled (file_state store.conn)) }
         ensures durable { IfOk result (λ store. IsDurable (file_state store.conn)) }
         ensures crash { IfOk result (λ store. MayLeaveEmpty conn store.conn) }
         ensures free { OnOk result (HasTables (file_state conn).now → ⊥) }
@@ -105,6 +106,8 @@ impl<D: Disk + Drop> Store<D> {
     pub fn put(&mut self, facts: &Facts<'_>) -> Result<Counts, StoreFault>
         ensures puts { PutsOn self.old.conn self.new.conn facts.now result }
         ensures caused { PutsForCauseOn self.old.conn self.new.conn facts.now result }
+        ensures settled { IsSettled (file_state self.old.conn)
+            × IsSettled (file_state self.new.conn) }
         ensures survives { AllOrNothingOn self.old.conn self.new.conn facts.now }
     {
         put(&mut self.conn, facts)
@@ -122,6 +125,10 @@ impl<D: Disk + Drop> Store<D> {
         ensures looks_up { FindsHeldOn self.old.conn self.new.conn
             (IsCrlHeld (seen_issuer issuer.now) scope serial.now) result }
         ensures caused { CausedOn (file_state self.old.conn) (file_state self.new.conn) result }
+        ensures open { FindsOnlyIfOpen (file_state self.old.conn) (file_state self.new.conn)
+            result }
+        ensures settled { IsSettled (file_state self.old.conn)
+            × IsSettled (file_state self.new.conn) }
         ensures durable { IsDurable (file_state self.new.conn) }
         ensures survives { CommitsNothing (file_state self.old.conn) (file_state self.new.conn) }
     {
@@ -139,6 +146,10 @@ impl<D: Disk + Drop> Store<D> {
         ensures looks_up { FindsHeldOn self.old.conn self.new.conn
             (IsOcspHeld (seen_issuer issuer.now) name_hash.now serial.now) result }
         ensures caused { CausedOn (file_state self.old.conn) (file_state self.new.conn) result }
+        ensures open { FindsOnlyIfOpen (file_state self.old.conn) (file_state self.new.conn)
+            result }
+        ensures settled { IsSettled (file_state self.old.conn)
+            × IsSettled (file_state self.new.conn) }
         ensures durable { IsDurable (file_state self.new.conn) }
         ensures survives { CommitsNothing (file_state self.old.conn) (file_state self.new.conn) }
     {
@@ -167,6 +178,8 @@ impl<D: Disk + Drop> Store<D> {
     pub fn reopen(self, alloc: Global) -> Result<Store<D>, ReopenFault<D>>
         ensures restarts { IfOk result (λ store. RestartsOn self.conn store.conn) }
         ensures store { IfOk result (λ store. IsStoreOn store.conn) }
+        ensures unlimited { IfOk result (λ store. IsUnlimited (file_state store.conn)) }
+        ensures settled { IfOk result (λ store. IsSettled (file_state store.conn)) }
         ensures durable { IfOk result (λ store. IsDurable (file_state store.conn)) }
         ensures cause { IfErr result (ReopensForCause self.conn) }
         ensures fails { IfErr result (FailsToReopen self.conn) }

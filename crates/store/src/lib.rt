@@ -3,13 +3,16 @@
 
 mod adopting;
 mod connecting;
+mod crash;
 mod handle;
 mod look_up;
 mod paths;
+mod putting;
 mod refusal;
 mod reopening;
 
 pub use adopting::{adopt, take_over};
+pub use crash::crash_laws;
 pub use handle::Store;
 pub use look_up::{look_up_crl, look_up_ocsp};
 pub use refusal::{OpenFault, Refused, ReopenFault};

@@ -5,7 +5,7 @@ ghost use Rattle.sqlite.specs.Held.{state};
 ghost use Rattle.statements_facts.specs.Fact.{seen_issuer};
 ghost use Rattle.store_sql.specs.Statements.{CommitsNothing, IsDurable};
 ghost use Rattle.store_adoption.specs.Creates.{IsSettled};
-ghost use Rattle.store.specs.Adopts.{CausedOn, FindsHeld, StaysIfOpen};
+ghost use Rattle.store.specs.Adopts.{CausedOn, FindsHeld, FindsOnlyIfOpen, StaysIfOpen};
 ghost use Rattle.store_maps.specs.Held.{IsCrlHeld, IsOcspHeld};
 ghost use Rattle.sqlite.specs.State.{KeepsCommit};
 
@@ -25,6 +25,7 @@ fn crl_in_transaction<S: Alter>(
     ensures looks_at { FindsHeld KeepsCommit (state S.Store conn.old) (state S.Store conn.new)
         (IsCrlHeld (seen_issuer issuer.now) scope serial.now) result }
     ensures caused { CausedOn (state S.Store conn.old) (state S.Store conn.new) result }
+    ensures open { FindsOnlyIfOpen (state S.Store conn.old) (state S.Store conn.new) result }
     ensures survives { CommitsNothing (state S.Store conn.old) (state S.Store conn.new) }
 {
     let mut tx = conn.transaction();
@@ -44,6 +45,7 @@ pub fn look_up_crl<S: Alter>(
     ensures looks_up { FindsHeld StaysIfOpen (state S.Store conn.old) (state S.Store conn.new)
         (IsCrlHeld (seen_issuer issuer.now) scope serial.now) result }
     ensures caused { CausedOn (state S.Store conn.old) (state S.Store conn.new) result }
+    ensures open { FindsOnlyIfOpen (state S.Store conn.old) (state S.Store conn.new) result }
     ensures settled { IsSettled (state S.Store conn.old) × IsSettled (state S.Store conn.new) }
     ensures durable { IsDurable (state S.Store conn.new) }
     ensures survives { CommitsNothing (state S.Store conn.old) (state S.Store conn.new) }
@@ -65,6 +67,7 @@ fn ocsp_in_transaction<'x, S: Alter>(
     ensures looks_at { FindsHeld KeepsCommit (state S.Store conn.old) (state S.Store conn.new)
         (IsOcspHeld (seen_issuer issuer.now) name_hash.now serial.now) result }
     ensures caused { CausedOn (state S.Store conn.old) (state S.Store conn.new) result }
+    ensures open { FindsOnlyIfOpen (state S.Store conn.old) (state S.Store conn.new) result }
     ensures survives { CommitsNothing (state S.Store conn.old) (state S.Store conn.new) }
 {
     let mut tx = conn.transaction();
@@ -83,6 +86,7 @@ pub fn look_up_ocsp<'x, S: Alter>(
     ensures looks_up { FindsHeld StaysIfOpen (state S.Store conn.old) (state S.Store conn.new)
         (IsOcspHeld (seen_issuer issuer.now) name_hash.now serial.now) result }
     ensures caused { CausedOn (state S.Store conn.old) (state S.Store conn.new) result }
+    ensures open { FindsOnlyIfOpen (state S.Store conn.old) (state S.Store conn.new) result }
     ensures settled { IsSettled (state S.Store conn.old) × IsSettled (state S.Store conn.new) }
     ensures durable { IsDurable (state S.Store conn.new) }
     ensures survives { CommitsNothing (state S.Store conn.old) (state S.Store conn.new) }

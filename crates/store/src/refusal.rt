@@ -45,14 +45,14 @@ impl<D: Disk> fmt::Display for ReopenFault<D> {
 
 /// Why no store is opened or made at a path.
 #[derive(Drop)]
-pub enum OpenFault {
+pub enum OpenFault<D: Disk = File> {
     /// There is no connection to a database: a file is missing, in the way or no database, or memory ran out.
     Unconnected(StoreFault),
     /// The connection that was opened, which is not taken for a store.
-    Refused(Refused<File>),
+    Refused(Refused<D>),
 }
 
-impl fmt::Display for OpenFault {
+impl<D: Disk> fmt::Display for OpenFault<D> {
     fn fmt<W: fmt::Write>(&self, f: &mut fmt::Formatter<W>) -> fmt::Result {
         match self {
             OpenFault::Unconnected(fault) => write!(f, "there is no database at the path: {fault}"),
@@ -61,24 +61,24 @@ impl fmt::Display for OpenFault {
     }
 }
 
-impl From<StoreFault> for OpenFault {
+impl<D: Disk> From<StoreFault> for OpenFault<D> {
     ghost use Rattle.std.specs.Prelude.{◌≡◌};
     ghost use Rattle.store.specs.declared.refusal.OpenFault.TheVariants.{Unconnected};
 
     ghost from_gives = { λ fault unopened. unopened ≡ Unconnected fault };
 
-    fn from(fault: StoreFault) -> OpenFault {
+    fn from(fault: StoreFault) -> OpenFault<D> {
         OpenFault::Unconnected(fault)
     }
 }
 
-impl From<Refused<File>> for OpenFault {
+impl<D: Disk> From<Refused<D>> for OpenFault<D> {
     ghost use Rattle.std.specs.Prelude.{◌≡◌};
     ghost use Rattle.store.specs.declared.refusal.OpenFault.TheVariants.{Refused as IsRefused};
 
     ghost from_gives = { λ refused unopened. unopened ≡ IsRefused refused };
 
-    fn from(refused: Refused<File>) -> OpenFault {
+    fn from(refused: Refused<D>) -> OpenFault<D> {
         OpenFault::Refused(refused)
     }
 }

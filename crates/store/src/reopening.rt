@@ -2,6 +2,7 @@
 
 ghost use Rattle.std.specs.Prelude.{◌≡◌, ◌≢◌, false, IfErr, IfOk, IsTrue};
 ghost use Rattle.sqlite.specs.Files.{Finds, IsCleanLeft, IsOpened, LeavesFiles, file_state};
+ghost use Rattle.sqlite.specs.Held.{IsNew};
 ghost use Rattle.sqlite.specs.State.{HasCleanDisk};
 ghost use Rattle.store.specs.Opens.{OpensForCause};
 
@@ -22,6 +23,7 @@ pub(crate) fn open_again<D: Disk + Drop>(
     requires log { IsTrue (D.Disk.is_usable files.log) }
     requires db { IsTrue (D.Disk.is_usable files.db) }
     ensures idle { IfOk result (λ conn. conn.in_transaction ≡ false) }
+    ensures fresh { IfOk result IsNew }
     ensures opened { IfOk result (λ conn. HasCleanDisk (file_state conn) → IsOpened conn) }
     ensures found { IfOk result (λ conn. HasCleanDisk (file_state conn) → Finds files conn) }
     ensures fault { IfErr result (λ failed. failed.0 ≢ StoreFault.Schema) }

@@ -1,4 +1,4 @@
-use Rattle.std.proofs.Common.{◌≡◌, Option, IfErr, option_map, rules, subst, arith}
+use Rattle.std.proofs.Common.{◌≡◌, Option, IfErr, OnOk, IsTrue, option_map, rules, subst, arith}
 use Rattle.sqlite.specs.Held.{state}
 use Rattle.sqlite.specs.State.{HasCleanDisk, KeepsCommit}
 use Rattle.statements_facts.specs.Statement.{Holdings, answer_for}
@@ -8,7 +8,7 @@ use Rattle.statements_facts.specs.declared.answer.CrlAnswer.{CrlAnswer}
 use Rattle.statements_facts.specs.Answer.{seen_crl}
 use Rattle.store_sql.proofs.Laws.{if_err_then}
 use Rattle.store.specs.Adopts.{FindsOrFails}
-use Rattle.store.proofs.Looking.{caused_at, looked_at}
+use Rattle.store.proofs.Looking.{caused_at, looked_at, open_at}
 use Rattle.store.proofs.look_up.crl_in_transaction.Goals as goal
 
 pub returns-clause-looks_at : goal.returns-clause-looks_at
@@ -30,3 +30,12 @@ returns-clause-caused g c =
     let step = c.drop-tx.ensures.survives.clean in
     if_err_then c.crl.result _ _ (c.crl.ensures.caused (omega (arith, step, clean))) (λ fault caused.
     caused_at g.S.Store old c.transaction-tx.result.conn.now (state g.S.Store c.crl.new.tx.conn.now) (state g.S.Store c.drop-tx.new.self.0) fault c.transaction-tx.ensures.begun caused c.drop-tx.ensures.survives))
+
+pub returns-clause-open : goal.returns-clause-open
+returns-clause-open g c =
+    let old = c.args.conn.now in
+    let same : c.drop-tx.new.self.0 ≡ c.conn-1.given.0 = search rules in
+    subst (λ h. HasCleanDisk (state g.S.Store h) → OnOk c.crl.result (IsTrue (state g.S.Store old).is_open)) same
+    (λ clean.
+    let step = c.drop-tx.ensures.survives.clean in
+    open_at g.S.Store old c.transaction-tx.result.conn.now c.crl.result c.transaction-tx.ensures.begun (c.crl.ensures.open (omega (arith, step, clean))))

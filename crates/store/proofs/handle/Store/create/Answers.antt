@@ -6,6 +6,7 @@ returns-in-Ok g c = record {
   created = λ clean. c.in-Ok.ensures.creates clean;
   nothing = λ clean. (c.in-Ok.ensures.creates clean).store;
   is_open = λ clean. (c.in-Ok.ensures.creates clean).is_open;
+  settled = c.create.ensures.settled.1;
   durable = c.create.ensures.durable;
   crash = c.create.ensures.crash;
   free = λ has. absurd (let no = c.in-Ok.ensures.tables has in cc);
@@ -21,6 +22,7 @@ returns-in-Err g c = record {
   created = tt;
   nothing = tt;
   is_open = tt;
+  settled = tt;
   durable = tt;
   crash = tt;
   free = tt;

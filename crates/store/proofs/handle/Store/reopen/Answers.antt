@@ -1,4 +1,4 @@
-use Rattle.std.proofs.Common.{arith}
+use Rattle.std.proofs.Common.{arith, ◌∙◌}
 use Rattle.sqlite.specs.Files.{file_state}
 use Rattle.sqlite.specs.State.{HasCleanDisk}
 use Rattle.store.proofs.Reopened.{restarts, still_holds}
@@ -23,8 +23,15 @@ returns-in-Err-adopt-clause-cause g c clean =
       copied = c.in-Ok.ensures.copied;
       found = c.in-Ok-open_again.ensures.found before;
       opened = c.in-Ok-open_again.ensures.opened before;
+      unlimited = c.in-Ok-open_again.ensures.fresh.unlimited;
       caused = c.in-Err-adopt.ensures.caused clean;
     }
 
 pub returns-clause-store : goal.returns-clause-store
 returns-clause-store g c clean = (c.in_default.ensures.adopts clean).1
+
+pub returns-clause-unlimited : goal.returns-clause-unlimited
+returns-clause-unlimited g c = c.adopt.ensures.survives.limit ∙ c.in-Ok-open_again.ensures.fresh.unlimited
+
+pub returns-clause-settled : goal.returns-clause-settled
+returns-clause-settled g c = c.adopt.ensures.settled.1

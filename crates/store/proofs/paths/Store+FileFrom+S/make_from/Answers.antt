@@ -2,21 +2,32 @@ use Rattle.std.proofs.Common.{arith}
 use Rattle.std.proofs.lemmas.Result.{err_from_is_err_and}
 use Rattle.sqlite.specs.Files.{file_state}
 use Rattle.sqlite.specs.State.{HasCleanDisk}
-use Rattle.store.proofs.paths.Store+File.make.Goals as goal
+use Rattle.store.proofs.paths.Store+FileFrom+S.make_from.Goals as goal
 
 pub returns-in_err-conn-clause-caused : goal.returns-in_err-conn-clause-caused
-returns-in_err-conn-clause-caused c =
+returns-in_err-conn-clause-caused g c =
     let p = err_from_is_err_and c.from_residual.result c.from_residual.ensures.1 in
     rw (p.1, p.2) tt
 
 pub returns-in_err-create-clause-fails : goal.returns-in_err-create-clause-fails
-returns-in_err-create-clause-fails c =
+returns-in_err-create-clause-fails g c =
     let p = err_from_is_err_and c.from_residual-in_err-create.result c.from_residual-in_err-create.ensures.1 in
     rw (p.1, p.2) (λ clean. (c.in_err-create.ensures.refused clean).1)
 
 pub returns-in_err-create-clause-caused : goal.returns-in_err-create-clause-caused
-returns-in_err-create-clause-caused c =
+returns-in_err-create-clause-caused g c =
     let p = err_from_is_err_and c.from_residual-in_err-create.result c.from_residual-in_err-create.ensures.1 in
     rw (p.1, p.2) (λ clean.
     let before : HasCleanDisk (file_state c.in_ok-conn.conn) = let step = c.in_err-create.ensures.refused_crash.clean in omega (arith, step, clean) in
-    record { conn = c.in_ok-conn.conn; opened = c.in_ok-conn.ensures.opened before; stays = (c.in_err-create.ensures.refused clean).0; caused = c.in_err-create.ensures.caused clean })
+    record { conn = c.in_ok-conn.conn; opened = c.in_ok-conn.ensures.opened before; unlimited = c.in_ok-conn.ensures.fresh.unlimited; stays = (c.in_err-create.ensures.refused clean).0; caused = c.in_err-create.ensures.caused clean })
+
+pub returns-clause-found : goal.returns-clause-found
+returns-clause-found g c clean =
+    let done = c.in_ok-create.ensures in
+    let before : HasCleanDisk (file_state c.in_ok-conn.conn) = let step = done.crash.clean in omega (arith, step, clean) in
+    record {
+      conn = c.in_ok-conn.conn;
+      found = c.in_ok-conn.ensures.found before;
+      opened = c.in_ok-conn.ensures.opened before;
+      created = done.created;
+    }
