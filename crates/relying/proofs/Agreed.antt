@@ -1,5 +1,5 @@
 -- Two parties agree, by what their public calls say.
-use Rattle.std.proofs.Common.{◌≡◌, ◌⊎◌, inl, inr, ◌++◌, ℕ, Bool, List, Result, IsTrue, refl, sym, subst}
+use Rattle.std.proofs.Common.{◌≡◌, ◌⊎◌, inl, inr, ℕ, Bool, List, Result, IsTrue, refl, sym, subst}
 use Rattle.sqlite_disk.specs.declared.Disk.{Ghosts}
 use Rattle.statements_facts.specs.Statement.{Holdings}
 use Rattle.statements_facts.specs.declared.counts.Counts.{Counts}
@@ -7,18 +7,17 @@ use Rattle.path.specs.declared.reason.Outcome.TheVariants.{Bad}
 use Rattle.path.specs.declared.reason.Reason.{Reason}
 use Rattle.path.specs.Query.{Query, Accepts}
 use Rattle.path.specs.Validity.{IsFirstFailure}
-use Rattle.relying_agreement.specs.Agreement.{RunsAgree}
-use Rattle.relying_agreement.specs.Run.{Event, genuine_facts}
+use Rattle.relying_agreement.specs.Agreement.{PartiesAgree, RunsAgree}
+use Rattle.relying_agreement.specs.Run.{EachHoldsNewest, Event, after_taking, genuine_facts}
 use Rattle.relying_agreement.specs.Verdict.{IsVerdict, ValidExactlyWhere, VerdictIsOne}
 use Rattle.relying_agreement.specs.declared.verdict.Verdict.{Verdict}
 use Rattle.relying_agreement.specs.declared.verdict.Verdict.TheVariants.{Invalid, Revoked, Unknown, Valid}
 use Rattle.relying_verdicts.specs.Asking.{IsInvalidOrOpen}
-use Rattle.relying.specs.Agreed.{GaveVerdict, NodesAgree, NodeIsExact, RunsFollow, party_of}
+use Rattle.relying.specs.Agreed.{GaveVerdict, NodeAgreesWithParty, NodesAgree, NodeIsExact, party_of}
 use Rattle.relying.specs.Run.{IsEndOfRun}
 use Rattle.relying.specs.View.{stored}
 use Rattle.relying.specs.declared.fault.DeliverFault.{DeliverFault}
 use Rattle.relying.specs.declared.node.Node.{Node}
-use Rattle.relying.proofs.Happening.{runs_then, open_then, runs_are_runs}
 
 -- the verdict is Invalid, whatever is held, or the connection was open
 abbrev Fails : Accepts → Query → Verdict → Type 0
@@ -37,7 +36,7 @@ of_invalid accepts query held v (j, reason, is, fails) =
 module _ {V D : Type 0} {g : Ghosts D} (one_verdict : VerdictIsOne) (accepts : Accepts) (query : Query) where
   ended : (events : List Event) (answers : List (Result Counts DeliverFault)) (start : Holdings) (begun ran asked : Node V D g) (v : Verdict)
       → GaveVerdict accepts query events answers start begun ran asked v → IsTrue (stored ran).is_open → IsEndOfRun accepts events answers start (stored ran)
-  ended events answers start begun ran asked v gave live = gave.runs.ended live start gave.begins
+  ended events answers start begun ran asked v gave live = gave.came.ended live start gave.begins
 
   -- one fails, whatever is held
   fails_alike : (events : List Event) (answers : List (Result Counts DeliverFault)) (start : Holdings) (begun ran asked : Node V D g) (v w : Verdict)
@@ -48,15 +47,15 @@ module _ {V D : Type 0} {g : Ghosts D} (one_verdict : VerdictIsOne) (accepts : A
     | inr too ↦ one_verdict accepts query start v w (of_invalid accepts query start v fails) (of_invalid accepts query start w too)
   ]
 
-pub nodes_agree : {V D : Type 0} {g : Ghosts D} → VerdictIsOne → RunsAgree → NodesAgree V D g
-nodes_agree {V} {D} {g} one_verdict runs_agree accepts query events others answers others_answers start others_start begun ran asked other_begun other_ran other_asked v w one two premises =
+pub nodes_agree : {V D : Type 0} {g : Ghosts D} {W E : Type 0} {h : Ghosts E} → VerdictIsOne → RunsAgree → NodesAgree V D g W E h
+nodes_agree one_verdict runs_agree accepts query events others answers others_answers start others_start begun ran asked other_begun other_ran other_asked v w one two premises =
     elim (which accepts query (stored ran).is_open v one.opens) [
       | inr fails ↦ fails_alike one_verdict accepts query others others_answers others_start other_begun other_ran other_asked v w fails two
       | inl live ↦ elim (which accepts query (stored other_ran).is_open w two.opens) [
         | inr fails ↦ sym (fails_alike one_verdict accepts query events answers start begun ran asked w v fails one)
         | inl other_live ↦
-            let it = one.runs.ended live start one.begins in
-            let their = two.runs.ended other_live others_start two.begins in
+            let it = one.came.ended live start one.begins in
+            let their = two.came.ended other_live others_start two.begins in
             let both = premises it.held their.held it.store their.store in
             runs_agree genuine_facts query (party_of accepts events answers start it.held) (party_of accepts others others_answers others_start their.held) v w events others _ _ refl
             it.newest their.newest both.0 both.1 (one.looks.1 it.held it.store) (two.looks.1 their.held their.store)
@@ -71,13 +70,14 @@ node_is_exact one_verdict valid accepts query events answers start held begun ra
       λ clear. one_verdict accepts query held v Valid is (exact.1 clear),
     )
 
-pub runs_follow : {V D : Type 0} {g : Ghosts D} → RunsFollow V D g
-runs_follow accepts events more answers more_answers begun middle last first second = record {
-  was_open = λ live. first.was_open (second.was_open live);
-  at_restarts = open_then events more (stored begun).is_open (stored middle).is_open (stored last).is_open first.at_restarts second.at_restarts;
-  ended = λ live start store.
-      let before = first.ended (second.was_open live) start store in
-      let after = second.ended live before.held before.store in
-      let runs = runs_then accepts events more answers more_answers start before.held after.held before.runs after.runs in
-      record { held = after.held; store = after.store; runs = runs; newest = runs_are_runs accepts (events ++ more) (answers ++ more_answers) start after.held runs };
-}
+pub node_agrees_with_party : {V D : Type 0} {g : Ghosts D} → VerdictIsOne → PartiesAgree → EachHoldsNewest → NodeAgreesWithParty V D g
+node_agrees_with_party one_verdict parties_agree each accepts query events answers start began taken begun ran asked v w gave theirs premises =
+    let party = after_taking accepts began taken in
+    elim (which accepts query (stored ran).is_open v gave.opens) [
+      | inr fails ↦ one_verdict accepts query party.held v w (of_invalid accepts query party.held v fails) theirs
+      | inl live ↦
+          let it = gave.came.ended live start gave.begins in
+          let both = premises it.held it.store in
+          parties_agree query (party_of accepts events answers start it.held) party v w refl
+          it.newest.newest (each accepts began taken) both.0 both.1 (gave.looks.1 it.held it.store) theirs
+    ]

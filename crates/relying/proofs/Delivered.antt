@@ -6,7 +6,7 @@ use Rattle.statements_facts.specs.declared.counts.Counts.{Counts}
 use Rattle.statements_facts.specs.declared.fact.Facts.{Facts}
 use Rattle.store_sql.specs.declared.fault.StoreFault.{StoreFault}
 use Rattle.store_sql.specs.Statements.{CommitsNothing}
-use Rattle.store_taking.specs.Delivery.{CommitsWhole}
+use Rattle.store_taking.specs.Delivery.{CommitsWhole, Puts}
 use Rattle.store_taking.specs.Room.{PutsForCause}
 use Rattle.path.specs.Query.{Accepts}
 use Rattle.relying_agreement.specs.Run.{facts_or_none, facts_under, genuine_facts}
@@ -39,6 +39,14 @@ taken_for_cause accepts issuer statement facts old new (Ok counts) answer says c
 taken_for_cause accepts issuer statement facts old new (Err fault) (Ok counts) says caused none = absurd none
 taken_for_cause accepts issuer statement facts old new (Err fault) (Err told) says caused same =
     subst (λ e. DeliversForCause accepts issuer statement old new (Err e)) (sym same) (λ clean. (facts, says, caused clean))
+
+pub taken_so : (accepts : Accepts) (issuer statement : List ℕ) (facts : Facts) (old new : State) (taken : Result Counts StoreFault) (answer : Result Counts DeliverFault)
+    → StatementSays accepts issuer statement (facts_in facts) → Puts old new (facts_in facts) taken
+    → MatchResult taken (λ counts. answer ≡ Ok counts) (λ fault. IsErrAnd answer (λ told. told ≡ Store fault)) → IsDeliveryAnswer accepts issuer statement old new answer
+taken_so accepts issuer statement facts old new (Ok counts) answer says puts same = subst (IsDeliveryAnswer accepts issuer statement old new) (sym same) (facts_in facts, says, puts)
+taken_so accepts issuer statement facts old new (Err fault) (Ok counts) says puts none = absurd none
+taken_so accepts issuer statement facts old new (Err fault) (Err told) says puts same =
+    subst (λ e. IsDeliveryAnswer accepts issuer statement old new (Err e)) (sym same) ((facts_in facts, says), puts)
 
 nothing_done : (s : State) → CommitsNothing s s
 nothing_done s = record { clean = omega arith; shield = λ h. h; counts = omega arith; limit = refl; closes = λ clean is. inl is; crash = λ clean db may. inl may }

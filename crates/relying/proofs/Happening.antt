@@ -1,9 +1,15 @@
 -- What one event does, and several one after the other.
-use Rattle.std.proofs.Common.{◌≡◌, Bool, true, is_ok, if◌then◌else◌, ℕ, append-nil, List, [], ◌∷◌, ◌++◌, map, Result, Ok, Err, refl, sym, ap, subst, ◌∙◌}
-use Rattle.sqlite.specs.State.{State}
+use Rattle.std.proofs.Common.{◌≡◌, ◌⊎◌, inl, inr, Bool, true, is_ok, if◌then◌else◌, IfOk, IsTrue, ℕ, append-nil, List, [], ◌∷◌, ◌++◌, map, Result, Ok, Err, refl, sym, ap, subst, ◌∙◌}
+use Rattle.sqlite.specs.Effect.{Database}
+use Rattle.sqlite.specs.State.{State, HasCleanDisk}
+use Rattle.sqlite_trees.specs.Tree.{Trees}
+use Rattle.statements_facts.specs.Fact.{Fact}
 use Rattle.statements_facts.specs.Statement.{Holdings}
 use Rattle.store_sql.specs.declared.fault.StoreFault.TheVariants.{Schema as NotOurs}
-use Rattle.store_maps.specs.Held.{IsStoreOf}
+use Rattle.store_sql.specs.Statements.{CommitsNothing, IsDurable}
+use Rattle.store_adoption.specs.Creates.{IsSettled}
+use Rattle.store_maps.specs.Held.{AreTreesOf, IsStoreOf}
+use Rattle.store_maps.proofs.HeldLaws.{trees_of}
 use Rattle.statements_facts.specs.declared.counts.Counts.{Counts}
 use Rattle.statements_facts.specs.Coming.{after_all, HoldsNewest}
 use Rattle.statements_facts.proofs.Laws.{holds_newest, takes_both}
@@ -12,49 +18,63 @@ use Rattle.relying_agreement.specs.Run.{Event, genuine_facts, facts_taken}
 use Rattle.store.specs.Adopts.{Restarts}
 use Rattle.relying.specs.declared.fault.DeliverFault.{DeliverFault}
 use Rattle.relying.specs.declared.fault.DeliverFault.TheVariants.{Issuer, Statement, Store}
-use Rattle.relying.specs.Delivery.{IsAnswerTo, IsDeliveryAnswer}
+use Rattle.relying.specs.Delivery.{IsAnswerTo, IsDeliveryAnswer, MayCommit}
+use Rattle.relying.specs.Leaving.{LeavesSoFar, RunMayLeave, RunSurvives, held_with}
 use Rattle.relying.proofs.Delivered.{facts_said}
 use Rattle.relying.specs.Run.{Runs, IsOpenAtRestarts, RanSoFar, Ran, HasHappened, RunsAreRuns, AddsAnswer, AreAnswersTo, as_answered}
 
 -- ---- one event
 
-delivered : (accepts : Accepts) (issuer statement : List ℕ) (before : List (Result Counts DeliverFault)) (answer : Result Counts DeliverFault) (old new : State)
-    → IsDeliveryAnswer accepts issuer statement old new answer → HasHappened accepts (Event.Deliver issuer statement) before (before ++ answer ∷ []) old new
-delivered accepts issuer statement before (Ok counts) old new (facts, says, it) = record {
-  added = Ok counts ∷ [];
-  after_is = refl;
-  ran = record {
-    was_open = λ live. it.was_open;
-    at_restarts = (new.is_open, λ live. it.was_open, refl);
-    so_far = λ live start store. let taken = it.taken start store in (after_all start facts, taken.hold, (after_all start facts, (facts, says, taken.counted, refl), refl));
-  };
+-- what a crash left before, where nothing was committed
+left_before : (old new : State) → CommitsNothing old new → HasCleanDisk new → (trees : Trees) → new.may_leave trees → old.may_leave trees
+left_before old new nothing clean trees may = elim (nothing.crash clean trees may) [
+  | inl before ↦ before
+  | inr none ↦ absurd none
+]
+
+one_delivery : (accepts : Accepts) (issuer statement : List ℕ) (answer : Result Counts DeliverFault) (old new : State)
+    → IsDeliveryAnswer accepts issuer statement old new answer → RanSoFar accepts (Event.Deliver issuer statement ∷ []) (answer ∷ []) old new
+one_delivery accepts issuer statement (Ok counts) old new (facts, says, it) = record {
+  was_open = λ live. it.was_open;
+  at_restarts = (new.is_open, λ live. it.was_open, refl);
+  so_far = λ live start store. let taken = it.taken start store in (after_all start facts, taken.hold, (after_all start facts, (facts, says, taken.counted, refl), refl));
 }
-delivered accepts issuer statement before (Err (Issuer fault)) old new (why, kept) = record {
-  added = Err (Issuer fault) ∷ [];
-  after_is = refl;
-  ran = record { was_open = kept.was_open; at_restarts = (new.is_open, kept.was_open, refl); so_far = λ live start store. (start, subst (λ db. IsStoreOf db start) (sym (kept.now_is live)) store, (start, (why, λ e. cc, refl), refl)) };
+one_delivery accepts issuer statement (Err (Issuer fault)) old new (why, kept) = record {
+  was_open = kept.was_open;
+  at_restarts = (new.is_open, kept.was_open, refl);
+  so_far = λ live start store. (start, subst (λ db. IsStoreOf db start) (sym (kept.now_is live)) store, (start, (why, λ e. cc, refl), refl));
 }
-delivered accepts issuer statement before (Err (Statement fault)) old new (why, kept) = record {
-  added = Err (Statement fault) ∷ [];
-  after_is = refl;
-  ran = record { was_open = kept.was_open; at_restarts = (new.is_open, kept.was_open, refl); so_far = λ live start store. (start, subst (λ db. IsStoreOf db start) (sym (kept.now_is live)) store, (start, (why, λ e. cc, refl), refl)) };
+one_delivery accepts issuer statement (Err (Statement fault)) old new (why, kept) = record {
+  was_open = kept.was_open;
+  at_restarts = (new.is_open, kept.was_open, refl);
+  so_far = λ live start store. (start, subst (λ db. IsStoreOf db start) (sym (kept.now_is live)) store, (start, (why, λ e. cc, refl), refl));
 }
-delivered accepts issuer statement before (Err (Store fault)) old new (why, gives) = record {
-  added = Err (Store fault) ∷ [];
-  after_is = refl;
-  ran = record {
-    was_open = gives.was_open;
-    at_restarts = (new.is_open, gives.was_open, refl);
-    so_far = λ live start store. (start, subst (λ db. IsStoreOf db start) (sym (gives.same live)) store, (start, (why, λ e. gives.formed (let same : fault ≡ NotOurs = cc in same) start store, refl), refl));
-  };
+one_delivery accepts issuer statement (Err (Store fault)) old new (why, gives) = record {
+  was_open = gives.was_open;
+  at_restarts = (new.is_open, gives.was_open, refl);
+  so_far = λ live start store. (start, subst (λ db. IsStoreOf db start) (sym (gives.same live)) store, (start, (why, λ e. gives.formed (let same : fault ≡ NotOurs = cc in same) start store, refl), refl));
 }
 
-restarted : (accepts : Accepts) (before : List (Result Counts DeliverFault)) (old new : State) → Restarts old new → HasHappened accepts Event.Restart before before old new
-restarted accepts before old new it = record {
-  added = [];
-  after_is = sym (append-nil before);
-  ran = record { was_open = λ live. it.was_open; at_restarts = (it.was_open, it.is_open); so_far = λ live start store. (start, it.holds start store, refl) };
-}
+-- and what a crash may leave behind it
+delivery_leaves : (accepts : Accepts) (issuer statement : List ℕ) (answer : Result Counts DeliverFault) (old new : State) → HasCleanDisk new
+    → MayCommit (genuine_facts accepts issuer statement) old new answer → IsDeliveryAnswer accepts issuer statement old new answer
+    → LeavesSoFar accepts (Event.Deliver issuer statement ∷ []) (answer ∷ []) old new
+delivery_leaves accepts issuer statement (Ok counts) old new clean commits (facts, says, it) = λ start store trees may.
+    subst (λ (said : List Fact). AreTreesOf (after_all start said) trees) (sym (facts_said accepts issuer statement facts says)) (it.durable start (store it.was_open) trees may)
+delivery_leaves accepts issuer statement (Err (Issuer fault)) old new clean commits is = λ start store trees may. left_before old new commits clean trees may
+delivery_leaves accepts issuer statement (Err (Statement fault)) old new clean commits is = λ start store trees may. left_before old new commits clean trees may
+delivery_leaves accepts issuer statement (Err (Store fault)) old new clean commits is = λ start store trees may. elim (commits.crash clean trees may) [
+  | inl before ↦ inl before
+  | inr whole ↦ inr (whole.1 start (store whole.0))
+]
+
+one_restart : (accepts : Accepts) (old new : State) → Restarts old new → RanSoFar accepts (Event.Restart ∷ []) [] old new
+one_restart accepts old new it = record { was_open = λ live. it.was_open; at_restarts = (it.was_open, it.is_open); so_far = λ live start store. (start, it.holds start store, refl) }
+
+-- a restart leaves what is held, since that is committed
+restart_leaves : (accepts : Accepts) (old new : State) → IsSettled new → IsDurable new → Restarts old new → LeavesSoFar accepts (Event.Restart ∷ []) [] old new
+restart_leaves accepts old new settled durable it = λ start store trees may.
+    trees_of start new.now trees (durable it.is_open trees may ∙ ap (λ (db : Database). db.trees) (sym (settled it.is_open))) (it.holds start (store it.was_open))
 
 -- ---- one after the other
 
@@ -87,6 +107,57 @@ open_then (Event.Deliver issuer statement ∷ xs) ys before middle after (next, 
 pub none_so_far : (accepts : Accepts) (s : State) → RanSoFar accepts [] [] s s
 none_so_far accepts s = record { was_open = λ live. live; at_restarts = refl; so_far = λ live start store. (start, store, refl) }
 
+pub leaves_none : (accepts : Accepts) (s : State) → LeavesSoFar accepts [] [] s s
+leaves_none accepts s = λ start store trees may. may
+
+-- what is held after a run is what its answers say
+abbrev held_by : Accepts → List Event → List (Result Counts DeliverFault) → Holdings → Holdings
+held_by accepts [] answers held = held
+held_by accepts (Event.Restart ∷ events) answers held = held_by accepts events answers held
+held_by accepts (Event.Deliver issuer statement ∷ events) [] held = held
+held_by accepts (Event.Deliver issuer statement ∷ events) (Ok counts ∷ answers) held = held_by accepts events answers (held_with accepts issuer statement held)
+held_by accepts (Event.Deliver issuer statement ∷ events) (Err fault ∷ answers) held = held_by accepts events answers held
+
+runs_hold : (accepts : Accepts) (events : List Event) (answers : List (Result Counts DeliverFault)) (start held : Holdings)
+    → Runs accepts events answers start held → held ≡ held_by accepts events answers start
+runs_hold accepts [] [] start held same = same
+runs_hold accepts [] (a ∷ told) start held none = absurd none
+runs_hold accepts (Event.Restart ∷ events) told start held rest = runs_hold accepts events told start held rest
+runs_hold accepts (Event.Deliver issuer statement ∷ events) [] start held none = absurd none
+runs_hold accepts (Event.Deliver issuer statement ∷ events) (Ok counts ∷ told) start held (next, (facts, says, counted, is), rest) =
+    runs_hold accepts events told next held rest ∙ ap (held_by accepts events told) (is ∙ ap (after_all start) (sym (facts_said accepts issuer statement facts says)))
+runs_hold accepts (Event.Deliver issuer statement ∷ events) (Err fault ∷ told) start held (next, (why, formed, is), rest) =
+    runs_hold accepts events told next held rest ∙ ap (held_by accepts events told) is
+
+-- where a crash may leave more before, it may leave that after
+leaves_more : (accepts : Accepts) (events : List Event) (answers : List (Result Counts DeliverFault)) (held : Holdings) (less more : Trees → Type 0) → ((trees : Trees) → less trees → more trees)
+    → (trees : Trees) → RunMayLeave accepts events answers held less trees → RunMayLeave accepts events answers held more trees
+leaves_more accepts [] told held less more wider trees left = wider trees left
+leaves_more accepts (Event.Restart ∷ events) told held less more wider trees left = left
+leaves_more accepts (Event.Deliver issuer statement ∷ events) [] held less more wider trees left = absurd left
+leaves_more accepts (Event.Deliver issuer statement ∷ events) (Ok counts ∷ told) held less more wider trees left = left
+leaves_more accepts (Event.Deliver issuer statement ∷ events) (Err (Issuer fault) ∷ told) held less more wider trees left = leaves_more accepts events told held less more wider trees left
+leaves_more accepts (Event.Deliver issuer statement ∷ events) (Err (Statement fault) ∷ told) held less more wider trees left = leaves_more accepts events told held less more wider trees left
+leaves_more accepts (Event.Deliver issuer statement ∷ events) (Err (Store fault) ∷ told) held less more wider trees left =
+    let Whole = AreTreesOf (held_with accepts issuer statement held) in
+    leaves_more accepts events told held (λ x. less x ⊎ Whole x) (λ x. more x ⊎ Whole x) (λ x either. elim either [
+      | inl before ↦ inl (wider x before)
+      | inr whole ↦ inr whole
+    ]) trees left
+
+leaves_then : (accepts : Accepts) (xs ys : List Event) (told bs : List (Result Counts DeliverFault)) (start : Holdings) (before : Trees → Type 0) (trees : Trees) → AreAnswersTo accepts xs told
+    → RunMayLeave accepts ys bs (held_by accepts xs told start) (RunMayLeave accepts xs told start before) trees → RunMayLeave accepts (xs ++ ys) (told ++ bs) start before trees
+leaves_then accepts [] ys [] bs start before trees none left = left
+leaves_then accepts [] ys (a ∷ told) bs start before trees none left = absurd none
+leaves_then accepts (Event.Restart ∷ xs) ys told bs start before trees answered left = leaves_then accepts xs ys told bs start (AreTreesOf start) trees answered left
+leaves_then accepts (Event.Deliver issuer statement ∷ xs) ys [] bs start before trees none left = absurd none
+leaves_then accepts (Event.Deliver issuer statement ∷ xs) ys (Ok counts ∷ told) bs start before trees answered left =
+    let next = held_with accepts issuer statement start in leaves_then accepts xs ys told bs next (AreTreesOf next) trees answered.1 left
+leaves_then accepts (Event.Deliver issuer statement ∷ xs) ys (Err (Issuer fault) ∷ told) bs start before trees answered left = leaves_then accepts xs ys told bs start before trees answered.1 left
+leaves_then accepts (Event.Deliver issuer statement ∷ xs) ys (Err (Statement fault) ∷ told) bs start before trees answered left = leaves_then accepts xs ys told bs start before trees answered.1 left
+leaves_then accepts (Event.Deliver issuer statement ∷ xs) ys (Err (Store fault) ∷ told) bs start before trees answered left =
+    leaves_then accepts xs ys told bs start (λ x. before x ⊎ AreTreesOf (held_with accepts issuer statement start) x) trees answered.1 left
+
 pub one_more : (accepts : Accepts) (events : List Event) (event : Event) (before after : List (Result Counts DeliverFault)) (first mid new : State)
     → RanSoFar accepts events before first mid → HasHappened accepts event before after mid new → RanSoFar accepts (events ++ event ∷ []) after first new
 one_more accepts events event before after first mid new ran it = subst (λ told. RanSoFar accepts (events ++ event ∷ []) told first new) (sym it.after_is) (record {
@@ -97,6 +168,17 @@ one_more accepts events event before after first mid new ran it = subst (λ told
       let (held, there, more) = it.ran.so_far live middle here in
       (held, there, runs_then accepts events (event ∷ []) before it.added start middle held runs more);
 })
+
+pub leaves_one_more : (accepts : Accepts) (events : List Event) (event : Event) (before after : List (Result Counts DeliverFault)) (first mid new : State) → AreAnswersTo accepts events before
+    → RanSoFar accepts events before first mid → LeavesSoFar accepts events before first mid → HasHappened accepts event before after mid new → LeavesSoFar accepts (events ++ event ∷ []) after first new
+leaves_one_more accepts events event before after first mid new answered ran leaves it start store trees may =
+    let there = held_by accepts events before start in
+    let at_mid : IsTrue mid.is_open → IsStoreOf mid.now there = (λ live.
+    let (middle, here, runs) = ran.so_far live start (store (ran.was_open live)) in
+    subst (IsStoreOf mid.now) (runs_hold accepts events before start middle runs) here) in
+    subst (λ told. RunMayLeave accepts (events ++ event ∷ []) told start first.may_leave trees) (sym it.after_is)
+    (leaves_then accepts events (event ∷ []) before it.added start first.may_leave trees answered
+    (leaves_more accepts (event ∷ []) it.added there mid.may_leave (RunMayLeave accepts events before start first.may_leave) (leaves start store) trees (it.leaves there at_mid trees may)))
 
 -- ---- runs of events are runs
 
@@ -128,6 +210,23 @@ ends accepts events answers old new ran = record {
       record { held = held; store = here; runs = runs; newest = runs_are_runs accepts events answers start held runs };
 }
 
+pub survives : (accepts : Accepts) (events : List Event) (answers : List (Result Counts DeliverFault)) (old new : State)
+    → (HasCleanDisk new → LeavesSoFar accepts events answers old new) → RunSurvives accepts events answers old new
+survives accepts events answers old new leaves clean start store trees may = leaves clean start (λ _. store) trees may
+
+pub delivery_ran : (accepts : Accepts) (issuer statement : List ℕ) (answer : Result Counts DeliverFault) (old new : State)
+    → IsDeliveryAnswer accepts issuer statement old new answer → Ran accepts (Event.Deliver issuer statement ∷ []) (answer ∷ []) old new
+delivery_ran accepts issuer statement answer old new it = ends accepts (Event.Deliver issuer statement ∷ []) (answer ∷ []) old new (one_delivery accepts issuer statement answer old new it)
+
+pub restart_ran : (accepts : Accepts) (old new : State) → Restarts old new → Ran accepts (Event.Restart ∷ []) [] old new
+restart_ran accepts old new it = ends accepts (Event.Restart ∷ []) [] old new (one_restart accepts old new it)
+
+-- ---- answers of calls
+
+pub if_all_ok : {A E : Type 0} (result : Result A E) (P Q R S : A → Type 0) → ((x : A) → P x → Q x → R x → S x) → IfOk result P → IfOk result Q → IfOk result R → IfOk result S
+if_all_ok (Ok x) P Q R S all p q r = all x p q r
+if_all_ok (Err e) P Q R S all p q r = tt
+
 -- ---- the list of answers
 
 pub pushed : {A E : Type 0} (before after : List A) (x : A) (result : Result (Unit {0}) E) {y : Unit {0}} → result ≡ Ok y
@@ -136,12 +235,23 @@ pushed before after x (Ok y) is grown = grown
 pushed before after x (Err e) is grown = absurd cc
 
 pub delivered_so : (accepts : Accepts) (issuer statement : List ℕ) (before after : List (Result Counts DeliverFault)) (answer : Result Counts DeliverFault) (old new : State)
+    → HasCleanDisk new → MayCommit (genuine_facts accepts issuer statement) old new answer
     → after ≡ before ++ answer ∷ [] → IsDeliveryAnswer accepts issuer statement old new answer → HasHappened accepts (Event.Deliver issuer statement) before after old new
-delivered_so accepts issuer statement before after answer old new grown it =
-    subst (λ x. HasHappened accepts (Event.Deliver issuer statement) before x old new) (sym grown) (delivered accepts issuer statement before answer old new it)
+delivered_so accepts issuer statement before after answer old new clean commits grown it = record {
+  added = answer ∷ [];
+  after_is = grown;
+  ran = one_delivery accepts issuer statement answer old new it;
+  leaves = delivery_leaves accepts issuer statement answer old new clean commits it;
+}
 
-pub restarted_so : (accepts : Accepts) (event : Event) (before : List (Result Counts DeliverFault)) (old new : State) → event ≡ Event.Restart → Restarts old new → HasHappened accepts event before before old new
-restarted_so accepts event before old new is it = subst (λ e. HasHappened accepts e before before old new) (sym is) (restarted accepts before old new it)
+pub restarted_so : (accepts : Accepts) (event : Event) (before : List (Result Counts DeliverFault)) (old new : State) → event ≡ Event.Restart → IsSettled new → IsDurable new → Restarts old new
+    → HasHappened accepts event before before old new
+restarted_so accepts event before old new is settled durable it = subst (λ e. HasHappened accepts e before before old new) (sym is) (record {
+  added = [];
+  after_is = sym (append-nil before);
+  ran = one_restart accepts old new it;
+  leaves = restart_leaves accepts old new settled durable it;
+})
 
 pub answer_added : (accepts : Accepts) (issuer statement : List ℕ) (before after : List (Result Counts DeliverFault)) (answer : Result Counts DeliverFault)
     → after ≡ before ++ answer ∷ [] → IsAnswerTo accepts issuer statement answer → AddsAnswer accepts (Event.Deliver issuer statement) before after

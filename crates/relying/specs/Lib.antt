@@ -2,7 +2,9 @@ pub mod View
 pub mod Delivery
 pub mod Asking
 pub mod Restart
+pub mod Leaving
 pub mod Run
 pub mod Stopping
 pub mod Never
 pub mod Agreed
+pub mod Calls

@@ -1,10 +1,6 @@
 -- What events do to a relying party, one after the other.
-use Rattle.std.specs.Prelude.{◌≡◌, ◌≢◌, ℕ, Bool, true, List, [], ◌∷◌, ◌++◌, map, slice_get, take, Some, Result, Ok, Err, IsTrue}
-use Rattle.sqlite_disk.specs.declared.Disk.{Ghosts}
-use Rattle.sqlite_store.specs.declared.store.FileStore.{FileStore}
-use Rattle.sqlite.specs.Held.{Held}
-use Rattle.sqlite.specs.Files.{file_state}
-use Rattle.sqlite.specs.State.{State, HasCleanDisk}
+use Rattle.std.specs.Prelude.{◌≡◌, ◌≢◌, ℕ, Bool, true, List, [], ◌∷◌, ◌++◌, map, Result, Ok, Err, IsTrue}
+use Rattle.sqlite.specs.State.{State}
 use Rattle.statements_facts.specs.Fact.{Fact}
 use Rattle.statements_facts.specs.Statement.{Holdings}
 use Rattle.store_sql.specs.declared.fault.StoreFault.TheVariants.{Schema as NotOurs}
@@ -17,8 +13,7 @@ use Rattle.relying.specs.declared.events.Event as said
 use Rattle.relying.specs.declared.fault.DeliverFault.{DeliverFault}
 use Rattle.relying.specs.declared.fault.DeliverFault.TheVariants.{Store}
 use Rattle.relying.specs.Delivery.{IsAnswerTo, IsReasonOfFault, StatementSays}
-use Rattle.store.specs.Opens.{FailsToReopen}
-use Rattle.store.specs.declared.refusal.ReopenFault.{ReopenFault}
+use Rattle.relying.specs.Leaving.{LeavesSoFar}
 
 abbrev pub seen_event : said.Event → Event
 seen_event (said.TheVariants.Deliver issuer statement) = Event.Deliver issuer.now statement.now
@@ -93,20 +88,13 @@ pub record HasHappened (accepts : Accepts) (event : Event) (before after : List 
   pub added : List (Result Counts DeliverFault)
   pub after_is : after ≡ before ++ added
   pub ran : RanSoFar accepts (event ∷ []) added old new
+  pub leaves : LeavesSoFar accepts (event ∷ []) added old new
 
 -- what was answered before, and the answer to one event, or none
 pub record AddsAnswer (accepts : Accepts) (event : Event) (before after : List (Result Counts DeliverFault)) : Type 0 where
   pub added : List (Result Counts DeliverFault)
   pub after_is : after ≡ before ++ added
   pub answers : AreAnswersTo accepts (event ∷ []) added
-
--- A restart that fails, behind so many events, which ran so.
-pub record StopsAtRestart {D : Type 0} {g : Ghosts D} (accepts : Accepts) (events : List Event) (done : ℕ) (old : Held (FileStore D g)) (fault : ReopenFault D g) : Type 0 where
-  pub at : slice_get events done ≡ Some Event.Restart
-  pub last : Held (FileStore D g)
-  pub answers : List (Result Counts DeliverFault)
-  pub so_far : HasCleanDisk (file_state last) → RanSoFar accepts (take done events) answers (file_state old) (file_state last)
-  pub fails : FailsToReopen last fault
 
 -- ---- laws
 

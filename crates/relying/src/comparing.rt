@@ -1,12 +1,13 @@
 //! Comparisons, in two transactions that are dropped.
 
-ghost use Rattle.std.specs.Prelude.{◌≡◌, false};
+ghost use Rattle.std.specs.Prelude.{◌≡◌, false, IfErr};
 ghost use Rattle.sqlite.specs.Held.{state};
 ghost use Rattle.sqlite.specs.Files.{file_state};
 ghost use Rattle.store_sql.specs.Statements.{IsDurable, CommitsNothing};
 ghost use Rattle.relying_agreement.specs.Comparison.{IsComparison};
 ghost use Rattle.relying.specs.Asking.{AreSettled, BothAnswerOnlyIfOpen, LooksAtBoth, LooksAtBothForCause, LooksInsideBoth};
 ghost use Rattle.relying.specs.Never.{NeverDifferIfClean};
+ghost use Rattle.relying_verdicts.specs.Asking.{IsFaultOfValidPath};
 ghost use Rattle.relying.specs.View.{stored};
 ghost use Rattle.path.specs.Reading.{seen_query};
 
@@ -37,6 +38,8 @@ fn compare_in_transactions<V: Verifier, S: Alter, D: Alter>(
     ensures open { BothAnswerOnlyIfOpen (V.accepts verifier.now) (seen_query query.now)
         (state S.Store one.old) (state S.Store one.new)
         (state D.Store other.old) (state D.Store other.new) result }
+    ensures valid { IfErr result
+        (IsFaultOfValidPath (V.accepts verifier.now) (seen_query query.now)) }
     ensures survives { CommitsNothing (state S.Store one.old) (state S.Store one.new) }
     ensures other_survives { CommitsNothing (state D.Store other.old) (state D.Store other.new) }
 {
@@ -65,6 +68,8 @@ fn compare_stores<V: Verifier, S: Alter, D: Alter>(
     ensures open { BothAnswerOnlyIfOpen (V.accepts verifier.now) (seen_query query.now)
         (state S.Store one.old) (state S.Store one.new)
         (state D.Store other.old) (state D.Store other.new) result }
+    ensures valid { IfErr result
+        (IsFaultOfValidPath (V.accepts verifier.now) (seen_query query.now)) }
     ensures settled { AreSettled (state S.Store one.old) (state S.Store one.new) }
     ensures other_settled { AreSettled (state D.Store other.old) (state D.Store other.new) }
     ensures durable { IsDurable (state S.Store one.new) }
@@ -100,6 +105,8 @@ fn compare_with_files<V: Verifier, S: Alter, D: Disk + Drop>(
     ensures open { BothAnswerOnlyIfOpen (V.accepts verifier.now) (seen_query query.now)
         (state S.Store one.old) (state S.Store one.new)
         (file_state other.old) (file_state other.new) result }
+    ensures valid { IfErr result
+        (IsFaultOfValidPath (V.accepts verifier.now) (seen_query query.now)) }
     ensures settled { AreSettled (state S.Store one.old) (state S.Store one.new) }
     ensures other_settled { AreSettled (file_state other.old) (file_state other.new) }
     ensures durable { IsDurable (state S.Store one.new) }
@@ -131,6 +138,8 @@ pub fn compare<V: Verifier + Drop, D: Disk + Drop>(
     ensures open { BothAnswerOnlyIfOpen (V.accepts one.old.verifier) (seen_query query.now)
         (stored one.old) (stored one.new)
         (stored other.old) (stored other.new) result }
+    ensures valid { IfErr result
+        (IsFaultOfValidPath (V.accepts one.old.verifier) (seen_query query.now)) }
     ensures never { NeverDifferIfClean (V.accepts one.old.verifier) (seen_query query.now)
         (stored one.old) (stored one.new) (stored other.old) (stored other.new) result }
     ensures durable { IsDurable (stored one.new) }

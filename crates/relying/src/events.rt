@@ -5,10 +5,12 @@ ghost use Rattle.sqlite.specs.State.{HasCleanDisk};
 ghost use Rattle.relying_agreement.specs.Run.{Event as Happened};
 ghost use Rattle.relying.specs.Run.{AddsAnswer, HasHappened, seen_event};
 ghost use Rattle.relying.specs.View.{stored};
-ghost use Rattle.store.specs.Opens.{FailsToReopen};
+ghost use Rattle.store.specs.Opens.{FailsToReopen, ReopensForCause};
+ghost use Rattle.store_adoption.specs.Creates.{IsSettled};
 
 use crate::fault::DeliverFault;
 use crate::node::Node;
+use crate::resting::at_rest;
 use path_verifiers::Verifier;
 use sqlite_disk::Disk;
 use statements_facts::Counts;
@@ -67,11 +69,15 @@ pub(crate) fn take_event<V: Verifier + Drop, D: Disk + Drop>(
     ensures happens { IfOk result (λ next. HasCleanDisk (stored next)
         → HasHappened (V.accepts node.verifier) (seen_event event.now)
         answers.old.items answers.new.items (stored node) (stored next)) }
-    ensures fails { IfErr result (λ fault.
-        (seen_event event.now ≡ Happened.Restart) × FailsToReopen node.store.conn fault) }
+    ensures settled { IsSettled (stored node) }
+    ensures restarts { IfErr result (λ fault. seen_event event.now ≡ Happened.Restart) }
+    ensures same { IfErr result (λ fault. answers.new.items ≡ answers.old.items) }
+    ensures fails { IfErr result (FailsToReopen node.store.conn) }
+    ensures cause { IfErr result (ReopensForCause node.store.conn) }
     ensures capacity { vec_capacity answers.old ≤ vec_capacity answers.new }
     ensures len { vec_len answers.new ≤ vec_len answers.old + 1 }
 {
+    at_rest(&node.store.conn);
     match event {
         Event::Deliver(issuer, statement) => {
             let mut node = node;

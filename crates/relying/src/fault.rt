@@ -26,7 +26,7 @@ pub enum DeliverFault {
 pub enum RunFault<V: Verifier, D: Disk> {
     /// There is no room for the answers. Nothing was done.
     NoRoom(Node<V, D>),
-    /// A restart failed after so many events. What is left of the store holds what the last delivery left.
+    /// A restart failed after so many events. What is left of the store holds what the deliveries among these left.
     Restart(usize, ReopenFault<D>),
 }
 

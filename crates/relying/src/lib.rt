@@ -8,10 +8,11 @@ mod delivering;
 mod events;
 mod fault;
 mod node;
+mod resting;
 mod running;
 mod verdicts;
 
-pub use agreement::node_laws;
+pub use agreement::{call_laws, node_laws};
 pub use comparing::compare;
 pub use delivering::read_statement;
 pub use events::{DeliverAnswer, Event};

@@ -2,12 +2,14 @@
 
 ghost use Rattle.std.specs.Prelude.{◌≡◌, IfErr, IfOk};
 ghost use Rattle.store_sql.specs.Statements.{IsDurable, CommitsNothing};
+ghost use Rattle.store_adoption.specs.Creates.{IsSettled};
 ghost use Rattle.relying_agreement.specs.Verdict.{IsVerdict};
 ghost use Rattle.relying.specs.Asking.{AnswersOnlyIfOpen, Looks, LooksForCause};
 ghost use Rattle.relying.specs.Delivery.{AnswersDelivery, DeliversForCause, IsAnswerTo, MayCommitDelivery};
 ghost use Rattle.relying.specs.Restart.{HasRestarted};
 ghost use Rattle.relying.specs.View.{stored};
 ghost use Rattle.path.specs.Reading.{seen_query};
+ghost use Rattle.relying_verdicts.specs.Asking.{IsFaultOfValidPath};
 ghost use Rattle.store.specs.Adopts.{IsStoreOn};
 ghost use Rattle.store.specs.Opens.{FailsToReopen, ReopensForCause};
 ghost use Rattle.store_taking.specs.Delivery.{AllOrNothing, PutsFacts};
@@ -15,6 +17,7 @@ ghost use Rattle.store_taking.specs.Room.{PutsForCause};
 
 use crate::delivering::read_statement;
 use crate::fault::DeliverFault;
+use crate::resting::at_rest;
 use crate::verdicts::verdict_of;
 use path_verifiers::Verifier;
 use relying_verdicts::{Fault, Query, Verdict};
@@ -75,7 +78,10 @@ impl<V: Verifier + Drop, D: Disk + Drop> Node<V, D> {
             (stored self.old) (stored self.new) result }
         ensures survives { MayCommitDelivery (V.accepts self.old.verifier) issuer.now statement.now
             (stored self.old) (stored self.new) result }
+        ensures settled { IsSettled (stored self.new) }
+        ensures durable { IsDurable (stored self.new) }
     {
+        at_rest(&self.store.conn);
         let facts = read_statement(alloc, &self.verifier, issuer, statement)?;
         self.take(&facts).map_err(DeliverFault::Store)
     }
@@ -88,8 +94,12 @@ impl<V: Verifier + Drop, D: Disk + Drop> Node<V, D> {
         ensures takes { PutsFacts (stored self.old) (stored self.new) facts.now result }
         ensures caused { PutsForCause (stored self.old) (stored self.new) facts.now result }
         ensures survives { AllOrNothing (stored self.old) (stored self.new) facts.now }
+        ensures settled { IsSettled (stored self.new) }
+        ensures durable { IsDurable (stored self.new) }
     {
-        self.store.put(facts)
+        let counts = self.store.put(facts);
+        at_rest(&self.store.conn);
+        counts
     }
 
     /// The verdict on a path by what is held, which does not change. The path is validated first; the store is asked only if it meets the
@@ -102,6 +112,9 @@ impl<V: Verifier + Drop, D: Disk + Drop> Node<V, D> {
         ensures caused { LooksForCause (stored self.old) (stored self.new) result }
         ensures open { AnswersOnlyIfOpen (V.accepts self.old.verifier) (seen_query query.now)
             (stored self.old) (stored self.new) result }
+        ensures valid { IfErr result
+            (IsFaultOfValidPath (V.accepts self.old.verifier) (seen_query query.now)) }
+        ensures settled { IsSettled (stored self.new) }
         ensures durable { IsDurable (stored self.new) }
         ensures survives { CommitsNothing (stored self.old) (stored self.new) }
     {
@@ -114,12 +127,14 @@ impl<V: Verifier + Drop, D: Disk + Drop> Node<V, D> {
         ensures verifier { IfOk result (λ node. node.verifier ≡ self.verifier) }
         ensures restarts { IfOk result (HasRestarted self) }
         ensures store { IfOk result (λ node. IsStoreOn node.store.conn) }
+        ensures settled { IfOk result (λ node. IsSettled (stored node)) }
         ensures durable { IfOk result (λ node. IsDurable (stored node)) }
         ensures cause { IfErr result (ReopensForCause self.store.conn) }
         ensures fails { IfErr result (FailsToReopen self.store.conn) }
     {
         let Node { verifier, store } = self;
         let store = store.reopen(alloc)?;
+        at_rest(&store.conn);
         Ok(Node { verifier, store })
     }
 }

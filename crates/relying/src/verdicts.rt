@@ -1,10 +1,11 @@
 //! Verdicts, in a transaction that is dropped.
 
-ghost use Rattle.std.specs.Prelude.{◌≡◌, false};
+ghost use Rattle.std.specs.Prelude.{◌≡◌, false, IfErr};
 ghost use Rattle.sqlite.specs.Held.{state};
 ghost use Rattle.store_sql.specs.Statements.{IsDurable, CommitsNothing};
 ghost use Rattle.relying_agreement.specs.Verdict.{IsVerdict};
 ghost use Rattle.relying.specs.Asking.{AnswersOnlyIfOpen, AreSettled, Looks, LooksForCause, LooksInside};
+ghost use Rattle.relying_verdicts.specs.Asking.{IsFaultOfValidPath};
 ghost use Rattle.path.specs.Reading.{seen_query};
 
 use path_verifiers::Verifier;
@@ -25,6 +26,8 @@ fn verdict_in_transaction<V: Verifier, S: Alter>(
     ensures caused { LooksForCause (state S.Store conn.old) (state S.Store conn.new) result }
     ensures open { AnswersOnlyIfOpen (V.accepts verifier.now) (seen_query query.now)
         (state S.Store conn.old) (state S.Store conn.new) result }
+    ensures valid { IfErr result
+        (IsFaultOfValidPath (V.accepts verifier.now) (seen_query query.now)) }
     ensures survives { CommitsNothing (state S.Store conn.old) (state S.Store conn.new) }
 {
     let mut tx = conn.transaction();
@@ -47,6 +50,8 @@ pub fn verdict_of<V: Verifier, S: Alter>(
     ensures durable { IsDurable (state S.Store conn.new) }
     ensures open { AnswersOnlyIfOpen (V.accepts verifier.now) (seen_query query.now)
         (state S.Store conn.old) (state S.Store conn.new) result }
+    ensures valid { IfErr result
+        (IsFaultOfValidPath (V.accepts verifier.now) (seen_query query.now)) }
     ensures survives { CommitsNothing (state S.Store conn.old) (state S.Store conn.new) }
 {
     let _before = conn.is_autocommit();

@@ -1,14 +1,17 @@
 -- A verdict that is not Invalid was asked of an open connection.
-use Rattle.std.proofs.Common.{◌≡◌, ◌≢◌, ◌≤◌, ℕ, ℤ, Bool, List, [], ◌∷◌, Option, Some, None, length, map, IsTrue, IfOk, Result, Ok, Err, arith, refl, sym}
+use Rattle.std.proofs.Common.{◌≡◌, ◌≢◌, ◌≤◌, ℕ, ℤ, Bool, List, [], ◌∷◌, Option, Some, None, length, map, IsTrue, IfErr, IfOk, Result, Ok, Err, arith, refl, sym}
 use Rattle.path.specs.declared.reason.Reason.{Reason}
 use Rattle.path.specs.Query.{Query, Accepts}
+use Rattle.path.specs.Validity.{IsValidPath}
 use Rattle.relying_agreement.specs.Status.{Evidence}
 use Rattle.relying_agreement.specs.Verdict.{first_revoked, first_uncovered, verdict_by, verdict_from}
 use Rattle.relying_agreement.specs.declared.verdict.Verdict.{Verdict}
 use Rattle.relying_agreement.specs.declared.verdict.Verdict.TheVariants.{Invalid, Revoked, Unknown, Valid}
 use Rattle.relying_agreement.specs.declared.verdict.Comparison.{Comparison}
 use Rattle.relying_agreement.specs.declared.verdict.Comparison.TheVariants.{Same, Differ}
-use Rattle.relying_verdicts.specs.Asking.{AreAskedOpen, AreInvalidOrOpen, IsInvalidOrOpen, IsNotInvalid}
+use Rattle.relying_verdicts.specs.Asking.{AreAskedOpen, AreInvalidOrOpen, IsFaultOfValidPath, IsInvalidOrOpen, IsNotInvalid}
+use Rattle.relying_verdicts.specs.declared.fault.Fault.{Fault}
+use Rattle.relying_verdicts.specs.declared.fault.Fault.TheVariants.{Memory, Store}
 use Rattle.relying_verdicts.specs.Difference.{ComparesEvidence}
 
 -- there is evidence on a path with certificates
@@ -53,3 +56,9 @@ pub are_open : {E : Type 0} (accepts : Accepts) (query : Query) (live other_live
 are_open accepts query live other_live (Ok (Same verdict)) asked = (by_verdict accepts query live verdict asked.2 asked.0, by_verdict accepts query other_live verdict asked.2 asked.1)
 are_open accepts query live other_live (Ok (Differ verdict others j)) asked = asked
 are_open accepts query live other_live (Err fault) asked = tt
+
+-- a valid path may get any fault
+pub may_fail : {A : Type 0} (accepts : Accepts) (query : Query) (result : Result A Fault) → IsValidPath accepts query → IfErr result (IsFaultOfValidPath accepts query)
+may_fail accepts query (Ok found) valid = tt
+may_fail accepts query (Err (Store fault)) valid = valid
+may_fail accepts query (Err Memory) valid = tt

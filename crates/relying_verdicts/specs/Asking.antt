@@ -12,7 +12,7 @@ use Rattle.store_rows.specs.Steps.{Stays}
 use Rattle.store_maps.specs.Held.{IsStoreOf}
 use Rattle.store_maps.specs.LooksUp.{IsFoundIn, FailsIn, IsCausedOverStore}
 use Rattle.path.specs.Query.{Query, Accepts}
-use Rattle.path.specs.Validity.{IsFirstFailure}
+use Rattle.path.specs.Validity.{IsFirstFailure, IsValidPath}
 use Rattle.relying_agreement.specs.declared.verdict.Verdict.{Verdict}
 use Rattle.relying_agreement.specs.declared.verdict.Verdict.TheVariants.{Invalid}
 use Rattle.relying_agreement.specs.declared.verdict.Comparison.{Comparison}
@@ -41,6 +41,11 @@ AskIsCaused old new Memory = ⊤
 
 abbrev pub AsksForCause : {S A : Type 0} → Ghosts S → Transaction S → Transaction S → Result A Fault → Type 0
 AsksForCause g old new result = HasCleanDisk (inside g new) → IfErr result (AskIsCaused (inside g old) (inside g new))
+
+-- a store is asked only about a path that meets all conditions, so no other path gets its fault
+abbrev pub IsFaultOfValidPath : Accepts → Query → Fault → Type 0
+IsFaultOfValidPath accepts query (Store fault) = IsValidPath accepts query
+IsFaultOfValidPath accepts query Memory = ⊤
 
 -- ---- of two stores
 

@@ -1,12 +1,12 @@
 //! The comparison of two relying parties.
 
-ghost use Rattle.std.specs.Prelude.{◌≡◌, ◌≢◌, ◌↔◌, [], IsTrue, IfOk, length, map, option_map};
+ghost use Rattle.std.specs.Prelude.{◌≡◌, ◌≢◌, ◌↔◌, [], IsTrue, IfErr, IfOk, length, map, option_map};
 ghost use Rattle.sqlite.specs.State.{HasCleanDisk};
 ghost use Rattle.statements_facts.specs.Answer.{seen_crl, seen_ocsp};
 ghost use Rattle.store_sql.specs.Inside.{IsInTransaction, KeepsReference, inside};
 ghost use Rattle.store_sql.specs.Statements.{CommitsNothing};
 ghost use Rattle.relying_agreement.specs.Comparison.{IsComparison};
-ghost use Rattle.relying_verdicts.specs.Asking.{AreAskedOpen, AsksStores, AsksBothForCause, BothAreInvalidOrOpen};
+ghost use Rattle.relying_verdicts.specs.Asking.{AreAskedOpen, AsksStores, AsksBothForCause, BothAreInvalidOrOpen, IsFaultOfValidPath};
 ghost use Rattle.relying_verdicts.specs.Difference.{ComparesEvidence, IsFirstApart};
 ghost use Rattle.relying_verdicts.specs.Found.{ComparesHeld};
 ghost use Rattle.relying_evidence.specs.View.{seen_answers, seen_evidence};
@@ -162,6 +162,8 @@ pub fn compare<V: Verifier, S: Alter, D: Alter>(
     ensures caused { AsksBothForCause S.Store one.old one.new D.Store other.old other.new result }
     ensures open { BothAreInvalidOrOpen S.Store one.old one.new D.Store other.old other.new
         (V.accepts verifier.now) (seen_query query.now) result }
+    ensures valid { IfErr result
+        (IsFaultOfValidPath (V.accepts verifier.now) (seen_query query.now)) }
     ensures survives { CommitsNothing (inside S.Store one.old) (inside S.Store one.new) }
     ensures other_survives { CommitsNothing (inside D.Store other.old) (inside D.Store other.new) }
 {

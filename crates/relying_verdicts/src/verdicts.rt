@@ -1,11 +1,11 @@
 //! The verdict on a path.
 
-ghost use Rattle.std.specs.Prelude.{◌≡◌, IfOk, IsTrue, map};
+ghost use Rattle.std.specs.Prelude.{◌≡◌, IfErr, IfOk, IsTrue, map};
 ghost use Rattle.store_sql.specs.Inside.{IsInTransaction, KeepsReference, inside};
 ghost use Rattle.store_sql.specs.Statements.{CommitsNothing};
 ghost use Rattle.sqlite.specs.State.{HasCleanDisk};
 ghost use Rattle.relying_agreement.specs.Verdict.{IsVerdict, verdict_by};
-ghost use Rattle.relying_verdicts.specs.Asking.{AsksStore, AsksForCause, IsInvalidOrOpen};
+ghost use Rattle.relying_verdicts.specs.Asking.{AsksStore, AsksForCause, IsFaultOfValidPath, IsInvalidOrOpen};
 ghost use Rattle.relying_evidence.specs.View.{seen_evidence};
 ghost use Rattle.path.specs.Reading.{seen_query};
 
@@ -42,6 +42,8 @@ pub fn verdict<V: Verifier, S: Alter>(
     ensures open { HasCleanDisk (inside S.Store tx.new)
         → IfOk result (IsInvalidOrOpen (V.accepts verifier.now) (seen_query query.now)
         (inside S.Store tx.old).is_open) }
+    ensures valid { IfErr result
+        (IsFaultOfValidPath (V.accepts verifier.now) (seen_query query.now)) }
     ensures survives { CommitsNothing (inside S.Store tx.old) (inside S.Store tx.new) }
 {
     let outcome = query.validate(alloc, verifier)?;

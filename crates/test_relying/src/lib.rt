@@ -1,5 +1,5 @@
 //! Tests of relying parties over disks in memory: what they take, what they say after it, also behind a restart and over a store of
-//! version 1, and where they agree; of stores at paths of the system's files; and of faults of runs as they are printed.
+//! version 1, where they agree, and what is left where a restart fails; of stores at paths of the system's files; and of faults of runs as they are printed.
 #![tactic(auto)]
 
 #[cfg(test)]
@@ -20,6 +20,8 @@ mod memory;
 mod path_file;
 #[cfg(test)]
 mod printing;
+#[cfg(test)]
+mod stopping;
 #[cfg(test)]
 mod telling;
 #[cfg(test)]

@@ -47,7 +47,8 @@ pub fn pair_of(alloc: Global, told: &Told) -> Option<(Vec<u8>, Vec<u8>)> {
     Some((issuer, statement))
 }
 
-fn pairs_of(alloc: Global, told: &[Told]) -> Option<Vec<(Vec<u8>, Vec<u8>)>> {
+/// The octets of all of it.
+pub fn pairs_of(alloc: Global, told: &[Told]) -> Option<Vec<(Vec<u8>, Vec<u8>)>> {
     let mut all = Vec::new(alloc);
     for it in told {
         all.push(pair_of(alloc, it)?).ok()?;
@@ -55,7 +56,8 @@ fn pairs_of(alloc: Global, told: &[Told]) -> Option<Vec<(Vec<u8>, Vec<u8>)>> {
     Some(all)
 }
 
-fn events_of<'a>(alloc: Global, pairs: &'a [(Vec<u8>, Vec<u8>)]) -> Option<Vec<Event<'a>>> {
+/// The events that they make.
+pub fn events_of<'a>(alloc: Global, pairs: &'a [(Vec<u8>, Vec<u8>)]) -> Option<Vec<Event<'a>>> {
     let mut events = Vec::new(alloc);
     for (issuer, statement) in pairs {
         let event = if issuer.is_empty() {

@@ -1,6 +1,7 @@
 use Rattle.std.proofs.Common.{◌≡◌, ◌≤◌, length, map, take, vec_len, vec_capacity}
 use Rattle.sqlite.specs.Files.{file_state}
 use Rattle.sqlite.specs.State.{HasCleanDisk}
+use Rattle.relying.specs.Leaving.{LeavesSoFar}
 use Rattle.relying.specs.Run.{AreAnswersTo, RanSoFar, seen_event}
 use Rattle.relying.proofs.running.run_all.Given as goal
 
@@ -11,4 +12,5 @@ invariant-loop-index g l =
     (l.node.verifier ≡ l.fn.node.verifier) × (vec_len l.answers ≤ l.index) × (length l.events ≤ vec_capacity l.answers)
     × (HasCleanDisk now → HasCleanDisk first)
     × (HasCleanDisk now → RanSoFar (g.V.Verifier.accepts l.fn.node.verifier) (map seen_event (take l.index l.events)) l.answers.items first now)
+    × (HasCleanDisk now → LeavesSoFar (g.V.Verifier.accepts l.fn.node.verifier) (map seen_event (take l.index l.events)) l.answers.items first now)
     × AreAnswersTo (g.V.Verifier.accepts l.fn.node.verifier) (map seen_event (take l.index l.events)) l.answers.items

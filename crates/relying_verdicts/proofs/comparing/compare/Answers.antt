@@ -4,7 +4,7 @@ use Rattle.relying_agreement.specs.Verdict.{evidence_on}
 use Rattle.relying_verdicts.specs.Difference.{ComparesEvidence}
 use Rattle.path.specs.Reading.{seen_query}
 use Rattle.relying_verdicts.proofs.Chains.{both_as}
-use Rattle.relying_verdicts.proofs.Opening.{are_open, some_certificate}
+use Rattle.relying_verdicts.proofs.Opening.{are_open, may_fail, some_certificate}
 use Rattle.relying_verdicts.proofs.Differing.{is_comparison}
 use Rattle.relying_verdicts.proofs.comparing.compare.Goals as goal
 
@@ -25,3 +25,7 @@ pub returns-in-Bad-clause-open : goal.returns-in-Bad-clause-open
 returns-in-Bad-clause-open g c clean other_clean =
     let fails = subst (IsOutcome (g.V.Verifier.accepts c.args.verifier.now) (seen_query c.args.query.now)) c.in-Bad.is c.in_ok-outcome.ensures.ok in
     (fails, fails)
+
+pub returns-in-Good-clause-valid : goal.returns-in-Good-clause-valid
+returns-in-Good-clause-valid g c =
+    may_fail _ _ c.compare_held.result (subst (IsOutcome (g.V.Verifier.accepts c.args.verifier.now) (seen_query c.args.query.now)) c.in-Good.is c.in_ok-outcome.ensures.ok)

@@ -5,7 +5,7 @@ use Rattle.relying_agreement.specs.Verdict.{verdict_by}
 use Rattle.relying_evidence.specs.View.{seen_evidence}
 use Rattle.path.specs.Reading.{seen_query}
 use Rattle.relying_verdicts.proofs.Chains.{found_as}
-use Rattle.relying_verdicts.proofs.Opening.{is_open, some_certificate, some_found}
+use Rattle.relying_verdicts.proofs.Opening.{is_open, may_fail, some_certificate, some_found}
 use Rattle.relying_verdicts.proofs.verdicts.verdict.Goals as goal
 
 pub returns-in_ok-evidence-in-Good-clause-asks : goal.returns-in_ok-evidence-in-Good-clause-asks
@@ -26,3 +26,7 @@ returns-in_ok-evidence-in-Good-clause-open g c clean =
 
 pub returns-in-Bad-clause-open : goal.returns-in-Bad-clause-open
 returns-in-Bad-clause-open g c clean = subst (IsOutcome (g.V.Verifier.accepts c.args.verifier.now) (seen_query c.args.query.now)) c.in-Bad.is c.in_ok-outcome.ensures.ok
+
+pub returns-in_err-evidence-in-Good-clause-valid : goal.returns-in_err-evidence-in-Good-clause-valid
+returns-in_err-evidence-in-Good-clause-valid g c =
+    may_fail _ _ _ (subst (IsOutcome (g.V.Verifier.accepts c.args.verifier.now) (seen_query c.args.query.now)) c.in-Good.is c.in_ok-outcome.ensures.ok)
