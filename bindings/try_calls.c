@@ -1,5 +1,6 @@
 /* Tries the calls of the library for C where examples/validate_path.c does not reach them, in the folder testdata: null pointers, texts
- * without octets, purposes, long paths, places and names. The status is 1 if an answer is another than expected; its line says which. */
+ * without octets, purposes, long paths, places, extensions and names. The status is 1 if an answer is another than expected; its line says
+ * which. */
 #include <stdio.h>
 #include <stdlib.h>
 #include <string.h>
@@ -11,7 +12,7 @@
 #define EXPECT(holds) expect(holds, #holds, __LINE__)
 
 static const struct x509check_text nothing = {NULL, 0}, empty = {(const uint8_t *)"", 0};
-static struct x509check_text root, middle, leaf, root_list, middle_list;
+static struct x509check_text root, middle, leaf, constraints, delegate, root_list, middle_list;
 static uint8_t good[8][X509CHECK_FINGERPRINT_LENGTH];
 static size_t good_count;
 static int failed;
@@ -171,6 +172,37 @@ static void try_questions(void)
     EXPECT(questions[3].key_info.text == X509CHECK_CERTIFICATES && questions[3].key_info.index == 1);
 }
 
+/* The flags, and the numbers of items of lists, in the order of the header. */
+static int has_flags(struct x509check_extensions told, int constrains, int authority, int length, int usage, int policy, int no_check)
+{
+    return told.has_basic_constraints == constrains && told.is_authority == authority && told.has_path_length == length
+        && told.has_key_usage == usage && told.needs_policy_processing == policy && told.no_check == no_check;
+}
+
+static int has_counts(struct x509check_extensions told, size_t names, size_t permitted, size_t excluded, size_t purposes, size_t unrecognised)
+{
+    return told.alternative_names == names && told.permitted_subtrees == permitted && told.excluded_subtrees == excluded
+        && told.purposes == purposes && told.unrecognised == unrecognised;
+}
+
+/* No two flags are the same in all three certificates, and no two numbers: what `openssl x509 -text` prints of them. */
+static void try_extensions(void)
+{
+    struct x509check_fields of_middle = x509check_read_certificate(middle.octets, middle.length).fields;
+    struct x509check_fields of_constraints = x509check_read_certificate(constraints.octets, constraints.length).fields;
+    struct x509check_fields of_delegate = x509check_read_certificate(delegate.octets, delegate.length).fields;
+
+    EXPECT(has_flags(of_middle.extensions, 1, 1, 1, 1, 0, 0));
+    EXPECT(has_flags(of_constraints.extensions, 1, 1, 0, 0, 1, 0));
+    EXPECT(has_flags(of_delegate.extensions, 1, 0, 1, 0, 0, 1));
+    EXPECT(has_counts(of_middle.extensions, 0, 0, 0, 0, 0));
+    EXPECT(has_counts(of_constraints.extensions, 3, 1, 2, 4, 5));
+    EXPECT(has_counts(of_delegate.extensions, 0, 0, 0, 0, 0));
+    EXPECT(of_middle.extensions.path_length == 0 && of_middle.extensions.key_usage == (X509CHECK_KEY_CERT_SIGN | X509CHECK_CRL_SIGN));
+    EXPECT(of_delegate.extensions.path_length == 7 && of_delegate.extensions.key_usage == 0);
+    EXPECT(of_constraints.version == 3 && of_constraints.not_before == 1795840550 && of_constraints.not_after == 2111200550);
+}
+
 static void try_200_certificates(void)
 {
     struct x509check_text path[200];
@@ -211,6 +243,8 @@ int main(void)
     root = text_of("root.der");
     middle = text_of("middle.der");
     leaf = text_of("leaf.der");
+    constraints = text_of("constraints.der");
+    delegate = text_of("delegate.der");
     root_list = text_of("root.crl");
     middle_list = text_of("middle.crl");
     prints = text_of("good");
@@ -224,6 +258,7 @@ int main(void)
     try_purposes();
     try_places();
     try_questions();
+    try_extensions();
     try_200_certificates();
     try_names();
     return failed;

@@ -6,10 +6,10 @@ import threading
 import unittest
 
 import x509check
-from x509check import Certificate, Fault, Judgement, Reason, Result, RevocationReason, Text, Verdict
+from x509check import Certificate, Extensions, Fault, Judgement, Reason, Result, RevocationReason, Text, Verdict
 
 from .authority import (
-    DECEMBER, GOOD_PRINTS, LEAF, MIDDLE, MIDDLE_LIST, RESPONSE, REVOKING_LIST, ROOT, ROOT_LIST, octets_of,
+    CONSTRAINTS, DECEMBER, DELEGATE, GOOD_PRINTS, LEAF, MIDDLE, MIDDLE_LIST, RESPONSE, REVOKING_LIST, ROOT, ROOT_LIST, octets_of,
 )
 
 SERVER_AUTH, CLIENT_AUTH = "1.3.6.1.5.5.7.3.1", "1.3.6.1.5.5.7.3.2"
@@ -36,6 +36,15 @@ class Certificates(unittest.TestCase):
         self.assertEqual(extensions.path_length, 0)
         self.assertEqual(extensions.key_usage, ("keyCertSign", "cRLSign"))
         self.assertIsNone(Certificate.from_der(ROOT).extensions.path_length)
+
+    def test_extensions_that_differ_in_each_field(self):
+        constrained, delegate = (Certificate.from_der(octets).extensions for octets in (CONSTRAINTS, DELEGATE))
+        self.assertEqual(constrained, Extensions(
+            is_authority=True, path_length=None, key_usage=None, needs_policy_processing=True, no_check=False,
+            alternative_names=3, permitted_subtrees=1, excluded_subtrees=2, purposes=4, unrecognised=5))
+        self.assertEqual(delegate, Extensions(
+            is_authority=False, path_length=7, key_usage=None, needs_policy_processing=False, no_check=True,
+            alternative_names=0, permitted_subtrees=0, excluded_subtrees=0, purposes=0, unrecognised=0))
 
     def test_parts_are_of_the_octets(self):
         leaf = Certificate.from_der(bytearray(LEAF))

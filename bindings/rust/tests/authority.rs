@@ -3,8 +3,8 @@
 use std::cell::RefCell;
 use std::fs;
 use x509check::{
-    fingerprint, judge_by, sha256, Answer, Certificate, Error, Fault, Fingerprints, Judge,
-    Judgement, NotValid, Query, Reason, SignatureQuestion, Text, Verdict,
+    fingerprint, judge_by, sha256, Answer, Certificate, Error, Extensions, Fault, Fingerprints,
+    Judge, Judgement, NotValid, Query, Reason, SignatureQuestion, Text, Verdict,
 };
 
 /// 2026-12-01T00:00:00Z
@@ -115,6 +115,44 @@ fn fields_are_those_that_openssl_prints() {
     assert!(middle.extensions().key_usage.unwrap().key_cert_sign());
     assert!(middle.extensions().key_usage.unwrap().crl_sign());
     assert_eq!(leaf.extensions().is_authority, None);
+}
+
+/// What `openssl x509 -text` prints of an authority with constraints, and of a delegate for OCSP.
+#[test]
+fn extensions_differ_in_each_field() {
+    let (constraints, delegate) = (read("constraints.der"), read("delegate.der"));
+    let constrained = Extensions {
+        is_authority: Some(true),
+        path_length: None,
+        key_usage: None,
+        needs_policy_processing: true,
+        no_check: false,
+        alternative_names: 3,
+        permitted_subtrees: 1,
+        excluded_subtrees: 2,
+        purposes: 4,
+        unrecognised: 5,
+    };
+    let delegated = Extensions {
+        is_authority: Some(false),
+        path_length: Some(7),
+        key_usage: None,
+        needs_policy_processing: false,
+        no_check: true,
+        alternative_names: 0,
+        permitted_subtrees: 0,
+        excluded_subtrees: 0,
+        purposes: 0,
+        unrecognised: 0,
+    };
+    assert_eq!(
+        Certificate::read(&constraints).unwrap().extensions(),
+        constrained
+    );
+    assert_eq!(
+        Certificate::read(&delegate).unwrap().extensions(),
+        delegated
+    );
 }
 
 fn hex(octets: &[u8]) -> String {

@@ -4,3 +4,5 @@ mod Standing
 mod Asking
 mod Naming
 mod Fitting
+mod Judging
+mod Readings

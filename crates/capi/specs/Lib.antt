@@ -6,3 +6,4 @@ pub mod Refusal
 pub mod Verdict
 pub mod Questions
 pub mod Names
+pub mod Judging

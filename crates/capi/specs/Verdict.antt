@@ -32,14 +32,18 @@ TellsVerdict answer (Unknown certificate) = answer ≡ verdict_numbers 4 certifi
 abbrev pub refusal_answer : Refusal → VerdictAnswer
 refusal_answer told = record { verdict = 5; reason = 0; certificate = 0; refusal = told }
 
--- The verdict on the path by the statements, of who accepts exactly the signatures that have these fingerprints.
-pub record IsVerdictOn (query : QueryOfTexts) (statements : List Text) (prints : List (List ℕ)) (verdict : Verdict) : Type 0 where
+-- The verdict on the path by the statements, of who accepts so.
+pub record IsVerdictFor (accepts : of_path.Accepts) (query : QueryOfTexts) (statements : List Text) (verdict : Verdict) : Type 0 where
   pub read : of_path.Query
   pub these : List Statement
   pub is_read : IsRead query statements read these
+  pub is_verdict : IsVerdictByStatements accepts read these verdict
+
+-- The same of who accepts exactly the signatures that have these fingerprints.
+pub record IsVerdictOn (query : QueryOfTexts) (statements : List Text) (prints : List (List ℕ)) (verdict : Verdict) : Type 0 where
   pub accepts : of_path.Accepts
   pub accepts_prints : AcceptsPrints accepts prints
-  pub is_verdict : IsVerdictByStatements accepts read these verdict
+  pub is_verdict : IsVerdictFor accepts query statements verdict
 
 -- the answer tells the verdict, or what is refused
 abbrev pub TellsAnswer : VerdictAnswer → QueryOfTexts → List Text → List (List ℕ) → Type 0

@@ -31,4 +31,8 @@ pub use version_call::x509check_version;
 #[cfg(test)]
 mod authority;
 #[cfg(test)]
+mod extended;
+#[cfg(test)]
+mod layout;
+#[cfg(test)]
 mod tests;

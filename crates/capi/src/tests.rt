@@ -1,5 +1,6 @@
 use super::*;
 use crate::authority::{GOOD, LISTS, PATH, REVOKING};
+use crate::extended::{CONSTRAINTS, DELEGATE};
 use std::alloc::Global;
 
 /// A certificate that OpenSSL made.
@@ -95,38 +96,46 @@ fn reads(rt: HostRuntime) {
     }
 }
 
-#[test]
-fn reads_extensions(rt: HostRuntime) {
-    let told = x509check_read_certificate(rt.alloc(), CERTIFICATE)
-        .fields
-        .extensions;
-    assert!(rt; told.has_basic_constraints && told.is_authority && told.has_path_length);
-    assert_eq!(rt; told.path_length, 3);
-    assert!(rt; told.has_key_usage);
-    assert_eq!(rt; told.key_usage, 96);
-    assert_eq!(rt; told.alternative_names, 2);
-    assert_eq!(rt; told.purposes, 0);
-    assert_eq!(rt; told.unrecognised, 0);
+/// What the extensions of the certificate say.
+fn extensions_of(alloc: Global, octets: &[u8]) -> ExtensionFields {
+    x509check_read_certificate(alloc, octets).fields.extensions
 }
 
-/// As in the header; in structs of `repr(C)` the fields stand in the order of the source.
+/// The flags of each certificate are others, so that no two flags are the same in all of them, and no two numbers.
 #[test]
-fn structs_have_their_sizes(rt: HostRuntime) {
-    const SIZES: [usize; 12] = [
-        size_of::<Text<'static>>(),
-        size_of::<QueryOfTexts<'static>>(),
-        size_of::<Part>(),
-        size_of::<Answer>(),
-        size_of::<ExtensionFields>(),
-        size_of::<Fields>(),
-        size_of::<CertificateAnswer>(),
-        size_of::<Refusal>(),
-        size_of::<VerdictAnswer>(),
-        size_of::<Place>(),
-        size_of::<SignatureQuestion>(),
-        size_of::<Asked>(),
-    ];
-    assert!(rt; SIZES == [16, 56, 16, 16, 56, 208, 224, 32, 48, 32, 160, 40]);
+fn reads_extensions(rt: HostRuntime) {
+    let alloc = rt.alloc();
+    let authority = ExtensionFields {
+        has_basic_constraints: true,
+        is_authority: true,
+        has_path_length: true,
+        has_key_usage: true,
+        path_length: 3,
+        key_usage: 96,
+        alternative_names: 2,
+        ..ExtensionFields::default()
+    };
+    let constrained = ExtensionFields {
+        has_basic_constraints: true,
+        is_authority: true,
+        needs_policy_processing: true,
+        alternative_names: 3,
+        permitted_subtrees: 1,
+        excluded_subtrees: 2,
+        purposes: 4,
+        unrecognised: 5,
+        ..ExtensionFields::default()
+    };
+    let delegate = ExtensionFields {
+        has_basic_constraints: true,
+        has_path_length: true,
+        no_check: true,
+        path_length: 7,
+        ..ExtensionFields::default()
+    };
+    assert!(rt; extensions_of(alloc, CERTIFICATE) == authority);
+    assert!(rt; extensions_of(alloc, CONSTRAINTS) == constrained);
+    assert!(rt; extensions_of(alloc, DELEGATE) == delegate);
 }
 
 #[test]
@@ -279,7 +288,7 @@ fn refused_of(
 #[test]
 fn refuses_certificates(rt: HostRuntime) {
     let (alloc, lists) = (rt.alloc(), lists());
-    let [root, _, leaf] = certificates();
+    let [root, middle, leaf] = certificates();
     let none = refused_of(alloc, text(b""), &[], &lists);
     assert!(rt; none == refused(refusal(1, 21, 4, 0, 0)));
     // The UTCTime of thisUpdate stands where a certificate has its validity.
@@ -287,6 +296,8 @@ fn refuses_certificates(rt: HostRuntime) {
     assert!(rt; other == refused(refusal(1, 22, 0, 0, 55)));
     let second = refused_of(alloc, root, &[lists[0], leaf], &lists);
     assert!(rt; second == refused(refusal(1, 22, 0, 1, 55)));
+    let third = refused_of(alloc, root, &[middle, lists[0]], &lists);
+    assert!(rt; third == refused(refusal(1, 22, 0, 2, 55)));
     let empty = refused_of(alloc, root, &[leaf, text(b"")], &[text(b"")]);
     assert!(rt; empty == refused(refusal(1, 21, 4, 2, 0)));
 }

@@ -11,14 +11,14 @@ use crate::refusal::Refusal;
 use std::alloc::{AllocError, Global};
 
 /// Octets of the caller.
-#[derive(Clone, Copy)]
+#[derive(Clone, Copy, Debug)]
 #[repr(C)]
 pub struct Text<'a> {
     pub octets: &'a [u8],
 }
 
 /// A query about a path, as `path::Query`, in texts. If the purpose has no octets, no purpose is asked for.
-#[derive(Clone, Copy)]
+#[derive(Clone, Copy, Debug)]
 #[repr(C)]
 pub struct QueryOfTexts<'a> {
     pub anchor: Text<'a>,

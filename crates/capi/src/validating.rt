@@ -1,7 +1,9 @@
 //! `x509check_validate`.
 
 ghost use Rattle.std.specs.Prelude.{◌≡◌, ◌<◌, IfErr, IfOk};
+ghost use Rattle.path.specs.Query.{Accepts};
 ghost use Rattle.path_verifiers.specs.ListVerifier.{Believes};
+ghost use Rattle.capi.specs.Judging.{AreJudged, TellsVerdictFor};
 ghost use Rattle.capi.specs.Refusal.{TellsRefusal};
 ghost use Rattle.capi.specs.Verdict.{IsVerdictOn, TellsAnswer, TellsVerdict, refusal_answer};
 
@@ -11,6 +13,7 @@ use crate::refusal::Refusal;
 use crate::texts::{QueryOfTexts, Text};
 use path_verifiers::ListVerifier;
 use relying_agreement::Verdict;
+use relying_questions::question_laws;
 use relying_texts::verdict;
 use std::alloc::{AllocError, Global};
 
@@ -90,6 +93,9 @@ fn verdict_on(
 
 /// The verdict on the path by statements at hand, as `relying_texts::verdict` gives it, for who accepts the signatures with these
 /// fingerprints; or the first fault, of the certificates and then of the statements. Each is read once.
+///
+/// Whoever asks `x509check_questions`, has each question judged, and hands in the fingerprints of those that are answered by yes, and of no
+/// others, gets the verdict of that judge.
 #[unsafe(no_mangle)]
 pub extern "C" fn x509check_validate(
     alloc: Global,
@@ -98,8 +104,12 @@ pub extern "C" fn x509check_validate(
     fingerprints: &[[u8; 32]],
 ) -> VerdictAnswer
     ensures tells { TellsAnswer result query.now statements.now fingerprints.now }
+    ensures judged { (accepts : Accepts)
+        → AreJudged accepts query.now statements.now fingerprints.now
+        → TellsVerdictFor result accepts query.now statements.now }
     ensures filled { 0 < result.verdict }
 {
+    question_laws();
     match verdict_on(alloc, query, statements, fingerprints) {
         Ok(verdict) => answer_of(verdict),
         Err(refusal) => refused(refusal),

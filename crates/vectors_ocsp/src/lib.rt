@@ -6,7 +6,8 @@
 //!
 //! `ocsp(I,SERIAL STATUS,..)` is a response named and signed by I, with a single response for each, of an id with the SHA-1 of name I and of
 //! key I; STATUS is `good`, `unknown`, `revoked` or `revoked REASON`; both times are 2025-06-01T00:00:00Z, nextUpdate is
-//! 2025-07-01T00:00:00Z. The certificates of `certs` are texts of their own. Names, keys, algorithms and signatures are those of certificates.
+//! 2025-07-01T00:00:00Z. The certificates of `certs` are texts of their own; an empty text puts the value `3000` there, which is no
+//! certificate. Names, keys, algorithms and signatures are those of certificates.
 //!
 //! | Option | Says |
 //! |---|---|

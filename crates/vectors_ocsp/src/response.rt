@@ -95,6 +95,14 @@ fn signed_part(alloc: Global, notation: &ResponseNotation<'_>) -> Result<Tree, N
     Ok(Tree::Constructed(0x30, vec![in alloc; responder, produced_at, responses]?))
 }
 
+/// The certificate that the text asks for, or, if the text is empty, a SEQUENCE without members, which is none.
+fn certificate_or_none(alloc: Global, text: &str) -> Result<Tree, NotationFault> {
+    if text.is_empty() {
+        return Ok(Tree::Constructed(0x30, Vec::new(alloc)));
+    }
+    tree_of(alloc, text)
+}
+
 /// certs [0] EXPLICIT SEQUENCE OF Certificate: nothing if there are none
 fn push_certificates(
     alloc: Global,
@@ -106,7 +114,7 @@ fn push_certificates(
     }
     let mut all = Vec::new(alloc);
     for text in certificates {
-        all.push(tree_of(alloc, text)?)?;
+        all.push(certificate_or_none(alloc, text)?)?;
     }
     members.push(explicit(alloc, 0xA0, Tree::Constructed(0x30, all))?)?;
     Ok(())

@@ -116,6 +116,17 @@ const ROWS: &[Row] = &[
         &[FIRST, UNDER, (Told(0), Told(0))],
         Valid,
     ),
+    // values of certs that are no certificates are passed over, before a delegate's and behind it
+    (LEAF, &[("ocsp(R,05 good)", &[""])], &[FIRST, UNDER], Valid),
+    (
+        LEAF,
+        &[(
+            "ocsp(R,05 good){by D}{signed D}",
+            &["", "ee(D,R){purpose 1.3.6.1.5.5.7.3.9}{nocheck}", ""],
+        )],
+        &[FIRST, UNDER, (Told(0), Told(0))],
+        Valid,
+    ),
     // one whose extensions do not let it sign, and one of another issuer
     (
         LEAF,

@@ -13,10 +13,12 @@ returns-clause-verdict c =
     let verifier = c.in_ok-verifier.verifier in
     let accepts : Accepts = λ algorithm key_info message signature. is_listed verifier (fingerprint_of algorithm key_info message signature) in
     record {
-      read = query;
-      these = map seen_statement c.in_ok-case.case.statements.items;
-      is_read = c.in_ok-case.ensures.reads;
       accepts = accepts;
       accepts_prints = λ algorithm key_info message signature. c.in_ok-verifier.ensures (fingerprint_of algorithm key_info message signature);
-      is_verdict = subst (λ these. IsVerdictByStatements accepts query (map seen_statement these) c.in_ok-verdict.field-0) c.as_slice.ensures.value c.in_ok-verdict.ensures.verdict;
+      is_verdict = record {
+        read = query;
+        these = map seen_statement c.in_ok-case.case.statements.items;
+        is_read = c.in_ok-case.ensures.reads;
+        is_verdict = subst (λ these. IsVerdictByStatements accepts query (map seen_statement these) c.in_ok-verdict.field-0) c.as_slice.ensures.value c.in_ok-verdict.ensures.verdict;
+      };
     }

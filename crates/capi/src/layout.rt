@@ -1,0 +1,79 @@
+//! How the structs lie in memory: as `x509check.h` says.
+
+use super::*;
+use std::alloc::AllocError;
+use std::fmt::Debug;
+use std::test::Fail;
+
+#[test]
+fn structs_have_their_sizes(rt: HostRuntime) {
+    const SIZES: [usize; 12] = [
+        size_of::<Text<'static>>(),
+        size_of::<QueryOfTexts<'static>>(),
+        size_of::<Part>(),
+        size_of::<Answer>(),
+        size_of::<ExtensionFields>(),
+        size_of::<Fields>(),
+        size_of::<CertificateAnswer>(),
+        size_of::<Refusal>(),
+        size_of::<VerdictAnswer>(),
+        size_of::<Place>(),
+        size_of::<SignatureQuestion>(),
+        size_of::<Asked>(),
+    ];
+    assert!(rt; SIZES == [16, 56, 16, 16, 56, 208, 224, 32, 48, 32, 160, 40]);
+}
+
+/// Whether the struct is printed so.
+fn prints<T: Debug>(rt: &HostRuntime, value: &T, text: &str) -> Result<bool, AllocError> {
+    let printed = format!(in rt.alloc(); "{value:?}")?;
+    Ok(printed.as_str() == text)
+}
+
+const QUERY: &str = "QueryOfTexts { anchor: Text { octets: [] }, path: [], moment: 0, \
+    purpose: Text { octets: [] } }";
+
+const CERTIFICATE: &str = "CertificateAnswer { fault: 0, der_fault: 0, offset: 0, \
+    fields: Fields { version: 0, not_before: 0, not_after: 0, \
+    tbs: Part { offset: 0, length: 0 }, serial: Part { offset: 0, length: 0 }, \
+    algorithm: Part { offset: 0, length: 0 }, issuer: Part { offset: 0, length: 0 }, \
+    subject: Part { offset: 0, length: 0 }, \
+    subject_public_key_info: Part { offset: 0, length: 0 }, \
+    key: Part { offset: 0, length: 0 }, signature: Part { offset: 0, length: 0 }, \
+    extensions: ExtensionFields { has_basic_constraints: false, is_authority: false, \
+    has_path_length: false, has_key_usage: false, needs_policy_processing: false, \
+    no_check: false, path_length: 0, key_usage: 0, alternative_names: 0, \
+    permitted_subtrees: 0, excluded_subtrees: 0, purposes: 0, unrecognised: 0 } } }";
+
+const VERDICT: &str = "VerdictAnswer { verdict: 0, reason: 0, certificate: 0, \
+    refusal: Refusal { text: 0, fault: 0, der_fault: 0, index: 0, offset: 0 } }";
+
+const ASKED: &str = "Asked { \
+    refusal: Refusal { text: 0, fault: 0, der_fault: 0, index: 0, offset: 0 }, count: 0 }";
+
+const QUESTION: &str = "SignatureQuestion { \
+    algorithm: Place { text: 0, index: 0, offset: 0, length: 0 }, \
+    key_info: Place { text: 0, index: 0, offset: 0, length: 0 }, \
+    message: Place { text: 0, index: 0, offset: 0, length: 0 }, \
+    signature: Place { text: 0, index: 0, offset: 0, length: 0 }, \
+    fingerprint: [0, 0, 0, 0, 0, 0, 0, 0, 0, 0, 0, 0, 0, 0, 0, 0, 0, 0, 0, 0, 0, 0, 0, 0, 0, 0, 0, 0, \
+    0, 0, 0, 0] }";
+
+/// In a struct of `repr(C)` the fields lie in the order of the source, in which `Debug` prints them; it is the header's.
+#[test]
+fn structs_have_their_fields_in_order(rt: HostRuntime) -> Result<(), Fail> {
+    let none = Text { octets: b"" };
+    let query = QueryOfTexts {
+        anchor: none,
+        path: &[],
+        moment: 0,
+        purpose: none,
+    };
+    assert!(rt; prints(&rt, &query, QUERY)?);
+    assert!(rt; prints(&rt, &Answer::default(), "Answer { fault: 0, offset: 0 }")?);
+    assert!(rt; prints(&rt, &CertificateAnswer::default(), CERTIFICATE)?);
+    assert!(rt; prints(&rt, &VerdictAnswer::default(), VERDICT)?);
+    assert!(rt; prints(&rt, &Asked::default(), ASKED)?);
+    assert!(rt; prints(&rt, &SignatureQuestion::default(), QUESTION)?);
+    Ok(())
+}
