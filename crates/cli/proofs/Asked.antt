@@ -9,7 +9,7 @@ use Rattle.cli_failures.specs.declared.failure.Failure.{Failure}
 use Rattle.cli_words.specs.QueryTexts.{QueryTexts}
 use Rattle.cli_steps.specs.Commands.{AsksBelieving, DeliversBelieving}
 use Rattle.cli_steps.specs.Passing.{AnsweringBy, TakingBy}
-use Rattle.cli_store.specs.Standing.{Leaving, Standing}
+use Rattle.cli_store.specs.Standing.{Places}
 use Rattle.cli.specs.Checked.{ChecksAt, ComparesAt, IsChecked, IsCompared, IsFailureOfCheck, IsFailureOfComparison}
 use Rattle.cli.specs.Delivered.{IsDelivered, IsFailureOfDelivery, TakesAt}
 use Rattle.cli.specs.Host.{HostState}
@@ -20,13 +20,13 @@ use Rattle.cli.specs.declared.delivering.Delivery.{Delivery}
 
 -- ---- deliveries
 
-abbrev pub taking_at : {D S : Type 0} → (S → Standing) → (S → Leaving) → TakingBy (AtPath D S)
-taking_at stands leaves at new facts result = TakesAt (stands at.source.now) (leaves at.source.now) at.path.now facts result
+abbrev pub taking_at : {D S : Type 0} → (S → Places) → TakingBy (AtPath D S)
+taking_at known at new facts result = TakesAt (known at.source.now) at.path.now facts result
 
 -- the store is that of the words
-module _ {D S : Type 0} (stands : S → Standing) (leaves : S → Leaving) (host : HostState) (words : Delivery) (old new : AtPath D S) (so : (facts : List Fact) (result : Result Counts Failure) → taking_at stands leaves old new facts result → TakesAt host.stands host.leaves words.store.now facts result) where
+module _ {D S : Type 0} (known : S → Places) (host : HostState) (words : Delivery) (old new : AtPath D S) (so : (facts : List Fact) (result : Result Counts Failure) → taking_at known old new facts result → TakesAt host.at words.store.now facts result) where
   abbrev Delivers : Result Counts Failure → Type 0
-  Delivers = DeliversBelieving host.holds words.verdicts.now words.issuer.now words.file.now (taking_at stands leaves) old new
+  Delivers = DeliversBelieving host.holds words.verdicts.now words.issuer.now words.file.now (taking_at known) old new
 
   pub delivered : (result : Result Counts Failure) → Delivers result → IfOk result (IsDelivered host words)
   delivered (Ok counts) (facts, (accepts, believes, says), taken) =
@@ -36,16 +36,16 @@ module _ {D S : Type 0} (stands : S → Standing) (leaves : S → Leaving) (host
   pub not_delivered : (result : Result Counts Failure) → Delivers result → IfErr result (IsFailureOfDelivery host words)
   not_delivered (Ok counts) did = tt
   not_delivered (Err failure) (inl (refused, same)) = inl refused
-  not_delivered (Err failure) (inr (facts, says, fails)) = inr ((facts, says), so facts (Err failure) fails)
+  not_delivered (Err failure) (inr (facts, says, fails)) = inr (facts, says, so facts (Err failure) fails)
 
 -- ---- verdicts
 
-abbrev pub checking_at : {D S : Type 0} → (S → Standing) → (S → Leaving) → AnsweringBy (AtPath D S) Verdict
-checking_at stands leaves at new accepts query result = ChecksAt (stands at.source.now) (leaves at.source.now) at.path.now accepts query result
+abbrev pub checking_at : {D S : Type 0} → (S → Places) → AnsweringBy (AtPath D S) Verdict
+checking_at known at new accepts query result = ChecksAt (known at.source.now) at.path.now accepts query result
 
-module _ {D S : Type 0} (stands : S → Standing) (leaves : S → Leaving) (host : HostState) (store verdicts : List ℕ) (texts : QueryTexts) (old new : AtPath D S) (so : (accepts : Accepts) (query : Query) (result : Result Verdict Failure) → checking_at stands leaves old new accepts query result → ChecksAt host.stands host.leaves store accepts query result) where
+module _ {D S : Type 0} (known : S → Places) (host : HostState) (store verdicts : List ℕ) (texts : QueryTexts) (old new : AtPath D S) (so : (accepts : Accepts) (query : Query) (result : Result Verdict Failure) → checking_at known old new accepts query result → ChecksAt host.at store accepts query result) where
   abbrev Asks : Result Verdict Failure → Type 0
-  Asks = AsksBelieving host.holds verdicts texts (checking_at stands leaves) old new
+  Asks = AsksBelieving host.holds verdicts texts (checking_at known) old new
 
   pub checked : (result : Result Verdict Failure) → Asks result → IfOk result (IsChecked host store verdicts texts)
   checked (Ok verdict) ((accepts, query), asked, found) =
@@ -59,12 +59,12 @@ module _ {D S : Type 0} (stands : S → Standing) (leaves : S → Leaving) (host
 
 -- ---- comparisons
 
-abbrev pub comparing_at : {D S : Type 0} → (S → Standing) → (S → Leaving) → AnsweringBy (AtPaths D S) Comparison
-comparing_at stands leaves at new accepts query result = ComparesAt (stands at.source.now) (leaves at.source.now) at.stores accepts query result
+abbrev pub comparing_at : {D S : Type 0} → (S → Places) → AnsweringBy (AtPaths D S) Comparison
+comparing_at known at new accepts query result = ComparesAt (known at.source.now) at.stores accepts query result
 
-module _ {D S : Type 0} (stands : S → Standing) (leaves : S → Leaving) (host : HostState) (stores : StorePair) (verdicts : List ℕ) (texts : QueryTexts) (old new : AtPaths D S) (so : (accepts : Accepts) (query : Query) (result : Result Comparison Failure) → comparing_at stands leaves old new accepts query result → ComparesAt host.stands host.leaves stores accepts query result) where
+module _ {D S : Type 0} (known : S → Places) (host : HostState) (stores : StorePair) (verdicts : List ℕ) (texts : QueryTexts) (old new : AtPaths D S) (so : (accepts : Accepts) (query : Query) (result : Result Comparison Failure) → comparing_at known old new accepts query result → ComparesAt host.at stores accepts query result) where
   abbrev AsksBoth : Result Comparison Failure → Type 0
-  AsksBoth = AsksBelieving host.holds verdicts texts (comparing_at stands leaves) old new
+  AsksBoth = AsksBelieving host.holds verdicts texts (comparing_at known) old new
 
   pub compared : (result : Result Comparison Failure) → AsksBoth result → IfOk result (IsCompared host stores verdicts texts)
   compared (Ok comparison) ((accepts, query), asked, found) =

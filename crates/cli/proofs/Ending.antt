@@ -1,5 +1,7 @@
 -- How a run of a line ends, from what it did.
 use Rattle.std.proofs.Common.{◌≡◌, ◌⊎◌, inl, inr, refl, sym, subst, ℕ, Bool, List, Option, Result, Ok, Err, IfErr, IfOk}
+use Rattle.std.specs.Io.KnownBytes.{Keeps}
+use Rattle.std.proofs.KnownBytes.{Appends-kept}
 use Rattle.clap.specs.Words.{Text}
 use Rattle.cli_words.specs.CommandLine.{ReadsLine}
 use Rattle.cert.specs.SubjectPublicKeyInfo.{SubjectPublicKeyInfo}
@@ -15,6 +17,9 @@ use Rattle.cli.specs.Host.{HostState}
 use Rattle.cli_showing.specs.Shown.{ArePrintLines, HoldsKind, IsShownText}
 use Rattle.cli.specs.Outcome.{HasAnswered, IsDone, IsLineFailure}
 use Rattle.cli.specs.Ended.{EndedAs, HasEndedSo, RunHasEnded, IsAnswering, IsFailing}
+use Rattle.cli.specs.Streams.{Streams}
+use Rattle.cli.proofs.Fronts.{whole}
+use Rattle.cli.proofs.Serving.{whole_kept}
 use Rattle.cli.proofs.Statuses.{is_failing, not_both}
 
 pub either : (result : Result ℕ Failure) (ended : ℕ) (same : Type 0) (Told : List ℕ → Type 0) → IfOk result IsAnswering
@@ -23,13 +28,13 @@ pub either : (result : Result ℕ Failure) (ended : ℕ) (same : Type 0) (Told :
 either (Ok status) ended same Told is done failed = inl (subst IsAnswering (sym done.0) is)
 either (Err failure) ended same Told is done failed = inr (subst IsFailing (sym failed.0) (is_failing failure))
 
-pub answered : (host : HostState) (words : List Text) (line : Line) (input source old new : Option (List ℕ)) (result : Result ℕ Failure) (ended : ℕ) (same : Type 0) (Told : List ℕ → Type 0)
-    → ReadsLine words line → IfOk result (IsDone host line input source old new)
+pub answered : (host : HostState) (words : List Text) (line : Line) (run : Streams) (result : Result ℕ Failure) (ended : ℕ) (same : Type 0) (Told : List ℕ → Type 0)
+    → ReadsLine words line → IfOk result (IsDone host line run)
     → IfOk result (λ status. (ended ≡ status) × same) → IfErr result (λ failure. (ended ≡ exit_status failure) × Told (report_line failure))
-    → IsAnswering ended → HasAnswered host words input source old new ended
-answered host words line input source old new (Ok status) ended same Told reads did done failed answers =
-    inl (line, reads, subst (IsDone host line input source old new) (sym done.0) did)
-answered host words line input source old new (Err failure) ended same Told reads did done failed answers =
+    → IsAnswering ended → HasAnswered host words run ended
+answered host words line run (Ok status) ended same Told reads did done failed answers =
+    inl (line, reads, subst (IsDone host line run) (sym done.0) did)
+answered host words line run (Err failure) ended same Told reads did done failed answers =
     absurd (not_both ended answers (subst IsFailing (sym failed.0) (is_failing failure)))
 
 -- nothing was told
@@ -38,13 +43,13 @@ pub silent : (result : Result ℕ Failure) (ended : ℕ) (same : Type 0) (Told :
 silent (Ok status) ended same Told done failed answers = done.1
 silent (Err failure) ended same Told done failed answers = absurd (not_both ended answers (subst IsFailing (sym failed.0) (is_failing failure)))
 
-pub failed : (host : HostState) (words : List Text) (line : Line) (result : Result ℕ Failure) (ended : ℕ) (same unchanged : Type 0) (Told : List ℕ → Type 0)
-    → ReadsLine words line → IfOk result IsAnswering → IfErr result (IsLineFailure host line) → IfErr result (λ failure. UnlessLate failure unchanged)
+pub failed : (host : HostState) (words : List Text) (line : Line) (run : Streams) (result : Result ℕ Failure) (ended : ℕ) (same unchanged : Type 0) (Told : List ℕ → Type 0)
+    → ReadsLine words line → IfOk result IsAnswering → IfErr result (IsLineFailure host line run) → IfErr result (λ failure. UnlessLate failure unchanged)
     → IfOk result (λ status. (ended ≡ status) × same) → IfErr result (λ failure. (ended ≡ exit_status failure) × Told (report_line failure))
-    → IsFailing ended → RunHasEnded host words unchanged Told ended
-failed host words line (Ok status) ended same unchanged Told reads is fails quiet done told failing =
+    → IsFailing ended → RunHasEnded host words run unchanged Told ended
+failed host words line run (Ok status) ended same unchanged Told reads is fails quiet done told failing =
     absurd (not_both ended (subst IsAnswering (sym done.0) is) failing)
-failed host words line (Err failure) ended same unchanged Told reads is fails quiet done told failing =
+failed host words line run (Err failure) ended same unchanged Told reads is fails quiet done told failing =
     inl (failure, inl (line, reads, fails), told.0, quiet, told.1)
 
 -- ---- the same of a line alone
@@ -65,9 +70,9 @@ line_failed Fails (Ok status) ended same unchanged Told is fails quiet done told
 line_failed Fails (Err failure) ended same unchanged Told is fails quiet done told failing = (failure, fails, told.0, quiet)
 
 -- so does the run of the words that it is
-pub words_ended : (host : HostState) (words : List Text) (line : Line) (unchanged : Type 0) (ended : ℕ) → ReadsLine words line
-    → EndedAs (IsLineFailure host line) unchanged ended → HasEndedSo host words unchanged ended
-words_ended host words line unchanged ended reads (failure, fails, is, quiet) = inl (failure, inl (line, reads, fails), is, quiet, tt)
+pub words_ended : (host : HostState) (words : List Text) (line : Line) (run : Streams) (unchanged : Type 0) (ended : ℕ) → ReadsLine words line
+    → EndedAs (IsLineFailure host line run) unchanged ended → HasEndedSo host words run unchanged ended
+words_ended host words line run unchanged ended reads (failure, fails, is, quiet) = inl (failure, inl (line, reads, fails), is, quiet, tt)
 
 -- ---- standard output fails behind the text
 
@@ -81,16 +86,33 @@ printed holds key_info Certificate with_parts file text are = (are.0, are.1)
 printed holds key_info RevocationList with_parts file text are = (are.0, are.1)
 printed holds key_info Response with_parts file text are = (are.0, are.1)
 
-pub unflushed : (host : HostState) (line : Line) (input source old new : Option (List ℕ)) (status : ℕ) → IsDone host line input source old new status
-    → IsLineFailure host line Unwritable
-unflushed host (Tree file) input source old new status (text, (zero, is), written) = inr ((is.0, is.1, is.2, is.3), refl)
-unflushed host (Show kind with_details file) input source old new status (text, (zero, is), written) =
+pub unflushed : (host : HostState) (line : Line) (run : Streams) (after : Option (List ℕ)) (status : ℕ) → Keeps run.written after → IsDone host line run status
+    → IsLineFailure host line (record run { written = after }) Unwritable
+unflushed host (Tree file) run after status keeps (text, (zero, is), written) = inr ((is.0, is.1, is.2, is.3), refl)
+unflushed host (Show kind with_details file) run after status keeps (text, (zero, is), written) =
     inr (shown host.holds kind with_details file.now text is, refl)
-unflushed host (Prints issuer kind with_parts file) input source old new status (text, (zero, (signer, held, are)), written) =
+unflushed host (Prints issuer kind with_parts file) run after status keeps (text, (zero, (signer, held, are)), written) =
     inr (((signer, held), printed host.holds signer.key_info kind with_parts file.now text are), refl)
-unflushed host (Deliver store verdicts issuer file) input source old new status (text, (zero, (counts, is, line)), written) = inr ((counts, is), refl)
-unflushed host (Check store verdicts query) input source old new status (text, (verdict, is, ends, said), written) = inr ((verdict, is), refl)
-unflushed host (Compare store other verdicts query) input source old new status (text, (comparison, is, ends, said), written) = inr ((comparison, is), refl)
-unflushed host (Listing store moment) input source old new status (text, (zero, is), written) = inr ((text, is), refl)
-unflushed host (Explain words) input source old new status (text, (zero, is), written) = inr ((text, is), refl)
-unflushed host (Session store verdicts) input source old new status (text, (zero, is), written) = inr ((is.prints, is.begins), inr (inl refl))
+unflushed host (Deliver store verdicts issuer file) run after status keeps (text, (zero, (counts, is, line)), written) =
+    inr (refl, (text, (counts, is, line), whole run.output run.written after text written keeps))
+unflushed host (Check store verdicts query) run after status keeps (text, (verdict, is, ends, said), written) =
+    inr (refl, (text, (verdict, is, said), whole run.output run.written after text written keeps))
+unflushed host (Compare store other verdicts query) run after status keeps (text, (comparison, is, ends, said), written) =
+    inr (refl, (text, (comparison, is, said), whole run.output run.written after text written keeps))
+unflushed host (Listing store moment) run after status keeps (text, (zero, is), written) = inr (refl, (text, is, whole run.output run.written after text written keeps))
+unflushed host (Explain words) run after status keeps (text, (zero, is), written) = inr ((text, is), refl)
+unflushed host (Session store verdicts) run after status keeps (zero, is) = inr (whole_kept host _ run after keeps is, refl)
+
+-- it does not
+
+pub flushed : (host : HostState) (line : Line) (run : Streams) (after : Option (List ℕ)) (status : ℕ) → Keeps run.written after → IsDone host line run status
+    → IsDone host line (record run { written = after }) status
+flushed host (Tree file) run after status keeps (text, is, written) = (text, is, Appends-kept run.output run.written after text written keeps)
+flushed host (Show kind with_details file) run after status keeps (text, is, written) = (text, is, Appends-kept run.output run.written after text written keeps)
+flushed host (Prints issuer kind with_parts file) run after status keeps (text, is, written) = (text, is, Appends-kept run.output run.written after text written keeps)
+flushed host (Deliver store verdicts issuer file) run after status keeps (text, is, written) = (text, is, Appends-kept run.output run.written after text written keeps)
+flushed host (Check store verdicts query) run after status keeps (text, is, written) = (text, is, Appends-kept run.output run.written after text written keeps)
+flushed host (Compare store other verdicts query) run after status keeps (text, is, written) = (text, is, Appends-kept run.output run.written after text written keeps)
+flushed host (Listing store moment) run after status keeps (text, is, written) = (text, is, Appends-kept run.output run.written after text written keeps)
+flushed host (Explain words) run after status keeps (text, is, written) = (text, is, Appends-kept run.output run.written after text written keeps)
+flushed host (Session store verdicts) run after status keeps (zero, is) = (zero, whole_kept host _ run after keeps is)

@@ -1,5 +1,5 @@
 -- How a run ends for which clap has no line.
-use Rattle.std.proofs.Common.{◌≡◌, ◌⊎◌, inl, inr, refl, ℕ, List, Option}
+use Rattle.std.proofs.Common.{◌≡◌, ◌⊎◌, inl, inr, refl, ℕ, List}
 use Rattle.clap.specs.Words.{Text}
 use Rattle.clap.specs.declared.error.kind.ErrorKind.{ErrorKind}
 use Rattle.clap.specs.declared.error.kind.ErrorKind.TheVariants.{OutOfMemory}
@@ -9,6 +9,7 @@ use Rattle.cli_failures.specs.Report.{report_line, exit_status}
 use Rattle.cli.specs.Host.{HostState}
 use Rattle.cli.specs.Outcome.{HasAnswered, IsHelp, IsMistake}
 use Rattle.cli.specs.Ended.{RunHasEnded, IsAnswering, IsFailing, IsUnexplained}
+use Rattle.cli.specs.Streams.{Streams}
 use Rattle.cli.proofs.Statuses.{not_both}
 
 no_memory : (kind : ErrorKind) → IsHelp kind → kind ≡ OutOfMemory → ⊥
@@ -27,23 +28,23 @@ pub either : (status : ℕ) → (status ≡ 0) ⊎ IsFailing status → IsAnswer
 either status (inl done) = inl (inl done)
 either status (inr fails) = inr fails
 
-pub helped : (host : HostState) (words : List Text) (kind : ErrorKind) (input source old new : Option (List ℕ)) (status : ℕ) (same : Type 0)
+pub helped : (host : HostState) (words : List Text) (kind : ErrorKind) (run : Streams) (status : ℕ) (same : Type 0)
     → (kind ≡ OutOfMemory) ⊎ AreRefusedWith words kind → (status ≡ 0) ⊎ IsFailing status → (status ≡ 0 → IsHelp kind × same)
-    → IsAnswering status → HasAnswered host words input source old new status
-helped host words kind input source old new status same refused (inl done) help answers =
+    → IsAnswering status → HasAnswered host words run status
+helped host words kind run status same refused (inl done) help answers =
     inr (kind, refused_help words kind refused (help done).0, (help done).0, done)
-helped host words kind input source old new status same refused (inr fails) help answers = absurd (not_both status answers fails)
+helped host words kind run status same refused (inr fails) help answers = absurd (not_both status answers fails)
 
 pub silent : (kind : ErrorKind) (status : ℕ) (same : Type 0) → (status ≡ 0) ⊎ IsFailing status → (status ≡ 0 → IsHelp kind × same) → IsAnswering status → same
 silent kind status same (inl done) help answers = (help done).1
 silent kind status same (inr fails) help answers = absurd (not_both status answers fails)
 
-pub unexplained : (host : HostState) (words : List Text) (kind : ErrorKind) (status : ℕ) (unchanged : Type 0) (Told : List ℕ → Type 0)
-    → (kind ≡ OutOfMemory) ⊎ AreRefusedWith words kind → IsUnexplained kind unchanged Told status → RunHasEnded host words unchanged Told status
-unexplained host words kind status unchanged Told refused (inl (failure, inl memory, told, quiet, line)) = inl (failure, inr (inl memory), told, quiet, line)
-unexplained host words kind status unchanged Told refused (inl (failure, inr (help, late), told, quiet, line)) =
+pub unexplained : (host : HostState) (words : List Text) (kind : ErrorKind) (run : Streams) (status : ℕ) (unchanged : Type 0) (Told : List ℕ → Type 0)
+    → (kind ≡ OutOfMemory) ⊎ AreRefusedWith words kind → IsUnexplained kind unchanged Told status → RunHasEnded host words run unchanged Told status
+unexplained host words kind run status unchanged Told refused (inl (failure, inl memory, told, quiet, line)) = inl (failure, inr (inl memory), told, quiet, line)
+unexplained host words kind run status unchanged Told refused (inl (failure, inr (help, late), told, quiet, line)) =
     inl (failure, inr (inr (kind, refused_help words kind refused help, help, late)), told, quiet, line)
-unexplained host words kind status unchanged Told refused (inr (mistake, told, quiet)) = inr ((kind, refused_mistake words kind refused mistake, mistake), told, quiet)
+unexplained host words kind run status unchanged Told refused (inr (mistake, told, quiet)) = inr ((kind, refused_mistake words kind refused mistake, mistake), told, quiet)
 
 -- whatever was told
 pub untold : (kind : ErrorKind) (unchanged : Type 0) (Told : List ℕ → Type 0) (status : ℕ)

@@ -7,3 +7,5 @@ mod Explaining
 mod Lines
 mod Serving
 mod Leading
+mod Lasting
+mod Fronts

@@ -5,8 +5,10 @@ use Rattle.statements_facts.specs.Statement.{Holdings}
 use Rattle.store_maps.specs.Held.{IsStoreOf}
 use Rattle.relying.specs.Asking.{IsFormed, IsFormedOfEither}
 use Rattle.store.specs.Adopts.{StaysIfOpen}
+use Rattle.statements_facts.specs.Fact.{facts_in}
 use Rattle.statements_facts.specs.declared.fact.Facts.{Facts}
-use Rattle.store_taking.specs.Delivery.{PutsFacts}
+use Rattle.store_sql.specs.Statements.{CommitsNothing}
+use Rattle.store_taking.specs.Delivery.{AllOrNothing, PutsFacts}
 use Rattle.store_adoption.specs.Creates.{IsSettled}
 use Rattle.store_listing.specs.declared.held.Listing.{Listing}
 use Rattle.store_listing.specs.Laws.{ListingShowsHeld}
@@ -17,91 +19,129 @@ use Rattle.store_sql.specs.declared.fault.StoreFault.TheVariants as S
 use Rattle.relying_verdicts.specs.declared.fault.Fault.{Fault}
 use Rattle.relying_verdicts.specs.declared.fault.Fault.TheVariants as F
 use Rattle.cli_failures.specs.declared.failure.Failure.{Failure}
-use Rattle.cli_failures.specs.declared.failure.Failure.TheVariants.{NoMemory}
+use Rattle.cli_failures.specs.declared.failure.Failure.TheVariants.{NoMemory, StoreFailed}
 use Rattle.cli_failures.specs.declared.failure.StoreRefusal.TheVariants as refused
-use Rattle.cli_store.specs.Standing.{IsFound, IsNoAnswer, Leaving, Seen, Standing, seen_of, told_of}
+use Rattle.cli_store.specs.Standing.{IsFound, IsNoAnswer, IsOfStore, LeavesIfClean, Places, Seen, seen_of, the_same, told_of, with_or_without}
 use Rattle.cli.specs.Checked.{IsNoComparison, IsNotChecked}
+use Rattle.cli.specs.declared.at_path.StorePair.{StorePair}
+use Rattle.cli.proofs.Lasting.{IsReady, all_or_none_last, same_lasts}
+
+of_store : (fault : Fault) (failure : Failure) → failure ≡ told_of fault → IsOfStore failure
+of_store (F.Store S.Store) failure told = inr (refused.Store, told)
+of_store (F.Store S.Schema) failure told = inr (refused.Schema, told)
+of_store (F.Store S.Memory) failure told = inl told
+of_store F.Memory failure told = inl told
+
+-- what is not a fault of the tables is not told as one
+no_schema : (fault : Fault) (failure : Failure) → failure ≡ told_of fault → (fault ≡ F.Store S.Schema → ⊥) → failure ≢ StoreFailed refused.Schema
+no_schema (F.Store S.Store) failure told not is = let same : StoreFailed refused.Store ≡ StoreFailed refused.Schema = sym told ∙ is in absurd cc
+no_schema (F.Store S.Schema) failure told not is = not refl
+no_schema (F.Store S.Memory) failure told not is = let same : NoMemory ≡ StoreFailed refused.Schema = sym told ∙ is in absurd cc
+no_schema F.Memory failure told not is = let same : NoMemory ≡ StoreFailed refused.Schema = sym told ∙ is in absurd cc
 
 -- ---- a verdict
 
-other : refused.Store ≢ refused.Schema
-other same = cc
+still : (old new : State) → StaysIfOpen old new → IsTrue new.is_open → (held : Holdings) → IsStoreOf old.now held → IsStoreOf new.now held
+still old new keeps is_open held stands = subst (λ now. IsStoreOf now held) (sym (keeps.now_is is_open)) stands
 
-kept : (old new : State) → StaysIfOpen old new → IsTrue new.is_open → (held : Holdings) → IsStoreOf old.now held → IsStoreOf new.now held
-kept old new keeps is_open held stands = subst (λ now. IsStoreOf now held) (sym (keeps.now_is is_open)) stands
+formed : (old : State) (fault : Fault) (held : Holdings) → IsFormed old fault → IsStoreOf old.now held → fault ≡ F.Store S.Schema → ⊥
+formed old (F.Store S.Store) held it stands is = absurd cc
+formed old (F.Store S.Schema) held it stands is = it refl held stands
+formed old (F.Store S.Memory) held it stands is = absurd cc
+formed old F.Memory held it stands is = absurd cc
 
-pub no_verdict : (leaves : Seen → Type 0) (old new : State) (fault : Fault) (failure : Failure)
-    → failure ≡ told_of fault → leaves (seen_of new) → (HasCleanDisk new → StaysIfOpen old new × IsFormed old fault) → IsNoAnswer leaves (seen_of old) failure
-no_verdict leaves old new (F.Store S.Store) failure told left looks =
-    inr (refused.Store, told, (seen_of new, left, λ intact is_open held stands. (kept old new (looks intact).0 is_open held stands, other)))
-no_verdict leaves old new (F.Store S.Schema) failure told left looks =
-    inr (refused.Schema, told, (seen_of new, left, λ intact is_open held stands. absurd ((looks intact).1 refl held stands)))
-no_verdict leaves old new (F.Store S.Memory) failure told left looks = inl told
-no_verdict leaves old new F.Memory failure told left looks = inl told
+-- ---- the store at a path, which was closed in the new state
+
+module _ (at : Places) (path : List ℕ) (old new : State) (left : at.leaves path (seen_of new)) (closes : (later : List Holdings) → LeavesIfClean new later → at.lasts path later) (ready : IsReady old) where
+  pub no_verdict : (fault : Fault) (failure : Failure) → failure ≡ told_of fault → (HasCleanDisk new → StaysIfOpen old new × IsFormed old fault) → CommitsNothing old new
+      → IsNoAnswer at path the_same (seen_of old) failure
+  no_verdict fault failure told looks survives = record {
+    why = of_store fault failure told;
+    new = seen_of new;
+    left = left;
+    kept = λ intact is_open held stands. (still old new (looks intact).0 is_open held stands, no_schema fault failure told (formed old fault held (looks intact).1 stands));
+    lasts = λ intact. same_lasts old new (at.lasts path) closes ready survives;
+  }
+
+  -- ---- a delivery
+
+  pub no_answer_on_facts : (facts : Facts) (fault : StoreFault) (failure : Failure) → failure ≡ told_of (F.Store fault) → PutsFacts old new facts (Err fault) → AllOrNothing old new facts
+      → IsNoAnswer at path (with_or_without (facts_in facts)) (seen_of old) failure
+  no_answer_on_facts facts fault failure told puts survives = record {
+    why = of_store (F.Store fault) failure told;
+    new = seen_of new;
+    left = left;
+    kept = λ intact is_open held stands. (
+      subst (λ now. IsStoreOf now held) (sym ((puts intact).same is_open)) stands,
+      no_schema (F.Store fault) failure told (formed old (F.Store fault) held (puts intact).formed stands),
+    );
+    lasts = λ intact. all_or_none_last old new (at.lasts path) closes ready facts survives;
+  }
+
+  -- ---- a listing
+
+  still_settled : IsSettled new → KeepsCommit old new → IsTrue new.is_open → new.now ≡ old.now
+  still_settled settled keeps is_open = settled is_open ∙ keeps.committed is_open ∙ sym (ready.settled (keeps.was_open is_open))
+
+  pub not_listed : (fault : StoreFault) (failure : Failure) → failure ≡ told_of (F.Store fault) → ListingShowsHeld → IsSettled new → CommitsNothing old new
+      → (HasCleanDisk new → ReadsStore {A = Listing} old new IsListing (Err fault)) → IsNoAnswer at path the_same (seen_of old) failure
+  not_listed fault failure told shows settled survives reads = record {
+    why = of_store (F.Store fault) failure told;
+    new = seen_of new;
+    left = left;
+    kept = λ intact is_open held stands. (
+      subst (λ now. IsStoreOf now held) (sym (still_settled settled (reads intact).0 is_open)) stands,
+      no_schema (F.Store fault) failure told
+          (formed old (F.Store fault) held (λ schema held stands. let it = shows old.now held stands in (reads intact).1 schema it.0 it.1) stands),
+    );
+    lasts = λ intact. same_lasts old new (at.lasts path) closes ready survives;
+  }
+
+  -- it was read, and memory for its lines ran out
+  pub without_memory : {T : Type 0} (all : Listing) (result : Result T Failure) → CommitsNothing old new → (HasCleanDisk new → ReadsStore {A = Listing} old new IsListing (Ok all))
+      → IfErr result (λ failure. failure ≡ NoMemory) → IfErr result (IsNoAnswer at path the_same (seen_of old))
+  without_memory all (Ok x) survives reads fails = tt
+  without_memory all (Err failure) survives reads fails = record {
+    why = inl fails;
+    new = seen_of new;
+    left = left;
+    kept = λ intact is_open held stands. (subst (λ now. IsStoreOf now held) (sym (reads intact).0.0.now_is) stands, no_schema F.Memory failure fails (λ is. absurd cc));
+    lasts = λ intact. same_lasts old new (at.lasts path) closes ready survives;
+  }
 
 -- ---- a comparison
 
-pub no_comparison : (leaves others_leave : Seen → Type 0) (old new other_old other_new : State) (fault : Fault) (failure : Failure)
-    → failure ≡ told_of fault → leaves (seen_of new) → others_leave (seen_of other_new)
-    → (HasCleanDisk new → HasCleanDisk other_new → StaysIfOpen old new × StaysIfOpen other_old other_new × IsFormedOfEither old other_old fault) → IsNoComparison leaves others_leave (seen_of old) (seen_of other_old) failure
-no_comparison leaves others_leave old new other_old other_new (F.Store S.Store) failure told left other_left looks = inr (
-  refused.Store,
-  told,
-  (
-    seen_of new,
-    seen_of other_new,
-    left,
-    other_left,
-    λ intact other_intact is_open other_open held others one two. (
-      kept old new (looks intact other_intact).0 is_open held one,
-      kept other_old other_new (looks intact other_intact).1 other_open others two,
-      other,
-    ),
-  ),
-)
-no_comparison leaves others_leave old new other_old other_new (F.Store S.Schema) failure told left other_left looks =
-    inr (refused.Schema, told, (seen_of new, seen_of other_new, left, other_left, λ intact other_intact is_open other_open held others one two. absurd ((looks intact other_intact).2 refl held others one two)))
-no_comparison leaves others_leave old new other_old other_new (F.Store S.Memory) failure told left other_left looks = inl told
-no_comparison leaves others_leave old new other_old other_new F.Memory failure told left other_left looks = inl told
+formed_of_either : (old other : State) (fault : Fault) (held others : Holdings) → IsFormedOfEither old other fault → IsStoreOf old.now held → IsStoreOf other.now others → fault ≡ F.Store S.Schema → ⊥
+formed_of_either old other (F.Store S.Store) held others it one two is = absurd cc
+formed_of_either old other (F.Store S.Schema) held others it one two is = it refl held others one two
+formed_of_either old other (F.Store S.Memory) held others it one two is = absurd cc
+formed_of_either old other F.Memory held others it one two is = absurd cc
 
--- ---- a delivery
-
-pub no_answer_on_facts : (leaves : Seen → Type 0) (old new : State) (facts : Facts) (fault : StoreFault) (failure : Failure)
-    → failure ≡ told_of (F.Store fault) → leaves (seen_of new) → PutsFacts old new facts (Err fault) → IsNoAnswer leaves (seen_of old) failure
-no_answer_on_facts leaves old new facts S.Store failure told left puts =
-    inr (refused.Store, told, (seen_of new, left, λ intact is_open held stands. (subst (λ now. IsStoreOf now held) (sym ((puts intact).same is_open)) stands, other)))
-no_answer_on_facts leaves old new facts S.Schema failure told left puts =
-    inr (refused.Schema, told, (seen_of new, left, λ intact is_open held stands. absurd ((puts intact).formed refl held stands)))
-no_answer_on_facts leaves old new facts S.Memory failure told left puts = inl told
-
--- ---- a listing
-
-still : (old new : State) → IsSettled old → IsSettled new → KeepsCommit old new → IsTrue new.is_open → new.now ≡ old.now
-still old new settled settled_then keeps is_open = settled_then is_open ∙ keeps.committed is_open ∙ sym (settled (keeps.was_open is_open))
-
-pub not_listed : (leaves : Seen → Type 0) (old new : State) (fault : StoreFault) (failure : Failure)
-    → failure ≡ told_of (F.Store fault) → leaves (seen_of new) → ListingShowsHeld → IsSettled old → IsSettled new
-    → (HasCleanDisk new → ReadsStore {A = Listing} old new IsListing (Err fault)) → IsNoAnswer leaves (seen_of old) failure
-not_listed leaves old new S.Store failure told left shows settled settled_then reads = inr (
-  refused.Store,
-  told,
-  (
-    seen_of new,
-    left,
-    λ intact is_open held stands. (subst (λ now. IsStoreOf now held) (sym (still old new settled settled_then (reads intact).0 is_open)) stands, other),
-  ),
-)
-not_listed leaves old new S.Schema failure told left shows settled settled_then reads =
-    inr (refused.Schema, told, (seen_of new, left, λ intact is_open held stands. let it = shows old.now held stands in absurd ((reads intact).1 refl it.0 it.1)))
-not_listed leaves old new S.Memory failure told left shows settled settled_then reads = inl told
-
-pub without_memory : {T : Type 0} (leaves : Seen → Type 0) (old : Seen) (result : Result T Failure) → IfErr result (λ failure. failure ≡ NoMemory) → IfErr result (IsNoAnswer leaves old)
-without_memory leaves old (Ok x) fails = tt
-without_memory leaves old (Err failure) fails = inl fails
+module _ (at : Places) (stores : StorePair) (old new other_old other_new : State) (left : at.leaves stores.store.now (seen_of new)) (other_left : at.leaves stores.other.now (seen_of other_new))
+    (closes : (later : List Holdings) → LeavesIfClean new later → at.lasts stores.store.now later) (other_closes : (later : List Holdings) → LeavesIfClean other_new later → at.lasts stores.other.now later)
+    (ready : IsReady old) (other_ready : IsReady other_old) (survives : CommitsNothing old new) (other_survives : CommitsNothing other_old other_new) where
+  pub no_comparison : (fault : Fault) (failure : Failure) → failure ≡ told_of fault
+      → (HasCleanDisk new → HasCleanDisk other_new → StaysIfOpen old new × StaysIfOpen other_old other_new × IsFormedOfEither old other_old fault) → IsNoComparison at stores (seen_of old) (seen_of other_old) failure
+  no_comparison fault failure told looks = record {
+    why = of_store fault failure told;
+    new = seen_of new;
+    other_new = seen_of other_new;
+    left = left;
+    other_left = other_left;
+    kept = λ intact other_intact is_open other_open held others one two. (
+      still old new (looks intact other_intact).0 is_open held one,
+      still other_old other_new (looks intact other_intact).1 other_open others two,
+      no_schema fault failure told (formed_of_either old other_old fault held others (looks intact other_intact).2 one two),
+    );
+    lasts = λ intact other_intact held others one two. (
+      same_lasts old new (at.lasts stores.store.now) closes ready survives held one,
+      same_lasts other_old other_new (at.lasts stores.other.now) other_closes other_ready other_survives others two,
+    );
+  }
 
 -- ---- the store at a path
 
-pub not_listed_at : {T : Type 0} (stands : Standing) (leaves : Leaving) (path : List ℕ) (old : Seen) (result : Result T Failure) → IsFound stands path old
-    → IfErr result (IsNoAnswer (leaves path) old) → IfErr result (IsNotChecked stands leaves path)
-not_listed_at stands leaves path old (Ok x) found fails = tt
-not_listed_at stands leaves path old (Err failure) found fails = inr (old, found, fails)
+pub not_listed_at : {T : Type 0} (at : Places) (path : List ℕ) (old : Seen) (result : Result T Failure) → IsFound at.stands path old
+    → IfErr result (IsNoAnswer at path the_same old) → IfErr result (IsNotChecked at path)
+not_listed_at at path old (Ok x) found fails = tt
+not_listed_at at path old (Err failure) found fails = inr (old, found, fails)

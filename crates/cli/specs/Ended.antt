@@ -8,6 +8,7 @@ use Rattle.cli_failures.specs.declared.failure.Failure.{Failure}
 use Rattle.clap.specs.declared.error.kind.ErrorKind.{ErrorKind}
 use Rattle.cli_failures.specs.declared.failure.Failure.TheVariants.{NoMemory, Unwritable}
 use Rattle.cli.specs.Host.{HostState}
+use Rattle.cli.specs.Streams.{Streams, streams}
 use Rattle.cli.specs.OnMachine.{IsCommandOf, any_host}
 use Rattle.cli.specs.Outcome.{AreMistaken, HasAnswered, HasFailed, IsHelp, IsMistake}
 use Rattle.cli.specs.declared.execution.Ended.{Ended}
@@ -29,16 +30,16 @@ EndedAs HasHappened unchanged status =
 
 -- This failed, with its status, and its line was told; standard output is as it was, except for what came before a late failure. Or the
 -- words are mistaken.
-abbrev pub RunHasEnded : HostState → List Text → Type 0 → (List ℕ → Type 0) → ℕ → Type 0
-RunHasEnded host words unchanged Told status =
-    ((failure : Failure) × HasFailed host words failure × (status ≡ exit_status failure)
+abbrev pub RunHasEnded : HostState → List Text → Streams → Type 0 → (List ℕ → Type 0) → ℕ → Type 0
+RunHasEnded host words run unchanged Told status =
+    ((failure : Failure) × HasFailed host words run failure × (status ≡ exit_status failure)
     × UnlessLate failure unchanged × Told (report_line failure))
     ⊎ (AreMistaken words × (status ≡ 5) × unchanged)
 
 -- whatever was told
-abbrev pub HasEndedSo : HostState → List Text → Type 0 → ℕ → Type 0
-HasEndedSo host words unchanged status =
-    RunHasEnded host words unchanged (λ line. Unit {0}) status
+abbrev pub HasEndedSo : HostState → List Text → Streams → Type 0 → ℕ → Type 0
+HasEndedSo host words run unchanged status =
+    RunHasEnded host words run unchanged (λ line. Unit {0}) status
 
 -- an error of clap's in place of a line: memory ran out, help could not be written, or the words are mistaken
 abbrev pub IsUnexplained : ErrorKind → Type 0 → (List ℕ → Type 0) → ℕ → Type 0
@@ -57,19 +58,20 @@ texts words = map (λ word. word.now) words
 abbrev pub AnswersByStatus : {I O : Type 0} → HostState → List (Bor (List ℕ)) → (I → Option (List ℕ)) → I → I → (O → Option (List ℕ)) → O → O → ℕ → Type 0
 AnswersByStatus host words remaining input source contents old new status =
     IsAnswering status →
-    HasAnswered host (texts words) (remaining input) (remaining source) (contents old) (contents new) status
+    HasAnswered host (texts words) (streams remaining input source contents old new) status
 
 -- if it is that of a failure, that has happened
-abbrev pub FailsByStatus : HostState → List (Bor (List ℕ)) → Type 0 → ℕ → Type 0
-FailsByStatus host words unchanged status =
-    IsFailing status → HasEndedSo host (texts words) unchanged status
+abbrev pub FailsByStatus : {I O : Type 0} → HostState → List (Bor (List ℕ)) → (I → Option (List ℕ)) → I → I → (O → Option (List ℕ)) → O → O → ℕ → Type 0
+FailsByStatus host words remaining input source contents old new status =
+    IsFailing status →
+    HasEndedSo host (texts words) (streams remaining input source contents old new) (new ≡ old) status
 
 -- the same, with the line that was told, if a writer took it
-abbrev pub FailsTelling : {E : Type 0} → HostState → List (Bor (List ℕ)) → Type 0 → (E → Option (List ℕ)) → E → E → Ended → Type 0
-FailsTelling host words unchanged contents old new ended =
+abbrev pub FailsTelling : {I O E : Type 0} → HostState → List (Bor (List ℕ)) → (I → Option (List ℕ)) → I → I → (O → Option (List ℕ)) → O → O → (E → Option (List ℕ)) → E → E → Ended → Type 0
+FailsTelling host words remaining input source contents old new told before after ended =
     IsFailing ended.status →
-    RunHasEnded host (texts words) unchanged
-    (λ line. OnOk ended.told (Appends (contents old) (contents new) line)) ended.status
+    RunHasEnded host (texts words) (streams remaining input source contents old new) (new ≡ old)
+    (λ line. OnOk ended.told (Appends (told before) (told after) line)) ended.status
 
 -- ---- over the system's files, with options for the run in front of the command
 
@@ -77,9 +79,10 @@ abbrev pub AnswersCommand : {I O : Type 0} → List (Bor (List ℕ)) → (I → 
 AnswersCommand words remaining input source contents old new status =
     IsAnswering status →
     (command : List Text) × IsCommandOf (texts words) command
-    × HasAnswered any_host command (remaining input) (remaining source) (contents old) (contents new) status
+    × HasAnswered any_host command (streams remaining input source contents old new) status
 
-abbrev pub FailsCommand : List (Bor (List ℕ)) → Type 0 → ℕ → Type 0
-FailsCommand words unchanged status =
+abbrev pub FailsCommand : {I O : Type 0} → List (Bor (List ℕ)) → (I → Option (List ℕ)) → I → I → (O → Option (List ℕ)) → O → O → ℕ → Type 0
+FailsCommand words remaining input source contents old new status =
     IsFailing status →
-    (command : List Text) × IsCommandOf (texts words) command × HasEndedSo any_host command unchanged status
+    (command : List Text) × IsCommandOf (texts words) command
+    × HasEndedSo any_host command (streams remaining input source contents old new) (new ≡ old) status

@@ -1,9 +1,9 @@
 pub mod Host
+pub mod Streams
 pub mod Delivered
 pub mod Checked
 pub mod Listed
 pub mod Session
-pub mod Serves
 pub mod Outcome
 pub mod Ended
 pub mod OnMachine

@@ -6,14 +6,14 @@ use Rattle.store_maps.specs.Held.{IsStoreOf}
 use Rattle.store_listing.specs.Listing.{Overview}
 use Rattle.store_listing.specs.Laws.{ListsOnce, ShowsHeld}
 use Rattle.cli_listing.specs.ListingText.{listing_text}
-use Rattle.cli_failures.specs.Failures.{OrUnwritable}
 use Rattle.cli_failures.specs.Report.{WritesText}
 use Rattle.cli_failures.specs.declared.failure.Failure.{Failure}
 use Rattle.cli_operands.specs.InOrder.{FailsFirst}
 use Rattle.cli_operands.specs.Moment.{IsMoment}
 use Rattle.cli_operands.specs.Asked.{IsBadTime}
-use Rattle.cli_store.specs.Standing.{IsFound, IsIntact, Leaving, Seen, Standing}
+use Rattle.cli_store.specs.Standing.{IsFound, IsIntact, Places, Seen, the_same}
 use Rattle.cli.specs.Checked.{IsNotChecked}
+use Rattle.cli.specs.Streams.{FailsOrCuts}
 
 -- a moment is asked about by its text, or none is
 abbrev pub IsMomentOf : Option (List ℕ) → Option ℤ → Type 0
@@ -30,28 +30,28 @@ abbrev pub IsListingOf : Option ℤ → Holdings → List ℕ → Type 0
 IsListingOf at held text =
     (all : Overview) × ShowsHeld held all × ListsOnce all × (text ≡ listing_text at all)
 
--- the lines of a store that was seen so, which was left in a state in which it holds the same
-abbrev pub HasListed : (Seen → Type 0) → Option ℤ → Seen → List ℕ → Type 0
-HasListed leaves at old text =
-    (new : Seen) × leaves new
+-- the lines of a store that was seen so, which was left in a state in which it holds the same, and that lasts
+abbrev pub HasListed : Places → List ℕ → Option ℤ → Seen → List ℕ → Type 0
+HasListed places path moment old text =
+    (new : Seen) × places.leaves path new
     × (IsIntact new → (held : Holdings) → IsStoreOf old.now held →
-    IsStoreOf new.now held × IsListingOf at held text)
+    IsStoreOf new.now held × IsListingOf moment held text × places.lasts path (the_same held))
 
 -- the same of the store at a path
-abbrev pub IsListedAt : Standing → Leaving → List ℕ → Option ℤ → List ℕ → Type 0
-IsListedAt stands leaves path at text =
-    (old : Seen) × IsFound stands path old × HasListed (leaves path) at old text
+abbrev pub IsListedAt : Places → List ℕ → Option ℤ → List ℕ → Type 0
+IsListedAt places path moment text =
+    (old : Seen) × IsFound places.stands path old × HasListed places path moment old text
 
 -- the lines that are asked for
-abbrev pub IsListed : Standing → Leaving → List ℕ → Option (List ℕ) → List ℕ → Type 0
-IsListed stands leaves path moment text =
-    (at : Option ℤ) × IsMomentOf moment at × IsListedAt stands leaves path at text
+abbrev pub IsListed : Places → List ℕ → Option (List ℕ) → List ℕ → Type 0
+IsListed places path moment text =
+    (at : Option ℤ) × IsMomentOf moment at × IsListedAt places path at text
 
 -- What is wrong, the first of it: the moment; the store is not found, or does not answer.
-abbrev pub IsFailureOfListing : Standing → Leaving → List ℕ → Option (List ℕ) → Failure → Type 0
-IsFailureOfListing stands leaves path moment =
+abbrev pub IsFailureOfListing : Places → List ℕ → Option (List ℕ) → Failure → Type 0
+IsFailureOfListing places path moment =
     FailsFirst (IsBadMoment moment) ((at : Option ℤ) × IsMomentOf moment at)
-    (IsNotChecked stands leaves path)
+    (IsNotChecked places path)
 
 -- ---- of words as they are given
 
@@ -60,12 +60,10 @@ abbrev pub given : Option (Bor (List ℕ)) → Option (List ℕ)
 given word = option_map (λ text. text.now) word
 
 -- the lines were written
-abbrev pub WritesListing : {S O : Type 0} → (S → Standing) → (S → Leaving) → S → List ℕ → Option (Bor (List ℕ)) → (O → Option (List ℕ)) → O → O → Type 0
-WritesListing stands leaves source path moment contents old new =
-    WritesText (IsListed (stands source) (leaves source) path (given moment)) (contents old) (contents new)
+abbrev pub WritesListing : {O : Type 0} → Places → List ℕ → Option (Bor (List ℕ)) → (O → Option (List ℕ)) → O → O → Type 0
+WritesListing places path moment contents old new =
+    WritesText (IsListed places path (given moment)) (contents old) (contents new)
 
--- or that is wrong, or the lines are those, and standard output failed
-abbrev pub FailsToList : Standing → Leaving → List ℕ → Option (List ℕ) → Failure → Type 0
-FailsToList stands leaves path moment =
-    OrUnwritable (IsFailureOfListing stands leaves path moment)
-    ((text : List ℕ) × IsListed stands leaves path moment text)
+-- or that is wrong; or the lines are those, and standard output failed behind a front of them
+abbrev pub FailsToList : Places → List ℕ → Option (List ℕ) → Option (List ℕ) → Option (List ℕ) → Failure → Type 0
+FailsToList places path moment = FailsOrCuts (IsFailureOfListing places path moment) (IsListed places path moment)

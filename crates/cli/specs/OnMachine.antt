@@ -4,23 +4,15 @@ use Rattle.clap.specs.Words.{Text}
 use Rattle.cli_words.specs.RunOptions.{TakesOptions}
 use Rattle.cli_words.specs.declared.leading.RunOptions.{RunOptions}
 use Rattle.cli_failures.specs.Failures.{Holding}
-use Rattle.cli_store.specs.Standing.{Leaving, Standing}
+use Rattle.cli_store.specs.Standing.{anything}
 use Rattle.cli.specs.Host.{HostState}
 
 -- each file may hold anything
 abbrev pub any_file : Holding
 any_file = λ file octets. ⊤
 
--- anything may stand at each path
-abbrev pub any_store : Standing
-any_store = λ path met. ⊤
-
--- and be left there
-abbrev pub any_end : Leaving
-any_end = λ path seen. ⊤
-
 abbrev pub any_host : HostState
-any_host = record { holds = any_file; stands = any_store; leaves = any_end }
+any_host = record { holds = any_file; at = anything }
 
 -- the words without the options behind the program's name
 abbrev pub IsCommandOf : List Text → List Text → Type 0

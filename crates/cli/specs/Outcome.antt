@@ -1,5 +1,5 @@
 -- What a run has done, by the status that it answers.
-use Rattle.std.specs.Prelude.{◌≡◌, ◌≢◌, ◌⊎◌, ℕ, List, Option, IsTrue, false, map}
+use Rattle.std.specs.Prelude.{◌≡◌, ◌≢◌, ◌⊎◌, ℕ, List, IsTrue, false, map}
 use Rattle.std.specs.Io.KnownBytes.{Appends}
 use Rattle.clap.specs.Words.{Text}
 use Rattle.clap.specs.declared.error.kind.ErrorKind.{ErrorKind}
@@ -20,7 +20,8 @@ use Rattle.cli.specs.Checked.{FailsToCheck, FailsToCompare, IsChecked, IsCompare
 use Rattle.cli.specs.Delivered.{FailsToDeliver, IsDelivered}
 use Rattle.cli.specs.Host.{HostState}
 use Rattle.cli.specs.Listed.{FailsToList, IsListed, given}
-use Rattle.cli.specs.Session.{IsFailureOfSession, IsSessionText}
+use Rattle.cli.specs.Session.{FailsInSession, IsWholeSession}
+use Rattle.cli.specs.Streams.{Streams}
 use Rattle.cli_answers.specs.Status.{comparison_status, verdict_status}
 use Rattle.cli_showing.specs.Shown.{ArePrintsUnder, FailsToPrint, HoldsKind, HoldsValue, IsNotShown, IsShownText, IsTreeText}
 
@@ -50,63 +51,65 @@ IsExplanation words text =
 abbrev pub IsNoTopic : List (List ℕ) → Failure → Type 0
 IsNoTopic words failure = (failure ≡ BadTopic) × ((entries : List ℕ) × (is_known entries words ≡ false))
 
--- The text that the line asks for, and the status that comes with it. Files hold so, stores stand and are left so, and standard input gave
--- what lies between two states of it.
-abbrev pub IsAnswer : HostState → Line → Option (List ℕ) → Option (List ℕ) → ℕ → List ℕ → Type 0
-IsAnswer host (Tree file) input source status text =
+-- The text that the line asks for, and the status that comes with it. Files hold so, and stores stand and are left so. A session has no
+-- such text: it writes as it reads.
+abbrev pub IsAnswer : HostState → Line → ℕ → List ℕ → Type 0
+IsAnswer host (Tree file) status text =
     (status ≡ 0) × IsTreeText host.holds file.now text
-IsAnswer host (Show kind with_details file) input source status text =
+IsAnswer host (Show kind with_details file) status text =
     (status ≡ 0) × IsShownText host.holds kind with_details file.now text
-IsAnswer host (Prints issuer kind with_parts file) input source status text =
+IsAnswer host (Prints issuer kind with_parts file) status text =
     (status ≡ 0) × ArePrintsUnder host.holds issuer.now kind with_parts file.now text
-IsAnswer host (Deliver store verdicts issuer file) input source status text =
+IsAnswer host (Deliver store verdicts issuer file) status text =
     (status ≡ 0)
     × IsCountsText
     (IsDelivered host (record { store = store; verdicts = verdicts; issuer = issuer; file = file }))
     text
-IsAnswer host (Check store verdicts query) input source status text =
+IsAnswer host (Check store verdicts query) status text =
     IsVerdictText (IsChecked host store.now verdicts.now (seen_words query)) status text
-IsAnswer host (Compare store other verdicts query) input source status text =
+IsAnswer host (Compare store other verdicts query) status text =
     IsComparisonText
     (IsCompared host (record { store = store; other = other }) verdicts.now (seen_words query))
     status text
-IsAnswer host (Listing store moment) input source status text =
-    (status ≡ 0) × IsListed host.stands host.leaves store.now (given moment) text
-IsAnswer host (Explain words) input source status text =
+IsAnswer host (Listing store moment) status text =
+    (status ≡ 0) × IsListed host.at store.now (given moment) text
+IsAnswer host (Explain words) status text =
     (status ≡ 0) × IsExplanation (map (λ w. w.now) words.items) text
-IsAnswer host (Session store verdicts) input source status text =
-    (status ≡ 0)
-    × IsSessionText host (record { store = store; verdicts = verdicts }) input source text
+IsAnswer host (Session store verdicts) status text = ⊥
 
--- that text was written, and nothing else
-abbrev pub IsDone : HostState → Line → Option (List ℕ) → Option (List ℕ) → Option (List ℕ) → Option (List ℕ) → ℕ → Type 0
-IsDone host line input source old new status =
-    (text : List ℕ) × IsAnswer host line input source status text × Appends old new text
+-- that text was written, and nothing else; or a session has ended that was not cut short
+abbrev pub IsDone : HostState → Line → Streams → ℕ → Type 0
+IsDone host (Session store verdicts) run status =
+    (status ≡ 0) × IsWholeSession host (record { store = store; verdicts = verdicts }) run
+IsDone host line run status =
+    (text : List ℕ) × IsAnswer host line status text × Appends run.output run.written text
 
 -- ---- failures
 
 -- the first failure on what the line names; or what it asks for was found, and standard output failed
-abbrev pub IsLineFailure : HostState → Line → Failure → Type 0
-IsLineFailure host (Tree file) =
+abbrev pub IsLineFailure : HostState → Line → Streams → Failure → Type 0
+IsLineFailure host (Tree file) run =
     OrUnwritable (IsNoValue host.holds file.now) (HoldsValue host.holds file.now)
-IsLineFailure host (Show kind with_details file) =
+IsLineFailure host (Show kind with_details file) run =
     OrUnwritable (IsNotShown host.holds kind file.now) (HoldsKind host.holds kind file.now)
-IsLineFailure host (Prints issuer kind with_parts file) =
+IsLineFailure host (Prints issuer kind with_parts file) run =
     FailsToPrint host.holds issuer.now kind file.now
-IsLineFailure host (Deliver store verdicts issuer file) =
+IsLineFailure host (Deliver store verdicts issuer file) run =
     FailsToDeliver host
     (record { store = store; verdicts = verdicts; issuer = issuer; file = file })
-IsLineFailure host (Check store verdicts query) =
-    FailsToCheck host store.now verdicts.now (seen_words query)
-IsLineFailure host (Compare store other verdicts query) =
+    run.output run.written
+IsLineFailure host (Check store verdicts query) run =
+    FailsToCheck host store.now verdicts.now (seen_words query) run.output run.written
+IsLineFailure host (Compare store other verdicts query) run =
     FailsToCompare host (record { store = store; other = other }) verdicts.now (seen_words query)
-IsLineFailure host (Listing store moment) =
-    FailsToList host.stands host.leaves store.now (given moment)
-IsLineFailure host (Explain words) =
+    run.output run.written
+IsLineFailure host (Listing store moment) run =
+    FailsToList host.at store.now (given moment) run.output run.written
+IsLineFailure host (Explain words) run =
     OrUnwritable (IsNoTopic (map (λ w. w.now) words.items))
     ((text : List ℕ) × IsExplanation (map (λ w. w.now) words.items) text)
-IsLineFailure host (Session store verdicts) =
-    IsFailureOfSession host (record { store = store; verdicts = verdicts })
+IsLineFailure host (Session store verdicts) run =
+    FailsInSession host (record { store = store; verdicts = verdicts }) run
 
 -- ---- words
 
@@ -120,15 +123,15 @@ IsMistake kind = (kind ≢ OutOfMemory) × (IsHelp kind → ⊥)
 -- ---- a run
 
 -- what the words ask for was written, or they ask for help
-abbrev pub HasAnswered : HostState → List Text → Option (List ℕ) → Option (List ℕ) → Option (List ℕ) → Option (List ℕ) → ℕ → Type 0
-HasAnswered host words input source old new status =
-    ((line : Line) × ReadsLine words line × IsDone host line input source old new status)
+abbrev pub HasAnswered : HostState → List Text → Streams → ℕ → Type 0
+HasAnswered host words run status =
+    ((line : Line) × ReadsLine words line × IsDone host line run status)
     ⊎ ((kind : ErrorKind) × AreRefusedWith words kind × IsHelp kind × (status ≡ 0))
 
 -- The words are a line, and this failed; or memory ran out while they were read, or the text of help could not be written.
-abbrev pub HasFailed : HostState → List Text → Failure → Type 0
-HasFailed host words failure =
-    ((line : Line) × ReadsLine words line × IsLineFailure host line failure)
+abbrev pub HasFailed : HostState → List Text → Streams → Failure → Type 0
+HasFailed host words run failure =
+    ((line : Line) × ReadsLine words line × IsLineFailure host line run failure)
     ⊎ (failure ≡ NoMemory)
     ⊎ ((kind : ErrorKind) × AreRefusedWith words kind × IsHelp kind × (failure ≡ Unwritable))
 

@@ -1,22 +1,21 @@
 -- What a session answers over the store at a path, and why it fails.
-use Rattle.std.specs.Prelude.{◌≡◌, ◌⊎◌, ℕ, List, [], ◌∷◌, ◌++◌, Option, Some, None, IsTrue}
+use Rattle.std.specs.Prelude.{◌≡◌, ◌⊎◌, ℕ, List, [], ◌∷◌, Option, Some, None, IsTrue}
 use Rattle.statements_facts.specs.Statement.{Holdings}
 use Rattle.store_maps.specs.Held.{IsStoreOf}
-use Rattle.cli_failures.specs.Failures.{Holding}
-use Rattle.cli_failures.specs.Report.{WritesText}
+use Rattle.cli_failures.specs.Failures.{Holding, OrUnwritable}
 use Rattle.cli_failures.specs.declared.failure.Failure.{Failure}
 use Rattle.cli_failures.specs.declared.failure.Failure.TheVariants.{Unwritable, NoMemory, Shut, NoInput}
 use Rattle.cli_operands.specs.InOrder.{FailsFirst}
 use Rattle.cli_operands.specs.Asked.{HoldsFingerprints, IsFailureOnFingerprints}
 use Rattle.cli_session.specs.Held.{holding_of}
-use Rattle.std.specs.Io.KnownBytes.{Consumes, IsAtEnd}
-use Rattle.cli_serving.specs.Serving.{AreAnswersToLines, GivesLines, GoOn, text_of}
+use Rattle.cli_serving.specs.Serving.{SessionHasEnded}
+use Rattle.cli_serving.specs.declared.ending.End.{End}
+use Rattle.cli_serving.specs.declared.ending.End.TheVariants as ended
 use Rattle.cli_steps.specs.State.{SessionState}
-use Rattle.cli_steps.specs.declared.answer.SessionAnswer.{SessionAnswer}
-use Rattle.cli_steps.specs.declared.answer.SessionAnswer.TheVariants.{Ends}
 use Rattle.cli_store.specs.Standing.{IsFoundOrMade, IsIntact, MakesNoStore, Seen}
 use Rattle.cli.specs.Host.{HostState}
 use Rattle.cli.specs.Listed.{given}
+use Rattle.cli.specs.Streams.{Streams}
 use Rattle.cli.specs.declared.sessions.SessionWords.{SessionWords}
 
 -- the fingerprints that are believed in the beginning: those of the file, or none
@@ -29,43 +28,41 @@ abbrev pub beginning : List (List ℕ) → Holdings → SessionState
 beginning prints held =
     record { listed = prints; prints = prints; kept = record { held = held; left = held ∷ [] } }
 
--- A party has come so far over a store that was seen so in the beginning and in the end, if its connection is open and its disk has
--- returned what was written.
-abbrev pub HasComeTo : Seen → Seen → List (List ℕ) → (SessionState → SessionState → Type 0) → Type 0
-HasComeTo old new prints Are =
-    IsIntact new → IsTrue new.is_open → (start : Holdings) → IsStoreOf old.now start →
-    (now : SessionState) × IsStoreOf new.now now.kept.held × Are (beginning prints start) now
+-- A party has come so far over a store that was seen so in the beginning and in the end, if its disk has returned what was written. The
+-- store holds what the party keeps, as long as its connection is open, and what a crash may leave lasts.
+abbrev pub HasComeTo : (List Holdings → Type 0) → Seen → Seen → List (List ℕ) → (SessionState → SessionState → Type 0) → Type 0
+HasComeTo lasts old new prints Are =
+    IsIntact new → (start : Holdings) → IsStoreOf old.now start →
+    (now : SessionState) × (IsTrue new.is_open → IsStoreOf new.now now.kept.held)
+    × lasts now.kept.left × Are (beginning prints start) now
 
--- the source gave these lines, of which the last asks for the end, as its answer says
-abbrev pub IsReadToQuit : Option (List ℕ) → Option (List ℕ) → List (List ℕ) → List SessionAnswer → Type 0
-IsReadToQuit input source lines answers =
-    (earlier : List SessionAnswer) × (answers ≡ earlier ++ Ends ∷ []) × GoOn earlier × GivesLines input source lines
-
--- or none asks for it, and it is at its end behind them
-abbrev pub IsReadToEnd : Option (List ℕ) → Option (List ℕ) → List (List ℕ) → List SessionAnswer → Type 0
-IsReadToEnd input source lines answers =
-    (middle : Option (List ℕ)) × GivesLines input middle lines × GoOn answers × Consumes middle source [] × IsAtEnd source
-
--- The answers to the lines that the source gave, in order, over the store at the path, by a verifier that believes those fingerprints in
--- the beginning.
--- What one line leaves the next finds.
-pub record IsSessionText (host : HostState) (words : SessionWords) (input source : Option (List ℕ)) (text : List ℕ) : Type 0 where
+-- A session over the store at the path, which ended so: by a verifier that believes those fingerprints in the beginning, the lines that
+-- standard input gave were answered on standard output, in order, and what one line left the next found.
+pub record IsSession (host : HostState) (words : SessionWords) (run : Streams) (end : End) : Type 0 where
   pub prints : List (List ℕ)
   pub begins : BelievesAtFirst host.holds (given words.verdicts) prints
   pub old : Seen
-  pub found : IsFoundOrMade host.stands words.store.now old
+  pub found : IsFoundOrMade host.at.stands words.store.now old
   pub new : Seen
-  pub left : host.leaves words.store.now new
-  pub lines : List (List ℕ)
-  pub answers : List SessionAnswer
-  pub read : IsReadToQuit input source lines answers ⊎ IsReadToEnd input source lines answers
-  pub text_is : text ≡ text_of answers
-  pub come : HasComeTo old new prints (λ before now. AreAnswersToLines (holding_of host.holds) lines answers before now)
+  pub left : host.at.leaves words.store.now new
+  pub ended : SessionHasEnded (holding_of host.holds) run.input run.source run.output run.written (HasComeTo (host.at.lasts words.store.now) old new prints) end
 
--- it was written
-abbrev pub WritesSession : {R O : Type 0} → HostState → SessionWords → (R → Option (List ℕ)) → R → R → (O → Option (List ℕ)) → O → O → Type 0
-WritesSession host words remaining input source contents old new =
-    WritesText (IsSessionText host words (remaining input) (remaining source)) (contents old) (contents new)
+-- what a session failed with that was cut short; nothing, if a line asked for its end or the input was at its end
+abbrev pub cut_by : End → Option Failure
+cut_by ended.Quit = None
+cut_by ended.Finished = None
+cut_by ended.Shut = Some Shut
+cut_by ended.Unwritable = Some Unwritable
+cut_by ended.Unreadable = Some NoInput
+cut_by ended.NoMemory = Some NoMemory
+
+-- it was not cut short
+abbrev pub IsWholeSession : HostState → SessionWords → Streams → Type 0
+IsWholeSession host words run = (end : End) × (cut_by end ≡ None) × IsSession host words run end
+
+-- it was, by this
+abbrev pub IsCutShort : HostState → SessionWords → Streams → Failure → Type 0
+IsCutShort host words run failure = (end : End) × (cut_by end ≡ Some failure) × IsSession host words run end
 
 -- ---- why a session fails
 
@@ -74,14 +71,14 @@ abbrev pub IsFailureOnVerdicts : Holding → Option (List ℕ) → Failure → T
 IsFailureOnVerdicts holds None failure = failure ≡ NoMemory
 IsFailureOnVerdicts holds (Some file) failure = IsFailureOnFingerprints holds file failure
 
--- it was cut short
-abbrev pub CutsSessionShort : Failure → Type 0
-CutsSessionShort failure =
-    (failure ≡ Unwritable) ⊎ (failure ≡ NoMemory) ⊎ (failure ≡ Shut) ⊎ (failure ≡ NoInput)
-
--- What is wrong, the first of it: the verdicts, and then the store; or it began, and was cut short.
-abbrev pub IsFailureOfSession : HostState → SessionWords → Failure → Type 0
-IsFailureOfSession host words =
+-- What is wrong, the first of it: the verdicts, and then the store; or the session was cut short.
+abbrev pub IsFailureOfSession : HostState → SessionWords → Streams → Failure → Type 0
+IsFailureOfSession host words run =
     FailsFirst (IsFailureOnVerdicts host.holds (given words.verdicts))
     ((prints : List (List ℕ)) × BelievesAtFirst host.holds (given words.verdicts) prints)
-    (λ failure. MakesNoStore host.stands words.store.now failure ⊎ CutsSessionShort failure)
+    (λ failure. MakesNoStore host.at.stands words.store.now failure ⊎ IsCutShort host words run failure)
+
+-- or it was whole, and standard output failed behind it
+abbrev pub FailsInSession : HostState → SessionWords → Streams → Failure → Type 0
+FailsInSession host words run =
+    OrUnwritable (IsFailureOfSession host words run) (IsWholeSession host words run)

@@ -2,7 +2,10 @@
 ghost use Rattle.std.specs.Prelude.{◌≡◌};
 ghost use Rattle.statements_facts.specs.Fact.{facts_in};
 ghost use Rattle.path.specs.Reading.{seen_query};
-ghost use Rattle.cli_store.specs.Standing.{IsFound, IsFoundOrMade, seen_in};
+ghost use Rattle.sqlite.specs.Files.{file_state};
+ghost use Rattle.store_adoption.specs.Creates.{IsSettled};
+ghost use Rattle.store_sql.specs.Statements.{IsDurable};
+ghost use Rattle.cli_store.specs.Standing.{IsFound, IsFoundOrMade, IsOpenIfClean, seen_in};
 ghost use Rattle.cli.specs.Checked.{ChecksAt, ComparesAt};
 ghost use Rattle.cli.specs.Delivered.{TakesAt};
 
@@ -48,8 +51,11 @@ fn take_in<'a, D: Disk + Drop, S: Stores<Store<D>>>(
     store: Store<D>,
     facts: &Facts<'_>,
 ) -> Result<Counts, Failure<'a>>
-    ensures { IsFoundOrMade (S.stands source.now) path.now (seen_in store)
-        → TakesAt (S.stands source.now) (S.leaves source.now) path.now (facts_in facts.now)
+    requires open { IsOpenIfClean (file_state store.conn) }
+    requires settled { IsSettled (file_state store.conn) }
+    requires durable { IsDurable (file_state store.conn) }
+    ensures { IsFoundOrMade (S.places source.now).stands path.now (seen_in store)
+        → TakesAt (S.places source.now) path.now (facts_in facts.now)
         result }
 {
     let mut store = store;
@@ -67,7 +73,7 @@ fn take_at<'a, D: Disk + Drop, S: Stores<Store<D>>>(
     path: &'a str,
     facts: &Facts<'_>,
 ) -> Result<Counts, Failure<'a>>
-    ensures { TakesAt (S.stands source.now) (S.leaves source.now) path.entry.now
+    ensures { TakesAt (S.places source.now) path.entry.now
         (facts_in facts.now) result }
 {
     let store = source.open_or_make_store(path)?;
@@ -78,8 +84,7 @@ fn take_at<'a, D: Disk + Drop, S: Stores<Store<D>>>(
 impl<'a, D: Disk + Drop, S: Stores<Store<D>>> TakeFacts<'a> for AtPath<'a, '_, D, S> {
     ghost use Rattle.cli.specs.Delivered.{TakesAt};
 
-    ghost takes = { λ at _ facts result. TakesAt (S.stands at.source.now)
-        (S.leaves at.source.now) at.path.now facts result };
+    ghost takes = { λ at _ facts result. TakesAt (S.places at.source.now) at.path.now facts result };
 
     fn take_facts(&mut self, facts: &Facts<'_>) -> Result<Counts, Failure<'a>> {
         take_at(self.source, self.path, facts)
@@ -95,8 +100,11 @@ fn check_in<'a, D: Disk + Drop, S: Stores<Store<D>>, V: Verifier>(
     store: Store<D>,
     query: &Query<'_>,
 ) -> Result<Verdict, Failure<'a>>
-    ensures { IsFound (S.stands source.now) path.now (seen_in store)
-        → ChecksAt (S.stands source.now) (S.leaves source.now) path.now
+    requires open { IsOpenIfClean (file_state store.conn) }
+    requires settled { IsSettled (file_state store.conn) }
+    requires durable { IsDurable (file_state store.conn) }
+    ensures { IsFound (S.places source.now).stands path.now (seen_in store)
+        → ChecksAt (S.places source.now) path.now
         (V.accepts verifier.now) (seen_query query.now) result }
 {
     let mut store = store;
@@ -116,7 +124,7 @@ fn check_at<'a, D: Disk + Drop, S: Stores<Store<D>>, V: Verifier>(
     verifier: &V,
     query: &Query<'_>,
 ) -> Result<Verdict, Failure<'a>>
-    ensures { ChecksAt (S.stands source.now) (S.leaves source.now) path.entry.now
+    ensures { ChecksAt (S.places source.now) path.entry.now
         (V.accepts verifier.now) (seen_query query.now) result }
 {
     let store = source.open_store(path)?;
@@ -127,8 +135,7 @@ fn check_at<'a, D: Disk + Drop, S: Stores<Store<D>>, V: Verifier>(
 impl<'a, D: Disk + Drop, S: Stores<Store<D>>> AnswerQuery<'a, Verdict> for AtPath<'a, '_, D, S> {
     ghost use Rattle.cli.specs.Checked.{ChecksAt};
 
-    ghost answers = { λ at _ accepts query result. ChecksAt (S.stands at.source.now)
-        (S.leaves at.source.now) at.path.now accepts query result };
+    ghost answers = { λ at _ accepts query result. ChecksAt (S.places at.source.now) at.path.now accepts query result };
 
     fn answer<V: Verifier>(
         &mut self,
@@ -150,9 +157,15 @@ fn compare_in<'a, D: Disk + Drop, S: Stores<Store<D>>, V: Verifier>(
     beside: Store<D>,
     query: &Query<'_>,
 ) -> Result<Comparison, Failure<'a>>
-    ensures { IsFound (S.stands source.now) stores.now.store.now (seen_in store)
-        → IsFound (S.stands source.now) stores.now.other.now (seen_in beside)
-        → ComparesAt (S.stands source.now) (S.leaves source.now) stores.now
+    requires open { IsOpenIfClean (file_state store.conn) }
+    requires settled { IsSettled (file_state store.conn) }
+    requires durable { IsDurable (file_state store.conn) }
+    requires other_open { IsOpenIfClean (file_state beside.conn) }
+    requires other_settled { IsSettled (file_state beside.conn) }
+    requires other_durable { IsDurable (file_state beside.conn) }
+    ensures { IsFound (S.places source.now).stands stores.now.store.now (seen_in store)
+        → IsFound (S.places source.now).stands stores.now.other.now (seen_in beside)
+        → ComparesAt (S.places source.now) stores.now
         (V.accepts verifier.now) (seen_query query.now) result }
 {
     let mut one = Node::new(verifier, store);
@@ -174,12 +187,17 @@ fn compare_at<'a, D: Disk + Drop, S: Stores<Store<D>>, V: Verifier>(
     verifier: &V,
     query: &Query<'_>,
 ) -> Result<Comparison, Failure<'a>>
-    ensures { ComparesAt (S.stands source.now) (S.leaves source.now) stores.now
+    ensures { ComparesAt (S.places source.now) stores.now
         (V.accepts verifier.now) (seen_query query.now) result }
 {
     let store = source.open_store(stores.store)?;
-    let beside = source.open_store(stores.other)?;
-    compare_in(source, alloc, stores, verifier, store, beside, query)
+    match source.open_store(stores.other) {
+        Ok(beside) => compare_in(source, alloc, stores, verifier, store, beside, query),
+        Err(failure) => {
+            source.close_store(stores.store, store);
+            Err(failure)
+        }
+    }
 }
 
 /// Both stores are opened, asked, and closed.
@@ -187,8 +205,7 @@ impl<'a, D: Disk + Drop, S: Stores<Store<D>>> AnswerQuery<'a, Comparison>
     for AtPaths<'a, '_, D, S> {
     ghost use Rattle.cli.specs.Checked.{ComparesAt};
 
-    ghost answers = { λ at _ accepts query result. ComparesAt (S.stands at.source.now)
-        (S.leaves at.source.now) at.stores accepts query result };
+    ghost answers = { λ at _ accepts query result. ComparesAt (S.places at.source.now) at.stores accepts query result };
 
     fn answer<V: Verifier>(
         &mut self,

@@ -8,7 +8,7 @@ ghost use Rattle.cli.specs.Checked.{FailsToCheck, IsChecked, IsFailureOfCheck};
 ghost use Rattle.cli.specs.Host.{host};
 
 use crate::at_path::AtPath;
-use cli_answers::verdict_to;
+use crate::writing::write_verdict;
 use cli_failures::{Failure, Source};
 use cli_steps::ask_believing;
 use cli_store::Stores;
@@ -28,9 +28,9 @@ fn check_path<'a, D: Disk + Drop, S: Source + Stores<Store<D>>>(
     verdicts: &'a str,
     query: &QueryWords<'a>,
 ) -> Result<Verdict, Failure<'a>>
-    ensures checked { IfOk result (IsChecked (host S.holds S.stands S.leaves source.now)
+    ensures checked { IfOk result (IsChecked (host S.holds S.places source.now)
         store.entry.now verdicts.entry.now (seen_words query.now)) }
-    ensures fails { IfErr result (IsFailureOfCheck (host S.holds S.stands S.leaves source.now)
+    ensures fails { IfErr result (IsFailureOfCheck (host S.holds S.places source.now)
         store.entry.now verdicts.entry.now (seen_words query.now)) }
 {
     let mut store: AtPath<'a, '_, D, S> = AtPath {
@@ -50,16 +50,17 @@ pub fn check<'a, D: Disk + Drop, S: Source + Stores<Store<D>>, O: Write>(
     query: &QueryWords<'a>,
     out: &mut O,
 ) -> Result<Verdict, Failure<'a>>
-    ensures checked { IfOk result (IsChecked (host S.holds S.stands S.leaves source.now)
+    ensures checked { IfOk result (IsChecked (host S.holds S.places source.now)
         store.entry.now verdicts.entry.now (seen_words query.now)) }
     ensures written { IfOk result (λ verdict.
         Appends (O.contents out.old) (O.contents out.new) (verdict_line verdict)) }
-    ensures fails { IfErr result (FailsToCheck (host S.holds S.stands S.leaves source.now)
-        store.entry.now verdicts.entry.now (seen_words query.now)) }
+    ensures fails { IfErr result (FailsToCheck (host S.holds S.places source.now)
+        store.entry.now verdicts.entry.now (seen_words query.now)
+        (O.contents out.old) (O.contents out.new)) }
     ensures quiet { IfErr result (λ failure. UnlessLate failure (out.new ≡ out.old)) }
 {
     let verdict = check_path(source, alloc, store, verdicts, query)?;
-    match verdict_to(verdict, out) {
+    match write_verdict(verdict, out) {
         Ok(()) => Ok(verdict),
         Err(_) => Err(Failure::Unwritable),
     }

@@ -8,7 +8,7 @@ ghost use Rattle.cli.specs.Checked.{FailsToCompare, IsCompared, IsFailureOfCompa
 ghost use Rattle.cli.specs.Host.{host};
 
 use crate::at_path::{AtPaths, StorePair};
-use cli_answers::comparison_to;
+use crate::writing::write_comparison;
 use cli_failures::{Failure, Source};
 use cli_steps::ask_believing;
 use cli_store::Stores;
@@ -28,10 +28,10 @@ fn compare_verdicts<'a, D: Disk + Drop, S: Source + Stores<Store<D>>>(
     verdicts: &'a str,
     query: &QueryWords<'a>,
 ) -> Result<Comparison, Failure<'a>>
-    ensures compared { IfOk result (IsCompared (host S.holds S.stands S.leaves source.now)
+    ensures compared { IfOk result (IsCompared (host S.holds S.places source.now)
         stores.entry verdicts.entry.now (seen_words query.now)) }
     ensures fails { IfErr result
-        (IsFailureOfComparison (host S.holds S.stands S.leaves source.now)
+        (IsFailureOfComparison (host S.holds S.places source.now)
         stores.entry verdicts.entry.now (seen_words query.now)) }
 {
     let mut stores: AtPaths<'a, '_, D, S> = AtPaths {
@@ -52,16 +52,17 @@ pub fn compare<'a, D: Disk + Drop, S: Source + Stores<Store<D>>, O: Write>(
     query: &QueryWords<'a>,
     out: &mut O,
 ) -> Result<Comparison, Failure<'a>>
-    ensures compared { IfOk result (IsCompared (host S.holds S.stands S.leaves source.now)
+    ensures compared { IfOk result (IsCompared (host S.holds S.places source.now)
         stores.entry verdicts.entry.now (seen_words query.now)) }
     ensures written { IfOk result (λ comparison.
         Appends (O.contents out.old) (O.contents out.new) (comparison_line comparison)) }
-    ensures fails { IfErr result (FailsToCompare (host S.holds S.stands S.leaves source.now)
-        stores.entry verdicts.entry.now (seen_words query.now)) }
+    ensures fails { IfErr result (FailsToCompare (host S.holds S.places source.now)
+        stores.entry verdicts.entry.now (seen_words query.now)
+        (O.contents out.old) (O.contents out.new)) }
     ensures quiet { IfErr result (λ failure. UnlessLate failure (out.new ≡ out.old)) }
 {
     let comparison = compare_verdicts(source, alloc, stores, verdicts, query)?;
-    match comparison_to(comparison, out) {
+    match write_comparison(comparison, out) {
         Ok(()) => Ok(comparison),
         Err(_) => Err(Failure::Unwritable),
     }

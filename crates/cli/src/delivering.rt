@@ -7,7 +7,7 @@ ghost use Rattle.cli.specs.Delivered.{FailsToDeliver, IsDelivered, IsFailureOfDe
 ghost use Rattle.cli.specs.Host.{host};
 
 use crate::at_path::AtPath;
-use cli_answers::counts_to;
+use crate::writing::write_counts;
 use cli_failures::{Failure, Source};
 use cli_steps::deliver_believing;
 use cli_store::Stores;
@@ -38,9 +38,9 @@ fn deliver_facts<'a, D: Disk + Drop, S: Source + Stores<Store<D>>>(
     words: Delivery<'a>,
 ) -> Result<Counts, Failure<'a>>
     ensures delivered { IfOk result
-        (IsDelivered (host S.holds S.stands S.leaves source.now) words.entry) }
+        (IsDelivered (host S.holds S.places source.now) words.entry) }
     ensures fails { IfErr result
-        (IsFailureOfDelivery (host S.holds S.stands S.leaves source.now) words.entry) }
+        (IsFailureOfDelivery (host S.holds S.places source.now) words.entry) }
 {
     let mut store: AtPath<'a, '_, D, S> = AtPath {
         source,
@@ -66,15 +66,15 @@ pub fn deliver<'a, D: Disk + Drop, S: Source + Stores<Store<D>>, O: Write>(
     out: &mut O,
 ) -> Result<Counts, Failure<'a>>
     ensures delivered { IfOk result
-        (IsDelivered (host S.holds S.stands S.leaves source.now) words.entry) }
+        (IsDelivered (host S.holds S.places source.now) words.entry) }
     ensures written { IfOk result (λ counts.
         Appends (O.contents out.old) (O.contents out.new) (counts_line counts)) }
-    ensures fails { IfErr result
-        (FailsToDeliver (host S.holds S.stands S.leaves source.now) words.entry) }
+    ensures fails { IfErr result (FailsToDeliver (host S.holds S.places source.now)
+        words.entry (O.contents out.old) (O.contents out.new)) }
     ensures quiet { IfErr result (λ failure. UnlessLate failure (out.new ≡ out.old)) }
 {
     let counts = deliver_facts(source, alloc, words)?;
-    match counts_to(&counts, out) {
+    match write_counts(&counts, out) {
         Ok(()) => Ok(counts),
         Err(_) => Err(Failure::Unwritable),
     }

@@ -6,6 +6,7 @@ ghost use Rattle.cli_failures.specs.Report.{UnlessLate, report_line, exit_status
 ghost use Rattle.cli.specs.Ended.{AnswersByStatus, FailsByStatus, FailsTelling, IsAnswering, IsFailing, IsUnexplained};
 ghost use Rattle.cli.specs.Host.{host};
 ghost use Rattle.cli.specs.Outcome.{IsDone, IsLineFailure, IsHelp};
+ghost use Rattle.cli.specs.Streams.{streams};
 
 use crate::{
     Delivery, SessionWords, StorePair, Stores, check, compare, comparison_status, deliver, explain,
@@ -44,11 +45,11 @@ pub fn execute<D: Disk + Drop, S: Source + Stores<Store<D>>, I: Read, O: Write, 
     err: &mut E,
 ) -> u8
     ensures status { IsAnswering result ⊎ IsFailing result }
-    ensures answered { AnswersByStatus (host S.holds S.stands S.leaves source.now) words.now
+    ensures answered { AnswersByStatus (host S.holds S.places source.now) words.now
         I.remaining input.old input.new O.contents out.old out.new result }
     ensures silent { IsAnswering result → err.new ≡ err.old }
-    ensures failed { FailsByStatus (host S.holds S.stands S.leaves source.now) words.now
-        (out.new ≡ out.old) result }
+    ensures failed { FailsByStatus (host S.holds S.places source.now) words.now
+        I.remaining input.old input.new O.contents out.old out.new result }
 {
     executed(source, alloc, words, input, out, err).status
 }
@@ -63,11 +64,12 @@ pub fn executed<D: Disk + Drop, S: Source + Stores<Store<D>>, I: Read, O: Write,
     err: &mut E,
 ) -> Ended
     ensures status { IsAnswering result.status ⊎ IsFailing result.status }
-    ensures answered { AnswersByStatus (host S.holds S.stands S.leaves source.now) words.now
+    ensures answered { AnswersByStatus (host S.holds S.places source.now) words.now
         I.remaining input.old input.new O.contents out.old out.new result.status }
     ensures silent { IsAnswering result.status → err.new ≡ err.old }
-    ensures failed { FailsTelling (host S.holds S.stands S.leaves source.now) words.now
-        (out.new ≡ out.old) E.contents err.old err.new result }
+    ensures failed { FailsTelling (host S.holds S.places source.now) words.now
+        I.remaining input.old input.new O.contents out.old out.new
+        E.contents err.old err.new result }
 {
     match command_of(alloc, words) {
         Ok(line) => finish(run(source, alloc, &line, input, out), err),
@@ -101,12 +103,12 @@ pub(crate) fn run<'a, D: Disk + Drop, S: Source + Stores<Store<D>>, I: Read, O: 
     input: &mut I,
     out: &mut O,
 ) -> Result<u8, Failure<'a>>
-    ensures done { IfOk result (IsDone (host S.holds S.stands S.leaves source.now) line.now
-        (I.remaining input.old) (I.remaining input.new)
-        (O.contents out.old) (O.contents out.new)) }
+    ensures done { IfOk result (IsDone (host S.holds S.places source.now) line.now
+        (streams I.remaining input.old input.new O.contents out.old out.new)) }
     ensures status { IfOk result IsAnswering }
     ensures fails { IfErr result
-        (IsLineFailure (host S.holds S.stands S.leaves source.now) line.now) }
+        (IsLineFailure (host S.holds S.places source.now) line.now
+        (streams I.remaining input.old input.new O.contents out.old out.new)) }
     ensures quiet { IfErr result (λ failure. UnlessLate failure (out.new ≡ out.old)) }
 {
     let status = answer(source, alloc, line, input, out)?;
@@ -123,12 +125,12 @@ fn answer<'a, D: Disk + Drop, S: Source + Stores<Store<D>>, I: Read, O: Write>(
     input: &mut I,
     out: &mut O,
 ) -> Result<u8, Failure<'a>>
-    ensures done { IfOk result (IsDone (host S.holds S.stands S.leaves source.now) line.now
-        (I.remaining input.old) (I.remaining input.new)
-        (O.contents out.old) (O.contents out.new)) }
+    ensures done { IfOk result (IsDone (host S.holds S.places source.now) line.now
+        (streams I.remaining input.old input.new O.contents out.old out.new)) }
     ensures status { IfOk result IsAnswering }
     ensures fails { IfErr result
-        (IsLineFailure (host S.holds S.stands S.leaves source.now) line.now) }
+        (IsLineFailure (host S.holds S.places source.now) line.now
+        (streams I.remaining input.old input.new O.contents out.old out.new)) }
     ensures quiet { IfErr result (λ failure. UnlessLate failure (out.new ≡ out.old)) }
 {
     match line {

@@ -11,6 +11,7 @@ mod explanation;
 mod listing;
 mod sessions;
 mod starting;
+mod writing;
 
 pub use at_path::StorePair;
 pub use checking::check;

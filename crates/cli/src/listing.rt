@@ -4,10 +4,14 @@ ghost use Rattle.store_listing.specs.Listing.{seen_held_issuer, seen_listing};
 ghost use Rattle.cli_listing.specs.ListingText.{IdsRise, listing_text};
 ghost use Rattle.cli_failures.specs.declared.failure.Failure.TheVariants.{NoMemory};
 ghost use Rattle.cli_failures.specs.Report.{UnlessLate};
-ghost use Rattle.cli_store.specs.Standing.{IsNoAnswer, seen_in};
+ghost use Rattle.sqlite.specs.Files.{file_state};
+ghost use Rattle.store_adoption.specs.Creates.{IsSettled};
+ghost use Rattle.store_sql.specs.Statements.{IsDurable};
+ghost use Rattle.cli_store.specs.Standing.{IsNoAnswer, IsOpenIfClean, seen_in, the_same};
 ghost use Rattle.cli.specs.Checked.{IsNotChecked};
 ghost use Rattle.cli.specs.Listed.{FailsToList, HasListed, IsBadMoment, IsFailureOfListing, IsListed, IsListedAt, IsMomentOf, WritesListing, given};
 
+use crate::writing::write_front;
 use cli_failures::Failure;
 use cli_listing::listing_to;
 use cli_operands::moment_of;
@@ -54,9 +58,14 @@ fn list_in<'a, D: Disk + Drop, S: Stores<Store<D>>>(
     store: Store<D>,
     at: Option<i64>,
 ) -> Result<Vec<u8>, Failure<'a>>
+    requires open { IsOpenIfClean (file_state store.conn) }
+    requires settled { IsSettled (file_state store.conn) }
+    requires durable { IsDurable (file_state store.conn) }
     ensures listed { IfOk result (λ text.
-        HasListed (S.leaves source.now path.now) at (seen_in store) text.items) }
-    ensures fails { IfErr result (IsNoAnswer (S.leaves source.now path.now) (seen_in store)) }
+        HasListed (S.places source.now) path.now at (seen_in store)
+        text.items) }
+    ensures fails { IfErr result (IsNoAnswer (S.places source.now)
+        path.now the_same (seen_in store)) }
 {
     let mut store = store;
     held_laws();
@@ -75,10 +84,10 @@ fn list_at<'a, D: Disk + Drop, S: Stores<Store<D>>>(
     path: &'a str,
     at: Option<i64>,
 ) -> Result<Vec<u8>, Failure<'a>>
-    ensures listed { IfOk result (λ text. IsListedAt (S.stands source.now) (S.leaves source.now)
+    ensures listed { IfOk result (λ text. IsListedAt (S.places source.now)
         path.entry.now at text.items) }
     ensures fails { IfErr result
-        (IsNotChecked (S.stands source.now) (S.leaves source.now) path.entry.now) }
+        (IsNotChecked (S.places source.now) path.entry.now) }
 {
     let store = source.open_store(path)?;
     list_in(source, alloc, path, store, at)
@@ -91,9 +100,9 @@ fn list_asked<'a, D: Disk + Drop, S: Stores<Store<D>>>(
     path: &'a str,
     moment: Option<&'a str>,
 ) -> Result<Vec<u8>, Failure<'a>>
-    ensures listed { IfOk result (λ text. IsListed (S.stands source.now) (S.leaves source.now)
+    ensures listed { IfOk result (λ text. IsListed (S.places source.now)
         path.entry.now (given moment.entry) text.items) }
-    ensures fails { IfErr result (IsFailureOfListing (S.stands source.now) (S.leaves source.now)
+    ensures fails { IfErr result (IsFailureOfListing (S.places source.now)
         path.entry.now (given moment.entry)) }
 {
     let at = moment_asked(moment)?;
@@ -109,14 +118,15 @@ pub fn list<'a, D: Disk + Drop, S: Stores<Store<D>>, O: Write>(
     moment: Option<&'a str>,
     out: &mut O,
 ) -> Result<(), Failure<'a>>
-    ensures done { OnOk result (WritesListing S.stands S.leaves source.now path.entry.now
+    ensures done { OnOk result (WritesListing (S.places source.now)
+        path.entry.now
         moment.entry O.contents out.old out.new) }
-    ensures fails { IfErr result (FailsToList (S.stands source.now) (S.leaves source.now)
-        path.entry.now (given moment.entry)) }
+    ensures fails { IfErr result (FailsToList (S.places source.now) path.entry.now
+        (given moment.entry) (O.contents out.old) (O.contents out.new)) }
     ensures quiet { IfErr result (λ failure. UnlessLate failure (out.new ≡ out.old)) }
 {
     let text = list_asked(source, alloc, path, moment)?;
-    match out.write_all(text.as_slice()) {
+    match write_front(text.as_slice(), out) {
         Ok(()) => Ok(()),
         Err(_) => Err(Failure::Unwritable),
     }

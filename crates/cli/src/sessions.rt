@@ -1,11 +1,11 @@
 //! Sessions over a store at a path.
-ghost use Rattle.std.specs.Prelude.{◌≡◌, IfErr, IfOk, OnOk};
+ghost use Rattle.std.specs.Prelude.{◌≡◌, IfErr, IfOk, None, OnOk, Some};
 ghost use Rattle.cli_failures.specs.Report.{UnlessLate};
 ghost use Rattle.cli.specs.Host.{host};
 ghost use Rattle.cli.specs.Listed.{given};
-ghost use Rattle.cli.specs.Session.{BelievesAtFirst, CutsSessionShort, IsFailureOfSession, IsFailureOnVerdicts, WritesSession};
-ghost use Rattle.cli.specs.Serves.{SessionIsServed, IsWholeSession};
-ghost use Rattle.cli_store.specs.Standing.{seen_in};
+ghost use Rattle.cli.specs.Session.{BelievesAtFirst, IsFailureOfSession, IsFailureOnVerdicts, IsSession, IsWholeSession, cut_by};
+ghost use Rattle.cli.specs.Streams.{streams};
+ghost use Rattle.cli_store.specs.Standing.{IsFoundOrMade, IsOpenIfClean, seen_in};
 ghost use Rattle.sqlite.specs.Files.{file_state};
 ghost use Rattle.store_adoption.specs.Creates.{IsSettled};
 ghost use Rattle.store_sql.specs.Statements.{IsDurable};
@@ -50,8 +50,8 @@ fn prints_of<'a, S: Source>(
 
 // Whether a session that ended so was cut short, and by what.
 fn outcome_of<'a>(end: End) -> Result<(), Failure<'a>>
-    ensures whole { OnOk result (IsWholeSession end) }
-    ensures cut { IfErr result CutsSessionShort }
+    ensures whole { OnOk result (cut_by end ≡ None) }
+    ensures cut { IfErr result (λ failure. cut_by end ≡ Some failure) }
 {
     match end {
         End::Quit | End::Finished => Ok(()),
@@ -66,18 +66,19 @@ fn outcome_of<'a>(end: End) -> Result<(), Failure<'a>>
 fn serve_over<D: Disk + Drop, S: Source + Stores<Store<D>>, R: Read, O: Write>(
     source: &S,
     alloc: Global,
-    path: &str,
+    words: &SessionWords<'_>,
     prints: Vec<[u8; 32]>,
     store: Store<D>,
     input: &mut R,
     out: &mut O,
 ) -> End
+    requires open { IsOpenIfClean (file_state store.conn) }
     requires settled { IsSettled (file_state store.conn) }
     requires durable { IsDurable (file_state store.conn) }
-    ensures served { IsWholeSession result → SessionIsServed (S.holds source.now)
-        (S.leaves source.now path.now) prints.items (seen_in store)
-        (R.remaining input.old) (R.remaining input.new)
-        (O.contents out.old) (O.contents out.new) }
+    ensures served { BelievesAtFirst (S.holds source.now) (given words.now.verdicts) prints.items
+        → IsFoundOrMade (S.places source.now).stands words.now.store.now (seen_in store)
+        → IsSession (host S.holds S.places source.now) words.now
+        (streams R.remaining input.old input.new O.contents out.old out.new) result }
 {
     let believed = Believed::new(alloc, ListVerifier::new(prints));
     let mut party = Party {
@@ -89,7 +90,7 @@ fn serve_over<D: Disk + Drop, S: Source + Stores<Store<D>>, R: Read, O: Write>(
         believed: _,
         keeper,
     } = party;
-    source.close_store(path, keeper.into_store());
+    source.close_store(words.store, keeper.into_store());
     end
 }
 
@@ -102,10 +103,10 @@ pub fn session<'a, D: Disk + Drop, S: Source + Stores<Store<D>>, R: Read, O: Wri
     input: &mut R,
     out: &mut O,
 ) -> Result<(), Failure<'a>>
-    ensures done { OnOk result (WritesSession (host S.holds S.stands S.leaves source.now)
-        words.entry R.remaining input.old input.new O.contents out.old out.new) }
-    ensures fails { IfErr result
-        (IsFailureOfSession (host S.holds S.stands S.leaves source.now) words.entry) }
+    ensures done { OnOk result (IsWholeSession (host S.holds S.places source.now)
+        words.entry (streams R.remaining input.old input.new O.contents out.old out.new)) }
+    ensures fails { IfErr result (IsFailureOfSession (host S.holds S.places source.now)
+        words.entry (streams R.remaining input.old input.new O.contents out.old out.new)) }
     ensures quiet { IfErr result (λ failure. UnlessLate failure (out.new ≡ out.old)) }
 {
     let prints = match prints_of(source, alloc, words.verdicts) {
@@ -116,5 +117,5 @@ pub fn session<'a, D: Disk + Drop, S: Source + Stores<Store<D>>, R: Read, O: Wri
         Ok(store) => store,
         Err(failure) => return Err(failure),
     };
-    outcome_of(serve_over(source, alloc, words.store, prints, store, input, out))
+    outcome_of(serve_over(source, alloc, &words, prints, store, input, out))
 }

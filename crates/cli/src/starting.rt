@@ -3,6 +3,7 @@ ghost use Rattle.std.specs.Prelude.{◌≡◌, ◌⊎◌, ◌++◌, IfOk};
 ghost use Rattle.cli.specs.Ended.{AnswersByStatus, AnswersCommand, EndedAs, FailsByStatus, FailsCommand, IsAnswering, IsFailing};
 ghost use Rattle.cli.specs.OnMachine.{any_host};
 ghost use Rattle.cli.specs.Outcome.{IsDone, IsLineFailure};
+ghost use Rattle.cli.specs.Streams.{streams};
 
 use crate::execution::{answer_of_clap, finish, run};
 use cli_answers::FAILED;
@@ -53,10 +54,10 @@ fn run_line<I: Read, O: Write, E: Write>(
 ) -> u8
     ensures status { IsAnswering result ⊎ IsFailing result }
     ensures answered { IsAnswering result → IsDone any_host line.now
-        (I.remaining input.old) (I.remaining input.new)
-        (O.contents out.old) (O.contents out.new) result }
-    ensures failed { IsFailing result
-        → EndedAs (IsLineFailure any_host line.now) (out.new ≡ out.old) result }
+        (streams I.remaining input.old input.new O.contents out.old out.new) result }
+    ensures failed { IsFailing result → EndedAs (IsLineFailure any_host line.now
+        (streams I.remaining input.old input.new O.contents out.old out.new))
+        (out.new ≡ out.old) result }
 {
     let outcome = run(machine, alloc, line, input, out);
     let status = finish(outcome, err).status;
@@ -79,7 +80,8 @@ fn run_words<I: Read, O: Write, E: Write>(
     ensures status { IsAnswering result ⊎ IsFailing result }
     ensures answered { AnswersByStatus any_host words.now I.remaining input.old input.new
         O.contents out.old out.new result }
-    ensures failed { FailsByStatus any_host words.now (out.new ≡ out.old) result }
+    ensures failed { FailsByStatus any_host words.now I.remaining input.old input.new
+        O.contents out.old out.new result }
 {
     let machine = Machine {
         rt,
@@ -105,7 +107,8 @@ pub fn start<I: Read, O: Write, E: Write>(
     ensures status { IsAnswering result ⊎ IsFailing result }
     ensures answered { AnswersCommand words.now I.remaining input.old input.new
         O.contents out.old out.new result }
-    ensures failed { FailsCommand words.now (out.new ≡ out.old) result }
+    ensures failed { FailsCommand words.now I.remaining input.old input.new
+        O.contents out.old out.new result }
 {
     let (name, behind) = words.split_at(words.len().min(1));
     let RunWords { options, words } = run_options(behind);

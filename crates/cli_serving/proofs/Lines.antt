@@ -1,18 +1,16 @@
 -- Lines and their answers, one more.
-use Rattle.std.proofs.Common.{◌≡◌, ◌∙◌, ℕ, true, false, List, [], ◌∷◌, ◌++◌, Option, Some, None, inr, refl, sym, ap, subst, append-nil}
+use Rattle.std.proofs.Common.{◌≡◌, ◌∙◌, ℕ, false, List, [], ◌∷◌, ◌++◌, Option, Some, None, inr, refl, sym, ap, subst, append-nil}
 use Rattle.std.specs.Io.KnownBytes.{Appends}
 use Rattle.std.proofs.KnownBytes.{Appends-trans}
 use Rattle.std.proofs.lemmas.Grind.{flat_map-append}
 use Rattle.cli_failures.specs.Failures.{Holding}
-use Rattle.cli_failures.specs.declared.failure.Failure.TheVariants.{Refused, NoCertificate, NoRevocationList, NoResponse, NotGenuine, BadLine as OtherLine, BadTime, BadPurpose, BadTopic, Unreadable, Unwritable, StoreFailed, NoMemory, Shut, NoInput}
-use Rattle.cli_failures.specs.declared.failure.StoreRefusal.TheVariants as OfStore
 use Rattle.cli_lines.specs.Lines.{GivesLine, IsLineRead}
 use Rattle.cli_lines.specs.declared.lines.LineRead.TheVariants.{TooLong}
-use Rattle.cli_steps.specs.AnswerText.{answer_text, failed_text}
+use Rattle.cli_steps.specs.AnswerText.{answer_text}
 use Rattle.cli_steps.specs.State.{SessionState}
 use Rattle.cli_steps.specs.declared.answer.SessionAnswer.{SessionAnswer}
-use Rattle.cli_steps.specs.declared.answer.SessionAnswer.TheVariants.{Nothing, Believes, Forgets, Ends, Delivered, Told, Prints, Failed, BadLine, LongLine}
-use Rattle.cli_serving.specs.Serving.{AreAnswersToLines, GivesLines, GoOn, SessionHasEnded, HasServed, HasServedLast, IsAnswerToLine, IsSame, Known, SaysLong, ServesLine, is_end, is_refusal, text_of}
+use Rattle.cli_steps.specs.declared.answer.SessionAnswer.TheVariants.{LongLine}
+use Rattle.cli_serving.specs.Serving.{AreAnswersToLines, GivesLines, GoOn, SessionHasEnded, HasServed, HasServedLast, IsAnswerToLine, IsSame, Known, SaysLong, ServesLine, is_end, text_of}
 use Rattle.cli_serving.specs.declared.ending.End.{End}
 use Rattle.cli_serving.specs.declared.ending.End.TheVariants as ended
 
@@ -37,37 +35,6 @@ text_more answers answer = ap (λ (text : List ℕ). text_of answers ++ text) (s
 
 said_more : (a b c : Option (List ℕ)) (answers : List SessionAnswer) (answer : SessionAnswer) → Appends a b (text_of answers) → Appends b c (answer_text answer) → Appends a c (text_of (answers ++ answer ∷ []))
 said_more a b c answers answer before more = subst (Appends a c) (text_more answers answer) (Appends-trans a b c (text_of answers) (answer_text answer) before more)
-
-not_so : false ≡ true → ⊥
-not_so is = cc
-
--- what a refusal says
-refused : (answer : SessionAnswer) → is_refusal answer ≡ true → answer_text answer ≡ failed_text (StoreFailed OfStore.Store)
-refused (Failed (StoreFailed OfStore.Store)) is = refl
-refused (Failed (StoreFailed OfStore.Schema)) is = absurd (not_so is)
-refused (Failed (Refused file fault)) is = absurd (not_so is)
-refused (Failed (NoCertificate file rule at)) is = absurd (not_so is)
-refused (Failed (NoRevocationList file rule at)) is = absurd (not_so is)
-refused (Failed (NoResponse file rule at)) is = absurd (not_so is)
-refused (Failed (NotGenuine file fault)) is = absurd (not_so is)
-refused (Failed (OtherLine file line)) is = absurd (not_so is)
-refused (Failed BadTime) is = absurd (not_so is)
-refused (Failed BadPurpose) is = absurd (not_so is)
-refused (Failed BadTopic) is = absurd (not_so is)
-refused (Failed Shut) is = absurd (not_so is)
-refused (Failed NoInput) is = absurd (not_so is)
-refused (Failed (Unreadable file)) is = absurd (not_so is)
-refused (Failed Unwritable) is = absurd (not_so is)
-refused (Failed NoMemory) is = absurd (not_so is)
-refused Nothing is = absurd (not_so is)
-refused Believes is = absurd (not_so is)
-refused Forgets is = absurd (not_so is)
-refused Ends is = absurd (not_so is)
-refused (Delivered counts) is = absurd (not_so is)
-refused (Told verdict) is = absurd (not_so is)
-refused (Prints text) is = absurd (not_so is)
-refused BadLine is = absurd (not_so is)
-refused LongLine is = absurd (not_so is)
 
 -- one relation and then another are known, and what is weaker
 abbrev pub Follow : Known → Known → Known → Type 1
@@ -107,22 +74,15 @@ module _ (holds : Holding) (input middle source output said written : Option (Li
     known = follow _ _ _ (λ start between now are is. subst (λ (to : SessionState). AreAnswersToLines holds served.lines served.answers start to) (sym is) are) served.known known;
   }
 
-  pub ends : (Earlier : Known) (end : End) → HasServed holds input middle output said Before → HasServed holds input middle output said Earlier → ServesLine holds middle source said written Line (Some end)
-      → SessionHasEnded holds input source output written Now Earlier end
-  ends Earlier ended.Quit served earlier (line, gives, (answer, says, known, is)) =
+  pub ends : (end : End) → HasServed holds input middle output said Before → ServesLine holds middle source said written Line (Some end) → SessionHasEnded holds input source output written Now end
+  ends ended.Quit served (line, gives, (answer, says, known, is)) =
       last _ served line answer gives (is, said_more output said written served.answers answer served.said says) known
-  ends Earlier ended.Finished served earlier (same, known, rest, at_end) = (middle, unchanged served same known, rest, at_end)
-  ends Earlier ended.Shut served earlier (line, gives, (answer, says, known, is)) = record {
-    middle = middle;
-    said = said;
-    served = earlier;
-    line = line;
-    read = gives;
-    refused = subst (Appends said written) (refused answer is) says;
-  }
-  ends Earlier ended.Unwritable served earlier (line, gives, (answer, known)) = last _ served line answer gives (said, served.said) known
-  ends Earlier ended.Unreadable served earlier (same, known) = (middle, unchanged served same known)
-  ends Earlier ended.NoMemory served earlier (line, gives, impossible) = absurd impossible
+  ends ended.Finished served (same, known, rest, at_end) = (middle, unchanged served same known, rest, at_end)
+  ends ended.Shut served (line, gives, (answer, says, known, is)) =
+      last _ served line answer gives (is, said_more output said written served.answers answer served.said says) known
+  ends ended.Unwritable served (line, gives, (answer, known)) = last _ served line answer gives (said, served.said) known
+  ends ended.Unreadable served (same, known) = (middle, unchanged served same known)
+  ends ended.NoMemory served (line, gives, impossible) = absurd impossible
 
 -- ---- lines that are too long
 

@@ -8,7 +8,7 @@ use Rattle.cli_failures.specs.declared.failure.StoreRefusal.TheVariants as OfSto
 use Rattle.cli_lines.specs.Lines.{GivesLine}
 use Rattle.cli_requests.specs.Requests.{Request, request_on}
 use Rattle.cli_session.specs.Held.{holding_of}
-use Rattle.cli_steps.specs.AnswerText.{answer_text, failed_text}
+use Rattle.cli_steps.specs.AnswerText.{answer_text}
 use Rattle.cli_steps.specs.Keeping.{Keeping}
 use Rattle.cli_steps.specs.State.{SessionState}
 use Rattle.cli_steps.specs.Steps.{IsStep}
@@ -107,50 +107,39 @@ pub record HasServedLast (holds : Holding) (input source : Option (List ℕ)) (K
   pub last : Is answers answer
   pub known : Knows (λ old new. AreAnswersToLines holds (lines ++ line ∷ []) (answers ++ answer ∷ []) old new)
 
--- all answers were written, and the last ends the session
-abbrev pub SaysEnd : Option (List ℕ) → Option (List ℕ) → List SessionAnswer → SessionAnswer → Type 0
-SaysEnd output written answers answer =
-    (is_end answer ≡ true) × Appends output written (text_of (answers ++ answer ∷ []))
+-- all answers were written, and this is so of the last
+abbrev pub SaysAll : (SessionAnswer → Bool) → Option (List ℕ) → Option (List ℕ) → List SessionAnswer → SessionAnswer → Type 0
+SaysAll is_so output written answers answer =
+    (is_so answer ≡ true) × Appends output written (text_of (answers ++ answer ∷ []))
 
 -- all but the last were written
 abbrev pub SaysAllButLast : Option (List ℕ) → List SessionAnswer → SessionAnswer → Type 0
 SaysAllButLast output answers answer =
     (written : Option (List ℕ)) × Appends output written (text_of answers)
 
--- Lines were read and answered; the answer to the next was that the keeper refused.
-pub record HasShut (holds : Holding) (input source output written : Option (List ℕ)) (Before : Known) : Type 0 where
-  pub middle : Option (List ℕ)
-  pub said : Option (List ℕ)
-  pub served : HasServed holds input middle output said Before
-  pub line : List ℕ
-  pub read : GivesLine middle source line
-  pub refused : Appends said written (failed_text (StoreFailed OfStore.Store))
-
--- How a session ended. What is known of its party in the end, and what was known at a moment before.
-abbrev pub SessionHasEnded : Holding → Option (List ℕ) → Option (List ℕ) → Option (List ℕ) → Option (List ℕ) → Known → Known → End → Type 0
-SessionHasEnded holds input source output written Knows Before ended.Quit =
-    HasServedLast holds input source Knows (SaysEnd output written)
-SessionHasEnded holds input source output written Knows Before ended.Finished =
+-- How a session ended, and what is known of its party then. Each line that was read has its answer, also where the session was cut short:
+-- behind a line that asks for the end; at the end of the source; behind an answer that the keeper refused; or as the last answer could not
+-- be written, or the source could not be read.
+abbrev pub SessionHasEnded : Holding → Option (List ℕ) → Option (List ℕ) → Option (List ℕ) → Option (List ℕ) → Known → End → Type 0
+SessionHasEnded holds input source output written Knows ended.Quit =
+    HasServedLast holds input source Knows (SaysAll is_end output written)
+SessionHasEnded holds input source output written Knows ended.Finished =
     (middle : Option (List ℕ)) × HasServed holds input middle output written Knows
     × Consumes middle source [] × IsAtEnd source
-SessionHasEnded holds input source output written Knows Before ended.Shut =
-    HasShut holds input source output written Before
-SessionHasEnded holds input source output written Knows Before ended.Unwritable =
+SessionHasEnded holds input source output written Knows ended.Shut =
+    HasServedLast holds input source Knows (SaysAll is_refusal output written)
+SessionHasEnded holds input source output written Knows ended.Unwritable =
     HasServedLast holds input source Knows (SaysAllButLast output)
-SessionHasEnded holds input source output written Knows Before ended.Unreadable =
+SessionHasEnded holds input source output written Knows ended.Unreadable =
     (middle : Option (List ℕ)) × HasServed holds input middle output written Knows
-SessionHasEnded holds input source output written Knows Before ended.NoMemory =
+SessionHasEnded holds input source output written Knows ended.NoMemory =
     (source ≡ input) × (written ≡ output) × Knows IsSame
-
--- what became of a party until some moment
-abbrev pub Moved : {K : Type 0} → (K → Type 0) → (K → Keeping) → Party K → Known
-Moved {K} is_sound keeps old Are = (now : Party K) × MovesParty is_sound keeps old now Are
 
 -- How a session ended that served a party. Files hold so; what a source has left and what a writer took are seen so.
 abbrev pub SessionEnds : {R W K : Type 0} → Holding → (R → Option (List ℕ)) → R → R → (W → Option (List ℕ)) → W → W → (K → Type 0) → (K → Keeping) → Party K → Party K → End → Type 0
-SessionEnds holds remaining input source contents output written is_sound keeps old new =
+SessionEnds holds remaining input source contents output written is_clean keeps old new =
     SessionHasEnded (holding_of holds) (remaining input) (remaining source) (contents output)
-    (contents written) (MovesParty is_sound keeps old new) (Moved is_sound keeps old)
+    (contents written) (MovesParty is_clean keeps old new)
 
 -- ---- on the way
 
@@ -189,6 +178,12 @@ ServesLine holds input source output written Knows (Some ended.Unreadable) =
     (written ≡ output) × Knows IsSame
 ServesLine holds input source output written Knows end =
     AnswersRead holds input source output written Knows end
+
+-- what one line makes of a party, and of a source and a writer that are seen so
+abbrev pub ServesPartyLine : {R W K : Type 0} → Holding → (R → Option (List ℕ)) → R → R → (W → Option (List ℕ)) → W → W → (K → Type 0) → (K → Keeping) → Party K → Party K → Option End → Type 0
+ServesPartyLine holds remaining input source contents output written is_clean keeps old new =
+    ServesLine (holding_of holds) (remaining input) (remaining source) (contents output)
+    (contents written) (MovesParty is_clean keeps old new)
 
 -- what comes behind an answer
 abbrev pub IsFollowedBy : SessionAnswer → Option End → Type 0

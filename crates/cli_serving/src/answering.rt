@@ -46,8 +46,8 @@ fn answer_line<'a, K: Keeper, S: Source>(
     alloc: Global,
     line: &'a [u8],
 ) -> SessionAnswer<'a>
-    ensures sound { K.is_sound party.new.keeper → K.is_sound party.old.keeper }
-    ensures steps { MovesParty K.is_sound K.keeps party.old party.new (λ old new.
+    ensures clean { K.is_clean party.new.keeper → K.is_clean party.old.keeper }
+    ensures steps { MovesParty K.is_clean K.keeps party.old party.new (λ old new.
         IsAnswerWithin (holding_of (S.holds source.now)) line.entry.now old new result) }
 {
     match request_of(alloc, line) {
@@ -68,8 +68,8 @@ pub(crate) fn write_answer<W: Write>(answer: &SessionAnswer<'_>, out: &mut W) ->
 
 // How the session ends behind the answer, if it does.
 fn end_behind<K: Keeper>(keeper: &mut K, answer: &SessionAnswer<'_>) -> Option<End>
-    ensures sound { K.is_sound keeper.new → K.is_sound keeper.old }
-    ensures keeps { K.is_sound keeper.new → Keeps (K.keeps keeper.old) (K.keeps keeper.new) }
+    ensures clean { K.is_clean keeper.new → K.is_clean keeper.old }
+    ensures keeps { K.is_clean keeper.new → Keeps (K.keeps keeper.old) (K.keeps keeper.new) }
     ensures follows { IsFollowedBy answer.now result }
 {
     if is_end(answer) {
@@ -89,9 +89,9 @@ pub(crate) fn answer_read<K: Keeper, S: Source, W: Write>(
     line: &[u8],
     out: &mut W,
 ) -> Option<End>
-    ensures sound { K.is_sound party.new.keeper → K.is_sound party.old.keeper }
+    ensures clean { K.is_clean party.new.keeper → K.is_clean party.old.keeper }
     ensures says { WritesAnswer (W.contents out.old) (W.contents out.new)
-        (MovesParty K.is_sound K.keeps party.old party.new)
+        (MovesParty K.is_clean K.keeps party.old party.new)
         (IsAnswerWithin (holding_of (S.holds source.now)) line.now) result }
 {
     let answer = answer_line(party, source, alloc, line);

@@ -8,4 +8,4 @@ mod serving;
 
 pub use ending::End;
 pub use laws::crash_law;
-pub use serving::serve;
+pub use serving::{serve, serve_line};

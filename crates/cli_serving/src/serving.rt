@@ -1,8 +1,6 @@
 //! The loop of a session.
 ghost use Rattle.std.specs.Prelude.{◌≡◌, ◌≤◌, ◌^◌, vec_capacity};
-ghost use Rattle.cli_session.specs.Held.{holding_of};
-ghost use Rattle.cli_steps.specs.Ways.{MovesParty};
-ghost use Rattle.cli_serving.specs.Serving.{SaysLong, ServesLine, SessionEnds};
+ghost use Rattle.cli_serving.specs.Serving.{SaysLong, ServesPartyLine, SessionEnds};
 
 use crate::answering::{answer_read, write_answer};
 use crate::ending::End;
@@ -22,8 +20,10 @@ fn refuse_line<W: Write>(out: &mut W) -> Option<End>
     }
 }
 
-// Reads a line and answers it, and tells how the session ends behind it, if it does.
-fn serve_line<R: Read, K: Keeper, S: Source, W: Write>(
+/// Reads one line and answers it, and tells how the session ends behind it, if it does. When it returns, the answer has been written, and
+/// what it tells has been done: a statement that was answered as delivered is in the store, and a crash from here on leaves it
+/// (`crash_law`). A line is read into `line`, which has room for the longest, 2^20 octets, and may be used again.
+pub fn serve_line<R: Read, K: Keeper, S: Source, W: Write>(
     input: &mut R,
     party: &mut Party<K>,
     source: &S,
@@ -33,10 +33,9 @@ fn serve_line<R: Read, K: Keeper, S: Source, W: Write>(
 ) -> Option<End>
     requires room { 2 ^ 20 ≤ vec_capacity line.old }
     ensures room { vec_capacity line.old ≤ vec_capacity line.new }
-    ensures sound { K.is_sound party.new.keeper → K.is_sound party.old.keeper }
-    ensures serves { ServesLine (holding_of (S.holds source.now))
-        (R.remaining input.old) (R.remaining input.new) (W.contents out.old) (W.contents out.new)
-        (MovesParty K.is_sound K.keeps party.old party.new) result }
+    ensures clean { K.is_clean party.new.keeper → K.is_clean party.old.keeper }
+    ensures serves { ServesPartyLine (S.holds source.now) R.remaining input.old input.new
+        W.contents out.old out.new K.is_clean K.keeps party.old party.new result }
 {
     match read_line(input, line) {
         Ok(LineRead::Line) => answer_read(party, source, alloc, line.as_slice(), out),
@@ -56,9 +55,9 @@ fn serve_lines<R: Read, K: Keeper, S: Source, W: Write>(
     out: &mut W,
 ) -> End
     requires room { 2 ^ 20 ≤ vec_capacity line.old }
-    ensures sound { K.is_sound party.new.keeper → K.is_sound party.old.keeper }
+    ensures clean { K.is_clean party.new.keeper → K.is_clean party.old.keeper }
     ensures ended { SessionEnds (S.holds source.now) R.remaining input.old input.new
-        W.contents out.old out.new K.is_sound K.keeps party.old party.new result }
+        W.contents out.old out.new K.is_clean K.keeps party.old party.new result }
 {
     for _ in 0..u64::MAX {
         match serve_line(input, party, source, alloc, line, out) {
@@ -79,9 +78,9 @@ pub fn serve<R: Read, K: Keeper, S: Source, W: Write>(
     alloc: Global,
     out: &mut W,
 ) -> End
-    ensures sound { K.is_sound party.new.keeper → K.is_sound party.old.keeper }
+    ensures clean { K.is_clean party.new.keeper → K.is_clean party.old.keeper }
     ensures ended { SessionEnds (S.holds source.now) R.remaining input.old input.new
-        W.contents out.old out.new K.is_sound K.keeps party.old party.new result }
+        W.contents out.old out.new K.is_clean K.keeps party.old party.new result }
 {
     match Vec::with_capacity(alloc, LINE_MOST) {
         Ok(line) => {

@@ -12,7 +12,7 @@ use Rattle.cli_operands.specs.Asked.{AcceptsJust}
 use Rattle.cli_session.specs.Believed.{BelievesJust, accepted_by}
 use Rattle.cli_session.specs.declared.believed.Believed.{Believed}
 use Rattle.cli_words.specs.QueryTexts.{QueryTexts}
-use Rattle.cli_steps.specs.Keeping.{AnswersSoundly, AnswersWithVerdict, Keeping, Soundly, Takes, TakesSoundly, taking, trying}
+use Rattle.cli_steps.specs.Keeping.{AnswersCleanly, AnswersWithVerdict, Keeping, Cleanly, Takes, TakesCleanly, taking, trying}
 use Rattle.cli_steps.specs.Passing.{AsksByWords, DeliversTo, PassesOn}
 use Rattle.cli_steps.specs.State.{believing, forgetting, keeping}
 use Rattle.cli_steps.specs.Steps.{BelievesMore, ChecksPath, DeliversFile}
@@ -25,63 +25,63 @@ accepts_just believed prints believes = λ algorithm key message signature. beli
 
 -- ---- a keeper that takes facts and answers
 
-module _ {K : Type 0} (is_sound : K → Type 0) (keeps : K → Keeping) (old new : K) where
-  -- it was sound if it is
-  was_sound : {A T : Type 0} (Reads : A → Type 0) (Refuses : Failure → Type 0) (Did : K → K → A → Result T Failure → Type 0) (result : Result T Failure)
-      → PassesOn Reads Refuses (λ old new it result. Soundly (is_sound old) (is_sound new) (Did old new it result)) old new result → is_sound new → is_sound old
-  was_sound Reads Refuses Did (Ok answer) (it, reads, did) sound = did.0 sound
-  was_sound Reads Refuses Did (Err failure) (inl (refused, same)) sound = subst is_sound same sound
-  was_sound Reads Refuses Did (Err failure) (inr (it, reads, did)) sound = did.0 sound
+module _ {K : Type 0} (is_clean : K → Type 0) (keeps : K → Keeping) (old new : K) where
+  -- its disk was clean before if it is
+  was_clean_before : {A T : Type 0} (Reads : A → Type 0) (Refuses : Failure → Type 0) (Did : K → K → A → Result T Failure → Type 0) (result : Result T Failure)
+      → PassesOn Reads Refuses (λ old new it result. Cleanly (is_clean old) (is_clean new) (Did old new it result)) old new result → is_clean new → is_clean old
+  was_clean_before Reads Refuses Did (Ok answer) (it, reads, did) clean = did.0 clean
+  was_clean_before Reads Refuses Did (Err failure) (inl (refused, same)) clean = subst is_clean same clean
+  was_clean_before Reads Refuses Did (Err failure) (inr (it, reads, did)) clean = did.0 clean
 
-module _ {K : Type 0} (is_sound : K → Type 0) (keeps : K → Keeping) (old new : K) (believed : Believed) (holds : Holding) where
-  pub delivers_soundly : (issuer file : List ℕ) (result : Result Counts Failure) → DeliversTo holds (accepted_by believed) issuer file (TakesSoundly is_sound keeps) old new result → is_sound new → is_sound old
-  delivers_soundly issuer file result = was_sound is_sound keeps old new _ _ (λ old new facts result. Takes (keeps old) (keeps new) facts result) result
+module _ {K : Type 0} (is_clean : K → Type 0) (keeps : K → Keeping) (old new : K) (believed : Believed) (holds : Holding) where
+  pub delivers_cleanly : (issuer file : List ℕ) (result : Result Counts Failure) → DeliversTo holds (accepted_by believed) issuer file (TakesCleanly is_clean keeps) old new result → is_clean new → is_clean old
+  delivers_cleanly issuer file result = was_clean_before is_clean keeps old new _ _ (λ old new facts result. Takes (keeps old) (keeps new) facts result) result
 
-  pub delivered : (issuer file : List ℕ) (counts : Counts) → DeliversTo holds (accepted_by believed) issuer file (TakesSoundly is_sound keeps) old new (Ok counts) → is_sound new
+  pub delivered : (issuer file : List ℕ) (counts : Counts) → DeliversTo holds (accepted_by believed) issuer file (TakesCleanly is_clean keeps) old new (Ok counts) → is_clean new
       → Steps believed (keeps old) believed (keeps new) (λ before after. DeliversFile holds issuer file before after (Delivered counts))
-  delivered issuer file counts (facts, says, did) sound before is =
-      let done = did.1 sound before.kept is.keeps in (
+  delivered issuer file counts (facts, says, did) clean before is =
+      let done = did.1 clean before.kept is.keeps in (
         keeping (taking facts before.kept) before,
         record { listed = is.listed; believes = is.believes; keeps = done.0 },
         (accepted_by believed, accepts_just believed before.prints is.believes, (facts, says, done.1, refl)),
       )
 
-  pub not_delivered : (issuer file : List ℕ) (failure : Failure) → DeliversTo holds (accepted_by believed) issuer file (TakesSoundly is_sound keeps) old new (Err failure) → is_sound new
+  pub not_delivered : (issuer file : List ℕ) (failure : Failure) → DeliversTo holds (accepted_by believed) issuer file (TakesCleanly is_clean keeps) old new (Err failure) → is_clean new
       → Steps believed (keeps old) believed (keeps new) (λ before after. DeliversFile holds issuer file before after (Failed failure))
-  not_delivered issuer file failure (inl (refused, same)) sound before is = (
+  not_delivered issuer file failure (inl (refused, same)) clean before is = (
     before,
     record { listed = is.listed; believes = is.believes; keeps = subst (λ (keeper : K). keeps keeper before.kept) (sym same) is.keeps },
     (accepted_by believed, accepts_just believed before.prints is.believes, (before.kept, inl (refused, refl), refl)),
   )
-  not_delivered issuer file failure (inr (facts, says, did)) sound before is =
-      let done = did.1 sound before.kept is.keeps in (
+  not_delivered issuer file failure (inr (facts, says, did)) clean before is =
+      let done = did.1 clean before.kept is.keeps in (
         keeping (trying facts before.kept) before,
         record { listed = is.listed; believes = is.believes; keeps = done.0 },
         (accepted_by believed, accepts_just believed before.prints is.believes, (trying facts before.kept, inr (facts, says, done.1, refl), refl)),
       )
 
-  pub asks_soundly : (texts : QueryTexts) (result : Result Verdict Failure) → AsksByWords holds (accepted_by believed) texts (AnswersSoundly is_sound keeps) old new result → is_sound new → is_sound old
-  asks_soundly texts result =
-      was_sound is_sound keeps old new _ _ (λ old new query result. AnswersWithVerdict (keeps old) (keeps new) (accepted_by believed) query result) result
+  pub asks_cleanly : (texts : QueryTexts) (result : Result Verdict Failure) → AsksByWords holds (accepted_by believed) texts (AnswersCleanly is_clean keeps) old new result → is_clean new → is_clean old
+  asks_cleanly texts result =
+      was_clean_before is_clean keeps old new _ _ (λ old new query result. AnswersWithVerdict (keeps old) (keeps new) (accepted_by believed) query result) result
 
-  pub checked : (texts : QueryTexts) (verdict : Verdict) → AsksByWords holds (accepted_by believed) texts (AnswersSoundly is_sound keeps) old new (Ok verdict) → is_sound new
+  pub checked : (texts : QueryTexts) (verdict : Verdict) → AsksByWords holds (accepted_by believed) texts (AnswersCleanly is_clean keeps) old new (Ok verdict) → is_clean new
       → Steps believed (keeps old) believed (keeps new) (λ before after. ChecksPath holds texts before (Told verdict) × (after ≡ before))
-  checked texts verdict (query, asks, did) sound before is =
-      let done = did.1 sound before.kept is.keeps in (
+  checked texts verdict (query, asks, did) clean before is =
+      let done = did.1 clean before.kept is.keeps in (
         before,
         record { listed = is.listed; believes = is.believes; keeps = done.0 },
         ((accepted_by believed, accepts_just believed before.prints is.believes, (query, asks, done.1)), refl),
       )
 
-  pub not_checked : (texts : QueryTexts) (failure : Failure) → AsksByWords holds (accepted_by believed) texts (AnswersSoundly is_sound keeps) old new (Err failure) → is_sound new
+  pub not_checked : (texts : QueryTexts) (failure : Failure) → AsksByWords holds (accepted_by believed) texts (AnswersCleanly is_clean keeps) old new (Err failure) → is_clean new
       → Steps believed (keeps old) believed (keeps new) (λ before after. ChecksPath holds texts before (Failed failure) × (after ≡ before))
-  not_checked texts failure (inl (refused, same)) sound before is = (
+  not_checked texts failure (inl (refused, same)) clean before is = (
     before,
     record { listed = is.listed; believes = is.believes; keeps = subst (λ (keeper : K). keeps keeper before.kept) (sym same) is.keeps },
     (inl refused, refl),
   )
-  not_checked texts failure (inr (query, asks, did)) sound before is =
-      let done = did.1 sound before.kept is.keeps in (
+  not_checked texts failure (inr (query, asks, did)) clean before is =
+      let done = did.1 clean before.kept is.keeps in (
         before,
         record { listed = is.listed; believes = is.believes; keeps = done.0 },
         (inr ((query, asks), done.1), refl),

@@ -3,6 +3,7 @@ use Rattle.std.specs.Prelude.{◌≡◌, ◌⊎◌, List, [], ◌∷◌, Result,
 use Rattle.path.specs.Query.{Accepts, Query}
 use Rattle.relying_agreement.specs.Verdict.{IsVerdict}
 use Rattle.relying_agreement.specs.declared.verdict.Verdict.{Verdict}
+use Rattle.relying_agreement.specs.declared.verdict.Verdict.TheVariants.{Invalid}
 use Rattle.statements_facts.specs.Coming.{AreCounts, after_all}
 use Rattle.statements_facts.specs.Fact.{Fact}
 use Rattle.statements_facts.specs.Statement.{Holdings}
@@ -11,7 +12,8 @@ use Rattle.cli_failures.specs.declared.failure.Failure.{Failure}
 use Rattle.cli_failures.specs.declared.failure.Failure.TheVariants.{NoMemory, StoreFailed}
 use Rattle.cli_failures.specs.declared.failure.StoreRefusal.TheVariants as OfStore
 
--- What is kept: what is held, and what may be found behind a crash at this moment, which is one of these.
+-- What is kept: what is held as long as the connection is open, and what may be found behind a crash at this moment, which is one of
+-- these.
 pub record Kept : Type 0 where
   pub held : Holdings
   pub left : List Holdings
@@ -44,6 +46,11 @@ Takes old new facts (Ok counts) =
 Takes old new facts (Err failure) =
     (kept : Kept) → old kept → new (trying facts kept) × IsNotKept failure
 
+-- a verdict that the path is invalid, or another that comes from there
+abbrev pub IsInvalidOrFrom : Type 0 → Verdict → Type 0
+IsInvalidOrFrom is_open (Invalid j reason) = Unit {0}
+IsInvalidOrFrom is_open verdict = is_open
+
 -- the verdict by what is held, or none; and nothing changed
 abbrev pub AnswersWithVerdict : Keeping → Keeping → Accepts → Query → Result Verdict Failure → Type 0
 AnswersWithVerdict old new accepts query (Ok verdict) =
@@ -51,16 +58,16 @@ AnswersWithVerdict old new accepts query (Ok verdict) =
 AnswersWithVerdict old new accepts query (Err failure) =
     (kept : Kept) → old kept → new kept × IsNotKept failure
 
--- a keeper that is sound was sound, and did this
-abbrev pub Soundly : Type 0 → Type 0 → Type 0 → Type 0
-Soundly was_sound is_sound Did = (is_sound → was_sound) × (is_sound → Did)
+-- a keeper whose disk has returned what was written had such a disk before, and did this
+abbrev pub Cleanly : Type 0 → Type 0 → Type 0 → Type 0
+Cleanly was_clean is_clean Did = (is_clean → was_clean) × (is_clean → Did)
 
 -- the same of a keeper that took facts
-abbrev pub TakesSoundly : {K : Type 0} → (K → Type 0) → (K → Keeping) → K → K → List Fact → Result Counts Failure → Type 0
-TakesSoundly is_sound keeps old new facts result =
-    Soundly (is_sound old) (is_sound new) (Takes (keeps old) (keeps new) facts result)
+abbrev pub TakesCleanly : {K : Type 0} → (K → Type 0) → (K → Keeping) → K → K → List Fact → Result Counts Failure → Type 0
+TakesCleanly is_clean keeps old new facts result =
+    Cleanly (is_clean old) (is_clean new) (Takes (keeps old) (keeps new) facts result)
 
 -- and of one that was asked
-abbrev pub AnswersSoundly : {K : Type 0} → (K → Type 0) → (K → Keeping) → K → K → Accepts → Query → Result Verdict Failure → Type 0
-AnswersSoundly is_sound keeps old new accepts query result =
-    Soundly (is_sound old) (is_sound new) (AnswersWithVerdict (keeps old) (keeps new) accepts query result)
+abbrev pub AnswersCleanly : {K : Type 0} → (K → Type 0) → (K → Keeping) → K → K → Accepts → Query → Result Verdict Failure → Type 0
+AnswersCleanly is_clean keeps old new accepts query result =
+    Cleanly (is_clean old) (is_clean new) (AnswersWithVerdict (keeps old) (keeps new) accepts query result)

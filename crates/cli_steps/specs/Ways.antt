@@ -12,10 +12,10 @@ Steps old_believed old_keeps believed keeps Are =
     (old : SessionState) → IsState old_believed old_keeps old →
     (new : SessionState) × IsState believed keeps new × Are old new
 
--- the same of a party whose keeper is sound behind the step
+-- the same of a party, if the disk of its keeper has returned what was written
 abbrev pub MovesParty : {K : Type 0} → (K → Type 0) → (K → Keeping) → Party K → Party K → (SessionState → SessionState → Type 0) → Type 0
-MovesParty is_sound keeps old new Are =
-    is_sound new.keeper →
+MovesParty is_clean keeps old new Are =
+    is_clean new.keeper →
     Steps old.believed (keeps old.keeper) new.believed (keeps new.keeper) Are
 
 -- ---- fingerprints

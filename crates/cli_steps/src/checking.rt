@@ -74,8 +74,8 @@ pub(crate) fn check<'a, K: Keeper, S: Source>(
     alloc: Global,
     words: &QueryWords<'a>,
 ) -> SessionAnswer<'a>
-    ensures sound { K.is_sound party.new.keeper → K.is_sound party.old.keeper }
-    ensures steps { MovesParty K.is_sound K.keeps party.old party.new (λ old new.
+    ensures clean { K.is_clean party.new.keeper → K.is_clean party.old.keeper }
+    ensures steps { MovesParty K.is_clean K.keeps party.old party.new (λ old new.
         ChecksPath (S.holds source.now) (seen_words words.now) old result × (new ≡ old)) }
 {
     let (keeper, verifier) = (&mut party.keeper, &party.believed);

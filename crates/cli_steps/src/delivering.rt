@@ -81,8 +81,8 @@ pub(crate) fn deliver<'a, K: Keeper, S: Source>(
     issuer: &'a str,
     file: &'a str,
 ) -> SessionAnswer<'a>
-    ensures sound { K.is_sound party.new.keeper → K.is_sound party.old.keeper }
-    ensures steps { MovesParty K.is_sound K.keeps party.old party.new (λ old new.
+    ensures clean { K.is_clean party.new.keeper → K.is_clean party.old.keeper }
+    ensures steps { MovesParty K.is_clean K.keeps party.old party.new (λ old new.
         DeliversFile (S.holds source.now) issuer.entry.now file.entry.now old new result) }
 {
     let (keeper, verifier) = (&mut party.keeper, &party.believed);

@@ -1,8 +1,8 @@
 //! Who keeps statements.
-ghost use Rattle.std.specs.Prelude.{◌≡◌, false};
+ghost use Rattle.std.specs.Prelude.{◌≡◌, false, IfOk, OnOk};
 ghost use Rattle.statements_facts.specs.Fact.{facts_in};
 ghost use Rattle.path.specs.Reading.{seen_query};
-ghost use Rattle.cli_steps.specs.Keeping.{AnswersWithVerdict, Keeps, Takes};
+ghost use Rattle.cli_steps.specs.Keeping.{AnswersWithVerdict, IsInvalidOrFrom, Keeps, Takes};
 
 use cli_failures::Failure;
 use path::{Query, Verifier};
@@ -12,37 +12,44 @@ use std::alloc::Global;
 
 /// Who keeps the newest statement of each slot, and tells verdicts by them: a store, or what stands for one in a test.
 ///
-/// What a keeper keeps is its own matter. All that is known is what a call makes of what it kept, as long as it is sound: a call fails then
-/// only because memory ran out, or with the fault 71 of a store.
+/// What a keeper keeps is its own matter. All that is known is what a call makes of what it kept, as long as its disk returns what was
+/// written to it: a call fails then only because memory ran out, or with the fault 71 of a store. Nothing is asked of its connection: an
+/// answer is that of an open one, or it is no answer.
 pub trait Keeper {
     ghost use Rattle.cli_steps.specs.Keeping.{Kept};
 
     /// Whether it keeps this.
     ghost keeps: { Self → Kept → Type 0 };
 
-    /// Whether its disk has returned so far what was written to it, and its connection is open.
-    ghost is_sound: { Self → Type 0 };
+    /// Whether its disk has returned so far what was written to it.
+    ghost is_clean: { Self → Type 0 };
 
-    /// Takes what a genuine statement says, whole or not at all: of each slot the newest is held then.
+    /// Whether its connection is open.
+    ghost is_open: { Self → Type 0 };
+
+    /// Takes what a genuine statement says, whole or not at all: of each slot the newest is held then. It is counted by an open connection
+    /// alone.
     fn take<'a>(&mut self, facts: &Facts<'_>) -> Result<Counts, Failure<'a>>
-        ensures sound { is_sound self.new → is_sound self.old }
-        ensures takes { is_sound self.new
+        ensures clean { is_clean self.new → is_clean self.old }
+        ensures open { is_clean self.new → OnOk result (is_open self.new) }
+        ensures takes { is_clean self.new
             → Takes (keeps self.old) (keeps self.new) (facts_in facts.now) result };
 
-    /// The verdict on a path by what is held.
+    /// The verdict on a path by what is held. That it is invalid is said of the path alone; any other verdict comes from an open connection.
     fn verdict<'a, V: Verifier>(
         &mut self,
         alloc: Global,
         verifier: &V,
         query: &Query<'_>,
     ) -> Result<Verdict, Failure<'a>>
-        ensures sound { is_sound self.new → is_sound self.old }
-        ensures finds { is_sound self.new → AnswersWithVerdict (keeps self.old) (keeps self.new)
+        ensures clean { is_clean self.new → is_clean self.old }
+        ensures open { is_clean self.new → IfOk result (IsInvalidOrFrom (is_open self.old)) }
+        ensures finds { is_clean self.new → AnswersWithVerdict (keeps self.old) (keeps self.new)
             (V.accepts verifier.now) (seen_query query.now) result };
 
     /// Whether it may still answer. It does not once its connection is shut.
     fn may_answer(&mut self) -> bool
-        ensures sound { is_sound self.new → is_sound self.old }
-        ensures keeps { is_sound self.new → Keeps (keeps self.old) (keeps self.new) }
-        ensures shut { result ≡ false → is_sound self.new → ⊥ };
+        ensures clean { is_clean self.new → is_clean self.old }
+        ensures keeps { is_clean self.new → Keeps (keeps self.old) (keeps self.new) }
+        ensures shut { result ≡ false → is_clean self.new → is_open self.new → ⊥ };
 }

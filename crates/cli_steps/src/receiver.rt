@@ -45,22 +45,22 @@ pub trait AnswerQuery<'a, T> {
             result };
 }
 
-/// A keeper takes facts as its own clauses say, if it is sound.
+/// A keeper takes facts as its own clauses say, if its disk returned what was written.
 impl<'a, K: Keeper> TakeFacts<'a> for K {
-    ghost use Rattle.cli_steps.specs.Keeping.{TakesSoundly};
+    ghost use Rattle.cli_steps.specs.Keeping.{TakesCleanly};
 
-    ghost takes = { TakesSoundly K.is_sound K.keeps };
+    ghost takes = { TakesCleanly K.is_clean K.keeps };
 
     fn take_facts(&mut self, facts: &Facts<'_>) -> Result<Counts, Failure<'a>> {
         self.take(facts)
     }
 }
 
-/// A keeper answers with a verdict as its own clauses say, if it is sound.
+/// A keeper answers with a verdict as its own clauses say, if its disk returned what was written.
 impl<'a, K: Keeper> AnswerQuery<'a, Verdict> for K {
-    ghost use Rattle.cli_steps.specs.Keeping.{AnswersSoundly};
+    ghost use Rattle.cli_steps.specs.Keeping.{AnswersCleanly};
 
-    ghost answers = { AnswersSoundly K.is_sound K.keeps };
+    ghost answers = { AnswersCleanly K.is_clean K.keeps };
 
     fn answer<V: Verifier>(
         &mut self,

@@ -25,8 +25,8 @@ pub fn step<'a, K: Keeper, S: Source>(
     alloc: Global,
     request: Request<'a>,
 ) -> SessionAnswer<'a>
-    ensures sound { K.is_sound party.new.keeper → K.is_sound party.old.keeper }
-    ensures steps { MovesParty K.is_sound K.keeps party.old party.new (λ old new.
+    ensures clean { K.is_clean party.new.keeper → K.is_clean party.old.keeper }
+    ensures steps { MovesParty K.is_clean K.keeps party.old party.new (λ old new.
         IsStep (holding_of (S.holds source.now)) (seen_request request.entry) old new result) }
 {
     let operands = OperandSource { source, alloc };

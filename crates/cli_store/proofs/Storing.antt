@@ -1,34 +1,37 @@
 -- A store's calls, as those of a keeper.
-use Rattle.std.proofs.Common.{◌≡◌, ℕ, suc, false, List, [], ◌∷◌, Contains, IsTrue, Result, Ok, Err, IfErr, IfOk, arith, inl, inr, refl, sym, subst, ◌∙◌, true≢false}
+use Rattle.std.proofs.Common.{◌≡◌, ◌⊎◌, ℕ, suc, false, List, [], ◌∷◌, Contains, IsTrue, Result, Ok, Err, IfErr, IfOk, OnOk, arith, inl, inr, refl, sym, subst, ◌∙◌, true≢false}
 use Rattle.sqlite.specs.Order.{Row}
 use Rattle.sqlite.specs.State.{HasCause, HasCleanDisk, IsNoStatement, IsNotRun, IsUnchanged, State, Survives, store_error}
 use Rattle.sqlite.specs.declared.error.Error.{Error}
 use Rattle.sqlite.specs.declared.error.Error.TheVariants.{SqliteFailure}
-use Rattle.sqlite.specs.declared.error.ErrorCode.TheVariants.{Closed}
+use Rattle.sqlite.specs.declared.error.ErrorCode.TheVariants.{Closed, OutOfMemory as NoMore}
 use Rattle.sqlite_trees.specs.Tree.{Trees}
 use Rattle.sqlite_trees.specs.declared.error.StoreError.{StoreError}
 use Rattle.sqlite_trees.specs.declared.error.StoreError.TheVariants.{Broken, Corrupt, Full, Io, OutOfMemory, Unstorable}
 use Rattle.path.specs.Query.{Accepts, Query}
-use Rattle.relying.specs.Asking.{Looks}
-use Rattle.relying_agreement.specs.Verdict.{IsVerdict}
+use Rattle.relying.specs.Asking.{AnswersOnlyIfOpen, HasLooked, Looks}
+use Rattle.relying_agreement.specs.Verdict.{InvalidExactlyWhere, IsVerdict}
 use Rattle.relying_agreement.specs.declared.verdict.Verdict.{Verdict}
+use Rattle.relying_agreement.specs.declared.verdict.Verdict.TheVariants.{Invalid, Revoked, Unknown, Valid}
+use Rattle.relying_verdicts.specs.Asking.{IsInvalidOrOpen}
 use Rattle.relying_verdicts.specs.declared.fault.Fault.{Fault}
 use Rattle.relying_verdicts.specs.declared.fault.Fault.TheVariants.{Store as OfStore, Memory as WithoutMemory}
 use Rattle.statements_facts.specs.Coming.{after_all}
-use Rattle.statements_facts.specs.Fact.{facts_in}
+use Rattle.statements_facts.specs.Fact.{Fact, facts_in}
 use Rattle.statements_facts.specs.Statement.{Holdings}
 use Rattle.statements_facts.specs.declared.counts.Counts.{Counts}
 use Rattle.statements_facts.specs.declared.fact.Facts.{Facts}
 use Rattle.store.specs.Adopts.{StaysIfOpen}
 use Rattle.store_maps.specs.Held.{IsStoreOf}
+use Rattle.store_sql.specs.Fault.{fault_from}
 use Rattle.store_sql.specs.Statements.{CommitsNothing}
 use Rattle.store_sql.specs.declared.fault.StoreFault.{StoreFault}
 use Rattle.store_sql.specs.declared.fault.StoreFault.TheVariants.{Store, Schema, Memory}
 use Rattle.store_taking.specs.Delivery.{AllOrNothing, PutsFacts}
 use Rattle.cli_failures.specs.declared.failure.Failure.{Failure}
-use Rattle.cli_steps.specs.Keeping.{AnswersWithVerdict, IsNotKept, Keeps, Takes}
-use Rattle.cli_store.specs.Standing.{told_of}
-use Rattle.cli_store.specs.Stored.{IsSoundIn, LeavesOneOf, keeping_in}
+use Rattle.cli_steps.specs.Keeping.{AnswersWithVerdict, IsInvalidOrFrom, IsNotKept, Keeps, Kept, Takes, trying}
+use Rattle.cli_store.specs.Standing.{LeavesOneOf, told_of}
+use Rattle.cli_store.specs.Stored.{IsToldOverOpen, StaysIfClean, keeping_in}
 
 at_head : (left : List Holdings) (held : Holdings) → Contains (held ∷ left) held
 at_head left held = (0, omega arith, refl)
@@ -37,12 +40,28 @@ behind : (left : List Holdings) (first held : Holdings) → Contains left held �
 behind left first held (k, within, is) = (suc k, omega (arith, within), is)
 
 -- a disk that is clean was clean
-was_clean : {C : Trees → Type 0} (old new : State) → Survives old new C → HasCleanDisk new → HasCleanDisk old
+pub was_clean : {C : Trees → Type 0} (old new : State) → Survives old new C → HasCleanDisk new → HasCleanDisk old
 was_clean old new survives clean = omega (arith, survives.clean, clean)
 
 -- two errors are one
 pub same_error : (one other : Error) → ◌≡◌ {A = Result (Unit {0}) Error} (Err one) (Err other) → one ≡ other
 same_error one other same = cc
+
+-- ---- why the keeper does not answer
+
+-- a fault that is not the tables'
+other_fault : (fault : StoreFault) → (fault ≡ Schema → ⊥) → IsNotKept (told_of (OfStore fault))
+other_fault Store not = inr refl
+other_fault Schema not = absurd (not refl)
+other_fault Memory not = inl refl
+
+pub told_as_other : (fault : Fault) (failure : Failure) → (fault ≡ OfStore Schema → ⊥) → failure ≡ told_of fault → IsNotKept failure
+told_as_other (OfStore Store) failure not told = inr told
+told_as_other (OfStore Schema) failure not told = absurd (not refl)
+told_as_other (OfStore Memory) failure not told = inl told
+told_as_other WithoutMemory failure not told = inl told
+
+-- ---- two states of a connection
 
 module _ (old new : State) where
   -- nothing was committed
@@ -52,70 +71,43 @@ module _ (old new : State) where
     | inr impossible ↦ absurd impossible
   ]
 
-  kept_same : StaysIfOpen old new → CommitsNothing old new → IsSoundIn new → Keeps (keeping_in old) (keeping_in new)
-  kept_same stays survives (clean, is_open) kept (is, leaves) =
-      (subst (λ db. IsStoreOf db kept.held) (sym (stays.now_is is_open)) is, leaves_same kept.left survives clean leaves)
+  pub kept_same : StaysIfClean old new → CommitsNothing old new → HasCleanDisk new → Keeps (keeping_in old) (keeping_in new)
+  kept_same stays survives clean kept (is, leaves) = (
+    λ is_open. let still = stays clean in subst (λ db. IsStoreOf db kept.held) (sym (still.now_is is_open)) (is (still.was_open is_open)),
+    leaves_same kept.left survives clean leaves,
+  )
 
   -- ---- deliveries
 
-  pub was_sound : (facts : Facts) (result : Result Counts StoreFault) → PutsFacts old new facts result → AllOrNothing old new facts → IsSoundIn new → IsSoundIn old
-  was_sound facts (Ok counts) puts survives (clean, is_open) = (was_clean old new survives clean, (puts clean).was_open)
-  was_sound facts (Err fault) puts survives (clean, is_open) = (was_clean old new survives clean, (puts clean).was_open is_open)
-
-  pub takes : (facts : Facts) (counts : Counts) → PutsFacts old new facts (Ok counts) → IsSoundIn new → Takes (keeping_in old) (keeping_in new) (facts_in facts) (Ok counts)
-  takes facts counts puts (clean, is_open) kept (is, leaves) =
+  pub takes : (facts : Facts) (counts : Counts) → PutsFacts old new facts (Ok counts) → HasCleanDisk new → Takes (keeping_in old) (keeping_in new) (facts_in facts) (Ok counts)
+  takes facts counts puts clean kept (is, leaves) =
       let it = puts clean in
-      let taken = it.taken kept.held is in
-      ((taken.hold, λ trees may. (after_all kept.held (facts_in facts), at_head [] _, it.durable kept.held is trees may)), taken.counted)
+      let held = is it.was_open in
+      let taken = it.taken kept.held held in
+      ((λ is_open. taken.hold, λ trees may. (after_all kept.held (facts_in facts), at_head [] _, it.durable kept.held held trees may)), taken.counted)
 
-  -- the fault is not for the form of the rows
-  other_fault : (fault : StoreFault) → (fault ≡ Schema → ⊥) → IsNotKept (told_of (OfStore fault))
-  other_fault Store not = inr refl
-  other_fault Schema not = absurd (not refl)
-  other_fault Memory not = inl refl
-
-  pub takes_nothing : (facts : Facts) (fault : StoreFault) → PutsFacts old new facts (Err fault) → AllOrNothing old new facts → IsSoundIn new
-      → Takes (keeping_in old) (keeping_in new) (facts_in facts) (Err (told_of (OfStore fault)))
-  takes_nothing facts fault puts survives (clean, is_open) kept (is, leaves) =
-      let it = puts clean in
-      let held : IsStoreOf new.now kept.held = subst (λ db. IsStoreOf db kept.held) (sym (it.same is_open)) is in (
-        (
-          held,
-          λ trees may. elim (survives.crash clean trees may) [
-            | inl before ↦ let (there, contained, are) = leaves trees before in (there, behind kept.left _ there contained, are)
-            | inr whole ↦ (after_all kept.held (facts_in facts), at_head kept.left _, whole.1 kept.held is)
-          ],
-        ),
-        other_fault fault (λ schema. it.formed schema kept.held is),
+  pub takes_nothing : (facts : Facts) (fault : StoreFault) → PutsFacts old new facts (Err fault) → AllOrNothing old new facts → HasCleanDisk new
+      → (kept : Kept) → keeping_in old kept → keeping_in new (trying (facts_in facts) kept)
+  takes_nothing facts fault puts survives clean kept (is, leaves) =
+      let it = puts clean in (
+        λ is_open. subst (λ db. IsStoreOf db kept.held) (sym (it.same is_open)) (is (it.was_open is_open)),
+        λ trees may. elim (survives.crash clean trees may) [
+          | inl before ↦ let (there, contained, are) = leaves trees before in (there, behind kept.left _ there contained, are)
+          | inr whole ↦ (after_all kept.held (facts_in facts), at_head kept.left _, whole.1 kept.held (is whole.0))
+        ],
       )
 
   -- ---- verdicts
 
-  pub looked_sound : (accepts : Accepts) (query : Query) (result : Result Verdict Fault) → Looks {A = Verdict} old new (IsVerdict accepts query) result → CommitsNothing old new → IsSoundIn new → IsSoundIn old
-  looked_sound accepts query (Ok verdict) looks survives (clean, is_open) = (was_clean old new survives clean, (looks clean).0.was_open is_open)
-  looked_sound accepts query (Err fault) looks survives (clean, is_open) = (was_clean old new survives clean, (looks clean).0.was_open is_open)
+  -- that the path is invalid is so whatever is held
+  by_verdict : (accepts : Accepts) (query : Query) (held : Holdings) (verdict : Verdict) → InvalidExactlyWhere → IsInvalidOrOpen accepts query old.is_open verdict
+      → (IsTrue old.is_open → IsVerdict accepts query held verdict) → IsVerdict accepts query held verdict
+  by_verdict accepts query held (Invalid j reason) law fails if_open = (law accepts query held j reason).1 fails
+  by_verdict accepts query held (Revoked j reason) law is_open if_open = if_open is_open
+  by_verdict accepts query held (Unknown j) law is_open if_open = if_open is_open
+  by_verdict accepts query held Valid law is_open if_open = if_open is_open
 
-  pub finds : (accepts : Accepts) (query : Query) (verdict : Verdict) → Looks {A = Verdict} old new (IsVerdict accepts query) (Ok verdict) → CommitsNothing old new → IsSoundIn new
-      → AnswersWithVerdict (keeping_in old) (keeping_in new) accepts query (Ok verdict)
-  finds accepts query verdict looks survives sound kept (is, leaves) = (kept_same (looks sound.0).0 survives sound kept (is, leaves), (looks sound.0).1 kept.held is)
-
-  finds_nothing : (accepts : Accepts) (query : Query) (fault : Fault) → Looks {A = Verdict} old new (IsVerdict accepts query) (Err fault) → CommitsNothing old new → IsSoundIn new
-      → AnswersWithVerdict (keeping_in old) (keeping_in new) accepts query (Err (told_of fault))
-  finds_nothing accepts query (OfStore fault) looks survives sound kept (is, leaves) =
-      (kept_same (looks sound.0).0 survives sound kept (is, leaves), other_fault fault (λ schema. (looks sound.0).1 schema kept.held is))
-  finds_nothing accepts query WithoutMemory looks survives sound kept (is, leaves) = (kept_same (looks sound.0).0 survives sound kept (is, leaves), inl refl)
-
-  pub finds_no_verdict : (accepts : Accepts) (query : Query) (fault : Fault) (told : Failure) → told ≡ told_of fault
-      → Looks {A = Verdict} old new (IsVerdict accepts query) (Err fault) → CommitsNothing old new → IsSoundIn new → AnswersWithVerdict (keeping_in old) (keeping_in new) accepts query (Err told)
-  finds_no_verdict accepts query fault told is looks survives sound =
-      subst (λ t. AnswersWithVerdict (keeping_in old) (keeping_in new) accepts query (Err t)) (sym is) (finds_nothing accepts query fault looks survives sound)
-
-  pub takes_none : (facts : Facts) (fault : StoreFault) (told : Failure) → told ≡ told_of (OfStore fault) → PutsFacts old new facts (Err fault) → AllOrNothing old new facts → IsSoundIn new
-      → Takes (keeping_in old) (keeping_in new) (facts_in facts) (Err told)
-  takes_none facts fault told is puts survives sound =
-      subst (λ t. Takes (keeping_in old) (keeping_in new) (facts_in facts) (Err t)) (sym is) (takes_nothing facts fault puts survives sound)
-
-  -- ---- a statement that asks nothing of the database is prepared, or is not run
+  -- a statement that asks nothing of the database is prepared, or is not run
 
   unchanged : IsUnchanged old new → StaysIfOpen old new
   unchanged same = record { was_open = λ is_open. same.0.was_open; now_is = λ is_open. same.0.now_is }
@@ -127,19 +119,10 @@ module _ (old new : State) where
     | inr it ↦ record { was_open = it.3.was_open; now_is = λ is_open. (it.3.undone is_open).0 ∙ sym (settled (it.3.was_open is_open)) }
   ]
 
-  stayed_sound : StaysIfOpen old new → CommitsNothing old new → IsSoundIn new → IsSoundIn old
-  stayed_sound stays survives (clean, is_open) = (was_clean old new survives clean, stays.was_open is_open)
-
   pub probed : {A : Type 0} (Is : A → Type 0) (sql : List ℕ) (result : Result A Error) → (IsTrue old.is_open → old.now ≡ old.committed) → (HasCleanDisk new → IfOk result (λ it. Is it × IsUnchanged old new))
-      → (HasCleanDisk new → IfErr result (λ e. (params : Row) → IsNotRun old new sql params e)) → HasCleanDisk new → StaysIfOpen old new
+      → (HasCleanDisk new → IfErr result (λ e. (params : Row) → IsNotRun old new sql params e)) → StaysIfClean old new
   probed Is sql (Ok it) settled ok err clean = unchanged (ok clean).1
   probed Is sql (Err e) settled ok err clean = not_run sql e settled (err clean)
-
-  pub stays_kept : (HasCleanDisk new → StaysIfOpen old new) → CommitsNothing old new → IsSoundIn new → Keeps (keeping_in old) (keeping_in new)
-  stays_kept stays survives sound = kept_same (stays sound.0) survives sound
-
-  pub stays_sound : (HasCleanDisk new → StaysIfOpen old new) → CommitsNothing old new → IsSoundIn new → IsSoundIn old
-  stays_sound stays survives sound = stayed_sound (stays sound.0) survives sound
 
   -- only over a connection that is shut is it refused as that
   closed_cause : (cause : StoreError) (e : Error) → e ≡ SqliteFailure Closed → e ≡ store_error cause → HasCause old new ⊥ cause → old.is_open ≡ false
@@ -156,9 +139,59 @@ module _ (old new : State) where
   no_statement sql params e shut (inr (c, understood, inr (inl (given, is)))) = absurd cc
   no_statement sql params e shut (inr (c, understood, inr (inr (formats, is)))) = absurd cc
 
-  pub shut : (sql : List ℕ) (e : Error) → e ≡ SqliteFailure Closed → (IsTrue old.is_open → old.now ≡ old.committed) → (HasCleanDisk new → (params : Row) → IsNotRun old new sql params e) → IsSoundIn new → ⊥
+  pub shut : (sql : List ℕ) (e : Error) → e ≡ SqliteFailure Closed → (IsTrue old.is_open → old.now ≡ old.committed) → (HasCleanDisk new → (params : Row) → IsNotRun old new sql params e) → HasCleanDisk new → IsTrue new.is_open → ⊥
   unfolding IsNotRun
-  shut sql e is settled fails (clean, is_open) = elim (fails clean []) [
+  shut sql e is settled fails clean is_open = elim (fails clean []) [
     | inl it ↦ no_statement sql [] e is it.0
     | inr it ↦ true≢false (sym ((not_run sql e settled (fails clean)).was_open is_open) ∙ closed_cause it.0 e is it.1 it.2)
   ]
+
+-- ---- a call that failed, and then what was told of it
+
+module _ (old mid new : State) (stays : StaysIfClean mid new) (survives : CommitsNothing mid new) where
+  clean_before : HasCleanDisk new → HasCleanDisk mid
+  clean_before clean = was_clean mid new survives clean
+
+  pub takes_none : (facts : Facts) (fault : StoreFault) (told : Failure) → PutsFacts old mid facts (Err fault) → AllOrNothing old mid facts
+      → (HasCleanDisk new → IsNotKept told ⊎ IsToldOverOpen new (OfStore fault) told) → HasCleanDisk new → Takes (keeping_in old) (keeping_in new) (facts_in facts) (Err told)
+  takes_none facts fault told puts taken is clean kept keeps =
+      let before = clean_before clean in (
+        kept_same mid new stays survives clean (trying (facts_in facts) kept) (takes_nothing old mid facts fault puts taken before kept keeps),
+        elim (is clean) [
+          | inl it ↦ it
+          | inr it ↦ subst IsNotKept (sym it.0) (other_fault fault (λ schema. (puts before).formed schema kept.held (keeps.0 ((puts before).was_open ((stays clean).was_open it.1)))))
+        ],
+      )
+
+  formed : (accepts : Accepts) (query : Query) (fault : Fault) (told : Failure) (kept : Kept) → Looks {A = Verdict} old mid (IsVerdict accepts query) (Err fault) → HasCleanDisk new
+      → IsStoreOf old.now kept.held → told ≡ told_of fault → IsNotKept told
+  formed accepts query (OfStore fault) told kept looks clean is same = subst IsNotKept (sym same) (other_fault fault (λ schema. (looks (clean_before clean)).1 schema kept.held is))
+  formed accepts query WithoutMemory told kept looks clean is same = inl same
+
+  was_open : (accepts : Accepts) (query : Query) (fault : Fault) → Looks {A = Verdict} old mid (IsVerdict accepts query) (Err fault) → HasCleanDisk new → IsTrue new.is_open → IsTrue old.is_open
+  was_open accepts query fault looks clean is_open = (looks (clean_before clean)).0.was_open ((stays clean).was_open is_open)
+
+  pub finds_none : (accepts : Accepts) (query : Query) (fault : Fault) (told : Failure) → Looks {A = Verdict} old mid (IsVerdict accepts query) (Err fault) → CommitsNothing old mid
+      → (HasCleanDisk new → IsNotKept told ⊎ IsToldOverOpen new fault told) → HasCleanDisk new → AnswersWithVerdict (keeping_in old) (keeping_in new) accepts query (Err told)
+  finds_none accepts query fault told looks nothing is clean kept keeps = (
+    kept_same mid new stays survives clean kept (kept_same old mid (λ before. (looks before).0) nothing (clean_before clean) kept keeps),
+    elim (is clean) [
+      | inl it ↦ it
+      | inr it ↦ formed accepts query fault told kept looks clean (keeps.0 (was_open accepts query fault looks clean it.1)) it.0
+    ],
+  )
+
+-- ---- a verdict
+
+pub finds : (old new : State) (accepts : Accepts) (query : Query) (verdict : Verdict) → InvalidExactlyWhere → AnswersOnlyIfOpen accepts query old new (Ok verdict)
+    → Looks {A = Verdict} old new (IsVerdict accepts query) (Ok verdict) → CommitsNothing old new → HasCleanDisk new → AnswersWithVerdict (keeping_in old) (keeping_in new) accepts query (Ok verdict)
+finds old new accepts query verdict law opens looks survives clean kept keeps = (
+  kept_same old new (λ clean. (looks clean).0) survives clean kept keeps,
+  by_verdict old new accepts query kept.held verdict law (opens clean) (λ is_open. (looks clean).1 kept.held (keeps.0 is_open)),
+)
+
+pub from_open : (accepts : Accepts) (query : Query) (verdict : Verdict) (old : State) → IsInvalidOrOpen accepts query old.is_open verdict → IsInvalidOrFrom (IsTrue old.is_open) verdict
+from_open accepts query (Invalid j reason) old it = tt
+from_open accepts query (Revoked j reason) old it = it
+from_open accepts query (Unknown j) old it = it
+from_open accepts query Valid old it = it

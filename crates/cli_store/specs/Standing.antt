@@ -1,13 +1,16 @@
 -- Stores at paths.
-use Rattle.std.specs.Prelude.{◌≡◌, ◌≢◌, ◌⊎◌, ℕ, List, Bool, IsTrue}
+use Rattle.std.specs.Prelude.{◌≡◌, ◌≢◌, ◌⊎◌, ℕ, List, [], ◌∷◌, ⊤, Bool, Contains, IsTrue}
 use Rattle.sqlite_disk.specs.declared.Disk.{Ghosts}
 use Rattle.sqlite.specs.Effect.{Database}
 use Rattle.sqlite.specs.Files.{file_state}
-use Rattle.sqlite.specs.State.{State}
+use Rattle.sqlite.specs.State.{HasCleanDisk, State}
 use Rattle.sqlite_trees.specs.View.{doubt}
 use Rattle.store_adoption.specs.Inspects.{IsStore}
+use Rattle.statements_facts.specs.Coming.{after_all}
+use Rattle.statements_facts.specs.Fact.{Fact}
 use Rattle.statements_facts.specs.Statement.{Holdings, empty_holdings}
-use Rattle.store_maps.specs.Held.{IsStoreOf}
+use Rattle.store_maps.specs.Held.{AreTreesOf, IsStoreOf}
+use Rattle.sqlite_trees.specs.Tree.{Trees}
 use Rattle.store_sql.specs.Tables.{no_schema}
 use Rattle.store.specs.declared.handle.Store as handle
 use Rattle.store_sql.specs.declared.fault.StoreFault.TheVariants.{Store, Schema, Memory}
@@ -27,6 +30,19 @@ pub record Seen : Type 0 where
 
 abbrev pub seen_of : State → Seen
 seen_of s = record { now = s.now; is_open = s.is_open; is_clean = s.is_clean }
+
+-- the connection is open, if the disk has returned what was written
+abbrev pub IsOpenIfClean : State → Type 0
+IsOpenIfClean s = HasCleanDisk s → IsTrue s.is_open
+
+-- a crash at this moment leaves the trees of a store that holds one of these
+abbrev pub LeavesOneOf : State → List Holdings → Type 0
+LeavesOneOf s left =
+    (trees : Trees) → s.may_leave trees → (held : Holdings) × Contains left held × AreTreesOf held trees
+
+-- the same, if the disk has returned what was written
+abbrev pub LeavesIfClean : State → List Holdings → Type 0
+LeavesIfClean s left = HasCleanDisk s → LeavesOneOf s left
 
 -- what is seen of the connection of a store
 abbrev pub seen_in : {D : Type 0} {g : Ghosts D} → handle.Store D g → Seen
@@ -49,6 +65,24 @@ Standing = List ℕ → Met → Type 0
 -- how stores are left: a relation of a path and of what is seen of the connection to its database in the end
 abbrev pub Leaving : Type 1
 Leaving = List ℕ → Seen → Type 0
+
+-- what lasts: a relation of a path and of holdings, one of which is found there when the database is opened next
+abbrev pub Lasting : Type 1
+Lasting = List ℕ → List Holdings → Type 0
+
+-- what is known of the places of stores
+pub record Places : Type 1 where
+  pub stands : Standing
+  pub leaves : Leaving
+  pub lasts : Lasting
+
+-- nothing is known: anything may stand at each path, be left there, and last
+abbrev pub anything : Places
+anything = record {
+  stands = λ path met. ⊤;
+  leaves = λ path seen. ⊤;
+  lasts = λ path left. ⊤;
+}
 
 -- This was seen when the database of the path was opened, and where the disk returned what was written it is a store.
 abbrev pub IsFound : Standing → List ℕ → Seen → Type 0
@@ -91,19 +125,29 @@ IsNotFound stands path failure = MakesNoStore stands path failure
 
 -- ---- no answer
 
--- As long as the connection is open a store holds what it held, and it does not refuse for not being a store.
-abbrev pub HasKept : Seen → Seen → StoreRefusal → Type 0
-HasKept old new why =
-    IsTrue new.is_open → (held : Holdings) → IsStoreOf old.now held →
-    IsStoreOf new.now held × (why ≢ refused.Schema)
+-- memory ran out, or a store refused
+abbrev pub IsOfStore : Failure → Type 0
+IsOfStore failure = (failure ≡ NoMemory) ⊎ ((why : StoreRefusal) × (failure ≡ StoreFailed why))
 
--- A store that was opened so did not answer: memory ran out; or it refused and was left, and nothing was taken.
-abbrev pub IsNoAnswer : (Seen → Type 0) → Seen → Failure → Type 0
-IsNoAnswer leaves old failure =
-    (failure ≡ NoMemory)
-    ⊎ ((why : StoreRefusal) × (failure ≡ StoreFailed why)
-    × ((new : Seen) × leaves new × (IsIntact new → HasKept old new why)))
+-- A store that was opened so did not answer, and was left. As long as its connection is open it holds what it held, and it does not refuse
+-- for its tables. Behind what it held, one of those lasts.
+pub record IsNoAnswer (at : Places) (path : List ℕ) (May : Holdings → List Holdings) (old : Seen) (failure : Failure) : Type 0 where
+  pub why : IsOfStore failure
+  pub new : Seen
+  pub left : at.leaves path new
+  pub kept :
+      IsIntact new → IsTrue new.is_open → (held : Holdings) → IsStoreOf old.now held →
+      IsStoreOf new.now held × (failure ≢ StoreFailed refused.Schema)
+  pub lasts : IsIntact new → (held : Holdings) → IsStoreOf old.now held → at.lasts path (May held)
+
+-- what was held lasts
+abbrev pub the_same : Holdings → List Holdings
+the_same held = held ∷ []
+
+-- what was held lasts, or all facts have come to it
+abbrev pub with_or_without : List Fact → Holdings → List Holdings
+with_or_without facts held = after_all held facts ∷ held ∷ []
 
 -- a store that was found so did not answer
-abbrev pub IsUnanswered : (Seen → Type 0) → (Seen → Type 0) → Failure → Type 0
-IsUnanswered found leaves failure = (old : Seen) × found old × IsNoAnswer leaves old failure
+abbrev pub IsUnanswered : (Seen → Type 0) → Places → List ℕ → (Holdings → List Holdings) → Failure → Type 0
+IsUnanswered found at path May failure = (old : Seen) × found old × IsNoAnswer at path May old failure

@@ -1,21 +1,26 @@
 //! A store that keeps a session's statements.
-ghost use Rattle.std.specs.Prelude.{◌≡◌, Err, false};
+ghost use Rattle.std.specs.Prelude.{◌≡◌, ◌⊎◌, Err, false, IfOk, IsTrue, OnOk};
 ghost use Rattle.sqlite.specs.Files.{file_state};
+ghost use Rattle.sqlite.specs.State.{HasCleanDisk};
 ghost use Rattle.statements_facts.specs.Fact.{facts_in};
 ghost use Rattle.path.specs.Reading.{seen_query};
-ghost use Rattle.cli_steps.specs.Keeping.{AnswersWithVerdict, Keeps, Takes};
-ghost use Rattle.cli_store.specs.Stored.{IsSoundIn, keeping_in};
+ghost use Rattle.relying_verdicts.specs.Asking.{IsInvalidOrOpen};
+ghost use Rattle.store_sql.specs.Statements.{CommitsNothing};
+ghost use Rattle.cli_steps.specs.Keeping.{AnswersWithVerdict, IsNotKept, Takes};
+ghost use Rattle.cli_store.specs.Stored.{IsToldOverOpen, StaysIfClean, keeping_in};
 
 use crate::stores::failed;
 use cli_failures::Failure;
 use cli_steps::Keeper;
 use path_verifiers::Verifier;
 use relying::{Fault, Query, Verdict, verdict_of};
+use relying_agreement::verdict_laws;
 use sqlite::{Error, ErrorCode};
 use sqlite_disk::Disk;
 use statements_facts::{Counts, Facts};
 use std::alloc::Global;
 use store::Store;
+use store_sql::StoreFault;
 
 /// A store that keeps a session's statements.
 pub struct StoreKeeper<D: Disk> {
@@ -38,48 +43,15 @@ impl<D: Disk + Drop> StoreKeeper<D> {
     }
 }
 
-// The store takes the facts.
-fn take_into<'a, D: Disk + Drop>(
-    store: &mut Store<D>,
-    facts: &Facts<'_>,
-) -> Result<Counts, Failure<'a>>
-    ensures sound { IsSoundIn (file_state store.new.conn) → IsSoundIn (file_state store.old.conn) }
-    ensures takes { IsSoundIn (file_state store.new.conn)
-        → Takes (keeping_in (file_state store.old.conn)) (keeping_in (file_state store.new.conn))
-        (facts_in facts.now) result }
-{
-    match store.put(facts) {
-        Ok(counts) => Ok(counts),
-        Err(fault) => Err(failed(Fault::Store(fault))),
-    }
-}
-
-// The verdict by what the store holds.
-fn find_in<'a, D: Disk + Drop, V: Verifier>(
-    store: &mut Store<D>,
-    alloc: Global,
-    verifier: &V,
-    query: &Query<'_>,
-) -> Result<Verdict, Failure<'a>>
-    ensures sound { IsSoundIn (file_state store.new.conn) → IsSoundIn (file_state store.old.conn) }
-    ensures finds { IsSoundIn (file_state store.new.conn)
-        → AnswersWithVerdict (keeping_in (file_state store.old.conn))
-        (keeping_in (file_state store.new.conn))
-        (V.accepts verifier.now) (seen_query query.now) result }
-{
-    match verdict_of(alloc, verifier, &mut store.conn, query) {
-        Ok(verdict) => Ok(verdict),
-        Err(fault) => Err(failed(fault)),
-    }
-}
-
-// Prepares a statement that asks nothing of the database.
+// Prepares a statement that asks nothing of the database. That succeeds only over an open connection.
 fn probe<D: Disk + Drop>(store: &mut Store<D>) -> Result<(), Error>
-    ensures sound { IsSoundIn (file_state store.new.conn) → IsSoundIn (file_state store.old.conn) }
-    ensures keeps { IsSoundIn (file_state store.new.conn)
-        → Keeps (keeping_in (file_state store.old.conn)) (keeping_in (file_state store.new.conn)) }
-    ensures shut { result ≡ Err (Error.SqliteFailure ErrorCode.Closed)
-        → IsSoundIn (file_state store.new.conn) → ⊥ }
+    ensures stays { StaysIfClean (file_state store.old.conn) (file_state store.new.conn) }
+    ensures survives { CommitsNothing (file_state store.old.conn) (file_state store.new.conn) }
+    ensures open { HasCleanDisk (file_state store.new.conn)
+        → OnOk result (IsTrue (file_state store.new.conn).is_open) }
+    ensures shut { HasCleanDisk (file_state store.new.conn)
+        → result ≡ Err (Error.SqliteFailure ErrorCode.Closed)
+        → IsTrue (file_state store.new.conn).is_open → ⊥ }
 {
     let _before = store.conn.is_autocommit();
     match store.conn.prepare("SELECT 1") {
@@ -90,10 +62,10 @@ fn probe<D: Disk + Drop>(store: &mut Store<D>) -> Result<(), Error>
 
 // Whether the connection is not known to be shut.
 fn is_open<D: Disk + Drop>(store: &mut Store<D>) -> bool
-    ensures sound { IsSoundIn (file_state store.new.conn) → IsSoundIn (file_state store.old.conn) }
-    ensures keeps { IsSoundIn (file_state store.new.conn)
-        → Keeps (keeping_in (file_state store.old.conn)) (keeping_in (file_state store.new.conn)) }
-    ensures shut { result ≡ false → IsSoundIn (file_state store.new.conn) → ⊥ }
+    ensures stays { StaysIfClean (file_state store.old.conn) (file_state store.new.conn) }
+    ensures survives { CommitsNothing (file_state store.old.conn) (file_state store.new.conn) }
+    ensures shut { HasCleanDisk (file_state store.new.conn)
+        → result ≡ false → IsTrue (file_state store.new.conn).is_open → ⊥ }
 {
     match probe(store) {
         Err(Error::SqliteFailure(ErrorCode::Closed)) => false,
@@ -101,13 +73,83 @@ fn is_open<D: Disk + Drop>(store: &mut Store<D>) -> bool
     }
 }
 
+// What a refusal of the database is for a session: never one of the tables.
+fn refused<'a>(error: Error) -> Failure<'a>
+    ensures { IsNotKept result }
+{
+    failed(Fault::Store(StoreFault::from(error)))
+}
+
+// Why the keeper does not answer. That the tables are no store's is believed only of an open connection.
+fn failure_of<'a, D: Disk + Drop>(store: &mut Store<D>, fault: Fault) -> Failure<'a>
+    ensures stays { StaysIfClean (file_state store.old.conn) (file_state store.new.conn) }
+    ensures survives { CommitsNothing (file_state store.old.conn) (file_state store.new.conn) }
+    ensures told { HasCleanDisk (file_state store.new.conn)
+        → IsNotKept result ⊎ IsToldOverOpen (file_state store.new.conn) fault result }
+{
+    if fault != Fault::Store(StoreFault::Schema) {
+        return failed(fault);
+    }
+    match probe(store) {
+        Ok(()) => failed(fault),
+        Err(error) => refused(error),
+    }
+}
+
+// The store takes the facts.
+fn take_into<'a, D: Disk + Drop>(
+    store: &mut Store<D>,
+    facts: &Facts<'_>,
+) -> Result<Counts, Failure<'a>>
+    ensures clean { HasCleanDisk (file_state store.new.conn)
+        → HasCleanDisk (file_state store.old.conn) }
+    ensures open { HasCleanDisk (file_state store.new.conn)
+        → OnOk result (IsTrue (file_state store.new.conn).is_open) }
+    ensures takes { HasCleanDisk (file_state store.new.conn)
+        → Takes (keeping_in (file_state store.old.conn)) (keeping_in (file_state store.new.conn))
+        (facts_in facts.now) result }
+{
+    match store.put(facts) {
+        Ok(counts) => Ok(counts),
+        Err(fault) => Err(failure_of(store, Fault::Store(fault))),
+    }
+}
+
+// The verdict by what the store holds.
+fn find_in<'a, D: Disk + Drop, V: Verifier>(
+    store: &mut Store<D>,
+    alloc: Global,
+    verifier: &V,
+    query: &Query<'_>,
+) -> Result<Verdict, Failure<'a>>
+    ensures clean { HasCleanDisk (file_state store.new.conn)
+        → HasCleanDisk (file_state store.old.conn) }
+    ensures open { HasCleanDisk (file_state store.new.conn)
+        → IfOk result (IsInvalidOrOpen (V.accepts verifier.now) (seen_query query.now)
+        (file_state store.old.conn).is_open) }
+    ensures finds { HasCleanDisk (file_state store.new.conn)
+        → AnswersWithVerdict (keeping_in (file_state store.old.conn))
+        (keeping_in (file_state store.new.conn))
+        (V.accepts verifier.now) (seen_query query.now) result }
+{
+    verdict_laws();
+    match verdict_of(alloc, verifier, &mut store.conn, query) {
+        Ok(verdict) => Ok(verdict),
+        Err(fault) => Err(failure_of(store, fault)),
+    }
+}
+
 impl<D: Disk + Drop> Keeper for StoreKeeper<D> {
+    ghost use Rattle.std.specs.Prelude.{IsTrue};
     ghost use Rattle.sqlite.specs.Files.{file_state};
-    ghost use Rattle.cli_store.specs.Stored.{IsSoundIn, keeping_in};
+    ghost use Rattle.sqlite.specs.State.{HasCleanDisk};
+    ghost use Rattle.cli_store.specs.Stored.{keeping_in};
 
     ghost keeps = { λ keeper. keeping_in (file_state keeper.store.conn) };
 
-    ghost is_sound = { λ keeper. IsSoundIn (file_state keeper.store.conn) };
+    ghost is_clean = { λ keeper. HasCleanDisk (file_state keeper.store.conn) };
+
+    ghost is_open = { λ keeper. IsTrue (file_state keeper.store.conn).is_open };
 
     fn take<'a>(&mut self, facts: &Facts<'_>) -> Result<Counts, Failure<'a>> {
         take_into(&mut self.store, facts)

@@ -77,11 +77,9 @@ impl Source for Machine<'_> {
 }
 
 impl Stores<Store<File>> for Machine<'_> {
-    ghost use Rattle.std.specs.Prelude.{⊤};
+    ghost use Rattle.cli_store.specs.Standing.{anything};
 
-    ghost stands = { λ _ _ _. ⊤ };
-
-    ghost leaves = { λ _ _ _. ⊤ };
+    ghost places = { λ _. anything };
 
     fn open_store<'a>(&self, path: &'a str) -> Result<Store<File>, Failure<'a>> {
         let mut left = self.tries();

@@ -1,12 +1,13 @@
 //! Stores at paths.
-ghost use Rattle.std.specs.Prelude.{◌≡◌, ◌⊎◌, false, IfErr, IfOk};
+ghost use Rattle.std.specs.Prelude.{◌≡◌, ◌⊎◌, false, IfErr, IfOk, List};
+ghost use Rattle.statements_facts.specs.Statement.{Holdings};
 ghost use Rattle.sqlite.specs.Files.{file_state};
 ghost use Rattle.sqlite.specs.State.{HasCleanDisk};
 ghost use Rattle.store_adoption.specs.Creates.{IsSettled};
-ghost use Rattle.store.specs.Adopts.{IsEmptyStoreOn, IsStoreOn};
+ghost use Rattle.store.specs.Adopts.{IsEmptyStoreOn, IsOpenOn, IsStoreOn};
 ghost use Rattle.store_adoption.specs.Inspects.{IsStore};
 ghost use Rattle.store_sql.specs.Statements.{IsDurable};
-ghost use Rattle.cli_store.specs.Standing.{IsFound, IsFoundOrMade, IsNotFound, MakesNoStore, seen_of, told_of};
+ghost use Rattle.cli_store.specs.Standing.{IsFound, IsFoundOrMade, IsNotFound, IsOpenIfClean, LeavesIfClean, MakesNoStore, seen_of, told_of};
 
 use cli_failures::{Failure, StoreRefusal};
 use relying::Fault;
@@ -34,36 +35,41 @@ impl<D: Disk + Drop> Connected for Store<D> {
 /// Where stores stand. They are kept on files of the system, or on disks of another kind.
 ///
 /// What stands at a path of the system's files is the system's own matter: no contract can look at a disk. The contracts only know that what
-/// is opened is what stands there, that what is closed is left there, and that opening fails only because of what is found at the path.
+/// is opened is what stands there, that what is closed is left there and lasts, and that opening fails only because of what is found at the
+/// path.
 pub trait Stores<T: Connected> {
-    ghost use Rattle.std.specs.Prelude.{ℕ, List};
-    ghost use Rattle.cli_store.specs.Standing.{Met, Seen};
+    ghost use Rattle.std.specs.Prelude.{List};
+    ghost use Rattle.statements_facts.specs.Statement.{Holdings};
+    ghost use Rattle.cli_store.specs.Standing.{Places};
 
-    /// Whether this was found at the path of a store: its database, as it was seen when it was opened; no file that can be read; or a
-    /// fault of the store.
-    ghost stands: { Self → List ℕ → Met → Type 0 };
+    /// What is known of the places of stores: what was found at a path (`stands`), how a store of a path was seen when it was closed
+    /// (`leaves`), and what is found there next (`lasts`).
+    ghost places: { Self → Places };
 
-    /// Whether this was seen of the database of the path when it was closed.
-    ghost leaves: { Self → List ℕ → Seen → Type 0 };
-
-    /// The store that stands at the path; `Unreadable` if there is no file that can be read.
+    /// The store that stands at the path; `Unreadable` if there is no file that can be read. What it holds is committed, and is there
+    /// behind a crash.
     fn open_store<'a>(&self, path: &'a str) -> Result<T, Failure<'a>>
         ensures found { IfOk result (λ store.
-            IsFound (stands self.now) path.entry.now (seen_of (T.state store))) }
-        ensures fails { IfErr result (IsNotFound (stands self.now) path.entry.now) };
-
-    /// The same; if no file is there, or a database without tables, a store is made that holds nothing. What it holds is committed, and is
-    /// there behind a crash.
-    fn open_or_make_store<'a>(&self, path: &'a str) -> Result<T, Failure<'a>>
-        ensures found { IfOk result (λ store.
-            IsFoundOrMade (stands self.now) path.entry.now (seen_of (T.state store))) }
+            IsFound (places self.now).stands path.entry.now (seen_of (T.state store))) }
+        ensures open { IfOk result (λ store. IsOpenIfClean (T.state store)) }
         ensures settled { IfOk result (λ store. IsSettled (T.state store)) }
         ensures durable { IfOk result (λ store. IsDurable (T.state store)) }
-        ensures fails { IfErr result (MakesNoStore (stands self.now) path.entry.now) };
+        ensures fails { IfErr result (IsNotFound (places self.now).stands path.entry.now) };
+
+    /// The same; if no file is there, or a database without tables, a store is made that holds nothing.
+    fn open_or_make_store<'a>(&self, path: &'a str) -> Result<T, Failure<'a>>
+        ensures found { IfOk result (λ store.
+            IsFoundOrMade (places self.now).stands path.entry.now (seen_of (T.state store))) }
+        ensures open { IfOk result (λ store. IsOpenIfClean (T.state store)) }
+        ensures settled { IfOk result (λ store. IsSettled (T.state store)) }
+        ensures durable { IfOk result (λ store. IsDurable (T.state store)) }
+        ensures fails { IfErr result (MakesNoStore (places self.now).stands path.entry.now) };
 
     /// Closes a store of the path. What was committed to it is safe however that ends.
     fn close_store(&self, path: &str, store: T)
-        ensures leaves { leaves self.now path.now (seen_of (T.state store)) };
+        ensures leaves { (places self.now).leaves path.now (seen_of (T.state store)) }
+        ensures lasts { (left : List Holdings)
+            → LeavesIfClean (T.state store) left → (places self.now).lasts path.now left };
 }
 
 /// What a fault of a store or of a party is for a run.
@@ -88,6 +94,7 @@ pub fn failed<'a>(fault: Fault) -> Failure<'a>
 fn open<'a>(rt: &HostRuntime, path: &str) -> Result<Store<File>, Failure<'a>>
     ensures store { IfOk result (λ store.
         HasCleanDisk (file_state store.conn) → IsStore (file_state store.conn).now) }
+    ensures is_open { IfOk result (λ store. IsOpenOn store.conn) }
     ensures settled { IfOk result (λ store. IsSettled (file_state store.conn)) }
     ensures durable { IfOk result (λ store. IsDurable (file_state store.conn)) }
     ensures fails { IfErr result (λ failure. (fault : StoreFault)
@@ -102,6 +109,7 @@ fn open<'a>(rt: &HostRuntime, path: &str) -> Result<Store<File>, Failure<'a>>
 // A store that is made at the path.
 fn make<'a>(rt: &HostRuntime, path: &str) -> Result<Store<File>, Failure<'a>>
     ensures empty { IfOk result (λ store. IsEmptyStoreOn store.conn) }
+    ensures is_open { IfOk result (λ store. IsOpenOn store.conn) }
     ensures settled { IfOk result (λ store. IsSettled (file_state store.conn)) }
     ensures durable { IfOk result (λ store. IsDurable (file_state store.conn)) }
     ensures fails { IfErr result (λ failure. (fault : StoreFault)
@@ -120,6 +128,7 @@ fn make<'a>(rt: &HostRuntime, path: &str) -> Result<Store<File>, Failure<'a>>
 fn create<'a>(conn: Connection<FileStore<File>>) -> Result<Store<File>, Failure<'a>>
     requires idle { conn.in_transaction ≡ false }
     ensures empty { IfOk result (λ store. IsEmptyStoreOn store.conn) }
+    ensures is_open { IfOk result (λ store. IsOpenOn store.conn) }
     ensures settled { IfOk result (λ store. IsSettled (file_state store.conn)) }
     ensures durable { IfOk result (λ store. IsDurable (file_state store.conn)) }
     ensures fails { IfErr result (λ failure. (fault : StoreFault)
@@ -137,6 +146,7 @@ fn create<'a>(conn: Connection<FileStore<File>>) -> Result<Store<File>, Failure<
 // Makes a store in a refused database if that has no table. A process that ends while it makes a store may leave such a database.
 fn fill<'a>(refused: Refused<File>) -> Result<Store<File>, Failure<'a>>
     ensures empty { IfOk result (λ store. IsEmptyStoreOn store.conn) }
+    ensures is_open { IfOk result (λ store. IsOpenOn store.conn) }
     ensures settled { IfOk result (λ store. IsSettled (file_state store.conn)) }
     ensures durable { IfOk result (λ store. IsDurable (file_state store.conn)) }
     ensures fails { IfErr result (λ failure. (fault : StoreFault)
@@ -153,6 +163,7 @@ fn fill<'a>(refused: Refused<File>) -> Result<Store<File>, Failure<'a>>
 // The store in the file at the path. If its database has no table, a store is made in it.
 fn open_or_fill<'a>(rt: &HostRuntime, path: &str) -> Result<Store<File>, Failure<'a>>
     ensures store { IfOk result (λ store. IsStoreOn store.conn ⊎ IsEmptyStoreOn store.conn) }
+    ensures is_open { IfOk result (λ store. IsOpenOn store.conn) }
     ensures settled { IfOk result (λ store. IsSettled (file_state store.conn)) }
     ensures durable { IfOk result (λ store. IsDurable (file_state store.conn)) }
     ensures fails { IfErr result (λ failure. (fault : StoreFault)
@@ -175,11 +186,9 @@ fn is_missing(rt: &HostRuntime, path: &str) -> bool {
 
 /// The system's files, of which no contract says what they hold.
 impl Stores<Store<File>> for HostRuntime {
-    ghost use Rattle.std.specs.Prelude.{⊤};
+    ghost use Rattle.cli_store.specs.Standing.{anything};
 
-    ghost stands = { λ _ _ _. ⊤ };
-
-    ghost leaves = { λ _ _ _. ⊤ };
+    ghost places = { λ _. anything };
 
     fn open_store<'a>(&self, path: &'a str) -> Result<Store<File>, Failure<'a>> {
         if fs::open(self, path).is_err() {

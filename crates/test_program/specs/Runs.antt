@@ -5,7 +5,7 @@ use Rattle.relying_agreement.specs.Comparison.{IsComparison}
 use Rattle.relying_agreement.specs.Verdict.{IsVerdict}
 use Rattle.relying_agreement.specs.declared.verdict.Comparison.{Comparison}
 use Rattle.relying_agreement.specs.declared.verdict.Verdict.{Verdict}
-use Rattle.statements_facts.specs.Coming.{AreCounts}
+use Rattle.statements_facts.specs.Coming.{AreCounts, after_all}
 use Rattle.statements_facts.specs.Fact.{Fact}
 use Rattle.statements_facts.specs.Statement.{Holdings, empty_holdings}
 use Rattle.statements_facts.specs.declared.counts.Counts.{Counts}
@@ -17,14 +17,14 @@ use Rattle.cli.specs.Host.{HostState}
 use Rattle.cli.specs.Passing.{HoldsStatement}
 use Rattle.cli.specs.declared.at_path.StorePair.{StorePair}
 use Rattle.cli.specs.declared.delivering.Delivery.{Delivery}
-use Rattle.test_program.specs.Shelves.{after_these, holding_in, leaving, standing_on, statements_at}
+use Rattle.test_program.specs.Shelves.{HasTaken, after_these, holding_in, places_on, statements_at}
 use Rattle.test_program.specs.declared.shelf.Kept.{Kept}
 use Rattle.test_program.specs.declared.shelf.Text.{Text}
 
 -- what a run finds on a shelf
 abbrev pub host_of : List Text → List Kept → HostState
 host_of texts stores =
-    record { holds = holding_in texts; stands = standing_on stores; leaves = leaving }
+    record { holds = holding_in texts; at = places_on stores }
 
 -- what the statements of a path say: nothing, if none are kept there
 abbrev pub held_at : List Kept → List ℕ → Holdings
@@ -78,3 +78,13 @@ DeliversByTexts =
     (texts : List Text) (stores : List Kept) (words : Delivery) (counts : Counts) →
     IsDelivered (host_of texts stores) words counts →
     IsDeliveredOver texts stores words counts
+
+-- A run delivers, and the shelf of the next one has that statement more at the path. The verdict of the next is that by what was held, and
+-- the facts that were delivered.
+abbrev pub DeliversThenChecks : Type 0
+DeliversThenChecks =
+    (texts others : List Text) (stores next : List Kept) (words : Delivery) (counts : Counts) (verdicts : List ℕ) (asked : QueryTexts) (verdict : Verdict) →
+    (delivered : IsDelivered (host_of texts stores) words counts) →
+    HasTaken stores next words.store.now delivered.facts →
+    (checked : IsChecked (host_of others next) words.store.now verdicts asked verdict) →
+    IsVerdict checked.accepts checked.query (after_all (held_at stores words.store.now) delivered.facts) verdict

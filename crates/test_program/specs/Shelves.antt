@@ -1,13 +1,13 @@
 -- What a shelf holds, and what stands on it.
-use Rattle.std.specs.Prelude.{◌≡◌, ℕ, List, [], ◌∷◌, Option, Some, None, bytes_eq, if◌then◌else◌}
+use Rattle.std.specs.Prelude.{◌≡◌, ℕ, List, [], ◌∷◌, ◌++◌, Option, Some, None, bytes_eq, if◌then◌else◌, ⊤}
 use Rattle.statements_facts.specs.Coming.{after_all}
-use Rattle.statements_facts.specs.Fact.{facts_in}
+use Rattle.statements_facts.specs.Fact.{Fact, facts_in}
 use Rattle.statements_facts.specs.Statement.{Holdings, empty_holdings}
 use Rattle.statements_facts.specs.declared.fact.Facts.{Facts}
 use Rattle.store_maps.specs.Held.{IsStoreOf}
 use Rattle.cli.specs.Failures.{Holding}
 use Rattle.cli_failures.specs.declared.failure.StoreRefusal.TheVariants as refused
-use Rattle.cli_store.specs.Standing.{IsIntact, Leaving, Standing, database, nothing, refusal}
+use Rattle.cli_store.specs.Standing.{IsIntact, Lasting, Leaving, Places, Standing, database, nothing, refusal}
 use Rattle.test_program.specs.declared.shelf.Kept.{Kept}
 use Rattle.test_program.specs.declared.shelf.Text.{Text}
 
@@ -44,3 +44,19 @@ standing_on stores path (refusal why) = why ≡ refused.Store
 -- how stores are left: their disk has returned what was written
 abbrev pub leaving : Leaving
 leaving path seen = IsIntact seen
+
+-- What is closed is dropped: the shelf of the next run is put together by who runs it.
+abbrev pub lasting : Lasting
+lasting path left = ⊤
+
+-- what is known of the places on a shelf
+abbrev pub places_on : List Kept → Places
+places_on stores = record { stands = standing_on stores; leaves = leaving; lasts = lasting }
+
+-- A shelf has one statement more at the path than another, and it says these facts.
+pub record HasTaken (stores next : List Kept) (path : List ℕ) (facts : List Fact) : Type 0 where
+  pub before : List Facts
+  pub taken : Facts
+  pub was : statements_at stores path ≡ Some before
+  pub is : statements_at next path ≡ Some (before ++ taken ∷ [])
+  pub says : facts_in taken ≡ facts

@@ -1,5 +1,5 @@
 //! Files that are texts, and stores in memory.
-ghost use Rattle.std.specs.Prelude.{◌≡◌, ◌≢◌, false, IfErr, IfOk, OnOk, option_map};
+ghost use Rattle.std.specs.Prelude.{◌≡◌, ◌≢◌, false, IfErr, IfOk, IsTrue, OnOk, option_map};
 ghost use Rattle.sqlite.specs.Files.{file_state};
 ghost use Rattle.sqlite.specs.State.{HasCleanDisk};
 ghost use Rattle.statements_facts.specs.Coming.{after_all};
@@ -103,6 +103,7 @@ fn connected(medium: Medium) -> Result<Connection<FileStore<Disks>>, StoreFault>
 fn made(medium: Medium) -> Result<Store<Disks>, StoreFault>
     ensures empty { IfOk result (λ store.
         IsStoreOf (file_state store.conn).now empty_holdings) }
+    ensures open { IfOk result (λ store. IsTrue (file_state store.conn).is_open) }
     ensures settled { IfOk result (λ store. IsSettled (file_state store.conn)) }
     ensures durable { IfOk result (λ store. IsDurable (file_state store.conn)) }
     ensures fails { IfErr result (λ fault. fault ≢ StoreFault.Schema) }
@@ -171,6 +172,7 @@ fn reopened(alloc: Global, store: Store<Disks>) -> Result<Store<Disks>, StoreFau
     ensures holds { IfOk result (λ again. (held : Holdings)
         → IsStoreOf (file_state store.conn).now held → IsStoreOf (file_state again.conn).now held) }
     ensures clean { IfOk result (λ again. HasCleanDisk (file_state again.conn)) }
+    ensures open { IfOk result (λ store. IsTrue (file_state store.conn).is_open) }
     ensures settled { IfOk result (λ again. IsSettled (file_state again.conn)) }
     ensures durable { IfOk result (λ again. IsDurable (file_state again.conn)) }
     ensures fails { IfErr result (λ fault. (held : Holdings)
@@ -196,6 +198,7 @@ fn standing(medium: Medium, rows: &[Facts<'_>]) -> Result<Store<Disks>, StoreFau
     ensures holds { IfOk result (λ store.
         IsStoreOf (file_state store.conn).now (after_these empty_holdings rows.now)) }
     ensures clean { IfOk result (λ store. HasCleanDisk (file_state store.conn)) }
+    ensures open { IfOk result (λ store. IsTrue (file_state store.conn).is_open) }
     ensures settled { IfOk result (λ store. IsSettled (file_state store.conn)) }
     ensures durable { IfOk result (λ store. IsDurable (file_state store.conn)) }
     ensures fails { IfErr result (λ fault. fault ≢ StoreFault.Schema) }
@@ -220,11 +223,9 @@ impl Source for Shelf<'_> {
 }
 
 impl Stores<Store<Disks>> for Shelf<'_> {
-    ghost use Rattle.test_program.specs.Shelves.{leaving, standing_on};
+    ghost use Rattle.test_program.specs.Shelves.{places_on};
 
-    ghost stands = { λ shelf. standing_on shelf.stores.items };
-
-    ghost leaves = { λ shelf. leaving };
+    ghost places = { λ shelf. places_on shelf.stores.items };
 
     fn open_store<'a>(&self, path: &'a str) -> Result<Store<Disks>, Failure<'a>> {
         let Some(rows) = rows_of(self.stores.as_slice(), path) else {

@@ -29,7 +29,9 @@ impl Keeper for Told {
 
     ghost keeps = { λ _ _. ⊤ };
 
-    ghost is_sound = { λ _. ⊥ };
+    ghost is_clean = { λ _. ⊥ };
+
+    ghost is_open = { λ _. ⊤ };
 
     fn take<'a>(&mut self, _facts: &Facts<'_>) -> Result<Counts, Failure<'a>> {
         self.taken.ok_or(REFUSAL)

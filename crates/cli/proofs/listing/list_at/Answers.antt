@@ -5,10 +5,10 @@ use Rattle.cli.proofs.listing.list_at.Goals as goal
 
 pub returns-clause-listed : goal.returns-clause-listed
 returns-clause-listed g c =
-    listed_at (g.S.Stores.stands c.args.source.now) (g.S.Stores.leaves c.args.source.now) c.args.path.now c.args.at (seen_in c.in_ok-store.store) c.list_in.result
+    listed_at (g.S.Stores.places c.args.source.now) c.args.path.now c.args.at (seen_in c.in_ok-store.store) c.list_in.result
     c.in_ok-store.ensures.found c.list_in.ensures.listed
 
 pub returns-clause-fails : goal.returns-clause-fails
 returns-clause-fails g c =
-    not_listed_at (g.S.Stores.stands c.args.source.now) (g.S.Stores.leaves c.args.source.now) c.args.path.now (seen_in c.in_ok-store.store) c.list_in.result
+    not_listed_at (g.S.Stores.places c.args.source.now) c.args.path.now (seen_in c.in_ok-store.store) c.list_in.result
     c.in_ok-store.ensures.found c.list_in.ensures.fails

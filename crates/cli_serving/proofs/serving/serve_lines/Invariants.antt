@@ -7,7 +7,7 @@ use Rattle.cli_serving.proofs.serving.serve_lines.Given as goal
 abbrev pub invariant-loop : goal.invariant-loop
 invariant-loop g l = record {
   room : 2 ^ 20 ≤ vec_capacity l.line;
-  sound : g.K.Keeper.is_sound l.party.keeper → g.K.Keeper.is_sound l.initial.party.keeper;
+  clean : g.K.Keeper.is_clean l.party.keeper → g.K.Keeper.is_clean l.initial.party.keeper;
   served : HasServed (holding_of (g.S.Source.holds l.source)) (g.R.Read.remaining l.initial.input) (g.R.Read.remaining l.input) (g.W.Write.contents l.initial.out) (g.W.Write.contents l.out)
-      (MovesParty g.K.Keeper.is_sound g.K.Keeper.keeps l.initial.party l.party);
+      (MovesParty g.K.Keeper.is_clean g.K.Keeper.keeps l.initial.party l.party);
 }
