@@ -6,10 +6,14 @@ mod building;
 #[cfg(test)]
 mod constraints;
 #[cfg(test)]
+mod growing;
+#[cfg(test)]
 mod limits;
 #[cfg(test)]
 mod memory;
 #[cfg(test)]
 mod ranks;
+#[cfg(test)]
+mod reading;
 #[cfg(test)]
 mod steps;

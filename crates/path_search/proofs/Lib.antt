@@ -1,0 +1,5 @@
+mod Numbering
+mod Factoring
+mod Ordering
+mod Tails
+mod Answering

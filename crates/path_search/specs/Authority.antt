@@ -1,0 +1,41 @@
+-- What the code has at hand of an authority, and of the certificates below it.
+use Rattle.std.specs.Prelude.{◌≡◌, ◌↔◌, ℕ, List, ◌∷◌, Bool, true, map, slice_index_or}
+use Rattle.std.specs.Str.{bytes_eq}
+use Rattle.names.specs.declared.general.Form.TheVariants as F
+use Rattle.names.specs.GeneralName.{IsProcessed}
+use Rattle.names.specs.GeneralLayout.{GeneralName}
+use Rattle.names.specs.GeneralCoverage.{form_of_general_name}
+use Rattle.cert.specs.Certificate.{Certificate, seen_certificate}
+use Rattle.cert.specs.NameConstraints.{NameConstraints}
+use Rattle.path_conditions.specs.declared.form_set.FormSet.{FormSet}
+use Rattle.path_conditions.specs.NamesOf.{Permits, Excludes, Constrains}
+use Rattle.path_conditions.specs.Narrowing.{is_in_one_of}
+use Rattle.path_conditions.specs.Constraints.{Constraints, permits_name, has_number}
+use Rattle.path_search.specs.Search.{certificates_at, path_down_to}
+use Rattle.path_search.specs.declared.tail.Tail as code
+
+-- the certificates of a tail, in order down to its target
+abbrev pub seen_tail : code.Tail → List Certificate
+seen_tail tail = path_down_to (seen_certificate tail.target.now) (map seen_certificate tail.bag.now) tail.above.now
+
+-- those above the target, in order upward
+abbrev pub seen_above : code.Tail → List Certificate
+seen_above tail = certificates_at (seen_certificate tail.target.now) (map seen_certificate tail.bag.now) tail.above.now
+
+-- the certificate at a place of the bag; the target, if there is none
+abbrev pub seen_at : code.Tail → ℕ → Certificate
+seen_at tail place = slice_index_or (map seen_certificate tail.bag.now) place (seen_certificate tail.target.now)
+
+-- that certificate has the octets
+abbrev pub has_octets_at : code.Tail → List ℕ → ℕ → Bool
+has_octets_at tail octets place = bytes_eq (seen_at tail place).octets octets
+
+-- the certificate stands at the top of the tail
+abbrev pub IsTop : code.Tail → Certificate → Type 0
+IsTop tail c = (below : List Certificate) × (seen_tail tail ≡ c ∷ below)
+
+-- the constraints and the forms that are held answer for those that a certificate carries
+pub record AnswersFor (carried : NameConstraints) (held : Constraints) (forms : FormSet) : Type 0 where
+  pub permits : (name : GeneralName) → IsProcessed (form_of_general_name name) → ((permits_name held name ≡ true) ↔ Permits carried name)
+  pub excludes : (name : GeneralName) → ((is_in_one_of held.excluded name ≡ true) ↔ Excludes carried name)
+  pub constrains : (number : ℕ) → ((has_number forms number ≡ true) ↔ Constrains carried (F.Other number))

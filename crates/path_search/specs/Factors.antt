@@ -1,0 +1,116 @@
+-- What a valid path is made of, seen from its target upward: what each certificate meets alone, and what each meets with those below it
+-- (RFC 5280, 6.1.3 to 6.1.5), as a path meets it that is built in the forward direction (RFC 4158).
+use Rattle.std.specs.Prelude.{◌≡◌, ◌≢◌, ◌↔◌, ◌≤◌, ◌-◌, ◌++◌, ℕ, ℤ, List, [], ◌∷◌, Option, Some, false, not, Contains, count_by, length, take}
+use Rattle.std.specs.List.{AllByRecursion}
+use Rattle.names.specs.declared.general.Form.TheVariants as F
+use Rattle.names.specs.GeneralName.{IsProcessed}
+use Rattle.names.specs.GeneralLayout.{GeneralName}
+use Rattle.names.specs.GeneralCoverage.{form_of_general_name}
+use Rattle.cert.specs.Certificate.{Certificate, is_self_issued}
+use Rattle.cert.specs.NameConstraints.{NameConstraints}
+use Rattle.path_conditions.specs.NamesOf.{names_of, BearsForm, Permits, Excludes, Constrains}
+use Rattle.path_conditions.specs.CertificateConditions.{HasBegun, HasNotExpired, IsCa, path_length_of, MaySignCertificates, NeedsNoPolicyTree, CriticalExtensionsAreKnown, AllowsPurpose}
+use Rattle.path.specs.Conditions.{IsNamedByIssuer, IsSignedByIssuer}
+use Rattle.path.specs.Query.{Accepts, Query}
+use Rattle.path.specs.Validity.{IsServed, IsValidPath}
+
+-- what each certificate of a path meets alone
+pub record IsRightAlone (moment : ℤ) (c : Certificate) : Type 0 where
+  pub begun : HasBegun c moment
+  pub not_expired : HasNotExpired c moment
+  pub policy : NeedsNoPolicyTree c
+  pub known : CriticalExtensionsAreKnown c
+
+-- the target, which is the last one
+pub record IsRightAsTarget (moment : ℤ) (purpose : Option (List ℕ)) (c : Certificate) : Type 0 where
+  pub alone : IsRightAlone moment c
+  pub allowed : AllowsPurpose c purpose
+
+-- each other one, an authority
+pub record IsRightAsAuthority (moment : ℤ) (c : Certificate) : Type 0 where
+  pub alone : IsRightAlone moment c
+  pub ca : IsCa c
+  pub may_sign : MaySignCertificates c
+
+-- the issuer's name is in the certificate, and the issuer's key accepts its signature (6.1.3 (a) (1) and (4))
+pub record Issues (accepts : Accepts) (issuer c : Certificate) : Type 0 where
+  pub named : IsNamedByIssuer c issuer.subject
+  pub signed : IsSignedByIssuer accepts c issuer.key_info.value.octets
+
+-- the issuer issues the first of certificates that are in order down to a target
+abbrev pub IssuesFirst : Accepts → Certificate → List Certificate → Type 0
+IssuesFirst accepts issuer [] = ⊥
+IssuesFirst accepts issuer (c ∷ below) = Issues accepts issuer c
+
+-- the constraints permit each name of a processed form (6.1.3 (b))
+abbrev pub PermitNames : NameConstraints → Certificate → Type 0
+PermitNames constraints c =
+    (name : GeneralName) → Contains (names_of c) name → IsProcessed (form_of_general_name name) → Permits constraints name
+
+-- they exclude no name (6.1.3 (c))
+abbrev pub ExcludeNoName : NameConstraints → Certificate → Type 0
+ExcludeNoName constraints c = (name : GeneralName) → Contains (names_of c) name → ¬ Excludes constraints name
+
+-- they constrain no form that is not processed and that a name has (4.2.1.10)
+abbrev pub ConstrainNoOtherForm : NameConstraints → Certificate → Type 0
+ConstrainNoOtherForm constraints c = (number : ℕ) → BearsForm c number → ¬ Constrains constraints (F.Other number)
+
+-- the constraints let the names of the certificate pass
+pub record AdmitNames (constraints : NameConstraints) (c : Certificate) : Type 0 where
+  pub permitted : PermitNames constraints c
+  pub not_excluded : ExcludeNoName constraints c
+  pub processed : ConstrainNoOtherForm constraints c
+
+-- or the certificate is self-issued
+abbrev pub AdmitNamesOfOther : NameConstraints → Certificate → Type 0
+AdmitNamesOfOther constraints c = is_self_issued c ≡ false → AdmitNames constraints c
+
+-- the constraints let the names pass of a target, and of each certificate above it that is not self-issued
+abbrev pub AdmitNamesBelow : NameConstraints → List Certificate → Type 0
+AdmitNamesBelow constraints [] = Unit {0}
+AdmitNamesBelow constraints (target ∷ []) = AdmitNames constraints target
+AdmitNamesBelow constraints (c ∷ next ∷ below) =
+    AdmitNamesOfOther constraints c × AdmitNamesBelow constraints (next ∷ below)
+
+-- how many certificates above the target are not self-issued
+abbrev pub others_above_target : List Certificate → ℕ
+others_above_target certificates = count_by (λ c. not (is_self_issued c)) (take (length certificates - 1) certificates)
+
+-- if the certificate has a path length, it allows as many (6.1.4 (l) and (m))
+abbrev pub AllowsLength : Certificate → List Certificate → Type 0
+AllowsLength c below = (most : ℕ) → path_length_of c ≡ Some most → others_above_target below ≤ most
+
+-- no certificate has the octets (a choice of the profile)
+abbrev pub Lacks : List ℕ → List Certificate → Type 0
+Lacks octets certificates = AllByRecursion (λ c. c.octets ≢ octets) certificates
+
+-- the certificate is right above others that are in order down to a target
+pub record IsRightAbove (accepts : Accepts) (moment : ℤ) (c : Certificate) (below : List Certificate) : Type 0 where
+  pub authority : IsRightAsAuthority moment c
+  pub issues : IssuesFirst accepts c below
+  pub different : Lacks c.octets below
+  pub length : AllowsLength c below
+  pub names : AdmitNamesBelow c.extensions.name_constraints below
+
+-- certificates in order down to a target are right, whatever stands above them
+abbrev pub AreRight : Accepts → ℤ → Option (List ℕ) → List Certificate → Type 0
+AreRight accepts moment purpose [] = ⊥
+AreRight accepts moment purpose (target ∷ []) = IsRightAsTarget moment purpose target
+AreRight accepts moment purpose (c ∷ next ∷ below) =
+    IsRightAbove accepts moment c (next ∷ below) × AreRight accepts moment purpose (next ∷ below)
+
+-- laws
+
+-- a path is valid exactly if it is served, its anchor issues its first certificate, and its certificates are right
+abbrev pub ValidPathFactors : Type 0
+ValidPathFactors =
+    (accepts : Accepts) (q : Query) →
+    IsValidPath accepts q
+    ↔ (IsServed q × IssuesFirst accepts q.anchor q.certificates × AreRight accepts q.moment q.purpose q.certificates)
+
+-- the last certificates of a valid path are right
+abbrev pub TailIsRight : Type 0
+TailIsRight =
+    (accepts : Accepts) (q : Query) (above below : List Certificate) →
+    IsValidPath accepts q → q.certificates ≡ above ++ below → below ≢ [] →
+    AreRight accepts q.moment q.purpose below
