@@ -37,7 +37,8 @@
 //!    `at_hand::questions` tells beforehand what the verifier may be asked.
 //!
 //! 6. **Compare two parties** ([`compare`]). If both judge signatures alike and hold the same newest statements for the path, their
-//!    verdicts are equal, however the statements came: [`node_laws`] says so of the calls above.
+//!    verdicts are equal, however the statements came: [`node_laws`] says so of what the calls above answered, and [`call_laws`] of each
+//!    call that it is among the events that reached the party.
 //!
 //! Calls that take memory say so in their errors, and no call stops the process. The modules have the parts.
 #![tactic(auto)]
@@ -71,7 +72,7 @@ pub use store_sql::StoreFault;
 
 pub use relying::{
     Comparison, DeliverAnswer, DeliverFault, Event, Fault, Node, ReopenFault, RunFault, Verdict,
-    compare, node_laws, read_statement, run_laws,
+    call_laws, compare, node_laws, read_statement, run_laws,
 };
 pub use relying_agreement::{
     agreement_examples, agreement_laws, comparison_laws, taking_laws, verdict_laws,
@@ -135,5 +136,5 @@ pub mod at_hand {
 /// What a store holds, and how a connection is taken for a store and looked up.
 pub mod stores {
     pub use statements_facts::{CrlAnswer, OcspAnswer};
-    pub use store::{adopt, look_up_crl, look_up_ocsp, take_over};
+    pub use store::{adopt, crash_laws, look_up_crl, look_up_ocsp, take_over};
 }
