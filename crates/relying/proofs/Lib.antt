@@ -6,3 +6,4 @@ mod Progress
 mod Agreeing
 mod Agreed
 mod Calling
+mod Surviving

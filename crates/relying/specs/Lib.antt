@@ -3,6 +3,7 @@ pub mod Delivery
 pub mod Asking
 pub mod Restart
 pub mod Leaving
+pub mod Surviving
 pub mod Run
 pub mod Stopping
 pub mod Never

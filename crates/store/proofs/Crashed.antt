@@ -1,14 +1,15 @@
 -- What is opened on the files that a crash left.
-use Rattle.std.proofs.Common.{◌≡◌, ◌⊎◌, ap, sym, subst, ◌∙◌, inl, inr}
+use Rattle.std.proofs.Common.{◌≡◌, List, [], ◌∷◌, ap, sym, subst, ◌∙◌, inl, inr}
 use Rattle.std.proofs.Math.Logic.{∥∥₁_map}
 use Rattle.sqlite_disk.specs.declared.Disk.{Ghosts}
 use Rattle.sqlite.specs.Effect.{Database}
 use Rattle.sqlite.specs.Files.{file_state}
 use Rattle.sqlite.proofs.Theorems.{next_run}
 use Rattle.store_sql.specs.Tables.{store_schema}
+use Rattle.statements_facts.specs.Statement.{Holdings}
 use Rattle.store_maps.specs.Held.{IsStoreOf, AreTreesOf}
 use Rattle.store_taking.specs.Delivery.{MayLeaveAfterCrash}
-use Rattle.store.specs.Crash.{OpenShowsWhatCrashLeft, StoreTreesAreAdopted, StoreTreesAreStore, TakenStoreHoldsWhatFilesHeld, TakenStoreSurvivesCrash}
+use Rattle.store.specs.Crash.{IsOneOf, OpenShowsWhatCrashLeft, StoreTreesAreAdopted, StoreTreesAreStore, TakenStoreHoldsWhatFilesHeld, TakenStoreSurvivesCrash}
 use Rattle.store.proofs.Again.{store_schema_of_trees}
 
 pub trees_are_store : {D : Type 0} {g : Ghosts D} → StoreTreesAreStore D g
@@ -35,9 +36,10 @@ shows_what_crash_left old image conn after found opened =
     (λ may. subst (MayLeaveAfterCrash (file_state old)) (ap (λ (d : Database). d.trees) (sym opened.0.clean)) may)
 
 pub survives_crash : {D E : Type 0} {g : Ghosts D} {h : Ghosts E} → TakenStoreSurvivesCrash D E g h
-survives_crash old image store one other after leaves taken clean =
-    ∥∥₁_map (shows_what_crash_left old image taken.conn after taken.found taken.opened) (λ may. holds (leaves (file_state taken.conn).now.trees may))
+survives_crash old image store left after leaves taken clean =
+    ∥∥₁_map (shows_what_crash_left old image taken.conn after taken.found taken.opened) (λ may. hold left (leaves (file_state taken.conn).now.trees may))
   where
-    holds : AreTreesOf one (file_state taken.conn).now.trees ⊎ AreTreesOf other (file_state taken.conn).now.trees → IsStoreOf (file_state store).now one ⊎ IsStoreOf (file_state store).now other
-    holds (inl of) = inl (trees_are_adopted taken.conn store one taken.opened of taken.unchanged clean)
-    holds (inr of) = inr (trees_are_adopted taken.conn store other taken.opened of taken.unchanged clean)
+    hold : (left : List Holdings) → IsOneOf (λ held. AreTreesOf held (file_state taken.conn).now.trees) left → IsOneOf (λ held. IsStoreOf (file_state store).now held) left
+    hold [] none = none
+    hold (held ∷ others) (inl of) = inl (trees_are_adopted taken.conn store held taken.opened of taken.unchanged clean)
+    hold (held ∷ others) (inr of) = inr (hold others of)

@@ -1,5 +1,5 @@
 -- What a crash leaves of a store is a store.
-use Rattle.std.specs.Prelude.{◌⊎◌}
+use Rattle.std.specs.Prelude.{◌⊎◌, List, [], ◌∷◌}
 use Rattle.sqlite_disk.specs.declared.Disk.{Ghosts}
 use Rattle.sqlite_wal.specs.Recovery.{Image}
 use Rattle.sqlite_store.specs.declared.store.FileStore.{FileStore}
@@ -56,12 +56,18 @@ OpenShowsWhatCrashLeft D E g h =
     FindsIn image (file_state conn) → IsOpened conn →
     ∥ MayLeaveAfterCrash (file_state old) (file_state conn).now.trees ∥₁
 
--- So where the crash may leave the trees of a store that holds the one or the other, the store that is taken from the files holds the one or
--- the other. Of a delivery that did not end these are what was held before it, and what would be held after it; else they are the same.
+-- it is one of those of the list
+abbrev pub IsOneOf : (Holdings → Type 0) → List Holdings → Type 0
+IsOneOf P [] = ⊥
+IsOneOf P (held ∷ others) = P held ⊎ IsOneOf P others
+
+-- So where the crash may leave the trees of a store that holds one of these, the store that is taken from the files holds one of them. Of a
+-- delivery that did not end these are what was held before it, and what would be held after it; of a run `left_by_run` of `relying` lists
+-- them.
 abbrev pub TakenStoreSurvivesCrash : (D E : Type 0) → Ghosts D → Ghosts E → Type 0
 TakenStoreSurvivesCrash D E g h =
-    (old : Held (FileStore D g)) (image : Image) (store : Held (FileStore E h)) (one other : Holdings) →
+    (old : Held (FileStore D g)) (image : Image) (store : Held (FileStore E h)) (left : List Holdings) →
     IsLeftByCrash old image →
-    ((trees : Trees) → MayLeaveAfterCrash (file_state old) trees → AreTreesOf one trees ⊎ AreTreesOf other trees) →
+    ((trees : Trees) → MayLeaveAfterCrash (file_state old) trees → IsOneOf (λ held. AreTreesOf held trees) left) →
     IsTakenFrom image store → HasCleanDisk (file_state store) →
-    ∥ IsStoreOf (file_state store).now one ⊎ IsStoreOf (file_state store).now other ∥₁
+    ∥ IsOneOf (λ held. IsStoreOf (file_state store).now held) left ∥₁

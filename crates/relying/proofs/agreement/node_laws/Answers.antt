@@ -1,3 +1,4 @@
+use Rattle.relying.proofs.Surviving.{node_survives_crash}
 use Rattle.relying.proofs.Agreed.{node_agrees_with_party, node_is_exact, nodes_agree}
 use Rattle.relying.proofs.agreement.node_laws.Goals as goal
 
@@ -9,3 +10,6 @@ returns-clause-party g c = node_agrees_with_party c.verdict_laws.ensures.one c.a
 
 pub returns-clause-exact : goal.returns-clause-exact
 returns-clause-exact g c = node_is_exact c.verdict_laws.ensures.one c.verdict_laws.ensures.valid
+
+pub returns-clause-survives : goal.returns-clause-survives
+returns-clause-survives g c = node_survives_crash c.crash_laws.ensures.survives
