@@ -3,3 +3,17 @@ mod Factoring
 mod Ordering
 mod Tails
 mod Answering
+mod Rising
+mod Listing
+mod Exploring
+mod Numbers
+mod Chaining
+mod Reaching
+mod Whole
+mod Descending
+mod Picking
+mod ByNumber
+mod Queues
+mod Walking
+mod Standing
+mod Walks

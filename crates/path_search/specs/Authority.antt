@@ -12,6 +12,7 @@ use Rattle.path_conditions.specs.NamesOf.{Permits, Excludes, Constrains}
 use Rattle.path_conditions.specs.Narrowing.{is_in_one_of}
 use Rattle.path_conditions.specs.Constraints.{Constraints, permits_name, has_number}
 use Rattle.path_search.specs.Search.{certificates_at, path_down_to}
+use Rattle.path_search.specs.Factors.{AdmitNamesBelow, AllowsLength, Lacks}
 use Rattle.path_search.specs.declared.tail.Tail as code
 
 -- the certificates of a tail, in order down to its target
@@ -39,3 +40,9 @@ pub record AnswersFor (carried : NameConstraints) (held : Constraints) (forms : 
   pub permits : (name : GeneralName) → IsProcessed (form_of_general_name name) → ((permits_name held name ≡ true) ↔ Permits carried name)
   pub excludes : (name : GeneralName) → ((is_in_one_of held.excluded name ≡ true) ↔ Excludes carried name)
   pub constrains : (number : ℕ) → ((has_number forms number ≡ true) ↔ Constrains carried (F.Other number))
+
+-- the certificate fits above others that are in order down to a target: what it meets with them, besides that it issued the first
+pub record FitsAbove (c : Certificate) (below : List Certificate) : Type 0 where
+  pub different : Lacks c.octets below
+  pub length : AllowsLength c below
+  pub names : AdmitNamesBelow c.extensions.name_constraints below

@@ -1,5 +1,16 @@
 pub mod Search
 pub mod Factors
 pub mod Authority
+pub mod Links
+pub mod Answer
+pub mod Lists
+pub mod Frontier
+pub mod Keys
+pub mod Naming
+pub mod Wanting
+pub mod Asking
+pub mod Queue
+pub mod Walk
+pub mod Paths
 pub use Rattle.path.specs.Query
 pub use Rattle.path.specs.Validity

@@ -4,7 +4,7 @@ ghost use Rattle.std.specs.Prelude.{◌≡◌, ◌↔◌, IfOk, IsOk, IsTrue};
 ghost use Rattle.std.specs.List.{AllByRecursion};
 ghost use Rattle.cert.specs.Certificate.{seen_certificate};
 ghost use Rattle.path_conditions.specs.Constraints.{HasNoProcessed};
-ghost use Rattle.path_search.specs.Authority.{seen_above, seen_tail};
+ghost use Rattle.path_search.specs.Authority.{FitsAbove, seen_above, seen_tail};
 ghost use Rattle.path_search.specs.Factors.{AdmitNames, AdmitNamesOfOther, AdmitNamesBelow, AllowsLength, ConstrainNoOtherForm, ExcludeNoName, IsRightAbove, PermitNames};
 
 use crate::alone::{is_right_as_authority, issues};
@@ -133,6 +133,15 @@ impl<'p, 'c> Authority<'p, 'c> {
         }
     }
 
+    /// Whether it meets with the certificates of the tail what it has to, besides that it issued the top.
+    pub fn fits_above(&self, tail: &Tail<'_, '_>) -> bool
+        ensures { IsTrue result ↔ FitsAbove self.now (seen_tail tail.now) }
+    {
+        tail.lacks(self.certificate.octets)
+            && self.allows_length(tail)
+            && self.admits_names_below(tail)
+    }
+
     /// Whether it is right above the tail (RFC 5280, 6.1.3 to 6.1.5). The verifier is asked last, and once at most.
     pub fn is_right_above<V: Verifier>(
         &self,
@@ -144,9 +153,7 @@ impl<'p, 'c> Authority<'p, 'c> {
             ↔ IsRightAbove (V.accepts verifier.now) moment self.now (seen_tail tail.now) }
     {
         is_right_as_authority(self.certificate, moment)
-            && tail.lacks(self.certificate.octets)
-            && self.allows_length(tail)
-            && self.admits_names_below(tail)
+            && self.fits_above(tail)
             && issues(verifier, self.certificate, tail.top())
     }
 }

@@ -1,0 +1,19 @@
+use Rattle.std.proofs.Common.{◌↔◌, IsTrue, arith, subst}
+use Rattle.cert.specs.Certificate.{Certificate, seen_certificate}
+use Rattle.path_search.specs.Answer.{seen_search}
+use Rattle.path_search.specs.Asking.{IsIssuedByAnchor}
+use Rattle.path_search.specs.Factors.{Issues}
+use Rattle.path_search.proofs.Picking.{picked_more}
+use Rattle.path_search.proofs.questions.pick_anchors.Goals as goal
+
+pub loop-place-preserved : goal.loop-place-preserved
+loop-place-preserved g c =
+    let accepts = g.V.Verifier.accepts c.args.verifier.now in
+    let certificate = seen_certificate c.args.certificate.now in
+    let answer = c.in-Some.ensures in (
+      picked_more (IsIssuedByAnchor accepts (seen_search c.args.search.now) certificate) c.args.places.now c.loop-place.place-index c.loop-place-test.true
+          c.loop-place.picked.items c.add_if.new.picked.items c.in-Some.issued
+          (subst (λ (anchor : Certificate). IsTrue c.in-Some.issued ↔ Issues accepts anchor certificate) c.anchor_at.ensures answer.answer)
+          c.in_ok-add_if.ensures c.loop-place.invariant.0,
+      omega (arith, answer.spent, c.loop-place.invariant.1),
+    )

@@ -1,0 +1,15 @@
+-- Keys of names, in order.
+use Rattle.std.specs.Prelude.{ℕ, List, Bool, count_by}
+use Rattle.std.specs.Global.{Vec}
+use Rattle.std.specs.Ordering.{nat_cmp, is_lt}
+use Rattle.std.specs.Cmp.Lexicographic.{slice_cmp}
+
+abbrev pub is_less : List ℕ → List ℕ → Bool
+is_less one other = is_lt (slice_cmp nat_cmp one other)
+
+abbrev pub comes_before : Vec ℕ → Vec ℕ → Bool
+comes_before one other = is_less one.items other.items
+
+-- how many of the keys come before another
+abbrev pub number_of : List (Vec ℕ) → List ℕ → ℕ
+number_of keys key = count_by (λ (other : Vec ℕ). is_less other.items key) keys
