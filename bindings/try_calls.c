@@ -123,6 +123,28 @@ static void try_null_pointers(void)
     EXPECT(x509check_reason_name(X509CHECK_INVALID, 4, NULL, 0) == 7);
 }
 
+static struct x509check_speaking speaks(struct x509check_text certificate, uint32_t kind, const char *identity)
+{
+    return x509check_speaks_for(certificate.octets, certificate.length, kind, (const uint8_t *)identity, strlen(identity));
+}
+
+/* The leaf has the dNSName www.example (RFC 9525, 6.3). */
+static void try_identities(void)
+{
+    struct x509check_speaking refused;
+
+    EXPECT(speaks(leaf, X509CHECK_HOST, "WWW.example.").speaks == X509CHECK_SPEAKS);
+    EXPECT(speaks(leaf, X509CHECK_HOST, "other.example").speaks == X509CHECK_DOES_NOT_SPEAK);
+    EXPECT(speaks(leaf, X509CHECK_ADDRESS, "1234").speaks == X509CHECK_DOES_NOT_SPEAK);
+    EXPECT(speaks(leaf, X509CHECK_MAILBOX, "a@www.example").speaks == X509CHECK_DOES_NOT_SPEAK);
+    refused = speaks(leaf, X509CHECK_HOST, "a..b");
+    EXPECT(refused.speaks == X509CHECK_IDENTITY_REFUSED && refused.fault == 2 && refused.offset == 2);
+    refused = speaks(leaf, 0, "www.example");
+    EXPECT(refused.speaks == X509CHECK_IDENTITY_REFUSED && refused.fault == 8 && refused.offset == 0);
+    refused = speaks(empty, X509CHECK_HOST, "www.example");
+    EXPECT(refused.speaks == X509CHECK_CERTIFICATE_REFUSED && refused.fault == X509CHECK_FAULT_DER && refused.der_fault == 4);
+}
+
 /* The leaf is for id-kp-serverAuth, and not for id-kp-clientAuth (RFC 5280, 4.2.1.12). */
 static void try_purposes(void)
 {
@@ -255,6 +277,7 @@ int main(void)
     try_texts_without_octets(nothing);
     try_texts_without_octets(empty);
     try_null_pointers();
+    try_identities();
     try_purposes();
     try_places();
     try_questions();

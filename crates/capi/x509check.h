@@ -54,6 +54,17 @@ extern "C" {
 #define X509CHECK_CERTIFICATES 1
 #define X509CHECK_STATEMENTS 2
 
+/* What kind of identity a text is, for x509check_speaks_for. */
+#define X509CHECK_HOST 1
+#define X509CHECK_ADDRESS 2
+#define X509CHECK_MAILBOX 3
+
+/* Whether a certificate speaks for an identity. No call answers 0, so a struct of zeros says nothing. */
+#define X509CHECK_SPEAKS 1
+#define X509CHECK_DOES_NOT_SPEAK 2
+#define X509CHECK_IDENTITY_REFUSED 3
+#define X509CHECK_CERTIFICATE_REFUSED 4
+
 /* The bits of key_usage (RFC 5280, 4.2.1.3). */
 #define X509CHECK_DIGITAL_SIGNATURE (1u << 0)
 #define X509CHECK_NON_REPUDIATION (1u << 1)
@@ -173,6 +184,14 @@ struct x509check_asked {
     size_t count; /* all questions, whether there was room for them or not; 0 if a certificate or a statement is refused */
 };
 
+/* Whether a certificate speaks for an identity, or why one of the two is refused. What has no number there is 0. */
+struct x509check_speaking {
+    uint32_t speaks;    /* X509CHECK_SPEAKS and so on */
+    uint32_t fault;     /* of the certificate; of an identity the number of its own rule, 1 to 8 */
+    uint32_t der_fault; /* the rule of DER that is broken, if the fault is X509CHECK_FAULT_DER */
+    size_t offset;      /* of the value at fault in the certificate, or of the octet in the identity */
+};
+
 /* The layout of the answers on x86-64, as the library was built with it. */
 #ifdef __cplusplus
 #define X509CHECK_STANDS_AT(type, field, at) static_assert(offsetof(struct type, field) == (at), #field)
@@ -241,6 +260,10 @@ X509CHECK_STANDS_AT(x509check_signature_question, fingerprint, 128);
 X509CHECK_HAS_SIZE(x509check_signature_question, 160);
 X509CHECK_STANDS_AT(x509check_asked, count, 32);
 X509CHECK_HAS_SIZE(x509check_asked, 40);
+X509CHECK_STANDS_AT(x509check_speaking, fault, 4);
+X509CHECK_STANDS_AT(x509check_speaking, der_fault, 8);
+X509CHECK_STANDS_AT(x509check_speaking, offset, 16);
+X509CHECK_HAS_SIZE(x509check_speaking, 24);
 #undef X509CHECK_STANDS_AT
 #undef X509CHECK_HAS_SIZE
 
@@ -254,6 +277,18 @@ struct x509check_certificate x509check_read_certificate(const uint8_t *octets, s
 
 /* The version of the library, as a number in the form of X509CHECK_VERSION_NUMBER, which is that of this header. */
 uint32_t x509check_version(void);
+
+/* Whether the certificate speaks for an identity (RFC 9525): a host by its DNS name, as A-labels; an IP address of 4 or 16 octets; or a
+ * mailbox, `local@host`. One of the names of its subjectAltName has to match: a dNSName label by label without regard to case, or by a
+ * wildcard that is its whole first label and stands for one; an iPAddress by its octets; an rfc822Name by its local part, octet by octet, and
+ * its host without regard to case. Common names are not looked at, and public suffixes are not known: `*.com` matches `example.com`. Whether
+ * the certificate can be trusted is not asked here.
+ *
+ * The identity is read first. If it is refused, `fault` is 1 for an octet that no host has, 2 for a label that is empty or too long, 3 for
+ * a host that is too long, 4 for one whose last label is a number, 5 for no address, 6 for no local part, 7 for a mailbox without a host, and
+ * 8 for a kind that is none; `offset` is that of the octet. Memory is taken as by x509check_read_certificate. */
+struct x509check_speaking x509check_speaks_for(const uint8_t *certificate, size_t certificate_length, uint32_t kind,
+                                               const uint8_t *identity, size_t identity_length);
 
 /* Writes 32 octets to `fingerprint`: the SHA-256 of four texts, each behind its length in 8 octets, the highest first. The texts
  * are what a verifier of signatures is asked: the algorithm identifier and the subjectPublicKeyInfo, each the whole encoding, the

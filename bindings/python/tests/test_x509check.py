@@ -1,12 +1,15 @@
 """Certificates, verdicts and questions over examples/authority."""
 
 import datetime
+import ipaddress
 import os
 import threading
 import unittest
 
 import x509check
-from x509check import Certificate, Extensions, Fault, Judgement, Reason, Result, RevocationReason, Text, Verdict
+from x509check import (
+    BadReference, Certificate, Extensions, Fault, Judgement, Reason, ReferenceRule, Result, RevocationReason, Text, Verdict,
+)
 
 from .authority import (
     CONSTRAINTS, DECEMBER, DELEGATE, GOOD_PRINTS, LEAF, MIDDLE, MIDDLE_LIST, RESPONSE, REVOKING_LIST, ROOT, ROOT_LIST, octets_of,
@@ -29,6 +32,28 @@ class Certificates(unittest.TestCase):
         self.assertEqual(leaf.extensions.alternative_names, 1)
         self.assertEqual(leaf.extensions.purposes, 1)
         self.assertEqual(leaf.issuer, Certificate.from_der(MIDDLE).subject)
+
+    def test_speaks_for_its_host_alone(self):
+        leaf = Certificate.from_der(LEAF)
+        for reference, said in (
+            ("www.example", True), ("WWW.Example.", True), ("example", False), ("a.www.example", False), ("192.0.2.1", False),
+            (ipaddress.ip_address("2001:db8::1"), False), ("who@www.example", False),
+        ):
+            self.assertIs(leaf.speaks_for(reference), said, reference)
+        self.assertFalse(Certificate.from_der(MIDDLE).speaks_for("middle"), "a common name is no host")
+
+    def test_references_that_are_none(self):
+        leaf = Certificate.from_der(LEAF)
+        for reference, rule, offset in (
+            ("", ReferenceRule.LABEL, 0), ("a..example", ReferenceRule.LABEL, 2), ("*.example", ReferenceRule.HOST_OCTET, 0),
+            ("b\u00fccher.example", ReferenceRule.HOST_OCTET, 1), ("1.2.3.400", ReferenceRule.NUMBER, 6), ("fe80::1%lo", ReferenceRule.HOST_OCTET, 4),
+            ("@example", ReferenceRule.LOCAL_PART, 0), ("a@", ReferenceRule.LABEL, 2), ("a@b c", ReferenceRule.HOST_OCTET, 3),
+        ):
+            with self.assertRaises(BadReference, msg=reference) as raised:
+                leaf.speaks_for(reference)
+            self.assertEqual((raised.exception.rule, raised.exception.offset), (rule, offset), reference)
+        with self.assertRaises(TypeError):
+            leaf.speaks_for(b"www.example")
 
     def test_extensions_of_an_authority(self):
         extensions = Certificate.from_der(MIDDLE).extensions

@@ -22,13 +22,14 @@ from ._names import Identity
 from ._pem import Kind, Loaded, NotLoaded
 from ._program import ProgramMissing, explain
 from ._questions import SignatureQuestion, questions
+from ._reference import BadReference, ReferenceRule
 from ._verdicts import NotValid, Reason, Result, RevocationReason, Verdict, validate
 from .signatures import Judgement, JudgeMissing, Opinion, Policy, judge, judge_all, opinions
 
 __version__ = "0.10.0"
 
 __all__ = [
-    "Certificate", "Extensions", "Fault", "Identity", "JudgeMissing", "Judgement", "Kind", "LibraryMissing", "Loaded", "NoPath",
-    "NotLoaded", "NotValid", "Opinion", "Policy", "ProgramMissing", "PURPOSES", "SignatureQuestion", "Reason", "Result", "RevocationReason", "Text",
-    "Verdict", "check", "explain", "fingerprint", "judge", "judge_all", "load", "opinions", "path_to", "questions", "validate",
+    "BadReference", "Certificate", "Extensions", "Fault", "Identity", "JudgeMissing", "Judgement", "Kind", "LibraryMissing", "Loaded",
+    "NoPath", "NotLoaded", "NotValid", "Opinion", "Policy", "ProgramMissing", "PURPOSES", "SignatureQuestion", "Reason", "ReferenceRule",
+    "Result", "RevocationReason", "Text", "Verdict", "check", "explain", "fingerprint", "judge", "judge_all", "load", "opinions", "path_to", "questions", "validate",
 ]

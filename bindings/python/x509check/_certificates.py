@@ -11,6 +11,7 @@ from ._faults import refusal
 from ._library import PARTS, ExtensionFields, library
 from ._names import Identity, name_text
 from ._pem import Encoded, Loaded
+from ._reference import Reference, speaks_for
 
 _EPOCH = datetime.datetime(1970, 1, 1, tzinfo=datetime.timezone.utc)
 # The bits of keyUsage (RFC 5280, 4.2.1.3), from bit 0 on.
@@ -143,6 +144,15 @@ class Certificate(Encoded):
     def identity(self) -> Identity:
         """Which certificate it is: subject, serial number and SHA-256."""
         return Identity(name_text(self.subject), self.serial.hex(), hashlib.sha256(self.octets).hexdigest())
+
+    def speaks_for(self, reference: Reference) -> bool:
+        """Whether a name of its subjectAltName matches a host (``mx.example.org``), an IP address, or a mailbox (``user@example.org``), as
+        RFC 9525 and RFC 5280 (7.5) say. A wildcard is the whole first label of a dNSName, and stands for one label. Common names are not
+        looked at, and public suffixes are not known: ``*.com`` matches ``example.com``.
+
+        Raises BadReference for a text that is none of the three. Whether the certificate can be trusted is not asked here.
+        """
+        return speaks_for(self.octets, reference)
 
     def fingerprint_under(self, issuer: "Certificate") -> bytes:
         """The fingerprint of its signature, as one by the issuer's key."""

@@ -115,6 +115,10 @@ class AskedAnswer(ctypes.Structure):
     _fields_ = [("refusal", Refusal), ("count", ctypes.c_size_t)]
 
 
+class SpeakingAnswer(ctypes.Structure):
+    _fields_ = [*((name, ctypes.c_uint32) for name in ("speaks", "fault", "der_fault")), ("offset", ctypes.c_size_t)]
+
+
 def _opened() -> ctypes.CDLL:
     """The shared object that X509CHECK_LIBRARY names; else the one beside this file, the repository's, the installed, or the system's."""
     named = os.environ.get("X509CHECK_LIBRARY")
@@ -147,6 +151,7 @@ def _typed(opened: ctypes.CDLL) -> ctypes.CDLL:
         ("x509check_read_certificate", text, CertificateAnswer),
         ("x509check_fingerprint", [*(text * 4), ctypes.c_char_p], None),
         ("x509check_fault_name", [ctypes.c_uint32, *text], ctypes.c_size_t),
+        ("x509check_speaks_for", [*text, ctypes.c_uint32, *text], SpeakingAnswer),
         ("x509check_questions", [*asked, ctypes.POINTER(QuestionFields), ctypes.c_size_t], AskedAnswer),
         ("x509check_validate", [*asked, *text], VerdictAnswer),
     ):

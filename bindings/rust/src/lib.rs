@@ -43,6 +43,7 @@ mod judge;
 mod library;
 mod name;
 mod query;
+mod reference;
 mod verdict;
 
 pub use answer::{Answer, NotValid};
@@ -53,4 +54,5 @@ pub use judge::{
     judge_by, Fingerprints, Judge, JudgeBy, Judgement, SignatureQuestion, SignatureQuestions,
 };
 pub use query::Query;
+pub use reference::{Reference, ReferenceRule, SpeakingError};
 pub use verdict::{Reason, Verdict};

@@ -172,6 +172,14 @@ pub(crate) struct AskedAnswer {
     pub count: usize,
 }
 
+#[repr(C)]
+pub(crate) struct SpeakingAnswer {
+    pub speaks: u32,
+    pub fault: u32,
+    pub der_fault: u32,
+    pub offset: usize,
+}
+
 /// The room that each name fits into.
 pub(crate) const NAME_ROOM: usize = 32;
 
@@ -191,6 +199,13 @@ extern "C" {
         fingerprint: *mut u8,
     );
     pub(crate) fn x509check_sha256(octets: *const u8, length: usize, digest: *mut u8);
+    pub(crate) fn x509check_speaks_for(
+        certificate: *const u8,
+        certificate_length: usize,
+        kind: u32,
+        identity: *const u8,
+        identity_length: usize,
+    ) -> SpeakingAnswer;
     pub(crate) fn x509check_fault_name(fault: u32, name: *mut c_char, room: usize) -> usize;
     pub(crate) fn x509check_questions(
         query: *const QueryFields,
@@ -227,5 +242,6 @@ mod tests {
         assert_eq!(size_of::<Place>(), 32);
         assert_eq!(size_of::<QuestionFields>(), 160);
         assert_eq!(size_of::<AskedAnswer>(), 40);
+        assert_eq!(size_of::<SpeakingAnswer>(), 24);
     }
 }

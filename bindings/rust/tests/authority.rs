@@ -4,7 +4,8 @@ use std::cell::RefCell;
 use std::fs;
 use x509check::{
     fingerprint, judge_by, sha256, Answer, Certificate, Error, Extensions, Fault, Fingerprints,
-    Judge, Judgement, NotValid, Query, Reason, SignatureQuestion, Text, Verdict,
+    Judge, Judgement, NotValid, Query, Reason, Reference, ReferenceRule, SignatureQuestion,
+    SpeakingError, Text, Verdict,
 };
 
 /// 2026-12-01T00:00:00Z
@@ -648,4 +649,28 @@ fn errors_are_said_in_words() {
         Error::Purpose.to_string(),
         "the purpose is not the contents of an object identifier"
     );
+}
+
+#[test]
+fn a_certificate_speaks_for_its_host_alone() {
+    let octets = read("leaf.der");
+    let leaf = Certificate::read(&octets).unwrap();
+    for (reference, said) in [
+        (Reference::Host("www.example"), true),
+        (Reference::Host("WWW.Example."), true),
+        (Reference::Host("example"), false),
+        (Reference::Address("192.0.2.1".parse().unwrap()), false),
+        (Reference::Address("2001:db8::1".parse().unwrap()), false),
+        (Reference::Mailbox("who@www.example"), false),
+    ] {
+        assert_eq!(leaf.speaks_for(reference), Ok(said), "{reference:?}");
+    }
+    for (reference, rule, at) in [
+        (Reference::Host("a..example"), ReferenceRule::Label, 2),
+        (Reference::Host("*.example"), ReferenceRule::HostOctet, 0),
+        (Reference::Mailbox("example"), ReferenceRule::NoHost, 7),
+    ] {
+        let refused = Err(SpeakingError::Reference(rule, at));
+        assert_eq!(leaf.speaks_for(reference), refused, "{reference:?}");
+    }
 }

@@ -7,3 +7,4 @@ pub mod Verdict
 pub mod Questions
 pub mod Names
 pub mod Judging
+pub mod Speaking

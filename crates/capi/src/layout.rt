@@ -7,7 +7,7 @@ use std::test::Fail;
 
 #[test]
 fn structs_have_their_sizes(rt: HostRuntime) {
-    const SIZES: [usize; 12] = [
+    const SIZES: [usize; 13] = [
         size_of::<Text<'static>>(),
         size_of::<QueryOfTexts<'static>>(),
         size_of::<Part>(),
@@ -20,8 +20,9 @@ fn structs_have_their_sizes(rt: HostRuntime) {
         size_of::<Place>(),
         size_of::<SignatureQuestion>(),
         size_of::<Asked>(),
+        size_of::<SpeakingAnswer>(),
     ];
-    assert!(rt; SIZES == [16, 56, 16, 16, 56, 208, 224, 32, 48, 32, 160, 40]);
+    assert!(rt; SIZES == [16, 56, 16, 16, 56, 208, 224, 32, 48, 32, 160, 40, 24]);
 }
 
 /// Whether the struct is printed so.
@@ -51,6 +52,8 @@ const VERDICT: &str = "VerdictAnswer { verdict: 0, reason: 0, certificate: 0, \
 const ASKED: &str = "Asked { \
     refusal: Refusal { text: 0, fault: 0, der_fault: 0, index: 0, offset: 0 }, count: 0 }";
 
+const SPEAKING: &str = "SpeakingAnswer { speaks: 0, fault: 0, der_fault: 0, offset: 0 }";
+
 const QUESTION: &str = "SignatureQuestion { \
     algorithm: Place { text: 0, index: 0, offset: 0, length: 0 }, \
     key_info: Place { text: 0, index: 0, offset: 0, length: 0 }, \
@@ -74,6 +77,7 @@ fn structs_have_their_fields_in_order(rt: HostRuntime) -> Result<(), Fail> {
     assert!(rt; prints(&rt, &CertificateAnswer::default(), CERTIFICATE)?);
     assert!(rt; prints(&rt, &VerdictAnswer::default(), VERDICT)?);
     assert!(rt; prints(&rt, &Asked::default(), ASKED)?);
+    assert!(rt; prints(&rt, &SpeakingAnswer::default(), SPEAKING)?);
     assert!(rt; prints(&rt, &SignatureQuestion::default(), QUESTION)?);
     Ok(())
 }
