@@ -9,7 +9,7 @@ use Rattle.clap.specs.declared.error.kind.ErrorKind.{ErrorKind}
 use Rattle.cli_failures.specs.declared.failure.Failure.TheVariants.{NoMemory, Unwritable}
 use Rattle.cli.specs.Host.{HostState}
 use Rattle.cli.specs.Streams.{Streams, streams}
-use Rattle.cli.specs.OnMachine.{IsCommandOf, any_host}
+use Rattle.cli.specs.OnMachine.{IsCommandOf}
 use Rattle.cli.specs.Outcome.{AreMistaken, HasAnswered, HasFailed, IsHelp, IsMistake}
 use Rattle.cli.specs.declared.execution.Ended.{Ended}
 
@@ -75,14 +75,14 @@ FailsTelling host words remaining input source contents old new told before afte
 
 -- ---- over the system's files, with options for the run in front of the command
 
-abbrev pub AnswersCommand : {I O : Type 0} → List (Bor (List ℕ)) → (I → Option (List ℕ)) → I → I → (O → Option (List ℕ)) → O → O → ℕ → Type 0
-AnswersCommand words remaining input source contents old new status =
+abbrev pub AnswersCommand : {I O : Type 0} → HostState → List (Bor (List ℕ)) → (I → Option (List ℕ)) → I → I → (O → Option (List ℕ)) → O → O → ℕ → Type 0
+AnswersCommand host words remaining input source contents old new status =
     IsAnswering status →
     (command : List Text) × IsCommandOf (texts words) command
-    × HasAnswered any_host command (streams remaining input source contents old new) status
+    × HasAnswered host command (streams remaining input source contents old new) status
 
-abbrev pub FailsCommand : {I O : Type 0} → List (Bor (List ℕ)) → (I → Option (List ℕ)) → I → I → (O → Option (List ℕ)) → O → O → ℕ → Type 0
-FailsCommand words remaining input source contents old new status =
+abbrev pub FailsCommand : {I O : Type 0} → HostState → List (Bor (List ℕ)) → (I → Option (List ℕ)) → I → I → (O → Option (List ℕ)) → O → O → ℕ → Type 0
+FailsCommand host words remaining input source contents old new status =
     IsFailing status →
     (command : List Text) × IsCommandOf (texts words) command
-    × HasEndedSo any_host command (streams remaining input source contents old new) (new ≡ old) status
+    × HasEndedSo host command (streams remaining input source contents old new) (new ≡ old) status

@@ -8,6 +8,7 @@ pub mod Outcome
 pub mod Ended
 pub mod OnMachine
 pub use Rattle.cli_store.specs.Standing
+pub use Rattle.cli_store.specs.OnFiles
 pub use Rattle.cli_steps.specs.Commands
 pub use Rattle.cli_steps.specs.Passing
 pub use Rattle.cli_answers.specs.Status

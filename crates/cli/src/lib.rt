@@ -17,7 +17,7 @@ pub use at_path::StorePair;
 pub use checking::check;
 pub use cli_answers::{comparison_status, verdict_status};
 pub use cli_failures::{Extent, Failure, Source};
-pub use cli_store::{Connected, Machine, Stores};
+pub use cli_store::{AnyFiles, Connected, Machine, Stores};
 pub use comparing::compare;
 pub use delivering::{Delivery, deliver};
 pub use execution::{Ended, execute, executed};

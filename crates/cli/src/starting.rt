@@ -1,9 +1,10 @@
 //! A run over the system's files, with what the words in front of the command ask of it.
 ghost use Rattle.std.specs.Prelude.{◌≡◌, ◌⊎◌, ◌++◌, IfOk};
 ghost use Rattle.cli.specs.Ended.{AnswersByStatus, AnswersCommand, EndedAs, FailsByStatus, FailsCommand, IsAnswering, IsFailing};
-ghost use Rattle.cli.specs.OnMachine.{any_host};
+ghost use Rattle.cli.specs.OnMachine.{host_on};
 ghost use Rattle.cli.specs.Outcome.{IsDone, IsLineFailure};
 ghost use Rattle.cli.specs.Streams.{streams};
+ghost use Rattle.sqlite_wal.specs.Files.{image_at};
 
 use crate::execution::{answer_of_clap, finish, run};
 use cli_answers::FAILED;
@@ -11,6 +12,7 @@ use cli_failures::Failure;
 use cli_hints::{hint_after_delivery, hint_to};
 use cli_store::Machine;
 use cli_words::{Line, RunOptions, RunWords, command_of, run_options};
+use sqlite_disk::Start;
 use std::alloc::{AllocError, Global};
 use std::io::{Read, Write};
 
@@ -43,8 +45,8 @@ fn give_hint<E: Write>(
 }
 
 // The run of a line.
-fn run_line<I: Read, O: Write, E: Write>(
-    machine: &Machine<'_>,
+fn run_line<S: Start + Copy, I: Read, O: Write, E: Write>(
+    machine: &Machine<'_, S>,
     alloc: Global,
     hints: bool,
     line: &Line<'_>,
@@ -53,9 +55,10 @@ fn run_line<I: Read, O: Write, E: Write>(
     err: &mut E,
 ) -> u8
     ensures status { IsAnswering result ⊎ IsFailing result }
-    ensures answered { IsAnswering result → IsDone any_host line.now
+    ensures answered { IsAnswering result → IsDone (host_on (image_at S.Start)) line.now
         (streams I.remaining input.old input.new O.contents out.old out.new) result }
-    ensures failed { IsFailing result → EndedAs (IsLineFailure any_host line.now
+    ensures failed { IsFailing result → EndedAs
+        (IsLineFailure (host_on (image_at S.Start)) line.now
         (streams I.remaining input.old input.new O.contents out.old out.new))
         (out.new ≡ out.old) result }
 {
@@ -68,8 +71,9 @@ fn run_line<I: Read, O: Write, E: Write>(
 }
 
 // The run of the words, which begin with the program's name.
-fn run_words<I: Read, O: Write, E: Write>(
+fn run_words<S: Start + Copy, I: Read, O: Write, E: Write>(
     rt: &HostRuntime,
+    start: S,
     alloc: Global,
     options: RunOptions,
     words: &[&str],
@@ -78,14 +82,15 @@ fn run_words<I: Read, O: Write, E: Write>(
     err: &mut E,
 ) -> u8
     ensures status { IsAnswering result ⊎ IsFailing result }
-    ensures answered { AnswersByStatus any_host words.now I.remaining input.old input.new
-        O.contents out.old out.new result }
-    ensures failed { FailsByStatus any_host words.now I.remaining input.old input.new
-        O.contents out.old out.new result }
+    ensures answered { AnswersByStatus (host_on (image_at S.Start)) words.now
+        I.remaining input.old input.new O.contents out.old out.new result }
+    ensures failed { FailsByStatus (host_on (image_at S.Start)) words.now
+        I.remaining input.old input.new O.contents out.old out.new result }
 {
     let machine = Machine {
         rt,
         wait: options.wait,
+        start,
     };
     match command_of(alloc, words) {
         Ok(line) => run_line(&machine, alloc, options.hints, &line, input, out, err),
@@ -95,9 +100,11 @@ fn run_words<I: Read, O: Write, E: Write>(
 
 /// Does what the words ask for, of which the first is the program's name, as `execute` does, over the system's files. Behind the name may
 /// stand options for the whole run (`cli_words::run_options`): a store that another process has open is waited for, and with `--hints` a
-/// failure is followed by a line that says what to do.
-pub fn start<I: Read, O: Write, E: Write>(
+/// failure is followed by a line that says what to do. `S` stands for what the files of a store hold as they are opened; `main` names
+/// `AnyFiles`.
+pub fn start<S: Start + Copy, I: Read, O: Write, E: Write>(
     rt: &HostRuntime,
+    first: S,
     alloc: Global,
     words: &[&str],
     input: &mut I,
@@ -105,15 +112,24 @@ pub fn start<I: Read, O: Write, E: Write>(
     err: &mut E,
 ) -> u8
     ensures status { IsAnswering result ⊎ IsFailing result }
-    ensures answered { AnswersCommand words.now I.remaining input.old input.new
-        O.contents out.old out.new result }
-    ensures failed { FailsCommand words.now I.remaining input.old input.new
-        O.contents out.old out.new result }
+    ensures answered { AnswersCommand (host_on (image_at S.Start)) words.now
+        I.remaining input.old input.new O.contents out.old out.new result }
+    ensures failed { FailsCommand (host_on (image_at S.Start)) words.now
+        I.remaining input.old input.new O.contents out.old out.new result }
 {
     let (name, behind) = words.split_at(words.len().min(1));
     let RunWords { options, words } = run_options(behind);
     match words_of(alloc, name, words) {
-        Ok(command) => run_words(rt, alloc, options, command.as_slice(), input, out, err),
+        Ok(command) => run_words(
+            rt,
+            first,
+            alloc,
+            options,
+            command.as_slice(),
+            input,
+            out,
+            err,
+        ),
         Err(_) => {
             let _ = Failure::NoMemory.report(err);
             FAILED

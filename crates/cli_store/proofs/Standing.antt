@@ -1,32 +1,89 @@
--- What stands at paths where nothing is known of them.
-use Rattle.std.proofs.Common.{◌⊎◌, ℕ, List, Result, Ok, Err, IfOk, inl, inr}
+-- What stands at paths, by what the files of a store held.
+use Rattle.std.proofs.Common.{◌≡◌, ◌∙◌, ◌⊎◌, ap, sym, subst, ℕ, List, Result, Ok, Err, IfErr, IfOk, inl, inr}
 use Rattle.sqlite_disk.specs.declared.Disk.{Ghosts}
-use Rattle.store.specs.Adopts.{IsEmptyStoreOn, IsStoreOn}
+use Rattle.sqlite_wal.specs.Recovery.{Image}
+use Rattle.sqlite.specs.Effect.{Database}
+use Rattle.sqlite.specs.Files.{AreFoundIn, file_state}
+use Rattle.sqlite.specs.State.{HasCleanDisk}
+use Rattle.sqlite_trees.specs.Tree.{Trees}
+use Rattle.store.specs.Adopts.{IsEmptyStoreOn}
+use Rattle.store.specs.Opens.{IsTakenFrom}
 use Rattle.store.specs.declared.handle.Store.{Store}
 use Rattle.cli_failures.specs.declared.failure.Failure.{Failure}
-use Rattle.cli_store.specs.Standing.{IsFound, IsFoundOrMade, Met, Standing, database, nothing, seen_in}
+use Rattle.cli_failures.specs.declared.failure.StoreRefusal.TheVariants as refused
+use Rattle.cli_steps.specs.Keeping.{IsNotKept}
+use Rattle.cli_store.specs.OnFiles.{IsFoundOn, IsHeldBy, IsTakenAs, stands_on}
+use Rattle.cli_store.specs.Standing.{IsFound, IsFoundOrMade, IsNotFound, IsOfStore, MakesNoStore, seen_in}
 
-pub found : {D : Type 0} {g : Ghosts D} (stands : Standing) (path : List ℕ) (result : Result (Store D g) Failure) → ((met : Met) → stands path met) → IfOk result (λ store. IsStoreOn store.conn)
-    → IfOk result (λ store. IsFound stands path (seen_in store))
-found stands path (Ok store) all is = (all (database (seen_in store)), is)
-found stands path (Err failure) all is = tt
+-- ---- a store that was taken from files
 
-pub filled : {D : Type 0} {g : Ghosts D} (result : Result (Store D g) Failure) → IfOk result (λ store. IsEmptyStoreOn store.conn)
-    → IfOk result (λ store. IsStoreOn store.conn ⊎ IsEmptyStoreOn store.conn)
-filled (Ok store) is = inr is
-filled (Err failure) is = tt
+module _ {D : Type 0} {g : Ghosts D} (image : Image) (path : List ℕ) where
+  trees_found : (store : Store D g) (it : IsTakenFrom image store.conn) → (file_state it.conn).now.trees ≡ (file_state it.conn).committed.trees
+  trees_found store it = ap (λ (d : Database). d.trees) it.opened.0.clean
 
-made_in : {D : Type 0} {g : Ghosts D} (stands : Standing) (path : List ℕ) (store : Store D g) → ((met : Met) → stands path met) → IsEmptyStoreOn store.conn
-    → IsFoundOrMade stands path (seen_in store)
-made_in stands path store all is = inr (inl (all nothing), is)
+  held_by : (store : Store D g) (it : IsTakenFrom image store.conn) → IsHeldBy image (file_state it.conn).now
+  held_by store it = record {
+    holds = λ trees has. trees_found store it ∙ it.found.holds trees has;
+    reads = subst (AreFoundIn image) (sym (trees_found store it)) it.found.reads;
+    sound = (it.opened.1 it.opened.0.is_open).0;
+  }
 
-pub found_or_made : {D : Type 0} {g : Ghosts D} (stands : Standing) (path : List ℕ) (result : Result (Store D g) Failure) → ((met : Met) → stands path met)
-    → IfOk result (λ store. IsStoreOn store.conn ⊎ IsEmptyStoreOn store.conn) → IfOk result (λ store. IsFoundOrMade stands path (seen_in store))
-found_or_made stands path (Ok store) all (inl is) = inl (all (database (seen_in store)), is)
-found_or_made stands path (Ok store) all (inr is) = made_in stands path store all is
-found_or_made stands path (Err failure) all is = tt
+  taken_as : (store : Store D g) (it : IsTakenFrom image store.conn) → HasCleanDisk (file_state store.conn) → IsTakenAs (file_state it.conn).now (file_state store.conn).now
+  taken_as store it clean = elim (it.was clean) [
+    | inl is ↦ inl (it.unchanged clean is).0.now_is
+    | inr is ↦ inr (is, it.migrated clean)
+  ]
 
-pub made : {D : Type 0} {g : Ghosts D} (stands : Standing) (path : List ℕ) (result : Result (Store D g) Failure) → ((met : Met) → stands path met) → IfOk result (λ store. IsEmptyStoreOn store.conn)
-    → IfOk result (λ store. IsFoundOrMade stands path (seen_in store))
-made stands path (Ok store) all is = made_in stands path store all is
-made stands path (Err failure) all is = tt
+  found_in : (store : Store D g) → IsFoundOn image store.conn → IsFound (stands_on image) path (seen_in store)
+  found_in store (from, is) =
+      (λ intact. let it = from intact in ((file_state it.conn).now, held_by store it, taken_as store it intact), is)
+
+  pub found : (result : Result (Store D g) Failure) → IfOk result (λ store. IsFoundOn image store.conn)
+      → IfOk result (λ store. IsFound (stands_on image) path (seen_in store))
+  found (Ok store) is = found_in store is
+  found (Err failure) is = tt
+
+  -- ---- or made
+
+  made_in : (store : Store D g) → IsEmptyStoreOn store.conn → IsFoundOrMade (stands_on image) path (seen_in store)
+  made_in store is = inr (inl tt, is)
+
+  pub made : (result : Result (Store D g) Failure) → IfOk result (λ store. IsEmptyStoreOn store.conn)
+      → IfOk result (λ store. IsFoundOrMade (stands_on image) path (seen_in store))
+  made (Ok store) is = made_in store is
+  made (Err failure) is = tt
+
+  pub found_or_made : (result : Result (Store D g) Failure) → IfOk result (λ store. IsFoundOn image store.conn ⊎ IsEmptyStoreOn store.conn)
+      → IfOk result (λ store. IsFoundOrMade (stands_on image) path (seen_in store))
+  found_or_made (Ok store) (inl is) = inl (found_in store is)
+  found_or_made (Ok store) (inr is) = made_in store is
+  found_or_made (Err failure) is = tt
+
+pub filled : {D : Type 0} {g : Ghosts D} (image : Image) (result : Result (Store D g) Failure) → IfOk result (λ store. IsEmptyStoreOn store.conn)
+    → IfOk result (λ store. IsFoundOn image store.conn ⊎ IsEmptyStoreOn store.conn)
+filled image (Ok store) is = inr is
+filled image (Err failure) is = tt
+
+-- ---- no store
+
+pub of_store : {A : Type 0} (result : Result A Failure) → IfErr result IsNotKept → IfErr result IsOfStore
+of_store (Ok store) fails = tt
+of_store (Err failure) (inl is) = inl is
+of_store (Err failure) (inr is) = inr (refused.Store, is)
+
+module _ (image : Image) (path : List ℕ) where
+  no_store_for : (failure : Failure) → IsOfStore failure → MakesNoStore (stands_on image) path failure
+  no_store_for failure (inl is) = subst (MakesNoStore (stands_on image) path) (sym is) tt
+  no_store_for failure (inr (why, is)) = subst (MakesNoStore (stands_on image) path) (sym is) tt
+
+  not_found_for : (failure : Failure) → IsOfStore failure → IsNotFound (stands_on image) path failure
+  not_found_for failure (inl is) = subst (IsNotFound (stands_on image) path) (sym is) tt
+  not_found_for failure (inr (why, is)) = subst (IsNotFound (stands_on image) path) (sym is) tt
+
+  pub no_store : {A : Type 0} (result : Result A Failure) → IfErr result IsOfStore → IfErr result (MakesNoStore (stands_on image) path)
+  no_store (Ok store) fails = tt
+  no_store (Err failure) fails = no_store_for failure fails
+
+  pub not_found : {A : Type 0} (result : Result A Failure) → IfErr result IsOfStore → IfErr result (IsNotFound (stands_on image) path)
+  not_found (Ok store) fails = tt
+  not_found (Err failure) fails = not_found_for failure fails

@@ -1,5 +1,5 @@
 -- Stores at paths.
-use Rattle.std.specs.Prelude.{◌≡◌, ◌≢◌, ◌⊎◌, ℕ, List, [], ◌∷◌, ⊤, Bool, Contains, IsTrue}
+use Rattle.std.specs.Prelude.{◌≡◌, ◌≢◌, ◌⊎◌, ℕ, List, [], ◌∷◌, Bool, Contains, IsTrue}
 use Rattle.sqlite_disk.specs.declared.Disk.{Ghosts}
 use Rattle.sqlite.specs.Effect.{Database}
 use Rattle.sqlite.specs.Files.{file_state}
@@ -75,14 +75,6 @@ pub record Places : Type 1 where
   pub stands : Standing
   pub leaves : Leaving
   pub lasts : Lasting
-
--- nothing is known: anything may stand at each path, be left there, and last
-abbrev pub anything : Places
-anything = record {
-  stands = λ path met. ⊤;
-  leaves = λ path seen. ⊤;
-  lasts = λ path left. ⊤;
-}
 
 -- This was seen when the database of the path was opened, and where the disk returned what was written it is a store.
 abbrev pub IsFound : Standing → List ℕ → Seen → Type 0

@@ -6,5 +6,5 @@ mod machine;
 mod stores;
 
 pub use keeper::StoreKeeper;
-pub use machine::Machine;
+pub use machine::{AnyFiles, Machine};
 pub use stores::{Connected, Stores, failed};

@@ -1,19 +1,42 @@
 //! The machine on which a run takes place: its files, and its stores, for which a run waits if another process has them open.
 
-use crate::stores::Stores;
+ghost use Rattle.std.specs.Prelude.{true, []};
+
+use crate::stores::{Stores, open_at, open_or_make_at};
 use cli_failures::{Extent, Failure, Source, StoreRefusal};
 use cli_hints::is_in_use;
-use sqlite_std_file::File;
+use sqlite_disk::{Disk, Start};
+use sqlite_std_file::FileFrom;
 use std::thread;
 use std::time::Duration;
 use store::Store;
 
 /// The system's files and stores. A store that another process has open is asked for again and again, for some seconds.
+///
+/// `S` stands for what the files of a store hold as they are opened. It is the same for each path and each try, so what is said of a store
+/// is said of those files alone that held this, and of others under another `S`.
 #[derive(Clone, Copy)]
-pub struct Machine<'r> {
+pub struct Machine<'r, S: Start> {
     pub rt: &'r HostRuntime,
     /// For how many seconds.
     pub wait: u16,
+    pub start: S,
+}
+
+/// For `main` to name: as `sqlite_std_file::Unknown`, for as many openings as there are.
+#[derive(Clone, Copy)]
+pub struct AnyFiles;
+
+impl Start for AnyFiles {
+    ghost log = { [] };
+
+    ghost db = { [] };
+
+    ghost is_mixing = { true };
+
+    fn mixes() -> bool {
+        true
+    }
 }
 
 // How often a second a store is asked for.
@@ -24,7 +47,7 @@ const PAUSE: u64 = 50;
 // How often a store is asked for once more that did not open and that nobody has open: whoever had it open may have closed it since.
 const TRIES_ONCE_CLOSED: u32 = 4;
 
-fn is_refused(opened: &Result<Store<File>, Failure<'_>>) -> bool {
+fn is_refused<D: Disk>(opened: &Result<Store<D>, Failure<'_>>) -> bool {
     match opened {
         Err(
             Failure::StoreFailed {
@@ -35,7 +58,7 @@ fn is_refused(opened: &Result<Store<File>, Failure<'_>>) -> bool {
     }
 }
 
-impl Machine<'_> {
+impl<S: Start> Machine<'_, S> {
     fn tries(&self) -> u32 {
         self.wait as u32 * TRIES_A_SECOND
     }
@@ -49,7 +72,7 @@ impl Machine<'_> {
     fn asks_again(
         &self,
         path: &str,
-        opened: &Result<Store<File>, Failure<'_>>,
+        opened: &Result<Store<FileFrom<S>>, Failure<'_>>,
         once_closed: &mut u32,
     ) -> bool {
         if !is_refused(opened) {
@@ -66,7 +89,7 @@ impl Machine<'_> {
     }
 }
 
-impl Source for Machine<'_> {
+impl<S: Start> Source for Machine<'_, S> {
     ghost use Rattle.std.specs.Prelude.{⊤};
 
     ghost holds = { λ _ _ _. ⊤ };
@@ -76,16 +99,17 @@ impl Source for Machine<'_> {
     }
 }
 
-impl Stores<Store<File>> for Machine<'_> {
-    ghost use Rattle.cli_store.specs.Standing.{anything};
+impl<S: Start + Copy> Stores<Store<FileFrom<S>>> for Machine<'_, S> {
+    ghost use Rattle.sqlite_wal.specs.Files.{image_at};
+    ghost use Rattle.cli_store.specs.OnFiles.{places_on};
 
-    ghost places = { λ _. anything };
+    ghost places = { λ _. places_on (image_at S.Start) };
 
-    fn open_store<'a>(&self, path: &'a str) -> Result<Store<File>, Failure<'a>> {
+    fn open_store<'a>(&self, path: &'a str) -> Result<Store<FileFrom<S>>, Failure<'a>> {
         let mut left = self.tries();
         let mut once_closed = TRIES_ONCE_CLOSED;
         'tries: loop {
-            let opened = self.rt.open_store(path);
+            let opened = open_at(self.rt, path, self.start);
             if left == 0 || !self.asks_again(path, &opened, &mut once_closed) {
                 return opened;
             }
@@ -94,11 +118,11 @@ impl Stores<Store<File>> for Machine<'_> {
         }
     }
 
-    fn open_or_make_store<'a>(&self, path: &'a str) -> Result<Store<File>, Failure<'a>> {
+    fn open_or_make_store<'a>(&self, path: &'a str) -> Result<Store<FileFrom<S>>, Failure<'a>> {
         let mut left = self.tries();
         let mut once_closed = TRIES_ONCE_CLOSED;
         'tries: loop {
-            let opened = self.rt.open_or_make_store(path);
+            let opened = open_or_make_at(self.rt, path, self.start);
             if left == 0 || !self.asks_again(path, &opened, &mut once_closed) {
                 return opened;
             }
@@ -107,7 +131,7 @@ impl Stores<Store<File>> for Machine<'_> {
         }
     }
 
-    fn close_store(&self, path: &str, store: Store<File>) {
-        self.rt.close_store(path, store);
+    fn close_store(&self, _path: &str, store: Store<FileFrom<S>>) {
+        let _ = store.into_files();
     }
 }

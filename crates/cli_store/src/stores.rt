@@ -1,19 +1,22 @@
 //! Stores at paths.
-ghost use Rattle.std.specs.Prelude.{◌≡◌, ◌⊎◌, false, IfErr, IfOk, List};
+ghost use Rattle.std.specs.Prelude.{◌≡◌, ◌≢◌, ◌⊎◌, false, IfErr, IfOk, List, OnOk};
 ghost use Rattle.statements_facts.specs.Statement.{Holdings};
 ghost use Rattle.sqlite.specs.Files.{file_state};
-ghost use Rattle.sqlite.specs.State.{HasCleanDisk};
-ghost use Rattle.store_adoption.specs.Creates.{IsSettled};
-ghost use Rattle.store.specs.Adopts.{IsEmptyStoreOn, IsOpenOn, IsStoreOn};
-ghost use Rattle.store_adoption.specs.Inspects.{IsStore};
+ghost use Rattle.sqlite_wal.specs.Files.{image_at};
+ghost use Rattle.store_adoption.specs.Creates.{HasTables, IsSettled};
+ghost use Rattle.store.specs.Adopts.{IsEmptyStoreOn, IsOpenOn};
+ghost use Rattle.store.specs.Opens.{IsMadeFromOn, fault_of};
 ghost use Rattle.store_sql.specs.Statements.{IsDurable};
-ghost use Rattle.cli_store.specs.Standing.{IsFound, IsFoundOrMade, IsNotFound, IsOpenIfClean, LeavesIfClean, MakesNoStore, seen_of, told_of};
+ghost use Rattle.store_sql.specs.Tables.{no_schema};
+ghost use Rattle.cli_steps.specs.Keeping.{IsNotKept};
+ghost use Rattle.cli_store.specs.OnFiles.{HasNoRoom, HasRoom, IsFoundOn, stands_on};
+ghost use Rattle.cli_store.specs.Standing.{IsFound, IsFoundOrMade, IsNotFound, IsOfStore, IsOpenIfClean, LeavesIfClean, MakesNoStore, seen_in, seen_of, told_of};
 
 use cli_failures::{Failure, StoreRefusal};
 use relying::Fault;
 use sqlite::{Connection, FileStore};
-use sqlite_disk::Disk;
-use sqlite_std_file::File;
+use sqlite_disk::{Disk, Start};
+use sqlite_std_file::{File, FileFrom, Unknown};
 use std::{fs, io};
 use store::{OpenFault, Refused, Store};
 use store_sql::{StoreFault, is_empty};
@@ -90,67 +93,100 @@ pub fn failed<'a>(fault: Fault) -> Failure<'a>
     }
 }
 
+// What is told where no store is opened.
+fn not_opened<'a, D: Disk>(unopened: &OpenFault<D>) -> Failure<'a>
+    ensures { result ≡ told_of (Fault.Store (fault_of unopened.now)) }
+{
+    failed(Fault::Store(unopened.fault()))
+}
+
+// What is told where no store is made: never that tables are no store's, since there were none.
+fn not_made<'a>(fault: StoreFault) -> Failure<'a>
+    ensures kind { IsNotKept result }
+    ensures told { fault ≢ StoreFault.Schema → result ≡ told_of (Fault.Store fault) }
+{
+    match fault {
+        StoreFault::Memory => Failure::NoMemory,
+        StoreFault::Store | StoreFault::Schema => Failure::StoreFailed {
+            refusal: StoreRefusal::Store,
+        },
+    }
+}
+
 // The store at the path.
-fn open<'a>(rt: &HostRuntime, path: &str) -> Result<Store<File>, Failure<'a>>
-    ensures store { IfOk result (λ store.
-        HasCleanDisk (file_state store.conn) → IsStore (file_state store.conn).now) }
+fn open<'a, S: Start>(
+    rt: &HostRuntime,
+    path: &str,
+    start: S,
+) -> Result<Store<FileFrom<S>>, Failure<'a>>
+    ensures found { IfOk result (λ store. IsFoundOn (image_at S.Start) store.conn) }
     ensures is_open { IfOk result (λ store. IsOpenOn store.conn) }
     ensures settled { IfOk result (λ store. IsSettled (file_state store.conn)) }
     ensures durable { IfOk result (λ store. IsDurable (file_state store.conn)) }
-    ensures fails { IfErr result (λ failure. (fault : StoreFault)
-        × (failure ≡ told_of (Fault.Store fault))) }
+    ensures fails { IfErr result IsOfStore }
 {
-    match Store::open(rt, path) {
+    match Store::open_from(rt, path, start) {
         Ok(store) => Ok(store),
-        Err(refusal) => Err(failed(Fault::Store(refusal.fault()))),
+        Err(unopened) => Err(not_opened(&unopened)),
     }
 }
 
 // A store that is made at the path.
-fn make<'a>(rt: &HostRuntime, path: &str) -> Result<Store<File>, Failure<'a>>
+fn make<'a, S: Start>(
+    rt: &HostRuntime,
+    path: &str,
+    start: S,
+) -> Result<Store<FileFrom<S>>, Failure<'a>>
+    ensures made { IfOk result (λ store. IsMadeFromOn (image_at S.Start) store.conn) }
     ensures empty { IfOk result (λ store. IsEmptyStoreOn store.conn) }
     ensures is_open { IfOk result (λ store. IsOpenOn store.conn) }
     ensures settled { IfOk result (λ store. IsSettled (file_state store.conn)) }
     ensures durable { IfOk result (λ store. IsDurable (file_state store.conn)) }
-    ensures fails { IfErr result (λ failure. (fault : StoreFault)
-        × (failure ≡ told_of (Fault.Store fault))) }
+    ensures fails { IfErr result IsNotKept }
 {
-    match Store::make(rt, path) {
+    match Store::make_from(rt, path, start) {
         Ok(store) => {
             let _settled = store.conn.is_autocommit();
             Ok(store)
         }
-        Err(refusal) => Err(failed(Fault::Store(refusal.fault()))),
+        Err(unopened) => Err(not_made(unopened.fault())),
     }
 }
 
-// A store that is made in an empty database.
-fn create<'a>(conn: Connection<FileStore<File>>) -> Result<Store<File>, Failure<'a>>
+// A store that is made in an empty database. Over tables the refusal is that of the database.
+fn create<'a, D: Disk + Drop>(conn: Connection<FileStore<D>>) -> Result<Store<D>, Failure<'a>>
     requires idle { conn.in_transaction ≡ false }
     ensures empty { IfOk result (λ store. IsEmptyStoreOn store.conn) }
     ensures is_open { IfOk result (λ store. IsOpenOn store.conn) }
     ensures settled { IfOk result (λ store. IsSettled (file_state store.conn)) }
     ensures durable { IfOk result (λ store. IsDurable (file_state store.conn)) }
-    ensures fails { IfErr result (λ failure. (fault : StoreFault)
-        × (failure ≡ told_of (Fault.Store fault))) }
+    ensures free { OnOk result (HasTables (file_state conn).now → ⊥) }
+    ensures tables { IfErr result (λ failure. HasTables (file_state conn).now
+        → failure ≡ told_of (Fault.Store StoreFault.Store)) }
+    ensures fails { IfErr result IsNotKept }
 {
     match Store::create(conn) {
         Ok(store) => {
             let _settled = store.conn.is_autocommit();
             Ok(store)
         }
-        Err(refused) => Err(failed(Fault::Store(refused.fault))),
+        Err(refused) => Err(not_made(refused.fault)),
     }
 }
 
-// Makes a store in a refused database if that has no table. A process that ends while it makes a store may leave such a database.
-fn fill<'a>(refused: Refused<File>) -> Result<Store<File>, Failure<'a>>
+// Makes a store in a refused database if that has no table. A process that ends while it makes a store may leave such a database. If it has
+// tables, the fault for which it was refused is told.
+fn fill<'a, D: Disk + Drop>(refused: Refused<D>) -> Result<Store<D>, Failure<'a>>
     ensures empty { IfOk result (λ store. IsEmptyStoreOn store.conn) }
     ensures is_open { IfOk result (λ store. IsOpenOn store.conn) }
     ensures settled { IfOk result (λ store. IsSettled (file_state store.conn)) }
     ensures durable { IfOk result (λ store. IsDurable (file_state store.conn)) }
-    ensures fails { IfErr result (λ failure. (fault : StoreFault)
-        × (failure ≡ told_of (Fault.Store fault))) }
+    ensures free { OnOk result (HasTables (file_state refused.conn).now → ⊥) }
+    ensures tables { IfErr result (λ failure. HasTables (file_state refused.conn).now
+        → failure ≡ told_of (Fault.Store refused.fault)) }
+    ensures empty_told { IfErr result (λ failure. (file_state refused.conn).now.schema ≡ no_schema
+        → IsNotKept failure) }
+    ensures fails { IfErr result IsOfStore }
 {
     let Refused { fault, conn } = refused;
     if is_empty(conn.schema()) {
@@ -160,19 +196,40 @@ fn fill<'a>(refused: Refused<File>) -> Result<Store<File>, Failure<'a>>
     }
 }
 
-// The store in the file at the path. If its database has no table, a store is made in it.
-fn open_or_fill<'a>(rt: &HostRuntime, path: &str) -> Result<Store<File>, Failure<'a>>
-    ensures store { IfOk result (λ store. IsStoreOn store.conn ⊎ IsEmptyStoreOn store.conn) }
+// The same of a database that was not opened for a store, if there is one. If there is none, the fault is told.
+fn fill_or_tell<'a, D: Disk + Drop>(unopened: OpenFault<D>) -> Result<Store<D>, Failure<'a>>
+    ensures empty { IfOk result (λ store. IsEmptyStoreOn store.conn) }
     ensures is_open { IfOk result (λ store. IsOpenOn store.conn) }
     ensures settled { IfOk result (λ store. IsSettled (file_state store.conn)) }
     ensures durable { IfOk result (λ store. IsDurable (file_state store.conn)) }
-    ensures fails { IfErr result (λ failure. (fault : StoreFault)
-        × (failure ≡ told_of (Fault.Store fault))) }
+    ensures free { OnOk result (HasNoRoom unopened → ⊥) }
+    ensures told { IfErr result (λ failure. HasNoRoom unopened
+        → failure ≡ told_of (Fault.Store (fault_of unopened))) }
+    ensures empty_told { IfErr result (λ failure. HasRoom unopened → IsNotKept failure) }
+    ensures fails { IfErr result IsOfStore }
 {
-    match Store::open(rt, path) {
+    match unopened {
+        OpenFault::Refused(refused) => fill(refused),
+        OpenFault::Unconnected(fault) => Err(failed(Fault::Store(fault))),
+    }
+}
+
+// The store in the file at the path. If its database has no table, a store is made in it.
+fn open_or_fill<'a, S: Start>(
+    rt: &HostRuntime,
+    path: &str,
+    start: S,
+) -> Result<Store<FileFrom<S>>, Failure<'a>>
+    ensures store { IfOk result (λ store.
+        IsFoundOn (image_at S.Start) store.conn ⊎ IsEmptyStoreOn store.conn) }
+    ensures is_open { IfOk result (λ store. IsOpenOn store.conn) }
+    ensures settled { IfOk result (λ store. IsSettled (file_state store.conn)) }
+    ensures durable { IfOk result (λ store. IsDurable (file_state store.conn)) }
+    ensures fails { IfErr result IsOfStore }
+{
+    match Store::open_from(rt, path, start) {
         Ok(store) => Ok(store),
-        Err(OpenFault::Refused(refused)) => fill(refused),
-        Err(OpenFault::Unconnected(fault)) => Err(failed(Fault::Store(fault))),
+        Err(unopened) => fill_or_tell(unopened),
     }
 }
 
@@ -184,25 +241,57 @@ fn is_missing(rt: &HostRuntime, path: &str) -> bool {
     }
 }
 
-/// The system's files, of which no contract says what they hold.
-impl Stores<Store<File>> for HostRuntime {
-    ghost use Rattle.cli_store.specs.Standing.{anything};
+// The store that stands at the path of the system's files, which hold what `S` says.
+pub(crate) fn open_at<'a, S: Start>(
+    rt: &HostRuntime,
+    path: &'a str,
+    start: S,
+) -> Result<Store<FileFrom<S>>, Failure<'a>>
+    ensures found { IfOk result (λ store.
+        IsFound (stands_on (image_at S.Start)) path.entry.now (seen_in store)) }
+    ensures open { IfOk result (λ store. IsOpenIfClean (file_state store.conn)) }
+    ensures settled { IfOk result (λ store. IsSettled (file_state store.conn)) }
+    ensures durable { IfOk result (λ store. IsDurable (file_state store.conn)) }
+    ensures fails { IfErr result (IsNotFound (stands_on (image_at S.Start)) path.entry.now) }
+{
+    if fs::open(rt, path).is_err() {
+        return Err(Failure::Unreadable { file: path });
+    }
+    open(rt, path, start)
+}
 
-    ghost places = { λ _. anything };
+// The same; if no file is there, or a database without tables, a store is made that holds nothing.
+pub(crate) fn open_or_make_at<'a, S: Start>(
+    rt: &HostRuntime,
+    path: &'a str,
+    start: S,
+) -> Result<Store<FileFrom<S>>, Failure<'a>>
+    ensures found { IfOk result (λ store.
+        IsFoundOrMade (stands_on (image_at S.Start)) path.entry.now (seen_in store)) }
+    ensures open { IfOk result (λ store. IsOpenIfClean (file_state store.conn)) }
+    ensures settled { IfOk result (λ store. IsSettled (file_state store.conn)) }
+    ensures durable { IfOk result (λ store. IsDurable (file_state store.conn)) }
+    ensures fails { IfErr result (MakesNoStore (stands_on (image_at S.Start)) path.entry.now) }
+{
+    if is_missing(rt, path) {
+        make(rt, path, start)
+    } else {
+        open_or_fill(rt, path, start)
+    }
+}
+
+/// The system's files, at `Unknown`.
+impl Stores<Store<File>> for HostRuntime {
+    ghost use Rattle.cli_store.specs.OnFiles.{nothing_held, places_on};
+
+    ghost places = { λ _. places_on nothing_held };
 
     fn open_store<'a>(&self, path: &'a str) -> Result<Store<File>, Failure<'a>> {
-        if fs::open(self, path).is_err() {
-            return Err(Failure::Unreadable { file: path });
-        }
-        open(self, path)
+        open_at(self, path, Unknown)
     }
 
     fn open_or_make_store<'a>(&self, path: &'a str) -> Result<Store<File>, Failure<'a>> {
-        if is_missing(self, path) {
-            make(self, path)
-        } else {
-            open_or_fill(self, path)
-        }
+        open_or_make_at(self, path, Unknown)
     }
 
     fn close_store(&self, _path: &str, store: Store<File>) {

@@ -4,7 +4,7 @@ use super::fingerprints::{LEAF, ROOT};
 use super::rows::put;
 use crate::output::Output;
 use crate::walking::words_of;
-use cli::start;
+use cli::{AnyFiles, start};
 use std::fs;
 use std::test::Fail;
 
@@ -79,7 +79,15 @@ fn ends_so(rt: &HostRuntime, line: &str, told: &str, status: u8) -> Result<bool,
     let (mut out, mut err) = (Output::new(rt.alloc()), Vec::new(rt.alloc()));
     let mut input: &[u8] = &[];
     let words = words.as_slice();
-    let ended = start(rt, rt.alloc(), words, &mut input, &mut out, &mut err);
+    let ended = start(
+        rt,
+        AnyFiles,
+        rt.alloc(),
+        words,
+        &mut input,
+        &mut out,
+        &mut err,
+    );
     Ok(ended == status && err.as_slice() == told.as_bytes())
 }
 

@@ -1,4 +1,0 @@
-use Rattle.cli_store.proofs.machine.MachineStoresStoreFile.open_store.Given as goal
-
-abbrev pub decreases-tries : goal.decreases-tries
-decreases-tries l = l.left

@@ -1,0 +1,4 @@
+use Rattle.cli_store.proofs.machine.MachineStoresStoreFileFrom.open_or_make_store.Given as goal
+
+abbrev pub decreases-tries : goal.decreases-tries
+decreases-tries g l = l.left
