@@ -15,6 +15,9 @@
 //!
 //!        let outcome = validate(alloc, &verifier, &anchor, &path, moment, None)?;
 //!
+//!    `search::find` finds such a path, if the certificates come in any order and there are many anchors, and `identities::speaks_for` says
+//!    whether the names of the last certificate are those of the host that you meant.
+//!
 //! 4. **Hold statements.** A [`Store`] is a database, over files of the system ([`Store::open`], [`Store::make`]) or over a disk in memory.
 //!    It keeps the newest list of each issuer and scope, and the newest response for each certificate. A [`Node`] is a store with a
 //!    verifier: it takes statements in any order and however often, and believes what the issuer or its delegate signed.
@@ -96,6 +99,19 @@ pub mod naming {
         Attribute, Domain, Form, General, IpFault, IpRange, Name, NameRefusal, NameRule, Subtree,
         coverage_laws, domain_laws, general_laws, is_dns_name, is_ip_address, is_text, key_laws,
         name_laws, preparation_laws, prepared_text, range_laws, same_prepared, subtree_laws,
+    };
+}
+
+/// Whom a certificate speaks for: hosts, addresses and mailboxes (RFC 9525; RFC 5280, 7.5).
+pub mod identities {
+    pub use names_identity::{Identity, IdentityFault, IdentityRule, matching_laws, speaks_for};
+}
+
+/// Paths to a certificate, found among certificates that come in any order (RFC 4158).
+pub mod search {
+    pub use path_search::{
+        Answer, Authority, Budget, Candidate, Paths, Search, Tail, factor_laws, find,
+        is_right_as_authority, is_right_as_target, issues, search_laws,
     };
 }
 
