@@ -4,7 +4,7 @@
 mod version;
 
 use crate::version::SOURCES;
-use cli::start;
+use cli::{AnyFiles, start};
 use std::io::Write;
 use std::process::ExitCode;
 use std::{env, io};
@@ -71,6 +71,6 @@ fn run(rt: &HostRuntime) -> io::Result<u8> {
     if asks_for_version(words) {
         return Ok(tell_version(&mut out, err));
     }
-    let status = start(rt, rt.alloc(), words, &mut input, &mut out, err);
+    let status = start(rt, AnyFiles, rt.alloc(), words, &mut input, &mut out, err);
     Ok(status)
 }

@@ -1,2 +1,2 @@
 /// The SHA-256 of the sources that the program is made from, as `.ci/sources` prints it.
-pub(crate) const SOURCES: &str = "81bf3f20ac74a686f77c80df61c254ca63b0aedbe48d3df451e734e3cfdb2fa9";
+pub(crate) const SOURCES: &str = "948cb042b027ea4a1c37978175187bad05b43e78f2e69e3ea71778e0794debd1";
