@@ -18,7 +18,7 @@ use Rattle.path_conditions.specs.Narrowing.{is_in_one_of, are_about, is_processe
 use Rattle.path_conditions.specs.Constraints.{Constraints, no_constraints, narrowed_by, permits_in, permits_name, has_number, AddsFormsOf, BearsOneOf}
 use Rattle.path_conditions.proofs.Laws.{Laws, laws_of_names, in_one, about, of_form_is, of_form_from, list_any-filter, list_any-weaker, processed_test}
 use Rattle.path_search.specs.Authority.{AnswersFor}
-use Rattle.path_search.specs.Factors.{PermitNames, ExcludeNoName, ConstrainNoOtherForm, AdmitNames}
+use Rattle.path_issuers.specs.Factors.{PermitNames, ExcludeNoName, ConstrainNoOtherForm, AdmitNames}
 
 module _ (laws : Laws) where
   -- the list of a form permits what the subtrees permit

@@ -1,7 +1,7 @@
 -- Of two candidates one is before the other, so the first valid one is one.
 use Rattle.std.proofs.Common.{◌≡◌, ◌⊎◌, ℕ, List, [], ◌∷◌, length, arith, refl, ap, ◌∙◌, sym, inl, inr}
 use Rattle.std.proofs.lemmas.Bool.{cases_order}
-use Rattle.path_search.specs.Search.{Candidate, ArePlacesBefore, IsBefore, FirstValidIsOne}
+use Rattle.path_issuers.specs.Search.{Candidate, ArePlacesBefore, IsBefore, CandidatesAreOrdered, FirstValidIsOne}
 
 same_places : (m n : ℕ) (ms ns : List ℕ) → m ≡ n → ms ≡ ns → m ∷ ms ≡ n ∷ ns
 same_places m n ms ns e f = cc
@@ -36,8 +36,8 @@ anchor_order one other e =
       ]
     ]
 
-order : (one other : Candidate) → IsBefore one other ⊎ ((one ≡ other) ⊎ IsBefore other one)
-order one other =
+pub candidates_are_ordered : CandidatesAreOrdered
+candidates_are_ordered one other =
     elim (cases_order (length one.above) (length other.above)) [
       | inl same ↦ elim (places_order one.above other.above same) [
         | inl before ↦ inl (inr (same, inl before))
@@ -48,7 +48,7 @@ order one other =
 
 pub first_valid_is_one : FirstValidIsOne
 first_valid_is_one accepts s one other a b =
-    elim (order one other) [
+    elim (candidates_are_ordered one other) [
       | inl before ↦ absurd (b.first one before a.valid)
       | inr o ↦ elim o [ inl same ↦ same | inr after ↦ absurd (a.first other after b.valid) ]
     ]

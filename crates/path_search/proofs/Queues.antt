@@ -8,7 +8,7 @@ use Rattle.std.proofs.lemmas.List.{length_push, get_or_push, get_or_append_left,
 use Rattle.std.proofs.lemmas.List.Elements.{All-push, recursion_from_All}
 use Rattle.std.proofs.lemmas.List.Quantifiers.{all_pairs_push}
 use Rattle.std.proofs.lemmas.List.Kept.{AllPairs-from_increasing}
-use Rattle.path_search.specs.Search.{ArePlacesBefore}
+use Rattle.path_issuers.specs.Search.{ArePlacesBefore}
 use Rattle.path_search.specs.Queue.{IsTailBefore, IsTried, IsUntried, IsGrown, IsWaiting, IsQueue}
 use Rattle.path_search.specs.Answer.{AreDifferent}
 

@@ -5,12 +5,12 @@ use Rattle.std.proofs.lemmas.List.{get_or_append_left, get_or-map, length-map, l
 use Rattle.std.proofs.lemmas.Bool.{cases_lt}
 use Rattle.std.proofs.lemmas.Option.{slice_get-get_or}
 use Rattle.path.specs.Query.{Accepts}
-use Rattle.path_search.specs.Search.{Search, Candidate}
-use Rattle.path_search.specs.Links.{Links, AreLinks}
+use Rattle.path_issuers.specs.Search.{Search, Candidate}
+use Rattle.path_issuers.specs.Links.{Links, AreLinks}
 use Rattle.path_search.specs.Answer.{HasRightTails, IsNextValid}
 use Rattle.path_search.specs.Queue.{IsTailBefore, places_of, seen_tails}
 use Rattle.path_search.specs.Walk.{IsAt, IsQueueOf, IsLast, HasTried, StandsBehind, Stays, StaysAt, Steps, Turns, anchors_above, issuers_above}
-use Rattle.path_search.specs.declared.search.Answer.{Answer}
+use Rattle.path_search.specs.declared.answer.Answer.{Answer}
 use Rattle.path_search.specs.declared.queue.Queue.{Queue}
 use Rattle.path_search.proofs.Walking.{tried_more, gave_up, turned_walk, handed_out, behind_it, last_is, last_of_later}
 

@@ -11,8 +11,8 @@ use Rattle.std.proofs.Math.Seq.{take-append_seam}
 use Rattle.cert.specs.Certificate.{Certificate, is_self_issued}
 use Rattle.cert.specs.NameConstraints.{NameConstraints}
 use Rattle.path_conditions.proofs.Laws.{list_any-map}
-use Rattle.path_search.specs.Search.{certificates_at, path_down_to, TailGrows}
-use Rattle.path_search.specs.Factors.{AdmitNames, AdmitNamesOfOther, AdmitNamesBelow, Lacks, others_above_target}
+use Rattle.path_issuers.specs.Search.{certificates_at, path_down_to, TailGrows}
+use Rattle.path_issuers.specs.Factors.{AdmitNames, AdmitNamesOfOther, AdmitNamesBelow, Lacks, others_above_target}
 
 pub reversed : (x : Certificate) (xs : List Certificate) → reverse (x ∷ xs) ≡ reverse xs ++ x ∷ []
 reversed x xs = reverse-append (x ∷ []) xs

@@ -9,14 +9,14 @@ use Rattle.std.proofs.lemmas.List.Kept.{AllPairs-from_increasing}
 use Rattle.std.proofs.lemmas.Option.{get_or_from_slice_get, slice_get_within}
 use Rattle.cert.specs.Certificate.{Certificate}
 use Rattle.path.specs.Query.{Accepts}
-use Rattle.path_search.specs.Search.{Search, Candidate, IsBefore, IsValidCandidate, certificates_at, path_down_to, query_about}
-use Rattle.path_search.specs.Factors.{AreRight, IsRightAsAuthority, IsRightAsTarget, Issues, IssuesFirst}
+use Rattle.path_issuers.specs.Search.{Search, Candidate, IsBefore, IsValidCandidate, certificates_at, path_down_to, query_about}
+use Rattle.path_issuers.specs.Factors.{AreRight, IsRightAsAuthority, IsRightAsTarget, Issues, IssuesFirst}
 use Rattle.path_search.specs.Authority.{FitsAbove}
-use Rattle.path_search.specs.Links.{Links, AreLinks, IsIssuer, IsAnchor, LeadsUp, issuers_of, anchors_of, certificate_at, anchor_at}
+use Rattle.path_issuers.specs.Links.{Links, AreLinks, IsIssuer, IsAnchor, LeadsUp, issuers_of, anchors_of, certificate_at, anchor_at}
 use Rattle.path_search.specs.Answer.{IsRightTail, HasRightTails, IsAfter, IsNextValid, HasNoMore}
 use Rattle.path_search.specs.Queue.{IsTailBefore}
 use Rattle.path_search.specs.Walk.{IsTail, IsWanted, IsQueueOf, IsLast, MayStandAbove, HasTried, anchors_above, issuers_above, top_of}
-use Rattle.path_search.proofs.Factoring.{valid_path_factors, tail_is_right}
+use Rattle.path_issuers.proofs.Laws.{valid_path_factors, tail_is_right}
 use Rattle.path_search.proofs.Tails.{reversed, tail_grows}
 use Rattle.path_search.proofs.Queues.{tail_before_trans, tail_not_before, pushed_place, passed_place, turned_above, started, ended, first, narrowed, are_different}
 

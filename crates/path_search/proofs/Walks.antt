@@ -2,16 +2,17 @@
 use Rattle.std.proofs.Common.{◌≡◌, ℕ, List, [], Option, Some, None, arith, map, subst, sym, inl, inr}
 use Rattle.std.specs.Global.{Vec}
 use Rattle.path.specs.Query.{Accepts}
-use Rattle.path_search.specs.Search.{Search, Candidate}
-use Rattle.path_search.specs.Links.{Links, AreLinks, seen_links}
-use Rattle.path_search.specs.Answer.{IsAnswer, IsAnswerWithin, seen_search}
+use Rattle.path_issuers.specs.Search.{Search, Candidate}
+use Rattle.path_issuers.specs.Links.{Links, AreLinks, seen_links}
+use Rattle.path_search.specs.Answer.{IsAnswer, IsAnswerWithin}
+use Rattle.path_issuers.specs.View.{seen_search}
 use Rattle.path_search.specs.Queue.{StandsFirst, places_of}
 use Rattle.path_search.specs.Walk.{AreFirst, Answers, HasRightTarget, IsQueueOf, StandsBehind, Stays, last_after}
 use Rattle.path_search.specs.Paths.{MayWalk, WalksOn, IsNextAnswer, AnswersNext, PathsStay, WalkStays}
-use Rattle.path_search.specs.declared.search.Answer.{Answer}
-use Rattle.path_search.specs.declared.search.Answer.TheVariants.{Found, NotFound, GaveUp}
-use Rattle.path_search.specs.declared.search.Budget.{Budget}
-use Rattle.path_search.specs.declared.links.Links as code
+use Rattle.path_search.specs.declared.answer.Answer.{Answer}
+use Rattle.path_search.specs.declared.answer.Answer.TheVariants.{Found, NotFound, GaveUp}
+use Rattle.path_search.specs.declared.answer.Budget.{Budget}
+use Rattle.path_issuers.specs.declared.links.Links as code
 use Rattle.path_search.specs.declared.queue.Queue.{Queue}
 use Rattle.path_search.specs.declared.walk.Walk.{Walk}
 use Rattle.path_search.specs.declared.paths.Paths.{Paths}

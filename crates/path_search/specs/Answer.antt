@@ -1,25 +1,14 @@
 -- What a search answers.
-use Rattle.std.specs.Prelude.{◌≢◌, ◌⊎◌, ◌+◌, ◌*◌, ◌<◌, ◌≤◌, ℕ, List, [], ◌∷◌, Option, Some, None, length, map}
+use Rattle.std.specs.Prelude.{◌≢◌, ◌⊎◌, ◌<◌, ◌≤◌, ℕ, List, [], ◌∷◌, Option, Some, None, length}
 use Rattle.std.specs.List.{AllByRecursion}
-use Rattle.std.specs.Option.{option_copied}
-use Rattle.cert.specs.Certificate.{seen_certificate}
 use Rattle.path.specs.Query.{Accepts}
-use Rattle.path_search.specs.Factors.{AreRight}
-use Rattle.path_search.specs.Search.{Search, Candidate, path_down_to, IsValidCandidate, IsBefore, IsFirstValid, HasNoValid}
-use Rattle.path_search.specs.declared.search.Budget.{Budget}
-use Rattle.path_search.specs.declared.search.Candidate as found
-use Rattle.path_search.specs.declared.search.Search as code
-use Rattle.path_search.specs.declared.search.Answer.{Answer}
-use Rattle.path_search.specs.declared.search.Answer.TheVariants.{Found, NotFound, GaveUp}
-
-abbrev pub seen_search : code.Search → Search
-seen_search search = record {
-  anchors = map seen_certificate search.anchors.now;
-  bag = map seen_certificate search.bag.now;
-  target = seen_certificate search.target.now;
-  moment = search.moment;
-  purpose = option_copied search.purpose;
-}
+use Rattle.path_issuers.specs.Asking.{count_pairs}
+use Rattle.path_issuers.specs.Factors.{AreRight}
+use Rattle.path_issuers.specs.Search.{Search, Candidate, path_down_to, IsValidCandidate, IsBefore, IsFirstValid, HasNoValid}
+use Rattle.path_search.specs.declared.answer.Budget.{Budget}
+use Rattle.path_search.specs.declared.answer.Candidate as found
+use Rattle.path_search.specs.declared.answer.Answer.{Answer}
+use Rattle.path_search.specs.declared.answer.Answer.TheVariants.{Found, NotFound, GaveUp}
 
 abbrev pub seen_candidate : found.Candidate → Candidate
 seen_candidate c = record { anchor = c.anchor; above = c.above.items }
@@ -39,10 +28,6 @@ pub record HasRightTails (accepts : Accepts) (s : Search) (count : ℕ) : Type 0
   pub right : AllByRecursion (IsRightTail accepts s) tails
   pub different : AreDifferent tails
   pub enough : count ≤ length tails
-
--- how many questions there can be: each certificate, and who may have issued it
-abbrev pub count_pairs : Search → ℕ
-count_pairs s = (length s.bag + 1) * (length s.anchors + length s.bag)
 
 -- it comes after the last one, if there is a last one
 abbrev pub IsAfter : Option Candidate → Candidate → Type 0

@@ -11,8 +11,8 @@ use Rattle.path_conditions.specs.declared.form_set.FormSet.{FormSet}
 use Rattle.path_conditions.specs.NamesOf.{Permits, Excludes, Constrains}
 use Rattle.path_conditions.specs.Narrowing.{is_in_one_of}
 use Rattle.path_conditions.specs.Constraints.{Constraints, permits_name, has_number}
-use Rattle.path_search.specs.Search.{certificates_at, path_down_to}
-use Rattle.path_search.specs.Factors.{AdmitNamesBelow, AllowsLength, Lacks}
+use Rattle.path_issuers.specs.Search.{certificates_at, path_down_to}
+use Rattle.path_issuers.specs.Factors.{AdmitNamesBelow, AllowsLength, Lacks}
 use Rattle.path_search.specs.declared.tail.Tail as code
 
 -- the certificates of a tail, in order down to its target

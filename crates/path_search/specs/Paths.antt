@@ -1,13 +1,15 @@
 -- The valid paths of a search, one after the other.
 use Rattle.std.specs.Prelude.{◌≡◌, ◌⊎◌, ◌<◌, ℕ, Option, Some, None}
 use Rattle.path.specs.Query.{Accepts}
-use Rattle.path_search.specs.Search.{Search, Candidate}
-use Rattle.path_search.specs.Links.{AreLinks, seen_links}
-use Rattle.path_search.specs.Answer.{HasRightTails, IsAnswerWithin, IsNextValid, HasNoMore, count_pairs, seen_candidate, seen_search}
+use Rattle.path_issuers.specs.Search.{Search, Candidate}
+use Rattle.path_issuers.specs.Links.{AreLinks, seen_links}
+use Rattle.path_search.specs.Answer.{HasRightTails, IsAnswerWithin, IsNextValid, HasNoMore, seen_candidate}
+use Rattle.path_issuers.specs.View.{seen_search}
+use Rattle.path_issuers.specs.Asking.{count_pairs}
 use Rattle.path_search.specs.Walk.{StandsBehind, last_after}
-use Rattle.path_search.specs.declared.search.Budget.{Budget}
-use Rattle.path_search.specs.declared.search.Answer.{Answer}
-use Rattle.path_search.specs.declared.search.Answer.TheVariants.{Found, NotFound, GaveUp}
+use Rattle.path_search.specs.declared.answer.Budget.{Budget}
+use Rattle.path_search.specs.declared.answer.Answer.{Answer}
+use Rattle.path_search.specs.declared.answer.Answer.TheVariants.{Found, NotFound, GaveUp}
 use Rattle.path_search.specs.declared.walk.Walk.{Walk}
 use Rattle.path_search.specs.declared.paths.Paths.{Paths}
 

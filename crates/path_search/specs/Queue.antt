@@ -2,7 +2,7 @@
 use Rattle.std.specs.Prelude.{◌≡◌, ◌⊎◌, ◌<◌, ◌≤◌, ℕ, List, [], ◌∷◌, ◌++◌, length, map, take, slice_index, slice_index_or}
 use Rattle.std.specs.Global.{Vec}
 use Rattle.std.specs.List.{All, AllPairs}
-use Rattle.path_search.specs.Search.{ArePlacesBefore}
+use Rattle.path_issuers.specs.Search.{ArePlacesBefore}
 use Rattle.path_search.specs.declared.queue.Queue as code
 
 -- the shorter tail first, and of those as long the one with the lesser place where they first differ

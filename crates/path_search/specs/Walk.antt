@@ -1,14 +1,14 @@
 -- The walk from the target upward, which hands out candidates in order.
 use Rattle.std.specs.Prelude.{◌≡◌, ◌⊎◌, ◌+◌, ◌<◌, ◌≤◌, ℕ, zero, suc, Bool, true, false, List, [], ◌∷◌, ◌++◌, Option, Some, None, if◌then◌else◌, length, max, nat_lt, slice_index, slice_index_or}
 use Rattle.path.specs.Query.{Accepts}
-use Rattle.path_search.specs.Search.{Search, Candidate, IsValidCandidate, path_down_to}
-use Rattle.path_search.specs.Factors.{IsRightAsTarget}
+use Rattle.path_issuers.specs.Search.{Search, Candidate, IsValidCandidate, path_down_to}
+use Rattle.path_issuers.specs.Factors.{IsRightAsTarget}
 use Rattle.path_search.specs.Authority.{FitsAbove}
-use Rattle.path_search.specs.Links.{Links, AreLinks, issuers_of, anchors_of, certificate_at}
+use Rattle.path_issuers.specs.Links.{Links, AreLinks, issuers_of, anchors_of, certificate_at}
 use Rattle.path_search.specs.Answer.{IsRightTail, HasRightTails, IsAfter, IsAnswerWithin, seen_candidate}
 use Rattle.path_search.specs.Queue.{IsTailBefore, IsQueue, seen_tails}
-use Rattle.path_search.specs.declared.search.Answer.{Answer}
-use Rattle.path_search.specs.declared.search.Answer.TheVariants.{Found, NotFound, GaveUp}
+use Rattle.path_search.specs.declared.answer.Answer.{Answer}
+use Rattle.path_search.specs.declared.answer.Answer.TheVariants.{Found, NotFound, GaveUp}
 use Rattle.path_search.specs.declared.queue.Queue as code
 
 -- tails

@@ -5,12 +5,12 @@ ghost use Rattle.std.specs.List.{AllByRecursion};
 ghost use Rattle.cert.specs.Certificate.{seen_certificate};
 ghost use Rattle.path_conditions.specs.Constraints.{HasNoProcessed};
 ghost use Rattle.path_search.specs.Authority.{FitsAbove, seen_above, seen_tail};
-ghost use Rattle.path_search.specs.Factors.{AdmitNames, AdmitNamesOfOther, AdmitNamesBelow, AllowsLength, ConstrainNoOtherForm, ExcludeNoName, IsRightAbove, PermitNames};
+ghost use Rattle.path_issuers.specs.Factors.{AdmitNames, AdmitNamesOfOther, AdmitNamesBelow, AllowsLength, ConstrainNoOtherForm, ExcludeNoName, IsRightAbove, PermitNames};
 
-use crate::alone::{is_right_as_authority, issues};
 use crate::tail::Tail;
 use cert::Certificate;
 use path_conditions::{Constraints, FormSet, path_length};
+use path_issuers::{is_right_as_authority, issues};
 use path_verifiers::Verifier;
 use std::alloc::{AllocError, Global};
 use std::marker::Model;

@@ -2,15 +2,14 @@
 
 ghost use Rattle.std.specs.Prelude.{◌≡◌, ◌↔◌, ◌<◌, IfOk, IfSome, IsTrue, length, map, slice_get};
 ghost use Rattle.cert.specs.Certificate.{seen_certificate};
-ghost use Rattle.path_search.specs.Answer.{seen_search};
-ghost use Rattle.path_search.specs.Links.{seen_links};
+ghost use Rattle.path_issuers.specs.View.{seen_search};
+ghost use Rattle.path_issuers.specs.Links.{seen_links};
 ghost use Rattle.path_search.specs.Walk.{MayStandAbove, anchors_above, issuers_above, top_of};
 
 use crate::authority::Authority;
-use crate::links::Links;
-use crate::search::Search;
 use crate::tail::Tail;
 use cert::Certificate;
+use path_issuers::{Links, Search};
 use std::alloc::{AllocError, Global};
 
 /// What a walk goes by: a search, who issued whom in it, and each certificate of its bag with its name constraints at hand.

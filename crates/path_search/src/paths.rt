@@ -1,14 +1,15 @@
 //! The valid paths to a certificate, one after the other (RFC 4158).
 
 ghost use Rattle.std.specs.Prelude.{◌≡◌, ◌<◌, IfErr, IfOk, IfSome, None};
-ghost use Rattle.path_search.specs.Answer.{IsAnswer, count_pairs, seen_search};
-ghost use Rattle.path_search.specs.Links.{AreLinks, seen_links};
+ghost use Rattle.path_search.specs.Answer.{IsAnswer};
+ghost use Rattle.path_issuers.specs.View.{seen_search};
+ghost use Rattle.path_issuers.specs.Asking.{count_pairs};
+ghost use Rattle.path_issuers.specs.Links.{AreLinks, seen_links};
 ghost use Rattle.path_search.specs.Paths.{AnswersNext, ArePaths, MayWalk, PathsStay};
 
-use crate::linking::link;
-use crate::links::Links;
-use crate::search::{Answer, Budget, Search};
+use crate::answer::{Answer, Budget};
 use crate::walk::{Walk, has_right_target};
+use path_issuers::{Links, Search, link};
 use path_verifiers::Verifier;
 use std::alloc::{AllocError, Global};
 

@@ -1,14 +1,14 @@
 //! The steps of a walk from the target upward.
 
 ghost use Rattle.std.specs.Prelude.{◌≡◌, ◌<◌, IfErr, IfOk, vec_len};
-ghost use Rattle.path_search.specs.Answer.{seen_search};
-ghost use Rattle.path_search.specs.Links.{seen_links};
+ghost use Rattle.path_issuers.specs.View.{seen_search};
+ghost use Rattle.path_issuers.specs.Links.{seen_links};
 ghost use Rattle.path_search.specs.Queue.{places_of};
 ghost use Rattle.path_search.specs.Walk.{Answers, Grows, HasTried, IsAtSameTail, IsBounded, IsOnward, Stays, StaysAt, Steps, Turns};
 
+use crate::answer::{Answer, Candidate};
 use crate::ground::Ground;
 use crate::queue::{Queue, push_above};
-use crate::search::{Answer, Candidate};
 use std::alloc::{AllocError, Global};
 
 impl<'s, 'p, 'c> Ground<'s, 'p, 'c> {

@@ -4,7 +4,7 @@ ghost use Rattle.std.specs.Prelude.{◌≡◌, ◌↔◌, IsTrue};
 ghost use Rattle.std.specs.List.{list_any};
 ghost use Rattle.cert.specs.Certificate.{seen_certificate};
 ghost use Rattle.path_search.specs.Authority.{IsTop, has_octets_at, seen_at, seen_tail};
-ghost use Rattle.path_search.specs.Factors.{Lacks, others_above_target};
+ghost use Rattle.path_issuers.specs.Factors.{Lacks, others_above_target};
 
 use cert::Certificate;
 

@@ -2,17 +2,16 @@
 
 ghost use Rattle.std.specs.Prelude.{◌↔◌, IfErr, IfOk, IsTrue, None};
 ghost use Rattle.path.specs.Query.{Accepts};
-ghost use Rattle.path_search.specs.Answer.{seen_search};
-ghost use Rattle.path_search.specs.Links.{AreLinks, seen_links};
+ghost use Rattle.path_issuers.specs.View.{seen_search};
+ghost use Rattle.path_issuers.specs.Links.{AreLinks, seen_links};
 ghost use Rattle.path_search.specs.Paths.{IsWalk, WalkStays, WalksOn};
 ghost use Rattle.path_search.specs.Queue.{places_of};
 ghost use Rattle.path_search.specs.Walk.{AreFirst, HasRightTarget};
 
-use crate::alone::is_right_as_target;
+use crate::answer::Answer;
 use crate::ground::{Ground, authorities_of};
-use crate::links::Links;
 use crate::queue::Queue;
-use crate::search::{Answer, Search};
+use path_issuers::{Links, Search, is_right_as_target};
 use std::alloc::{AllocError, Global};
 
 /// Whether the target may stand at the end of a path, by itself.

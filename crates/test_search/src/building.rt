@@ -1,7 +1,8 @@
 //! Searches from texts in the notation of `vectors`.
 
 use cert::{CertFault, Certificate};
-use path_search::{Answer, Budget, Search, find};
+use path_search::{Answer, Budget, Issuer, Search, SearchQuestion, find, questions};
+use path_verifiers::{ListVerifier, Verifier, fingerprint};
 use std::alloc::{AllocError, AllocFailed, Global};
 use std::fmt::Write;
 use vectors::{NotationFault, ToyVerifier, certificate};
@@ -83,32 +84,53 @@ fn text_of(alloc: Global, answer: &Answer) -> Result<String, SearchFault> {
     }
 }
 
-/// What is found among certificates, of which the first are the anchors, so many, and the last is the target.
-fn found_over(
-    alloc: Global,
-    all: &[Certificate<'_>],
+/// The search among certificates, of which the first are the anchors, so many, and the last is the target.
+fn search_of<'p, 'c>(
+    all: &'p [Certificate<'c>],
     anchors: usize,
-    budget: Budget,
-) -> Result<String, SearchFault> {
+) -> Result<Search<'p, 'c>, SearchFault> {
     let Some((anchors, behind)) = all.split_at_checked(anchors) else {
         return Err(SearchFault::Text);
     };
     let Some((target, bag)) = behind.split_last() else {
         return Err(SearchFault::Text);
     };
-    let search = Search {
+    Ok(Search {
         anchors,
         bag,
         target,
         moment: MIDDLE,
         purpose: None,
-    };
+    })
+}
+
+/// What is found among such certificates.
+fn found_over(
+    alloc: Global,
+    all: &[Certificate<'_>],
+    anchors: usize,
+    budget: Budget,
+) -> Result<String, SearchFault> {
+    let search = search_of(all, anchors)?;
     let answer = find(alloc, &ToyVerifier, &search, budget)?;
     text_of(alloc, &answer)
 }
 
-/// What is found among certificates that were built, as a row has it. They are read into one list: what a search is made of is lent by one
-/// owner.
+/// The octets of anchors, a bag and a target in one list: what a search is made of is lent by one owner.
+fn joined(
+    anchors: Vec<Vec<u8>>,
+    bag: Vec<Vec<u8>>,
+    target: Vec<u8>,
+) -> Result<Vec<Vec<u8>>, SearchFault> {
+    let mut all = anchors;
+    for octets in bag {
+        all.push(octets)?;
+    }
+    all.push(target)?;
+    Ok(all)
+}
+
+/// What is found among certificates that were built, as a row has it.
 pub fn found_among(
     alloc: Global,
     anchors: Vec<Vec<u8>>,
@@ -117,11 +139,73 @@ pub fn found_among(
     budget: Budget,
 ) -> Result<String, SearchFault> {
     let count = anchors.len();
-    let mut all = anchors;
-    for octets in bag {
-        all.push(octets)?;
-    }
-    all.push(target)?;
+    let all = joined(anchors, bag, target)?;
     let read = certificates_of(alloc, &all)?;
     found_over(alloc, &read, count, budget)
+}
+
+/// The questions as a row has them.
+fn text_of_questions(alloc: Global, asked: &[SearchQuestion]) -> Result<String, SearchFault> {
+    let mut text = String::new(alloc);
+    for question in asked {
+        let below = question.certificate;
+        match question.issuer {
+            Issuer::Anchor(place) => {
+                text.push_str(&format!(in alloc; " anchor {place} of {below}")?)?;
+            }
+            Issuer::Bag(place) => text.push_str(&format!(in alloc; " {place} of {below}")?)?,
+        }
+    }
+    Ok(text)
+}
+
+/// The verifier that believes the questions that are answered with yes, and nothing else.
+fn believing(
+    alloc: Global,
+    search: &Search<'_, '_>,
+    asked: &[SearchQuestion],
+) -> Result<ListVerifier, SearchFault> {
+    let mut prints = Vec::new(alloc);
+    for question in asked {
+        let certificate = search.certificate_at(question.certificate);
+        let key = search
+            .issuer_at(question.issuer)
+            .subject_public_key_info
+            .value
+            .whole;
+        let algorithm = certificate.algorithm.value.whole;
+        let signature = certificate.signature.octets();
+        if ToyVerifier.judge(algorithm, key, certificate.tbs.whole, signature) {
+            prints.push(fingerprint(algorithm, key, certificate.tbs.whole, signature))?;
+        }
+    }
+    Ok(ListVerifier::new(prints))
+}
+
+/// What a search may ask, and what is found by the answers alone.
+fn asked_over(
+    alloc: Global,
+    all: &[Certificate<'_>],
+    anchors: usize,
+    budget: Budget,
+) -> Result<(String, String), SearchFault> {
+    let search = search_of(all, anchors)?;
+    let asked = questions(alloc, &search)?;
+    let listed = believing(alloc, &search, &asked)?;
+    let answer = find(alloc, &listed, &search, budget)?;
+    Ok((text_of_questions(alloc, &asked)?, text_of(alloc, &answer)?))
+}
+
+/// What is asked about certificates that were built, and what is found by the answers alone, as rows have them.
+pub fn asked_among(
+    alloc: Global,
+    anchors: Vec<Vec<u8>>,
+    bag: Vec<Vec<u8>>,
+    target: Vec<u8>,
+    budget: Budget,
+) -> Result<(String, String), SearchFault> {
+    let count = anchors.len();
+    let all = joined(anchors, bag, target)?;
+    let read = certificates_of(alloc, &all)?;
+    asked_over(alloc, &read, count, budget)
 }

@@ -83,3 +83,17 @@ a target that issued itself, without being an authority | ee(T,T) | | ee(T,T) | 
 a target that another issued, and is an anchor | ee(T,A) | ca(A,R) | ee(T,A) | none
 the target would have to stand in its own path | ca(R,R) | ca(A,T) ; ca(T,A) ; ca(T,R){serial 06} | ca(T,A) | 0 : 0 2
 ";
+
+/// The same up to the target, and then what may be asked: whether an anchor, or the certificate at a place of the bag, issued the one at a
+/// place, the target being behind the bag.
+pub const QUESTIONS: &str = "
+the anchor issued the target | ca(R,R) | | ee(T,R) | anchor 0 of 0
+a chain | ca(R,R) | ca(A,R) ; ca(B,A) | ee(T,B) | anchor 0 of 0 0 of 1 1 of 2
+certificates from which no name leads to the target | ca(R,R) | ca(X,R) ; ca(A,R) ; ee(U,A) | ee(T,A) | anchor 0 of 1 1 of 3
+no name leads to the target | ca(R,R) | ca(A,R) ; ca(B,A) | ee(T,C) |
+a ring below no anchor | ca(R,R) | ca(A,B) ; ca(B,A) | ee(T,A) | 0 of 1 0 of 2 1 of 0
+a ring below the anchor | ca(R,R) | ca(A,B) ; ca(B,A) ; ca(B,R) | ee(T,A) | anchor 0 of 2 0 of 1 0 of 3 1 of 0 2 of 0
+one that issued itself | ca(R,R) | ca(R,R) | ee(T,R) | anchor 0 of 0 anchor 0 of 1 0 of 0 0 of 1
+two anchors with one name, and two authorities | ca(R,R) ; ca(R,R){key N} | ca(A,R) ; ca(A,R){key N} | ee(T,A) | anchor 0 of 0 anchor 1 of 0 anchor 0 of 1 anchor 1 of 1 0 of 2 1 of 2
+names are matched, not compared | ca(R,R) | ca(Ab,R) | ee(T,aB) | anchor 0 of 0 0 of 1
+";

@@ -1,7 +1,7 @@
 //! The rows.
 
-use crate::building::{SearchFault, found_among, octets_of};
-use crate::rows::ROWS;
+use crate::building::{SearchFault, asked_among, found_among, octets_of};
+use crate::rows::{QUESTIONS, ROWS};
 use path_search::Budget;
 use std::alloc::Global;
 use std::test::Fail;
@@ -43,6 +43,14 @@ fn found_of(alloc: Global, row: &Row<'_>) -> Result<String, SearchFault> {
     found_among(alloc, anchors, bag, target, AMPLE)
 }
 
+/// What is asked for the row, and what is found by the answers alone.
+fn asked_of(alloc: Global, row: &Row<'_>) -> Result<(String, String), SearchFault> {
+    let anchors = octets_of(alloc, row.anchors)?;
+    let bag = octets_of(alloc, row.bag)?;
+    let target = certificate(alloc, row.target)?;
+    asked_among(alloc, anchors, bag, target, AMPLE)
+}
+
 /// The same with the bag the other way round: how many certificates the path has, one more than a row's words; or 0.
 fn length_turned(alloc: Global, row: &Row<'_>) -> Result<usize, SearchFault> {
     let anchors = octets_of(alloc, row.anchors)?;
@@ -69,6 +77,26 @@ fn the_order_of_the_bag_does_not_change_the_length(rt: HostRuntime) -> Result<()
         let row = row_of(line);
         let count = length_turned(rt.alloc(), &row).map_err(|_| "an answer")?;
         assert_eq!(rt; count, row.wanted.split(' ').count(), "{}", row.name);
+    }
+    Ok(())
+}
+
+#[test]
+fn a_search_may_ask_what_the_rows_say(rt: HostRuntime) -> Result<(), Fail> {
+    for line in QUESTIONS.lines().filter(|line| line.contains('|')) {
+        let row = row_of(line);
+        let (asked, _) = asked_of(rt.alloc(), &row).map_err(|_| "an answer")?;
+        assert_eq!(rt; asked.trim(), row.wanted, "{}", row.name);
+    }
+    Ok(())
+}
+
+#[test]
+fn the_answers_alone_give_the_first_valid_path(rt: HostRuntime) -> Result<(), Fail> {
+    for line in ROWS.lines().filter(|line| line.contains('|')) {
+        let row = row_of(line);
+        let (_, found) = asked_of(rt.alloc(), &row).map_err(|_| "an answer")?;
+        assert_eq!(rt; found.as_str(), row.wanted, "{}", row.name);
     }
     Ok(())
 }

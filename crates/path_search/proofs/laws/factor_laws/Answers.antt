@@ -1,4 +1,4 @@
-use Rattle.path_search.proofs.Factoring.{valid_path_factors, tail_is_right}
+use Rattle.path_issuers.proofs.Laws.{valid_path_factors, tail_is_right}
 use Rattle.path_search.proofs.laws.factor_laws.Goals as goal
 
 pub returns-clause-exact : goal.returns-clause-exact

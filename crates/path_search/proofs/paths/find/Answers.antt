@@ -1,6 +1,7 @@
 use Rattle.std.proofs.Common.{None}
 use Rattle.std.proofs.lemmas.Result.{IfOk-weaker}
-use Rattle.path_search.specs.Answer.{IsAnswer, seen_search}
+use Rattle.path_search.specs.Answer.{IsAnswer}
+use Rattle.path_issuers.specs.View.{seen_search}
 use Rattle.path_search.specs.Paths.{AnswersNext}
 use Rattle.path_search.proofs.Walks.{first_answer}
 use Rattle.path_search.proofs.paths.find.Goals as goal

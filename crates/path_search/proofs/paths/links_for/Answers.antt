@@ -1,6 +1,6 @@
 use Rattle.std.proofs.Common.{◌∙◌, sym}
 use Rattle.std.proofs.lemmas.Bool.{false≢true}
-use Rattle.path_search.specs.Answer.{seen_search}
+use Rattle.path_issuers.specs.View.{seen_search}
 use Rattle.path_search.proofs.Walks.{no_links}
 use Rattle.path_search.proofs.paths.links_for.Goals as goal
 

@@ -1,7 +1,7 @@
 use Rattle.std.proofs.Common.{map, arith, refl, subst, ◌∙◌, sym}
 use Rattle.std.proofs.lemmas.Bool.{false≢true}
 use Rattle.cert.specs.Certificate.{Certificate, seen_certificate}
-use Rattle.path_search.specs.Factors.{AdmitNamesOfOther}
+use Rattle.path_issuers.specs.Factors.{AdmitNamesOfOther}
 use Rattle.path_search.proofs.Tails.{all_places, one_more, place_of}
 use Rattle.path_search.proofs.authority.Authority.admits_names_above.Goals.{else-not-admits_names_of-via-then-not-admits_names_of+else-not-self_issued, else-not-admits_names_of-via-else-not-admits_names_of}
 use Rattle.path_search.proofs.authority.Authority.admits_names_above.Goals as goal

@@ -1,6 +1,6 @@
 use Rattle.std.proofs.Common.{ℕ, ◌<◌, map, slice_index_or}
 use Rattle.cert.specs.Certificate.{seen_certificate}
-use Rattle.path_search.specs.Factors.{AdmitNamesOfOther}
+use Rattle.path_issuers.specs.Factors.{AdmitNamesOfOther}
 use Rattle.path_search.proofs.authority.Authority.admits_names_above.Given as goal
 
 abbrev pub invariant-loop-place : goal.invariant-loop-place

@@ -1,7 +1,7 @@
 use Rattle.std.proofs.Common.{Bool, arith, subst, ◌∙◌, sym}
 use Rattle.std.proofs.lemmas.Option.{slice_get_within}
-use Rattle.path_search.specs.Answer.{seen_search}
-use Rattle.path_search.specs.Links.{seen_links}
+use Rattle.path_issuers.specs.View.{seen_search}
+use Rattle.path_issuers.specs.Links.{seen_links}
 use Rattle.path_search.specs.Queue.{places_of, seen_tails}
 use Rattle.path_search.specs.Walk.{HasTried, StaysAt, issuers_above}
 use Rattle.path_search.proofs.Standing.{at_more, at_full, at_kept, bounded_more, if_err, past}

@@ -1,8 +1,8 @@
 use Rattle.std.proofs.Common.{◌-◌, Option, length}
 use Rattle.path.specs.Query.{Accepts}
-use Rattle.path_search.specs.Search.{Candidate}
-use Rattle.path_search.specs.Links.{AreLinks, seen_links}
-use Rattle.path_search.specs.Answer.{seen_search}
+use Rattle.path_issuers.specs.Search.{Candidate}
+use Rattle.path_issuers.specs.Links.{AreLinks, seen_links}
+use Rattle.path_issuers.specs.View.{seen_search}
 use Rattle.path_search.specs.Walk.{IsAt, IsAtSameTail, IsBounded, issuers_above}
 use Rattle.path_search.proofs.ground.Ground.grow.Given as goal
 

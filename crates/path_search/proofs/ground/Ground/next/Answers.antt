@@ -1,9 +1,9 @@
 use Rattle.std.proofs.Common.{◌≤◌, Option, length, arith, subst}
-use Rattle.path_search.specs.Answer.{seen_search}
-use Rattle.path_search.specs.Links.{seen_links}
+use Rattle.path_issuers.specs.View.{seen_search}
+use Rattle.path_issuers.specs.Links.{seen_links}
 use Rattle.path_search.specs.Queue.{seen_tails}
 use Rattle.path_search.specs.Walk.{Stays, StepsTo}
-use Rattle.path_search.specs.declared.search.Answer.{Answer}
+use Rattle.path_search.specs.declared.answer.Answer.{Answer}
 use Rattle.path_search.proofs.Standing.{if_err, past_in}
 use Rattle.path_search.proofs.Walking.{ended_walk}
 use Rattle.path_search.proofs.ground.Ground.next.Goals as goal

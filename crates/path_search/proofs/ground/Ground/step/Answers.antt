@@ -1,8 +1,8 @@
 use Rattle.std.proofs.Common.{◌≡◌, ◌<◌, Some, None, length, slice_get, arith, subst, ◌∙◌, sym}
 use Rattle.std.proofs.lemmas.Result.{IfErr-weaker, IfOk-weaker}
-use Rattle.path_search.specs.Search.{Candidate}
-use Rattle.path_search.specs.Answer.{seen_search}
-use Rattle.path_search.specs.Links.{seen_links}
+use Rattle.path_issuers.specs.Search.{Candidate}
+use Rattle.path_issuers.specs.View.{seen_search}
+use Rattle.path_issuers.specs.Links.{seen_links}
 use Rattle.path_search.specs.Walk.{Stays, StaysAt, Steps, Turns, anchors_above}
 use Rattle.path_search.proofs.Standing.{at_handed, past, stands_at, stays_on, steps_on, tail_at, there_in}
 use Rattle.path_search.proofs.ground.Ground.step.Goals as goal

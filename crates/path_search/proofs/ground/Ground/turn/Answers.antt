@@ -1,6 +1,6 @@
 use Rattle.std.proofs.Common.{Bool, subst, arith}
-use Rattle.path_search.specs.Answer.{seen_search}
-use Rattle.path_search.specs.Links.{seen_links}
+use Rattle.path_issuers.specs.View.{seen_search}
+use Rattle.path_issuers.specs.Links.{seen_links}
 use Rattle.path_search.specs.Walk.{HasGrown}
 use Rattle.path_search.proofs.Standing.{at_stands, at_turned}
 use Rattle.path_search.proofs.ground.Ground.turn.Goals as goal

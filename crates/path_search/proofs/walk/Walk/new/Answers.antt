@@ -1,6 +1,6 @@
 use Rattle.std.proofs.Common.{refl}
-use Rattle.path_search.specs.Answer.{seen_search}
-use Rattle.path_search.specs.Links.{seen_links}
+use Rattle.path_issuers.specs.View.{seen_search}
+use Rattle.path_issuers.specs.Links.{seen_links}
 use Rattle.path_search.proofs.Walks.{stands_first}
 use Rattle.path_search.proofs.walk.Walk.new.Goals as goal
 

@@ -1,6 +1,6 @@
 use Rattle.std.proofs.lemmas.Result.{IfErr-weaker, IfOk-weaker}
-use Rattle.path_search.specs.Answer.{seen_search}
-use Rattle.path_search.specs.Links.{seen_links}
+use Rattle.path_issuers.specs.View.{seen_search}
+use Rattle.path_issuers.specs.Links.{seen_links}
 use Rattle.path_search.specs.Walk.{Answers, Stays}
 use Rattle.path_search.specs.Paths.{WalkStays, WalksOn}
 use Rattle.path_search.proofs.Walks.{walk_stays, walks_on}

@@ -1,0 +1,13 @@
+pub mod Search
+pub mod View
+pub mod Factors
+pub mod Links
+pub mod Questions
+pub mod Lists
+pub mod Frontier
+pub mod Keys
+pub mod Naming
+pub mod Wanting
+pub mod Asking
+pub use Rattle.path.specs.Query
+pub use Rattle.path.specs.Validity

@@ -1,9 +1,0 @@
-use Rattle.path_search.specs.Frontier.{left_of}
-use Rattle.path_search.specs.Wanting.{IsWanting}
-use Rattle.path_search.proofs.wanted.wanted_names.Given as goal
-
-abbrev pub invariant-loop-number : goal.invariant-loop-number
-invariant-loop-number l = IsWanting l.subjects l.issuers l.count l.frontier
-
-abbrev pub decreases-loop-number : goal.decreases-loop-number
-decreases-loop-number l = left_of l.frontier
