@@ -7,3 +7,4 @@ mod Agreeing
 mod Agreed
 mod Calling
 mod Surviving
+mod Alike

@@ -12,6 +12,9 @@ use Rattle.relying_agreement.specs.declared.verdict.Comparison.{Comparison}
 use Rattle.relying_verdicts.specs.declared.fault.Fault.{Fault}
 use Rattle.relying_verdicts.specs.declared.fault.Fault.TheVariants.{Store, Memory}
 use Rattle.relying_verdicts.specs.Asking.{AskIsCaused, AskOfBothIsCaused, HasAsked, HasAskedBoth, AreInvalidOrOpen, IsInvalidOrOpen}
+use Rattle.path_issuers.specs.Search.{Search}
+use Rattle.relying_search.specs.Finding.{Finding}
+use Rattle.relying_verdicts.specs.Looking.{IsFoundOnlyIfOpen}
 use Rattle.relying.specs.Asking.{HasLooked, HasLookedAtBoth}
 
 dropped : (old last new : State) → KeepsCommit old last → IsRolledBack last new → KeepsCommit old new
@@ -78,6 +81,10 @@ asked_both_at g h old begun other other_begun last new other_last other_new Memo
 pub opened : {S : Type 0} (accepts : Accepts) (query : Query) (g : Ghosts S) (old begun : Held S) (verdict : Verdict) → begun ≡ record old { in_transaction = true }
     → IsInvalidOrOpen accepts query (state g begun).is_open verdict → IsInvalidOrOpen accepts query (state g old).is_open verdict
 opened accepts query g old begun verdict is it = subst (λ b. IsInvalidOrOpen accepts query (state g b).is_open verdict) is it
+
+pub found_open : {S : Type 0} (accepts : Accepts) (s : Search) (g : Ghosts S) (old begun : Held S) (finding : Finding) → begun ≡ record old { in_transaction = true }
+    → IsFoundOnlyIfOpen accepts s (state g begun).is_open finding → IsFoundOnlyIfOpen accepts s (state g old).is_open finding
+found_open accepts s g old begun finding is it = subst (λ b. IsFoundOnlyIfOpen accepts s (state g b).is_open finding) is it
 
 pub opened_both : {S T : Type 0} (accepts : Accepts) (query : Query) (g : Ghosts S) (h : Ghosts T) (old begun : Held S) (other other_begun : Held T) (comparison : Comparison)
     → begun ≡ record old { in_transaction = true } → other_begun ≡ record other { in_transaction = true }

@@ -10,6 +10,10 @@ use Rattle.path.specs.Query.{Query, Accepts}
 use Rattle.relying_agreement.specs.declared.verdict.Verdict.{Verdict}
 use Rattle.relying_agreement.specs.declared.verdict.Comparison.{Comparison}
 use Rattle.relying_verdicts.specs.Asking.{AreInvalidOrOpen, AskIsCaused, AskOfBothIsCaused, IsInvalidOrOpen}
+use Rattle.path_issuers.specs.Search.{Search}
+use Rattle.relying_verdicts.specs.Looking.{IsFoundOnlyIfOpen}
+use Rattle.relying_search.specs.Finding.{seen_finding}
+use Rattle.relying_search.specs.declared.finding.Finding.{Finding}
 use Rattle.relying_verdicts.specs.declared.fault.Fault.{Fault}
 use Rattle.relying_verdicts.specs.declared.fault.Fault.TheVariants.{Store, Memory}
 
@@ -39,6 +43,12 @@ LooksInside old new Is result = HasCleanDisk new → HasLooked KeepsCommit old n
 -- written.
 abbrev pub AnswersOnlyIfOpen : Accepts → Query → State → State → Result Verdict Fault → Type 0
 AnswersOnlyIfOpen accepts query old new result = HasCleanDisk new → IfOk result (IsInvalidOrOpen accepts query old.is_open)
+
+-- A path with its verdict comes from an open connection alone, if the disk returned what was written; that none is valid is so whatever
+-- is held.
+abbrev pub FindsOnlyIfOpen : Accepts → Search → State → State → Result Finding Fault → Type 0
+FindsOnlyIfOpen accepts s old new result =
+    HasCleanDisk new → IfOk result (λ finding. IsFoundOnlyIfOpen accepts s old.is_open (seen_finding finding))
 
 -- before a call and after it, what is shown is committed
 abbrev pub AreSettled : State → State → Type 0

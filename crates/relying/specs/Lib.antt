@@ -9,3 +9,4 @@ pub mod Stopping
 pub mod Never
 pub mod Agreed
 pub mod Calls
+pub mod Found

@@ -4,12 +4,15 @@ ghost use Rattle.std.specs.Prelude.{◌≡◌, IfErr, IfOk};
 ghost use Rattle.store_sql.specs.Statements.{IsDurable, CommitsNothing};
 ghost use Rattle.store_adoption.specs.Creates.{IsSettled};
 ghost use Rattle.relying_agreement.specs.Verdict.{IsVerdict};
-ghost use Rattle.relying.specs.Asking.{AnswersOnlyIfOpen, Looks, LooksForCause};
+ghost use Rattle.path_issuers.specs.View.{seen_search};
+ghost use Rattle.relying_search.specs.Finding.{FindsHolding};
+ghost use Rattle.relying.specs.Asking.{AnswersOnlyIfOpen, FindsOnlyIfOpen, Looks, LooksForCause};
 ghost use Rattle.relying.specs.Delivery.{AnswersDelivery, DeliversForCause, IsAnswerTo, MayCommitDelivery};
 ghost use Rattle.relying.specs.Restart.{HasRestarted};
 ghost use Rattle.relying.specs.View.{stored};
 ghost use Rattle.path.specs.Reading.{seen_query};
 ghost use Rattle.relying_verdicts.specs.Asking.{IsFaultOfValidPath};
+ghost use Rattle.relying_verdicts.specs.Looking.{IsFaultOfValidCandidate};
 ghost use Rattle.store.specs.Adopts.{IsStoreOn};
 ghost use Rattle.store.specs.Opens.{FailsToReopen, ReopensForCause};
 ghost use Rattle.store_taking.specs.Delivery.{AllOrNothing, PutsFacts};
@@ -17,9 +20,12 @@ ghost use Rattle.store_taking.specs.Room.{PutsForCause};
 
 use crate::delivering::read_statement;
 use crate::fault::DeliverFault;
+use crate::finding::find_over;
 use crate::resting::at_rest;
 use crate::verdicts::verdict_of;
+use path_search::Search;
 use path_verifiers::Verifier;
+use relying_search::{Finding, FindingBudget};
 use relying_verdicts::{Fault, Query, Verdict};
 use sqlite_disk::Disk;
 use statements_facts::{Counts, Facts};
@@ -119,6 +125,30 @@ impl<V: Verifier + Drop, D: Disk + Drop> Node<V, D> {
         ensures survives { CommitsNothing (stored self.old) (stored self.new) }
     {
         verdict_of(alloc, &self.verifier, &mut self.store.conn, query)
+    }
+
+    /// Searches for a path to the target, as `path_search::find` does, and asks for the verdict on each valid one by what is held, as
+    /// `verdict` answers it, until one is `Valid`: that path is found. If none is, the first valid path is found, with its verdict. All
+    /// look-ups are in one transaction; what is held does not change. The store is asked only if a path is valid.
+    pub fn find(
+        &mut self,
+        alloc: Global,
+        search: &Search<'_, '_>,
+        budget: FindingBudget,
+    ) -> Result<Finding, Fault>
+        ensures verifier { self.new.verifier ≡ self.old.verifier }
+        ensures looks { Looks (stored self.old) (stored self.new)
+            (FindsHolding (V.accepts self.old.verifier) (seen_search search.now) budget) result }
+        ensures caused { LooksForCause (stored self.old) (stored self.new) result }
+        ensures open { FindsOnlyIfOpen (V.accepts self.old.verifier) (seen_search search.now)
+            (stored self.old) (stored self.new) result }
+        ensures valid { IfErr result
+            (IsFaultOfValidCandidate (V.accepts self.old.verifier) (seen_search search.now)) }
+        ensures settled { IsSettled (stored self.new) }
+        ensures durable { IsDurable (stored self.new) }
+        ensures survives { CommitsNothing (stored self.old) (stored self.new) }
+    {
+        find_over(alloc, &self.verifier, &mut self.store.conn, search, budget)
     }
 
     /// Closes the store's files and takes them for a store again, which reads each row once. If that fails, what is left of the store

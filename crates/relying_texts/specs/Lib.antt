@@ -7,3 +7,4 @@ pub use Rattle.relying_agreement.specs.Run
 pub use Rattle.relying_agreement.specs.Agreement
 pub use Rattle.path.specs.Query
 pub use Rattle.statements.specs.Statement
+pub use Rattle.relying_search.specs.Finding

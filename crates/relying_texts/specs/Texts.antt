@@ -4,7 +4,7 @@ use Rattle.std.specs.List.{flat_map}
 use Rattle.cert.specs.Certificate.{Certificate}
 use Rattle.statements_crl.specs.CertificateList.{CertificateList}
 use Rattle.statements_facts.specs.Fact.{Fact}
-use Rattle.statements_facts.specs.Statement.{empty_holdings}
+use Rattle.statements_facts.specs.Statement.{Holdings, empty_holdings}
 use Rattle.statements_ocsp.specs.OcspResponse.{OcspResponse}
 use Rattle.statements.specs.Statement.{Statement, statement_said}
 use Rattle.path.specs.Query.{Query, Accepts}
@@ -40,6 +40,10 @@ facts_told accepts issuers statements = flat_map (facts_under_each accepts issue
 -- the party that began with nothing, and was told this
 abbrev pub party_told : Accepts → Query → List Statement → Party
 party_told accepts query statements = after_taking accepts empty_holdings (facts_told accepts (issuers_of query) statements)
+
+-- what it holds when a path is asked about
+abbrev pub held_for : Accepts → List Statement → Query → Holdings
+held_for accepts statements query = (party_told accepts query statements).held
 
 -- what bears on the certificates of the path by what it holds
 abbrev pub evidence_told : Accepts → Query → List Statement → List Evidence

@@ -3,6 +3,7 @@
 
 mod contents;
 mod deliveries;
+mod finding;
 mod gathering;
 mod newest;
 mod reading;
@@ -11,6 +12,7 @@ mod same_issuer;
 mod verdicts;
 
 pub use deliveries::delivery_laws;
+pub use finding::find;
 pub use reading::{StatementsFault, read_statements};
 pub use relying_agreement::Verdict;
 pub use verdicts::verdict;

@@ -69,7 +69,7 @@ fn first_uncovered(earlier: Option<usize>, number: usize, is_covered: bool) -> O
 
 /// The verdict on the certificates of a path that meets all conditions: the first that is revoked; if none is, the first of which no
 /// statement speaks; else that the path is valid.
-fn verdict_on(
+pub(crate) fn verdict_on(
     links: &[Link<'_, '_>],
     genuine: &[GenuineStatement<'_, '_, '_>],
     moment: i64,

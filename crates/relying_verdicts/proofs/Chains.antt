@@ -1,5 +1,5 @@
 -- One look-up behind another, in one store or in two.
-use Rattle.std.proofs.Common.{refl, sym, subst, ◌∙◌, Result, Ok, Err, inl, inr}
+use Rattle.std.proofs.Common.{refl, sym, subst, ◌∙◌, IsTrue, Result, Ok, Err, inl, inr}
 use Rattle.sqlite.specs.State.{State, HasCleanDisk, KeepsCommit}
 use Rattle.sqlite.proofs.InsideLemmas.{keeps_then}
 use Rattle.sqlite.proofs.StateLemmas.{survives_then}
@@ -12,7 +12,7 @@ use Rattle.store_maps.specs.Held.{IsStoreOf}
 use Rattle.store_maps.specs.LooksUp.{FailsIn, IsCausedOverStore, IsFoundIn, LooksUp}
 use Rattle.relying_verdicts.specs.declared.fault.Fault.{Fault}
 use Rattle.relying_verdicts.specs.declared.fault.Fault.TheVariants.{Store, Memory}
-use Rattle.relying_verdicts.specs.Asking.{AskIsCaused, AskOfBothIsCaused, AskFails, IsFoundInBoth, AskOfBothFails, HasAskedBoth}
+use Rattle.relying_verdicts.specs.Asking.{AskIsCaused, AskOfBothIsCaused, AskFails, HasAsked, IsFoundInBoth, AskOfBothFails, HasAskedBoth}
 
 pub keeps_itself : (s : State) → KeepsCommit s s
 keeps_itself s = record { was_open = λ is. is; committed = λ is. refl }
@@ -38,6 +38,20 @@ found_as old new P a R b is leads = record {
 pub looks_as : {A : Type 0} (old new : State) (result : Result A StoreFault) (P R : Holdings → A → Type 0) → LooksUp old new P result → ((held : Holdings) (found : A) → P held found → R held found) → LooksUp old new R result
 looks_as old new (Ok found) P R is leads = found_as old new P found R found is (λ held there. leads held found there)
 looks_as old new (Err fault) P R fails leads = fails
+
+-- and of what was asked
+pub asks_as : {A : Type 0} (old new : State) (result : Result A Fault) (P R : Holdings → A → Type 0) → HasAsked old new P result
+    → ((held : Holdings) (found : A) → P held found → R held found) → HasAsked old new R result
+asks_as old new (Ok found) P R is leads = found_as old new P found R found is (λ held there. leads held found there)
+asks_as old new (Err fault) P R fails leads = fails
+
+-- nothing was asked, so it is said of whatever is held
+pub found_same : {B : Type 0} (s : State) (R : Holdings → B → Type 0) (b : B) → IsTrue s.in_transaction → ((held : Holdings) → R held b) → IsFoundIn s s R b
+found_same s R b mode is = record {
+  keeps = keeps_itself s;
+  mode = mode;
+  held = λ held store. (record { open_is = refl; now_is = refl; committed_is = refl; mode = refl }, is held);
+}
 
 pub found_then : {A B C : Type 0} (old mid new : State) (P : Holdings → A → Type 0) (a : A) (Q : Holdings → B → Type 0) (b : B) (R : Holdings → C → Type 0) (c : C)
     → IsFoundIn old mid P a → IsFoundIn mid new Q b → ((held : Holdings) → P held a → Q held b → R held c) → IsFoundIn old new R c

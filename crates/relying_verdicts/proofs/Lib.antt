@@ -3,3 +3,4 @@ mod Chains
 mod Differing
 mod Opening
 mod Links
+mod Searching

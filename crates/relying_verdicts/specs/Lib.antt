@@ -1,7 +1,9 @@
 pub mod Asking
 pub mod Found
 pub mod Difference
+pub mod Looking
 pub use Rattle.relying_agreement.specs.Verdict
 pub use Rattle.relying_agreement.specs.Comparison
+pub use Rattle.relying_search.specs.Finding
 pub use Rattle.path.specs.Query
 pub use Rattle.store_maps.specs.LooksUp

@@ -4,11 +4,13 @@
 mod comparing;
 mod evidence;
 mod fault;
+mod finding;
 mod looking;
 mod verdicts;
 
 pub use comparing::compare;
 pub use fault::Fault;
+pub use finding::find;
 pub use path::{Query, QueryFault};
 pub use relying_agreement::{Comparison, Verdict};
 pub use verdicts::verdict;

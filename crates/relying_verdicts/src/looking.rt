@@ -17,7 +17,7 @@ ghost use Rattle.path.specs.Reading.{seen_query};
 use crate::fault::Fault;
 use cert::Certificate;
 use path::Query;
-use relying_evidence::{Evidence, Link, may_sign_crls, own_scope};
+use relying_evidence::{Evidence, Link, links_of, may_sign_crls, own_scope};
 use sha1::Sha1;
 use sqlite::{Alter, Transaction};
 use statements::issuer_of;
@@ -72,7 +72,31 @@ fn evidence_of<S: Alter>(
     })
 }
 
-/// What bears on the certificates of a path, one after the other: of each one look-up in a slot, and the key of the issuer's name once.
+/// What bears on certificates, one after the other: of each one look-up in a slot, and the key of the issuer's name once.
+pub(crate) fn evidence_of_each<S: Alter>(
+    alloc: Global,
+    tx: &mut Transaction<'_, S>,
+    links: &[Link<'_, '_>],
+) -> Result<Vec<Evidence>, Fault>
+    requires inside { IsInTransaction S.Store tx.old }
+    ensures same_reference { KeepsReference tx.old tx.new }
+    ensures count { IfOk result (λ all. vec_len all ≡ length links.now) }
+    ensures asks { AsksStore S.Store tx.old tx.new (λ held all.
+        map seen_evidence all.items ≡ map (evidence_of held) (map seen_link links.now)) result }
+    ensures caused { AsksForCause S.Store tx.old tx.new result }
+    ensures open { HasCleanDisk (inside S.Store tx.new)
+        → IfOk result (λ all. all.items ≢ [] → IsTrue (inside S.Store tx.old).is_open) }
+    ensures survives { CommitsNothing (inside S.Store tx.old) (inside S.Store tx.new) }
+{
+    let mut all = Vec::new(alloc);
+    for link in links {
+        let it = evidence_of(alloc, tx, link)?;
+        all.push(it)?;
+    }
+    Ok(all)
+}
+
+/// What bears on the certificates of a path.
 pub(crate) fn evidence_on<S: Alter>(
     alloc: Global,
     tx: &mut Transaction<'_, S>,
@@ -88,17 +112,6 @@ pub(crate) fn evidence_on<S: Alter>(
         → IfOk result (λ all. all.items ≢ [] → IsTrue (inside S.Store tx.old).is_open) }
     ensures survives { CommitsNothing (inside S.Store tx.old) (inside S.Store tx.new) }
 {
-    let mut all = Vec::new(alloc);
-    let mut issuer = &query.anchor;
-    for (index, certificate) in query.path.iter().enumerate() {
-        let link = Link {
-            number: index + 1,
-            issuer,
-            certificate,
-        };
-        let it = evidence_of(alloc, tx, &link)?;
-        all.push(it)?;
-        issuer = certificate;
-    }
-    Ok(all)
+    let links = links_of(alloc, &query.anchor, query.path.as_slice())?;
+    evidence_of_each(alloc, tx, links.as_slice())
 }

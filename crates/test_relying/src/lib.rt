@@ -11,6 +11,8 @@ mod asking;
 #[cfg(test)]
 mod at_paths;
 #[cfg(test)]
+mod finding;
+#[cfg(test)]
 mod in_steps;
 #[cfg(test)]
 mod limited;

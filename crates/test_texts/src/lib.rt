@@ -7,6 +7,8 @@ mod asked;
 #[cfg(test)]
 mod asking;
 #[cfg(test)]
+mod finding;
+#[cfg(test)]
 mod rows;
 #[cfg(test)]
 mod texts;

@@ -31,6 +31,8 @@
 //!        let query = Query::read(alloc, anchor_octets, &path_octets, moment, purpose)?;
 //!        let verdict = node.verdict(alloc, &query)?;
 //!
+//!    `node.find` searches for the path and gives its verdict in one call, and goes on to the next path if one is not `Valid`.
+//!
 //!    A program that keeps no store hands over its statements each time. `at_hand::verdict` answers what a party would that began with
 //!    nothing and was delivered all of them.
 //!
@@ -74,8 +76,9 @@ pub use store_sql::StoreFault;
 // ---- relying parties
 
 pub use relying::{
-    Comparison, DeliverAnswer, DeliverFault, Event, Fault, Node, ReopenFault, RunFault, Verdict,
-    call_laws, compare, node_laws, read_statement, run_laws,
+    Comparison, DeliverAnswer, DeliverFault, Event, Fault, Finding, FindingBudget, Node,
+    ReopenFault, RunFault, Verdict, call_laws, compare, finding_laws, node_laws, read_statement,
+    run_laws,
 };
 pub use relying_agreement::{
     agreement_examples, agreement_laws, comparison_laws, taking_laws, verdict_laws,
@@ -110,8 +113,9 @@ pub mod identities {
 /// Paths to a certificate, found among certificates that come in any order (RFC 4158).
 pub mod search {
     pub use path_search::{
-        Answer, Authority, Budget, Candidate, Paths, Search, Tail, factor_laws, find,
-        is_right_as_authority, is_right_as_target, issues, search_laws,
+        Answer, Authority, Budget, Candidate, Issuer, Paths, Search, SearchQuestion, Tail,
+        factor_laws, find, is_right_as_authority, is_right_as_target, issues, question_laws,
+        questions, search_laws,
     };
 }
 
@@ -146,7 +150,7 @@ pub mod revocation {
 /// Verdicts by statements at hand, without a store, and what a verifier may be asked for them.
 pub mod at_hand {
     pub use relying_questions::{SignatureQuestion, TextPart, WhichText, question_laws, questions};
-    pub use relying_texts::{StatementsFault, delivery_laws, read_statements, verdict};
+    pub use relying_texts::{StatementsFault, delivery_laws, find, read_statements, verdict};
 }
 
 /// What a store holds, and how a connection is taken for a store and looked up.

@@ -1,0 +1,4 @@
+mod Standing
+mod Same
+mod Downward
+pub mod Laws
