@@ -244,7 +244,7 @@ module _ (accepts : Accepts) (moment : ℤ) (purpose : Option (List ℕ)) where
   first_right a [] issued right = absurd issued
   first_right a (c ∷ cs) issued right = of_right a c cs issued right
 
-  tail_right : (above below : List Certificate) → AreRight accepts moment purpose (above ++ below) → below ≢ [] → AreRight accepts moment purpose below
+  pub tail_right : (above below : List Certificate) → AreRight accepts moment purpose (above ++ below) → below ≢ [] → AreRight accepts moment purpose below
   tail_right [] below right some = right
   tail_right (c ∷ []) [] right some = absurd (some refl)
   tail_right (c ∷ []) (d ∷ below) right some = right.1

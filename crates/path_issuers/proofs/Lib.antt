@@ -14,4 +14,5 @@ mod Gathering
 mod ByNumber
 mod Asked
 mod Agreeing
+mod Signing
 pub mod Laws

@@ -61,16 +61,15 @@ pub record AdmitNames (constraints : NameConstraints) (c : Certificate) : Type 0
   pub not_excluded : ExcludeNoName constraints c
   pub processed : ConstrainNoOtherForm constraints c
 
--- or the certificate is self-issued
-abbrev pub AdmitNamesOfOther : NameConstraints → Certificate → Type 0
-AdmitNamesOfOther constraints c = is_self_issued c ≡ false → AdmitNames constraints c
+-- of certificates that are in order down to a target, the fact holds of the target, and of each above it that is not self-issued
+abbrev pub HoldsOfNamed : (Certificate → Type 0) → List Certificate → Type 0
+HoldsOfNamed Holds [] = Unit {0}
+HoldsOfNamed Holds (target ∷ []) = Holds target
+HoldsOfNamed Holds (c ∷ next ∷ below) = (is_self_issued c ≡ false → Holds c) × HoldsOfNamed Holds (next ∷ below)
 
--- the constraints let the names pass of a target, and of each certificate above it that is not self-issued
+-- the constraints let their names pass
 abbrev pub AdmitNamesBelow : NameConstraints → List Certificate → Type 0
-AdmitNamesBelow constraints [] = Unit {0}
-AdmitNamesBelow constraints (target ∷ []) = AdmitNames constraints target
-AdmitNamesBelow constraints (c ∷ next ∷ below) =
-    AdmitNamesOfOther constraints c × AdmitNamesBelow constraints (next ∷ below)
+AdmitNamesBelow constraints below = HoldsOfNamed (AdmitNames constraints) below
 
 -- how many certificates above the target are not self-issued
 abbrev pub others_above_target : List Certificate → ℕ

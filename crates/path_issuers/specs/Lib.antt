@@ -9,5 +9,6 @@ pub mod Keys
 pub mod Naming
 pub mod Wanting
 pub mod Asking
+pub mod Upward
 pub use Rattle.path.specs.Query
 pub use Rattle.path.specs.Validity

@@ -13,7 +13,7 @@ use std::alloc::{AllocError, Global};
 
 /// What is looked for among certificates whose names match.
 #[derive(Clone, Copy)]
-pub(crate) enum Sought {
+pub enum Sought {
     /// The anchors that issued the certificate at the place.
     AnchorsOf(usize),
     /// The certificates that the one at the place of the bag issued.
@@ -22,7 +22,7 @@ pub(crate) enum Sought {
 
 impl Sought {
     /// The question about the one at a place.
-    pub(crate) fn question(self, place: usize) -> SearchQuestion
+    pub fn question(self, place: usize) -> SearchQuestion
         ensures { result ≡ question_about self place }
     {
         match self {
@@ -58,19 +58,19 @@ fn ask<V: Verifier>(
     Some(issues(verifier, issuer, certificate))
 }
 
-/// Adds a place if its question was answered so.
-fn add_if(picked: &mut Vec<usize>, place: usize, issued: bool) -> Result<(), AllocError>
+/// Adds a place if it passes a test.
+pub fn add_if(picked: &mut Vec<usize>, place: usize, passes: bool) -> Result<(), AllocError>
     ensures { OnOk result (picked.new.items
-        ≡ (if issued then picked.old.items ++ place ∷ [] else picked.old.items)) }
+        ≡ (if passes then picked.old.items ++ place ∷ [] else picked.old.items)) }
 {
-    if issued {
+    if passes {
         picked.push(place)?;
     }
     Ok(())
 }
 
 /// Of places, those that are sought. `None` if the questions that are left do not suffice.
-pub(crate) fn pick<V: Verifier>(
+pub fn pick<V: Verifier>(
     alloc: Global,
     verifier: &V,
     search: &Search<'_, '_>,

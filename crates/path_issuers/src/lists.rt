@@ -18,7 +18,7 @@ pub(crate) fn number_at(numbers: &[usize], place: usize) -> usize
 }
 
 /// The list at the place; an empty one if there is none.
-pub(crate) fn list_at(lists: &[Vec<usize>], place: usize) -> &[usize]
+pub fn list_at(lists: &[Vec<usize>], place: usize) -> &[usize]
     ensures { result.now ≡ list_at (lists_of lists.now) place }
 {
     match lists.get(place) {

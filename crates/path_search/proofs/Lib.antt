@@ -5,3 +5,7 @@ mod Queues
 mod Walking
 mod Standing
 mod Walks
+mod Climbing
+mod Collected
+mod Ranking
+mod Explaining

@@ -15,7 +15,7 @@ use Rattle.path_search.specs.declared.queue.Queue.{Queue}
 use Rattle.path_search.proofs.Walking.{tried_more, gave_up, turned_walk, handed_out, behind_it, last_is, last_of_later}
 
 -- what was at a place is there once more stands behind
-still_there : (s : Search) (steps : ℕ) (above : List ℕ) (place : ℕ) (old new : List (List ℕ)) (index : ℕ) → index < length old → get_or old index [] ≡ above
+pub still_there : (s : Search) (steps : ℕ) (above : List ℕ) (place : ℕ) (old new : List (List ℕ)) (index : ℕ) → index < length old → get_or old index [] ≡ above
     → HasTried s steps above place old new true → (index < length new) × (get_or new index [] ≡ above)
 still_there s steps above place old new index h is (inl pushed) =
     let tail = above ++ place ∷ [] in

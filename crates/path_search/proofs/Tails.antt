@@ -9,10 +9,9 @@ use Rattle.std.proofs.lemmas.Option.{get_or_from_slice_get}
 use Rattle.std.proofs.lemmas.List.Sums.{sum_by-append}
 use Rattle.std.proofs.Math.Seq.{take-append_seam}
 use Rattle.cert.specs.Certificate.{Certificate, is_self_issued}
-use Rattle.cert.specs.NameConstraints.{NameConstraints}
 use Rattle.path_conditions.proofs.Laws.{list_any-map}
 use Rattle.path_issuers.specs.Search.{certificates_at, path_down_to, TailGrows}
-use Rattle.path_issuers.specs.Factors.{AdmitNames, AdmitNamesOfOther, AdmitNamesBelow, Lacks, others_above_target}
+use Rattle.path_issuers.specs.Factors.{HoldsOfNamed, Lacks, others_above_target}
 
 pub reversed : (x : Certificate) (xs : List Certificate) → reverse (x ∷ xs) ≡ reverse xs ++ x ∷ []
 reversed x xs = reverse-append (x ∷ []) xs
@@ -107,28 +106,29 @@ module _ (P : Certificate → Type 0) where
 
 -- names
 
-module _ (constraints : NameConstraints) (t : Certificate) where
-  admit_to : (cs : List Certificate) → AdmitNamesBelow constraints (cs ++ t ∷ []) → AllByRecursion (AdmitNamesOfOther constraints) cs × AdmitNames constraints t
-  admit_to [] all = (tt, all)
-  admit_to (c ∷ []) all = ((all.0, tt), all.1)
-  admit_to (c ∷ d ∷ cs) all = let rest = admit_to (d ∷ cs) all.1 in ((all.0, rest.0), rest.1)
+module _ (Holds : Certificate → Type 0) (t : Certificate) where
+  abbrev HoldsOfOther : Certificate → Type 0
+  HoldsOfOther c = is_self_issued c ≡ false → Holds c
 
-  admit_from : (cs : List Certificate) → AllByRecursion (AdmitNamesOfOther constraints) cs → AdmitNames constraints t → AdmitNamesBelow constraints (cs ++ t ∷ [])
-  admit_from [] all last = last
-  admit_from (c ∷ []) all last = (all.0, last)
-  admit_from (c ∷ d ∷ cs) all last = (all.0, admit_from (d ∷ cs) all.1 last)
+  hold_to : (cs : List Certificate) → HoldsOfNamed Holds (cs ++ t ∷ []) → AllByRecursion HoldsOfOther cs × Holds t
+  hold_to [] all = (tt, all)
+  hold_to (c ∷ []) all = ((all.0, tt), all.1)
+  hold_to (c ∷ d ∷ cs) all = let rest = hold_to (d ∷ cs) all.1 in ((all.0, rest.0), rest.1)
 
-  pub admits_below : (bag : List Certificate) (above : List ℕ)
-      → (AdmitNames constraints t × AllByRecursion (AdmitNamesOfOther constraints) (certificates_at t bag above))
-      ↔ AdmitNamesBelow constraints (path_down_to t bag above)
-  admits_below bag above =
+  hold_from : (cs : List Certificate) → AllByRecursion HoldsOfOther cs → Holds t → HoldsOfNamed Holds (cs ++ t ∷ [])
+  hold_from [] all last = last
+  hold_from (c ∷ []) all last = (all.0, last)
+  hold_from (c ∷ d ∷ cs) all last = (all.0, hold_from (d ∷ cs) all.1 last)
+
+  pub hold_below : (bag : List Certificate) (above : List ℕ)
+      → (Holds t × AllByRecursion HoldsOfOther (certificates_at t bag above)) ↔ HoldsOfNamed Holds (path_down_to t bag above)
+  hold_below bag above =
       let upward = certificates_at t bag above in
       let turned = reversed t upward in (
-        λ both. subst (AdmitNamesBelow constraints) (sym turned)
-            (admit_from (reverse upward) (reverse_to (AdmitNamesOfOther constraints) upward both.1) both.0),
+        λ both. subst (HoldsOfNamed Holds) (sym turned) (hold_from (reverse upward) (reverse_to HoldsOfOther upward both.1) both.0),
         λ all.
-            let parts = admit_to (reverse upward) (subst (AdmitNamesBelow constraints) turned all) in
-            (parts.1, reverse_from (AdmitNamesOfOther constraints) upward parts.0),
+            let parts = hold_to (reverse upward) (subst (HoldsOfNamed Holds) turned all) in
+            (parts.1, reverse_from HoldsOfOther upward parts.0),
       )
 
 -- by place

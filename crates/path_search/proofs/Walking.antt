@@ -1,6 +1,6 @@
 -- What a walk from the target upward finds: the ends of valid candidates are right, and wait in its queue.
 use Rattle.std.proofs.Common.{◌≡◌, ◌≢◌, ◌⊎◌, ℕ, zero, suc, ◌+◌, ◌-◌, ◌<◌, ◌≤◌, Bool, true, false, cond, ltb, List, [], ◌∷◌, ◌++◌, Option, Some, None, length, map, take, drop, reverse, get_or, slice_get, add-one, arith, refl, ap, subst, ◌∙◌, sym, inl, inr}
-use Rattle.std.specs.List.{Contains}
+use Rattle.std.specs.List.{All, AllPairs, Contains}
 use Rattle.std.specs.List.Sorted.{IsStrictlyIncreasing}
 use Rattle.std.proofs.lemmas.Bool.{cases_Bool, cases_order, lt-ltb, ltb-true}
 use Rattle.std.proofs.lemmas.List.{get_or_default, get_or_past, length_push, length-take-le, length-reverse, length-map, map-append, reverse-append, take-append-drop, take_more}
@@ -62,14 +62,14 @@ module _ (accepts : Accepts) (s : Search) where
   abbrev path : List ℕ → List Certificate
   path above = path_down_to s.target s.bag above
 
-  path_split : (above : List ℕ) (k : ℕ) → path above ≡ reverse (certificates_at s.target s.bag (drop k above)) ++ path (take k above)
+  pub path_split : (above : List ℕ) (k : ℕ) → path above ≡ reverse (certificates_at s.target s.bag (drop k above)) ++ path (take k above)
   path_split above k =
       let f : ℕ → Certificate = λ place. get_or s.bag place s.target in
       ap path (sym (take-append-drop k above))
       ∙ (ap (λ l. reverse (s.target ∷ l)) (map-append f (take k above) (drop k above))
       ∙ reverse-append (s.target ∷ map f (take k above)) (map f (drop k above)))
 
-  path_some : (above : List ℕ) → path above ≢ []
+  pub path_some : (above : List ℕ) → path above ≢ []
   path_some above none = let top = path_top s above in cc
 
   front_is_right : (c : Candidate) (k : ℕ) → IsValidCandidate accepts s c → AreRight accepts s.moment s.purpose (path (take k c.above))
@@ -141,7 +141,7 @@ module _ (accepts : Accepts) (s : Search) where
       → IssuesFirst accepts anchor certificates
   issued_first anchor first certificates rest e issues = subst (IssuesFirst accepts anchor) (sym e) issues
 
-  path_length : (above : List ℕ) → length (path above) ≡ length above + 1
+  pub path_length : (above : List ℕ) → length (path above) ≡ length above + 1
   path_length above =
       let f : ℕ → Certificate = λ place. get_or s.bag place s.target in
       omega (arith, length-reverse (s.target ∷ map f above), length-map above f)
@@ -230,36 +230,63 @@ module _ (anchors above : List ℕ) (ascending : IsStrictlyIncreasing anchors) w
   last_of_later zero (Some last) others later is before = tail_before_trans last.above above later is before
   last_of_later (suc number) (Some last) others later is before = subst (λ l. IsTailBefore l later) (sym is.0) before
 
+-- links that say who issued whom, in order
+
+module _ (accepts : Accepts) (s : Search) (links : Links) (issuers : (below place : ℕ) → Contains (issuers_of links below) place → IsIssuer accepts s below place)
+    (ascend : (below : ℕ) → IsStrictlyIncreasing (issuers_of links below)) where
+  abbrev above_top : List ℕ → List ℕ
+  above_top above = issuers_of links (top_of (length s.bag) above)
+
+  issuers_if : (above : List ℕ) (b : Bool) → ltb (length above) 127 ≡ b → issuers_above s links above ≡ cond b (above_top above) []
+  issuers_if above b e = ap (λ v. cond v (above_top above) []) e
+
+  pub rising : (above : List ℕ) → IsStrictlyIncreasing (issuers_above s links above)
+  rising above = elim (cases_Bool (ltb (length above) 127)) [
+    | inl room ↦ subst IsStrictlyIncreasing (sym (issuers_if above true room)) (ascend (top_of (length s.bag) above))
+    | inr full ↦ subst IsStrictlyIncreasing (sym (issuers_if above false full)) (λ k h. absurd (omega arith))
+  ]
+
+  issuer_there : (above : List ℕ) (number place : ℕ) → length above < 127 → slice_get (above_top above) number ≡ Some place
+      → (length above < 127) × IsIssuer accepts s (top_of (length s.bag) above) place
+  issuer_there above number place room is =
+      let of = above_top above in
+      (room, issuers (top_of (length s.bag) above) place (number, slice_get_within of number place is, get_or_from_slice_get of number place place is))
+
+  -- one of the issuers above a tail issued its top, and there is room for it
+  pub issuer_above : (above : List ℕ) (number place : ℕ) → slice_get (issuers_above s links above) number ≡ Some place
+      → (length above < 127) × IsIssuer accepts s (top_of (length s.bag) above) place
+  issuer_above above number place is = elim (cases_Bool (ltb (length above) 127)) [
+    | inl room ↦
+        issuer_there above number place (ltb-true (length above) 127 room)
+        (subst (λ l. slice_get l number ≡ Some place) (issuers_if above true room) is)
+    | inr full ↦ let none = subst (λ l. slice_get l number ≡ Some place) (issuers_if above false full) is in absurd cc
+  ]
+
+  -- who issued the top of a front is among the issuers above it
+  pub among_above : (above : List ℕ) (k : ℕ) → length above ≤ 127 → k < length above → Contains (above_top (take k above)) (get_or above k 0)
+      → Contains (issuers_above s links (take k above)) (get_or above k 0)
+  among_above above k short h among =
+      let room : length (take k above) < 127 = omega (arith, length-take-le k above (omega arith)) in
+      subst (λ l. Contains l (get_or above k 0)) (sym (issuers_if (take k above) true (lt-ltb (length (take k above)) 127 room))) among
+
+-- right tails in order, so many
+pub enough_tails : (accepts : Accepts) (s : Search) (steps : ℕ) (tails : List (List ℕ)) → steps ≤ length tails → All (IsTail accepts s) tails
+    → AllPairs IsTailBefore tails → HasRightTails accepts s steps
+enough_tails accepts s steps tails enough right ordered = record {
+  tails = tails;
+  right = recursion_from_All (IsRightTail accepts s) tails (λ k d h. (right k d h).right);
+  different = are_different tails ordered;
+  enough = enough;
+}
+
 -- the walk over links
 
 module _ (accepts : Accepts) (s : Search) (links : Links) (are : AreLinks accepts s links) where
   abbrev top : List ℕ → ℕ
   top above = top_of (length s.bag) above
 
-  issuers_if : (above : List ℕ) (b : Bool) → ltb (length above) 127 ≡ b → issuers_above s links above ≡ cond b (issuers_of links (top above)) []
-  issuers_if above b e = ap (λ v. cond v (issuers_of links (top above)) []) e
-
   pub ascending : (above : List ℕ) → IsStrictlyIncreasing (issuers_above s links above)
-  ascending above = elim (cases_Bool (ltb (length above) 127)) [
-    | inl room ↦ subst IsStrictlyIncreasing (sym (issuers_if above true room)) (are.issuers_ascend (top above))
-    | inr full ↦ subst IsStrictlyIncreasing (sym (issuers_if above false full)) (λ k h. absurd (omega arith))
-  ]
-
-  issuer_there : (above : List ℕ) (number place : ℕ) → length above < 127 → slice_get (issuers_of links (top above)) number ≡ Some place
-      → (length above < 127) × IsIssuer accepts s (top above) place
-  issuer_there above number place room is =
-      let issuers = issuers_of links (top above) in
-      (room, are.issuers (top above) place (number, slice_get_within issuers number place is, get_or_from_slice_get issuers number place place is))
-
-  -- one of the issuers above a tail issued its top, and there is room for it
-  issuer_is : (above : List ℕ) (number place : ℕ) → slice_get (issuers_above s links above) number ≡ Some place
-      → (length above < 127) × IsIssuer accepts s (top above) place
-  issuer_is above number place is = elim (cases_Bool (ltb (length above) 127)) [
-    | inl room ↦
-        issuer_there above number place (ltb-true (length above) 127 room)
-        (subst (λ l. slice_get l number ≡ Some place) (issuers_if above true room) is)
-    | inr full ↦ let none = subst (λ l. slice_get l number ≡ Some place) (issuers_if above false full) is in absurd cc
-  ]
+  ascending above = rising accepts s links are.issuers are.issuers_ascend above
 
   leads_up : (last : Option Candidate) (above : List ℕ) (wanted : IsWanted accepts s last above) → LeadsUp links (length s.bag) above wanted.anchor
   leads_up last above wanted = are.whole (record { anchor = wanted.anchor; above = above }) wanted.valid
@@ -267,9 +294,8 @@ module _ (accepts : Accepts) (s : Search) (links : Links) (are : AreLinks accept
   leads : (last : Option Candidate) (above : List ℕ) (k : ℕ) → IsWanted accepts s last above → k < length above
       → Contains (issuers_above s links (take k above)) (get_or above k 0)
   leads last above k wanted h =
-      let short = above_short accepts s (record { anchor = wanted.anchor; above = above }) wanted.valid in
-      let room : length (take k above) < 127 = omega (arith, length-take-le k above (omega arith)) in
-      subst (λ l. Contains l (get_or above k 0)) (sym (issuers_if (take k above) true (lt-ltb (length (take k above)) 127 room)))
+      among_above accepts s links are.issuers are.issuers_ascend above k
+      (above_short accepts s (record { anchor = wanted.anchor; above = above }) wanted.valid) h
       (leads_to links (length s.bag) above wanted.anchor k (leads_up last above wanted) h)
 
   -- the anchor of a candidate is among those above its tail
@@ -294,7 +320,7 @@ module _ (accepts : Accepts) (s : Search) (links : Links) (are : AreLinks accept
       → HasTried s steps above place old new true
       → IsQueueOf accepts s links last old index tried → IsQueueOf accepts s links last new index (tried + 1)
   tried_more last steps above place old new index tried h is at (inl pushed) queue =
-      let issuer = issuer_is above tried place at in
+      let issuer = issuer_above accepts s links are.issuers are.issuers_ascend above tried place at in
       let tail : IsTail accepts s above = subst (IsTail accepts s) is (queue.right index [] h) in
       subst (λ l. IsQueueOf accepts s links last l index (tried + 1)) (sym pushed.1)
       (pushed_place (issuers_above s links) ascending (IsTail accepts s) (IsWanted accepts s last) (leads last) old index tried above place h is at
@@ -310,12 +336,7 @@ module _ (accepts : Accepts) (s : Search) (links : Links) (are : AreLinks accept
   -- there was no room
   pub gave_up : (last : Option Candidate) (steps : ℕ) (tails : List (List ℕ)) (index tried : ℕ) → steps ≤ length tails
       → IsQueueOf accepts s links last tails index tried → HasRightTails accepts s steps
-  gave_up last steps tails index tried enough queue = record {
-    tails = tails;
-    right = recursion_from_All (IsRightTail accepts s) tails (λ k d h. (queue.right k d h).right);
-    different = are_different tails queue.ordered;
-    enough = enough;
-  }
+  gave_up last steps tails index tried enough queue = enough_tails accepts s steps tails enough queue.right queue.ordered
 
   -- each place was tried, and each anchor handed out
 

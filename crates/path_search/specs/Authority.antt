@@ -1,19 +1,21 @@
 -- What the code has at hand of an authority, and of the certificates below it.
-use Rattle.std.specs.Prelude.{◌≡◌, ◌↔◌, ℕ, List, ◌∷◌, Bool, true, map, slice_index_or}
+use Rattle.std.specs.Prelude.{◌≡◌, ◌↔◌, ℕ, List, ◌∷◌, Bool, true, false, map, slice_index_or}
 use Rattle.std.specs.Str.{bytes_eq}
 use Rattle.names.specs.declared.general.Form.TheVariants as F
 use Rattle.names.specs.GeneralName.{IsProcessed}
 use Rattle.names.specs.GeneralLayout.{GeneralName}
 use Rattle.names.specs.GeneralCoverage.{form_of_general_name}
-use Rattle.cert.specs.Certificate.{Certificate, seen_certificate}
+use Rattle.cert.specs.Certificate.{Certificate, is_self_issued, seen_certificate}
 use Rattle.cert.specs.NameConstraints.{NameConstraints}
 use Rattle.path_conditions.specs.declared.form_set.FormSet.{FormSet}
 use Rattle.path_conditions.specs.NamesOf.{Permits, Excludes, Constrains}
 use Rattle.path_conditions.specs.Narrowing.{is_in_one_of}
 use Rattle.path_conditions.specs.Constraints.{Constraints, permits_name, has_number}
 use Rattle.path_issuers.specs.Search.{certificates_at, path_down_to}
-use Rattle.path_issuers.specs.Factors.{AdmitNamesBelow, AllowsLength, Lacks}
+use Rattle.path_issuers.specs.Factors.{AdmitNames, AdmitNamesBelow, AllowsLength, ConstrainNoOtherForm, ExcludeNoName, Lacks, PermitNames}
 use Rattle.path_search.specs.declared.tail.Tail as code
+use Rattle.path_search.specs.declared.authority.NameCheck.{NameCheck}
+use Rattle.path_search.specs.declared.authority.NameCheck.TheVariants as check
 
 -- the certificates of a tail, in order down to its target
 abbrev pub seen_tail : code.Tail → List Certificate
@@ -40,6 +42,17 @@ pub record AnswersFor (carried : NameConstraints) (held : Constraints) (forms : 
   pub permits : (name : GeneralName) → IsProcessed (form_of_general_name name) → ((permits_name held name ≡ true) ↔ Permits carried name)
   pub excludes : (name : GeneralName) → ((is_in_one_of held.excluded name ≡ true) ↔ Excludes carried name)
   pub constrains : (number : ℕ) → ((has_number forms number ≡ true) ↔ Constrains carried (F.Other number))
+
+-- the constraints let the names of the certificate pass, in this respect
+abbrev pub AdmitNamesIn : NameCheck → NameConstraints → Certificate → Type 0
+AdmitNamesIn check.Each constraints c = AdmitNames constraints c
+AdmitNamesIn check.Permitted constraints c = PermitNames constraints c
+AdmitNamesIn check.NotExcluded constraints c = ExcludeNoName constraints c
+AdmitNamesIn check.Processed constraints c = ConstrainNoOtherForm constraints c
+
+-- or the certificate is self-issued
+abbrev pub AdmitNamesOfOther : NameCheck → NameConstraints → Certificate → Type 0
+AdmitNamesOfOther check constraints c = is_self_issued c ≡ false → AdmitNamesIn check constraints c
 
 -- the certificate fits above others that are in order down to a target: what it meets with them, besides that it issued the first
 pub record FitsAbove (c : Certificate) (below : List Certificate) : Type 0 where

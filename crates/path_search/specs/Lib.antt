@@ -3,6 +3,9 @@ pub mod Answer
 pub mod Queue
 pub mod Walk
 pub mod Paths
+pub mod Collecting
+pub mod WhyNot
+pub mod Obstacles
 pub use Rattle.path_issuers.specs.Search
 pub use Rattle.path_issuers.specs.View
 pub use Rattle.path_issuers.specs.Factors

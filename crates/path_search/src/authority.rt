@@ -4,8 +4,8 @@ ghost use Rattle.std.specs.Prelude.{◌≡◌, ◌↔◌, IfOk, IsOk, IsTrue};
 ghost use Rattle.std.specs.List.{AllByRecursion};
 ghost use Rattle.cert.specs.Certificate.{seen_certificate};
 ghost use Rattle.path_conditions.specs.Constraints.{HasNoProcessed};
-ghost use Rattle.path_search.specs.Authority.{FitsAbove, seen_above, seen_tail};
-ghost use Rattle.path_issuers.specs.Factors.{AdmitNames, AdmitNamesOfOther, AdmitNamesBelow, AllowsLength, ConstrainNoOtherForm, ExcludeNoName, IsRightAbove, PermitNames};
+ghost use Rattle.path_search.specs.Authority.{AdmitNamesIn, AdmitNamesOfOther, FitsAbove, seen_above, seen_tail};
+ghost use Rattle.path_issuers.specs.Factors.{AdmitNames, AdmitNamesBelow, AllowsLength, ConstrainNoOtherForm, ExcludeNoName, HoldsOfNamed, IsRightAbove, PermitNames};
 
 use crate::tail::Tail;
 use cert::Certificate;
@@ -15,10 +15,23 @@ use path_verifiers::Verifier;
 use std::alloc::{AllocError, Global};
 use std::marker::Model;
 
+/// In which respect name constraints let names pass.
+#[derive(Clone, Copy, Debug, PartialEq, Eq)]
+pub(crate) enum NameCheck {
+    /// In each of the others.
+    Each,
+    /// They lie in the permitted subtrees (RFC 5280, 6.1.3 (b)).
+    Permitted,
+    /// They lie in no excluded subtree (6.1.3 (c)).
+    NotExcluded,
+    /// They have no form that is constrained but not processed (4.2.1.10).
+    Processed,
+}
+
 /// A certificate with its name constraints, in which names are looked for as a validation does (RFC 5280, 4.2.1.10).
 #[derive(Drop)]
 pub struct Authority<'p, 'c> {
-    certificate: &'p Certificate<'c>,
+    pub(crate) certificate: &'p Certificate<'c>,
     constraints: Constraints<'c>,
     forms: FormSet,
 }
@@ -99,28 +112,50 @@ impl<'p, 'c> Authority<'p, 'c> {
             && self.constrains_no_other_form_of(certificate)
     }
 
+    /// The same in one respect alone.
+    fn admits_names_in(&self, check: NameCheck, certificate: &Certificate<'_>) -> bool
+        ensures { IsTrue result ↔ AdmitNamesIn check self.now.extensions.name_constraints
+            (seen_certificate certificate.now) }
+    {
+        match check {
+            NameCheck::Each => self.admits_names_of(certificate),
+            NameCheck::Permitted => self.permits_names_of(certificate),
+            NameCheck::NotExcluded => self.excludes_no_name_of(certificate),
+            NameCheck::Processed => self.constrains_no_other_form_of(certificate),
+        }
+    }
+
     /// Whether they let the names of the certificates above the target pass, except of self-issued ones. Mostly they let all names pass, and
     /// comparing subject and issuer costs more.
-    fn admits_names_above(&self, tail: &Tail<'_, '_>) -> bool
+    fn admits_names_above(&self, check: NameCheck, tail: &Tail<'_, '_>) -> bool
         ensures { IsTrue result
-            ↔ AllByRecursion (AdmitNamesOfOther self.now.extensions.name_constraints)
+            ↔ AllByRecursion (AdmitNamesOfOther check self.now.extensions.name_constraints)
             (seen_above tail.now) }
     {
         for place in tail.above {
             let other = tail.at(*place);
-            if !self.admits_names_of(other) && !other.self_issued() {
+            if !self.admits_names_in(check, other) && !other.self_issued() {
                 return false;
             }
         }
         true
     }
 
-    /// Whether they let the names of the target pass, and of the certificates above it that are not self-issued.
+    /// Whether they let the names of the target pass in one respect, and of the certificates above it that are not self-issued.
+    pub(crate) fn passes_names_below(&self, check: NameCheck, tail: &Tail<'_, '_>) -> bool
+        ensures { IsTrue result
+            ↔ HoldsOfNamed (AdmitNamesIn check self.now.extensions.name_constraints)
+            (seen_tail tail.now) }
+    {
+        self.admits_names_in(check, tail.target) && self.admits_names_above(check, tail)
+    }
+
+    /// The same in each respect.
     pub fn admits_names_below(&self, tail: &Tail<'_, '_>) -> bool
         ensures { IsTrue result
             ↔ AdmitNamesBelow self.now.extensions.name_constraints (seen_tail tail.now) }
     {
-        self.admits_names_of(tail.target) && self.admits_names_above(tail)
+        self.passes_names_below(NameCheck::Each, tail)
     }
 
     /// Whether its path length allows as many certificates above the target as are not self-issued (RFC 5280, 6.1.4 (l), (m)).

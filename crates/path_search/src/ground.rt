@@ -37,7 +37,7 @@ pub(crate) fn authorities_of<'p, 'c>(
 
 impl<'s, 'p, 'c> Ground<'s, 'p, 'c> {
     /// The place of the certificate at the top; that of the target is behind the bag.
-    fn top(&self, above: &[usize]) -> usize
+    pub(crate) fn top(&self, above: &[usize]) -> usize
         ensures { result ≡ top_of (length self.now.search.now.bag.now) above.now }
     {
         match above.last() {

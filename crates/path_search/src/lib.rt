@@ -3,17 +3,23 @@
 
 mod answer;
 mod authority;
+mod collecting;
+mod diagnosis;
 mod ground;
 mod laws;
+mod obstacles;
 mod paths;
 mod queue;
+mod reasons;
 mod steps;
 mod tail;
 mod walk;
 
 pub use answer::{Answer, Budget, Candidate};
 pub use authority::Authority;
-pub use laws::{factor_laws, search_laws};
+pub use diagnosis::{Stuck, WhyNot, why_not};
+pub use laws::{factor_laws, search_laws, why_not_laws};
+pub use obstacles::Obstacle;
 pub use path_issuers::{
     Issuer, Search, SearchQuestion, is_right_as_authority, is_right_as_target, issues,
     question_laws, questions,

@@ -3,6 +3,7 @@
 ghost use Rattle.std.specs.Prelude.{◌≡◌, ◌<◌, IfErr, IfOk, vec_len};
 ghost use Rattle.path_issuers.specs.View.{seen_search};
 ghost use Rattle.path_issuers.specs.Links.{seen_links};
+ghost use Rattle.path_search.specs.Collecting.{GrowsOn};
 ghost use Rattle.path_search.specs.Queue.{places_of};
 ghost use Rattle.path_search.specs.Walk.{Answers, Grows, HasTried, IsAtSameTail, IsBounded, IsOnward, Stays, StaysAt, Steps, Turns};
 
@@ -37,7 +38,7 @@ impl<'s, 'p, 'c> Ground<'s, 'p, 'c> {
     }
 
     /// Tries each certificate that issued the top, from where the queue stands. `false` if there was no room for a tail.
-    fn grow(
+    pub(crate) fn grow(
         &self,
         alloc: Global,
         queue: &mut Queue,
@@ -49,6 +50,9 @@ impl<'s, 'p, 'c> Ground<'s, 'p, 'c> {
             queue.old queue.new) }
         ensures kept { IfErr result
             (λ e. StaysAt (seen_search self.now.search.now) (seen_links self.now.links) above.now
+            queue.old queue.new) }
+        ensures grows_on { IfOk result
+            (GrowsOn (seen_search self.now.search.now) (seen_links self.now.links) steps above.now
             queue.old queue.new) }
         ensures stays { IfOk result (λ done. IsAtSameTail queue.old queue.new) }
         ensures bounded { IfOk result (λ done. IsBounded steps queue.old queue.new) }

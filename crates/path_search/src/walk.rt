@@ -22,7 +22,10 @@ pub(crate) fn has_right_target(search: &Search<'_, '_>) -> bool
 }
 
 /// The tail that has the target alone, if it is right.
-fn first_tails(alloc: Global, search: &Search<'_, '_>) -> Result<Vec<Vec<usize>>, AllocError>
+pub(crate) fn first_tails(
+    alloc: Global,
+    search: &Search<'_, '_>,
+) -> Result<Vec<Vec<usize>>, AllocError>
     ensures { IfOk result (λ tails. AreFirst (seen_search search.now) (places_of tails)) }
 {
     let mut tails = Vec::new(alloc);

@@ -1,6 +1,6 @@
 //! Bags that were made to be hard, and what a search may spend.
 
-use crate::building::{SearchFault, found_among, octets_of};
+use crate::building::{SearchFault, explained_among, found_among, octets_of};
 use path_search::Budget;
 use std::alloc::Global;
 use std::test::Fail;
@@ -73,6 +73,46 @@ fn paths_of_128_certificates_are_found(rt: HostRuntime) -> Result<(), Fail> {
     assert_eq!(rt; longest, 129);
     let longer = words_of_chain(rt.alloc(), 128).map_err(|_| "an answer")?;
     assert_eq!(rt; longer, 1);
+    Ok(())
+}
+
+/// Why the search in the chain finds nothing.
+fn why_in_chain(alloc: Global, count: u32, budget: Budget) -> Result<String, SearchFault> {
+    let root = format!(in alloc; "ca({count},{count})")?;
+    let anchors = octets_of(alloc, root.as_str())?;
+    let bag = chain_of(alloc, count)?;
+    let target = certificate(alloc, "ee(T,0)")?;
+    explained_among(alloc, anchors, bag, target, None, budget)
+}
+
+#[test]
+fn the_certificate_that_is_too_many_is_told(rt: HostRuntime) -> Result<(), Fail> {
+    let why = why_in_chain(rt.alloc(), 128, SMALL).map_err(|_| "an answer")?;
+    assert!(rt; why.starts_with("above 0 1 2 "));
+    assert!(rt; why.ends_with(" 125 126 : : 127 TooLong"));
+    Ok(())
+}
+
+#[test]
+fn what_an_explanation_may_spend(rt: HostRuntime) -> Result<(), Fail> {
+    let enough = Budget {
+        signatures: 4,
+        steps: 4,
+    };
+    let why = why_in_chain(rt.alloc(), 3, enough).map_err(|_| "an answer")?;
+    assert_eq!(rt; why.as_str(), "above 0 1 2 : :");
+    let few_questions = Budget {
+        signatures: 3,
+        steps: 4,
+    };
+    let unasked = why_in_chain(rt.alloc(), 3, few_questions).map_err(|_| "an answer")?;
+    assert_eq!(rt; unasked.as_str(), "gave up");
+    let few_tails = Budget {
+        signatures: 4,
+        steps: 3,
+    };
+    let unseen = why_in_chain(rt.alloc(), 3, few_tails).map_err(|_| "an answer")?;
+    assert_eq!(rt; unseen.as_str(), "gave up");
     Ok(())
 }
 

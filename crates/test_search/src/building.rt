@@ -1,7 +1,9 @@
 //! Searches from texts in the notation of `vectors`.
 
 use cert::{CertFault, Certificate};
-use path_search::{Answer, Budget, Issuer, Search, SearchQuestion, find, questions};
+use path_search::{
+    Answer, Budget, Issuer, Search, SearchQuestion, Stuck, WhyNot, find, questions, why_not,
+};
 use path_verifiers::{ListVerifier, Verifier, fingerprint};
 use std::alloc::{AllocError, AllocFailed, Global};
 use std::fmt::Write;
@@ -84,10 +86,42 @@ fn text_of(alloc: Global, answer: &Answer) -> Result<String, SearchFault> {
     }
 }
 
+/// The places as a row has them.
+fn push_places(alloc: Global, text: &mut String, places: &[usize]) -> Result<(), SearchFault> {
+    for place in places {
+        text.push_str(&format!(in alloc; " {place}")?)?;
+    }
+    Ok(())
+}
+
+/// Where paths end, as a row has it.
+fn text_of_stuck(alloc: Global, stuck: &Stuck) -> Result<String, SearchFault> {
+    let mut text = format!(in alloc; "above")?;
+    push_places(alloc, &mut text, &stuck.above)?;
+    text.push_str(" :")?;
+    push_places(alloc, &mut text, &stuck.anchors)?;
+    text.push_str(" :")?;
+    for obstacle in &stuck.bag {
+        let reason = obstacle.reason.name();
+        text.push_str(&format!(in alloc; " {} {reason}", obstacle.place)?)?;
+    }
+    Ok(text)
+}
+
+/// Why nothing is found, as a row has it.
+fn text_of_why(alloc: Global, why: &Option<WhyNot>) -> Result<String, SearchFault> {
+    match why {
+        None => Ok(format!(in alloc; "gave up")?),
+        Some(WhyNot::Target(reason)) => Ok(format!(in alloc; "target {}", reason.name())?),
+        Some(WhyNot::Stuck(stuck)) => text_of_stuck(alloc, stuck),
+    }
+}
+
 /// The search among certificates, of which the first are the anchors, so many, and the last is the target.
 fn search_of<'p, 'c>(
     all: &'p [Certificate<'c>],
     anchors: usize,
+    purpose: Option<&'p [u8]>,
 ) -> Result<Search<'p, 'c>, SearchFault> {
     let Some((anchors, behind)) = all.split_at_checked(anchors) else {
         return Err(SearchFault::Text);
@@ -100,7 +134,7 @@ fn search_of<'p, 'c>(
         bag,
         target,
         moment: MIDDLE,
-        purpose: None,
+        purpose,
     })
 }
 
@@ -111,9 +145,22 @@ fn found_over(
     anchors: usize,
     budget: Budget,
 ) -> Result<String, SearchFault> {
-    let search = search_of(all, anchors)?;
+    let search = search_of(all, anchors, None)?;
     let answer = find(alloc, &ToyVerifier, &search, budget)?;
     text_of(alloc, &answer)
+}
+
+/// Why nothing is found among them.
+fn explained_over(
+    alloc: Global,
+    all: &[Certificate<'_>],
+    anchors: usize,
+    purpose: Option<&[u8]>,
+    budget: Budget,
+) -> Result<String, SearchFault> {
+    let search = search_of(all, anchors, purpose)?;
+    let why = why_not(alloc, &ToyVerifier, &search, budget)?;
+    text_of_why(alloc, &why)
 }
 
 /// The octets of anchors, a bag and a target in one list: what a search is made of is lent by one owner.
@@ -189,7 +236,7 @@ fn asked_over(
     anchors: usize,
     budget: Budget,
 ) -> Result<(String, String), SearchFault> {
-    let search = search_of(all, anchors)?;
+    let search = search_of(all, anchors, None)?;
     let asked = questions(alloc, &search)?;
     let listed = believing(alloc, &search, &asked)?;
     let answer = find(alloc, &listed, &search, budget)?;
@@ -208,4 +255,19 @@ pub fn asked_among(
     let all = joined(anchors, bag, target)?;
     let read = certificates_of(alloc, &all)?;
     asked_over(alloc, &read, count, budget)
+}
+
+/// Why nothing is found among certificates that were built, as a row has it.
+pub fn explained_among(
+    alloc: Global,
+    anchors: Vec<Vec<u8>>,
+    bag: Vec<Vec<u8>>,
+    target: Vec<u8>,
+    purpose: Option<&[u8]>,
+    budget: Budget,
+) -> Result<String, SearchFault> {
+    let count = anchors.len();
+    let all = joined(anchors, bag, target)?;
+    let read = certificates_of(alloc, &all)?;
+    explained_over(alloc, &read, count, purpose, budget)
 }

@@ -10,3 +10,5 @@ mod building;
 mod rows;
 #[cfg(test)]
 mod searching;
+#[cfg(test)]
+mod whys;

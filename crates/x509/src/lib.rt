@@ -113,9 +113,9 @@ pub mod identities {
 /// Paths to a certificate, found among certificates that come in any order (RFC 4158).
 pub mod search {
     pub use path_search::{
-        Answer, Authority, Budget, Candidate, Issuer, Paths, Search, SearchQuestion, Tail,
-        factor_laws, find, is_right_as_authority, is_right_as_target, issues, question_laws,
-        questions, search_laws,
+        Answer, Authority, Budget, Candidate, Issuer, Obstacle, Paths, Search, SearchQuestion,
+        Stuck, Tail, WhyNot, factor_laws, find, is_right_as_authority, is_right_as_target, issues,
+        question_laws, questions, search_laws, why_not, why_not_laws,
     };
 }
 
