@@ -10,6 +10,7 @@ use Rattle.cli_words.specs.declared.line.Kind.TheVariants.{Certificate, Revocati
 use Rattle.cli_words.specs.declared.line.Line.{Line}
 use Rattle.cli_words.specs.declared.line.Line.TheVariants.{Tree, Show, Prints, Deliver, Check, Compare, List as Listing, Explain, Session}
 use Rattle.cli_failures.specs.Failures.{Holding}
+use Rattle.cli_lines.proofs.Laws.{whole}
 use Rattle.cli_failures.specs.Report.{UnlessLate, report_line, exit_status}
 use Rattle.cli_failures.specs.declared.failure.Failure.{Failure}
 use Rattle.cli_failures.specs.declared.failure.Failure.TheVariants.{Unwritable}
@@ -18,7 +19,6 @@ use Rattle.cli_showing.specs.Shown.{ArePrintLines, HoldsKind, IsShownText}
 use Rattle.cli.specs.Outcome.{HasAnswered, IsDone, IsLineFailure}
 use Rattle.cli.specs.Ended.{EndedAs, HasEndedSo, RunHasEnded, IsAnswering, IsFailing}
 use Rattle.cli.specs.Streams.{Streams}
-use Rattle.cli.proofs.Fronts.{whole}
 use Rattle.cli.proofs.Serving.{whole_kept}
 use Rattle.cli.proofs.Statuses.{is_failing, not_both}
 
@@ -100,7 +100,7 @@ unflushed host (Check store verdicts query) run after status keeps (text, (verdi
 unflushed host (Compare store other verdicts query) run after status keeps (text, (comparison, is, ends, said), written) =
     inr (refl, (text, (comparison, is, said), whole run.output run.written after text written keeps))
 unflushed host (Listing store moment) run after status keeps (text, (zero, is), written) = inr (refl, (text, is, whole run.output run.written after text written keeps))
-unflushed host (Explain words) run after status keeps (text, (zero, is), written) = inr ((text, is), refl)
+unflushed host (Explain words) run after status keeps (text, (zero, is), written) = inr (refl, (text, is, whole run.output run.written after text written keeps))
 unflushed host (Session store verdicts) run after status keeps (zero, is) = inr (whole_kept host _ run after keeps is, refl)
 
 -- it does not

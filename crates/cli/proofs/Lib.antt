@@ -8,4 +8,3 @@ mod Lines
 mod Serving
 mod Leading
 mod Lasting
-mod Fronts

@@ -1,5 +1,5 @@
 -- What a run has done, by the status that it answers.
-use Rattle.std.specs.Prelude.{◌≡◌, ◌≢◌, ◌⊎◌, ℕ, List, IsTrue, false, map}
+use Rattle.std.specs.Prelude.{◌≡◌, ◌≢◌, ◌⊎◌, ℕ, List, Option, IsTrue, false, map}
 use Rattle.std.specs.Io.KnownBytes.{Appends}
 use Rattle.clap.specs.Words.{Text}
 use Rattle.clap.specs.declared.error.kind.ErrorKind.{ErrorKind}
@@ -21,7 +21,7 @@ use Rattle.cli.specs.Delivered.{FailsToDeliver, IsDelivered}
 use Rattle.cli.specs.Host.{HostState}
 use Rattle.cli.specs.Listed.{FailsToList, IsListed, given}
 use Rattle.cli.specs.Session.{FailsInSession, IsWholeSession}
-use Rattle.cli.specs.Streams.{Streams}
+use Rattle.cli.specs.Streams.{FailsOrCuts, Streams}
 use Rattle.cli_answers.specs.Status.{comparison_status, verdict_status}
 use Rattle.cli_showing.specs.Shown.{ArePrintsUnder, FailsToPrint, HoldsKind, HoldsValue, IsNotShown, IsShownText, IsTreeText}
 
@@ -50,6 +50,10 @@ IsExplanation words text =
 -- the table has nothing on the topic
 abbrev pub IsNoTopic : List (List ℕ) → Failure → Type 0
 IsNoTopic words failure = (failure ≡ BadTopic) × ((entries : List ℕ) × (is_known entries words ≡ false))
+
+-- or there is an explanation, and standard output failed behind a front of it
+abbrev pub FailsToExplain : List (List ℕ) → Option (List ℕ) → Option (List ℕ) → Failure → Type 0
+FailsToExplain words = FailsOrCuts (IsNoTopic words) (IsExplanation words)
 
 -- The text that the line asks for, and the status that comes with it. Files hold so, and stores stand and are left so. A session has no
 -- such text: it writes as it reads.
@@ -106,8 +110,7 @@ IsLineFailure host (Compare store other verdicts query) run =
 IsLineFailure host (Listing store moment) run =
     FailsToList host.at store.now (given moment) run.output run.written
 IsLineFailure host (Explain words) run =
-    OrUnwritable (IsNoTopic (map (λ w. w.now) words.items))
-    ((text : List ℕ) × IsExplanation (map (λ w. w.now) words.items) text)
+    FailsToExplain (map (λ w. w.now) words.items) run.output run.written
 IsLineFailure host (Session store verdicts) run =
     FailsInSession host (record { store = store; verdicts = verdicts }) run
 

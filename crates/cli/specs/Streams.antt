@@ -1,8 +1,9 @@
 -- The streams of a run.
-use Rattle.std.specs.Prelude.{◌≡◌, ◌⊎◌, ℕ, List, Option, take}
-use Rattle.std.specs.Io.KnownBytes.{Appends, Keeps}
+use Rattle.std.specs.Prelude.{◌≡◌, ◌⊎◌, ℕ, List, Option}
+use Rattle.std.specs.Io.KnownBytes.{Keeps}
 use Rattle.cli_failures.specs.declared.failure.Failure.{Failure}
 use Rattle.cli_failures.specs.declared.failure.Failure.TheVariants.{Unwritable}
+use Rattle.cli_lines.specs.Fronts.{TakesFront}
 
 -- what standard input had left and what standard output took, before the run and behind it, where that is known
 pub record Streams : Type 0 where
@@ -19,10 +20,6 @@ streams remaining input source contents output written = record {
   output = contents output;
   written = contents written;
 }
-
--- a writer has taken a front of the text, which may be nothing
-abbrev pub TakesFront : Option (List ℕ) → Option (List ℕ) → List ℕ → Type 0
-TakesFront output written text = (n : ℕ) × Appends output written (take n text)
 
 -- This failed, and nothing was written; or there was a text to write, and standard output failed behind a front of it.
 abbrev pub FailsOrCuts : (Failure → Type 0) → (List ℕ → Type 0) → Option (List ℕ) → Option (List ℕ) → Failure → Type 0

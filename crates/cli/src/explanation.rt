@@ -1,9 +1,7 @@
 //! Explanations of faults, reasons and statuses.
 ghost use Rattle.std.specs.Prelude.{◌≡◌, IfErr, OnOk, map};
-ghost use Rattle.cli_failures.specs.Failures.{OrUnwritable};
 ghost use Rattle.cli_failures.specs.Report.{UnlessLate, WritesText};
-ghost use Rattle.cli.specs.Outcome.{IsExplanation, IsNoTopic};
-ghost use Rattle.std.specs.Prelude.{List, ℕ};
+ghost use Rattle.cli.specs.Outcome.{FailsToExplain, IsExplanation};
 
 use cli_explaining::{entries, explain_to, is_known};
 use cli_failures::Failure;
@@ -13,8 +11,8 @@ use std::io::Write;
 pub fn explain<'a, O: Write>(words: &[&'a str], out: &mut O) -> Result<(), Failure<'a>>
     ensures done { OnOk result (WritesText (IsExplanation (map (λ w. w.now) words.now))
         (O.contents out.old) (O.contents out.new)) }
-    ensures fails { IfErr result (OrUnwritable (IsNoTopic (map (λ w. w.now) words.now))
-        ((text : List ℕ) × IsExplanation (map (λ w. w.now) words.now) text)) }
+    ensures fails { IfErr result (FailsToExplain (map (λ w. w.now) words.now)
+        (O.contents out.old) (O.contents out.new)) }
     ensures quiet { IfErr result (λ failure. UnlessLate failure (out.new ≡ out.old)) }
 {
     let entries = entries();

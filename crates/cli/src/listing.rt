@@ -11,8 +11,8 @@ ghost use Rattle.cli_store.specs.Standing.{IsNoAnswer, IsOpenIfClean, seen_in, t
 ghost use Rattle.cli.specs.Checked.{IsNotChecked};
 ghost use Rattle.cli.specs.Listed.{FailsToList, HasListed, IsBadMoment, IsFailureOfListing, IsListed, IsListedAt, IsMomentOf, WritesListing, given};
 
-use crate::writing::write_front;
 use cli_failures::Failure;
+use cli_lines::write_front;
 use cli_listing::listing_to;
 use cli_operands::moment_of;
 use cli_store::{Stores, failed};

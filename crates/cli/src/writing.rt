@@ -2,45 +2,21 @@
 ghost use Rattle.std.specs.Prelude.{OnErr, OnOk};
 ghost use Rattle.std.specs.Io.KnownBytes.{Appends};
 ghost use Rattle.cli_answers.specs.AnswerText.{comparison_line, counts_line, verdict_line};
-ghost use Rattle.cli.specs.Streams.{TakesFront};
+ghost use Rattle.cli_lines.specs.Fronts.{TakesFront};
 
 use arrayvec::ArrayVec;
 use cli_answers::{comparison_to, counts_to, verdict_to};
+use cli_lines::write_front;
 use relying_agreement::{Comparison, Verdict};
 use statements_facts::Counts;
 use std::io;
-use std::io::{ErrorKind, Write};
+use std::io::Write;
 
 /// More octets than the line of an answer has.
 const LINE_MOST: usize = 256;
 
 /// Memory for the line of an answer.
 type Line = ArrayVec<u8, LINE_MOST>;
-
-/// Writes the text. If the writer fails, it has taken a front of the text, which may be nothing.
-pub(crate) fn write_front<W: Write>(text: &[u8], writer: &mut W) -> io::Result<()>
-    ensures written { OnOk result (Appends (W.contents writer.old) (W.contents writer.new)
-        text.now) }
-    ensures front { OnErr result (TakesFront (W.contents writer.old) (W.contents writer.new)
-        text.now) }
-{
-    let mut done = 0;
-    for _ in 0..u64::MAX {
-        if done == text.len() {
-            return Ok(());
-        }
-        match writer.write(&text[done..]) {
-            Ok(0) => return Err(io::Error::from(ErrorKind::WriteZero)),
-            Ok(n) => done += n,
-            Err(error) => {
-                if error.kind() != ErrorKind::Interrupted {
-                    return Err(error);
-                }
-            }
-        }
-    }
-    Err(io::Error::from(ErrorKind::Interrupted))
-}
 
 /// Writes the line of the counts, or a front of it.
 pub(crate) fn write_counts<W: Write>(counts: &Counts, writer: &mut W) -> io::Result<()>

@@ -1,10 +1,12 @@
 //! Entries about a topic.
-ghost use Rattle.std.specs.Prelude.{◌≡◌, OnOk, map};
+ghost use Rattle.std.specs.Prelude.{◌≡◌, OnErr, OnOk, map};
 ghost use Rattle.std.specs.List.{list_any, position};
 ghost use Rattle.std.specs.Str.{bytes_eq};
 ghost use Rattle.std.specs.Io.KnownBytes.{Appends};
+ghost use Rattle.cli_lines.specs.Fronts.{TakesFront};
 ghost use Rattle.cli_explaining.specs.Topics.{about_all, explanation, entry_head, is_on_topic, is_colon, is_known, line_if_about, head_words};
 
+use cli_lines::write_front;
 use std::io;
 use std::io::Write;
 
@@ -64,25 +66,34 @@ pub fn is_known(entries: &str, words: &[&str]) -> bool
     has_entry(entries.as_bytes(), words)
 }
 
-/// Writes the entry, if it is about the topic.
+/// Writes the entry, if it is about the topic, or a front of it.
 fn write_if_about<W: Write>(entry: &[u8], words: &[&str], writer: &mut W) -> io::Result<()>
-    ensures { OnOk result (Appends (W.contents writer.old) (W.contents writer.new)
+    ensures written { OnOk result (Appends (W.contents writer.old) (W.contents writer.new)
+        (line_if_about (map (λ w. w.now) words.now) entry.now)) }
+    ensures front { OnErr result (TakesFront (W.contents writer.old) (W.contents writer.new)
         (line_if_about (map (λ w. w.now) words.now) entry.now)) }
 {
-    if entry_is_about(entry, words) {
-        writer.write_all(entry)?;
-        writer.write_all(b"\n")?;
+    if !entry_is_about(entry, words) {
+        return Ok(());
     }
-    Ok(())
+    match write_front(entry, writer) {
+        Ok(()) => write_front(b"\n", writer),
+        Err(error) => Err(error),
+    }
 }
 
-/// Writes the entries that are about the topic, a line each, in their order. It takes no memory.
+/// Writes the entries that are about the topic, a line each, in their order; if the writer fails, it has taken a front of them, which may be
+/// nothing. It takes no memory.
 pub fn explain_to<W: Write>(entries: &str, words: &[&str], writer: &mut W) -> io::Result<()>
-    ensures { OnOk result (Appends (W.contents writer.old) (W.contents writer.new)
+    ensures written { OnOk result (Appends (W.contents writer.old) (W.contents writer.new)
+        (explanation entries.now (map (λ w. w.now) words.now))) }
+    ensures front { OnErr result (TakesFront (W.contents writer.old) (W.contents writer.new)
         (explanation entries.now (map (λ w. w.now) words.now))) }
 {
     for entry in entries.split('\n') {
-        write_if_about(entry.as_bytes(), words, writer)?;
+        if let Err(error) = write_if_about(entry.as_bytes(), words, writer) {
+            return Err(error);
+        }
     }
     Ok(())
 }

@@ -80,7 +80,7 @@ module _ (holds : Holding) (input middle source output said written : Option (Li
   ends ended.Finished served (same, known, rest, at_end) = (middle, unchanged served same known, rest, at_end)
   ends ended.Shut served (line, gives, (answer, says, known, is)) =
       last _ served line answer gives (is, said_more output said written served.answers answer served.said says) known
-  ends ended.Unwritable served (line, gives, (answer, known)) = last _ served line answer gives (said, served.said) known
+  ends ended.Unwritable served (line, gives, (answer, front, known)) = last _ served line answer gives (said, served.said, front) known
   ends ended.Unreadable served (same, known) = (middle, unchanged served same known)
   ends ended.NoMemory served (line, gives, impossible) = absurd impossible
 
@@ -91,5 +91,5 @@ pub too_long : (holds : Holding) (input source output written : Option (List ℕ
     → ((Are : SessionState → SessionState → Type 0) → ((state : SessionState) → Are state state) → Knows Are) → ServesLine holds input source output written Knows end
 too_long holds input source output written Knows begun None (rest, more, gives) says known =
     (begun ++ rest, gives, (LongLine, says, known _ (λ state. inr (more, refl, refl)), refl))
-too_long holds input source output written Knows begun (Some end) (rest, more, gives) is known =
-    subst (λ (it : End). ServesLine holds input source output written Knows (Some it)) (sym is) (begun ++ rest, gives, (LongLine, known _ (λ state. inr (more, refl, refl))))
+too_long holds input source output written Knows begun (Some end) (rest, more, gives) (is, front) known =
+    subst (λ (it : End). ServesLine holds input source output written Knows (Some it)) (sym is) (begun ++ rest, gives, (LongLine, front, known _ (λ state. inr (more, refl, refl))))

@@ -5,6 +5,7 @@ use Rattle.std.specs.Io.KnownBytes.{Appends, Consumes, IsAtEnd}
 use Rattle.cli_failures.specs.Failures.{Holding}
 use Rattle.cli_failures.specs.declared.failure.Failure.TheVariants.{NoMemory, StoreFailed}
 use Rattle.cli_failures.specs.declared.failure.StoreRefusal.TheVariants as OfStore
+use Rattle.cli_lines.specs.Fronts.{TakesFront}
 use Rattle.cli_lines.specs.Lines.{GivesLine}
 use Rattle.cli_requests.specs.Requests.{Request, request_on}
 use Rattle.cli_session.specs.Held.{holding_of}
@@ -112,10 +113,11 @@ abbrev pub SaysAll : (SessionAnswer → Bool) → Option (List ℕ) → Option (
 SaysAll is_so output written answers answer =
     (is_so answer ≡ true) × Appends output written (text_of (answers ++ answer ∷ []))
 
--- all but the last were written
-abbrev pub SaysAllButLast : Option (List ℕ) → List SessionAnswer → SessionAnswer → Type 0
-SaysAllButLast output answers answer =
-    (written : Option (List ℕ)) × Appends output written (text_of answers)
+-- all but the last were written, and of the last a front, which may be nothing
+abbrev pub SaysAllButEnd : Option (List ℕ) → Option (List ℕ) → List SessionAnswer → SessionAnswer → Type 0
+SaysAllButEnd output written answers answer =
+    (middle : Option (List ℕ)) × Appends output middle (text_of answers)
+    × TakesFront middle written (answer_text answer)
 
 -- How a session ended, and what is known of its party then. Each line that was read has its answer, also where the session was cut short:
 -- behind a line that asks for the end; at the end of the source; behind an answer that the keeper refused; or as the last answer could not
@@ -129,7 +131,7 @@ SessionHasEnded holds input source output written Knows ended.Finished =
 SessionHasEnded holds input source output written Knows ended.Shut =
     HasServedLast holds input source Knows (SaysAll is_refusal output written)
 SessionHasEnded holds input source output written Knows ended.Unwritable =
-    HasServedLast holds input source Knows (SaysAllButLast output)
+    HasServedLast holds input source Knows (SaysAllButEnd output written)
 SessionHasEnded holds input source output written Knows ended.Unreadable =
     (middle : Option (List ℕ)) × HasServed holds input middle output written Knows
 SessionHasEnded holds input source output written Knows ended.NoMemory =
@@ -143,7 +145,7 @@ SessionEnds holds remaining input source contents output written is_clean keeps 
 
 -- ---- on the way
 
--- An answer of which this is so was written, and the session goes on or ends so; or it could not be written.
+-- An answer of which this is so was written, and the session goes on or ends so; or a front of it was, and no more could be written.
 abbrev pub WritesAnswer : Option (List ℕ) → Option (List ℕ) → Known → (SessionState → SessionState → SessionAnswer → Type 0) → Option End → Type 0
 WritesAnswer output written Knows Is None =
     (answer : SessionAnswer) × Appends output written (answer_text answer) × Knows (λ old new. Is old new answer)
@@ -155,15 +157,15 @@ WritesAnswer output written Knows Is (Some ended.Shut) =
     (answer : SessionAnswer) × Appends output written (answer_text answer) × Knows (λ old new. Is old new answer)
     × (is_refusal answer ≡ true)
 WritesAnswer output written Knows Is (Some ended.Unwritable) =
-    (answer : SessionAnswer) × Knows (λ old new. Is old new answer)
+    (answer : SessionAnswer) × TakesFront output written (answer_text answer) × Knows (λ old new. Is old new answer)
 WritesAnswer output written Knows Is (Some ended.Finished) = ⊥
 WritesAnswer output written Knows Is (Some ended.Unreadable) = ⊥
 WritesAnswer output written Knows Is (Some ended.NoMemory) = ⊥
 
--- the answer to a line that is too long was written, or could not be
+-- the answer to a line that is too long was written, or a front of it
 abbrev pub SaysLong : Option (List ℕ) → Option (List ℕ) → Option End → Type 0
 SaysLong output written None = Appends output written (answer_text LongLine)
-SaysLong output written (Some end) = end ≡ ended.Unwritable
+SaysLong output written (Some end) = (end ≡ ended.Unwritable) × TakesFront output written (answer_text LongLine)
 
 -- the answer to a line that was read
 abbrev pub AnswersRead : Holding → Option (List ℕ) → Option (List ℕ) → Option (List ℕ) → Option (List ℕ) → Known → Option End → Type 0

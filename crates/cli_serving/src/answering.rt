@@ -1,6 +1,7 @@
 //! One line, and its answer.
-ghost use Rattle.std.specs.Prelude.{◌≡◌, OnOk};
+ghost use Rattle.std.specs.Prelude.{◌≡◌, OnErr, OnOk};
 ghost use Rattle.std.specs.Io.KnownBytes.{Appends};
+ghost use Rattle.cli_lines.specs.Fronts.{TakesFront};
 ghost use Rattle.cli_session.specs.Held.{holding_of};
 ghost use Rattle.cli_steps.specs.AnswerText.{answer_text};
 ghost use Rattle.cli_steps.specs.Keeping.{Keeps};
@@ -9,6 +10,7 @@ ghost use Rattle.cli_serving.specs.Serving.{IsFollowedBy, IsAnswerWithin, Writes
 
 use crate::ending::End;
 use cli_failures::{Failure, Source, StoreRefusal};
+use cli_lines::write_front;
 use cli_requests::{RequestFault, request_of};
 use cli_steps::{Keeper, Party, SessionAnswer, step};
 use std::alloc::Global;
@@ -57,12 +59,21 @@ fn answer_line<'a, K: Keeper, S: Source>(
     }
 }
 
-/// Writes the answer, and what the writer may keep back.
-pub(crate) fn write_answer<W: Write>(answer: &SessionAnswer<'_>, out: &mut W) -> io::Result<()>
-    ensures { OnOk result (Appends (W.contents out.old) (W.contents out.new)
+/// Writes the answer, which is made in `text` first, and what the writer may keep back. If the writer fails, or there is no memory for the
+/// text, it has taken a front of the answer, which may be nothing.
+pub(crate) fn write_answer<W: Write>(
+    answer: &SessionAnswer<'_>,
+    text: &mut Vec<u8>,
+    out: &mut W,
+) -> io::Result<()>
+    ensures written { OnOk result (Appends (W.contents out.old) (W.contents out.new)
+        (answer_text answer.now)) }
+    ensures front { OnErr result (TakesFront (W.contents out.old) (W.contents out.new)
         (answer_text answer.now)) }
 {
-    answer.tell(out)?;
+    text.clear();
+    answer.tell(text)?;
+    write_front(text.as_slice(), out)?;
     out.flush()
 }
 
@@ -87,6 +98,7 @@ pub(crate) fn answer_read<K: Keeper, S: Source, W: Write>(
     source: &S,
     alloc: Global,
     line: &[u8],
+    text: &mut Vec<u8>,
     out: &mut W,
 ) -> Option<End>
     ensures clean { K.is_clean party.new.keeper → K.is_clean party.old.keeper }
@@ -95,7 +107,7 @@ pub(crate) fn answer_read<K: Keeper, S: Source, W: Write>(
         (IsAnswerWithin (holding_of (S.holds source.now)) line.now) result }
 {
     let answer = answer_line(party, source, alloc, line);
-    if write_answer(&answer, out).is_err() {
+    if write_answer(&answer, text, out).is_err() {
         return Some(End::Unwritable);
     }
     end_behind(&mut party.keeper, &answer)

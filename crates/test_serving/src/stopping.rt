@@ -177,9 +177,35 @@ fn a_keeper_answers_or_refuses(rt: HostRuntime) -> Result<(), Fail> {
     let lines = lines.as_slice();
     let answers = "0 believed\n0 stored 1 kept 0 contradicted 0\n0 forgotten\n";
     is_said(&rt, alloc, lines, obliging(), answers, End::Finished);
+    let shut = Told {
+        may_answer: false,
+        ..obliging()
+    };
+    is_said(&rt, alloc, lines, shut, answers, End::Finished);
     let answers = "0 believed\n6 store fault 71\n0 forgotten\n";
     is_said(&rt, alloc, lines, refusing(true), answers, End::Finished);
     let answers = "0 believed\n6 store fault 71\n";
     is_said(&rt, alloc, lines, refusing(false), answers, End::Shut);
+    Ok(())
+}
+
+// More lines than any count of lines at which a session might end.
+const MANY: usize = 100_000;
+
+#[test]
+fn many_lines_are_served(rt: HostRuntime) -> Result<(), Fail> {
+    let alloc = rt.alloc();
+    let mut lines = Vec::new(alloc);
+    lines.resize(MANY, b'\n')?;
+    lines.extend_from_slice(b"forget\n")?;
+    let answers = "0 forgotten\n";
+    is_said(
+        &rt,
+        alloc,
+        lines.as_slice(),
+        obliging(),
+        answers,
+        End::Finished,
+    );
     Ok(())
 }

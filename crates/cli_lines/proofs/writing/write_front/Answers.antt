@@ -1,6 +1,6 @@
-use Rattle.cli.proofs.Fronts.{more_of_rest, more_within, no_more}
-use Rattle.cli.proofs.writing.write_front.Goals.{in-Ok, in-Err+else-ne}
-use Rattle.cli.proofs.writing.write_front.Goals as goal
+use Rattle.cli_lines.proofs.Fronts.{more_of_rest, more_within, no_more}
+use Rattle.cli_lines.proofs.writing.write_front.Goals.{in-Ok, in-Err+else-ne}
+use Rattle.cli_lines.proofs.writing.write_front.Goals as goal
 
 pub loop-preserved : goal.loop-preserved
 loop-preserved g c = elim c.match-write.branch [
