@@ -74,7 +74,7 @@ impl Question for Finds {
     }
 }
 
-fn finds(alloc: Global, told: &[Told], anchor: usize, verdict: Verdict) -> Option<bool> {
+fn is_found(alloc: Global, told: &[Told], anchor: usize, verdict: Verdict) -> Option<bool> {
     let octets = octets_of(alloc, CERTIFICATES)?;
     asked(alloc, told, &Finds(octets, anchor, verdict))
 }
@@ -82,11 +82,11 @@ fn finds(alloc: Global, told: &[Told], anchor: usize, verdict: Verdict) -> Optio
 #[test]
 fn a_path_that_is_not_revoked_is_found_behind_one_that_is(rt: HostRuntime) {
     let told = &[REVOKING_FIRST, OF_OTHER_ANCHOR, OF_AUTHORITY];
-    assert!(rt; finds(rt.alloc(), told, 1, Valid) == Some(true));
+    assert!(rt; is_found(rt.alloc(), told, 1, Valid) == Some(true));
 }
 
 #[test]
 fn the_first_path_is_found_if_none_has_the_verdict_valid(rt: HostRuntime) {
-    assert!(rt; finds(rt.alloc(), &[REVOKING_FIRST], 0, Revoked(1, 4)) == Some(true));
-    assert!(rt; finds(rt.alloc(), &[FIFTH], 0, Unknown(2)) == Some(true));
+    assert!(rt; is_found(rt.alloc(), &[REVOKING_FIRST], 0, Revoked(1, 4)) == Some(true));
+    assert!(rt; is_found(rt.alloc(), &[FIFTH], 0, Unknown(2)) == Some(true));
 }

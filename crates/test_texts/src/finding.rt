@@ -65,15 +65,14 @@ fn row_of(row: &str) -> Row<'_> {
     }
 }
 
-/// Adds the octets of the certificates that the texts ask for, and answers how many these are.
-fn add_certificates(alloc: Global, texts: &str, all: &mut Vec<Vec<u8>>) -> Option<usize> {
-    let before = all.len();
+/// Adds the octets of the certificates that the texts ask for.
+fn add_certificates(alloc: Global, texts: &str, all: &mut Vec<Vec<u8>>) -> Option<()> {
     for text in texts.split(';').map(str::trim) {
         if !text.is_empty() {
             all.push(certificate(alloc, text).ok()?).ok()?;
         }
     }
-    Some(all.len() - before)
+    Some(())
 }
 
 /// The octets of the lists that the texts ask for.
@@ -155,7 +154,8 @@ fn found_over(
 /// What is found of what the row asks.
 fn found_of(alloc: Global, row: &Row<'_>) -> Option<String> {
     let mut octets = Vec::new(alloc);
-    let anchors = add_certificates(alloc, row.anchors, &mut octets)?;
+    add_certificates(alloc, row.anchors, &mut octets)?;
+    let anchors = octets.len();
     add_certificates(alloc, row.bag, &mut octets)?;
     add_certificates(alloc, row.target, &mut octets)?;
     let certificates = certificates_of(alloc, &octets)?;
