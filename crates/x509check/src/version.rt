@@ -1,2 +1,2 @@
 /// The SHA-256 of the sources that the program is made from, as `.ci/sources` prints it.
-pub(crate) const SOURCES: &str = "948cb042b027ea4a1c37978175187bad05b43e78f2e69e3ea71778e0794debd1";
+pub(crate) const SOURCES: &str = "3b499decd1a13d0992a1c6d2eccdc5523ba0199a5dc7a273e1f14d30b9648592";
