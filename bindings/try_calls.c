@@ -225,6 +225,46 @@ static void try_extensions(void)
     EXPECT(of_constraints.version == 3 && of_constraints.not_before == 1795840550 && of_constraints.not_after == 2111200550);
 }
 
+/* The leaf under two anchors, beside others in any order: the anchors have the numbers 0 and 1, the leaf 2, the others 3 to 5. */
+static void try_searches(void)
+{
+    const struct x509check_text anchors[] = {constraints, root}, bag[] = {delegate, root, middle}, statements[] = {root_list, middle_list};
+    struct x509check_search search = {
+        .anchors = anchors, .anchor_count = 2, .target = leaf, .bag = bag, .bag_count = 3, .moment = MOMENT,
+        .limits = {X509CHECK_SIGNATURES, X509CHECK_STEPS, X509CHECK_VERDICTS}};
+    static const struct x509check_search zeros;
+    struct x509check_signature_question questions[5];
+    struct x509check_asked asked;
+    struct x509check_finding found;
+    size_t path[X509CHECK_PATH_ROOM];
+
+    memset(path, 0xA5, sizeof path);
+    found = x509check_find(&search, statements, 2, good[0], good_count, path, X509CHECK_PATH_ROOM);
+    EXPECT(is_verdict(found.verdict, X509CHECK_VALID, 0, 0) && found.path_count == 3);
+    EXPECT(path[0] == 1 && path[1] == 5 && path[2] == 2 && path[3] != 0);
+    found = x509check_find(&search, statements, 1, good[0], good_count, NULL, 0);
+    EXPECT(is_verdict(found.verdict, X509CHECK_UNKNOWN, 2, 0) && found.path_count == 3);
+    found = x509check_find(&search, statements, 2, NULL, 0, NULL, 0);
+    EXPECT(is_verdict(found.verdict, X509CHECK_NOT_FOUND, 0, 0) && found.path_count == 0);
+    asked = x509check_find_questions(&search, statements, 2, questions, 5);
+    EXPECT(asked.refusal.fault == 0 && asked.count == 4);
+    for (size_t i = 0; i < 4; i++)
+        EXPECT(memcmp(questions[i].fingerprint, good[i], sizeof good[i]) == 0);
+    EXPECT(questions[0].key_info.text == X509CHECK_CERTIFICATES && questions[0].key_info.index == 1 && questions[0].message.index == 5);
+    search.limits.steps = 0;
+    found = x509check_find(&search, statements, 2, good[0], good_count, path, X509CHECK_PATH_ROOM);
+    EXPECT(is_verdict(found.verdict, X509CHECK_GAVE_UP, 0, 0) && found.path_count == 0);
+    search.bag_count = 0;
+    search.anchor_count = 0;
+    search.bag = search.anchors = NULL;
+    search.limits.steps = X509CHECK_STEPS;
+    found = x509check_find(&search, NULL, 0, good[0], good_count, NULL, 0);
+    EXPECT(is_verdict(found.verdict, X509CHECK_NOT_FOUND, 0, 0));
+    found = x509check_find(&zeros, NULL, 0, NULL, 0, NULL, 0);
+    EXPECT(found.verdict.verdict == X509CHECK_REFUSED && found.path_count == 0);
+    EXPECT(is_refusal(found.verdict.refusal, X509CHECK_CERTIFICATES, 0, X509CHECK_FAULT_DER, 4, 0));
+}
+
 static void try_200_certificates(void)
 {
     struct x509check_text path[200];
@@ -282,6 +322,7 @@ int main(void)
     try_places();
     try_questions();
     try_extensions();
+    try_searches();
     try_200_certificates();
     try_names();
     return failed;

@@ -24,6 +24,7 @@
 
 #define FAULTS 34
 #define MOST_QUESTIONS 64
+#define MOST_NUMBERS 4
 
 /* A run: its words, where texts are put, and what was seen. */
 struct run {
@@ -35,11 +36,13 @@ struct run {
     struct guarded text;
     struct guarded fingerprint; /* ends with the octets of a fingerprint */
     struct guarded questions;   /* ends with an array of them */
+    struct guarded path;        /* ends with the numbers of a path */
     uint64_t asked;             /* questions, */
     uint64_t unasked;           /* and texts that nothing is asked about */
     uint64_t checks[FAULTS];    /* how many texts have this fault */
     uint64_t reads[FAULTS];
     uint64_t verdicts[X509CHECK_REFUSED + 1];
+    uint64_t findings[X509CHECK_GAVE_UP + 1];
     uint64_t refused;   /* reads that were refused memory, */
     uint64_t told_so;   /* and how many of them said so */
     uint64_t requested; /* requests for memory, by reads that were not refused any */
@@ -152,16 +155,39 @@ static const char *broken_by_fingerprint(const uint8_t *at, const struct x509che
     return broken_of_fingerprint(at, fields, fingerprint);
 }
 
+static struct x509check_query query_of(const struct asking *asking)
+{
+    return (struct x509check_query){
+        .anchor = asking->certificates[0], .path = asking->certificates + 1, .path_count = asking->certificate_count - 1};
+}
+
+static struct x509check_search search_of(const struct asking *asking, struct x509check_limits limits)
+{
+    size_t anchors = asking->anchor_count;
+
+    return (struct x509check_search){
+        .anchors = asking->certificates, .anchor_count = anchors, .target = asking->certificates[anchors],
+        .bag = asking->certificates + anchors + 1, .bag_count = asking->certificate_count - anchors - 1, .limits = limits};
+}
+
 static struct x509check_verdict validate(const struct asking *asking)
 {
+    struct x509check_query query = query_of(asking);
+
     watch(0);
-    return x509check_validate(&asking->query, asking->statements, asking->statement_count, NULL, 0);
+    return x509check_validate(&query, asking->statements, asking->statement_count, NULL, 0);
 }
 
 static struct x509check_asked ask(const struct asking *asking, struct x509check_signature_question *questions, size_t room)
 {
+    struct x509check_query query = query_of(asking);
+    struct x509check_search search;
+
     memset(run.questions.writable, 0xA5, run.questions.size);
-    return x509check_questions(&asking->query, asking->statements, asking->statement_count, questions, room);
+    if (!asking->is_search)
+        return x509check_questions(&query, asking->statements, asking->statement_count, questions, room);
+    search = search_of(asking, (struct x509check_limits){0, 0, 0});
+    return x509check_find_questions(&search, asking->statements, asking->statement_count, questions, room);
 }
 
 /* What is asked, with room for all questions or fewer, and with some request for memory refused; the verdict is known. */
@@ -208,21 +234,47 @@ static const char *broken_by_asking(struct numbers *numbers, const struct asking
 /* The text as the anchor, or as the last certificate of a path. */
 static const char *broken_in_path(struct numbers *numbers, struct x509check_text text, const struct x509check_certificate *read)
 {
-    const struct x509check_text path[] = {run.known[1], text};
-    struct asking asking = {.query = {.anchor = text}};
+    struct asking asking = {.certificates = {text}, .certificate_count = 1};
     struct x509check_verdict answer;
     const char *broken;
 
     if (number_below(numbers, 2) == 0)
-        asking.query = (struct x509check_query){.anchor = run.known[0], .path = path, .path_count = 2};
+        asking = (struct asking){.certificates = {run.known[0], run.known[1], text}, .certificate_count = 3};
     answer = validate(&asking);
     if (memory.held != 0)
         return "memory is given back before a call returns";
     if (answer.verdict == X509CHECK_NOT_FILLED || answer.verdict > X509CHECK_REFUSED)
         return "a verdict is 1 to 5";
     run.verdicts[answer.verdict]++;
-    broken = broken_of_path(asking.query.path_count, read, &answer);
+    broken = broken_of_path(asking.certificate_count - 1, read, &answer);
     return broken != NULL ? broken : broken_by_asking(numbers, &asking, &answer);
+}
+
+/* The text as an anchor, as the target, or as one of the others of a search. */
+static const char *broken_in_search(struct numbers *numbers, struct x509check_text text, const struct x509check_certificate *read)
+{
+    struct x509check_limits limits = {number_below(numbers, 8), number_below(numbers, 4), number_below(numbers, 3)};
+    struct asking asking = {.certificates = {run.known[0], run.known[2], run.known[1]}, .certificate_count = 3,
+                            .statements = run.known + 3, .statement_count = 1, .is_search = true, .anchor_count = 1};
+    size_t *path = (size_t *)(void *)(run.path.writable + run.path.size) - MOST_NUMBERS, index = number_below(numbers, 3);
+    struct x509check_search search;
+    struct x509check_finding answer;
+    const char *broken;
+
+    asking.certificates[index] = text;
+    search = search_of(&asking, limits);
+    memset(run.path.writable, 0xA5, run.path.size);
+    watch(0);
+    answer = x509check_find(&search, asking.statements, asking.statement_count, NULL, 0, path, MOST_NUMBERS);
+    if (memory.held != 0)
+        return "memory is given back before a call returns";
+    for (const uint8_t *octet = run.path.writable; octet < run.path.writable + run.path.size; octet++)
+        if (*octet != 0xA5)
+            return "no path is written where none is found";
+    if ((broken = broken_of_search(index, read, &limits, &answer)) != NULL)
+        return broken;
+    run.findings[answer.verdict.verdict]++;
+    return broken_by_asking(numbers, &asking, &answer.verdict);
 }
 
 /* The text as a statement, alone or behind a list, beside an anchor and then also a path. */
@@ -230,7 +282,9 @@ static const char *broken_as_statement(struct numbers *numbers, struct x509check
 {
     const struct x509check_text statements[] = {run.known[3], text};
     size_t index = number_below(numbers, 2);
-    struct asking asking = {.query = {.anchor = run.known[0]}, .statements = statements + 1 - index, .statement_count = 1 + index};
+    struct asking asking = {
+        .certificates = {run.known[0], run.known[1], run.known[2]}, .certificate_count = 1, .statements = statements + 1 - index,
+        .statement_count = 1 + index};
     struct x509check_verdict answer = validate(&asking);
     const char *broken;
 
@@ -238,8 +292,7 @@ static const char *broken_as_statement(struct numbers *numbers, struct x509check
         return "memory is given back before a call returns";
     if ((broken = broken_of_statement(index, text.length, &answer)) != NULL)
         return broken;
-    asking.query.path = run.known + 1;
-    asking.query.path_count = 2;
+    asking.certificate_count = 3;
     return broken_by_asking(numbers, &asking, &answer);
 }
 
@@ -266,6 +319,8 @@ static const char *broken_by_reading(struct numbers *numbers, const struct text 
         return "reading answers the same wherever the text stands";
     run.reads[answer.fault]++;
     if ((broken = broken_in_path(numbers, (struct x509check_text){at, text->length}, &answer)) != NULL)
+        return broken;
+    if ((broken = broken_in_search(numbers, (struct x509check_text){at, text->length}, &answer)) != NULL)
         return broken;
     if ((broken = broken_as_statement(numbers, (struct x509check_text){at, text->length})) != NULL)
         return broken;
@@ -329,6 +384,7 @@ int main(int argc, char **argv)
     run.text = make_guarded(ROOM);
     run.fingerprint = make_guarded(X509CHECK_FINGERPRINT_LENGTH);
     run.questions = make_guarded(MOST_QUESTIONS * sizeof(struct x509check_signature_question));
+    run.path = make_guarded(MOST_NUMBERS * sizeof(size_t));
     make_known();
     __sanitizer_set_death_callback(tell_place);
     for (place = run.first; place - run.first < run.count; place++)
@@ -338,6 +394,7 @@ int main(int argc, char **argv)
     print_faults("check", run.checks, FAULTS);
     print_faults("certificate", run.reads, FAULTS);
     print_faults("verdict", run.verdicts, X509CHECK_REFUSED + 1);
+    print_faults("finding", run.findings, X509CHECK_GAVE_UP + 1);
     printf("  %" PRIu64 " requests for memory; %" PRIu64 " calls were refused one, %" PRIu64 " of them said so\n", run.requested,
            run.refused, run.told_so);
     printf("  %" PRIu64 " questions; nothing asked about %" PRIu64 "\n", run.asked, run.unasked);

@@ -69,10 +69,15 @@ const char *broken_of_check(const uint8_t *octets, size_t length, const struct x
     return NULL;
 }
 
+static bool is_nothing_refused(const struct x509check_refusal *refusal)
+{
+    return refusal->text == 0 && refusal->fault == 0 && refusal->der_fault == 0 && refusal->index == 0 && refusal->offset == 0;
+}
+
 static bool is_invalid(const struct x509check_verdict *answer, size_t certificate, uint32_t reason)
 {
-    return answer->verdict == X509CHECK_INVALID && answer->certificate == certificate && answer->reason == reason && answer->text == 0
-        && answer->fault == 0 && answer->der_fault == 0 && answer->index == 0 && answer->offset == 0;
+    return answer->verdict == X509CHECK_INVALID && answer->certificate == certificate && answer->reason == reason
+        && is_nothing_refused(&answer->refusal);
 }
 
 /* What holds of any refusal. */
@@ -80,24 +85,47 @@ static const char *broken_of_refused(uint32_t text, size_t index, const struct x
 {
     PROMISE(answer->verdict == X509CHECK_REFUSED, "what cannot be read is refused");
     PROMISE(answer->reason == 0 && answer->certificate == 0, "a refusal has no reason and no certificate");
-    PROMISE(answer->text == text && answer->index == index, "text and index are those of what is refused");
-    PROMISE(x509check_fault_name(answer->fault, NULL, 0) > 0, "each fault has a name");
+    PROMISE(answer->refusal.text == text && answer->refusal.index == index, "text and index are those of what is refused");
+    PROMISE(x509check_fault_name(answer->refusal.fault, NULL, 0) > 0, "each fault has a name");
+    return NULL;
+}
+
+/* A certificate with this number is refused as reading it says. */
+static const char *broken_of_refused_certificate(size_t index, const struct x509check_certificate *read,
+                                                 const struct x509check_verdict *answer)
+{
+    const struct x509check_refusal *refusal = &answer->refusal;
+    const char *broken;
+
+    if ((broken = broken_of_refused(X509CHECK_CERTIFICATES, index, answer)) != NULL)
+        return broken;
+    PROMISE(refusal->fault == read->fault && refusal->der_fault == read->der_fault && refusal->offset == read->offset,
+            "the fault of a certificate is the one that reading it answers");
     return NULL;
 }
 
 const char *broken_of_path(size_t index, const struct x509check_certificate *read, const struct x509check_verdict *answer)
 {
-    const char *broken;
-
     if (read->fault == 0) {
         PROMISE(index != 0 || is_invalid(answer, 0, 15), "an anchor alone is an empty path");
         PROMISE(index == 0 || is_invalid(answer, 1, 2), "no path is valid without a fingerprint");
         return NULL;
     }
-    if ((broken = broken_of_refused(X509CHECK_CERTIFICATES, index, answer)) != NULL)
-        return broken;
-    PROMISE(answer->fault == read->fault && answer->der_fault == read->der_fault && answer->offset == read->offset,
-            "the fault of a certificate is the one that reading it answers");
+    return broken_of_refused_certificate(index, read, answer);
+}
+
+const char *broken_of_search(size_t index, const struct x509check_certificate *read, const struct x509check_limits *limits,
+                             const struct x509check_finding *answer)
+{
+    const struct x509check_verdict *verdict = &answer->verdict;
+
+    PROMISE(answer->path_count == 0, "no path is found without a fingerprint");
+    if (read->fault != 0)
+        return broken_of_refused_certificate(index, read, verdict);
+    PROMISE(verdict->certificate == 0 && verdict->reason == 0 && is_nothing_refused(&verdict->refusal), "what has no number is 0");
+    PROMISE(verdict->verdict == X509CHECK_NOT_FOUND || verdict->verdict == X509CHECK_GAVE_UP, "nothing is found without a fingerprint");
+    PROMISE(verdict->verdict == X509CHECK_NOT_FOUND || limits->signatures < 6 || limits->steps < 2,
+            "a search does not give up if its limits suffice");
     return NULL;
 }
 
@@ -111,8 +139,8 @@ const char *broken_of_statement(size_t index, size_t length, const struct x509ch
     }
     if ((broken = broken_of_refused(X509CHECK_STATEMENTS, index, answer)) != NULL)
         return broken;
-    PROMISE(answer->offset <= length, "the offset lies within the text");
-    PROMISE((answer->fault == X509CHECK_FAULT_STATEMENT_DER) == (answer->der_fault != 0),
+    PROMISE(answer->refusal.offset <= length, "the offset lies within the text");
+    PROMISE((answer->refusal.fault == X509CHECK_FAULT_STATEMENT_DER) == (answer->refusal.der_fault != 0),
             "the rule of DER is told where the fault is one of DER");
     return NULL;
 }
@@ -276,10 +304,8 @@ const char *broken_of_fingerprint(const uint8_t *octets, const struct x509check_
 /* The text that a place is in; it has no octets if there is none. */
 static struct x509check_text text_at(const struct asking *asking, const struct x509check_place *place)
 {
-    if (place->text == X509CHECK_CERTIFICATES && place->index == 0)
-        return asking->query.anchor;
-    if (place->text == X509CHECK_CERTIFICATES && place->index <= asking->query.path_count)
-        return asking->query.path[place->index - 1];
+    if (place->text == X509CHECK_CERTIFICATES && place->index < asking->certificate_count)
+        return asking->certificates[place->index];
     if (place->text == X509CHECK_STATEMENTS && place->index < asking->statement_count)
         return asking->statements[place->index];
     return (struct x509check_text){NULL, 0};
@@ -310,8 +336,9 @@ const char *broken_of_questions(const struct asking *asking, const struct x509ch
     size_t written = asked->count < room ? asked->count : room;
     const char *broken;
 
-    PROMISE((asked->fault == 0) == (asked->text == 0) && asked->text <= X509CHECK_STATEMENTS, "a text is told where it is refused");
-    PROMISE(asked->fault == 0 || asked->count == 0, "there is no question where a text is refused");
+    PROMISE((asked->refusal.fault == 0) == (asked->refusal.text == 0) && asked->refusal.text <= X509CHECK_STATEMENTS,
+            "a text is told where it is refused");
+    PROMISE(asked->refusal.fault == 0 || asked->count == 0, "there is no question where a text is refused");
     for (size_t i = 0; i < written; i++)
         if ((broken = broken_of_question(asking, &questions[i])) != NULL)
             return broken;

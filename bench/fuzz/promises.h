@@ -8,11 +8,15 @@
 
 #include "x509check.h"
 
-/* What is asked about: a path and statements. */
+/* What is asked about: certificates, by their numbers, and statements. Of a path the first is the anchor; of a search so many are anchors, and
+ * the next one is the target. */
 struct asking {
-    struct x509check_query query;
+    struct x509check_text certificates[4];
+    size_t certificate_count;
     const struct x509check_text *statements;
     size_t statement_count;
+    bool is_search;
+    size_t anchor_count;
 };
 
 /* Each answers the promise that is broken, in words, or a null pointer. */
@@ -25,6 +29,10 @@ const char *broken_of_certificate(const uint8_t *octets, size_t length, const st
 
 /* Of the verdict with a text among the certificates, at this index, without a good signature; what reading the text answers is known. */
 const char *broken_of_path(size_t index, const struct x509check_certificate *read, const struct x509check_verdict *answer);
+
+/* Of what a search within the limits finds, with a text among the certificates, at this number, and without a good signature. */
+const char *broken_of_search(size_t index, const struct x509check_certificate *read, const struct x509check_limits *limits,
+                             const struct x509check_finding *answer);
 
 /* Of the verdict on an empty path with a text of so many octets among the statements, at this index. */
 const char *broken_of_statement(size_t index, size_t length, const struct x509check_verdict *answer);

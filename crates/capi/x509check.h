@@ -48,9 +48,20 @@ extern "C" {
 #define X509CHECK_REVOKED 3
 #define X509CHECK_UNKNOWN 4
 #define X509CHECK_REFUSED 5
+/* The same of a search for a path: no path is valid, or the limits are used up. */
+#define X509CHECK_NOT_FOUND 6
+#define X509CHECK_GAVE_UP 7
 
-/* What a place or a refusal is in. Of the certificates the anchor has the index 0, and the first of the path 1; the first of the
- * statements has 0. */
+/* Limits of a search that suffice for what servers send: how often a judge may be asked, how many ends of paths may be looked at, and how
+ * many valid paths may be asked about. */
+#define X509CHECK_SIGNATURES 1000
+#define X509CHECK_STEPS 10000
+#define X509CHECK_VERDICTS 32
+/* Room for the numbers of each path that x509check_find finds, the anchor with it. */
+#define X509CHECK_PATH_ROOM 129
+
+/* What a place or a refusal is in. Of the certificates of a query the anchor has the index 0, and the first of the path 1. Of those of a
+ * search the anchors come first, from 0 on, then the target, and then the others. The first of the statements has 0. */
 #define X509CHECK_CERTIFICATES 1
 #define X509CHECK_STATEMENTS 2
 
@@ -89,6 +100,25 @@ struct x509check_query {
     size_t path_count;
     int64_t moment;                /* in seconds from 1970-01-01T00:00:00Z */
     struct x509check_text purpose; /* the contents of an OBJECT IDENTIFIER; no purpose is asked for if its length is 0 */
+};
+
+/* What a search may spend. If one is 0, nothing is found. */
+struct x509check_limits {
+    size_t signatures; /* X509CHECK_SIGNATURES; below the number of pairs of certificates whose names match, a search may give up */
+    size_t steps;      /* X509CHECK_STEPS; each takes up to a kilobyte of memory during the call */
+    size_t verdicts;   /* X509CHECK_VERDICTS */
+};
+
+/* Certificates that come in any order, and what is asked about one of them, the target (RFC 4158). */
+struct x509check_search {
+    const struct x509check_text *anchors; /* certificates, each in DER, of which only the name and the key are used */
+    size_t anchor_count;
+    struct x509check_text target;     /* the DER of the certificate in question */
+    const struct x509check_text *bag; /* others, each in DER, that may stand between an anchor and the target */
+    size_t bag_count;
+    int64_t moment;                /* in seconds from 1970-01-01T00:00:00Z */
+    struct x509check_text purpose; /* the contents of an OBJECT IDENTIFIER; no purpose is asked for if its length is 0 */
+    struct x509check_limits limits;
 };
 
 /* Octets of the text that was handed in. */
@@ -149,7 +179,7 @@ struct x509check_refusal {
     uint32_t text;      /* X509CHECK_CERTIFICATES or X509CHECK_STATEMENTS; 0 if memory was refused */
     uint32_t fault;     /* of certificates 11 to 17, 21 to 32, of statements 11 to 14, 41 to 52, 55, 56, 59, and X509CHECK_FAULT_MEMORY */
     uint32_t der_fault; /* 1 to 7 if fault is X509CHECK_FAULT_DER or X509CHECK_FAULT_STATEMENT_DER, else 0 */
-    size_t index;       /* which certificate or statement; of the certificates the anchor has 0 */
+    size_t index;       /* which certificate or statement (X509CHECK_CERTIFICATES) */
     size_t offset;      /* of the value at fault, in that certificate or statement */
 };
 
@@ -161,10 +191,16 @@ struct x509check_verdict {
     struct x509check_refusal refusal;
 };
 
+/* What a search finds, or what is refused. What has no number there is 0. */
+struct x509check_finding {
+    struct x509check_verdict verdict; /* on the path that is found; else X509CHECK_NOT_FOUND, X509CHECK_GAVE_UP or X509CHECK_REFUSED */
+    size_t path_count;                /* how many certificates the path has, the anchor and the target with it; 0 if none is found */
+};
+
 /* Octets of a certificate or of a statement. */
 struct x509check_place {
     uint32_t text; /* X509CHECK_CERTIFICATES or X509CHECK_STATEMENTS */
-    size_t index;  /* which of them; of the certificates the anchor has 0 */
+    size_t index;  /* which of them */
     size_t offset; /* in it */
     size_t length;
 };
@@ -207,6 +243,17 @@ X509CHECK_STANDS_AT(x509check_query, path_count, 24);
 X509CHECK_STANDS_AT(x509check_query, moment, 32);
 X509CHECK_STANDS_AT(x509check_query, purpose, 40);
 X509CHECK_HAS_SIZE(x509check_query, 56);
+X509CHECK_STANDS_AT(x509check_limits, steps, 8);
+X509CHECK_STANDS_AT(x509check_limits, verdicts, 16);
+X509CHECK_HAS_SIZE(x509check_limits, 24);
+X509CHECK_STANDS_AT(x509check_search, anchor_count, 8);
+X509CHECK_STANDS_AT(x509check_search, target, 16);
+X509CHECK_STANDS_AT(x509check_search, bag, 32);
+X509CHECK_STANDS_AT(x509check_search, bag_count, 40);
+X509CHECK_STANDS_AT(x509check_search, moment, 48);
+X509CHECK_STANDS_AT(x509check_search, purpose, 56);
+X509CHECK_STANDS_AT(x509check_search, limits, 72);
+X509CHECK_HAS_SIZE(x509check_search, 96);
 X509CHECK_STANDS_AT(x509check_part, length, 8);
 X509CHECK_HAS_SIZE(x509check_part, 16);
 X509CHECK_STANDS_AT(x509check_answer, offset, 8);
@@ -249,6 +296,8 @@ X509CHECK_STANDS_AT(x509check_verdict, reason, 4);
 X509CHECK_STANDS_AT(x509check_verdict, certificate, 8);
 X509CHECK_STANDS_AT(x509check_verdict, refusal, 16);
 X509CHECK_HAS_SIZE(x509check_verdict, 48);
+X509CHECK_STANDS_AT(x509check_finding, path_count, 48);
+X509CHECK_HAS_SIZE(x509check_finding, 56);
 X509CHECK_STANDS_AT(x509check_place, index, 8);
 X509CHECK_STANDS_AT(x509check_place, offset, 16);
 X509CHECK_STANDS_AT(x509check_place, length, 24);
@@ -333,6 +382,27 @@ struct x509check_asked x509check_questions(const struct x509check_query *query, 
  * during the call, and freed before it returns; if it is refused, the fault is X509CHECK_FAULT_MEMORY. */
 struct x509check_verdict x509check_validate(const struct x509check_query *query, const struct x509check_text *statements,
                                             size_t statement_count, const uint8_t *fingerprints, size_t fingerprint_count);
+
+/* The questions that a judge of signatures may be asked for what x509check_find finds, at whatever moment and for whatever purpose. As
+ * x509check_questions, of a search: first about each certificate that leads to the target by names, under each anchor and each of the others
+ * that has the name of its issuer, and then about each statement under each of these issuers. The limits of the search do not count here. */
+struct x509check_asked x509check_find_questions(const struct x509check_search *search, const struct x509check_text *statements,
+                                                size_t statement_count, struct x509check_signature_question *questions, size_t room);
+
+/* Searches for a path from an anchor to the target, and tells the verdict on it by statements at hand: the first path whose verdict is
+ * X509CHECK_VALID; if there is none, the first that meets the conditions of RFC 5280, 6.1, with its verdict. The shorter path is first, then
+ * the one whose certificates come earlier in the bag, from the target upward, and then the one whose anchor comes earlier. If no path meets
+ * the conditions, the verdict is X509CHECK_NOT_FOUND. Each path is found that is there, unless the limits are used up: X509CHECK_GAVE_UP.
+ *
+ * Up to `room` numbers are written to `path`: which certificates the path has, from the anchor down to the target, as indices among those
+ * of the search (X509CHECK_CERTIFICATES). The verdict's `certificate` counts along it: path[0] is the anchor. X509CHECK_PATH_ROOM suffices
+ * for each path. Nothing is written if none is found. No text may overlap with `path`.
+ *
+ * `statements` and `fingerprints` are as for x509check_validate; the questions are those of x509check_find_questions. A certificate or a
+ * statement that cannot be read is refused, and nothing is found then. Memory is taken as by x509check_validate, and for the search. */
+struct x509check_finding x509check_find(const struct x509check_search *search, const struct x509check_text *statements,
+                                        size_t statement_count, const uint8_t *fingerprints, size_t fingerprint_count, size_t *path,
+                                        size_t room);
 
 #ifdef __cplusplus
 }

@@ -94,7 +94,7 @@ class Targets(unittest.TestCase):
                 again = pickle.loads(pickle.dumps(caught.exception))
                 self.assertEqual((str(again), again.result), (str(result), result))
         self.assertEqual([bool(one) for one in Verdict], [one is Verdict.VALID for one in Verdict])
-        self.assertEqual([one.value for one in Verdict], ["valid", "invalid", "revoked", "unknown"])
+        self.assertEqual([one.value for one in Verdict], ["valid", "invalid", "revoked", "unknown", "other name", "not found", "gave up"])
 
     def test_a_target_beside_what_cannot_be_read(self):
         for chain in ((MIDDLE, b"\x30\x00"), (b"\x30\x00", LEAF)):
@@ -103,11 +103,12 @@ class Targets(unittest.TestCase):
             self.assertEqual((caught.exception.text, caught.exception.index), (Text.CERTIFICATES, 1 + chain.index(b"\x30\x00")))
 
     def test_numbers_that_are_no_verdict(self):
-        self.assertEqual(set(_library.VERDICT_NUMBERS.values()), {"refused", *(one.value for one in Verdict)})
-        query = _query.Query(ROOT, [LEAF], [])
-        for number in (max(_library.VERDICT_NUMBERS) + 1, min(_library.VERDICT_NUMBERS) - 1, _library.REFUSED):
-            with self.subTest(number), self.assertRaises(RuntimeError):
-                _verdicts._result(_library.VerdictAnswer(number & 0xFFFFFFFF), query)
+        # Whether a certificate speaks for a name is asked by itself.
+        self.assertEqual(set(_library.VERDICT_NUMBERS.values()), {"refused", *(one.value for one in Verdict if one is not Verdict.OTHER_NAME)})
+        for words in (_library.VERDICT_WORDS, _library.FINDING_WORDS):
+            for number in (max(words) + 1, min(words) - 1, _library.REFUSED):
+                with self.subTest(number), self.assertRaises(RuntimeError):
+                    _verdicts.result_of(_library.VerdictAnswer(number & 0xFFFFFFFF), words, [ROOT, LEAF])
 
     def test_reasons_have_the_names_of_the_library(self):
         def name_of(verdict, reason):
@@ -128,7 +129,7 @@ class Targets(unittest.TestCase):
             self.assertEqual(calls, ["x509check_questions"] * asked + ["x509check_validate"])
 
     def test_a_library_of_another_version_is_not_asked(self):
-        calls = ("check", "read_certificate", "fingerprint", "fault_name", "speaks_for", "questions", "validate", "version")
+        calls = ("check", "read_certificate", "fingerprint", "fault_name", "speaks_for", "questions", "validate", "find_questions", "find", "version")
         for version, number in (("0.9.0", 900), ("0.10.0", 1000), ("1.2.34", 10234)):
             with mock.patch.object(x509check, "__version__", version):
                 self.assertEqual(_library._version_number(), number)

@@ -19,8 +19,10 @@ from ._faults import Fault, Text
 from ._files import NoPath, load, path_to
 from ._library import LibraryMissing
 from ._names import Identity
+from ._peers import NoAnchors, peer_questions, system_anchors, validate_peer
 from ._pem import Kind, Loaded, NotLoaded
 from ._program import ProgramMissing, explain
+from ._query import Limits
 from ._questions import SignatureQuestion, questions
 from ._reference import BadReference, ReferenceRule
 from ._verdicts import NotValid, Reason, Result, RevocationReason, Verdict, validate
@@ -29,7 +31,8 @@ from .signatures import Judgement, JudgeMissing, Opinion, Policy, judge, judge_a
 __version__ = "0.10.0"
 
 __all__ = [
-    "BadReference", "Certificate", "Extensions", "Fault", "Identity", "JudgeMissing", "Judgement", "Kind", "LibraryMissing", "Loaded",
-    "NoPath", "NotLoaded", "NotValid", "Opinion", "Policy", "ProgramMissing", "PURPOSES", "SignatureQuestion", "Reason", "ReferenceRule",
-    "Result", "RevocationReason", "Text", "Verdict", "check", "explain", "fingerprint", "judge", "judge_all", "load", "opinions", "path_to", "questions", "validate",
+    "BadReference", "Certificate", "Extensions", "Fault", "Identity", "JudgeMissing", "Judgement", "Kind", "LibraryMissing", "Limits",
+    "Loaded", "NoAnchors", "NoPath", "NotLoaded", "NotValid", "Opinion", "Policy", "ProgramMissing", "PURPOSES", "SignatureQuestion", "Reason", "ReferenceRule",
+    "Result", "RevocationReason", "Text", "Verdict", "check", "explain", "fingerprint", "judge", "judge_all", "load", "opinions", "path_to",
+    "peer_questions", "questions", "system_anchors", "validate", "validate_peer",
 ]

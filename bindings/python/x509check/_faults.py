@@ -13,14 +13,17 @@ class Text(enum.IntEnum):
     """Which octets of a question are refused."""
 
     CERTIFICATES = 1
+    """Of a path, of which the anchor has the index 0; or what a peer sent, of which the one in question has 0."""
     STATEMENTS = 2
+    ANCHORS = 3
+    """Those under which a path is looked for."""
 
 
 class Fault(ValueError):
     """Octets that are refused: the first fault, and where it is.
 
     `offset` counts from the first octet of the refused value. If the octets are no DER, `der` is the number of the rule that is broken.
-    Of a question, `text` tells what is refused, and `index` which of them: of the certificates the anchor has 0. `origin` is the value
+    Of a question, `text` tells what is refused, and `index` which of them. `origin` is the value
     that was loaded, if it was.
     """
 

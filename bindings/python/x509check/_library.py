@@ -12,9 +12,11 @@ _PLACES = (os.path.join(_HERE, "..", "..", "out", _NAME), os.path.join(_HERE, ".
 
 
 # What the numbers of a verdict mean (x509check.h).
-VERDICT_NUMBERS = {1: "valid", 2: "invalid", 3: "revoked", 4: "unknown", 5: "refused"}
+VERDICT_NUMBERS = {1: "valid", 2: "invalid", 3: "revoked", 4: "unknown", 5: "refused", 6: "not found", 7: "gave up"}
 REFUSED = next(number for number, word in VERDICT_NUMBERS.items() if word == "refused")
-VERDICT_WORDS = {number: word for number, word in VERDICT_NUMBERS.items() if number != REFUSED}
+VERDICT_WORDS = {number: word for number, word in VERDICT_NUMBERS.items() if number < REFUSED}
+# Of a search no path may be valid, and its limits may be used up.
+FINDING_WORDS = {number: word for number, word in VERDICT_NUMBERS.items() if number != REFUSED}
 _TRUNCATED, _DER_OF_CERTIFICATE = 4, 21
 _NAME_ROOM = 32
 
@@ -36,6 +38,23 @@ class QueryFields(ctypes.Structure):
         ("path_count", ctypes.c_size_t),
         ("moment", ctypes.c_int64),
         ("purpose", TextFields),
+    ]
+
+
+class LimitFields(ctypes.Structure):
+    _fields_ = [(name, ctypes.c_size_t) for name in ("signatures", "steps", "verdicts")]
+
+
+class SearchFields(ctypes.Structure):
+    _fields_ = [
+        ("anchors", ctypes.POINTER(TextFields)),
+        ("anchor_count", ctypes.c_size_t),
+        ("target", TextFields),
+        ("bag", ctypes.POINTER(TextFields)),
+        ("bag_count", ctypes.c_size_t),
+        ("moment", ctypes.c_int64),
+        ("purpose", TextFields),
+        ("limits", LimitFields),
     ]
 
 
@@ -101,6 +120,12 @@ class VerdictAnswer(ctypes.Structure):
     _fields_ = [("verdict", ctypes.c_uint32), ("reason", ctypes.c_uint32), ("certificate", ctypes.c_size_t), ("refusal", Refusal)]
 
 
+class FindingAnswer(ctypes.Structure):
+    """The verdict on the path that is found, and how many certificates it has."""
+
+    _fields_ = [("verdict", VerdictAnswer), ("path_count", ctypes.c_size_t)]
+
+
 class Place(ctypes.Structure):
     """Octets of a certificate or of a statement: the text is a `Text`, and the index says which of them."""
 
@@ -145,15 +170,18 @@ def library() -> ctypes.CDLL:
 
 def _typed(opened: ctypes.CDLL) -> ctypes.CDLL:
     text = [ctypes.c_char_p, ctypes.c_size_t]
-    asked = [ctypes.POINTER(QueryFields), ctypes.POINTER(TextFields), ctypes.c_size_t]
+    asked, sought = ([ctypes.POINTER(it), ctypes.POINTER(TextFields), ctypes.c_size_t] for it in (QueryFields, SearchFields))
+    written = [ctypes.POINTER(QuestionFields), ctypes.c_size_t]
     for name, takes, answers in (
         ("x509check_check", text, Answer),
         ("x509check_read_certificate", text, CertificateAnswer),
         ("x509check_fingerprint", [*(text * 4), ctypes.c_char_p], None),
         ("x509check_fault_name", [ctypes.c_uint32, *text], ctypes.c_size_t),
         ("x509check_speaks_for", [*text, ctypes.c_uint32, *text], SpeakingAnswer),
-        ("x509check_questions", [*asked, ctypes.POINTER(QuestionFields), ctypes.c_size_t], AskedAnswer),
+        ("x509check_questions", [*asked, *written], AskedAnswer),
         ("x509check_validate", [*asked, *text], VerdictAnswer),
+        ("x509check_find_questions", [*sought, *written], AskedAnswer),
+        ("x509check_find", [*sought, *text, ctypes.POINTER(ctypes.c_size_t), ctypes.c_size_t], FindingAnswer),
     ):
         call = getattr(opened, name)
         call.argtypes, call.restype = takes, answers

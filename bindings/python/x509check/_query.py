@@ -1,35 +1,59 @@
-"""The question about a path: what was handed in, as the library for C takes it, and which value it refuses."""
+"""Questions about a path, and searches for one: what was handed in, as the library for C takes it, and which value it refuses."""
 
-from typing import Iterable, List, Tuple, Union
+import ctypes
+import dataclasses
+from typing import Any, Callable, Iterable, List, Optional, Sequence, Tuple, Union
 
 from ._arguments import Value, der_of, listed
 from ._certificates import origin_of
 from ._faults import MEMORY, Fault, Text, refusal
-from ._library import REFUSED, AskedAnswer, Place, QueryFields, QuestionFields, Refusal, VerdictAnswer, library, text_array, text_fields
+from ._library import (
+    REFUSED, AskedAnswer, FindingAnswer, LimitFields, Place, QueryFields, QuestionFields, Refusal, SearchFields, TextFields, VerdictAnswer, library,
+    text_array, text_fields,
+)
 from ._pem import Loaded
 
 # So many questions there is room for at most when they are asked for first.
 _MOST_ROOM = 4096
+# A path has at most so many certificates, its anchor with it.
+_PATH_ROOM = 129
 
 Ignored = Tuple[Union[Loaded, int], Fault]
-"""A statement that was left out, as it was loaded or by its number from 0, and why."""
+"""A value that was left out, as it was loaded or by its number from 0, and why."""
 
 
-class Query:
-    """A path and statements, a moment and a purpose."""
+@dataclasses.dataclass(frozen=True)
+class Limits:
+    """What a search for a path may spend. It gives up if one is used up; paths that servers send take a small part of it."""
 
-    def __init__(self, anchor: Value, chain: Iterable[Value], statements: Iterable[Value], moment: int = 0, purpose: bytes = b""):
-        certificates, handed_in = [anchor, *listed("chain", chain)], listed("statements", statements)
-        titles = ["anchor", *(f"chain[{at}]" for at in range(len(certificates) - 1))]
+    signatures: int = 1_000
+    """How often a judge may be asked whether one certificate issued another. With as many as there are pairs of certificates whose names
+    match, this never ends a search."""
+    steps: int = 10_000
+    """How many ends of paths may be looked at; each takes up to a kilobyte of memory."""
+    verdicts: int = 32
+    """How many valid paths may be asked about."""
+
+    def __post_init__(self) -> None:
+        for name, value in dataclasses.asdict(self).items():
+            if isinstance(value, bool) or not isinstance(value, int):
+                raise TypeError(f"{name}: an int is wanted, not {type(value).__name__}")
+            if not 0 <= value < 2**64:
+                raise ValueError(f"{name} is out of range")
+
+
+class _HandedIn:
+    """Certificates and statements that were handed in, each by its title in the arguments."""
+
+    def __init__(self, certificates: Sequence[Value], titles: Sequence[str], statements: Iterable[Value]):
+        handed_in = listed("statements", statements)
         self.certificates: List[bytes] = [der_of(one, title) for one, title in zip(certificates, titles)]
         self.statements: List[bytes] = [der_of(one, f"statements[{at}]") for at, one in enumerate(handed_in)]
         self._origins = {Text.CERTIFICATES: [*map(origin_of, certificates)], Text.STATEMENTS: [*map(origin_of, handed_in)]}
-        path = self.certificates[1:]
-        self._fields = QueryFields(text_fields(self.certificates[0]), text_array(path), len(path), moment, text_fields(purpose))
 
     def leave_out_unreadable(self) -> Tuple[Ignored, ...]:
-        """Leaves out the statements that cannot be read, and says which these are, and why. Each is tried alone, beside the anchor."""
-        alone = QueryFields(self._fields.anchor)
+        """Leaves out the statements that cannot be read, and says which these are, and why. Each is tried alone, beside a certificate."""
+        alone = QueryFields(text_fields(self.certificates[0]))
         ignored: List[Ignored] = []
         kept: List[bytes] = []
         for at, (statement, origin) in enumerate(zip(self.statements, self._origins[Text.STATEMENTS])):
@@ -47,25 +71,18 @@ class Query:
 
     def questions(self) -> List[QuestionFields]:
         """What may be asked. If there is more than there was room for, everything is read a second time."""
-        path, count = self._fields.path_count, len(self.statements)
-        # Enough for lists, and for responses that come with one certificate.
-        room = min(path * (1 + 3 * count), _MOST_ROOM)
+        raise NotImplementedError
+
+    def _asked(self, call: Callable[..., AskedAnswer], fields: Any, room: int) -> List[QuestionFields]:
+        """What the call writes, which has room for so many at first."""
         while True:
             written = (QuestionFields * room)()
-            answer: AskedAnswer = library().x509check_questions(self._fields, text_array(self.statements), count, written, room)
+            answer = call(fields, text_array(self.statements), len(self.statements), written, room)
             if answer.refusal.fault:
                 raise self._refused(answer.refusal)
             if answer.count <= room:
                 return written[:answer.count]
             room = answer.count
-
-    def verdict(self, fingerprints: bytes) -> VerdictAnswer:
-        """The verdict, if the signatures with these fingerprints, of 32 octets each, are good."""
-        statements, count = text_array(self.statements), len(self.statements)
-        answer: VerdictAnswer = library().x509check_validate(self._fields, statements, count, fingerprints, len(fingerprints) // 32)
-        if answer.verdict == REFUSED:
-            raise self._refused(answer.refusal)
-        return answer
 
     def part(self, place: Place) -> bytes:
         """The octets at a place."""
@@ -78,3 +95,66 @@ class Query:
             return refusal(refused.fault, 0)
         text, at = Text(refused.text), refused.index
         return refusal(refused.fault, refused.offset, refused.der_fault, text, at, self._origins[text][at])
+
+
+class Query(_HandedIn):
+    """A path and statements, a moment and a purpose."""
+
+    def __init__(self, anchor: Value, chain: Iterable[Value], statements: Iterable[Value], moment: int = 0, purpose: bytes = b""):
+        certificates = [anchor, *listed("chain", chain)]
+        super().__init__(certificates, ["anchor", *(f"chain[{at}]" for at in range(len(certificates) - 1))], statements)
+        path = self.certificates[1:]
+        self._fields = QueryFields(text_fields(self.certificates[0]), text_array(path), len(path), moment, text_fields(purpose))
+
+    def questions(self) -> List[QuestionFields]:
+        # Enough for lists, and for responses that come with one certificate.
+        room = min(self._fields.path_count * (1 + 3 * len(self.statements)), _MOST_ROOM)
+        return self._asked(library().x509check_questions, self._fields, room)
+
+    def verdict(self, fingerprints: bytes) -> VerdictAnswer:
+        """The verdict, if the signatures with these fingerprints, of 32 octets each, are good."""
+        statements, count = text_array(self.statements), len(self.statements)
+        answer: VerdictAnswer = library().x509check_validate(self._fields, statements, count, fingerprints, len(fingerprints) // 32)
+        if answer.verdict == REFUSED:
+            raise self._refused(answer.refusal)
+        return answer
+
+
+class Search(_HandedIn):
+    """Anchors, the target, and other certificates in any order; statements, a moment, a purpose and limits."""
+
+    def __init__(self, anchors: Iterable[Value], target: Value, bag: Iterable[Value], statements: Iterable[Value], moment: int = 0,
+                 purpose: bytes = b"", limits: Optional[Limits] = None):
+        tops, others, most = listed("anchors", anchors), listed("certificates", bag), limits or Limits()
+        titles = [*(f"anchors[{at}]" for at in range(len(tops))), *(f"certificates[{at}]" for at in range(1 + len(others)))]
+        super().__init__([*tops, target, *others], titles, statements)
+        self.target = self.certificates[len(tops)]
+        top, bag_texts = self.certificates[:len(tops)], self.certificates[len(tops) + 1:]
+        self._fields = SearchFields(
+            text_array(top), len(top), text_fields(self.target), text_array(bag_texts), len(bag_texts), moment, text_fields(purpose),
+            LimitFields(most.signatures, most.steps, most.verdicts))
+
+    def questions(self) -> List[QuestionFields]:
+        # Enough for a few pairs of certificates, and lists of their issuers.
+        room = min(64 + 16 * len(self.statements), _MOST_ROOM)
+        return self._asked(library().x509check_find_questions, self._fields, room)
+
+    def _refused(self, refused: Refusal) -> Exception:
+        """The same, where the anchors are told apart from the certificates."""
+        tops = self._fields.anchor_count
+        if refused.text != Text.CERTIFICATES:
+            return super()._refused(refused)
+        text, at = (Text.ANCHORS, refused.index) if refused.index < tops else (Text.CERTIFICATES, refused.index - tops)
+        return refusal(refused.fault, refused.offset, refused.der_fault, text, at, self._origins[Text.CERTIFICATES][refused.index])
+
+    def finding(self, fingerprints: bytes) -> Tuple[VerdictAnswer, List[bytes]]:
+        """The verdict on the path that is found, and its certificates from the anchor on, if these signatures are good; no path has none."""
+        path = (ctypes.c_size_t * _PATH_ROOM)()
+        statements, count = text_array(self.statements), len(self.statements)
+        answer: FindingAnswer = library().x509check_find(
+            self._fields, statements, count, fingerprints, len(fingerprints) // 32, path, _PATH_ROOM)
+        if answer.verdict.verdict == REFUSED:
+            raise self._refused(answer.verdict.refusal)
+        if answer.path_count > _PATH_ROOM:
+            raise RuntimeError(f"the library for C answered a path of {answer.path_count} certificates")
+        return answer.verdict, [self.certificates[at] for at in path[:answer.path_count]]

@@ -1,10 +1,10 @@
 """What a judge of signatures may be asked (RFC 5280, 6; RFC 6960, 3.2)."""
 
 import dataclasses
-from typing import Iterable, List
+from typing import Iterable, List, Union
 
 from ._arguments import Value
-from ._query import Query
+from ._query import Query, Search
 
 
 @dataclasses.dataclass(frozen=True)
@@ -22,7 +22,7 @@ class SignatureQuestion:
     fingerprint: bytes
 
 
-def ask(query: Query) -> List[SignatureQuestion]:
+def ask(query: Union[Query, Search]) -> List[SignatureQuestion]:
     """The questions, as octets."""
     part = query.part
     return [SignatureQuestion(part(it.algorithm), part(it.key_info), part(it.message), part(it.signature), bytes(it.fingerprint))

@@ -3,7 +3,7 @@
 import dataclasses
 import enum
 import inspect
-from typing import Callable, Iterable, List, Optional, Sequence, Tuple, Union
+from typing import Callable, Iterable, List, Mapping, Optional, Sequence, Tuple, Union
 
 from ._arguments import Moment, Value, der_of, listed, octets_of, purpose_of, seconds_of
 from ._certificates import Certificate
@@ -27,6 +27,12 @@ class Verdict(enum.Enum):
     REVOKED = "revoked"
     UNKNOWN = "unknown"
     """It meets all conditions, none is revoked, and of some certificate no current statement speaks."""
+    OTHER_NAME = "other name"
+    """The path is valid, and its last certificate does not speak for the name that was asked for (`validate_peer`)."""
+    NOT_FOUND = "not found"
+    """No path from an anchor to the certificate meets all conditions (`validate_peer`)."""
+    GAVE_UP = "gave up"
+    """The limits of a search were used up before a path was found (`validate_peer`)."""
 
     def __bool__(self) -> bool:
         return self is Verdict.VALID
@@ -101,7 +107,11 @@ class Result:
     judgements: Tuple[Judged, ...] = dataclasses.field(default=(), compare=False, repr=False)
     """What the judge said of each question that was asked."""
     ignored: Tuple[Ignored, ...] = dataclasses.field(default=(), compare=False)
-    """The statements that could not be read and were left out (`ignore_unreadable`)."""
+    """What could not be read and was left out (`ignore_unreadable`, `ignore_unreadable_certificates`)."""
+    path: Tuple[Identity, ...] = dataclasses.field(default=(), compare=False)
+    """The certificates of the path, from the anchor on to the one in question; none if no path was found. `certificate` counts along it."""
+    name: Optional[str] = dataclasses.field(default=None, compare=False)
+    """The host, address or mailbox that was asked for, if one was."""
 
     def __bool__(self) -> bool:
         return bool(self.verdict)
@@ -109,8 +119,9 @@ class Result:
     def __str__(self) -> str:
         reason = "" if self.reason is None else f" ({_in_words(self.reason.name)})"
         about = "the path" if self.target is None else str(self.target)
+        name = "" if self.name is None else f", asked for {self.name}"
         by = "" if self.certificate is None else f", by certificate {self.certificate}: {self.decides}" if self.decides else ", by the path itself"
-        return f"{self.verdict.value}{reason}: {about}{by}"
+        return f"{self.verdict.value}{reason}: {about}{name}{by}"
 
     def require_valid(self) -> "Result":
         """The result itself; raises NotValid unless the verdict is VALID."""
@@ -138,7 +149,7 @@ def _judgement(answer: object) -> Judgement:
     raise TypeError(f"a judge answers True, False or a Judgement, not {type(answer).__name__}")
 
 
-def _judged(questions: Sequence[SignatureQuestion], verify: Optional[Judge]) -> Tuple[Judged, ...]:
+def judged_by(questions: Sequence[SignatureQuestion], verify: Optional[Judge]) -> Tuple[Judged, ...]:
     """What the judge says of each question."""
     if verify is not None:
         return tuple((question, _judgement(verify(question))) for question in questions)
@@ -148,12 +159,29 @@ def _judged(questions: Sequence[SignatureQuestion], verify: Optional[Judge]) -> 
     return tuple((question, _judgement(judgement)) for question, judgement in zip(questions, judgements))
 
 
-def _different(questions: List[SignatureQuestion]) -> List[SignatureQuestion]:
+def different(questions: List[SignatureQuestion]) -> List[SignatureQuestion]:
     """Each question once."""
     return list({question.fingerprint: question for question in questions}.values())
 
 
-def _identity(octets: bytes) -> Identity:
+def good_prints(judged: Iterable[Judged]) -> bytes:
+    """The fingerprints of the signatures that are good."""
+    return b"".join(question.fingerprint for question, judgement in judged if judgement is Judgement.GOOD)
+
+
+def given_prints(verify: Optional[Judge], fingerprints: Optional[Iterable[Value]]) -> Optional[bytes]:
+    """The fingerprints that were handed in, if they were: nobody is asked then."""
+    if verify is not None and fingerprints is not None:
+        raise ValueError("verify and fingerprints exclude each other")
+    return None if fingerprints is None else _prints(fingerprints)
+
+
+def check_flag(name: str, flag: bool) -> None:
+    if not isinstance(flag, bool):
+        raise TypeError(f"{name}: True or False is wanted, not {type(flag).__name__}")
+
+
+def identity_of(octets: bytes) -> Identity:
     return Certificate.from_der(octets).identity
 
 
@@ -165,21 +193,21 @@ def _check_target(query: Query, target: Optional[Value]) -> None:
     named = der_of(target, "target")
     if path[-1:] != [named]:
         query.questions()  # what cannot be read is refused first
-        there = f"that is {_identity(path[-1])}" if path else "the chain is empty"
-        raise ValueError(f"the target is not the last certificate of the chain: it is {_identity(named)}; {there}")
+        there = f"that is {identity_of(path[-1])}" if path else "the chain is empty"
+        raise ValueError(f"the target is not the last certificate of the chain: it is {identity_of(named)}; {there}")
 
 
-def _result(answer: VerdictAnswer, query: Query) -> Result:
-    """The verdict of an answer, with its numbers in words. A number that has none raises."""
-    if answer.verdict not in VERDICT_WORDS:
+def result_of(answer: VerdictAnswer, words: Mapping[int, str], certificates: Sequence[bytes]) -> Result:
+    """The verdict of an answer about these certificates, the anchor first, with its numbers in words. A number that has none raises."""
+    if answer.verdict not in words:
         raise RuntimeError(f"the library for C answered {answer.verdict}, which is no verdict")
-    verdict = Verdict(VERDICT_WORDS[answer.verdict])
-    if verdict is Verdict.VALID:
+    verdict = Verdict(words[answer.verdict])
+    if verdict in (Verdict.VALID, Verdict.NOT_FOUND, Verdict.GAVE_UP):
         return Result(verdict)
     reason: Union[Reason, RevocationReason, None] = None
     if verdict is not Verdict.UNKNOWN:
         reason = Reason(answer.reason) if verdict is Verdict.INVALID else RevocationReason(answer.reason)
-    decides = _identity(query.certificates[answer.certificate]) if answer.certificate else None
+    decides = identity_of(certificates[answer.certificate]) if answer.certificate else None
     return Result(verdict, answer.certificate, reason, decides=decides)
 
 
@@ -216,18 +244,14 @@ def validate(
     Raises a Fault if a certificate or a statement cannot be read, ValueError for a moment, a purpose, a target or a fingerprint that is
     none, and TypeError for arguments and answers of a judge that are of another kind.
     """
-    if verify is not None and fingerprints is not None:
-        raise ValueError("verify and fingerprints exclude each other")
-    if not isinstance(ignore_unreadable, bool):
-        raise TypeError(f"ignore_unreadable: True or False is wanted, not {type(ignore_unreadable).__name__}")
+    given = given_prints(verify, fingerprints)
+    check_flag("ignore_unreadable", ignore_unreadable)
     moment, asked_for = seconds_of(at), purpose_of(purpose)
-    given = None if fingerprints is None else _prints(fingerprints)
     # Of a longer path so many certificates are handed on that the library says that it is too long.
     query = Query(anchor, listed("chain", chain, _MOST + 1), statements, moment, asked_for)
     ignored = query.leave_out_unreadable() if ignore_unreadable else ()
     _check_target(query, target)
-    judged = _judged(_different(ask(query)), verify) if given is None else ()
-    good = b"".join(question.fingerprint for question, judgement in judged if judgement is Judgement.GOOD)
-    answer = query.verdict(good if given is None else given)
-    about = _identity(query.certificates[-1]) if 1 < len(query.certificates) <= 1 + _MOST else None
-    return dataclasses.replace(_result(answer, query), target=about, judgements=judged, ignored=ignored)
+    judged = judged_by(different(ask(query)), verify) if given is None else ()
+    answer = query.verdict(good_prints(judged) if given is None else given)
+    about = identity_of(query.certificates[-1]) if 1 < len(query.certificates) <= 1 + _MOST else None
+    return dataclasses.replace(result_of(answer, VERDICT_WORDS, query.certificates), target=about, judgements=judged, ignored=ignored)

@@ -1,14 +1,27 @@
-//! The calls about a query, and what they refuse.
+//! The calls about a query and about a search, and what they refuse.
 
 use crate::fault::{error_of, Error, Text};
 use crate::library::{
-    x509check_questions, x509check_validate, QueryFields, QuestionFields, Refusal, TextFields,
-    VerdictAnswer, CERTIFICATES, REFUSED, STATEMENTS,
+    x509check_find, x509check_find_questions, x509check_questions, x509check_validate, AskedAnswer,
+    FindingAnswer, LimitFields, QueryFields, QuestionFields, Refusal, SearchFields, TextFields,
+    VerdictAnswer, CERTIFICATES, PATH_ROOM, REFUSED, STATEMENTS,
 };
 use crate::query::Query;
+use crate::search::Limits;
 
 /// So many questions there is room for at most when they are asked for first.
 const MOST_ROOM: usize = 4096;
+
+/// A search as it is handed to the library.
+pub(crate) struct SearchCall<'a> {
+    pub anchors: &'a [&'a [u8]],
+    pub target: &'a [u8],
+    pub bag: &'a [&'a [u8]],
+    pub statements: &'a [&'a [u8]],
+    pub moment: i64,
+    pub purpose: &'a [u8],
+    pub limits: Limits,
+}
 
 /// The query as the library takes it. What it points to may be read while the query and the array of its path live.
 fn fields_of(query: &Query<'_>, path: &[TextFields]) -> QueryFields {
@@ -21,38 +34,52 @@ fn fields_of(query: &Query<'_>, path: &[TextFields]) -> QueryFields {
     }
 }
 
-/// The error of a refusal by the library.
-fn refused(refusal: Refusal) -> Error {
+/// The same of a search, and of the arrays of its anchors and its bag.
+fn search_fields_of(
+    search: &SearchCall<'_>,
+    anchors: &[TextFields],
+    bag: &[TextFields],
+) -> SearchFields {
+    SearchFields {
+        anchors: anchors.as_ptr(),
+        anchor_count: anchors.len(),
+        target: TextFields::of(search.target),
+        bag: bag.as_ptr(),
+        bag_count: bag.len(),
+        moment: search.moment,
+        purpose: TextFields::of(search.purpose),
+        limits: LimitFields {
+            signatures: search.limits.signatures,
+            steps: search.limits.steps,
+            verdicts: search.limits.verdicts,
+        },
+    }
+}
+
+/// What a refused value is, where so many of the certificates are anchors that are told apart.
+fn refused(refusal: Refusal, anchors: usize) -> Error {
     let value = match refusal.text {
-        CERTIFICATES => Some((Text::Certificates, refusal.index)),
+        CERTIFICATES => match refusal.index.checked_sub(anchors) {
+            Some(index) => Some((Text::Certificates, index)),
+            None => Some((Text::Anchors, refusal.index)),
+        },
         STATEMENTS => Some((Text::Statements, refusal.index)),
         _ => None,
     };
     error_of(refusal.fault, refusal.der_fault, refusal.offset, value)
 }
 
-/// What may be asked. If there is more than there was room for, everything is read a second time.
-pub(crate) fn ask(query: &Query<'_>) -> Result<Vec<QuestionFields>, Error> {
-    let path = TextFields::of_each(query.path);
-    let statements = TextFields::of_each(query.statements);
-    let fields = fields_of(query, &path);
-    // Enough for lists, and for responses that come with one certificate.
-    let enough = path.len().saturating_mul(1 + 3 * statements.len());
+/// What a call writes, which has room for so many questions at first. If there are more, everything is read a second time.
+fn written(
+    enough: usize,
+    anchors: usize,
+    call: impl Fn(&mut [QuestionFields]) -> AskedAnswer,
+) -> Result<Vec<QuestionFields>, Error> {
     let mut written = vec![QuestionFields::default(); enough.min(MOST_ROOM)];
     loop {
-        // The pointers lead to the slices of the query and to these arrays, with their lengths, and all of them live until the call
-        // returns. It only reads them, except `written`, which lies apart from the others.
-        let answer = unsafe {
-            x509check_questions(
-                &fields,
-                statements.as_ptr(),
-                statements.len(),
-                written.as_mut_ptr(),
-                written.len(),
-            )
-        };
+        let answer = call(&mut written);
         if answer.refusal.fault != 0 || answer.refusal.text != 0 {
-            return Err(refused(answer.refusal));
+            return Err(refused(answer.refusal, anchors));
         }
         let fits = answer.count <= written.len();
         written.resize(answer.count, QuestionFields::default());
@@ -60,6 +87,26 @@ pub(crate) fn ask(query: &Query<'_>) -> Result<Vec<QuestionFields>, Error> {
             return Ok(written);
         }
     }
+}
+
+/// What may be asked for a verdict.
+pub(crate) fn ask(query: &Query<'_>) -> Result<Vec<QuestionFields>, Error> {
+    let path = TextFields::of_each(query.path);
+    let statements = TextFields::of_each(query.statements);
+    let fields = fields_of(query, &path);
+    // Enough for lists, and for responses that come with one certificate.
+    let enough = path.len().saturating_mul(1 + 3 * statements.len());
+    // The pointers lead to the slices of the query and to these arrays, with their lengths, and all of them live until the call returns. It
+    // only reads them, except the room, which lies apart from the others.
+    written(enough, 0, |room| unsafe {
+        x509check_questions(
+            &fields,
+            statements.as_ptr(),
+            statements.len(),
+            room.as_mut_ptr(),
+            room.len(),
+        )
+    })
 }
 
 /// What the library says if the signatures with these fingerprints are good and no others.
@@ -80,5 +127,57 @@ pub(crate) fn validate(query: &Query<'_>, good: &[[u8; 32]]) -> Result<VerdictAn
     if answer.verdict != REFUSED {
         return Ok(answer);
     }
-    Err(refused(answer.refusal))
+    Err(refused(answer.refusal, 0))
+}
+
+/// What may be asked for what is found.
+pub(crate) fn ask_among(search: &SearchCall<'_>) -> Result<Vec<QuestionFields>, Error> {
+    let anchors = TextFields::of_each(search.anchors);
+    let bag = TextFields::of_each(search.bag);
+    let statements = TextFields::of_each(search.statements);
+    let fields = search_fields_of(search, &anchors, &bag);
+    // Enough for a few pairs of certificates, and lists of their issuers.
+    let enough = 64 + 16 * statements.len();
+    // As in `ask`.
+    written(enough, anchors.len(), |room| unsafe {
+        x509check_find_questions(
+            &fields,
+            statements.as_ptr(),
+            statements.len(),
+            room.as_mut_ptr(),
+            room.len(),
+        )
+    })
+}
+
+/// What the library finds if the signatures with these fingerprints are good and no others, and the numbers of the certificates of the
+/// path.
+pub(crate) fn find(
+    search: &SearchCall<'_>,
+    good: &[[u8; 32]],
+) -> Result<(FindingAnswer, Vec<usize>), Error> {
+    let anchors = TextFields::of_each(search.anchors);
+    let bag = TextFields::of_each(search.bag);
+    let statements = TextFields::of_each(search.statements);
+    let fields = search_fields_of(search, &anchors, &bag);
+    let mut path = [0; PATH_ROOM];
+    // As in `ask`; the call writes to the path alone, and no more than its room.
+    let answer = unsafe {
+        x509check_find(
+            &fields,
+            statements.as_ptr(),
+            statements.len(),
+            good.as_ptr(),
+            good.len(),
+            path.as_mut_ptr(),
+            path.len(),
+        )
+    };
+    if answer.verdict.verdict == REFUSED {
+        return Err(refused(answer.verdict.refusal, anchors.len()));
+    }
+    match path.get(..answer.path_count) {
+        Some(numbers) => Ok((answer, numbers.to_vec())),
+        None => Err(Error::Unexpected("a path of length", answer.path_count)),
+    }
 }

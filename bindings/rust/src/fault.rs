@@ -8,13 +8,15 @@ use crate::library::{x509check_fault_name, NAME_ROOM};
 /// The number of want of memory.
 const MEMORY: u32 = 33;
 
-/// Which octets of a query are refused.
+/// Which octets of a query or of a search are refused.
 #[derive(Clone, Copy, Debug, PartialEq, Eq)]
 pub enum Text {
-    /// The anchor, which has the index 0, and the path behind it.
+    /// Of a query the anchor, which has the index 0, and the path behind it; of a search what the peer sent.
     Certificates,
     /// The lists and responses.
     Statements,
+    /// The anchors of a search.
+    Anchors,
 }
 
 /// The first fault of octets, and where it is.
@@ -26,7 +28,7 @@ pub struct Fault {
     pub der: Option<u32>,
     /// Counts from the first octet of the value that is refused.
     pub offset: usize,
-    /// Of a query: what is refused, and which of them; of the certificates the anchor has 0.
+    /// Of a query or a search: what is refused, and which of them, from 0 on.
     pub value: Option<(Text, usize)>,
 }
 
@@ -67,6 +69,7 @@ impl fmt::Display for Fault {
         match self.value {
             Some((Text::Certificates, index)) => write!(out, "certificates[{index}]: ")?,
             Some((Text::Statements, index)) => write!(out, "statements[{index}]: ")?,
+            Some((Text::Anchors, index)) => write!(out, "anchors[{index}]: ")?,
             None => {}
         }
         write!(out, "{} {}", self.number, self.name())?;

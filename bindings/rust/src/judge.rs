@@ -4,10 +4,11 @@ use std::cell::RefCell;
 use std::collections::HashMap;
 use std::fmt;
 
-use crate::calls::ask;
+use crate::calls::{ask, ask_among, SearchCall};
 use crate::fault::Error;
 use crate::library::{Place, QuestionFields};
 use crate::query::Query;
+use crate::values::Values;
 
 /// What a judge is asked: whether this is the signature of the message, under the key, by the algorithm.
 #[derive(Clone, Copy, Debug, PartialEq, Eq)]
@@ -126,24 +127,39 @@ impl Judge for Fingerprints<'_> {
     }
 }
 
-/// What a judge may be asked for a verdict: about the certificates of the path, in order, and then about each statement. One question may
-/// be there twice.
+/// What a judge may be asked for a verdict or for what a search finds: about the certificates, in order, and then about each statement. One
+/// question may be there twice.
 pub struct SignatureQuestions<'a> {
-    query: Query<'a>,
+    values: Values<'a>,
     fields: Vec<QuestionFields>,
 }
 
 impl<'a> SignatureQuestions<'a> {
-    /// The questions about a query; those of which a part lies in no value of it are refused.
+    /// The questions about a query.
     pub(crate) fn about(query: Query<'a>) -> Result<SignatureQuestions<'a>, Error> {
-        let fields = ask(&query)?;
+        SignatureQuestions::of(query.values(), ask(&query)?)
+    }
+
+    /// The questions about a search, of which these are the values.
+    pub(crate) fn among(
+        values: Values<'a>,
+        search: &SearchCall<'a>,
+    ) -> Result<SignatureQuestions<'a>, Error> {
+        SignatureQuestions::of(values, ask_among(search)?)
+    }
+
+    /// Questions about these values; those of which a part lies in none are refused.
+    fn of(
+        values: Values<'a>,
+        fields: Vec<QuestionFields>,
+    ) -> Result<SignatureQuestions<'a>, Error> {
         let mut places = fields.iter().flat_map(QuestionFields::places);
-        match places.find(|place| query.part(*place).is_none()) {
+        match places.find(|place| values.part(*place).is_none()) {
             Some(place) => Err(Error::Unexpected(
                 "a part of a question at the offset",
                 place.offset,
             )),
-            None => Ok(SignatureQuestions { query, fields }),
+            None => Ok(SignatureQuestions { values, fields }),
         }
     }
 
@@ -172,7 +188,7 @@ impl<'a> SignatureQuestions<'a> {
 
     fn question(&self, fields: &QuestionFields) -> SignatureQuestion<'a> {
         let part = |place: Place| {
-            self.query
+            self.values
                 .part(place)
                 .expect("each place was looked at as the questions were taken")
         };

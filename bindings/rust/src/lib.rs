@@ -44,6 +44,8 @@ mod library;
 mod name;
 mod query;
 mod reference;
+mod search;
+mod values;
 mod verdict;
 
 pub use answer::{Answer, NotValid};
@@ -55,4 +57,5 @@ pub use judge::{
 };
 pub use query::Query;
 pub use reference::{Reference, ReferenceRule, SpeakingError};
+pub use search::{Finding, Limits, NotBelieved, Peer, Search, SearchError};
 pub use verdict::{Reason, Verdict};

@@ -18,6 +18,26 @@ pub(crate) struct QueryFields {
     pub purpose: TextFields,
 }
 
+/// What a search may spend.
+#[repr(C)]
+pub(crate) struct LimitFields {
+    pub signatures: usize,
+    pub steps: usize,
+    pub verdicts: usize,
+}
+
+#[repr(C)]
+pub(crate) struct SearchFields {
+    pub anchors: *const TextFields,
+    pub anchor_count: usize,
+    pub target: TextFields,
+    pub bag: *const TextFields,
+    pub bag_count: usize,
+    pub moment: i64,
+    pub purpose: TextFields,
+    pub limits: LimitFields,
+}
+
 impl TextFields {
     /// What it points to may be read while the slice lives.
     pub(crate) fn of(octets: &[u8]) -> TextFields {
@@ -116,6 +136,8 @@ pub(crate) const INVALID: u32 = 2;
 pub(crate) const REVOKED: u32 = 3;
 pub(crate) const UNKNOWN: u32 = 4;
 pub(crate) const REFUSED: u32 = 5;
+pub(crate) const NOT_FOUND: u32 = 6;
+pub(crate) const GAVE_UP: u32 = 7;
 
 /// Which certificate or statement is refused, and why. All is 0 if none is.
 #[repr(C)]
@@ -135,6 +157,16 @@ pub(crate) struct VerdictAnswer {
     pub certificate: usize,
     pub refusal: Refusal,
 }
+
+/// The verdict on the path that is found, and how many certificates it has.
+#[repr(C)]
+pub(crate) struct FindingAnswer {
+    pub verdict: VerdictAnswer,
+    pub path_count: usize,
+}
+
+/// The room that the numbers of each path fit into.
+pub(crate) const PATH_ROOM: usize = 129;
 
 /// What a place or a refusal is in, by the numbers of the header.
 pub(crate) const CERTIFICATES: u32 = 1;
@@ -221,6 +253,22 @@ extern "C" {
         fingerprints: *const [u8; 32],
         fingerprint_count: usize,
     ) -> VerdictAnswer;
+    pub(crate) fn x509check_find_questions(
+        search: *const SearchFields,
+        statements: *const TextFields,
+        statement_count: usize,
+        questions: *mut QuestionFields,
+        room: usize,
+    ) -> AskedAnswer;
+    pub(crate) fn x509check_find(
+        search: *const SearchFields,
+        statements: *const TextFields,
+        statement_count: usize,
+        fingerprints: *const [u8; 32],
+        fingerprint_count: usize,
+        path: *mut usize,
+        room: usize,
+    ) -> FindingAnswer;
 }
 
 #[cfg(test)]
@@ -232,6 +280,8 @@ mod tests {
     fn structs_have_the_sizes_of_the_header() {
         assert_eq!(size_of::<TextFields>(), 16);
         assert_eq!(size_of::<QueryFields>(), 56);
+        assert_eq!(size_of::<SearchFields>(), 96);
+        assert_eq!(size_of::<FindingAnswer>(), 56);
         assert_eq!(size_of::<Part>(), 16);
         assert_eq!(size_of::<Answer>(), 16);
         assert_eq!(size_of::<ExtensionFields>(), 56);

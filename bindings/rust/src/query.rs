@@ -8,7 +8,8 @@ use crate::certificate::{check, Certificate};
 use crate::fault::{Error, Fault, Text};
 use crate::identity::Identity;
 use crate::judge::{Heard, Judge, Judgement, SignatureQuestions};
-use crate::library::{Part, Place, CERTIFICATES, STATEMENTS};
+use crate::library::{CERTIFICATES, STATEMENTS};
+use crate::values::Values;
 use crate::verdict::{Reason, Verdict};
 
 /// The certificates that a path may have.
@@ -63,7 +64,7 @@ impl<'a> Query<'a> {
     ///
     /// What such a statement would have said is lost: an older one may speak in its place.
     pub fn answer_by_readable(&self, judge: &dyn Judge) -> Result<Answer, Error> {
-        let (statements, ignored) = self.readable()?;
+        let (statements, ignored) = readable(self.anchor, self.statements)?;
         let query = Query {
             statements: &statements,
             ..*self
@@ -91,18 +92,12 @@ impl<'a> Query<'a> {
         }
     }
 
-    /// The octets of the place, if there are any.
-    pub(crate) fn part(&self, place: Place) -> Option<&'a [u8]> {
-        let part = Part {
-            offset: place.offset,
-            length: place.length,
-        };
-        let value = match place.text {
-            CERTIFICATES => self.certificate(place.index),
-            STATEMENTS => self.statements.get(place.index).copied(),
-            _ => None,
-        };
-        part.of(value?)
+    /// Its certificates by their numbers, and its statements.
+    pub(crate) fn values(&self) -> Values<'a> {
+        Values {
+            certificates: [&[self.anchor], self.path].concat(),
+            statements: self.statements.to_vec(),
+        }
     }
 
     /// Refuses a verdict on a part of the path, unless it is that the path is too long.
@@ -119,35 +114,38 @@ impl<'a> Query<'a> {
         }
         Ok(())
     }
+}
 
-    /// The statements that can be read, and the faults of the others. Each is read alone, behind the anchor.
-    fn readable(&self) -> Result<(Vec<&'a [u8]>, Vec<Fault>), Error> {
-        let (mut readable, mut ignored) = (Vec::new(), Vec::new());
-        for (index, statement) in self.statements.iter().enumerate() {
-            let alone = Query {
-                path: &[],
-                statements: slice::from_ref(statement),
-                ..*self
-            };
-            match ask(&alone) {
-                Ok(_) => readable.push(*statement),
-                Err(Error::Refused(fault))
-                    if matches!(fault.value, Some((Text::Statements, _))) =>
-                {
-                    ignored.push(Fault {
-                        value: Some((Text::Statements, index)),
-                        ..fault
-                    });
-                }
-                Err(error) => return Err(error),
+/// The statements that can be read, and the faults of the others. Each is read alone, behind a certificate.
+pub(crate) fn readable<'a>(
+    anchor: &[u8],
+    statements: &[&'a [u8]],
+) -> Result<(Vec<&'a [u8]>, Vec<Fault>), Error> {
+    let (mut readable, mut ignored) = (Vec::new(), Vec::new());
+    for (index, statement) in statements.iter().enumerate() {
+        let alone = Query {
+            anchor,
+            path: &[],
+            statements: slice::from_ref(statement),
+            moment: 0,
+            purpose: None,
+        };
+        match ask(&alone) {
+            Ok(_) => readable.push(*statement),
+            Err(Error::Refused(fault)) if matches!(fault.value, Some((Text::Statements, _))) => {
+                ignored.push(Fault {
+                    value: Some((Text::Statements, index)),
+                    ..fault
+                });
             }
+            Err(error) => return Err(error),
         }
-        Ok((readable, ignored))
     }
+    Ok((readable, ignored))
 }
 
 /// Refuses octets that are no contents of an OBJECT IDENTIFIER; the library says whether they are.
-fn check_purpose(contents: &[u8]) -> Result<(), Error> {
+pub(crate) fn check_purpose(contents: &[u8]) -> Result<(), Error> {
     let digits = contents.len().to_be_bytes();
     let skipped = digits.iter().take_while(|digit| **digit == 0).count();
     let mut octets = vec![0x06];

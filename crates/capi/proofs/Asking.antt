@@ -18,7 +18,7 @@ use Rattle.relying_questions.specs.declared.part.WhichText.TheVariants as source
 use Rattle.relying_questions.specs.declared.question.SignatureQuestion as asked
 use Rattle.relying_texts.specs.Reading.{AreStatementsRead}
 use Rattle.capi.specs.Parts.{IsPart}
-use Rattle.capi.specs.Questions.{AreWritten, IsPlace, TellEach, TellsQuestion, place_of, question_of, text_index, text_number}
+use Rattle.capi.specs.Questions.{AreTold, AreWritten, IsPlace, TellEach, TellsQuestion, place_of, question_of, text_index, text_number}
 use Rattle.capi.specs.Texts.{AreAllOctets, AreCertificates, IsRead, certificate_texts, octets_of_texts}
 use Rattle.capi.specs.declared.questions.SignatureQuestion.{SignatureQuestion}
 use Rattle.capi.specs.declared.texts.QueryOfTexts as code
@@ -91,7 +91,7 @@ tell_each certificates statements (one ∷ asked) all = (tells certificates stat
 -- ---- what was read from texts
 
 -- certificates that were read from octets have these octets
-were_read : (texts : List (List ℕ)) (these : List Certificate) → AllByRecursion AreOctets texts → AreCertificates texts these → AllByRecursion WasRead these × (certificate_octets these ≡ texts)
+pub were_read : (texts : List (List ℕ)) (these : List Certificate) → AllByRecursion AreOctets texts → AreCertificates texts these → AllByRecursion WasRead these × (certificate_octets these ≡ texts)
 were_read [] [] octets each = (tt, refl)
 were_read [] (it ∷ these) octets each = absurd (omega (arith, ap length each))
 were_read (text ∷ texts) [] octets each = absurd (omega (arith, ap length each))
@@ -104,7 +104,7 @@ were_read (text ∷ texts) (it ∷ these) octets each =
       ap (λ (octets : List ℕ). octets ∷ certificate_octets these) same ∙ ap (λ (others : List (List ℕ)). text ∷ others) rest.1,
     )
 
-were_statements_read : (texts : List (List ℕ)) (these : List Statement) → AllByRecursion AreOctets texts → AreStatementsRead texts these → WereStatementsRead texts these
+pub were_statements_read : (texts : List (List ℕ)) (these : List Statement) → AllByRecursion AreOctets texts → AreStatementsRead texts these → WereStatementsRead texts these
 were_statements_read [] [] octets each = tt
 were_statements_read [] (it ∷ these) octets each = absurd (omega (arith, ap length each))
 were_statements_read (text ∷ texts) [] octets each = absurd (omega (arith, ap length each))
@@ -159,6 +159,17 @@ get_map f (x ∷ xs) (suc i) d e below = get_map f xs i d e (omega (arith, below
 
 -- ---- what is written and told
 
+pub are_told : (certificates statements : List (List ℕ)) (asked : List asked.SignatureQuestion) (old new : List SignatureQuestion) (count : ℕ) → AllInTexts (texts_at certificates statements) asked
+    → new ≡ take (length old) (map question_of asked) ++ drop (length asked) old → count ≡ length asked → AreTold certificates statements (seen_all asked) old new count
+are_told certificates statements asked old new count stand written count_is = record {
+  questions = map question_of asked;
+  tell_each = tell_each certificates statements asked stand;
+  written = record {
+    written = written ∙ ap (λ (n : ℕ). take (length old) (map question_of asked) ++ drop n old) (sym (length-map asked question_of));
+    count_is = count_is ∙ sym (length-map asked question_of);
+  };
+}
+
 pub are_written : (query : code.QueryOfTexts) (statements : List Text) (read : Query) (these : List Statement) (asked : List asked.SignatureQuestion) (old new : List SignatureQuestion) (count : ℕ)
     → AreAllOctets (certificate_texts query) × AreAllOctets (octets_of_texts statements) → IsRead query statements read these → seen_all asked ≡ questions_of read these
     → ((octets : List (List ℕ)) → WereRead read → WereStatementsRead octets these → AllInTexts (texts_in read octets) asked)
@@ -169,10 +180,7 @@ are_written query statements read these asked old new count fit is are places wr
   is_read = is;
   asked = seen_all asked;
   may_be_asked = λ moment purpose. are;
-  questions = map question_of asked;
-  tell_each = tell_each (certificate_texts query) (octets_of_texts statements) asked stand;
-  written = written ∙ ap (λ (n : ℕ). take (length old) (map question_of asked) ++ drop n old) (sym (length-map asked question_of));
-  count_is = count_is ∙ sym (length-map asked seen_question);
+  told = are_told (certificate_texts query) (octets_of_texts statements) asked old new count stand written count_is;
 }
   where
     certificates : AllByRecursion WasRead (read.anchor ∷ read.certificates) × (certificate_octets (read.anchor ∷ read.certificates) ≡ certificate_texts query)

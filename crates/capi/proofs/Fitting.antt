@@ -14,9 +14,9 @@ next_left xs i d below =
     let later : suc i ≡ i + 1 = omega arith in
     drop-cons xs i d below ∙ ap (λ n. get_or xs i d ∷ drop n xs) later
 
-pub one_more : (octets new : List (Bor (List ℕ))) (one : Bor (List ℕ)) (texts : List Text) (i : ℕ) (d : Text) → i < length texts → new ≡ octets ++ one ∷ [] → one ≡ (get_or texts i d).octets
-    → texts_of octets ++ octets_of_texts (drop i texts) ≡ octets_of_texts texts → texts_of new ++ octets_of_texts (drop (i + 1) texts) ≡ octets_of_texts texts
-one_more octets new one texts i d below grown is so_far =
+pub one_more : (octets new : List (Bor (List ℕ))) (one : Bor (List ℕ)) (texts : List Text) (whole : List (List ℕ)) (i : ℕ) (d : Text) → i < length texts → new ≡ octets ++ one ∷ [] → one ≡ (get_or texts i d).octets
+    → texts_of octets ++ octets_of_texts (drop i texts) ≡ whole → texts_of new ++ octets_of_texts (drop (i + 1) texts) ≡ whole
+one_more octets new one texts whole i d below grown is so_far =
     let left = drop (i + 1) texts in
     ap (λ them. texts_of them ++ octets_of_texts left) grown
     ∙ ap (λ front. front ++ octets_of_texts left) (map-append (λ (text : Bor (List ℕ)). text.now) octets (one ∷ []))

@@ -6,3 +6,5 @@ mod Naming
 mod Fitting
 mod Judging
 mod Readings
+mod Gathering
+mod Among

@@ -16,19 +16,24 @@ use Rattle.capi.specs.declared.texts.QueryOfTexts.{QueryOfTexts}
 use Rattle.capi.specs.declared.texts.Text.{Text}
 
 -- the certificates if the number is 1, else the statements
-abbrev pub texts_numbered : QueryOfTexts → List Text → ℕ → List (List ℕ)
-texts_numbered query statements number = if number == 1 then certificate_texts query else octets_of_texts statements
+abbrev pub texts_numbered : List (List ℕ) → List (List ℕ) → ℕ → List (List ℕ)
+texts_numbered certificates statements number = if number == 1 then certificates else statements
 
 -- the octets at a place of the caller's texts
-abbrev pub octets_at : QueryOfTexts → List Text → Place → List ℕ
-octets_at query statements place =
-    slice_range (slice_index_or (texts_numbered query statements place.text) place.index []) place.offset (place.offset + place.length)
+abbrev pub octets_at : List (List ℕ) → List (List ℕ) → Place → List ℕ
+octets_at certificates statements place =
+    slice_range (slice_index_or (texts_numbered certificates statements place.text) place.index []) place.offset (place.offset + place.length)
 
 -- how a judge answers a question: by the octets at its four places
-abbrev pub judged : Accepts → QueryOfTexts → List Text → SignatureQuestion → Bool
-judged accepts query statements question =
-    accepts (octets_at query statements question.algorithm) (octets_at query statements question.key_info)
-    (octets_at query statements question.message) (octets_at query statements question.signature)
+abbrev pub judged : Accepts → List (List ℕ) → List (List ℕ) → SignatureQuestion → Bool
+judged accepts certificates statements question =
+    accepts (octets_at certificates statements question.algorithm) (octets_at certificates statements question.key_info)
+    (octets_at certificates statements question.message) (octets_at certificates statements question.signature)
+
+-- There was room for all questions, and of these the judge answers by yes just those whose fingerprints are among the given ones.
+pub record AreAnswered (accepts : Accepts) (certificates statements : List (List ℕ)) (prints : List (List ℕ)) (room questions : List SignatureQuestion) (count : ℕ) : Type 0 where
+  pub have_room : count ≤ length room
+  pub answers : All (λ question. IsTrue (judged accepts certificates statements question) ↔ Contains prints question.fingerprint) (take count questions)
 
 -- The questions about these certificates and statements were asked, at whatever moment and for whatever purpose, with room for all of them;
 -- and the judge answers by yes just those whose fingerprints are among these.
@@ -40,8 +45,7 @@ pub record AreJudged (accepts : Accepts) (query : QueryOfTexts) (statements : Li
   pub asked : Asked
   pub tells : TellsQuestions about statements room questions asked
   pub no_fault : asked.refusal.fault ≡ 0
-  pub have_room : asked.count ≤ length room
-  pub answers : All (λ question. IsTrue (judged accepts query statements question) ↔ Contains prints question.fingerprint) (take asked.count questions)
+  pub answered : AreAnswered accepts (certificate_texts query) (octets_of_texts statements) prints room questions asked.count
 
 -- the answer tells the verdict of who accepts so, or that memory was refused
 abbrev pub TellsVerdictFor : VerdictAnswer → Accepts → QueryOfTexts → List Text → Type 0

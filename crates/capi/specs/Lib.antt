@@ -1,5 +1,6 @@
 pub mod Answer
 pub mod Parts
+pub mod Arrays
 pub mod Fields
 pub mod Texts
 pub mod Refusal
@@ -8,3 +9,6 @@ pub mod Questions
 pub mod Names
 pub mod Judging
 pub mod Speaking
+pub mod Searching
+pub mod Finding
+pub mod Among

@@ -1,5 +1,5 @@
 -- What a judge of signatures may be asked, as numbers and parts of texts.
-use Rattle.std.specs.Prelude.{◌≡◌, ◌⊎◌, ◌++◌, ℕ, ℤ, List, [], ◌∷◌, Option, Result, Ok, Err, length, take, drop}
+use Rattle.std.specs.Prelude.{◌≡◌, ◌⊎◌, ℕ, ℤ, List, [], ◌∷◌, Option, Result, Ok, Err, length}
 use Rattle.path.specs.Query as of_path
 use Rattle.statements.specs.Statement.{Statement}
 use Rattle.relying_questions.specs.Questions.{Judgement, questions_of}
@@ -8,6 +8,7 @@ use Rattle.relying_questions.specs.declared.part.TextPart as of_text
 use Rattle.relying_questions.specs.declared.part.WhichText.{WhichText}
 use Rattle.relying_questions.specs.declared.part.WhichText.TheVariants as source
 use Rattle.relying_questions.specs.declared.question.SignatureQuestion as asked
+use Rattle.capi.specs.Arrays.{AreWrittenTo}
 use Rattle.capi.specs.Parts.{IsPart}
 use Rattle.capi.specs.Refusal.{TellsRefusal, no_refusal}
 use Rattle.capi.specs.Texts.{IsAt, IsRead, certificate_texts, octets_of_texts}
@@ -53,22 +54,25 @@ AreQuestionsAbout read these asked =
     (moment : ℤ) (purpose : Option (List ℕ)) →
     asked ≡ questions_of (record { anchor = read.anchor; certificates = read.certificates; moment = moment; purpose = purpose }) these
 
--- Of the questions that may be asked as many are written as there is room for, and there are so many.
+-- Of the questions as many are written as there is room for, and there are so many.
+pub record AreTold (certificates statements : List (List ℕ)) (asked : List Judgement) (old new : List SignatureQuestion) (count : ℕ) : Type 0 where
+  pub questions : List SignatureQuestion
+  pub tell_each : TellEach certificates statements questions asked
+  pub written : AreWrittenTo questions old new count
+
+-- the questions about a path that the texts hold
 pub record AreWritten (query : QueryOfTexts) (statements : List Text) (old new : List SignatureQuestion) (count : ℕ) : Type 0 where
   pub read : of_path.Query
   pub these : List Statement
   pub is_read : IsRead query statements read these
   pub asked : List Judgement
   pub may_be_asked : AreQuestionsAbout read these asked
-  pub questions : List SignatureQuestion
-  pub tell_each : TellEach (certificate_texts query) (octets_of_texts statements) questions asked
-  pub written : new ≡ take (length old) questions ++ drop (length questions) old
-  pub count_is : count ≡ length asked
+  pub told : AreTold (certificate_texts query) (octets_of_texts statements) asked old new count
 
 -- The questions about what the texts hold, or what is refused; nothing is written then.
 abbrev pub WritesQuestions : QueryOfTexts → List Text → List SignatureQuestion → List SignatureQuestion → Result ℕ Refusal → Type 0
 WritesQuestions query statements old new (Ok count) = AreWritten query statements old new count
-WritesQuestions query statements old new (Err told) = TellsRefusal query statements told × (new ≡ old)
+WritesQuestions query statements old new (Err told) = TellsRefusal (certificate_texts query) statements told × (new ≡ old)
 
 abbrev pub asked_answer : Result ℕ Refusal → Asked
 asked_answer (Ok count) = record { refusal = no_refusal; count = count }

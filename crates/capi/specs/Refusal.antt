@@ -16,9 +16,8 @@ use Rattle.statements_parts.specs.declared.fault.StatementRule.TheVariants.{Der}
 use Rattle.relying_texts.specs.Reading.{IsFirstStatementRefused}
 use Rattle.relying_texts.specs.declared.reading.StatementsFault.{StatementsFault}
 use Rattle.capi.specs.Fields.{der_number}
-use Rattle.capi.specs.Texts.{AreCertificates, certificate_texts, octets_of_texts}
+use Rattle.capi.specs.Texts.{AreCertificates, octets_of_texts}
 use Rattle.capi.specs.declared.refusal.Refusal.{Refusal}
-use Rattle.capi.specs.declared.texts.QueryOfTexts.{QueryOfTexts}
 use Rattle.capi.specs.declared.texts.Text.{Text}
 
 -- where the fault is one of DER, the number of the rule of DER that is broken
@@ -51,9 +50,9 @@ statement_refused rule index offset = refused 2 (statement_rule_number rule) (de
 -- ---- of what was handed in
 
 -- a certificate is none, and those before it are; or memory ran out
-abbrev pub TellsBadCertificate : QueryOfTexts → Refusal → Type 0
-TellsBadCertificate query told =
-    ((rule : CertRule) × IsFirstRefused (certificate_texts query) told.index (cert.Refused rule told.offset)
+abbrev pub TellsBadCertificate : List (List ℕ) → Refusal → Type 0
+TellsBadCertificate certificates told =
+    ((rule : CertRule) × IsFirstRefused certificates told.index (cert.Refused rule told.offset)
     × (told ≡ certificate_refused rule told.index told.offset))
     ⊎ (told ≡ no_memory)
 
@@ -65,10 +64,10 @@ TellsStatement statements told =
     ⊎ (told ≡ no_memory)
 
 -- the certificates are looked at first, and then the statements
-abbrev pub TellsRefusal : QueryOfTexts → List Text → Refusal → Type 0
-TellsRefusal query statements told =
-    TellsBadCertificate query told
-    ⊎ ((these : List Certificate) × AreCertificates (certificate_texts query) these × TellsStatement statements told)
+abbrev pub TellsRefusal : List (List ℕ) → List Text → Refusal → Type 0
+TellsRefusal certificates statements told =
+    TellsBadCertificate certificates told
+    ⊎ ((these : List Certificate) × AreCertificates certificates these × TellsStatement statements told)
 
 -- ---- of what a reader answers
 

@@ -1,5 +1,5 @@
 -- Whether a certificate speaks for an identity (RFC 9525; RFC 5280, 4.2.1.6), as numbers.
-use Rattle.std.specs.Prelude.{◌≡◌, ◌⊎◌, ◌<◌, ◌≤◌, ℕ, List, Ok, Err}
+use Rattle.std.specs.Prelude.{◌≡◌, ◌⊎◌, ◌≤◌, ℕ, List, Ok, Err}
 use Rattle.names.specs.Ip.{IsIpAddress}
 use Rattle.names_identity.specs.declared.fault.IdentityRule.{IdentityRule}
 use Rattle.names_identity.specs.declared.fault.IdentityRule.TheVariants.{HostOctet, Label, Length, Number, Address, LocalPart, NoHost}

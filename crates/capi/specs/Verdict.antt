@@ -8,7 +8,7 @@ use Rattle.relying_agreement.specs.declared.verdict.Verdict.TheVariants.{Invalid
 use Rattle.relying_questions.specs.Agreement.{AcceptsPrints}
 use Rattle.relying_texts.specs.Texts.{IsVerdictByStatements}
 use Rattle.capi.specs.Refusal.{TellsRefusal, no_refusal}
-use Rattle.capi.specs.Texts.{IsRead}
+use Rattle.capi.specs.Texts.{IsRead, certificate_texts}
 use Rattle.capi.specs.declared.answer.VerdictAnswer.{VerdictAnswer}
 use Rattle.capi.specs.declared.refusal.Refusal.{Refusal}
 use Rattle.capi.specs.declared.texts.QueryOfTexts.{QueryOfTexts}
@@ -49,4 +49,4 @@ pub record IsVerdictOn (query : QueryOfTexts) (statements : List Text) (prints :
 abbrev pub TellsAnswer : VerdictAnswer → QueryOfTexts → List Text → List (List ℕ) → Type 0
 TellsAnswer answer query statements prints =
     ((verdict : Verdict) × IsVerdictOn query statements prints verdict × TellsVerdict answer verdict)
-    ⊎ ((told : Refusal) × TellsRefusal query statements told × (answer ≡ refusal_answer told))
+    ⊎ ((told : Refusal) × TellsRefusal (certificate_texts query) statements told × (answer ≡ refusal_answer told))

@@ -21,7 +21,10 @@ pub(crate) struct Case<'a> {
 }
 
 /// The statements that the texts are.
-fn read_each<'a>(alloc: Global, texts: &[Text<'a>]) -> Result<Vec<Statement<'a>>, Refusal>
+pub(crate) fn read_each<'a>(
+    alloc: Global,
+    texts: &[Text<'a>],
+) -> Result<Vec<Statement<'a>>, Refusal>
     ensures reads { IfOk result (λ read.
         AreStatementsRead (octets_of_texts texts.now) (map seen_statement read.items)) }
     ensures fit { IfOk result (λ _. AreAllOctets (octets_of_texts texts.now)) }
@@ -46,7 +49,7 @@ impl<'a> Case<'a> {
         ensures fit { IfOk result (λ _.
             AreAllOctets (certificate_texts query.now)
             × AreAllOctets (octets_of_texts statements.now)) }
-        ensures refuses { IfErr result (TellsRefusal query.now statements.now) }
+        ensures refuses { IfErr result (TellsRefusal (certificate_texts query.now) statements.now) }
     {
         let query = query.read(alloc)?;
         match read_each(alloc, statements) {

@@ -7,9 +7,11 @@ use std::test::Fail;
 
 #[test]
 fn structs_have_their_sizes(rt: HostRuntime) {
-    const SIZES: [usize; 13] = [
+    const SIZES: [usize; 16] = [
         size_of::<Text<'static>>(),
         size_of::<QueryOfTexts<'static>>(),
+        size_of::<Limits>(),
+        size_of::<SearchOfTexts<'static>>(),
         size_of::<Part>(),
         size_of::<Answer>(),
         size_of::<ExtensionFields>(),
@@ -17,12 +19,18 @@ fn structs_have_their_sizes(rt: HostRuntime) {
         size_of::<CertificateAnswer>(),
         size_of::<Refusal>(),
         size_of::<VerdictAnswer>(),
+        size_of::<FindingAnswer>(),
         size_of::<Place>(),
         size_of::<SignatureQuestion>(),
         size_of::<Asked>(),
         size_of::<SpeakingAnswer>(),
     ];
-    assert!(rt; SIZES == [16, 56, 16, 16, 56, 208, 224, 32, 48, 32, 160, 40, 24]);
+    assert!(rt;
+        SIZES
+            == [
+                16, 56, 24, 96, 16, 16, 56, 208, 224, 32, 48, 56, 32, 160, 40, 24
+            ]
+    );
 }
 
 /// Whether the struct is printed so.
@@ -33,6 +41,10 @@ fn prints<T: Debug>(rt: &HostRuntime, value: &T, text: &str) -> Result<bool, All
 
 const QUERY: &str = "QueryOfTexts { anchor: Text { octets: [] }, path: [], moment: 0, \
     purpose: Text { octets: [] } }";
+
+const SEARCH: &str =
+    "SearchOfTexts { anchors: [], target: Text { octets: [] }, bag: [], moment: 0, \
+    purpose: Text { octets: [] }, limits: Limits { signatures: 0, steps: 0, verdicts: 0 } }";
 
 const CERTIFICATE: &str = "CertificateAnswer { fault: 0, der_fault: 0, offset: 0, \
     fields: Fields { version: 0, not_before: 0, not_after: 0, \
@@ -48,6 +60,10 @@ const CERTIFICATE: &str = "CertificateAnswer { fault: 0, der_fault: 0, offset: 0
 
 const VERDICT: &str = "VerdictAnswer { verdict: 0, reason: 0, certificate: 0, \
     refusal: Refusal { text: 0, fault: 0, der_fault: 0, index: 0, offset: 0 } }";
+
+const FINDING: &str =
+    "FindingAnswer { verdict: VerdictAnswer { verdict: 0, reason: 0, certificate: 0, \
+    refusal: Refusal { text: 0, fault: 0, der_fault: 0, index: 0, offset: 0 } }, path_count: 0 }";
 
 const ASKED: &str = "Asked { \
     refusal: Refusal { text: 0, fault: 0, der_fault: 0, index: 0, offset: 0 }, count: 0 }";
@@ -72,7 +88,17 @@ fn structs_have_their_fields_in_order(rt: HostRuntime) -> Result<(), Fail> {
         moment: 0,
         purpose: none,
     };
+    let search = SearchOfTexts {
+        anchors: &[],
+        target: none,
+        bag: &[],
+        moment: 0,
+        purpose: none,
+        limits: Limits::default(),
+    };
     assert!(rt; prints(&rt, &query, QUERY)?);
+    assert!(rt; prints(&rt, &search, SEARCH)?);
+    assert!(rt; prints(&rt, &FindingAnswer::default(), FINDING)?);
     assert!(rt; prints(&rt, &Answer::default(), "Answer { fault: 0, offset: 0 }")?);
     assert!(rt; prints(&rt, &CertificateAnswer::default(), CERTIFICATE)?);
     assert!(rt; prints(&rt, &VerdictAnswer::default(), VERDICT)?);

@@ -1,12 +1,16 @@
-//! `x509check_questions`.
+//! `x509check_questions` and `x509check_find_questions`.
 
 ghost use Rattle.std.specs.Prelude.{◌≡◌, ◌++◌, drop, length, map, take};
-ghost use Rattle.capi.specs.Questions.{TellsQuestions, WritesQuestions, place_of, question_of};
+ghost use Rattle.capi.specs.Among.{TellsSearchQuestions, WritesSearchQuestions};
+ghost use Rattle.capi.specs.Questions.{TellsQuestions, WritesQuestions, asked_answer, place_of, question_of};
 
 use crate::case::Case;
 use crate::refusal::Refusal;
+use crate::searching::{SearchCase, SearchOfTexts};
 use crate::texts::{QueryOfTexts, Text};
-use relying_questions::{SignatureQuestion as Asking, TextPart, WhichText, questions};
+use relying_questions::{
+    SignatureQuestion as Asking, TextPart, WhichText, finding_questions, questions,
+};
 use std::alloc::Global;
 
 /// Octets of a certificate or of a statement.
@@ -15,7 +19,7 @@ use std::alloc::Global;
 pub struct Place {
     /// 1 the certificates, 2 the statements.
     pub text: u32,
-    /// Which of them: of the certificates the anchor has 0.
+    /// Which of them: of the certificates of a query the anchor has 0; for those of a search see `SearchOfTexts`.
     pub index: usize,
     pub offset: usize,
     pub length: usize,
@@ -98,6 +102,35 @@ fn write_questions(
     Ok(all.len())
 }
 
+/// The same about a search and the statements.
+fn write_search_questions(
+    alloc: Global,
+    search: &SearchOfTexts<'_>,
+    statements: &[Text<'_>],
+    written: &mut [SignatureQuestion],
+) -> Result<usize, Refusal>
+    ensures { WritesSearchQuestions search.now statements.now written.old written.new result }
+{
+    let case = SearchCase::read(alloc, search, statements)?;
+    let among = search.among(case.certificates.as_slice());
+    let asked = finding_questions(alloc, &among, case.statements.as_slice())?;
+    let all = asked.as_slice();
+    write(all, written);
+    Ok(all.len())
+}
+
+fn asked_answer(written: Result<usize, Refusal>) -> Asked
+    ensures { result ≡ asked_answer written }
+{
+    match written {
+        Ok(count) => Asked {
+            refusal: Refusal::default(),
+            count,
+        },
+        Err(refusal) => Asked { refusal, count: 0 },
+    }
+}
+
 /// What a judge of signatures may be asked for the verdict on the path by the statements, as `relying_questions::questions` says: as many
 /// questions as there is room for, and how many there are.
 #[unsafe(no_mangle)]
@@ -109,11 +142,19 @@ pub extern "C" fn x509check_questions(
 ) -> Asked
     ensures { TellsQuestions query.now statements.now questions.old questions.new result }
 {
-    match write_questions(alloc, query, statements, questions) {
-        Ok(count) => Asked {
-            refusal: Refusal::default(),
-            count,
-        },
-        Err(refusal) => Asked { refusal, count: 0 },
-    }
+    asked_answer(write_questions(alloc, query, statements, questions))
+}
+
+/// What a judge of signatures may be asked for what is found by the statements, as `relying_questions::finding_questions` says: as many
+/// questions as there is room for, and how many there are.
+#[unsafe(no_mangle)]
+pub extern "C" fn x509check_find_questions(
+    alloc: Global,
+    search: &SearchOfTexts<'_>,
+    statements: &[Text<'_>],
+    questions: &mut [SignatureQuestion],
+) -> Asked
+    ensures { TellsSearchQuestions search.now statements.now questions.old questions.new result }
+{
+    asked_answer(write_search_questions(alloc, search, statements, questions))
 }

@@ -19,7 +19,7 @@ pub struct Refusal {
     pub fault: u32,
     /// The number of the rule of DER that is broken, if `fault` is 21 or 41; else 0.
     pub der_fault: u32,
-    /// Which of them: of the certificates the anchor has 0.
+    /// Which of them: of the certificates of a query the anchor has 0; for those of a search see `SearchOfTexts`.
     pub index: usize,
     /// Of the value at fault, in that certificate or statement.
     pub offset: usize,

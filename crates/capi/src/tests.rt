@@ -166,14 +166,14 @@ fn wants_memory_or_answers(rt: HostRuntime) {
 }
 
 /// 2026-12-01T00:00:00Z
-const DECEMBER: i64 = 1_796_083_200;
+pub(crate) const DECEMBER: i64 = 1_796_083_200;
 
-fn text(octets: &[u8]) -> Text<'_> {
+pub(crate) fn text(octets: &[u8]) -> Text<'_> {
     Text { octets }
 }
 
 /// The root, the issuer below it and the leaf.
-fn certificates<'a>() -> [Text<'a>; 3] {
+pub(crate) fn certificates<'a>() -> [Text<'a>; 3] {
     let (root, behind) = PATH.split_at(410);
     let (middle, leaf) = behind.split_at(413);
     [text(root), text(middle), text(leaf)]
@@ -183,8 +183,13 @@ fn pair<'a>(octets: (&'a [u8], &'a [u8])) -> [Text<'a>; 2] {
     [text(octets.0), text(octets.1)]
 }
 
-fn lists<'a>() -> [Text<'a>; 2] {
+pub(crate) fn lists<'a>() -> [Text<'a>; 2] {
     pair(LISTS.split_at(187))
+}
+
+/// The next list of the issuer, which revokes the leaf, and that of the root.
+pub(crate) fn revoking<'a>() -> [Text<'a>; 2] {
+    pair(REVOKING.split_at(226))
 }
 
 fn query<'a>(
@@ -202,7 +207,7 @@ fn query<'a>(
 }
 
 /// The fingerprints that are good.
-fn good() -> [[u8; 32]; 5] {
+pub(crate) fn good() -> [[u8; 32]; 5] {
     let mut prints = [[0; 32]; 5];
     for index in 0..5 {
         prints[index].copy_from_slice(&GOOD[32 * index..32 * index + 32]);
@@ -222,7 +227,7 @@ fn answer(
     x509check_validate(alloc, &query(root, &path, moment, b""), statements, prints)
 }
 
-fn verdict(verdict: u32, certificate: usize, reason: u32) -> VerdictAnswer {
+pub(crate) fn verdict(verdict: u32, certificate: usize, reason: u32) -> VerdictAnswer {
     VerdictAnswer {
         verdict,
         certificate,
@@ -231,7 +236,13 @@ fn verdict(verdict: u32, certificate: usize, reason: u32) -> VerdictAnswer {
     }
 }
 
-fn refusal(text: u32, fault: u32, der_fault: u32, index: usize, offset: usize) -> Refusal {
+pub(crate) fn refusal(
+    text: u32,
+    fault: u32,
+    der_fault: u32,
+    index: usize,
+    offset: usize,
+) -> Refusal {
     Refusal {
         text,
         fault,
@@ -252,11 +263,10 @@ fn refused(refusal: Refusal) -> VerdictAnswer {
 #[test]
 fn validates(rt: HostRuntime) {
     let (alloc, lists, good) = (rt.alloc(), lists(), good());
-    let revoking = pair(REVOKING.split_at(226));
     assert!(rt; answer(alloc, &lists, &good, DECEMBER) == verdict(1, 0, 0));
     assert!(rt; answer(alloc, &lists, &good, 0) == verdict(2, 1, 3));
     assert!(rt; answer(alloc, &lists, &[], DECEMBER) == verdict(2, 1, 2));
-    assert!(rt; answer(alloc, &revoking, &good, DECEMBER) == verdict(3, 2, 1));
+    assert!(rt; answer(alloc, &revoking(), &good, DECEMBER) == verdict(3, 2, 1));
     assert!(rt; answer(alloc, &[], &good, DECEMBER) == verdict(4, 1, 0));
 }
 
@@ -333,14 +343,14 @@ fn questions(alloc: Global, statements: &[Text<'_>]) -> (Asked, [SignatureQuesti
     (asked, questions)
 }
 
-fn counted(count: usize) -> Asked {
+pub(crate) fn counted(count: usize) -> Asked {
     Asked {
         count,
         ..Asked::default()
     }
 }
 
-fn has_print(question: &SignatureQuestion, print: &[u8]) -> bool {
+pub(crate) fn has_print(question: &SignatureQuestion, print: &[u8]) -> bool {
     question.fingerprint.as_slice() == print
 }
 
@@ -356,7 +366,7 @@ fn tells_questions(rt: HostRuntime) {
     assert!(rt; written[4] == SignatureQuestion::default());
 }
 
-fn place(text: u32, index: usize, offset: usize, length: usize) -> Place {
+pub(crate) fn place(text: u32, index: usize, offset: usize, length: usize) -> Place {
     Place {
         text,
         index,

@@ -1,6 +1,6 @@
 //! What is handed in: texts, and a query about a path in texts.
 
-ghost use Rattle.std.specs.Prelude.{◌≡◌, IfErr, IfOk};
+ghost use Rattle.std.specs.Prelude.{◌≡◌, ◌++◌, IfErr, IfOk, OnOk};
 ghost use Rattle.std.specs.Option.{option_copied};
 ghost use Rattle.path.specs.Reading.{seen_query, texts_of};
 ghost use Rattle.capi.specs.Refusal.{TellsBadCertificate};
@@ -42,20 +42,34 @@ impl<'a> Text<'a> {
     }
 }
 
+/// Adds the octets of each text.
+pub(crate) fn add_octets<'a>(
+    octets: &mut Vec<&'a [u8]>,
+    texts: &[Text<'a>],
+) -> Result<(), AllocError>
+    ensures texts { OnOk result (texts_of octets.new.items
+        ≡ texts_of octets.old.items ++ octets_of_texts texts.now) }
+    ensures fit { OnOk result (AreAllOctets (texts_of octets.old.items)
+        → AreAllOctets (texts_of octets.new.items)) }
+{
+    for text in texts {
+        octets.push(text.octets())?;
+    }
+    Ok(())
+}
+
 /// The octets of each text.
 pub(crate) fn octets_of<'a>(alloc: Global, texts: &[Text<'a>]) -> Result<Vec<&'a [u8]>, AllocError>
     ensures texts { IfOk result (λ octets. texts_of octets.items ≡ octets_of_texts texts.now) }
     ensures fit { IfOk result (λ octets. AreAllOctets (texts_of octets.items)) }
 {
     let mut octets = Vec::new(alloc);
-    for text in texts {
-        octets.push(text.octets())?;
-    }
+    add_octets(&mut octets, texts)?;
     Ok(octets)
 }
 
 /// The purpose that is asked for, if there are octets of one.
-fn purpose_of(octets: &[u8]) -> Option<&[u8]>
+pub(crate) fn purpose_of(octets: &[u8]) -> Option<&[u8]>
     ensures { option_copied result ≡ purpose_if_any octets.now }
 {
     if octets.is_empty() {
@@ -70,7 +84,7 @@ impl<'a> QueryOfTexts<'a> {
     pub(crate) fn read(&self, alloc: Global) -> Result<path::Query<'a>, Refusal>
         ensures reads { IfOk result (λ query. IsQueryRead self.now (seen_query query)) }
         ensures fit { IfOk result (λ _. AreAllOctets (certificate_texts self.now)) }
-        ensures refuses { IfErr result (TellsBadCertificate self.now) }
+        ensures refuses { IfErr result (TellsBadCertificate (certificate_texts self.now)) }
     {
         let path = octets_of(alloc, self.path)?;
         let purpose = purpose_of(self.purpose.octets);

@@ -5,6 +5,7 @@ ghost use Rattle.path.specs.Query.{Accepts};
 ghost use Rattle.path_verifiers.specs.ListVerifier.{Believes};
 ghost use Rattle.capi.specs.Judging.{AreJudged, TellsVerdictFor};
 ghost use Rattle.capi.specs.Refusal.{TellsRefusal};
+ghost use Rattle.capi.specs.Texts.{certificate_texts};
 ghost use Rattle.capi.specs.Verdict.{IsVerdictOn, TellsAnswer, TellsVerdict, refusal_answer};
 
 use crate::answer::VerdictAnswer;
@@ -28,7 +29,7 @@ const UNKNOWN: u32 = 4;
 const REFUSED: u32 = 5;
 
 /// The verdict as numbers.
-fn answer_of(verdict: Verdict) -> VerdictAnswer
+pub(crate) fn answer_of(verdict: Verdict) -> VerdictAnswer
     ensures tells { TellsVerdict result verdict }
     ensures filled { 0 < result.verdict }
 {
@@ -58,7 +59,7 @@ fn answer_of(verdict: Verdict) -> VerdictAnswer
     }
 }
 
-fn refused(refusal: Refusal) -> VerdictAnswer
+pub(crate) fn refused(refusal: Refusal) -> VerdictAnswer
     ensures tells { result ≡ refusal_answer refusal }
     ensures filled { 0 < result.verdict }
 {
@@ -70,7 +71,10 @@ fn refused(refusal: Refusal) -> VerdictAnswer
 }
 
 /// A verifier that accepts the signatures with these fingerprints.
-fn believing(alloc: Global, fingerprints: &[[u8; 32]]) -> Result<ListVerifier, AllocError>
+pub(crate) fn believing(
+    alloc: Global,
+    fingerprints: &[[u8; 32]],
+) -> Result<ListVerifier, AllocError>
     ensures { IfOk result (λ verifier. Believes verifier fingerprints.now) }
 {
     Ok(ListVerifier::new(Vec::from_slice(alloc, fingerprints)?))
@@ -84,7 +88,7 @@ fn verdict_on(
     fingerprints: &[[u8; 32]],
 ) -> Result<Verdict, Refusal>
     ensures verdict { IfOk result (IsVerdictOn query.now statements.now fingerprints.now) }
-    ensures refuses { IfErr result (TellsRefusal query.now statements.now) }
+    ensures refuses { IfErr result (TellsRefusal (certificate_texts query.now) statements.now) }
 {
     let case = Case::read(alloc, query, statements)?;
     let verifier = believing(alloc, fingerprints)?;

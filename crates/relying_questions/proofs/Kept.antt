@@ -2,6 +2,7 @@
 use Rattle.std.proofs.Common.{◌≡◌, ◌+◌, ◌-◌, ◌<◌, ℕ, zero, suc, List, [], ◌∷◌, ◌++◌, length, map, get_or, slice_index_or, arith, Result, Ok, Err, IfOk, refl, sym, ap, ◌∙◌, subst}
 use Rattle.std.specs.List.{AllByRecursion}
 use Rattle.std.proofs.lemmas.List.{get_or-map}
+use Rattle.std.proofs.lemmas.List.Elements.{All-from_recursion}
 use Rattle.asn.specs.DerLaws.{AreOctets}
 use Rattle.cert.specs.Certificate.{Certificate}
 use Rattle.path.specs.Query.{Query}
@@ -10,18 +11,18 @@ use Rattle.statements.specs.Statement.{Statement, StatementIsExact, statement}
 use Rattle.relying_agreement.specs.Link.{links_from, links_of}
 use Rattle.relying_questions.specs.declared.question.SignatureQuestion.{SignatureQuestion}
 use Rattle.relying_questions.specs.declared.part.WhichText.TheVariants as source
-use Rattle.relying_questions.specs.Places.{Texts, AllInTexts, AreInTexts, HasParts, KeepsInTexts, LinkStands, StatementStands, StatementsStand, WereRead, WereStatementsRead, statement_text, texts_in}
+use Rattle.relying_questions.specs.Places.{Texts, AllInTexts, AreInTexts, HasParts, KeepsInTexts, LinkStands, StatementStands, StatementsStand, WereRead, WereStatementsRead, statement_text, texts_at, texts_in}
 use Rattle.relying_questions.proofs.Standing.{has_parts, list_stands, response_stands}
 
 -- one more
-pub pushed : (texts : Texts) (sofar : List SignatureQuestion) (asked : SignatureQuestion) → AllInTexts texts sofar → AreInTexts texts asked → AllInTexts texts (sofar ++ asked ∷ [])
-pushed texts [] asked all one = (one, tt)
-pushed texts (first ∷ sofar) asked all one = (all.0, pushed texts sofar asked all.1 one)
+pub pushed : {X : Type 0} (P : X → Type 0) (xs : List X) (x : X) → AllByRecursion P xs → P x → AllByRecursion P (xs ++ x ∷ [])
+pushed P [] x all one = (one, tt)
+pushed P (first ∷ xs) x all one = (all.0, pushed P xs x all.1 one)
 
 pub kept_one : (Premise : Texts → Type 0) (old sofar new : List SignatureQuestion) (asked : SignatureQuestion) → KeepsInTexts Premise old sofar → new ≡ sofar ++ asked ∷ []
     → ((texts : Texts) → Premise texts → AreInTexts texts asked) → KeepsInTexts Premise old new
 kept_one Premise old sofar new asked keeps new_is one texts holds all =
-    subst (AllInTexts texts) (sym new_is) (pushed texts sofar asked (keeps texts holds all) (one texts holds))
+    subst (AllInTexts texts) (sym new_is) (pushed (AreInTexts texts) sofar asked (keeps texts holds all) (one texts holds))
 
 -- one step after another
 pub kept_more : (Premise Weaker : Texts → Type 0) (old sofar new : List SignatureQuestion) → KeepsInTexts Premise old sofar → KeepsInTexts Weaker sofar new
@@ -34,6 +35,9 @@ at_index P f [] i x all below is = absurd (omega (arith, below))
 at_index P f (y ∷ xs) zero x all below is = subst (λ z. P (f z)) (sym is) all.0
 at_index P f (y ∷ xs) (suc i) x all below is = at_index P f xs i x all.1 (omega (arith, below)) is
 
+pub each_at : {X : Type 0} (P : X → Type 0) (xs : List X) (i : ℕ) (x : X) → AllByRecursion P xs → i < length xs → x ≡ get_or xs i x → P x
+each_at P xs i x all below is = subst P (sym is) (All-from_recursion P xs all i x below)
+
 -- ---- the certificates of a path
 
 -- the certificates are the texts from a number on
@@ -41,7 +45,7 @@ abbrev TextsFrom : Texts → ℕ → List Certificate → Type 0
 TextsFrom texts n [] = Unit {0}
 TextsFrom texts n (c ∷ path) = (texts (source.Certificate n) ≡ c.octets) × TextsFrom texts (suc n) path
 
-placed : (text : List ℕ) (c : Certificate) → text ≡ c.octets → WasRead c → HasParts text c
+pub placed : (text : List ℕ) (c : Certificate) → text ≡ c.octets → WasRead c → HasParts text c
 placed text c is read = subst (λ t. HasParts t c) (sym is) (has_parts c read)
 
 links_stand : (texts : Texts) (n : ℕ) (issuer : Certificate) (path : List Certificate) → texts (source.Certificate n) ≡ issuer.octets → WasRead issuer
@@ -109,9 +113,10 @@ statements_stand exact texts n (text ∷ octets) (read ∷ statements) are were 
 zero_before : (j : ℕ) → 0 + j ≡ j
 zero_before j = omega arith
 
-pub all_statements_stand : StatementIsExact → (query : Query) (octets : List (List ℕ)) (statements : List Statement) → WereStatementsRead octets statements → StatementsStand (texts_in query octets) 0 statements
-all_statements_stand exact query octets statements were =
-    statements_stand exact (texts_in query octets) 0 octets statements (λ j below. ap (λ k. texts_in query octets (source.Statement k)) (zero_before j)) were
+pub all_statements_stand : StatementIsExact → (certificates octets : List (List ℕ)) (statements : List Statement) → WereStatementsRead octets statements
+    → StatementsStand (texts_at certificates octets) 0 statements
+all_statements_stand exact certificates octets statements were =
+    statements_stand exact (texts_at certificates octets) 0 octets statements (λ j below. ap (λ k. texts_at certificates octets (source.Statement k)) (zero_before j)) were
 
 -- the one at an index
 statement_at_index : {X : Type 0} (texts : Texts) (f : X → Statement) (xs : List X) (n i : ℕ) (x : X) → StatementsStand texts n (map f xs) → i < length xs → x ≡ get_or xs i x

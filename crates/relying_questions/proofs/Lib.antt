@@ -5,5 +5,9 @@ mod SameVerdicts
 mod Adding
 mod Standing
 mod Kept
+mod SearchStanding
+mod Marking
 mod Prints
+mod Pairs
+mod FindingAlike
 mod Encodings

@@ -12,7 +12,7 @@ same_truth true false C is also = sym (also.1 (is.0 refl))
 same_truth false true C is also = is.1 (also.0 refl)
 same_truth false false C is also = refl
 
-alike : (accepts by_prints : Accepts) (prints : List (List ℕ)) (asked : Judgement) → AcceptsPrints by_prints prints → (IsTrue (answer accepts asked) ↔ Contains prints (judgement_print asked))
+pub alike : (accepts by_prints : Accepts) (prints : List (List ℕ)) (asked : Judgement) → AcceptsPrints by_prints prints → (IsTrue (answer accepts asked) ↔ Contains prints (judgement_print asked))
     → answer accepts asked ≡ answer by_prints asked
 alike accepts by_prints prints asked are good =
     same_truth (answer accepts asked) (answer by_prints asked) (Contains prints (judgement_print asked)) good (are asked.algorithm asked.key_info asked.message asked.signature)

@@ -14,7 +14,7 @@ use Rattle.relying_questions.proofs.Alike.{Alike, each_alike, turned, before, be
 use Rattle.relying_questions.proofs.PathAlike.{outcome_alike}
 use Rattle.relying_questions.proofs.StatementsAlike.{told_alike}
 
-decided : (accepts other : Accepts) (query : Query) (statements : List Statement) → Alike accepts other (questions_of query statements)
+pub decided : (accepts other : Accepts) (query : Query) (statements : List Statement) → Alike accepts other (questions_of query statements)
     → (verdict : Verdict) → IsVerdictByStatements accepts query statements verdict → IsVerdictByStatements other query statements verdict
 decided accepts other query statements alike verdict is =
     let path = before accepts other (asked_of_path query) (asked_of_statements (issuers_of query) statements) alike in

@@ -1,4 +1,6 @@
 pub mod Questions
+pub mod FindingQuestions
+pub mod Issuers
 pub mod Agreement
 pub mod Places
 pub mod Seen
@@ -6,3 +8,5 @@ pub use Rattle.relying_texts.specs.Texts
 pub use Rattle.relying_texts.specs.View
 pub use Rattle.relying_agreement.specs.Verdict
 pub use Rattle.path.specs.Query
+pub use Rattle.path_issuers.specs.Search
+pub use Rattle.relying_search.specs.Finding

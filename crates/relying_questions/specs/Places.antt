@@ -1,5 +1,5 @@
 -- Where the parts of questions stand.
-use Rattle.std.specs.Prelude.{◌≡◌, ◌<◌, ◌+◌, ◌-◌, ℕ, suc, List, [], ◌∷◌, length, map, take, slice_index_or, Ok}
+use Rattle.std.specs.Prelude.{◌≡◌, ◌<◌, ◌+◌, ◌-◌, ℕ, suc, List, [], ◌∷◌, ◌++◌, length, map, take, slice_index_or, Ok}
 use Rattle.std.specs.List.{AllByRecursion, AllZip}
 use Rattle.asn.specs.DerLaws.{AreOctets}
 use Rattle.asn.specs.Part.{IsPartOf}
@@ -8,6 +8,8 @@ use Rattle.cert.specs.BitString.{BitString}
 use Rattle.cert.specs.Certificate.{Certificate, seen_certificate}
 use Rattle.cert.specs.Offsets.{StandsIn}
 use Rattle.path.specs.Query.{Query}
+use Rattle.path_issuers.specs.Links.{anchor_at, certificate_at}
+use Rattle.path_issuers.specs.Search.{Search}
 use Rattle.statements.specs.OneIssuer.{WasRead}
 use Rattle.statements.specs.Statement.{Statement, statement}
 use Rattle.statements_crl.specs.CertificateList.{CertificateList}
@@ -37,6 +39,17 @@ certificate_octets certificates = map (λ (c : Certificate). c.octets) certifica
 -- those of a path, and these of statements
 abbrev pub texts_in : Query → List (List ℕ) → Texts
 texts_in query octets = texts_at (certificate_octets (query.anchor ∷ query.certificates)) octets
+
+-- the certificates of a search: the anchors, then the target, then the bag
+abbrev pub certificates_of : Search → List Certificate
+certificates_of s = s.anchors ++ s.target ∷ s.bag
+
+-- their texts, and these of statements
+abbrev pub texts_searched : Search → List (List ℕ) → Texts
+texts_searched s octets = texts_at (certificate_octets (certificates_of s)) octets
+
+abbrev pub certificate_text : Texts → ℕ → List ℕ
+certificate_text texts number = texts (source.Certificate number)
 
 abbrev pub statement_text : Texts → ℕ → List ℕ
 statement_text texts index = texts (source.Statement index)
@@ -80,6 +93,16 @@ StandWhereRead query statements asked =
     (octets : List (List ℕ)) → WereRead query → WereStatementsRead octets statements →
     AllInTexts (texts_in query octets) asked
 
+-- the certificates of the search were read from their octets
+abbrev pub WereReadForSearch : Search → Type 0
+WereReadForSearch s = AllByRecursion WasRead (certificates_of s)
+
+-- the same of the certificates of a search
+abbrev pub StandWhereSearched : Search → List Statement → List asked.SignatureQuestion → Type 0
+StandWhereSearched s statements asked =
+    (octets : List (List ℕ)) → WereReadForSearch s → WereStatementsRead octets statements →
+    AllInTexts (texts_searched s octets) asked
+
 -- ---- what is signed
 
 -- the place stands in the text
@@ -109,6 +132,12 @@ placed_certificate placed = seen_certificate placed.certificate.now
 abbrev pub IsPlaced : Texts → placed.Placed → Type 0
 IsPlaced texts placed = HasParts (texts placed.source) (placed_certificate placed)
 
+abbrev pub placed_certificates : List placed.Placed → List Certificate
+placed_certificates placed = map placed_certificate placed
+
+abbrev pub ArePlaced : Texts → List placed.Placed → Type 0
+ArePlaced texts placed = AllByRecursion (IsPlaced texts) placed
+
 -- a certificate of a path and the one above it have their parts in the texts with their numbers
 pub record LinkStands (texts : Texts) (link : Link) : Type 0 where
   pub issuer : HasParts (texts (source.Certificate (link.number - 1))) link.issuer
@@ -116,6 +145,12 @@ pub record LinkStands (texts : Texts) (link : Link) : Type 0 where
 
 abbrev pub LinksStand : Texts → List linked.Link → Type 0
 LinksStand texts links = AllByRecursion (LinkStands texts) (map seen_link links)
+
+-- the certificates of a search have their parts in the texts with their numbers
+pub record SearchStands (texts : Texts) (s : Search) : Type 0 where
+  pub anchors : (place : ℕ) → place < length s.anchors → HasParts (certificate_text texts place) (anchor_at s place)
+  pub target : HasParts (certificate_text texts (length s.anchors)) s.target
+  pub bag : (place : ℕ) → place < length s.bag → HasParts (certificate_text texts (length s.anchors + 1 + place)) (certificate_at s place)
 
 -- ---- statements
 

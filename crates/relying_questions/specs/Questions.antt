@@ -1,5 +1,5 @@
 -- What a verifier may be asked for the verdict on a path by statements (RFC 5280, 6.1.3 (a) (1) and 6.3.3; RFC 6960, 4.2.2.2).
-use Rattle.std.specs.Prelude.{◌&&◌, ℕ, Bool, List, [], ◌∷◌, ◌++◌, map, if◌then◌else◌}
+use Rattle.std.specs.Prelude.{◌&&◌, Bool, List, [], ◌∷◌, ◌++◌, map, if◌then◌else◌}
 use Rattle.std.specs.List.{flat_map}
 use Rattle.names.specs.DistinguishedName.{matching}
 use Rattle.cert.specs.Certificate.{Certificate}

@@ -1,5 +1,5 @@
 -- What the code has at hand, as the definitions see it.
-use Rattle.std.specs.Prelude.{◌≡◌, ◌++◌, ℕ, List, [], map, Option, Some, None}
+use Rattle.std.specs.Prelude.{◌≡◌, ◌++◌, List, [], map, Option, Some, None}
 use Rattle.asn.specs.Place.{Place}
 use Rattle.cert.specs.Certificate.{Certificate, seen_certificate}
 pub use Rattle.path_verifiers.specs.Fingerprint.{judgement_print}

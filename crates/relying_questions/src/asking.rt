@@ -5,15 +5,15 @@ ghost use Rattle.path.specs.Reading.{seen_query};
 ghost use Rattle.statements.specs.Statement.{seen_statement};
 ghost use Rattle.relying_evidence.specs.View.{seen_link};
 ghost use Rattle.relying_questions.specs.Agreement.{DecideVerdict};
-ghost use Rattle.relying_questions.specs.Places.{IsPlaced, KeepsInTexts, LinkStands, LinksStand, StandWhereRead, StatementStands, StatementsStand, Texts, placed_certificate, statement_text};
-ghost use Rattle.relying_questions.specs.Questions.{asked_of_statement, asked_of_statements, questions_of};
+ghost use Rattle.relying_questions.specs.Places.{ArePlaced, IsPlaced, KeepsInTexts, LinkStands, LinksStand, StandWhereRead, Texts, placed_certificate, placed_certificates};
+ghost use Rattle.relying_questions.specs.Questions.{questions_of};
 ghost use Rattle.relying_questions.specs.Seen.{Adds, asked_of_links, certificate_of, issuer_of_link, issuers_of_links, seen_all};
 
 use crate::part::WhichText;
 use crate::placed::Placed;
 use crate::question::SignatureQuestion;
 use crate::signatures::of_certificate;
-use crate::statement_questions::ask_statement;
+use crate::under_issuers::ask_statements;
 use path::Query;
 use relying_evidence::{Link, links_of};
 use statements::{Statement, statement_laws};
@@ -29,6 +29,23 @@ fn issuer_of<'p, 'a>(link: &Link<'p, 'a>) -> Placed<'p, 'a>
         certificate: link.issuer,
         source: WhichText::Certificate(link.number.saturating_sub(1)),
     }
+}
+
+/// The issuers of the links, in order.
+fn issuers_of<'p, 'a>(
+    alloc: Global,
+    links: &[Link<'p, 'a>],
+) -> Result<Vec<Placed<'p, 'a>>, AllocError>
+    ensures certificates { IfOk result (λ issuers.
+        placed_certificates issuers.items ≡ issuers_of_links links.now) }
+    ensures places { IfOk result (λ issuers. (texts : Texts) → LinksStand texts links.now
+        → ArePlaced texts issuers.items) }
+{
+    let mut issuers = Vec::with_capacity(alloc, links.len())?;
+    for link in links {
+        issuers.push(issuer_of(link))?;
+    }
+    Ok(issuers)
 }
 
 /// The certificate of a link, as one of the path.
@@ -59,46 +76,6 @@ fn ask_path<'a>(
     Ok(())
 }
 
-/// Adds the questions about the statement with the index under each issuer of the path.
-fn ask_under_each<'a>(
-    alloc: Global,
-    asked: &mut Vec<SignatureQuestion<'a>>,
-    links: &[Link<'_, 'a>],
-    index: usize,
-    statement: &Statement<'a>,
-) -> Result<(), AllocError>
-    ensures asked { IfOk result (λ _. Adds asked.old.items asked.new.items
-        (asked_of_statement (issuers_of_links links.now) (seen_statement statement.now))) }
-    ensures places { IfOk result (λ _. KeepsInTexts (λ texts. LinksStand texts links.now
-        × StatementStands (statement_text texts index) (seen_statement statement.now))
-        asked.old.items asked.new.items) }
-{
-    for link in links {
-        let source = WhichText::Statement(index);
-        ask_statement(alloc, asked, &issuer_of(link), source, statement)?;
-    }
-    Ok(())
-}
-
-/// Adds the questions about each of the statements.
-fn ask_statements<'a>(
-    alloc: Global,
-    asked: &mut Vec<SignatureQuestion<'a>>,
-    links: &[Link<'_, 'a>],
-    statements: &[Statement<'a>],
-) -> Result<(), AllocError>
-    ensures asked { IfOk result (λ _. Adds asked.old.items asked.new.items
-        (asked_of_statements (issuers_of_links links.now) (map seen_statement statements.now))) }
-    ensures places { IfOk result (λ _. KeepsInTexts (λ texts. LinksStand texts links.now
-        × StatementsStand texts 0 (map seen_statement statements.now))
-        asked.old.items asked.new.items) }
-{
-    for (index, statement) in statements.iter().enumerate() {
-        ask_under_each(alloc, asked, links, index, statement)?;
-    }
-    Ok(())
-}
-
 /// What a verifier may be asked for the verdict on a path by these statements (`relying_texts::verdict`): about the certificates of the
 /// path, in order, and then about each statement, under each issuer of the path in order. The answers to these questions decide the
 /// verdict (`question_laws`).
@@ -110,7 +87,7 @@ fn ask_statements<'a>(
 /// invalid. An issuer that stands on a path twice is asked about twice.
 ///
 /// The certificates that come with a response are read once for each issuer. Memory is taken for the questions, for the certificates of the
-/// path and for reading.
+/// path, each with its issuer, and for reading.
 pub fn questions<'a>(
     alloc: Global,
     query: &Query<'a>,
@@ -127,6 +104,7 @@ pub fn questions<'a>(
     let links = links_of(alloc, &query.anchor, query.path.as_slice())?;
     let mut asked = Vec::new(alloc);
     ask_path(&mut asked, links.as_slice())?;
-    ask_statements(alloc, &mut asked, links.as_slice(), statements)?;
+    let issuers = issuers_of(alloc, links.as_slice())?;
+    ask_statements(alloc, &mut asked, issuers.as_slice(), statements)?;
     Ok(asked)
 }

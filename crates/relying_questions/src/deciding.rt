@@ -1,6 +1,6 @@
-//! The questions decide the verdict.
+//! The questions decide the verdict, and what a search finds.
 
-ghost use Rattle.relying_questions.specs.Agreement.{PrintsDecide, QuestionsDecide};
+ghost use Rattle.relying_questions.specs.Agreement.{FindingPrintsDecide, FindingQuestionsDecide, PrintsDecide, QuestionsDecide};
 
 /// Verifiers that answer each question about a path and statements alike give the same verdict, whatever else they accept. So whoever
 /// answers the questions that `questions` lists, and hands the fingerprints of those that are answered by yes to a `ListVerifier`, gets the
@@ -8,4 +8,10 @@ ghost use Rattle.relying_questions.specs.Agreement.{PrintsDecide, QuestionsDecid
 pub fn question_laws()
     ensures decide { QuestionsDecide }
     ensures prints { PrintsDecide }
+{}
+
+/// The same of what a search finds by statements, and of the questions that `finding_questions` lists.
+pub fn finding_question_laws()
+    ensures decide { FindingQuestionsDecide }
+    ensures prints { FindingPrintsDecide }
 {}

@@ -12,7 +12,8 @@ use cert::BitString;
 /// A text that holds a part of a question.
 #[derive(Clone, Copy, Debug, PartialEq, Eq)]
 pub enum WhichText {
-    /// A certificate, by its number: 0 is the anchor, and the path begins with 1.
+    /// A certificate, by its number. Of a query (`questions`) 0 is the anchor, and the path begins with 1. Of a search
+    /// (`finding_questions`) the anchors come first, by their places, then the target, then the certificates of the bag, by theirs.
     Certificate(usize),
     /// A statement, by its index, from 0 on.
     Statement(usize),

@@ -39,7 +39,8 @@
 //!        let statements = [Statement::read(alloc, list_octets)?];
 //!        let verdict = at_hand::verdict(alloc, &verifier, &query, &statements)?;
 //!
-//!    `at_hand::questions` tells beforehand what the verifier may be asked.
+//!    `at_hand::questions` tells beforehand what the verifier may be asked. `at_hand::find` is the search without a store, and
+//!    `at_hand::finding_questions` its questions.
 //!
 //! 6. **Compare two parties** ([`compare`]). If both judge signatures alike and hold the same newest statements for the path, their
 //!    verdicts are equal, however the statements came: [`node_laws`] says so of what the calls above answered, and [`call_laws`] of each
@@ -149,7 +150,10 @@ pub mod revocation {
 
 /// Verdicts by statements at hand, without a store, and what a verifier may be asked for them.
 pub mod at_hand {
-    pub use relying_questions::{SignatureQuestion, TextPart, WhichText, question_laws, questions};
+    pub use relying_questions::{
+        SignatureQuestion, TextPart, WhichText, finding_question_laws, finding_questions,
+        question_laws, questions,
+    };
     pub use relying_texts::{StatementsFault, delivery_laws, find, read_statements, verdict};
 }
 

@@ -12,7 +12,7 @@ use std::{env, io};
 const VERSION: &str = "0.10.0";
 
 // The kit that proved and built it.
-const KIT: &str = "rattle-kit-13b logic dac8208d650f15bf";
+const KIT: &str = "rattle-kit-13f logic dac8208d650f15bf";
 
 const DONE: u8 = 0;
 

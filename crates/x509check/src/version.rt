@@ -1,2 +1,2 @@
 /// The SHA-256 of the sources that the program is made from, as `.ci/sources` prints it.
-pub(crate) const SOURCES: &str = "0469639b1da4bb3cb48a93f4ae16077bac2297c6b060ac6fd027dd54ddb06afd";
+pub(crate) const SOURCES: &str = "dd0e819231155b12dca1b08df65435fca1af1b95ed7775834f98067efe860b80";

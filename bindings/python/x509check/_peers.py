@@ -1,0 +1,132 @@
+"""From what a peer sends to a verdict: paths found among certificates in any order (RFC 4158), and names matched (RFC 9525)."""
+
+import dataclasses
+import os
+import ssl
+from typing import Iterable, List, Optional, Tuple
+
+from ._arguments import Moment, Value, der_of, listed, purpose_of, seconds_of
+from ._certificates import Certificate, origin_of
+from ._faults import Fault, Text
+from ._files import load
+from ._library import FINDING_WORDS
+from ._pem import Kind, Loaded
+from ._query import Ignored, Limits, Search
+from ._questions import SignatureQuestion, ask
+from ._reference import Reference, speaks_for
+from ._verdicts import Judge, Result, Verdict, check_flag, different, given_prints, good_prints, identity_of, judged_by, result_of
+
+# Where systems keep the certificates of their anchors in one file, beside where Python's OpenSSL looks for them: Debian, Alpine and Arch;
+# Fedora and Red Hat; openSUSE; FreeBSD and macOS.
+_BUNDLES = (
+    "/etc/ssl/certs/ca-certificates.crt", "/etc/pki/ca-trust/extracted/pem/tls-ca-bundle.pem", "/etc/pki/tls/certs/ca-bundle.crt",
+    "/var/lib/ca-certificates/ca-bundle.pem", "/etc/ssl/ca-bundle.pem", "/etc/ssl/cert.pem",
+)
+
+
+class NoAnchors(OSError):
+    """The system has no file of anchors at the places where it is looked for."""
+
+
+def system_anchors() -> List[Loaded]:
+    """The anchors of this system: the certificates in the file that SSL_CERT_FILE names; else in the first that is there, of the one where
+    Python's OpenSSL looks and of those where systems keep it. What such a file says beside the certificates, as for which purposes an
+    anchor is trusted, is not read.
+
+    Raises NoAnchors if there is none, NotLoaded if the file holds anything that cannot be read, and OSError.
+    """
+    named = os.environ.get("SSL_CERT_FILE")
+    if named:
+        return load(named, Kind.CERTIFICATE)
+    places = [place for place in (ssl.get_default_verify_paths().openssl_cafile, *_BUNDLES) if os.path.exists(place)]
+    if not places:
+        raise NoAnchors("no file of anchors was found; SSL_CERT_FILE may name one")
+    return load(places[0], Kind.CERTIFICATE)
+
+
+def _sent(certificates: Iterable[Value]) -> List[Value]:
+    """What a peer sent: the certificate in question, and others."""
+    sent = listed("certificates", certificates)
+    if not sent:
+        raise ValueError("certificates: the certificate in question is wanted, and there is none")
+    return sent
+
+
+def _readable(certificates: List[Value]) -> Tuple[List[Value], Tuple[Ignored, ...]]:
+    """The certificates that can be read, the first in any case; and which the others are, and why."""
+    kept, ignored = certificates[:1], []
+    for at, one in enumerate(certificates[1:], 1):
+        try:
+            Certificate.from_der(one)
+        except Fault as fault:
+            origin = origin_of(one)
+            told = Fault(fault.number, fault.offset, fault.der, Text.CERTIFICATES, at, origin)
+            ignored.append((at if origin is None else origin, told))
+        else:
+            kept.append(one)
+    return kept, tuple(ignored)
+
+
+def peer_questions(certificates: Iterable[Value], anchors: Iterable[Value], statements: Iterable[Value]) -> List[SignatureQuestion]:
+    """What a judge of signatures may be asked by `validate_peer`, at whatever moment and for whatever purpose: about each certificate that
+    leads to the first by names, under each that has the name of its issuer, and then about each statement under each of these. One question
+    may be there twice.
+
+    Raises a Fault if a certificate or a statement cannot be read, and ValueError for no certificates.
+    """
+    sent = _sent(certificates)
+    return ask(Search(anchors, sent[0], sent[1:], statements))
+
+
+def validate_peer(
+    certificates: Iterable[Value],
+    anchors: Iterable[Value],
+    statements: Iterable[Value],
+    at: Moment,
+    purpose: Optional[str] = None,
+    verify: Optional[Judge] = None,
+    *,
+    name: Optional[Reference] = None,
+    fingerprints: Optional[Iterable[Value]] = None,
+    ignore_unreadable: bool = False,
+    ignore_unreadable_certificates: bool = False,
+    limits: Optional[Limits] = None,
+) -> Result:
+    """The verdict on what a peer sent: `certificates` has the one in question first, as TLS sends it, and then others in any order, which
+    may stand between it and an anchor or may not. A path is found if there is one: the first whose verdict is VALID by the statements; if
+    there is none, the first that meets the conditions of RFC 5280, 6.1, with its verdict; shorter paths come first. `Result.path` has it.
+    If no path meets the conditions the verdict is NOT_FOUND.
+
+    With a name, the certificate has to speak for it too: a host (``mx.example.org``), an IP address, or a mailbox (``user@example.org``), as
+    `Certificate.speaks_for` says. If it does not, a VALID verdict becomes OTHER_NAME; no other verdict changes. A server's name is
+    mostly asked for with the purpose ``serverAuth``.
+
+    Statements, moment, purpose, `verify`, `fingerprints` and `ignore_unreadable` are as for `validate`. With `ignore_unreadable_certificates`
+    certificates behind the first that cannot be read are left out, and `Result.ignored` names them: a path may then not be found. GAVE_UP is
+    the verdict if a limit is used up.
+
+    Raises a Fault if a certificate or a statement cannot be read, BadReference for a name that is none, ValueError for no certificates, a
+    moment, a purpose, limits or a fingerprint that is none, and TypeError for arguments and answers of a judge that are of another kind.
+    """
+    given = given_prints(verify, fingerprints)
+    check_flag("ignore_unreadable", ignore_unreadable)
+    check_flag("ignore_unreadable_certificates", ignore_unreadable_certificates)
+    if limits is not None and not isinstance(limits, Limits):
+        raise TypeError(f"limits: Limits are wanted, not {type(limits).__name__}")
+    moment, asked_for = seconds_of(at), purpose_of(purpose)
+    sent = _sent(certificates)
+    ignored: Tuple[Ignored, ...] = ()
+    if ignore_unreadable_certificates:
+        sent, ignored = _readable(sent)
+    search = Search(anchors, sent[0], sent[1:], statements, moment, asked_for, limits)
+    speaks = None if name is None else speaks_for(der_of(sent[0], "certificates[0]"), name, origin_of(sent[0]))
+    if ignore_unreadable:
+        ignored += search.leave_out_unreadable()
+    judged = judged_by(different(ask(search)), verify) if given is None else ()
+    answer, path = search.finding(good_prints(judged) if given is None else given)
+    result = result_of(answer, FINDING_WORDS, path)
+    if result.verdict is Verdict.VALID and speaks is False:
+        result = dataclasses.replace(result, verdict=Verdict.OTHER_NAME)
+    return dataclasses.replace(
+        result, target=identity_of(search.target), judgements=judged, ignored=ignored, path=tuple(map(identity_of, path)),
+        name=None if name is None else str(name))
