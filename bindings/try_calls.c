@@ -228,7 +228,8 @@ static void try_extensions(void)
 /* The leaf under two anchors, beside others in any order: the anchors have the numbers 0 and 1, the leaf 2, the others 3 to 5. */
 static void try_searches(void)
 {
-    const struct x509check_text anchors[] = {constraints, root}, bag[] = {delegate, root, middle}, statements[] = {root_list, middle_list};
+    const struct x509check_text anchors[] = {constraints, root}, bag[] = {delegate, root, middle}, plain[] = {delegate, leaf, middle};
+    const struct x509check_text statements[] = {root_list, middle_list};
     struct x509check_search search = {
         .anchors = anchors, .anchor_count = 2, .target = leaf, .bag = bag, .bag_count = 3, .moment = MOMENT,
         .limits = {X509CHECK_SIGNATURES, X509CHECK_STEPS, X509CHECK_VERDICTS}};
@@ -246,6 +247,7 @@ static void try_searches(void)
     EXPECT(is_verdict(found.verdict, X509CHECK_UNKNOWN, 2, 0) && found.path_count == 3);
     found = x509check_find(&search, statements, 2, NULL, 0, NULL, 0);
     EXPECT(is_verdict(found.verdict, X509CHECK_NOT_FOUND, 0, 0) && found.path_count == 0);
+    search.bag = plain;
     asked = x509check_find_questions(&search, statements, 2, questions, 5);
     EXPECT(asked.refusal.fault == 0 && asked.count == 4);
     for (size_t i = 0; i < 4; i++)
