@@ -1,4 +1,5 @@
-"""Bags of certificates: what servers send, and what was made to be hard. Each is anchors, a target and others, with ECDSA signatures.
+"""Bags of certificates: what servers send, and what was made to be hard. Each is anchors, a target and others, and an empty revocation list
+of each authority, with ECDSA signatures.
 
 It wants the package `cryptography`."""
 
@@ -35,8 +36,15 @@ class Maker:
         return made.sign(signer, hashes.SHA256()).public_bytes(Encoding.DER)
 
 
+def empty_list(name, own):
+    """A revocation list of an authority that revokes nothing."""
+    made = x509.CertificateRevocationListBuilder().issuer_name(x509.Name([x509.NameAttribute(x509.NameOID.COMMON_NAME, name)]))
+    made = made.last_update(BEGIN).next_update(END).add_extension(x509.CRLNumber(1), critical=False)
+    return made.sign(own, hashes.SHA256()).public_bytes(Encoding.DER)
+
+
 def all_bags():
-    """By name: anchors, the target, the others, and whether there is a valid path."""
+    """By name: anchors, the target, the others, whether there is a valid path, and the lists."""
     maker, keys = Maker(), [key() for _ in range(64)]
     make, (root, issuer, leaf, stranger) = maker.make, [key() for _ in range(4)]
     anchor = make("Root", root, "Root", root)
@@ -69,8 +77,14 @@ def all_bags():
         "ladder": ([anchor], of_ladder, ladder, False),
         "ladder/anchored": ([anchor], of_ladder, [*ladder, make("S24", keys[24], "Root", root)], True),
     }
-    chance = random.Random(1)
-    return {name: (tops, leaf, chance.sample(others, len(others)), is_valid) for name, (tops, leaf, others, is_valid) in bags.items()}
+    plain = [empty_list("Root", root), empty_list("Issuer", issuer)]
+    numbered = {"mesh": ("A", 10), "loop": ("L", 5), "ladder": ("S", 25)}
+    chance, all_of_them = random.Random(1), {}
+    for name, (tops, leaf_of_it, others, is_valid) in bags.items():
+        letter, count = numbered.get(name.partition("/")[0], ("", 0))
+        lists = plain + [empty_list(f"{letter}{i}", keys[i]) for i in range(count)]
+        all_of_them[name] = (tops, leaf_of_it, chance.sample(others, len(others)), is_valid, lists)
+    return all_of_them
 
 
 def write(folder, name, tops, target, others):
