@@ -51,6 +51,10 @@ extern "C" {
 /* The same of a search for a path: no path is valid, or the limits are used up. */
 #define X509CHECK_NOT_FOUND 6
 #define X509CHECK_GAVE_UP 7
+/* Why no path is found, beside X509CHECK_REFUSED and X509CHECK_GAVE_UP: the certificate in question is at fault itself, or paths end
+ * below the anchors. No call answers 0. */
+#define X509CHECK_TARGET_AT_FAULT 8
+#define X509CHECK_PATHS_END 9
 
 /* Limits of a search that suffice for what servers send: how often a judge may be asked, how many ends of paths may be looked at, and how
  * many valid paths may be asked about. */
@@ -197,6 +201,22 @@ struct x509check_finding {
     size_t path_count;                /* how many certificates the path has, the anchor and the target with it; 0 if none is found */
 };
 
+/* A certificate that has the name of an issuer, but cannot stand above the certificate that it would have issued. */
+struct x509check_obstacle {
+    size_t certificate; /* which one of the search (X509CHECK_CERTIFICATES) */
+    uint32_t reason;    /* the rank of the first condition that it does not meet there (docs/REFERENCE.md) */
+};
+
+/* Why no path is found, or which certificate is refused. What has no number there is 0. */
+struct x509check_diagnosis {
+    uint32_t why;          /* X509CHECK_TARGET_AT_FAULT, X509CHECK_PATHS_END, X509CHECK_GAVE_UP or X509CHECK_REFUSED, and never 0 */
+    uint32_t reason;       /* X509CHECK_TARGET_AT_FAULT: the rank of the first condition that it does not meet (docs/REFERENCE.md) */
+    size_t above_count;    /* X509CHECK_PATHS_END: how many certificates the longest end of a path has above the target, 127 at most; */
+    size_t anchor_count;   /* how many anchors have the name of the issuer of its top, and another key than the one that signed it; */
+    size_t obstacle_count; /* and how many of the other certificates have that name */
+    struct x509check_refusal refusal; /* X509CHECK_REFUSED: of a certificate */
+};
+
 /* Octets of a certificate or of a statement. */
 struct x509check_place {
     uint32_t text; /* X509CHECK_CERTIFICATES or X509CHECK_STATEMENTS */
@@ -298,6 +318,14 @@ X509CHECK_STANDS_AT(x509check_verdict, refusal, 16);
 X509CHECK_HAS_SIZE(x509check_verdict, 48);
 X509CHECK_STANDS_AT(x509check_finding, path_count, 48);
 X509CHECK_HAS_SIZE(x509check_finding, 56);
+X509CHECK_STANDS_AT(x509check_obstacle, reason, 8);
+X509CHECK_HAS_SIZE(x509check_obstacle, 16);
+X509CHECK_STANDS_AT(x509check_diagnosis, reason, 4);
+X509CHECK_STANDS_AT(x509check_diagnosis, above_count, 8);
+X509CHECK_STANDS_AT(x509check_diagnosis, anchor_count, 16);
+X509CHECK_STANDS_AT(x509check_diagnosis, obstacle_count, 24);
+X509CHECK_STANDS_AT(x509check_diagnosis, refusal, 32);
+X509CHECK_HAS_SIZE(x509check_diagnosis, 64);
 X509CHECK_STANDS_AT(x509check_place, index, 8);
 X509CHECK_STANDS_AT(x509check_place, offset, 16);
 X509CHECK_STANDS_AT(x509check_place, length, 24);
@@ -403,6 +431,33 @@ struct x509check_asked x509check_find_questions(const struct x509check_search *s
 struct x509check_finding x509check_find(const struct x509check_search *search, const struct x509check_text *statements,
                                         size_t statement_count, const uint8_t *fingerprints, size_t fingerprint_count, size_t *path,
                                         size_t room);
+
+/* Why x509check_find finds no path, for the same search and fingerprints: whether a path meets RFC 5280, 6.1, does not depend on statements.
+ *
+ * X509CHECK_TARGET_AT_FAULT: the target cannot stand at the end of any path. `reason` is the least rank of the conditions on it alone (of
+ * its time, policies, critical extensions and purpose) that it does not meet. Nothing is written.
+ *
+ * X509CHECK_PATHS_END: the target is right by itself, and paths to it end below the anchors. Of the ends whose certificates all meet the
+ * conditions the longest is told, and of these the one whose certificates come earlier in the bag, from the target upward. Up to so many
+ * indices among the certificates of the search (X509CHECK_CERTIFICATES) are written as there is room for:
+ *   to `above` the certificates of that end above the target, from the target upward: none if nobody at hand may be the target's issuer;
+ *   to `anchors` the anchors that have the name of the issuer of its top, but whose keys did not sign it; nothing else can be wrong with them;
+ *   to `obstacles` the certificates of the bag with that name, each with the least rank of the conditions that it does not meet there.
+ * The counts tell how many there are. If there is neither an anchor nor an obstacle, the certificate of that issuer is missing.
+ * x509check_reason_name names the ranks, by X509CHECK_INVALID. Of 1, 2, 6, 7, 8 and 10 x509check_validate says that the certificate below is
+ * at fault; here it is said of the obstacle above. If a path is valid after all, the answer is still true of that end, whose top an anchor
+ * may then have issued.
+ *
+ * X509CHECK_GAVE_UP: `signatures` or `steps` of the limits are used up; `verdicts` does not count here. Nothing is written.
+ *
+ * X509CHECK_REFUSED: a certificate cannot be read. Nothing is written.
+ *
+ * X509CHECK_PATH_ROOM suffices for `above`, and for the others as many as the search has anchors and others. Each array may be null if its
+ * room is 0. No two arrays may overlap, and no text with one of them. It asks no more than x509check_find, and looks at each end of a path
+ * once more. Memory is taken as by x509check_find. */
+struct x509check_diagnosis x509check_why_not(const struct x509check_search *search, const uint8_t *fingerprints, size_t fingerprint_count,
+                                             size_t *above, size_t above_room, size_t *anchors, size_t anchor_room,
+                                             struct x509check_obstacle *obstacles, size_t obstacle_room);
 
 #ifdef __cplusplus
 }

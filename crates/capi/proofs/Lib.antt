@@ -1,10 +1,3 @@
-mod Contents
 mod Usage
 mod Standing
-mod Asking
 mod Naming
-mod Fitting
-mod Judging
-mod Readings
-mod Gathering
-mod Among

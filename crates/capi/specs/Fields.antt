@@ -1,7 +1,6 @@
 -- The fields of a certificate (RFC 5280, 4.1) as numbers and parts of its text.
 use Rattle.std.specs.Prelude.{◌≡◌, ◌⊎◌, ◌+◌, ◌^◌, ℕ, pos, zero, suc, Bool, false, List, length, Option, Some, None, is_some, Result, Ok, Err, if◌then◌else◌}
 use Rattle.cert.specs.declared.fault.CertRule.{CertRule}
-use Rattle.cert.specs.declared.fault.CertRule.TheVariants.{Der}
 use Rattle.cert.specs.declared.fault.CertFault.{CertFault}
 use Rattle.cert.specs.declared.fault.CertFault.TheVariants.{Refused, Memory}
 use Rattle.cert.specs.Fault.{cert_rule_number}
@@ -12,13 +11,13 @@ use Rattle.cert.specs.Extensions.{Extensions}
 use Rattle.cert.specs.Certificate.{Certificate}
 use Rattle.asn.specs.Part.{IsPartOf}
 use Rattle.asn.specs.Place.{body, body_place}
-use Rattle.der.specs.Fault.{rule_number}
 use Rattle.capi.specs.declared.answer.CertificateAnswer.{CertificateAnswer}
-use Rattle.capi.specs.declared.fields.Part.{Part}
+use Rattle.capi_values.specs.declared.part.Part.{Part}
 use Rattle.capi.specs.declared.fields.Fields as code
 use Rattle.capi.specs.declared.fields.ExtensionFields as extension
 use Rattle.relying_questions.specs.Places.{IsPlaceIn, bits_at}
-use Rattle.capi.specs.Parts.{IsPart}
+use Rattle.capi_values.specs.Parts.{IsPart}
+use Rattle.capi_values.specs.Refusal.{der_number}
 
 -- basicConstraints (4.2.1.9): cA
 abbrev pub is_ca : Option BasicConstraints → Bool
@@ -94,11 +93,6 @@ pub record ComponentsStandIn (text : List ℕ) (certificate : Certificate) : Typ
 abbrev pub TellsComponents : code.Fields → Certificate → Type 0
 TellsComponents told certificate =
     (text : List ℕ) → ComponentsStandIn text certificate → TellsFields text told certificate
-
--- where the fault is one of DER, the number of the rule of DER that is broken
-abbrev pub der_number : CertRule → ℕ
-der_number (Der rule) = rule_number rule
-der_number rule = 0
 
 -- what stands in an answer that tells of a fault
 abbrev pub no_part : Part

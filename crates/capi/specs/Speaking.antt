@@ -10,7 +10,7 @@ use Rattle.names_identity.specs.Reading.{IsAddressFault, IsAddressOf, IsHostOf, 
 use Rattle.cert.specs.declared.fault.CertRule.{CertRule}
 use Rattle.cert.specs.Certificate.{Certificate, certificate}
 use Rattle.cert.specs.Fault.{cert_rule_number}
-use Rattle.capi.specs.Fields.{der_number}
+use Rattle.capi_values.specs.Refusal.{der_number}
 use Rattle.capi.specs.declared.identity_call.SpeakingAnswer.{SpeakingAnswer}
 
 -- the text of a kind is this identity: 1 a host, 2 an address, 3 a mailbox

@@ -6,7 +6,7 @@ ghost use Rattle.cert.specs.Fault.{FailsUnlessFull};
 ghost use Rattle.names_identity.specs.Identity.{reference_identity};
 ghost use Rattle.capi.specs.Speaking.{IsIdentity, TellsBadIdentity, TellsNoCertificate, TellsSpeaking, identity_rule_number};
 
-use crate::reading::der_fault;
+use capi_values::der_fault;
 use cert::{CertFault, Certificate};
 use names_identity::{Identity, IdentityFault, IdentityRule, speaks_for};
 use std::alloc::Global;

@@ -1,13 +1,17 @@
 //! How the structs lie in memory: as `x509check.h` says.
 
 use super::*;
+use capi_values::{
+    Asked, FindingAnswer, Limits, NumberedObstacle, Part, Place, QueryOfTexts, Refusal,
+    SearchOfTexts, SignatureQuestion, Text, VerdictAnswer, WhyNotAnswer,
+};
 use std::alloc::AllocError;
 use std::fmt::Debug;
 use std::test::Fail;
 
 #[test]
 fn structs_have_their_sizes(rt: HostRuntime) {
-    const SIZES: [usize; 16] = [
+    const SIZES: [usize; 18] = [
         size_of::<Text<'static>>(),
         size_of::<QueryOfTexts<'static>>(),
         size_of::<Limits>(),
@@ -24,11 +28,13 @@ fn structs_have_their_sizes(rt: HostRuntime) {
         size_of::<SignatureQuestion>(),
         size_of::<Asked>(),
         size_of::<SpeakingAnswer>(),
+        size_of::<NumberedObstacle>(),
+        size_of::<WhyNotAnswer>(),
     ];
     assert!(rt;
         SIZES
             == [
-                16, 56, 24, 96, 16, 16, 56, 208, 224, 32, 48, 56, 32, 160, 40, 24
+                16, 56, 24, 96, 16, 16, 56, 208, 224, 32, 48, 56, 32, 160, 40, 24, 16, 64
             ]
     );
 }
@@ -68,6 +74,12 @@ const FINDING: &str =
 const ASKED: &str = "Asked { \
     refusal: Refusal { text: 0, fault: 0, der_fault: 0, index: 0, offset: 0 }, count: 0 }";
 
+const OBSTACLE: &str = "NumberedObstacle { certificate: 0, reason: 0 }";
+
+const WHY_NOT: &str =
+    "WhyNotAnswer { why: 0, reason: 0, above_count: 0, anchor_count: 0, obstacle_count: 0, \
+    refusal: Refusal { text: 0, fault: 0, der_fault: 0, index: 0, offset: 0 } }";
+
 const SPEAKING: &str = "SpeakingAnswer { speaks: 0, fault: 0, der_fault: 0, offset: 0 }";
 
 const QUESTION: &str = "SignatureQuestion { \
@@ -94,6 +106,8 @@ fn structs_have_their_fields_in_order(rt: HostRuntime) -> Result<(), Fail> {
     assert!(rt; prints(&rt, &CertificateAnswer::default(), CERTIFICATE)?);
     assert!(rt; prints(&rt, &VerdictAnswer::default(), VERDICT)?);
     assert!(rt; prints(&rt, &Asked::default(), ASKED)?);
+    assert!(rt; prints(&rt, &NumberedObstacle::default(), OBSTACLE)?);
+    assert!(rt; prints(&rt, &WhyNotAnswer::default(), WHY_NOT)?);
     assert!(rt; prints(&rt, &SpeakingAnswer::default(), SPEAKING)?);
     assert!(rt; prints(&rt, &SignatureQuestion::default(), QUESTION)?);
     Ok(())

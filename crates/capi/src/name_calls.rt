@@ -3,7 +3,7 @@
 ghost use Rattle.std.specs.Prelude.{◌≡◌, length};
 ghost use Rattle.capi.specs.Names.{NamesAreOfFaults, NamesAreOfRanks, certificate_fault, der_or_name_fault, numbered_fault_name, rank_name, revocation_name, statement_fault, verdict_reason, written_over};
 
-use crate::validating::{INVALID, REVOKED};
+use capi_values::{INVALID, REVOKED};
 
 fn der_or_name_fault(number: u32) -> &'static str
     ensures { result.now ≡ der_or_name_fault number }

@@ -1,23 +1,13 @@
 //! `x509check_read_certificate`.
 
-ghost use Rattle.std.specs.Prelude.{◌≡◌};
 ghost use Rattle.cert.specs.Certificate.{certificate};
-ghost use Rattle.capi.specs.Fields.{TellsReading, der_number, IsRefusalOf};
+ghost use Rattle.capi.specs.Fields.{TellsReading, IsRefusalOf};
 
 use crate::answer::CertificateAnswer;
 use crate::fields::Fields;
-use cert::{CertFault, CertRule, Certificate};
+use capi_values::der_fault;
+use cert::{CertFault, Certificate};
 use std::alloc::Global;
-
-/// The number of the rule of DER that is broken, or 0.
-pub(crate) fn der_fault(rule: CertRule) -> u32
-    ensures { result ≡ der_number rule }
-{
-    match rule {
-        CertRule::Der(rule) => u32::from(rule.number()),
-        _ => 0,
-    }
-}
 
 /// What is answered if the octets are refused.
 fn refusal(fault: CertFault) -> CertificateAnswer

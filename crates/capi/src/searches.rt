@@ -6,15 +6,18 @@ use crate::tests::{
     DECEMBER, certificates, counted, good, has_print, lists, place, refusal, revoking, text,
     verdict,
 };
+use capi_values::{
+    FindingAnswer, Limits, Refusal, SearchOfTexts, SignatureQuestion, Text, VerdictAnswer,
+};
 use std::alloc::Global;
 
-const LIMITS: Limits = Limits {
+pub(crate) const LIMITS: Limits = Limits {
     signatures: 1000,
     steps: 10000,
     verdicts: 32,
 };
 
-fn search<'a>(
+pub(crate) fn search<'a>(
     anchors: &'a [Text<'a>],
     target: Text<'a>,
     bag: &'a [Text<'a>],

@@ -1,6 +1,9 @@
 use super::*;
 use crate::authority::{GOOD, LISTS, PATH, REVOKING};
 use crate::extended::{CONSTRAINTS, DELEGATE};
+use capi_values::{
+    Asked, Part, Place, QueryOfTexts, Refusal, SignatureQuestion, Text, VerdictAnswer,
+};
 use std::alloc::Global;
 
 /// A certificate that OpenSSL made.

@@ -1,18 +1,26 @@
 -- What commands delivered and were answered, by what the stores at their paths did.
-use Rattle.std.proofs.Common.{ℕ, inl, inr, List, Result, Ok, Err, IfErr, IfOk}
+use Rattle.std.proofs.Common.{◌≡◌, ℕ, inl, inr, sym, subst, List, Result, Ok, Err, IfErr, IfOk}
 use Rattle.path.specs.Query.{Accepts, Query}
+use Rattle.path_issuers.specs.Search.{Search}
 use Rattle.relying_agreement.specs.declared.verdict.Comparison.{Comparison}
 use Rattle.relying_agreement.specs.declared.verdict.Verdict.{Verdict}
+use Rattle.relying_search.specs.declared.finding.Finding.{Finding}
+use Rattle.relying_search.specs.declared.finding.FindingBudget.{FindingBudget}
 use Rattle.statements_facts.specs.Fact.{Fact}
 use Rattle.statements_facts.specs.declared.counts.Counts.{Counts}
 use Rattle.cli_failures.specs.declared.failure.Failure.{Failure}
+use Rattle.cli_failures.specs.declared.failure.Failure.TheVariants.{NoMemory}
 use Rattle.cli_words.specs.QueryTexts.{QueryTexts}
+use Rattle.cli_words.specs.SearchTexts.{SearchTexts}
 use Rattle.cli_steps.specs.Commands.{AsksBelieving, DeliversBelieving}
+use Rattle.cli_steps.specs.Found.{FindingBy, FindsBelieving, usual_budget}
 use Rattle.cli_steps.specs.Passing.{AnsweringBy, TakingBy}
+use Rattle.cli_steps.specs.declared.found.FoundPath.{FoundPath}
 use Rattle.cli_store.specs.Standing.{Places}
-use Rattle.cli.specs.Checked.{ChecksAt, ComparesAt, IsChecked, IsCompared, IsFailureOfCheck, IsFailureOfComparison}
+use Rattle.cli.specs.Checked.{ChecksAt, ComparesAt, IsChecked, IsCompared, IsFailureOfCheck, IsFailureOfComparison, IsNotChecked}
 use Rattle.cli.specs.Delivered.{IsDelivered, IsFailureOfDelivery, TakesAt}
 use Rattle.cli.specs.Host.{HostState}
+use Rattle.cli.specs.Searched.{FindsAt, IsFailureOfFinding, IsSearched}
 use Rattle.cli.specs.declared.at_path.AtPath.{AtPath}
 use Rattle.cli.specs.declared.at_path.AtPaths.{AtPaths}
 use Rattle.cli.specs.declared.at_path.StorePair.{StorePair}
@@ -75,3 +83,29 @@ module _ {D S : Type 0} (known : S → Places) (host : HostState) (stores : Stor
   not_compared (Ok comparison) did = tt
   not_compared (Err failure) (inl (refused, same)) = inl refused
   not_compared (Err failure) (inr ((accepts, query), asked, fails)) = inr ((accepts, query, asked), so accepts query (Err failure) fails)
+
+-- ---- searches
+
+abbrev pub finding_at : {D S : Type 0} → (S → Places) → FindingBy (AtPath D S)
+finding_at known at new accepts s budget result = FindsAt (known at.source.now) at.path.now accepts s budget result
+
+module _ {D S : Type 0} (known : S → Places) (host : HostState) (store verdicts : List ℕ) (texts : SearchTexts) (old new : AtPath D S) (so : (accepts : Accepts) (s : Search) (budget : FindingBudget) (result : Result Finding Failure) → finding_at known old new accepts s budget result → FindsAt host.at store accepts s budget result) where
+  abbrev Finds : Result FoundPath Failure → Type 0
+  Finds = FindsBelieving host.holds verdicts texts (finding_at known) old new
+
+  pub searched : (result : Result FoundPath Failure) → Finds result → IfOk result (IsSearched host store verdicts texts)
+  searched (Ok answer) ((accepts, asked), (believes, is), (finding, found, answers)) =
+      record { accepts = accepts; believes = believes; asked = asked; is = is; finding = finding; found = so accepts asked.search usual_budget (Ok finding) found; answers = answers }
+  searched (Err failure) did = tt
+
+  pub not_searched : (result : Result FoundPath Failure) → Finds result → IfErr result (IsFailureOfFinding host store verdicts texts)
+  not_searched (Ok answer) did = tt
+  not_searched (Err failure) (inl (refused, same)) = inl refused
+  not_searched (Err failure) (inr ((accepts, asked), (believes, is), inl fails)) = inr (((accepts, believes), (asked, is)), so accepts asked.search usual_budget (Err failure) fails)
+  not_searched (Err failure) (inr ((accepts, asked), (believes, is), inr (finding, found, memory))) =
+      inr (((accepts, believes), (asked, is)), subst (IsNotChecked host.at store) (sym memory) (inl tt))
+
+-- it was found, and memory ran out for its lines
+pub without_memory : (host : HostState) (store verdicts : List ℕ) (texts : SearchTexts) (answer : FoundPath) (failure : Failure) → IsSearched host store verdicts texts answer → failure ≡ NoMemory → IsFailureOfFinding host store verdicts texts failure
+without_memory host store verdicts texts answer failure found memory =
+    inr (((found.accepts, found.believes), (found.asked, found.is)), subst (IsNotChecked host.at store) (sym memory) (inl tt))

@@ -1,24 +1,20 @@
 -- How a run of a line ends, from what it did.
-use Rattle.std.proofs.Common.{◌≡◌, ◌⊎◌, inl, inr, refl, sym, subst, ℕ, Bool, List, Option, Result, Ok, Err, IfErr, IfOk}
-use Rattle.std.specs.Io.KnownBytes.{Keeps}
+use Rattle.std.proofs.Common.{◌≡◌, ◌⊎◌, inl, inr, refl, sym, subst, ℕ, List, Option, Result, Ok, Err, IfErr, IfOk}
+use Rattle.std.specs.Global.{Vec}
+use Rattle.std.specs.Io.KnownBytes.{Appends, Keeps}
 use Rattle.std.proofs.KnownBytes.{Appends-kept}
 use Rattle.clap.specs.Words.{Text}
 use Rattle.cli_words.specs.CommandLine.{ReadsLine}
-use Rattle.cert.specs.SubjectPublicKeyInfo.{SubjectPublicKeyInfo}
-use Rattle.cli_words.specs.declared.line.Kind.{Kind}
-use Rattle.cli_words.specs.declared.line.Kind.TheVariants.{Certificate, RevocationList, Response}
 use Rattle.cli_words.specs.declared.line.Line.{Line}
-use Rattle.cli_words.specs.declared.line.Line.TheVariants.{Tree, Show, Prints, Deliver, Check, Compare, List as Listing, Explain, Session}
-use Rattle.cli_failures.specs.Failures.{Holding}
+use Rattle.cli_words.specs.declared.line.Line.TheVariants.{Tree, Show, Prints, SearchPrints, Deliver, Check, Compare, Find, List as Listing, Explain, Session}
 use Rattle.cli_lines.proofs.Laws.{whole}
 use Rattle.cli_failures.specs.Report.{UnlessLate, report_line, exit_status}
 use Rattle.cli_failures.specs.declared.failure.Failure.{Failure}
 use Rattle.cli_failures.specs.declared.failure.Failure.TheVariants.{Unwritable}
 use Rattle.cli.specs.Host.{HostState}
-use Rattle.cli_showing.specs.Shown.{ArePrintLines, HoldsKind, IsShownText}
 use Rattle.cli.specs.Outcome.{HasAnswered, IsDone, IsLineFailure}
 use Rattle.cli.specs.Ended.{EndedAs, HasEndedSo, RunHasEnded, IsAnswering, IsFailing}
-use Rattle.cli.specs.Streams.{Streams}
+use Rattle.cli.specs.Streams.{FailsOrCuts, FailsToWrite, Streams, WritesAll}
 use Rattle.cli.proofs.Serving.{whole_kept}
 use Rattle.cli.proofs.Statuses.{is_failing, not_both}
 
@@ -74,31 +70,35 @@ pub words_ended : (host : HostState) (words : List Text) (line : Line) (run : St
     → EndedAs (IsLineFailure host line run) unchanged ended → HasEndedSo host words run unchanged ended
 words_ended host words line run unchanged ended reads (failure, fails, is, quiet) = inl (failure, inl (line, reads, fails), is, quiet, tt)
 
+-- ---- texts that are made, and then written
+
+-- what was written is what is asked for
+pub text_written : (Is : List ℕ → Type 0) (text : Result (Vec ℕ) Failure) (old new : Option (List ℕ)) → IfOk text (λ made. Is made.items) → WritesAll text old new
+    → (written : List ℕ) × Is written × Appends old new written
+text_written Is (Ok made) old new is written = (made.items, is, written)
+text_written Is (Err failure) old new is written = absurd written
+
+pub text_unwritten : (Is : List ℕ → Type 0) (Fails : Failure → Type 0) (text : Result (Vec ℕ) Failure) (old new : Option (List ℕ)) (failure : Failure) → IfOk text (λ made. Is made.items) → IfErr text Fails
+    → FailsToWrite text old new failure → FailsOrCuts Fails Is old new failure
+text_unwritten Is Fails (Ok made) old new failure is fails (late, front) = inr (late, (made.items, is, front))
+text_unwritten Is Fails (Err why) old new failure is fails (same, keeps) = inl (subst Fails (sym same) fails, keeps)
+
 -- ---- standard output fails behind the text
-
-shown : (holds : Holding) (kind : Kind) (with_details : Bool) (file text : List ℕ) → IsShownText holds kind with_details file text → HoldsKind holds kind file
-shown holds Certificate with_details file text is = (is.0, is.1)
-shown holds RevocationList with_details file text is = (is.0, is.1)
-shown holds Response with_details file text is = (is.0, is.1)
-
-printed : (holds : Holding) (key_info : SubjectPublicKeyInfo) (kind : Kind) (with_parts : Bool) (file text : List ℕ) → ArePrintLines holds key_info kind with_parts file text → HoldsKind holds kind file
-printed holds key_info Certificate with_parts file text are = (are.0, are.1)
-printed holds key_info RevocationList with_parts file text are = (are.0, are.1)
-printed holds key_info Response with_parts file text are = (are.0, are.1)
 
 pub unflushed : (host : HostState) (line : Line) (run : Streams) (after : Option (List ℕ)) (status : ℕ) → Keeps run.written after → IsDone host line run status
     → IsLineFailure host line (record run { written = after }) Unwritable
-unflushed host (Tree file) run after status keeps (text, (zero, is), written) = inr ((is.0, is.1, is.2, is.3), refl)
-unflushed host (Show kind with_details file) run after status keeps (text, (zero, is), written) =
-    inr (shown host.holds kind with_details file.now text is, refl)
-unflushed host (Prints issuer kind with_parts file) run after status keeps (text, (zero, (signer, held, are)), written) =
-    inr (((signer, held), printed host.holds signer.key_info kind with_parts file.now text are), refl)
+unflushed host (Tree file) run after status keeps (text, (zero, is), written) = inr (refl, (text, is, whole run.output run.written after text written keeps))
+unflushed host (Show kind with_details file) run after status keeps (text, (zero, is), written) = inr (refl, (text, is, whole run.output run.written after text written keeps))
+unflushed host (Prints issuer kind with_parts file) run after status keeps (text, (zero, are), written) = inr (refl, (text, are, whole run.output run.written after text written keeps))
+unflushed host (SearchPrints issuers among with_parts file) run after status keeps (text, (zero, are), written) = inr (refl, (text, are, whole run.output run.written after text written keeps))
 unflushed host (Deliver store verdicts issuer file) run after status keeps (text, (zero, (counts, is, line)), written) =
     inr (refl, (text, (counts, is, line), whole run.output run.written after text written keeps))
 unflushed host (Check store verdicts query) run after status keeps (text, (verdict, is, ends, said), written) =
     inr (refl, (text, (verdict, is, said), whole run.output run.written after text written keeps))
 unflushed host (Compare store other verdicts query) run after status keeps (text, (comparison, is, ends, said), written) =
     inr (refl, (text, (comparison, is, said), whole run.output run.written after text written keeps))
+unflushed host (Find store verdicts search) run after status keeps (text, (answer, is, ends, said), written) =
+    inr (refl, (text, (answer, is, said), whole run.output run.written after text written keeps))
 unflushed host (Listing store moment) run after status keeps (text, (zero, is), written) = inr (refl, (text, is, whole run.output run.written after text written keeps))
 unflushed host (Explain words) run after status keeps (text, (zero, is), written) = inr (refl, (text, is, whole run.output run.written after text written keeps))
 unflushed host (Session store verdicts) run after status keeps (zero, is) = inr (whole_kept host _ run after keeps is, refl)
@@ -110,9 +110,11 @@ pub flushed : (host : HostState) (line : Line) (run : Streams) (after : Option (
 flushed host (Tree file) run after status keeps (text, is, written) = (text, is, Appends-kept run.output run.written after text written keeps)
 flushed host (Show kind with_details file) run after status keeps (text, is, written) = (text, is, Appends-kept run.output run.written after text written keeps)
 flushed host (Prints issuer kind with_parts file) run after status keeps (text, is, written) = (text, is, Appends-kept run.output run.written after text written keeps)
+flushed host (SearchPrints issuers among with_parts file) run after status keeps (text, is, written) = (text, is, Appends-kept run.output run.written after text written keeps)
 flushed host (Deliver store verdicts issuer file) run after status keeps (text, is, written) = (text, is, Appends-kept run.output run.written after text written keeps)
 flushed host (Check store verdicts query) run after status keeps (text, is, written) = (text, is, Appends-kept run.output run.written after text written keeps)
 flushed host (Compare store other verdicts query) run after status keeps (text, is, written) = (text, is, Appends-kept run.output run.written after text written keeps)
+flushed host (Find store verdicts search) run after status keeps (text, is, written) = (text, is, Appends-kept run.output run.written after text written keeps)
 flushed host (Listing store moment) run after status keeps (text, is, written) = (text, is, Appends-kept run.output run.written after text written keeps)
 flushed host (Explain words) run after status keeps (text, is, written) = (text, is, Appends-kept run.output run.written after text written keeps)
 flushed host (Session store verdicts) run after status keeps (zero, is) = (zero, whole_kept host _ run after keeps is)

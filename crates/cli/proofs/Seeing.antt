@@ -17,6 +17,10 @@ use Rattle.relying_verdicts.specs.declared.fault.Fault.{Fault}
 use Rattle.relying_verdicts.specs.declared.fault.Fault.TheVariants.{Store as OfStore}
 use Rattle.statements_facts.specs.declared.counts.Counts.{Counts}
 use Rattle.path.specs.Query.{Query, Accepts}
+use Rattle.path_issuers.specs.Search.{Search}
+use Rattle.relying_search.specs.Finding.{FindsHolding}
+use Rattle.relying_search.specs.declared.finding.Finding.{Finding}
+use Rattle.relying_search.specs.declared.finding.FindingBudget.{FindingBudget}
 use Rattle.relying.specs.Asking.{IsFormed, IsFormedOfEither, Looks, LooksAtBoth}
 use Rattle.sqlite_disk.specs.declared.Disk.{Ghosts}
 use Rattle.store.specs.declared.handle.Store.{Store}
@@ -24,6 +28,7 @@ use Rattle.cli_failures.specs.declared.failure.Failure.{Failure}
 use Rattle.cli_store.specs.Standing.{IsFound, IsFoundOrMade, LeavesIfClean, Places, seen_of, told_of}
 use Rattle.cli.specs.Delivered.{IsNotTaken, IsTakenAtPath}
 use Rattle.cli.specs.Checked.{IsCheckedBy, IsComparedBy, IsNotChecked, IsNotCompared}
+use Rattle.cli.specs.Searched.{IsFoundBy}
 use Rattle.cli.specs.declared.at_path.StorePair.{StorePair}
 use Rattle.cli.proofs.Lasting.{IsReady, all_last, same_lasts}
 use Rattle.cli.proofs.Unanswered.{no_answer_on_facts, no_comparison, no_verdict}
@@ -51,6 +56,20 @@ module _ (at : Places) (path : List ℕ) (old new : State) (left : at.leaves pat
   pub checked : (accepts : Accepts) (query : Query) (verdict : Verdict) → Looks {A = Verdict} old new (IsVerdict accepts query) (Ok verdict) → CommitsNothing old new → IsFound at.stands path (seen_of old)
       → IsCheckedBy at path accepts query verdict
   checked accepts query verdict looks survives found = record {
+    old = seen_of old;
+    found = found;
+    new = seen_of new;
+    left = left;
+    is = λ intact held is. (
+      (looks intact).1 held is,
+      λ is_open. subst (λ now. IsStoreOf now held) (sym ((looks intact).0.now_is is_open)) is,
+      same_lasts old new (at.lasts path) closes ready survives held is,
+    );
+  }
+
+  pub searched : (accepts : Accepts) (s : Search) (budget : FindingBudget) (finding : Finding) → Looks {A = Finding} old new (FindsHolding accepts s budget) (Ok finding) → CommitsNothing old new
+      → IsFound at.stands path (seen_of old) → IsFoundBy at path accepts s budget finding
+  searched accepts s budget finding looks survives found = record {
     old = seen_of old;
     found = found;
     new = seen_of new;

@@ -13,8 +13,8 @@ use Rattle.cli.specs.OnMachine.{IsCommandOf}
 use Rattle.cli.specs.Outcome.{AreMistaken, HasAnswered, HasFailed, IsHelp, IsMistake}
 use Rattle.cli.specs.declared.execution.Ended.{Ended}
 
--- what the words ask for was done: of a verdict 1 says that the path is invalid, 2 that a certificate is revoked and 3 that nothing
--- current speaks of one; 7 says that two verdicts differ
+-- what the words ask for was done: of a verdict 1 says that the path is invalid, or that none is found to the certificate under its name,
+-- 2 that a certificate is revoked, and 3 that nothing current speaks of one, or that a search gave up; 7 says that two verdicts differ
 abbrev pub IsAnswering : ℕ → Type 0
 IsAnswering status =
     (status ≡ 0) ⊎ (status ≡ 1) ⊎ (status ≡ 2) ⊎ (status ≡ 3) ⊎ (status ≡ 7)

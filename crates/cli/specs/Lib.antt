@@ -3,6 +3,7 @@ pub mod Streams
 pub mod Delivered
 pub mod Checked
 pub mod Listed
+pub mod Searched
 pub mod Session
 pub mod Outcome
 pub mod Ended
@@ -10,6 +11,7 @@ pub mod OnMachine
 pub use Rattle.cli_store.specs.Standing
 pub use Rattle.cli_store.specs.OnFiles
 pub use Rattle.cli_steps.specs.Commands
+pub use Rattle.cli_steps.specs.Found
 pub use Rattle.cli_steps.specs.Passing
 pub use Rattle.cli_answers.specs.Status
 pub use Rattle.cli_failures.specs.Report

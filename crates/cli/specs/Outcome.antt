@@ -1,5 +1,5 @@
 -- What a run has done, by the status that it answers.
-use Rattle.std.specs.Prelude.{◌≡◌, ◌≢◌, ◌⊎◌, ℕ, List, Option, IsTrue, false, map}
+use Rattle.std.specs.Prelude.{◌≡◌, ◌≢◌, ◌⊎◌, ℕ, List, [], ◌∷◌, Option, IsTrue, false, map}
 use Rattle.std.specs.Io.KnownBytes.{Appends}
 use Rattle.clap.specs.Words.{Text}
 use Rattle.clap.specs.declared.error.kind.ErrorKind.{ErrorKind}
@@ -10,20 +10,26 @@ use Rattle.cli_answers.specs.AnswerText.{comparison_line, counts_line, verdict_l
 use Rattle.statements_facts.specs.declared.counts.Counts.{Counts}
 use Rattle.cli_words.specs.CommandLine.{AreRefusedWith, ReadsLine}
 use Rattle.cli_words.specs.QueryTexts.{seen_words}
+use Rattle.cli_words.specs.SearchTexts.{seen_search_words}
 use Rattle.cli_words.specs.declared.line.Line.{Line}
-use Rattle.cli_words.specs.declared.line.Line.TheVariants.{Tree, Show, Prints, Deliver, Check, Compare, List as Listing, Explain, Session}
+use Rattle.cli_words.specs.declared.line.Line.TheVariants.{Tree, Show, Prints, SearchPrints, Deliver, Check, Compare, Find, List as Listing, Explain, Session}
 use Rattle.cli_explaining.specs.Topics.{explanation, is_known}
-use Rattle.cli_failures.specs.Failures.{IsNoValue, OrUnwritable}
+use Rattle.cli_failures.specs.Failures.{IsNoValue}
 use Rattle.cli_failures.specs.declared.failure.Failure.{Failure}
 use Rattle.cli_failures.specs.declared.failure.Failure.TheVariants.{BadTopic, NoMemory, Unwritable}
 use Rattle.cli.specs.Checked.{FailsToCheck, FailsToCompare, IsChecked, IsCompared}
 use Rattle.cli.specs.Delivered.{FailsToDeliver, IsDelivered}
 use Rattle.cli.specs.Host.{HostState}
 use Rattle.cli.specs.Listed.{FailsToList, IsListed, given}
+use Rattle.cli.specs.Searched.{FailsToFind, IsSearched}
 use Rattle.cli.specs.Session.{FailsInSession, IsWholeSession}
 use Rattle.cli.specs.Streams.{FailsOrCuts, Streams}
+use Rattle.cli_answers.specs.SearchText.{search_status}
 use Rattle.cli_answers.specs.Status.{comparison_status, verdict_status}
-use Rattle.cli_showing.specs.Shown.{ArePrintsUnder, FailsToPrint, HoldsKind, HoldsValue, IsNotShown, IsShownText, IsTreeText}
+use Rattle.cli_showing.specs.Shown.{ArePrintsUnder, IsFailureOfPrints, IsNotShown, IsShownText, IsTreeText}
+use Rattle.cli_steps.specs.Found.{found_text}
+use Rattle.cli_steps.specs.SearchPrints.{AreSearchPrints, IsFailureOfSearchPrints}
+use Rattle.cli_steps.specs.declared.found.FoundPath.{FoundPath}
 
 -- ---- answers
 
@@ -41,6 +47,11 @@ abbrev pub IsComparisonText : (Comparison → Type 0) → ℕ → List ℕ → T
 IsComparisonText Is status text =
     (comparison : Comparison) × Is comparison × (status ≡ comparison_status comparison)
     × (text ≡ comparison_line comparison)
+
+-- the lines of what is found, and the status that says it
+abbrev pub IsFoundText : (FoundPath → Type 0) → ℕ → List ℕ → Type 0
+IsFoundText Is status text =
+    (answer : FoundPath) × Is answer × (status ≡ search_status answer.verdict) × (text ≡ found_text answer)
 
 -- what the program's table of entries says of the topic, which it knows
 abbrev pub IsExplanation : List (List ℕ) → List ℕ → Type 0
@@ -64,6 +75,8 @@ IsAnswer host (Show kind with_details file) status text =
     (status ≡ 0) × IsShownText host.holds kind with_details file.now text
 IsAnswer host (Prints issuer kind with_parts file) status text =
     (status ≡ 0) × ArePrintsUnder host.holds issuer.now kind with_parts file.now text
+IsAnswer host (SearchPrints issuers among with_parts file) status text =
+    (status ≡ 0) × AreSearchPrints host.holds (issuers.now ∷ []) (map (λ w. w.now) among.items) with_parts file.now text
 IsAnswer host (Deliver store verdicts issuer file) status text =
     (status ≡ 0)
     × IsCountsText
@@ -75,6 +88,8 @@ IsAnswer host (Compare store other verdicts query) status text =
     IsComparisonText
     (IsCompared host (record { store = store; other = other }) verdicts.now (seen_words query))
     status text
+IsAnswer host (Find store verdicts search) status text =
+    IsFoundText (IsSearched host store.now verdicts.now (seen_search_words search)) status text
 IsAnswer host (Listing store moment) status text =
     (status ≡ 0) × IsListed host.at store.now (given moment) text
 IsAnswer host (Explain words) status text =
@@ -90,14 +105,20 @@ IsDone host line run status =
 
 -- ---- failures
 
--- the first failure on what the line names; or what it asks for was found, and standard output failed
+-- the first failure on what the line names; or what it asks for was found, and standard output failed behind a front of it
 abbrev pub IsLineFailure : HostState → Line → Streams → Failure → Type 0
 IsLineFailure host (Tree file) run =
-    OrUnwritable (IsNoValue host.holds file.now) (HoldsValue host.holds file.now)
+    FailsOrCuts (IsNoValue host.holds file.now) (IsTreeText host.holds file.now) run.output run.written
 IsLineFailure host (Show kind with_details file) run =
-    OrUnwritable (IsNotShown host.holds kind file.now) (HoldsKind host.holds kind file.now)
+    FailsOrCuts (IsNotShown host.holds kind file.now) (IsShownText host.holds kind with_details file.now)
+    run.output run.written
 IsLineFailure host (Prints issuer kind with_parts file) run =
-    FailsToPrint host.holds issuer.now kind file.now
+    FailsOrCuts (IsFailureOfPrints host.holds issuer.now kind file.now)
+    (ArePrintsUnder host.holds issuer.now kind with_parts file.now) run.output run.written
+IsLineFailure host (SearchPrints issuers among with_parts file) run =
+    FailsOrCuts (IsFailureOfSearchPrints host.holds (issuers.now ∷ []) (map (λ w. w.now) among.items) file.now)
+    (AreSearchPrints host.holds (issuers.now ∷ []) (map (λ w. w.now) among.items) with_parts file.now)
+    run.output run.written
 IsLineFailure host (Deliver store verdicts issuer file) run =
     FailsToDeliver host
     (record { store = store; verdicts = verdicts; issuer = issuer; file = file })
@@ -107,6 +128,8 @@ IsLineFailure host (Check store verdicts query) run =
 IsLineFailure host (Compare store other verdicts query) run =
     FailsToCompare host (record { store = store; other = other }) verdicts.now (seen_words query)
     run.output run.written
+IsLineFailure host (Find store verdicts search) run =
+    FailsToFind host store.now verdicts.now (seen_search_words search) run.output run.written
 IsLineFailure host (Listing store moment) run =
     FailsToList host.at store.now (given moment) run.output run.written
 IsLineFailure host (Explain words) run =

@@ -1,6 +1,7 @@
 -- The streams of a run.
-use Rattle.std.specs.Prelude.{◌≡◌, ◌⊎◌, ℕ, List, Option}
-use Rattle.std.specs.Io.KnownBytes.{Keeps}
+use Rattle.std.specs.Prelude.{◌≡◌, ◌⊎◌, ℕ, List, Option, Result, Ok, Err}
+use Rattle.std.specs.Global.{Vec}
+use Rattle.std.specs.Io.KnownBytes.{Appends, Keeps}
 use Rattle.cli_failures.specs.declared.failure.Failure.{Failure}
 use Rattle.cli_failures.specs.declared.failure.Failure.TheVariants.{Unwritable}
 use Rattle.cli_lines.specs.Fronts.{TakesFront}
@@ -26,3 +27,13 @@ abbrev pub FailsOrCuts : (Failure → Type 0) → (List ℕ → Type 0) → Opti
 FailsOrCuts Fails Is output written failure =
     (Fails failure × Keeps output written)
     ⊎ ((failure ≡ Unwritable) × ((text : List ℕ) × Is text × TakesFront output written text))
+
+-- there is a text, and all of it was written
+abbrev pub WritesAll : Result (Vec ℕ) Failure → Option (List ℕ) → Option (List ℕ) → Type 0
+WritesAll (Ok text) output written = Appends output written text.items
+WritesAll (Err failure) output written = ⊥
+
+-- there is none, for this failure, and nothing was written; or standard output failed behind a front of it
+abbrev pub FailsToWrite : Result (Vec ℕ) Failure → Option (List ℕ) → Option (List ℕ) → Failure → Type 0
+FailsToWrite (Ok text) output written failure = (failure ≡ Unwritable) × TakesFront output written text.items
+FailsToWrite (Err why) output written failure = (failure ≡ why) × Keeps output written

@@ -2,19 +2,23 @@
 ghost use Rattle.std.specs.Prelude.{◌≡◌};
 ghost use Rattle.statements_facts.specs.Fact.{facts_in};
 ghost use Rattle.path.specs.Reading.{seen_query};
+ghost use Rattle.path_issuers.specs.View.{seen_search};
 ghost use Rattle.sqlite.specs.Files.{file_state};
 ghost use Rattle.store_adoption.specs.Creates.{IsSettled};
 ghost use Rattle.store_sql.specs.Statements.{IsDurable};
 ghost use Rattle.cli_store.specs.Standing.{IsFound, IsFoundOrMade, IsOpenIfClean, seen_in};
 ghost use Rattle.cli.specs.Checked.{ChecksAt, ComparesAt};
 ghost use Rattle.cli.specs.Delivered.{TakesAt};
+ghost use Rattle.cli.specs.Searched.{FindsAt};
 
 use cli_failures::Failure;
-use cli_steps::{AnswerQuery, TakeFacts};
+use cli_steps::{AnswerQuery, AnswerSearch, TakeFacts};
 use cli_store::{Stores, failed};
+use path_search::Search;
 use path_verifiers::Verifier;
-use relying::{Fault, Node, Query, verdict_of};
+use relying::{Fault, Node, Query, find_over, verdict_of};
 use relying_agreement::{Comparison, Verdict};
+use relying_search::{Finding, FindingBudget};
 use sqlite_disk::Disk;
 use statements_facts::{Counts, Facts};
 use std::alloc::Global;
@@ -144,6 +148,65 @@ impl<'a, D: Disk + Drop, S: Stores<Store<D>>> AnswerQuery<'a, Verdict> for AtPat
         query: &Query<'_>,
     ) -> Result<Verdict, Failure<'a>> {
         check_at(self.source, alloc, self.path, verifier, query)
+    }
+}
+
+// What is found by what the store holds, which is closed then.
+fn find_in<'a, D: Disk + Drop, S: Stores<Store<D>>, V: Verifier>(
+    source: &S,
+    alloc: Global,
+    path: &str,
+    verifier: &V,
+    store: Store<D>,
+    search: &Search<'_, '_>,
+    budget: FindingBudget,
+) -> Result<Finding, Failure<'a>>
+    requires open { IsOpenIfClean (file_state store.conn) }
+    requires settled { IsSettled (file_state store.conn) }
+    requires durable { IsDurable (file_state store.conn) }
+    ensures { IsFound (S.places source.now).stands path.now (seen_in store)
+        → FindsAt (S.places source.now) path.now
+        (V.accepts verifier.now) (seen_search search.now) budget result }
+{
+    let mut store = store;
+    let finding = find_over(alloc, verifier, &mut store.conn, search, budget);
+    source.close_store(path, store);
+    match finding {
+        Ok(finding) => Ok(finding),
+        Err(fault) => Err(failed(fault)),
+    }
+}
+
+// What is found by what the store at the path holds.
+fn find_at<'a, D: Disk + Drop, S: Stores<Store<D>>, V: Verifier>(
+    source: &S,
+    alloc: Global,
+    path: &'a str,
+    verifier: &V,
+    search: &Search<'_, '_>,
+    budget: FindingBudget,
+) -> Result<Finding, Failure<'a>>
+    ensures { FindsAt (S.places source.now) path.entry.now
+        (V.accepts verifier.now) (seen_search search.now) budget result }
+{
+    let store = source.open_store(path)?;
+    find_in(source, alloc, path, verifier, store, search, budget)
+}
+
+/// The store is opened, asked, and closed.
+impl<'a, D: Disk + Drop, S: Stores<Store<D>>> AnswerSearch<'a> for AtPath<'a, '_, D, S> {
+    ghost use Rattle.cli.specs.Searched.{FindsAt};
+
+    ghost finds = { λ at _ accepts s budget result. FindsAt (S.places at.source.now) at.path.now accepts s budget result };
+
+    fn answer_search<V: Verifier>(
+        &mut self,
+        alloc: Global,
+        verifier: &V,
+        search: &Search<'_, '_>,
+        budget: FindingBudget,
+    ) -> Result<Finding, Failure<'a>> {
+        find_at(self.source, alloc, self.path, verifier, search, budget)
     }
 }
 

@@ -6,16 +6,18 @@ ghost use Rattle.cli_failures.specs.Report.{UnlessLate, report_line, exit_status
 ghost use Rattle.cli.specs.Ended.{AnswersByStatus, FailsByStatus, FailsTelling, IsAnswering, IsFailing, IsUnexplained};
 ghost use Rattle.cli.specs.Host.{host};
 ghost use Rattle.cli.specs.Outcome.{IsDone, IsLineFailure, IsHelp};
-ghost use Rattle.cli.specs.Streams.{streams};
+ghost use Rattle.cli.specs.Streams.{FailsToWrite, WritesAll, streams};
 
 use crate::{
     Delivery, SessionWords, StorePair, Stores, check, compare, comparison_status, deliver, explain,
-    list, session, verdict_status,
+    find, list, search_status, session, verdict_status,
 };
 use clap::error::ErrorKind;
 use cli_answers::{DONE, MISTAKEN};
 use cli_failures::{Failure, Source};
+use cli_lines::write_front;
 use cli_showing::{prints, show, tree};
+use cli_steps::search_prints;
 use cli_words::{Line, command_of};
 use sqlite_disk::Disk;
 use std::alloc::Global;
@@ -134,18 +136,34 @@ fn answer<'a, D: Disk + Drop, S: Source + Stores<Store<D>>, I: Read, O: Write>(
     ensures quiet { IfErr result (λ failure. UnlessLate failure (out.new ≡ out.old)) }
 {
     match line {
-        Line::Tree { file } => tree(source, file, out)?,
+        Line::Tree { file } => write_answer(tree(source, alloc, file), out)?,
         Line::Show {
             kind,
             with_details,
             file,
-        } => show(source, alloc, *kind, *with_details, file, out)?,
+        } => write_answer(show(source, alloc, *kind, *with_details, file), out)?,
         Line::Prints {
             issuer,
             kind,
             with_parts,
             file,
-        } => prints(source, alloc, issuer, *kind, *with_parts, file, out)?,
+        } => write_answer(prints(source, alloc, issuer, *kind, *with_parts, file), out)?,
+        Line::SearchPrints {
+            issuers,
+            among,
+            with_parts,
+            file,
+        } => {
+            let text = search_prints(
+                source,
+                alloc,
+                &[*issuers],
+                among.as_slice(),
+                *with_parts,
+                file,
+            );
+            write_answer(text, out)?;
+        }
         Line::Deliver {
             store,
             verdicts,
@@ -179,6 +197,13 @@ fn answer<'a, D: Disk + Drop, S: Source + Stores<Store<D>>, I: Read, O: Write>(
             };
             return Ok(comparison_status(compare(source, alloc, stores, verdicts, query, out)?));
         }
+        Line::Find {
+            store,
+            verdicts,
+            search,
+        } => {
+            return Ok(search_status(find(source, alloc, store, verdicts, search, out)?));
+        }
         Line::List { store, moment } => {
             return match list(source, alloc, store, *moment, out) {
                 Ok(()) => Ok(DONE),
@@ -203,6 +228,23 @@ fn answer<'a, D: Disk + Drop, S: Source + Stores<Store<D>>, I: Read, O: Write>(
         }
     }
     Ok(DONE)
+}
+
+// Writes the text, if there is one, or a front of it.
+fn write_answer<'a, O: Write>(
+    text: Result<Vec<u8>, Failure<'a>>,
+    out: &mut O,
+) -> Result<(), Failure<'a>>
+    ensures done { OnOk result (WritesAll text.entry (O.contents out.old) (O.contents out.new)) }
+    ensures fails { IfErr result
+        (FailsToWrite text.entry (O.contents out.old) (O.contents out.new)) }
+    ensures quiet { IfErr result (λ failure. UnlessLate failure (out.new ≡ out.old)) }
+{
+    let text = text?;
+    match write_front(text.as_slice(), out) {
+        Ok(()) => Ok(()),
+        Err(_) => Err(Failure::Unwritable),
+    }
 }
 
 // What clap answers in place of a line: help goes to standard output, what is wrong with the words to standard error.

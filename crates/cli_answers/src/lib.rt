@@ -1,11 +1,16 @@
-//! Lines that answer: the counts of a delivery, a verdict, a comparison of two verdicts. The exit statuses of a run.
+//! Lines that answer: the counts of a delivery, a verdict, a comparison of two verdicts, a path that was found. The exit statuses of a
+//! run.
 #![tactic(auto)]
 
 mod counted;
+mod place_lines;
+mod search_verdict;
 mod status;
 mod verdict_lines;
 
 pub use counted::counts_to;
+pub use place_lines::{FilePlace, file_place_to, path_to};
+pub use search_verdict::{SearchVerdict, search_status, search_verdict_to};
 pub use status::{
     DIFFERENT, DONE, FAILED, INVALID, MISTAKEN, REFUSED, REVOKED, UNKNOWN, comparison_status,
     verdict_status,

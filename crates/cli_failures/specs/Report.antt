@@ -14,7 +14,7 @@ use Rattle.statements_parts.specs.declared.fault.StatementFault.TheVariants.{Ref
 use Rattle.cli_failures.specs.declared.failure.StoreRefusal.{StoreRefusal}
 use Rattle.cli_failures.specs.declared.failure.StoreRefusal.TheVariants as OfStore
 use Rattle.cli_failures.specs.declared.failure.Failure.{Failure}
-use Rattle.cli_failures.specs.declared.failure.Failure.TheVariants.{Refused, NoCertificate, NoRevocationList, NoResponse, NotGenuine, BadLine, BadTime, BadPurpose, BadTopic, Unreadable, Unwritable, StoreFailed, NoMemory, Shut, NoInput}
+use Rattle.cli_failures.specs.declared.failure.Failure.TheVariants.{Refused, NoCertificate, NoRevocationList, NoResponse, NotGenuine, BadLine, BadTime, BadPurpose, BadName, BadTopic, Unreadable, Unwritable, StoreFailed, NoMemory, Shut, NoInput}
 
 -- ` at PLACE`, where there is one
 abbrev pub place_text : Option ℕ → List ℕ
@@ -71,6 +71,10 @@ line_words line = codes ": line " ++ decimal line ++ codes "\n"
 abbrev pub bad_line : List ℕ → ℕ → List ℕ
 bad_line file line = file ++ line_words line
 
+-- where the name stops being a host or a mailbox
+abbrev pub bad_name_line : ℕ → List ℕ
+bad_name_line at = codes "bad name at " ++ decimal at ++ codes "\n"
+
 abbrev pub unreadable_line : List ℕ → List ℕ
 unreadable_line file = codes "cannot read " ++ file ++ codes "\n"
 
@@ -95,6 +99,7 @@ told_line (NotGenuine file fault) = statement_line file.now fault
 told_line (BadLine file line) = bad_line file.now line
 told_line BadTime = codes "bad time\n"
 told_line BadPurpose = codes "bad purpose\n"
+told_line (BadName at) = bad_name_line at
 told_line BadTopic = codes "bad topic\n"
 told_line (Unreadable file) = unreadable_line file.now
 told_line Unwritable = codes "cannot write\n"
@@ -132,6 +137,7 @@ exit_status (NotGenuine file fault) = 4
 exit_status (BadLine file line) = 4
 exit_status BadTime = 5
 exit_status BadPurpose = 5
+exit_status (BadName at) = 5
 exit_status BadTopic = 5
 exit_status (Unreadable file) = 6
 exit_status Unwritable = 6

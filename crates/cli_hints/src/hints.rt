@@ -171,6 +171,10 @@ pub fn hint_to<W: Write>(
         ),
         Failure::BadTime => hint_about_time(line, writer),
         Failure::BadPurpose => hint_about_purpose(writer),
+        Failure::BadName { .. } => writeln!(
+            writer,
+            "a name is a host, as mail.example.org, an IP address, or a mailbox, as ann@example.org"
+        ),
         Failure::BadTopic => writeln!(
             writer,
             "explain takes a number or a name, as 'x509check explain 4' or 'x509check explain Truncated'; without a word it explains all"

@@ -14,8 +14,8 @@ use Rattle.der_stream.specs.declared.reading.ReadFault.TheVariants.{Fault as OfV
 use Rattle.der_stream.specs.Sequence.{IsValueWithin, joined}
 use Rattle.cli_failures.specs.Failures.{Holding}
 use Rattle.cli_failures.specs.declared.failure.Failure.{Failure}
-use Rattle.cli_failures.specs.declared.failure.Failure.TheVariants.{Refused, NoCertificate, NoRevocationList, NoResponse, NotGenuine, BadLine, BadTime, BadPurpose, BadTopic, Unreadable, Unwritable, StoreFailed, NoMemory, Shut, NoInput}
-use Rattle.cli_operands.specs.PathText.{AreTexts, BeginsWithValues, HoldsNoValue, HoldsOther, IsFailureOnPath, longest, most}
+use Rattle.cli_failures.specs.declared.failure.Failure.TheVariants.{Refused, NoCertificate, NoRevocationList, NoResponse, NotGenuine, BadLine, BadTime, BadPurpose, BadName, BadTopic, Unreadable, Unwritable, StoreFailed, NoMemory, Shut, NoInput}
+use Rattle.cli_operands.specs.PathText.{AreTexts, BeginsWithValues, HoldsNoValue, HoldsOther, IsFailureOnPath, longest}
 use Rattle.cli_operands.specs.CertificateValues.{AreCertificateValues, IsFailureAmong, IsFailureAt, IsOtherAmong, IsToldOf, ReadUpTo}
 use Rattle.cli_operands.specs.PathFiles.{IsFailureBehind}
 
@@ -70,6 +70,7 @@ among before value behind file (NotGenuine named fault) read fails = fails
 among before value behind file (BadLine named line) read fails = fails
 among before value behind file BadTime read fails = fails
 among before value behind file BadPurpose read fails = fails
+among before value behind file (BadName stop) read fails = fails
 among before value behind file BadTopic read fails = fails
 among before value behind file Shut read fails = fails
 among before value behind file NoInput read fails = fails
@@ -89,8 +90,8 @@ back_of P [] others all = all
 back_of P (value ∷ before) others all = back_of P before others all.1
 
 -- a value among those with which the octets begin, and what is left behind it
-other_in : (octets : List ℕ) (values : List (List ℕ)) (left : List ℕ) (rule : CertRule) (at : ℕ) → BeginsWithValues octets values left → length values ≤ 129 → IsOtherAmong values rule at → HoldsOther octets rule at
-other_in octets values left rule at begins few other =
+other_in : (most : ℕ) (octets : List ℕ) (values : List (List ℕ)) (left : List ℕ) (rule : CertRule) (at : ℕ) → BeginsWithValues octets values left → length values ≤ most → IsOtherAmong values rule at → HoldsOther most octets rule at
+other_in most octets values left rule at begins few other =
     let others = other.value ∷ other.behind in
     let all = subst (AllByRecursion (IsValueWithin longest)) other.values_are begins.each in
     let rest = joined other.behind ++ left in
@@ -120,13 +121,13 @@ other_in octets values left rule at begins few other =
 
 -- ---- failures on a file that holds the octets
 
-module _ (holds : Holding) (octets file : List ℕ) (held : holds file (Some octets)) where
+module _ (most : ℕ) (holds : Holding) (octets file : List ℕ) (held : holds file (Some octets)) where
   -- whatever the file, memory may run out
-  pub of_memory : (failure : Failure) → failure ≡ NoMemory → IsFailureOnPath holds file failure
-  of_memory failure is = subst (IsFailureOnPath holds file) (sym is) tt
+  pub of_memory : (failure : Failure) → failure ≡ NoMemory → IsFailureOnPath most holds file failure
+  of_memory failure is = subst (IsFailureOnPath most holds file) (sym is) tt
 
-  pub refused_among : (values : List (List ℕ)) (stopped : Option (ℕ × ReadFault)) (failure : Failure) → ReadUpTo octets values stopped → IsFailureAmong values file failure → IsFailureOnPath holds file failure
-  refused_among values stopped (NoCertificate named rule at) read (same, other) = (same, (octets, held, other_in octets values read.left rule at read.begins read.few other))
+  pub refused_among : (values : List (List ℕ)) (stopped : Option (ℕ × ReadFault)) (failure : Failure) → ReadUpTo most octets values stopped → IsFailureAmong values file failure → IsFailureOnPath most holds file failure
+  refused_among values stopped (NoCertificate named rule at) read (same, other) = (same, (octets, held, other_in most octets values read.left rule at read.begins read.few other))
   refused_among values stopped (Refused named fault) read fails = of_memory (Refused named fault) fails
   refused_among values stopped (NoRevocationList named rule at) read fails = of_memory (NoRevocationList named rule at) fails
   refused_among values stopped (NoResponse named rule at) read fails = of_memory (NoResponse named rule at) fails
@@ -134,6 +135,7 @@ module _ (holds : Holding) (octets file : List ℕ) (held : holds file (Some oct
   refused_among values stopped (BadLine named line) read fails = of_memory (BadLine named line) fails
   refused_among values stopped BadTime read fails = of_memory BadTime fails
   refused_among values stopped BadPurpose read fails = of_memory BadPurpose fails
+  refused_among values stopped (BadName stop) read fails = of_memory (BadName stop) fails
   refused_among values stopped BadTopic read fails = of_memory BadTopic fails
   refused_among values stopped Shut read fails = of_memory Shut fails
   refused_among values stopped NoInput read fails = of_memory NoInput fails
@@ -143,7 +145,7 @@ module _ (holds : Holding) (octets file : List ℕ) (held : holds file (Some oct
   refused_among values stopped NoMemory read fails = of_memory NoMemory fails
 
   -- what stands behind certificates is no value
-  no_value : (values : List (List ℕ)) (place : ℕ) (rule : Rule) (at : ℕ) (fault : Fault) → ReadUpTo octets values (Some (place, OfValue (Breaks rule at))) → AreCertificateValues values → fault ≡ Breaks rule (place + at) → HoldsNoValue octets fault
+  no_value : (values : List (List ℕ)) (place : ℕ) (rule : Rule) (at : ℕ) (fault : Fault) → ReadUpTo most octets values (Some (place, OfValue (Breaks rule at))) → AreCertificateValues values → fault ≡ Breaks rule (place + at) → HoldsNoValue most octets fault
   no_value values place rule at fault read (certificates, are) is = record {
     before = values;
     left = read.left;
@@ -151,8 +153,8 @@ module _ (holds : Holding) (octets file : List ℕ) (held : holds file (Some oct
     broken = inl (rule, at, read.end.2, read.end.3, is ∙ ap (λ (start : ℕ). Breaks rule (start + at)) read.end.1);
   }
 
-  told_behind : (values : List (List ℕ)) (place : ℕ) (rule : Rule) (at : ℕ) (failure : Failure) → ReadUpTo octets values (Some (place, OfValue (Breaks rule at))) → AreCertificateValues values
-      → IsToldOf file place (OfValue (Breaks rule at)) failure → IsFailureOnPath holds file failure
+  told_behind : (values : List (List ℕ)) (place : ℕ) (rule : Rule) (at : ℕ) (failure : Failure) → ReadUpTo most octets values (Some (place, OfValue (Breaks rule at))) → AreCertificateValues values
+      → IsToldOf file place (OfValue (Breaks rule at)) failure → IsFailureOnPath most holds file failure
   told_behind values place rule at (Refused named fault) read are (same, is) = (same, (octets, held, no_value values place rule at fault read are is))
   told_behind values place rule at (NoCertificate named other place_of) read are fails = of_memory (NoCertificate named other place_of) fails
   told_behind values place rule at (NoRevocationList named other place_of) read are fails = of_memory (NoRevocationList named other place_of) fails
@@ -161,6 +163,7 @@ module _ (holds : Holding) (octets file : List ℕ) (held : holds file (Some oct
   told_behind values place rule at (BadLine named line) read are fails = of_memory (BadLine named line) fails
   told_behind values place rule at BadTime read are fails = of_memory BadTime fails
   told_behind values place rule at BadPurpose read are fails = of_memory BadPurpose fails
+  told_behind values place rule at (BadName stop) read are fails = of_memory (BadName stop) fails
   told_behind values place rule at BadTopic read are fails = of_memory BadTopic fails
   told_behind values place rule at Shut read are fails = of_memory Shut fails
   told_behind values place rule at NoInput read are fails = of_memory NoInput fails
@@ -170,39 +173,40 @@ module _ (holds : Holding) (octets file : List ℕ) (held : holds file (Some oct
   told_behind values place rule at NoMemory read are fails = of_memory NoMemory fails
 
   -- nothing is there at all
-  empty : (values : List (List ℕ)) (fault : Fault) → ReadUpTo octets values None → AreCertificateValues values → values ≡ [] → fault ≡ Breaks Truncated 0 → HoldsNoValue octets fault
-  empty values fault read are none is = record {
+  empty : 0 < most → (values : List (List ℕ)) (fault : Fault) → ReadUpTo most octets values None → AreCertificateValues values → values ≡ [] → fault ≡ Breaks Truncated 0 → HoldsNoValue most octets fault
+  empty some values fault read are none is = record {
     before = [];
     left = octets;
-    begin = record { few = omega arith; certificates = []; each = refl; begins = record { each = tt; text_is = refl } };
+    begin = record { few = some; certificates = []; each = refl; begins = record { each = tt; text_is = refl } };
     broken = inr (nothing, is);
   }
     where
       left_is : (read.left ≡ []) ⊎ (length values ≡ most) → read.left ≡ []
       left_is (inl is) = is
-      left_is (inr many) = absurd (omega (arith, many, ap length none))
+      left_is (inr many) = absurd (omega (arith, some, many, ap length none))
 
       nothing : octets ≡ []
       nothing = read.begins.text_is ∙ ap (λ (values : List (List ℕ)). joined values ++ read.left) none ∙ left_is read.end
 
-  pub refused_behind : (values : List (List ℕ)) (stopped : Option (ℕ × ReadFault)) (failure : Failure) → ReadUpTo octets values stopped → AreCertificateValues values → IsFailureBehind values file stopped failure
-      → IsFailureOnPath holds file failure
-  refused_behind values (Some (place, OfValue (Breaks rule at))) failure read are fails = told_behind values place rule at failure read are fails
-  refused_behind values (Some (place, OfValue Memory)) failure read are fails = of_memory failure fails
-  refused_behind values (Some (place, Limit)) failure read are fails = of_memory failure fails
-  refused_behind values (Some (place, Io)) failure read are fails = of_memory failure fails
-  refused_behind values None (Refused named fault) read are (none, same, is) = (same, (octets, held, empty values fault read are none is))
-  refused_behind values None (NoCertificate named rule at) read are fails = absurd fails
-  refused_behind values None (NoRevocationList named rule at) read are fails = absurd fails
-  refused_behind values None (NoResponse named rule at) read are fails = absurd fails
-  refused_behind values None (NotGenuine named fault) read are fails = absurd fails
-  refused_behind values None (BadLine named line) read are fails = absurd fails
-  refused_behind values None BadTime read are fails = absurd fails
-  refused_behind values None BadPurpose read are fails = absurd fails
-  refused_behind values None BadTopic read are fails = absurd fails
-  refused_behind values None Shut read are fails = absurd fails
-  refused_behind values None NoInput read are fails = absurd fails
-  refused_behind values None (Unreadable named) read are fails = absurd fails
-  refused_behind values None Unwritable read are fails = absurd fails
-  refused_behind values None (StoreFailed why) read are fails = absurd fails
-  refused_behind values None NoMemory read are fails = absurd fails
+  pub refused_behind : 0 < most → (values : List (List ℕ)) (stopped : Option (ℕ × ReadFault)) (failure : Failure) → ReadUpTo most octets values stopped → AreCertificateValues values → IsFailureBehind values file stopped failure
+      → IsFailureOnPath most holds file failure
+  refused_behind some values (Some (place, OfValue (Breaks rule at))) failure read are fails = told_behind values place rule at failure read are fails
+  refused_behind some values (Some (place, OfValue Memory)) failure read are fails = of_memory failure fails
+  refused_behind some values (Some (place, Limit)) failure read are fails = of_memory failure fails
+  refused_behind some values (Some (place, Io)) failure read are fails = of_memory failure fails
+  refused_behind some values None (Refused named fault) read are (none, same, is) = (same, (octets, held, empty some values fault read are none is))
+  refused_behind some values None (NoCertificate named rule at) read are fails = absurd fails
+  refused_behind some values None (NoRevocationList named rule at) read are fails = absurd fails
+  refused_behind some values None (NoResponse named rule at) read are fails = absurd fails
+  refused_behind some values None (NotGenuine named fault) read are fails = absurd fails
+  refused_behind some values None (BadLine named line) read are fails = absurd fails
+  refused_behind some values None BadTime read are fails = absurd fails
+  refused_behind some values None BadPurpose read are fails = absurd fails
+  refused_behind some values None (BadName stop) read are fails = absurd fails
+  refused_behind some values None BadTopic read are fails = absurd fails
+  refused_behind some values None Shut read are fails = absurd fails
+  refused_behind some values None NoInput read are fails = absurd fails
+  refused_behind some values None (Unreadable named) read are fails = absurd fails
+  refused_behind some values None Unwritable read are fails = absurd fails
+  refused_behind some values None (StoreFailed why) read are fails = absurd fails
+  refused_behind some values None NoMemory read are fails = absurd fails

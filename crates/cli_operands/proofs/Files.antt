@@ -4,7 +4,7 @@ use Rattle.std.proofs.lemmas.List.{take-append-drop, take_more}
 use Rattle.cert.specs.Certificate.{Certificate, certificate}
 use Rattle.cli_failures.specs.Failures.{Holding, IsJust, IsNoCertificate, IsUnread}
 use Rattle.cli_failures.specs.declared.failure.Failure.{Failure}
-use Rattle.cli_failures.specs.declared.failure.Failure.TheVariants.{Refused, NoCertificate, NoRevocationList, NoResponse, NotGenuine, BadLine, BadTime, BadPurpose, BadTopic, Unreadable, Unwritable, StoreFailed, NoMemory, Shut, NoInput}
+use Rattle.cli_failures.specs.declared.failure.Failure.TheVariants.{Refused, NoCertificate, NoRevocationList, NoResponse, NotGenuine, BadLine, BadTime, BadPurpose, BadName, BadTopic, Unreadable, Unwritable, StoreFailed, NoMemory, Shut, NoInput}
 use Rattle.cli_operands.specs.CertificateValues.{EndBehind, IsFailureAmong}
 use Rattle.cli_operands.specs.PathFiles.{AreCertificatesIn, AreCertificatesOf, AreFilesRead, IsFailureBehind, IsFailureIn, IsFailureOf, IsFileRead, values_read}
 use Rattle.cli_operands.specs.PathText.{HoldPath, HoldsCertificates, IsFailureOfPath, IsFailureOnPath}
@@ -13,32 +13,32 @@ use Rattle.cli_operands.proofs.Certificates.{one_more_at, parted_at, refused_amo
 
 -- ---- files that are read
 
-files_more : (holds : Holding) (files : List (List ℕ)) (file : List ℕ) (read : List PathFile) (it : PathFile) → AreFilesRead holds files read None → IsFileRead holds file it
-    → AreFilesRead holds (files ++ file ∷ []) (read ++ it ∷ []) None
-files_more holds [] file [] it none is = (is, tt)
-files_more holds [] file (other ∷ read) it none is = absurd none
-files_more holds (name ∷ files) file [] it none is = absurd none
-files_more holds (name ∷ files) file (other ∷ read) it (one, more) is = (one, files_more holds files file read it more is)
+files_more : (most : ℕ) (holds : Holding) (files : List (List ℕ)) (file : List ℕ) (read : List PathFile) (it : PathFile) → AreFilesRead most holds files read None → IsFileRead most holds file it
+    → AreFilesRead most holds (files ++ file ∷ []) (read ++ it ∷ []) None
+files_more most holds [] file [] it none is = (is, tt)
+files_more most holds [] file (other ∷ read) it none is = absurd none
+files_more most holds (name ∷ files) file [] it none is = absurd none
+files_more most holds (name ∷ files) file (other ∷ read) it (one, more) is = (one, files_more most holds files file read it more is)
 
-files_end : (holds : Holding) (before : List (List ℕ)) (file : List ℕ) (behind : List (List ℕ)) (read : List PathFile) (failure : Failure) → AreFilesRead holds before read None → IsUnread holds file failure
-    → AreFilesRead holds (before ++ file ∷ behind) read (Some failure)
-files_end holds [] file behind [] failure none fails = fails
-files_end holds [] file behind (other ∷ read) failure none fails = absurd none
-files_end holds (name ∷ before) file behind [] failure none fails = absurd none
-files_end holds (name ∷ before) file behind (other ∷ read) failure (one, more) fails = (one, files_end holds before file behind read failure more fails)
+files_end : (most : ℕ) (holds : Holding) (before : List (List ℕ)) (file : List ℕ) (behind : List (List ℕ)) (read : List PathFile) (failure : Failure) → AreFilesRead most holds before read None → IsUnread holds file failure
+    → AreFilesRead most holds (before ++ file ∷ behind) read (Some failure)
+files_end most holds [] file behind [] failure none fails = fails
+files_end most holds [] file behind (other ∷ read) failure none fails = absurd none
+files_end most holds (name ∷ before) file behind [] failure none fails = absurd none
+files_end most holds (name ∷ before) file behind (other ∷ read) failure (one, more) fails = (one, files_end most holds before file behind read failure more fails)
 
-module _ (holds : Holding) (files : List (Bor (List ℕ))) (i : ℕ) (d : Bor (List ℕ)) where
-  pub one_read : (read : List PathFile) (it : PathFile) → i < length files → AreFilesRead holds (map (λ file. file.now) (take i files)) read None → IsFileRead holds (get_or files i d).now it
-      → AreFilesRead holds (map (λ file. file.now) (take (i + 1) files)) (read ++ it ∷ []) None
+module _ (most : ℕ) (holds : Holding) (files : List (Bor (List ℕ))) (i : ℕ) (d : Bor (List ℕ)) where
+  pub one_read : (read : List PathFile) (it : PathFile) → i < length files → AreFilesRead most holds (map (λ file. file.now) (take i files)) read None → IsFileRead most holds (get_or files i d).now it
+      → AreFilesRead most holds (map (λ file. file.now) (take (i + 1) files)) (read ++ it ∷ []) None
   one_read read it within are is =
-      subst (λ (names : List (List ℕ)). AreFilesRead holds names (read ++ it ∷ []) None) (sym (one_more_at (λ file. file.now) files i d within))
-      (files_more holds (map (λ file. file.now) (take i files)) (get_or files i d).now read it are is)
+      subst (λ (names : List (List ℕ)). AreFilesRead most holds names (read ++ it ∷ []) None) (sym (one_more_at (λ file. file.now) files i d within))
+      (files_more most holds (map (λ file. file.now) (take i files)) (get_or files i d).now read it are is)
 
-  pub one_unread : (read : List PathFile) (failure : Failure) → i < length files → AreFilesRead holds (map (λ file. file.now) (take i files)) read None → IsUnread holds (get_or files i d).now failure
-      → AreFilesRead holds (map (λ file. file.now) files) read (Some failure)
+  pub one_unread : (read : List PathFile) (failure : Failure) → i < length files → AreFilesRead most holds (map (λ file. file.now) (take i files)) read None → IsUnread holds (get_or files i d).now failure
+      → AreFilesRead most holds (map (λ file. file.now) files) read (Some failure)
   one_unread read failure within are fails =
-      subst (λ (names : List (List ℕ)). AreFilesRead holds names read (Some failure)) (sym (parted_at (λ file. file.now) files i d within))
-      (files_end holds (map (λ file. file.now) (take i files)) (get_or files i d).now (map (λ file. file.now) (drop (suc i) files)) read failure are fails)
+      subst (λ (names : List (List ℕ)). AreFilesRead most holds names read (Some failure)) (sym (parted_at (λ file. file.now) files i d within))
+      (files_end most holds (map (λ file. file.now) (take i files)) (get_or files i d).now (map (λ file. file.now) (drop (suc i) files)) read failure are fails)
 
 -- ---- their certificates
 
@@ -75,22 +75,23 @@ module _ (files : List PathFile) (i : ℕ) (it : PathFile) (within : i < length 
 
 -- ---- what the files hold
 
-unread_on : (holds : Holding) (file : List ℕ) (failure : Failure) → IsUnread holds file failure → IsFailureOnPath holds file failure
-unread_on holds file (Refused named fault) fails = absurd fails
-unread_on holds file (NoCertificate named rule at) fails = absurd fails
-unread_on holds file (NoRevocationList named rule at) fails = absurd fails
-unread_on holds file (NoResponse named rule at) fails = absurd fails
-unread_on holds file (NotGenuine named fault) fails = absurd fails
-unread_on holds file (BadLine named line) fails = absurd fails
-unread_on holds file BadTime fails = absurd fails
-unread_on holds file BadPurpose fails = absurd fails
-unread_on holds file BadTopic fails = absurd fails
-unread_on holds file Shut fails = absurd fails
-unread_on holds file NoInput fails = absurd fails
-unread_on holds file (Unreadable named) fails = fails
-unread_on holds file Unwritable fails = absurd fails
-unread_on holds file (StoreFailed why) fails = absurd fails
-unread_on holds file NoMemory fails = tt
+unread_on : (most : ℕ) (holds : Holding) (file : List ℕ) (failure : Failure) → IsUnread holds file failure → IsFailureOnPath most holds file failure
+unread_on most holds file (Refused named fault) fails = absurd fails
+unread_on most holds file (NoCertificate named rule at) fails = absurd fails
+unread_on most holds file (NoRevocationList named rule at) fails = absurd fails
+unread_on most holds file (NoResponse named rule at) fails = absurd fails
+unread_on most holds file (NotGenuine named fault) fails = absurd fails
+unread_on most holds file (BadLine named line) fails = absurd fails
+unread_on most holds file BadTime fails = absurd fails
+unread_on most holds file BadPurpose fails = absurd fails
+unread_on most holds file (BadName stop) fails = absurd fails
+unread_on most holds file BadTopic fails = absurd fails
+unread_on most holds file Shut fails = absurd fails
+unread_on most holds file NoInput fails = absurd fails
+unread_on most holds file (Unreadable named) fails = fails
+unread_on most holds file Unwritable fails = absurd fails
+unread_on most holds file (StoreFailed why) fails = absurd fails
+unread_on most holds file NoMemory fails = tt
 
 pub unread_certificate : (holds : Holding) (file : List ℕ) (failure : Failure) → IsUnread holds file failure → IsNoCertificate holds file failure
 unread_certificate holds file (Refused named fault) fails = absurd fails
@@ -101,6 +102,7 @@ unread_certificate holds file (NotGenuine named fault) fails = absurd fails
 unread_certificate holds file (BadLine named line) fails = absurd fails
 unread_certificate holds file BadTime fails = absurd fails
 unread_certificate holds file BadPurpose fails = absurd fails
+unread_certificate holds file (BadName stop) fails = absurd fails
 unread_certificate holds file BadTopic fails = absurd fails
 unread_certificate holds file Shut fails = absurd fails
 unread_certificate holds file NoInput fails = absurd fails
@@ -118,6 +120,7 @@ no_certificate holds octets file (NotGenuine named fault) held fails = absurd fa
 no_certificate holds octets file (BadLine named line) held fails = absurd fails
 no_certificate holds octets file BadTime held fails = absurd fails
 no_certificate holds octets file BadPurpose held fails = absurd fails
+no_certificate holds octets file (BadName stop) held fails = absurd fails
 no_certificate holds octets file BadTopic held fails = absurd fails
 no_certificate holds octets file Shut held fails = absurd fails
 no_certificate holds octets file NoInput held fails = absurd fails
@@ -126,8 +129,8 @@ no_certificate holds octets file Unwritable held fails = absurd fails
 no_certificate holds octets file (StoreFailed why) held fails = absurd fails
 no_certificate holds octets file NoMemory held fails = tt
 
-holds_certificates : (holds : Holding) (file : List ℕ) (it : PathFile) (certificates : List Certificate) → IsFileRead holds file it → AreCertificatesIn it certificates → HoldsCertificates holds file certificates
-holds_certificates holds file it certificates (named, (octets, held, read)) are = (
+pub holds_certificates : (most : ℕ) (holds : Holding) (file : List ℕ) (it : PathFile) (certificates : List Certificate) → IsFileRead most holds file it → AreCertificatesIn it certificates → HoldsCertificates most holds file certificates
+holds_certificates most holds file it certificates (named, (octets, held, read)) are = (
   octets,
   held,
   record {
@@ -136,38 +139,38 @@ holds_certificates holds file it certificates (named, (octets, held, read)) are 
     left = read.left;
     begins = read.begins;
     few = read.few;
-    whole = subst (EndBehind (values_read it) read.left) are.whole read.end;
+    whole = subst (EndBehind most (values_read it) read.left) are.whole read.end;
     each = are.each;
   },
 )
 
-fails_on : (holds : Holding) (file : List ℕ) (it : PathFile) (failure : Failure) → IsFileRead holds file it → IsFailureIn it failure → IsFailureOnPath holds file failure
-fails_on holds file it failure (named, (octets, held, read)) (inl among) =
-    refused_among holds octets file held (values_read it) it.stopped failure read (subst (λ (name : List ℕ). IsFailureAmong (values_read it) name failure) named among)
-fails_on holds file it failure (named, (octets, held, read)) (inr (are, behind)) =
-    refused_behind holds octets file held (values_read it) it.stopped failure read are (subst (λ (name : List ℕ). IsFailureBehind (values_read it) name it.stopped failure) named behind)
+fails_on : (most : ℕ) → 0 < most → (holds : Holding) (file : List ℕ) (it : PathFile) (failure : Failure) → IsFileRead most holds file it → IsFailureIn it failure → IsFailureOnPath most holds file failure
+fails_on most some holds file it failure (named, (octets, held, read)) (inl among) =
+    refused_among most holds octets file held (values_read it) it.stopped failure read (subst (λ (name : List ℕ). IsFailureAmong (values_read it) name failure) named among)
+fails_on most some holds file it failure (named, (octets, held, read)) (inr (are, behind)) =
+    refused_behind most holds octets file held some (values_read it) it.stopped failure read are (subst (λ (name : List ℕ). IsFailureBehind (values_read it) name it.stopped failure) named behind)
 
-pub hold_path : (holds : Holding) (files : List (List ℕ)) (read : List PathFile) (unread : Option Failure) (certificates : List Certificate) → AreFilesRead holds files read unread → unread ≡ None → AreCertificatesOf read certificates
-    → HoldPath holds files certificates
-hold_path holds [] [] None certificates are all path = path
-hold_path holds [] [] (Some failure) certificates are all path = absurd are
-hold_path holds [] (it ∷ read) unread certificates are all path = absurd are
-hold_path holds (file ∷ files) [] None certificates are all path = absurd are
-hold_path holds (file ∷ files) [] (Some failure) certificates are all path = absurd (let wrong : ⊥ = cc in wrong)
-hold_path holds (file ∷ files) (it ∷ read) unread certificates (one, rest) all (first, more, are_first, are_more, is) =
-    (first, more, holds_certificates holds file it first one are_first, hold_path holds files read unread more rest all are_more, is)
+pub hold_path : (most : ℕ) (holds : Holding) (files : List (List ℕ)) (read : List PathFile) (unread : Option Failure) (certificates : List Certificate) → AreFilesRead most holds files read unread → unread ≡ None → AreCertificatesOf read certificates
+    → HoldPath most holds files certificates
+hold_path most holds [] [] None certificates are all path = path
+hold_path most holds [] [] (Some failure) certificates are all path = absurd are
+hold_path most holds [] (it ∷ read) unread certificates are all path = absurd are
+hold_path most holds (file ∷ files) [] None certificates are all path = absurd are
+hold_path most holds (file ∷ files) [] (Some failure) certificates are all path = absurd (let wrong : ⊥ = cc in wrong)
+hold_path most holds (file ∷ files) (it ∷ read) unread certificates (one, rest) all (first, more, are_first, are_more, is) =
+    (first, more, holds_certificates most holds file it first one are_first, hold_path most holds files read unread more rest all are_more, is)
 
-pub fails_of : (holds : Holding) (files : List (List ℕ)) (read : List PathFile) (unread : Option Failure) (failure : Failure) → AreFilesRead holds files read unread → IsFailureOf read unread failure
-    → IsFailureOfPath holds files failure
-fails_of holds [] [] None failure are (inl is) = absurd (let wrong : ⊥ = cc in wrong)
-fails_of holds [] [] None failure are (inr memory) = memory
-fails_of holds [] [] (Some other) failure are fails = absurd are
-fails_of holds [] (it ∷ read) unread failure are fails = absurd are
-fails_of holds (file ∷ files) [] None failure are fails = absurd are
-fails_of holds (file ∷ files) [] (Some other) failure are (inl is) =
+pub fails_of : (most : ℕ) → 0 < most → (holds : Holding) (files : List (List ℕ)) (read : List PathFile) (unread : Option Failure) (failure : Failure) → AreFilesRead most holds files read unread → IsFailureOf read unread failure
+    → IsFailureOfPath most holds files failure
+fails_of most some holds [] [] None failure are (inl is) = absurd (let wrong : ⊥ = cc in wrong)
+fails_of most some holds [] [] None failure are (inr memory) = memory
+fails_of most some holds [] [] (Some other) failure are fails = absurd are
+fails_of most some holds [] (it ∷ read) unread failure are fails = absurd are
+fails_of most some holds (file ∷ files) [] None failure are fails = absurd are
+fails_of most some holds (file ∷ files) [] (Some other) failure are (inl is) =
     let same : other ≡ failure = cc in
-    inl (unread_on holds file failure (subst (IsUnread holds file) same are))
-fails_of holds (file ∷ files) [] (Some other) failure are (inr memory) = inl (unread_on holds file failure (subst (IsUnread holds file) (sym memory) tt))
-fails_of holds (file ∷ files) (it ∷ read) unread failure (one, rest) (inl fails) = inl (fails_on holds file it failure one fails)
-fails_of holds (file ∷ files) (it ∷ read) unread failure (one, rest) (inr ((certificates, are), fails)) =
-    inr ((certificates, holds_certificates holds file it certificates one are), fails_of holds files read unread failure rest fails)
+    inl (unread_on most holds file failure (subst (IsUnread holds file) same are))
+fails_of most some holds (file ∷ files) [] (Some other) failure are (inr memory) = inl (unread_on most holds file failure (subst (IsUnread holds file) (sym memory) tt))
+fails_of most some holds (file ∷ files) (it ∷ read) unread failure (one, rest) (inl fails) = inl (fails_on most some holds file it failure one fails)
+fails_of most some holds (file ∷ files) (it ∷ read) unread failure (one, rest) (inr ((certificates, are), fails)) =
+    inr ((certificates, holds_certificates most holds file it certificates one are), fails_of most some holds files read unread failure rest fails)

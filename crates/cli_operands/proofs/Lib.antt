@@ -5,4 +5,5 @@ pub mod Subidentifiers
 mod Values
 mod Certificates
 mod Files
+mod Places
 pub mod Laws

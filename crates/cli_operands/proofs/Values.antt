@@ -6,8 +6,8 @@ use Rattle.der_stream.specs.Sequence.{joined}
 use Rattle.cli_operands.specs.CertificateValues.{ReadUpTo}
 
 -- they are a part of the octets
-whole : (octets : List ℕ) (values : List (List ℕ)) (stopped : Option (ℕ × ReadFault)) → (read : ReadUpTo octets values stopped) → length octets ≡ length (joined values) + length read.left
-whole octets values stopped read = ap length read.begins.text_is ∙ length-append (joined values) read.left
+whole : (most : ℕ) (octets : List ℕ) (values : List (List ℕ)) (stopped : Option (ℕ × ReadFault)) → (read : ReadUpTo most octets values stopped) → length octets ≡ length (joined values) + length read.left
+whole most octets values stopped read = ap length read.begins.text_is ∙ length-append (joined values) read.left
 
-pub part : (octets : List ℕ) (values : List (List ℕ)) (stopped : Option (ℕ × ReadFault)) → ReadUpTo octets values stopped → length (joined values) ≤ length octets
-part octets values stopped read = omega (arith, whole octets values stopped read)
+pub part : (most : ℕ) (octets : List ℕ) (values : List (List ℕ)) (stopped : Option (ℕ × ReadFault)) → ReadUpTo most octets values stopped → length (joined values) ≤ length octets
+part most octets values stopped read = omega (arith, whole most octets values stopped read)

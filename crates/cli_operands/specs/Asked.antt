@@ -9,7 +9,7 @@ use Rattle.cli_failures.specs.declared.failure.Failure.TheVariants.{BadLine, Bad
 use Rattle.cli_words.specs.QueryTexts.{QueryTexts}
 use Rattle.cli_operands.specs.InOrder.{FailsFirst}
 use Rattle.cli_operands.specs.Moment.{IsMoment}
-use Rattle.cli_operands.specs.PathText.{HoldPath, IsFailureOfPath}
+use Rattle.cli_operands.specs.PathText.{HoldPath, IsFailureOfPath, most_of_path}
 use Rattle.cli_operands.specs.Purpose.{NamesPurpose}
 use Rattle.cli_operands.specs.VerdictLines.{IsFirstBadLine, NamePrints, text_lines}
 use Rattle.cli_operands.specs.declared.terms.Terms.{Terms}
@@ -55,23 +55,33 @@ IsBadPurpose asked failure = failure ≡ NoMemory
 abbrev pub purpose_contents : Terms → Option (List ℕ)
 purpose_contents terms = option_map (λ contents. contents.items) terms.purpose
 
--- the texts name these terms
-pub record NameTerms (texts : QueryTexts) (terms : Terms) : Type 0 where
-  pub moment : IsMoment texts.moment terms.moment
-  pub purpose : IsPurposeOf texts.purpose (purpose_contents terms)
+-- the text of a moment, and that of a purpose if there is one, name these terms
+pub record AreTerms (moment_text : List ℕ) (purpose_text : Option (List ℕ)) (terms : Terms) : Type 0 where
+  pub moment : IsMoment moment_text terms.moment
+  pub purpose : IsPurposeOf purpose_text (purpose_contents terms)
 
 -- they name some
-pub record HaveTerms (texts : QueryTexts) : Type 0 where
+pub record MakeTerms (moment_text : List ℕ) (purpose_text : Option (List ℕ)) : Type 0 where
   pub seconds : ℤ
-  pub moment : IsMoment texts.moment seconds
+  pub moment : IsMoment moment_text seconds
   pub contents : Option (List ℕ)
-  pub purpose : IsPurposeOf texts.purpose contents
+  pub purpose : IsPurposeOf purpose_text contents
 
 -- what is wrong with them, the first of it: the moment, the purpose
+abbrev pub AreBadTerms : List ℕ → Option (List ℕ) → Failure → Type 0
+AreBadTerms moment_text purpose_text =
+    FailsFirst (IsBadTime moment_text) ((seconds : ℤ) × IsMoment moment_text seconds)
+    (IsBadPurpose purpose_text)
+
+-- the same of the texts of a query
+abbrev pub NameTerms : QueryTexts → Terms → Type 0
+NameTerms texts = AreTerms texts.moment texts.purpose
+
+abbrev pub HaveTerms : QueryTexts → Type 0
+HaveTerms texts = MakeTerms texts.moment texts.purpose
+
 abbrev pub IsFailureOfTerms : QueryTexts → Failure → Type 0
-IsFailureOfTerms texts =
-    FailsFirst (IsBadTime texts.moment) ((seconds : ℤ) × IsMoment texts.moment seconds)
-    (IsBadPurpose texts.purpose)
+IsFailureOfTerms texts = AreBadTerms texts.moment texts.purpose
 
 -- ---- the certificates
 
@@ -80,7 +90,7 @@ abbrev pub IsFailureOfCertificates : Holding → QueryTexts → Failure → Type
 IsFailureOfCertificates holds texts =
     FailsFirst (IsNoCertificate holds texts.anchor)
     ((anchor : Certificate) × HoldsCertificate holds texts.anchor anchor)
-    (IsFailureOfPath holds texts.files)
+    (IsFailureOfPath most_of_path holds texts.files)
 
 -- ---- the query
 
@@ -89,7 +99,7 @@ pub record Asks (holds : Holding) (texts : QueryTexts) (query : Query) : Type 0 
   pub moment : IsMoment texts.moment query.moment
   pub purpose : IsPurposeOf texts.purpose query.purpose
   pub anchor : HoldsCertificate holds texts.anchor query.anchor
-  pub path : HoldPath holds texts.files query.certificates
+  pub path : HoldPath most_of_path holds texts.files query.certificates
 
 -- What is wrong with the texts in a line of a session, the first of it: the moment, the purpose, the anchor, the files in order.
 abbrev pub IsFailureOfQuery : Holding → QueryTexts → Failure → Type 0

@@ -9,7 +9,7 @@ use Rattle.der_stream.specs.declared.reading.ReadFault.TheVariants.{Fault, Limit
 use Rattle.der_stream.specs.Sequence.{joined}
 use Rattle.cli_failures.specs.declared.failure.Failure.{Failure}
 use Rattle.cli_failures.specs.declared.failure.Failure.TheVariants.{NoCertificate, NoMemory, Refused}
-use Rattle.cli_operands.specs.PathText.{AreTexts, BeginsWithValues, most}
+use Rattle.cli_operands.specs.PathText.{AreTexts, BeginsWithValues}
 
 -- each is the value of a certificate
 abbrev pub AreCertificateValues : List (List ℕ) → Type 0
@@ -37,20 +37,20 @@ IsFailureAmong values file (NoCertificate named rule at) = (named.now ≡ file) 
 IsFailureAmong values file failure = failure ≡ NoMemory
 
 -- Why no value was read behind those that were: as many were as are looked at, or nothing is left, or what is left begins with none.
-abbrev pub EndBehind : List (List ℕ) → List ℕ → Option (ℕ × ReadFault) → Type 0
-EndBehind values left None = (left ≡ []) ⊎ (length values ≡ most)
-EndBehind values left (Some (place, Fault (Breaks rule at))) =
+abbrev pub EndBehind : ℕ → List (List ℕ) → List ℕ → Option (ℕ × ReadFault) → Type 0
+EndBehind most values left None = (left ≡ []) ⊎ (length values ≡ most)
+EndBehind most values left (Some (place, Fault (Breaks rule at))) =
     (length values < most) × (place ≡ length (joined values)) × (0 < length left) × FirstFaultIn 1 left rule at
-EndBehind values left (Some (place, Fault Memory)) = Unit {0}
-EndBehind values left (Some (place, Limit)) = ⊥
-EndBehind values left (Some (place, Io)) = Unit {0}
+EndBehind most values left (Some (place, Fault Memory)) = Unit {0}
+EndBehind most values left (Some (place, Limit)) = ⊥
+EndBehind most values left (Some (place, Io)) = Unit {0}
 
 -- the octets begin with these values, and no more were read for that reason
-pub record ReadUpTo (octets : List ℕ) (values : List (List ℕ)) (stopped : Option (ℕ × ReadFault)) : Type 0 where
+pub record ReadUpTo (most : ℕ) (octets : List ℕ) (values : List (List ℕ)) (stopped : Option (ℕ × ReadFault)) : Type 0 where
   pub left : List ℕ
   pub begins : BeginsWithValues octets values left
   pub few : length values ≤ most
-  pub end : EndBehind values left stopped
+  pub end : EndBehind most values left stopped
 
 -- a failure for the fault of the value that starts at that place: memory ran out where no rule is broken
 abbrev pub IsToldOf : List ℕ → ℕ → ReadFault → Failure → Type 0

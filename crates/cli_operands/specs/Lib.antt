@@ -1,10 +1,13 @@
 pub mod Moment
+pub mod Name
 pub mod Purpose
 pub mod VerdictLines
 pub mod InOrder
 pub mod PathText
 pub mod CertificateValues
 pub mod PathFiles
+pub mod FilePlaces
 pub mod Asked
 pub mod Operands
+pub mod Searching
 pub use Rattle.asn.specs.Time

@@ -8,6 +8,7 @@ use Rattle.cli_words.specs.QueryTexts.{QueryTexts}
 use Rattle.cli_operands.specs.Asked.{purpose_contents}
 use Rattle.cli_operands.specs.InOrder.{FailsFirst}
 use Rattle.cli_operands.specs.PathFiles.{AreCertificatesOf, AreFilesRead, IsFailureOf}
+use Rattle.cli_operands.specs.PathText.{most_of_path}
 use Rattle.cli_operands.specs.declared.operand_files.Operands.{Operands}
 use Rattle.cli_operands.specs.declared.terms.Terms.{Terms}
 
@@ -15,7 +16,7 @@ use Rattle.cli_operands.specs.declared.terms.Terms.{Terms}
 pub record AreOperands (holds : Holding) (texts : QueryTexts) (it : Operands) : Type 0 where
   pub anchor_file : it.anchor_file.now ≡ texts.anchor
   pub anchor : holds texts.anchor (Some it.anchor.items)
-  pub path : AreFilesRead holds texts.files it.path.files.items it.path.unread
+  pub path : AreFilesRead most_of_path holds texts.files it.path.files.items it.path.unread
 
 -- the query about the certificates whose octets they have, on these terms
 pub record IsQueryOf (it : Operands) (terms : Terms) (query : Query) : Type 0 where

@@ -19,19 +19,20 @@ abbrev pub values_read : PathFile → List (List ℕ)
 values_read it = map (λ value. value.items) it.values.items
 
 -- the file holds octets, and these are the values with which they begin
-abbrev pub IsFileRead : Holding → List ℕ → PathFile → Type 0
-IsFileRead holds file it =
+abbrev pub IsFileRead : ℕ → Holding → List ℕ → PathFile → Type 0
+IsFileRead most holds file it =
     (it.file.now ≡ file)
-    × ((octets : List ℕ) × holds file (Some octets) × ReadUpTo octets (values_read it) it.stopped)
+    × ((octets : List ℕ) × holds file (Some octets) × ReadUpTo most octets (values_read it) it.stopped)
 
 -- the files were read, or those before the first that was not, for this failure
-abbrev pub AreFilesRead : Holding → List (List ℕ) → List PathFile → Option Failure → Type 0
-AreFilesRead holds [] [] None = Unit {0}
-AreFilesRead holds [] [] (Some failure) = ⊥
-AreFilesRead holds [] (it ∷ more) unread = ⊥
-AreFilesRead holds (file ∷ files) [] None = ⊥
-AreFilesRead holds (file ∷ files) [] (Some failure) = IsUnread holds file failure
-AreFilesRead holds (file ∷ files) (it ∷ more) unread = IsFileRead holds file it × AreFilesRead holds files more unread
+abbrev pub AreFilesRead : ℕ → Holding → List (List ℕ) → List PathFile → Option Failure → Type 0
+AreFilesRead most holds [] [] None = Unit {0}
+AreFilesRead most holds [] [] (Some failure) = ⊥
+AreFilesRead most holds [] (it ∷ more) unread = ⊥
+AreFilesRead most holds (file ∷ files) [] None = ⊥
+AreFilesRead most holds (file ∷ files) [] (Some failure) = IsUnread holds file failure
+AreFilesRead most holds (file ∷ files) (it ∷ more) unread =
+    IsFileRead most holds file it × AreFilesRead most holds files more unread
 
 -- ---- their certificates
 

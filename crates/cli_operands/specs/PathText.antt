@@ -13,9 +13,13 @@ use Rattle.cli_failures.specs.declared.failure.Failure.{Failure}
 use Rattle.cli_failures.specs.declared.failure.Failure.TheVariants.{Refused, NoCertificate, NoMemory}
 use Rattle.cli_operands.specs.InOrder.{FailsFirst}
 
--- one more than a path may have, so that a path that is too long is told as such
-abbrev pub most : ℕ
-most = 129
+-- how many values of a file are read for a path: one more than a path may have, so that a path that is too long is told as such
+abbrev pub most_of_path : ℕ
+most_of_path = 129
+
+-- for a search all: as many as 32 bits count, which have more than eight gigabytes
+abbrev pub most_of_search : ℕ
+most_of_search = 4294967295
 
 -- the octets of the longest value: a header of 6, and contents of 2^28 - 1
 abbrev pub longest : ℕ
@@ -30,7 +34,7 @@ abbrev pub AreTexts : List (List ℕ) → List Certificate → Type 0
 AreTexts texts certificates = map certificate texts ≡ map Ok certificates
 
 -- the octets are the certificates, each the value of one
-pub record ArePathCertificates (octets : List ℕ) (certificates : List Certificate) : Type 0 where
+pub record ArePathCertificates (most : ℕ) (octets : List ℕ) (certificates : List Certificate) : Type 0 where
   pub values : List (List ℕ)
   pub some : values ≢ []
   pub left : List ℕ
@@ -41,59 +45,59 @@ pub record ArePathCertificates (octets : List ℕ) (certificates : List Certific
   pub each : AreTexts values certificates
 
 -- the file holds them
-abbrev pub HoldsCertificates : Holding → List ℕ → List Certificate → Type 0
-HoldsCertificates holds file certificates =
-    (octets : List ℕ) × holds file (Some octets) × ArePathCertificates octets certificates
+abbrev pub HoldsCertificates : ℕ → Holding → List ℕ → List Certificate → Type 0
+HoldsCertificates most holds file certificates =
+    (octets : List ℕ) × holds file (Some octets) × ArePathCertificates most octets certificates
 
 -- the files hold them, one file after the other
-abbrev pub HoldPath : Holding → List (List ℕ) → List Certificate → Type 0
-HoldPath holds [] certificates = certificates ≡ []
-HoldPath holds (file ∷ files) certificates =
-    (first more : List Certificate) × HoldsCertificates holds file first × HoldPath holds files more
-    × (certificates ≡ first ++ more)
+abbrev pub HoldPath : ℕ → Holding → List (List ℕ) → List Certificate → Type 0
+HoldPath most holds [] certificates = certificates ≡ []
+HoldPath most holds (file ∷ files) certificates =
+    (first more : List Certificate) × HoldsCertificates most holds file first
+    × HoldPath most holds files more × (certificates ≡ first ++ more)
 
 -- ---- what is refused
 
 -- the octets begin with certificates, fewer than are looked at, and then these are left
-pub record BeginWithCertificates (octets : List ℕ) (before : List (List ℕ)) (left : List ℕ) : Type 0 where
+pub record BeginWithCertificates (most : ℕ) (octets : List ℕ) (before : List (List ℕ)) (left : List ℕ) : Type 0 where
   pub few : length before < most
   pub certificates : List Certificate
   pub each : AreTexts before certificates
   pub begins : BeginsWithValues octets before left
 
 -- A value behind certificates is no certificate. The place is counted from the first octet of the file.
-pub record HoldsOther (octets : List ℕ) (rule : CertRule) (at : ℕ) : Type 0 where
+pub record HoldsOther (most : ℕ) (octets : List ℕ) (rule : CertRule) (at : ℕ) : Type 0 where
   pub before : List (List ℕ)
   pub text : List ℕ
   pub left : List ℕ
-  pub begin : BeginWithCertificates octets before (text ++ left)
+  pub begin : BeginWithCertificates most octets before (text ++ left)
   pub value : BeginsWithValues (text ++ left) (text ∷ []) left
   pub offset : ℕ
   pub refused : certificate text ≡ Err (rule, offset)
   pub at_is : at ≡ length (joined before) + offset
 
 -- What is left behind certificates begins with no value, or nothing is there at all.
-pub record HoldsNoValue (octets : List ℕ) (fault : Fault) : Type 0 where
+pub record HoldsNoValue (most : ℕ) (octets : List ℕ) (fault : Fault) : Type 0 where
   pub before : List (List ℕ)
   pub left : List ℕ
-  pub begin : BeginWithCertificates octets before left
+  pub begin : BeginWithCertificates most octets before left
   pub broken :
       ((rule : Rule) × (at : ℕ) × (0 < length left) × FirstFaultIn 1 left rule at
       × (fault ≡ Breaks rule (length (joined before) + at)))
       ⊎ ((octets ≡ []) × (fault ≡ Breaks Truncated 0))
 
 -- a failure on a file of certificates: it names that file, and its fault is the first, value by value
-abbrev pub IsFailureOnPath : Holding → List ℕ → Failure → Type 0
-IsFailureOnPath holds file (Refused named fault) =
-    (named.now ≡ file) × ((octets : List ℕ) × holds file (Some octets) × HoldsNoValue octets fault)
-IsFailureOnPath holds file (NoCertificate named rule at) =
-    (named.now ≡ file) × ((octets : List ℕ) × holds file (Some octets) × HoldsOther octets rule at)
-IsFailureOnPath holds file failure = IsUnread holds file failure
+abbrev pub IsFailureOnPath : ℕ → Holding → List ℕ → Failure → Type 0
+IsFailureOnPath most holds file (Refused named fault) =
+    (named.now ≡ file) × ((octets : List ℕ) × holds file (Some octets) × HoldsNoValue most octets fault)
+IsFailureOnPath most holds file (NoCertificate named rule at) =
+    (named.now ≡ file) × ((octets : List ℕ) × holds file (Some octets) × HoldsOther most octets rule at)
+IsFailureOnPath most holds file failure = IsUnread holds file failure
 
 -- a failure on the first of these files that is refused
-abbrev pub IsFailureOfPath : Holding → List (List ℕ) → Failure → Type 0
-IsFailureOfPath holds [] failure = failure ≡ NoMemory
-IsFailureOfPath holds (file ∷ files) failure =
-    FailsFirst (IsFailureOnPath holds file)
-    ((certificates : List Certificate) × HoldsCertificates holds file certificates)
-    (IsFailureOfPath holds files) failure
+abbrev pub IsFailureOfPath : ℕ → Holding → List (List ℕ) → Failure → Type 0
+IsFailureOfPath most holds [] failure = failure ≡ NoMemory
+IsFailureOfPath most holds (file ∷ files) failure =
+    FailsFirst (IsFailureOnPath most holds file)
+    ((certificates : List Certificate) × HoldsCertificates most holds file certificates)
+    (IsFailureOfPath most holds files) failure

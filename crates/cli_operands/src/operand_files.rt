@@ -13,6 +13,9 @@ use cli_words::QueryWords;
 use path::Query;
 use std::alloc::Global;
 
+// One more than a path may have, so that a path that is too long is reported as such.
+const MOST_OF_PATH: u32 = 129;
+
 /// The octets of the files that the words of a query name.
 #[derive(Drop)]
 pub struct Operands<'a> {
@@ -34,7 +37,7 @@ pub fn read_operands<'a, S: Source>(
         (IsFailureOfCertificates (S.holds source.now) (seen_words words.now)) }
 {
     let anchor = source.octets_of(words.anchor, Extent::Value)?;
-    let path = read_files(source, alloc, words.files.as_slice());
+    let path = read_files(source, alloc, words.files.as_slice(), MOST_OF_PATH);
     Ok(Operands {
         anchor_file: words.anchor,
         anchor,

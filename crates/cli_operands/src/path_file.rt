@@ -1,4 +1,4 @@
-//! The files of a path, as they were read.
+//! Files of certificates, as they were read.
 ghost use Rattle.std.specs.Prelude.{◌<◌, ◌^◌, length, map};
 ghost use Rattle.der_stream.specs.Sequence.{joined};
 
@@ -16,7 +16,7 @@ pub(crate) struct PathFile<'a> {
     pub ghost fits: { length (joined (map (λ value. value.items) values.items)) < 2 ^ 64 },
 }
 
-/// The files of a path.
+/// Files of certificates, in order.
 #[derive(Drop)]
 pub(crate) struct PathFiles<'a> {
     pub files: Vec<PathFile<'a>>,

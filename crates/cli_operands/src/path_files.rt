@@ -1,4 +1,4 @@
-//! The files of a path, several certificates in a row in each: read first, and then their certificates.
+//! Files with several certificates in a row in each: read first, and then their certificates.
 ghost use Rattle.std.specs.Prelude.{◌≡◌, map, IfErr, IfOk, None};
 ghost use Rattle.cert.specs.Certificate.{seen_certificate};
 ghost use Rattle.cli_failures.specs.Failures.{IsUnread};
@@ -13,24 +13,22 @@ use der::{Fault, Rule};
 use der_stream::{PathOctets, ReadFault, path_octets};
 use std::alloc::Global;
 
-// One more than a path may have, so that a path that is too long is reported as such.
-const MOST: u32 = 129;
-
-/// The values with which the octets begin, and why no more were read.
-fn values_of(alloc: Global, octets: &[u8]) -> PathOctets
-    ensures { ReadUpTo octets.now (map (λ value. value.items) result.values.items) result.stopped }
+/// The values with which the octets begin, at most so many, and why no more were read.
+fn values_of(alloc: Global, octets: &[u8], most: u32) -> PathOctets
+    ensures { ReadUpTo most octets.now (map (λ value. value.items) result.values.items)
+        result.stopped }
 {
     let mut left = octets;
-    path_octets(alloc, &mut left, MOST)
+    path_octets(alloc, &mut left, most)
 }
 
 /// The file whose octets these are.
-fn file_of<'a>(alloc: Global, file: &'a str, octets: &[u8]) -> PathFile<'a>
+fn file_of<'a>(alloc: Global, file: &'a str, octets: &[u8], most: u32) -> PathFile<'a>
     ensures name { result.file.now ≡ file.entry.now }
-    ensures values { ReadUpTo octets.now (map (λ value. value.items) result.values.items)
+    ensures values { ReadUpTo most octets.now (map (λ value. value.items) result.values.items)
         result.stopped }
 {
-    let PathOctets { values, stopped } = values_of(alloc, octets);
+    let PathOctets { values, stopped } = values_of(alloc, octets, most);
     PathFile {
         file,
         values,
@@ -42,26 +40,28 @@ fn read_file<'a, S: Source>(
     source: &S,
     alloc: Global,
     file: &'a str,
+    most: u32,
 ) -> Result<PathFile<'a>, Failure<'a>>
-    ensures reads { IfOk result (IsFileRead (S.holds source.now) file.entry.now) }
+    ensures reads { IfOk result (IsFileRead most (S.holds source.now) file.entry.now) }
     ensures fails { IfErr result (IsUnread (S.holds source.now) file.entry.now) }
 {
-    let octets = source.octets_of(file, Extent::Values(MOST))?;
-    Ok(file_of(alloc, file, octets.as_slice()))
+    let octets = source.octets_of(file, Extent::Values(most))?;
+    Ok(file_of(alloc, file, octets.as_slice(), most))
 }
 
-/// The files of a path in order, up to the first that cannot be read. No certificate is read of them yet.
+/// The files in order, up to the first that cannot be read, and of each at most so many values. No certificate is read of them yet.
 pub(crate) fn read_files<'a, S: Source>(
     source: &S,
     alloc: Global,
     files: &[&'a str],
+    most: u32,
 ) -> PathFiles<'a>
-    ensures { AreFilesRead (S.holds source.now) (map (λ file. file.now) files.now)
+    ensures { AreFilesRead most (S.holds source.now) (map (λ file. file.now) files.now)
         result.files.items result.unread }
 {
     let mut read = Vec::new(alloc);
     for file in files {
-        let next = match read_file(source, alloc, file) {
+        let next = match read_file(source, alloc, file, most) {
             Ok(next) => next,
             Err(failure) => {
                 return PathFiles {
@@ -124,7 +124,7 @@ fn certificates_in<'q, 'a>(
     Ok(certificates)
 }
 
-/// The certificates of the path, one file after the other. The first refused file is reported, else the one that could not be read.
+/// The certificates of the files, one file after the other. The first refused file is reported, else the one that could not be read.
 pub(crate) fn certificates_of<'q, 'a>(
     alloc: Global,
     path: &'q PathFiles<'a>,

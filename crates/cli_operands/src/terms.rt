@@ -1,11 +1,9 @@
 //! What is asked of a path beside its certificates.
 ghost use Rattle.std.specs.Prelude.{IfErr, IfOk, option_map};
-ghost use Rattle.cli_words.specs.QueryTexts.{seen_words};
-ghost use Rattle.cli_operands.specs.Asked.{IsBadPurpose, IsFailureOfTerms, IsPurposeOf, NameTerms};
+ghost use Rattle.cli_operands.specs.Asked.{AreBadTerms, AreTerms, IsBadPurpose, IsPurposeOf};
 
 use crate::{moment_of, purpose_of};
 use cli_failures::Failure;
-use cli_words::QueryWords;
 use std::alloc::Global;
 
 /// The moment and the purpose of a query.
@@ -35,13 +33,19 @@ fn read_purpose<'a>(alloc: Global, text: Option<&'a str>) -> Result<Option<Vec<u
 
 /// Reads the moment and then the purpose; the first that is wrong is reported (`BadTime`, `BadPurpose`), or `NoMemory`. No file is
 /// read. Time and memory are linear in the text of the purpose.
-pub fn read_terms<'a>(alloc: Global, words: &QueryWords<'a>) -> Result<Terms, Failure<'a>>
-    ensures reads { IfOk result (NameTerms (seen_words words.now)) }
-    ensures fails { IfErr result (IsFailureOfTerms (seen_words words.now)) }
+pub fn read_terms<'a>(
+    alloc: Global,
+    moment: &'a str,
+    purpose: Option<&'a str>,
+) -> Result<Terms, Failure<'a>>
+    ensures reads { IfOk result
+        (AreTerms moment.entry.now (option_map (λ s. s.now) purpose.entry)) }
+    ensures fails { IfErr result
+        (AreBadTerms moment.entry.now (option_map (λ s. s.now) purpose.entry)) }
 {
-    let Some(moment) = moment_of(words.moment) else {
+    let Some(moment) = moment_of(moment) else {
         return Err(Failure::BadTime);
     };
-    let purpose = read_purpose(alloc, words.purpose)?;
+    let purpose = read_purpose(alloc, purpose)?;
     Ok(Terms { moment, purpose })
 }

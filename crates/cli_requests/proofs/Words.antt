@@ -1,27 +1,30 @@
 -- Words of lines.
-use Rattle.std.proofs.Common.{◌≡◌, ◌∙◌, ◌++◌, ℕ, Bool, true, false, List, Option, Some, None, MatchOption, Bor, option_map, take, drop, codes, refl, sym, ap}
+use Rattle.std.proofs.Common.{◌≡◌, ◌∙◌, ◌++◌, ℕ, Bool, true, false, List, Option, Some, None, MatchOption, Bor, option_map, length, take, drop, refl, sym, ap}
 use Rattle.std.specs.Str.{IsUtf8, bytes_eq, is_utf8}
 use Rattle.std.specs.Str.Pattern.{FindsTextPrefix, LacksTextAt, StripsPrefix}
+use Rattle.std.proofs.Math.Seq.{take-append_seam}
 use Rattle.std.proofs.lemmas.List.{take-append-drop}
 use Rattle.std.proofs.lemmas.Slice.Eq.{bytes_eq-Decides}
 use Rattle.std.proofs.lemmas.Str.{IsUtf8-from_is_utf8, is_utf8-from_IsUtf8}
-use Rattle.cli_requests.specs.Requests.{is_passed_over, purpose_in, request_in, request_on, words_of}
+use Rattle.cli_requests.specs.Requests.{behind, is_passed_over, request_in, request_on, words_of}
 
--- ---- purposes
+-- ---- words with a front
 
-unprefixed : (word : List ℕ) (test : Bool) → bytes_eq (take 8 word) (codes "purpose=") ≡ test → LacksTextAt (codes "purpose=") word 0 → test ≡ false
-unprefixed word true is none =
-    absurd (none (drop 8 word) (sym (take-append-drop 8 word) ∙ ap (λ (front : List ℕ). front ++ drop 8 word) ((bytes_eq-Decides (take 8 word) (codes "purpose=")).0 is)))
-unprefixed word false is none = refl
+module _ (front word : List ℕ) where
+  unprefixed : (test : Bool) → bytes_eq (take (length front) word) front ≡ test → LacksTextAt front word 0 → test ≡ false
+  unprefixed true is none =
+      absurd (none (drop (length front) word)
+      (sym (take-append-drop (length front) word) ∙ ap (λ (begin : List ℕ). begin ++ drop (length front) word) ((bytes_eq-Decides (take (length front) word) front).0 is)))
+  unprefixed false is none = refl
 
-pub stripped : (word : List ℕ) (result : Option (Bor (List ℕ)))
-    → MatchOption result (FindsTextPrefix (codes "purpose=") word None) (λ text. StripsPrefix (FindsTextPrefix (codes "purpose=")) word text.now)
-    → option_map (λ text. text.now) result ≡ purpose_in word
-stripped word None none = rw (unprefixed word (bytes_eq (take 8 word) (codes "purpose=")) refl none) refl
-stripped word (Some text) (n, (n_is, split, boundary), text_is, len) =
-    let front : take 8 word ≡ codes "purpose=" = ap (take 8) split in
-    let found : bytes_eq (take 8 word) (codes "purpose=") ≡ true = (bytes_eq-Decides (take 8 word) (codes "purpose=")).1 front in
-    rw found (ap Some (text_is ∙ ap (λ (k : ℕ). drop k word) n_is))
+  pub stripped : (result : Option (Bor (List ℕ)))
+      → MatchOption result (FindsTextPrefix front word None) (λ text. StripsPrefix (FindsTextPrefix front) word text.now)
+      → option_map (λ text. text.now) result ≡ behind front word
+  stripped None none = rw (unprefixed (bytes_eq (take (length front) word) front) refl none) refl
+  stripped (Some text) (n, (n_is, split, boundary), text_is, len) =
+      let begins : take (length front) word ≡ front = ap (take (length front)) split ∙ take-append_seam front _ in
+      let found : bytes_eq (take (length front) word) front ≡ true = (bytes_eq-Decides (take (length front) word) front).1 begins in
+      rw found (ap Some (text_is ∙ ap (λ (k : ℕ). drop k word) n_is))
 
 -- ---- texts
 

@@ -6,13 +6,21 @@ use Rattle.std.specs.Str.{bytes_eq, is_utf8}
 use Rattle.std.specs.Result.{result_ok}
 use Rattle.hex.specs.Hex.{decode_sized}
 use Rattle.cli_words.specs.QueryTexts.{QueryTexts, seen_words}
+use Rattle.cli_words.specs.SearchTexts.{SearchTexts, seen_search_words}
 use Rattle.cli_words.specs.declared.line.Kind.{Kind}
 pub use Rattle.cli_words.specs.CommandLine.{kind_named}
 use Rattle.cli_requests.specs.Operands.{operand_in}
 use Rattle.cli_requests.specs.declared.request.Request.{Request as Owned}
-use Rattle.cli_requests.specs.declared.request.Request.TheVariants.{Nothing, Believe, Deliver, Check, Prints, Forget, Quit}
+use Rattle.cli_requests.specs.declared.request.Request.TheVariants.{Nothing, Believe, Deliver, Check, Find, Prints, SearchPrints, Forget, Quit}
 use Rattle.cli_requests.specs.declared.request.RequestFault.{RequestFault}
 use Rattle.cli_requests.specs.declared.request.RequestFault.TheVariants.{Malformed, Memory}
+use Rattle.cli_requests.specs.declared.searching.SearchFiles as code
+
+-- the operands of a search: the anchors, the certificates that may stand between, if any are handed in, and the target
+pub record SearchFiles : Type 0 where
+  pub anchors : List ℕ
+  pub among : Option (List ℕ)
+  pub target : List ℕ
 
 -- what a line asks for
 pub data Request : Type 0 where
@@ -20,7 +28,9 @@ pub data Request : Type 0 where
   believe : List ℕ → Request
   deliver : List ℕ → List ℕ → Request
   check : QueryTexts → Request
+  find : SearchTexts → Request
   prints : Kind → Bool → List ℕ → List ℕ → Request
+  search_prints : Bool → SearchFiles → Request
   forget : Request
   quit : Request
 
@@ -60,9 +70,14 @@ path_in moment purpose (anchor ∷ file ∷ files) =
     else None
 path_in moment purpose _ = None
 
+-- what stands behind this front of a word
+abbrev pub behind : List ℕ → List ℕ → Option (List ℕ)
+behind front word =
+    if bytes_eq (take (length front) word) front then Some (drop (length front) word) else None
+
 -- `purpose=OID`
 abbrev pub purpose_in : List ℕ → Option (List ℕ)
-purpose_in word = if bytes_eq (take 8 word) (codes "purpose=") then Some (drop 8 word) else None
+purpose_in word = behind (codes "purpose=") word
 
 -- the path that stands behind a purpose, or begins with the word that names none
 abbrev pub path_behind : List ℕ → Option (List ℕ) → List ℕ → List (List ℕ) → Option Request
@@ -74,6 +89,60 @@ abbrev pub check_in : List (List ℕ) → Option Request
 check_in (moment ∷ first ∷ words) = path_behind moment (purpose_in first) first words
 check_in _ = None
 
+-- `ANCHORS FILE`, or `ANCHORS AMONG FILE`
+abbrev pub search_files : List (List ℕ) → Option SearchFiles
+search_files (anchors ∷ file ∷ []) = Some (record { anchors = anchors; among = None; target = file })
+search_files (anchors ∷ among ∷ file ∷ []) = Some (record { anchors = anchors; among = Some among; target = file })
+search_files _ = None
+
+-- each of them is an operand
+abbrev pub search_operands : List (List ℕ) → Option SearchFiles
+search_operands words = if are_operands words then search_files words else None
+
+-- one word, or none
+abbrev pub if_given : Option (List ℕ) → List (List ℕ)
+if_given None = []
+if_given (Some word) = word ∷ []
+
+-- what is asked about the certificates in these operands
+abbrev pub search_texts : List ℕ → Option (List ℕ) → Option (List ℕ) → SearchFiles → SearchTexts
+search_texts moment purpose name files = record {
+  moment = moment;
+  purpose = purpose;
+  name = name;
+  anchors = files.anchors ∷ [];
+  among = if_given files.among;
+  target = files.target;
+}
+
+unfoldable pub search_in : List ℕ → Option (List ℕ) → Option (List ℕ) → List (List ℕ) → Option Request
+search_in moment purpose name words =
+    option_map (λ files. find (search_texts moment purpose name files)) (search_operands words)
+
+-- `name=NAME`
+abbrev pub name_in : List ℕ → Option (List ℕ)
+name_in word = behind (codes "name=") word
+
+-- the search that stands behind a name, or begins with the word that names none
+abbrev pub search_behind : List ℕ → Option (List ℕ) → Option (List ℕ) → List ℕ → List (List ℕ) → Option Request
+search_behind moment purpose (Some name) first words = search_in moment purpose (Some name) words
+search_behind moment purpose None first words = search_in moment purpose None (first ∷ words)
+
+-- `ANCHORS [AMONG] FILE`, or `name=NAME ANCHORS [AMONG] FILE`
+abbrev pub named_in : List ℕ → Option (List ℕ) → List (List ℕ) → Option Request
+named_in moment purpose (first ∷ words) = search_behind moment purpose (name_in first) first words
+named_in moment purpose [] = None
+
+-- the same behind a purpose, or beginning with the word that names none
+abbrev pub named_behind : List ℕ → Option (List ℕ) → List ℕ → List (List ℕ) → Option Request
+named_behind moment (Some purpose) first words = named_in moment (Some purpose) words
+named_behind moment None first words = named_in moment None (first ∷ words)
+
+-- `find TIME [purpose=OID] [name=NAME] ANCHORS [AMONG] FILE`
+abbrev pub find_in : List (List ℕ) → Option Request
+find_in (moment ∷ first ∷ words) = named_behind moment (purpose_in first) first words
+find_in _ = None
+
 -- `KIND ISSUER FILE`
 abbrev pub prints_of : Bool → List (List ℕ) → Option Request
 prints_of with_parts (kind ∷ issuer ∷ file ∷ []) =
@@ -81,11 +150,22 @@ prints_of with_parts (kind ∷ issuer ∷ file ∷ []) =
     then option_map (λ named. prints named with_parts issuer file) (kind_named kind) else None
 prints_of with_parts _ = None
 
--- `prints KIND ISSUER FILE`, or `prints parts KIND ISSUER FILE`
+-- `search ANCHORS [AMONG] FILE`, behind its first word
+unfoldable pub search_prints_in : Bool → List (List ℕ) → Option Request
+search_prints_in with_parts words = option_map (search_prints with_parts) (search_operands words)
+
+-- one or the other
+unfoldable pub prints_behind : Bool → List (List ℕ) → Option Request
+prints_behind with_parts [] = None
+prints_behind with_parts (kind ∷ words) =
+    if bytes_eq kind (codes "search") then search_prints_in with_parts words
+    else prints_of with_parts (kind ∷ words)
+
+-- behind `prints`, or behind `prints parts`
 abbrev pub prints_in : List (List ℕ) → Option Request
 prints_in [] = None
 prints_in (first ∷ words) =
-    if bytes_eq first (codes "parts") then prints_of true words else prints_of false (first ∷ words)
+    if bytes_eq first (codes "parts") then prints_behind true words else prints_behind false (first ∷ words)
 
 -- `forget` and `quit`
 abbrev pub alone : Request → List (List ℕ) → Option Request
@@ -99,9 +179,10 @@ request_named name words =
     if bytes_eq name (codes "believe") then believe_in words
     else (if bytes_eq name (codes "deliver") then deliver_in words
     else (if bytes_eq name (codes "check") then check_in words
+    else (if bytes_eq name (codes "find") then find_in words
     else (if bytes_eq name (codes "prints") then prints_in words
     else (if bytes_eq name (codes "forget") then alone forget words
-    else (if bytes_eq name (codes "quit") then alone quit words else None)))))
+    else (if bytes_eq name (codes "quit") then alone quit words else None))))))
 
 abbrev pub request_in : List (List ℕ) → Option Request
 request_in [] = None
@@ -122,12 +203,21 @@ request_on line =
 abbrev pub octets_of_words : List (Bor (List ℕ)) → List (List ℕ)
 octets_of_words words = map (λ word. word.now) words
 
+abbrev pub seen_files : code.SearchFiles → SearchFiles
+seen_files files = record {
+  anchors = files.anchors.now;
+  among = option_map (λ word. word.now) files.among;
+  target = files.target.now;
+}
+
 abbrev pub seen_request : Owned → Request
 seen_request Nothing = nothing
 seen_request (Believe print) = believe print
 seen_request (Deliver issuer file) = deliver issuer.now file.now
 seen_request (Check words) = check (seen_words words)
+seen_request (Find words) = find (seen_search_words words)
 seen_request (Prints kind with_parts issuer file) = prints kind with_parts issuer.now file.now
+seen_request (SearchPrints with_parts files) = search_prints with_parts (seen_files files)
 seen_request Forget = forget
 seen_request Quit = quit
 

@@ -3,6 +3,8 @@
 
 mod operand;
 mod request;
+mod searching;
 
 pub use operand::{Operand, operand_of};
 pub use request::{Request, RequestFault, request_of};
+pub use searching::SearchFiles;

@@ -1,9 +1,10 @@
 //! What a line of a session asks for.
 ghost use Rattle.std.specs.Prelude.{◌≡◌, IfErr, IfOk, OnOk, Some, map, option_map, true};
-ghost use Rattle.cli_requests.specs.Requests.{IsFalse, IsNone, alone, are_operands, believe_in, check_in, deliver_in, is_passed_over, kind_named, path_in, print_in, prints_in, prints_of, purpose_in, request_in, request_named, request_on, seen_request, octets_of_words, words_of};
+ghost use Rattle.cli_requests.specs.Requests.{IsFalse, IsNone, alone, are_operands, believe_in, check_in, deliver_in, is_passed_over, kind_named, path_in, print_in, prints_behind, prints_in, prints_of, purpose_in, request_in, request_named, request_on, search_prints_in, seen_request, octets_of_words, words_of};
 
 use crate::operand::is_operand;
-use cli_words::{Kind, QueryWords};
+use crate::searching::{SearchFiles, find_in, search_operands};
+use cli_words::{Kind, QueryWords, SearchWords};
 use std::alloc::{AllocError, Global};
 use std::str;
 use thiserror::Error;
@@ -22,6 +23,8 @@ pub enum Request<'a> {
     },
     /// Tell the verdict on a path. The anchor and the certificates are operands.
     Check(QueryWords<'a>),
+    /// Tell the path that is found to a certificate, and its verdict. The files are operands.
+    Find(SearchWords<'a>),
     /// Tell the fingerprints of what a verifier is asked about a value of that kind, under the issuer's key, and with parts what is
     /// verified too: algorithm, key, message and signature.
     Prints {
@@ -29,6 +32,11 @@ pub enum Request<'a> {
         with_parts: bool,
         issuer: &'a str,
         file: &'a str,
+    },
+    /// Tell the same of what a verifier may be asked in a search.
+    SearchPrints {
+        with_parts: bool,
+        files: SearchFiles<'a>,
     },
     /// Forget what `Believe` brought.
     Forget,
@@ -97,7 +105,7 @@ fn kind_named(name: &str) -> Option<Kind>
 }
 
 // Whether the words are operands.
-fn check_operands(alloc: Global, words: &[&str]) -> Result<(), RequestFault>
+pub(crate) fn check_operands(alloc: Global, words: &[&str]) -> Result<(), RequestFault>
     ensures reads { OnOk result (are_operands (octets_of_words words.now) ≡ true) }
     ensures refuses { IfErr result (IsFalse (are_operands (octets_of_words words.now))) }
 {
@@ -165,7 +173,7 @@ fn path_in<'a>(
 }
 
 // The purpose that the word names.
-fn purpose_in(word: &str) -> Option<&str>
+pub(crate) fn purpose_in(word: &str) -> Option<&str>
     ensures { option_map (λ text. text.now) result ≡ purpose_in word.now }
 {
     word.strip_prefix("purpose=")
@@ -215,6 +223,41 @@ fn prints_of<'a>(
     }
 }
 
+#[tactic(auto, unfolding(crate::specs::Requests::search_prints_in))]
+fn search_prints_in<'a>(
+    alloc: Global,
+    with_parts: bool,
+    words: &[&'a str],
+) -> Result<Request<'a>, RequestFault>
+    ensures reads { IfOk result (λ request.
+        search_prints_in with_parts (octets_of_words words.now) ≡ Some (seen_request request)) }
+    ensures refuses { IfErr result
+        (IsNone (search_prints_in with_parts (octets_of_words words.now))) }
+{
+    let files = search_operands(alloc, words)?;
+    Ok(Request::SearchPrints { with_parts, files })
+}
+
+#[tactic(auto, unfolding(crate::specs::Requests::prints_behind))]
+fn prints_behind<'a>(
+    alloc: Global,
+    with_parts: bool,
+    words: &[&'a str],
+) -> Result<Request<'a>, RequestFault>
+    ensures reads { IfOk result (λ request.
+        prints_behind with_parts (octets_of_words words.now) ≡ Some (seen_request request)) }
+    ensures refuses { IfErr result
+        (IsNone (prints_behind with_parts (octets_of_words words.now))) }
+{
+    let [first, behind @ ..] = words else {
+        return Err(RequestFault::Malformed);
+    };
+    match *first {
+        "search" => search_prints_in(alloc, with_parts, behind),
+        _ => prints_of(alloc, with_parts, words),
+    }
+}
+
 fn prints_in<'a>(alloc: Global, words: &[&'a str]) -> Result<Request<'a>, RequestFault>
     ensures reads { IfOk result (λ request.
         prints_in (octets_of_words words.now) ≡ Some (seen_request request)) }
@@ -224,8 +267,8 @@ fn prints_in<'a>(alloc: Global, words: &[&'a str]) -> Result<Request<'a>, Reques
         return Err(RequestFault::Malformed);
     };
     match *first {
-        "parts" => prints_of(alloc, true, behind),
-        _ => prints_of(alloc, false, words),
+        "parts" => prints_behind(alloc, true, behind),
+        _ => prints_behind(alloc, false, words),
     }
 }
 
@@ -256,6 +299,7 @@ fn request_named<'a>(
         "believe" => believe_in(words),
         "deliver" => deliver_in(alloc, words),
         "check" => check_in(alloc, words),
+        "find" => find_in(alloc, words),
         "prints" => prints_in(alloc, words),
         "forget" => alone(Request::Forget, words),
         "quit" => alone(Request::Quit, words),

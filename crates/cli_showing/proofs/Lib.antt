@@ -1,3 +1,2 @@
-pub mod Answered
-pub mod Detailed
-pub mod Failed
+mod Detailed
+mod Under

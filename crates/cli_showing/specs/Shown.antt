@@ -14,7 +14,7 @@ use Rattle.cli_printing.specs.CrlText.{crl_text}
 use Rattle.cli_printing.specs.FingerprintText.{certificate_print_line, crl_print_line, response_print_lines}
 use Rattle.cli_printing.specs.ResponseText.{response_text}
 use Rattle.cli_failures.specs.declared.failure.Failure.{Failure}
-use Rattle.cli_failures.specs.Failures.{Holding, HoldsCertificate, HoldsList, HoldsResponse, IsNoCertificate, IsNoList, IsNoResponse, OrUnwritable}
+use Rattle.cli_failures.specs.Failures.{Holding, HoldsCertificate, HoldsList, HoldsResponse, IsNoCertificate, IsNoList, IsNoResponse}
 
 -- the lines of the value whose encoding the file holds
 abbrev pub IsTreeText : Holding → List ℕ → List ℕ → Type 0
@@ -57,24 +57,6 @@ ArePrintsUnder holds issuer kind with_parts file text =
     (signer : Fields) × HoldsCertificate holds issuer signer
     × ArePrintLines holds signer.key_info kind with_parts file text
 
--- ---- what is found
-
--- the file holds a DER value
-abbrev pub HoldsValue : Holding → List ℕ → Type 0
-HoldsValue holds file =
-    (octets : List ℕ) × (value : Value) × holds file (Some octets) × Encodes octets value
-
--- a value of that kind
-abbrev pub HoldsKind : Holding → Kind → List ℕ → Type 0
-HoldsKind holds Certificate file = (read : Fields) × HoldsCertificate holds file read
-HoldsKind holds RevocationList file = (read : CertificateList) × HoldsList holds file read
-HoldsKind holds Response file = (read : OcspResponse) × HoldsResponse holds file read
-
--- and the issuer's file a certificate
-abbrev pub HoldUnder : Holding → List ℕ → Kind → List ℕ → Type 0
-HoldUnder holds issuer kind file =
-    ((signer : Fields) × HoldsCertificate holds issuer signer) × HoldsKind holds kind file
-
 -- ---- what is wrong
 
 -- a failure on a file that is to hold a value of that kind
@@ -89,8 +71,3 @@ IsFailureOfPrints holds issuer kind file failure =
     IsNoCertificate holds issuer failure
     ⊎ ((signer : Fields) × HoldsCertificate holds issuer signer
     × IsNotShown holds kind file failure)
-
--- or both files hold what they are to hold, and the writer failed
-abbrev pub FailsToPrint : Holding → List ℕ → Kind → List ℕ → Failure → Type 0
-FailsToPrint holds issuer kind file =
-    OrUnwritable (IsFailureOfPrints holds issuer kind file) (HoldUnder holds issuer kind file)

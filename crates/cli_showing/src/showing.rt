@@ -1,6 +1,5 @@
 //! What files say, in print.
-ghost use Rattle.std.specs.Prelude.{◌≡◌, [], false, IfErr, IfOk, Ok, OnOk};
-ghost use Rattle.std.specs.Io.KnownBytes.{Appends};
+ghost use Rattle.std.specs.Prelude.{◌≡◌, ◌++◌, [], false, IfErr, IfOk, Ok};
 ghost use Rattle.cert.specs.Certificate.{Certificate as CertificateFields, certificate};
 ghost use Rattle.cert.specs.SubjectPublicKeyInfo.{seen_key_info};
 ghost use Rattle.cli_printing.specs.CertificateText.{certificate_text};
@@ -9,75 +8,68 @@ ghost use Rattle.cli_printing.specs.CrlText.{crl_text};
 ghost use Rattle.cli_printing.specs.FingerprintText.{certificate_print_line, crl_print_line, response_print_lines};
 ghost use Rattle.statements_ocsp.specs.OcspResponse.{OcspResponse, ocsp_response};
 ghost use Rattle.cli_printing.specs.ResponseText.{response_text};
-ghost use Rattle.cli_failures.specs.declared.failure.Failure.TheVariants.{NoMemory, Unwritable};
-ghost use Rattle.cli_failures.specs.Failures.{IsJust, IsNoCertificate, IsNoList, IsNoResponse, IsNoValue, OrUnwritable};
-ghost use Rattle.cli_failures.specs.Report.{UnlessLate, WritesText};
-ghost use Rattle.cli_showing.specs.Shown.{ArePrintLines, ArePrintsUnder, FailsToPrint, HoldsKind, HoldsValue, IsNotShown, IsShownText, IsTreeText, IsWithDetails};
+ghost use Rattle.cli_failures.specs.declared.failure.Failure.TheVariants.{NoMemory};
+ghost use Rattle.cli_failures.specs.Failures.{IsJust, IsNoCertificate, IsNoList, IsNoResponse, IsNoValue};
+ghost use Rattle.cli_showing.specs.Shown.{ArePrintLines, ArePrintsUnder, IsFailureOfPrints, IsNotShown, IsShownText, IsTreeText, IsWithDetails};
 
 use cert::{Certificate, SubjectPublicKeyInfo};
 use cli_details::{certificate_details, list_details, response_details};
 use cli_failures::{Extent, Failure, Source, read_certificate, read_list, read_response};
 use cli_printing::{
-    PrintsFault, TreeFault, certificate_print_to, certificate_to, crl_print_to, crl_to,
-    response_prints_to, response_to, tree_to,
+    TreeFault, certificate_print_to, certificate_to, crl_print_to, crl_to, response_prints_to,
+    response_to, tree_to,
 };
 use cli_words::Kind;
 use statements_crl::Crl;
 use statements_ocsp::Response;
 use std::alloc::Global;
-use std::io::Write;
 
-/// Writes the DER value in the file, a line for each value in it.
-pub fn tree<'a, S: Source, O: Write>(
-    source: &S,
-    file: &'a str,
-    out: &mut O,
-) -> Result<(), Failure<'a>>
-    ensures done { OnOk result (WritesText (IsTreeText (S.holds source.now) file.entry.now)
-        (O.contents out.old) (O.contents out.new)) }
-    ensures fails { IfErr result (OrUnwritable (IsNoValue (S.holds source.now) file.entry.now)
-        (HoldsValue (S.holds source.now) file.entry.now)) }
-    ensures quiet { IfErr result (λ failure. UnlessLate failure (out.new ≡ out.old)) }
+/// The DER value in the file, a line for each value in it.
+pub fn tree<'a, S: Source>(source: &S, alloc: Global, file: &'a str) -> Result<Vec<u8>, Failure<'a>>
+    ensures shows { IfOk result (λ text.
+        IsTreeText (S.holds source.now) file.entry.now text.items) }
+    ensures fails { IfErr result (IsNoValue (S.holds source.now) file.entry.now) }
 {
     let octets = source.octets_of(file, Extent::Value)?;
-    match tree_to(octets.as_slice(), out) {
-        Ok(()) => Ok(()),
+    let mut text = Vec::new(alloc);
+    match tree_to(octets.as_slice(), &mut text) {
+        Ok(()) => Ok(text),
         Err(TreeFault::Refused(fault)) => Err(Failure::Refused { file, fault }),
-        Err(TreeFault::Io) => Err(Failure::Unwritable),
+        Err(TreeFault::Io) => Err(Failure::NoMemory),
     }
 }
 
-/// Writes what the certificate, the revocation list or the response in the file says, and behind it, if details are asked for, what no
-/// verdict needs.
-pub fn show<'a, S: Source, O: Write>(
+/// What the certificate, the revocation list or the response in the file says, and behind it, if details are asked for, what no verdict
+/// needs.
+pub fn show<'a, S: Source>(
     source: &S,
     alloc: Global,
     kind: Kind,
     with_details: bool,
     file: &'a str,
-    out: &mut O,
-) -> Result<(), Failure<'a>>
-    ensures done { OnOk result
-        (WritesText (IsShownText (S.holds source.now) kind with_details file.entry.now)
-        (O.contents out.old) (O.contents out.new)) }
-    ensures fails { IfErr result (OrUnwritable (IsNotShown (S.holds source.now) kind file.entry.now)
-        (HoldsKind (S.holds source.now) kind file.entry.now)) }
-    ensures quiet { IfErr result (λ failure. UnlessLate failure (out.new ≡ out.old)) }
+) -> Result<Vec<u8>, Failure<'a>>
+    ensures shows { IfOk result (λ text.
+        IsShownText (S.holds source.now) kind with_details file.entry.now text.items) }
+    ensures fails { IfErr result (IsNotShown (S.holds source.now) kind file.entry.now) }
 {
     let octets = source.octets_of(file, Extent::Value)?;
     match kind {
-        Kind::Certificate => show_certificate(alloc, with_details, file, octets.as_slice(), out),
-        Kind::RevocationList => show_list(alloc, with_details, file, octets.as_slice(), out),
-        Kind::Response => show_response(alloc, with_details, file, octets.as_slice(), out),
+        Kind::Certificate => show_certificate(alloc, with_details, file, octets.as_slice()),
+        Kind::RevocationList => show_list(alloc, with_details, file, octets.as_slice()),
+        Kind::Response => show_response(alloc, with_details, file, octets.as_slice()),
     }
 }
 
-// Writes what stands behind the lines.
-fn write_end<'a, O: Write>(details: &[u8], out: &mut O) -> Result<(), Failure<'a>>
-    ensures done { OnOk result (Appends (O.contents out.old) (O.contents out.new) details.now) }
-    ensures fails { IfErr result (λ failure. failure ≡ Unwritable) }
+// The text with these lines behind it.
+fn with_lines<'a>(text: Vec<u8>, lines: &[u8]) -> Result<Vec<u8>, Failure<'a>>
+    ensures joined { IfOk result (λ joined. joined.items ≡ text.items ++ lines.now) }
+    ensures fails { IfErr result (λ failure. failure ≡ NoMemory) }
 {
-    out.write_all(details).map_err(|_| Failure::Unwritable)
+    let mut text = text;
+    match text.extend_from_slice(lines) {
+        Ok(()) => Ok(text),
+        Err(_) => Err(Failure::NoMemory),
+    }
 }
 
 // The further lines of the certificate; none if they are not asked for.
@@ -95,24 +87,24 @@ fn end_of_certificate<'a>(
     certificate_details(alloc, certificate).map_err(|_| Failure::NoMemory)
 }
 
-fn show_certificate<'a, O: Write>(
+fn show_certificate<'a>(
     alloc: Global,
     with_details: bool,
     file: &'a str,
     octets: &[u8],
-    out: &mut O,
-) -> Result<(), Failure<'a>>
-    ensures done { OnOk result ((read : CertificateFields) × (certificate octets.now ≡ Ok read)
-        × WritesText (IsWithDetails with_details (certificate_text read)) (O.contents out.old)
-        (O.contents out.new)) }
-    ensures fails { IfErr result (OrUnwritable (IsNoCertificate (IsJust octets.now) file.entry.now)
-        ((read : CertificateFields) × (certificate octets.now ≡ Ok read))) }
-    ensures quiet { IfErr result (λ failure. UnlessLate failure (out.new ≡ out.old)) }
+) -> Result<Vec<u8>, Failure<'a>>
+    ensures shows { IfOk result (λ text.
+        (read : CertificateFields) × (certificate octets.now ≡ Ok read)
+        × IsWithDetails with_details (certificate_text read) text.items) }
+    ensures fails { IfErr result (IsNoCertificate (IsJust octets.now) file.entry.now) }
 {
     let certificate = read_certificate(alloc, file, octets)?;
     let details = end_of_certificate(alloc, with_details, &certificate)?;
-    certificate_to(&certificate, out).map_err(|_| Failure::Unwritable)?;
-    write_end(details.as_slice(), out)
+    let mut text = Vec::new(alloc);
+    match certificate_to(&certificate, &mut text) {
+        Ok(()) => with_lines(text, details.as_slice()),
+        Err(_) => Err(Failure::NoMemory),
+    }
 }
 
 // The further lines of the revocation list; none if they are not asked for.
@@ -130,24 +122,24 @@ fn end_of_list<'a>(
     list_details(alloc, list).map_err(|_| Failure::NoMemory)
 }
 
-fn show_list<'a, O: Write>(
+fn show_list<'a>(
     alloc: Global,
     with_details: bool,
     file: &'a str,
     octets: &[u8],
-    out: &mut O,
-) -> Result<(), Failure<'a>>
-    ensures done { OnOk result ((read : CertificateList) × (certificate_list octets.now ≡ Ok read)
-        × WritesText (IsWithDetails with_details (crl_text read)) (O.contents out.old)
-        (O.contents out.new)) }
-    ensures fails { IfErr result (OrUnwritable (IsNoList (IsJust octets.now) file.entry.now)
-        ((read : CertificateList) × (certificate_list octets.now ≡ Ok read))) }
-    ensures quiet { IfErr result (λ failure. UnlessLate failure (out.new ≡ out.old)) }
+) -> Result<Vec<u8>, Failure<'a>>
+    ensures shows { IfOk result (λ text.
+        (read : CertificateList) × (certificate_list octets.now ≡ Ok read)
+        × IsWithDetails with_details (crl_text read) text.items) }
+    ensures fails { IfErr result (IsNoList (IsJust octets.now) file.entry.now) }
 {
     let list = read_list(alloc, file, octets)?;
     let details = end_of_list(alloc, with_details, &list)?;
-    crl_to(&list, out).map_err(|_| Failure::Unwritable)?;
-    write_end(details.as_slice(), out)
+    let mut text = Vec::new(alloc);
+    match crl_to(&list, &mut text) {
+        Ok(()) => with_lines(text, details.as_slice()),
+        Err(_) => Err(Failure::NoMemory),
+    }
 }
 
 // The further lines of the response; none if they are not asked for.
@@ -165,148 +157,138 @@ fn end_of_response<'a>(
     response_details(alloc, response).map_err(|_| Failure::NoMemory)
 }
 
-fn show_response<'a, O: Write>(
+fn show_response<'a>(
     alloc: Global,
     with_details: bool,
     file: &'a str,
     octets: &[u8],
-    out: &mut O,
-) -> Result<(), Failure<'a>>
-    ensures done { OnOk result ((read : OcspResponse) × (ocsp_response octets.now ≡ Ok read)
-        × WritesText (IsWithDetails with_details (response_text read)) (O.contents out.old)
-        (O.contents out.new)) }
-    ensures fails { IfErr result (OrUnwritable (IsNoResponse (IsJust octets.now) file.entry.now)
-        ((read : OcspResponse) × (ocsp_response octets.now ≡ Ok read))) }
-    ensures quiet { IfErr result (λ failure. UnlessLate failure (out.new ≡ out.old)) }
+) -> Result<Vec<u8>, Failure<'a>>
+    ensures shows { IfOk result (λ text.
+        (read : OcspResponse) × (ocsp_response octets.now ≡ Ok read)
+        × IsWithDetails with_details (response_text read) text.items) }
+    ensures fails { IfErr result (IsNoResponse (IsJust octets.now) file.entry.now) }
 {
     let response = read_response(alloc, file, octets)?;
     let details = end_of_response(alloc, with_details, &response)?;
-    response_to(&response, out).map_err(|_| Failure::Unwritable)?;
-    write_end(details.as_slice(), out)
+    let mut text = Vec::new(alloc);
+    match response_to(&response, &mut text) {
+        Ok(()) => with_lines(text, details.as_slice()),
+        Err(_) => Err(Failure::NoMemory),
+    }
 }
 
-/// Writes the lines of what a verifier is asked about the file under the key of its issuer, with the four texts behind each if these are
-/// asked for. The issuer's file comes first: the other is looked at only if it holds a certificate.
-pub fn prints<'a, S: Source, O: Write>(
+/// The lines of what a verifier is asked about the file under the key of its issuer, with the four texts behind each if these are asked
+/// for. The issuer's file comes first: the other is looked at only if it holds a certificate.
+pub fn prints<'a, S: Source>(
     source: &S,
     alloc: Global,
     issuer: &'a str,
     kind: Kind,
     with_parts: bool,
     file: &'a str,
-    out: &mut O,
-) -> Result<(), Failure<'a>>
-    ensures done { OnOk result
-        (WritesText (ArePrintsUnder (S.holds source.now) issuer.entry.now kind with_parts
-        file.entry.now)
-        (O.contents out.old) (O.contents out.new)) }
+) -> Result<Vec<u8>, Failure<'a>>
+    ensures prints { IfOk result (λ text. ArePrintsUnder (S.holds source.now)
+        issuer.entry.now kind with_parts file.entry.now text.items) }
     ensures fails { IfErr result
-        (FailsToPrint (S.holds source.now) issuer.entry.now kind file.entry.now) }
-    ensures quiet { IfErr result (λ failure. UnlessLate failure (out.new ≡ out.old)) }
+        (IsFailureOfPrints (S.holds source.now) issuer.entry.now kind file.entry.now) }
 {
     let octets = source.octets_of(issuer, Extent::Value)?;
     let signer = read_certificate(alloc, issuer, octets.as_slice())?;
-    let key_info = &signer.subject_public_key_info;
-    print_under(source, alloc, key_info, kind, with_parts, file, out)
+    prints_under(
+        source,
+        alloc,
+        &signer.subject_public_key_info,
+        kind,
+        with_parts,
+        file,
+    )
 }
 
-// The fingerprints of the file under the key of its issuer.
-fn print_under<'a, S: Source, O: Write>(
+// The lines of the file under the key of its issuer.
+fn prints_under<'a, S: Source>(
     source: &S,
     alloc: Global,
     key_info: &SubjectPublicKeyInfo<'_>,
     kind: Kind,
     with_parts: bool,
     file: &'a str,
-    out: &mut O,
-) -> Result<(), Failure<'a>>
-    ensures done { OnOk result
-        (WritesText (ArePrintLines (S.holds source.now) (seen_key_info key_info.now) kind with_parts
-        file.entry.now)
-        (O.contents out.old) (O.contents out.new)) }
-    ensures fails { IfErr result (OrUnwritable (IsNotShown (S.holds source.now) kind file.entry.now)
-        (HoldsKind (S.holds source.now) kind file.entry.now)) }
-    ensures quiet { IfErr result (λ failure. UnlessLate failure (out.new ≡ out.old)) }
+) -> Result<Vec<u8>, Failure<'a>>
+    ensures prints { IfOk result (λ text. ArePrintLines (S.holds source.now)
+        (seen_key_info key_info.now) kind with_parts file.entry.now text.items) }
+    ensures fails { IfErr result (IsNotShown (S.holds source.now) kind file.entry.now) }
 {
     let octets = source.octets_of(file, Extent::Value)?;
     match kind {
-        Kind::Certificate => print_certificate(
+        Kind::Certificate => {
+            prints_of_certificate(alloc, key_info, with_parts, file, octets.as_slice())
+        }
+        Kind::RevocationList => prints_of_list(
             alloc,
             key_info,
             with_parts,
             file,
             octets.as_slice(),
-            out,
         ),
-        Kind::RevocationList => print_list(
-            alloc,
-            key_info,
-            with_parts,
-            file,
-            octets.as_slice(),
-            out,
-        ),
-        Kind::Response => print_response(alloc, key_info, with_parts, file, octets.as_slice(), out),
+        Kind::Response => prints_of_response(alloc, key_info, with_parts, file, octets.as_slice()),
     }
 }
 
-fn print_certificate<'a, O: Write>(
+fn prints_of_certificate<'a>(
     alloc: Global,
     key_info: &SubjectPublicKeyInfo<'_>,
     with_parts: bool,
     file: &'a str,
     octets: &[u8],
-    out: &mut O,
-) -> Result<(), Failure<'a>>
-    ensures done { OnOk result ((read : CertificateFields) × (certificate octets.now ≡ Ok read)
-        × Appends (O.contents out.old) (O.contents out.new)
-        (certificate_print_line with_parts (seen_key_info key_info.now) read)) }
-    ensures fails { IfErr result (OrUnwritable (IsNoCertificate (IsJust octets.now) file.entry.now)
-        ((read : CertificateFields) × (certificate octets.now ≡ Ok read))) }
-    ensures quiet { IfErr result (λ failure. UnlessLate failure (out.new ≡ out.old)) }
+) -> Result<Vec<u8>, Failure<'a>>
+    ensures prints { IfOk result (λ text.
+        (read : CertificateFields) × (certificate octets.now ≡ Ok read)
+        × (text.items ≡ certificate_print_line with_parts (seen_key_info key_info.now) read)) }
+    ensures fails { IfErr result (IsNoCertificate (IsJust octets.now) file.entry.now) }
 {
     let certificate = read_certificate(alloc, file, octets)?;
-    certificate_print_to(&certificate, key_info, with_parts, out).map_err(|_| Failure::Unwritable)
+    let mut text = Vec::new(alloc);
+    match certificate_print_to(&certificate, key_info, with_parts, &mut text) {
+        Ok(()) => Ok(text),
+        Err(_) => Err(Failure::NoMemory),
+    }
 }
 
-fn print_list<'a, O: Write>(
+fn prints_of_list<'a>(
     alloc: Global,
     key_info: &SubjectPublicKeyInfo<'_>,
     with_parts: bool,
     file: &'a str,
     octets: &[u8],
-    out: &mut O,
-) -> Result<(), Failure<'a>>
-    ensures done { OnOk result ((read : CertificateList) × (certificate_list octets.now ≡ Ok read)
-        × Appends (O.contents out.old) (O.contents out.new)
-        (crl_print_line with_parts (seen_key_info key_info.now) read)) }
-    ensures fails { IfErr result (OrUnwritable (IsNoList (IsJust octets.now) file.entry.now)
-        ((read : CertificateList) × (certificate_list octets.now ≡ Ok read))) }
-    ensures quiet { IfErr result (λ failure. UnlessLate failure (out.new ≡ out.old)) }
+) -> Result<Vec<u8>, Failure<'a>>
+    ensures prints { IfOk result (λ text.
+        (read : CertificateList) × (certificate_list octets.now ≡ Ok read)
+        × (text.items ≡ crl_print_line with_parts (seen_key_info key_info.now) read)) }
+    ensures fails { IfErr result (IsNoList (IsJust octets.now) file.entry.now) }
 {
     let list = read_list(alloc, file, octets)?;
-    crl_print_to(&list, key_info, with_parts, out).map_err(|_| Failure::Unwritable)
+    let mut text = Vec::new(alloc);
+    match crl_print_to(&list, key_info, with_parts, &mut text) {
+        Ok(()) => Ok(text),
+        Err(_) => Err(Failure::NoMemory),
+    }
 }
 
-fn print_response<'a, O: Write>(
+fn prints_of_response<'a>(
     alloc: Global,
     key_info: &SubjectPublicKeyInfo<'_>,
     with_parts: bool,
     file: &'a str,
     octets: &[u8],
-    out: &mut O,
-) -> Result<(), Failure<'a>>
-    ensures done { OnOk result ((read : OcspResponse) × (ocsp_response octets.now ≡ Ok read)
-        × Appends (O.contents out.old) (O.contents out.new)
-        (response_print_lines with_parts (seen_key_info key_info.now) read)) }
-    ensures fails { IfErr result (OrUnwritable (IsNoResponse (IsJust octets.now) file.entry.now)
-        ((read : OcspResponse) × (ocsp_response octets.now ≡ Ok read))) }
-    ensures quiet { IfErr result (λ failure. UnlessLate failure (out.new ≡ out.old)) }
+) -> Result<Vec<u8>, Failure<'a>>
+    ensures prints { IfOk result (λ text.
+        (read : OcspResponse) × (ocsp_response octets.now ≡ Ok read)
+        × (text.items ≡ response_print_lines with_parts (seen_key_info key_info.now) read)) }
+    ensures fails { IfErr result (IsNoResponse (IsJust octets.now) file.entry.now) }
 {
     let response = read_response(alloc, file, octets)?;
-    match response_prints_to(alloc, &response, key_info, with_parts, out) {
-        Ok(()) => Ok(()),
-        Err(PrintsFault::Io) => Err(Failure::Unwritable),
-        Err(PrintsFault::Memory) => Err(Failure::NoMemory),
+    let mut text = Vec::new(alloc);
+    match response_prints_to(alloc, &response, key_info, with_parts, &mut text) {
+        Ok(()) => Ok(text),
+        Err(_) => Err(Failure::NoMemory),
     }
 }

@@ -1,5 +1,5 @@
 -- Steps, from what was done on their way.
-use Rattle.std.proofs.Common.{◌≡◌, ◌⊎◌, ℕ, List, ◌∷◌, Result, Ok, Err, inl, inr, refl, subst, sym}
+use Rattle.std.proofs.Common.{◌≡◌, ℕ, List, ◌∷◌, Result, Ok, Err, inl, inr, refl, subst, sym}
 use Rattle.path_verifiers.specs.Fingerprint.{fingerprint_of}
 use Rattle.path_verifiers.specs.ListVerifier.{Believes}
 use Rattle.path_verifiers.specs.declared.list_verifier.ListVerifier.{ListVerifier}
@@ -7,17 +7,20 @@ use Rattle.relying_agreement.specs.declared.verdict.Verdict.{Verdict}
 use Rattle.statements_facts.specs.declared.counts.Counts.{Counts}
 use Rattle.cli_failures.specs.Failures.{Holding}
 use Rattle.cli_failures.specs.declared.failure.Failure.{Failure}
-use Rattle.cli_failures.specs.declared.failure.Failure.TheVariants.{Refused, NoCertificate, NoRevocationList, NoResponse, NotGenuine, BadLine, BadTime, BadPurpose, BadTopic, Unreadable, Unwritable, StoreFailed, NoMemory, Shut, NoInput}
+use Rattle.cli_failures.specs.declared.failure.Failure.TheVariants.{NoMemory}
 use Rattle.cli_operands.specs.Asked.{AcceptsJust}
 use Rattle.cli_session.specs.Believed.{BelievesJust, accepted_by}
 use Rattle.cli_session.specs.declared.believed.Believed.{Believed}
 use Rattle.cli_words.specs.QueryTexts.{QueryTexts}
-use Rattle.cli_steps.specs.Keeping.{AnswersCleanly, AnswersWithVerdict, Keeping, Cleanly, Takes, TakesCleanly, taking, trying}
+use Rattle.cli_words.specs.SearchTexts.{SearchTexts}
+use Rattle.cli_steps.specs.Found.{FindsByTexts}
+use Rattle.cli_steps.specs.Keeping.{AnswersCleanly, AnswersWithVerdict, FindsCleanly, Keeping, Cleanly, Takes, TakesCleanly, taking, trying}
 use Rattle.cli_steps.specs.Passing.{AsksByWords, DeliversTo, PassesOn}
 use Rattle.cli_steps.specs.State.{believing, forgetting, keeping}
-use Rattle.cli_steps.specs.Steps.{BelievesMore, ChecksPath, DeliversFile}
-use Rattle.cli_steps.specs.Ways.{Steps, without_writer}
-use Rattle.cli_steps.specs.declared.answer.SessionAnswer.TheVariants.{Believes as Told_more, Delivered, Told, Failed}
+use Rattle.cli_steps.specs.Steps.{BelievesMore, ChecksPath, DeliversFile, FindsPath}
+use Rattle.cli_steps.specs.Ways.{Steps}
+use Rattle.cli_steps.specs.declared.answer.SessionAnswer.TheVariants.{Believes as Told_more, Delivered, Told, Found, Failed}
+use Rattle.cli_steps.specs.declared.found.FoundPath.{FoundPath}
 
 -- a verifier that believes these fingerprints accepts just them
 accepts_just : (believed : Believed) (prints : List (List ℕ)) → BelievesJust believed prints → AcceptsJust prints (accepted_by believed)
@@ -87,6 +90,43 @@ module _ {K : Type 0} (is_clean : K → Type 0) (keeps : K → Keeping) (old new
         (inr ((query, asks), done.1), refl),
       )
 
+  -- ---- searches
+
+  pub finds_cleanly : (texts : SearchTexts) (result : Result FoundPath Failure) → FindsByTexts holds (accepted_by believed) texts (FindsCleanly is_clean keeps) old new result → is_clean new → is_clean old
+  finds_cleanly texts (Ok answer) (asked, is, (finding, did, answers)) clean = did.0 clean
+  finds_cleanly texts (Err failure) (inl (refused, same)) clean = subst is_clean same clean
+  finds_cleanly texts (Err failure) (inr (asked, is, inl did)) clean = did.0 clean
+  finds_cleanly texts (Err failure) (inr (asked, is, inr (finding, did, memory))) clean = did.0 clean
+
+  pub found : (texts : SearchTexts) (answer : FoundPath) → FindsByTexts holds (accepted_by believed) texts (FindsCleanly is_clean keeps) old new (Ok answer) → is_clean new
+      → Steps believed (keeps old) believed (keeps new) (λ before after. FindsPath holds texts before (Found answer) × (after ≡ before))
+  found texts answer (asked, is, (finding, did, answers)) clean before state =
+      let done = did.1 clean before.kept state.keeps in (
+        before,
+        record { listed = state.listed; believes = state.believes; keeps = done.0 },
+        ((accepted_by believed, accepts_just believed before.prints state.believes, (asked, is, (finding, done.1, answers))), refl),
+      )
+
+  pub not_found : (texts : SearchTexts) (failure : Failure) → FindsByTexts holds (accepted_by believed) texts (FindsCleanly is_clean keeps) old new (Err failure) → is_clean new
+      → Steps believed (keeps old) believed (keeps new) (λ before after. FindsPath holds texts before (Failed failure) × (after ≡ before))
+  not_found texts failure (inl (refused, same)) clean before state = (
+    before,
+    record { listed = state.listed; believes = state.believes; keeps = subst (λ (keeper : K). keeps keeper before.kept) (sym same) state.keeps },
+    (inl refused, refl),
+  )
+  not_found texts failure (inr (asked, is, inl did)) clean before state =
+      let done = did.1 clean before.kept state.keeps in (
+        before,
+        record { listed = state.listed; believes = state.believes; keeps = done.0 },
+        (inr ((asked, is), done.1), refl),
+      )
+  not_found texts failure (inr (asked, is, inr (finding, did, memory))) clean before state =
+      let done = did.1 clean before.kept state.keeps in (
+        before,
+        record { listed = state.listed; believes = state.believes; keeps = done.0 },
+        (inr ((asked, is), inl memory), refl),
+      )
+
 -- ---- fingerprints
 
 pub believes_more : (old new : Believed) (keeps : Keeping) (print : List ℕ) → new.listed ≡ old.listed → ((prints : List (List ℕ)) → BelievesJust old prints → BelievesJust new (print ∷ prints))
@@ -103,37 +143,3 @@ pub forgets : (old new : Believed) (keeps : Keeping) → new.listed ≡ old.list
     → Steps old keeps new keeps (λ before after. after ≡ forgetting before)
 forgets old new keeps same less before is =
     (forgetting before, record { listed = subst (λ (listed : ListVerifier). Believes listed before.listed) (sym same) is.listed; believes = less before.listed is.listed; keeps = is.keeps }, refl)
-
--- ---- failures
-
--- a failure that is not the writer's, or memory that ran out
-pub of_writer : (Fails : Failure → Type 0) (Found : Type 0) (failure : Failure) → Fails failure ⊎ (Found × (failure ≡ Unwritable)) → Fails (without_writer failure) ⊎ (without_writer failure ≡ NoMemory)
-of_writer Fails Found Unwritable either = inr refl
-of_writer Fails Found (Refused file fault) (inl fails) = inl fails
-of_writer Fails Found (Refused file fault) (inr (found, is)) = absurd cc
-of_writer Fails Found (NoCertificate file rule at) (inl fails) = inl fails
-of_writer Fails Found (NoCertificate file rule at) (inr (found, is)) = absurd cc
-of_writer Fails Found (NoRevocationList file rule at) (inl fails) = inl fails
-of_writer Fails Found (NoRevocationList file rule at) (inr (found, is)) = absurd cc
-of_writer Fails Found (NoResponse file rule at) (inl fails) = inl fails
-of_writer Fails Found (NoResponse file rule at) (inr (found, is)) = absurd cc
-of_writer Fails Found (NotGenuine file fault) (inl fails) = inl fails
-of_writer Fails Found (NotGenuine file fault) (inr (found, is)) = absurd cc
-of_writer Fails Found (BadLine file line) (inl fails) = inl fails
-of_writer Fails Found (BadLine file line) (inr (found, is)) = absurd cc
-of_writer Fails Found BadTime (inl fails) = inl fails
-of_writer Fails Found BadTime (inr (found, is)) = absurd cc
-of_writer Fails Found BadPurpose (inl fails) = inl fails
-of_writer Fails Found BadPurpose (inr (found, is)) = absurd cc
-of_writer Fails Found BadTopic (inl fails) = inl fails
-of_writer Fails Found Shut (inl fails) = inl fails
-of_writer Fails Found NoInput (inl fails) = inl fails
-of_writer Fails Found BadTopic (inr (found, is)) = absurd cc
-of_writer Fails Found Shut (inr (found, is)) = absurd cc
-of_writer Fails Found NoInput (inr (found, is)) = absurd cc
-of_writer Fails Found (Unreadable file) (inl fails) = inl fails
-of_writer Fails Found (Unreadable file) (inr (found, is)) = absurd cc
-of_writer Fails Found (StoreFailed why) (inl fails) = inl fails
-of_writer Fails Found (StoreFailed why) (inr (found, is)) = absurd cc
-of_writer Fails Found NoMemory (inl fails) = inl fails
-of_writer Fails Found NoMemory (inr (found, is)) = absurd cc

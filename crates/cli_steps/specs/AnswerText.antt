@@ -1,15 +1,18 @@
 -- How answers are written.
-use Rattle.std.specs.Prelude.{◌==◌, ℕ, List, [], ◌++◌, codes, length}
+use Rattle.std.specs.Prelude.{◌==◌, ◌+◌, ℕ, List, [], ◌++◌, codes, length}
 use Rattle.std.specs.Fmt.{decimal}
 use Rattle.std.specs.List.{filter}
 use Rattle.relying_agreement.specs.declared.verdict.Verdict.{Verdict}
 use Rattle.statements_facts.specs.declared.counts.Counts.{Counts}
 use Rattle.cli_answers.specs.AnswerText.{counts_line, verdict_line}
+use Rattle.cli_answers.specs.SearchText.{search_status}
 use Rattle.cli_answers.specs.Status.{verdict_status}
+use Rattle.cli_steps.specs.Found.{found_text}
+use Rattle.cli_steps.specs.declared.found.FoundPath.{FoundPath}
 use Rattle.cli_failures.specs.Report.{exit_status, told_line}
 use Rattle.cli_failures.specs.declared.failure.Failure.{Failure}
 use Rattle.cli_steps.specs.declared.answer.SessionAnswer.{SessionAnswer}
-use Rattle.cli_steps.specs.declared.answer.SessionAnswer.TheVariants.{Nothing, Believes, Forgets, Ends, Delivered, Told, Prints, Failed, BadLine, LongLine}
+use Rattle.cli_steps.specs.declared.answer.SessionAnswer.TheVariants.{Nothing, Believes, Forgets, Ends, Delivered, Told, Found, Prints, Failed, BadLine, LongLine}
 
 -- how many lines a text has
 abbrev pub feeds_in : List ℕ → ℕ
@@ -27,6 +30,12 @@ delivered_text counts = codes "0 " ++ counts_line counts
 abbrev pub verdict_answer : Verdict → List ℕ
 verdict_answer verdict = decimal (verdict_status verdict) ++ codes " " ++ verdict_line verdict
 
+-- the status of the verdict, the number of lines, and the lines: one for each certificate of the path, and that of the verdict
+abbrev pub found_answer : FoundPath → List ℕ
+found_answer found =
+    decimal (search_status found.verdict) ++ codes " " ++ decimal (length found.path.items + 1) ++ codes "\n"
+    ++ found_text found
+
 -- the status of the failure, and its line
 abbrev pub failed_text : Failure → List ℕ
 failed_text failure = decimal (exit_status failure) ++ codes " " ++ told_line failure
@@ -38,6 +47,7 @@ answer_text Forgets = codes "0 forgotten\n"
 answer_text Ends = codes "0 ended\n"
 answer_text (Delivered counts) = delivered_text counts
 answer_text (Told verdict) = verdict_answer verdict
+answer_text (Found found) = found_answer found
 answer_text (Prints text) = prints_text text.items
 answer_text (Failed failure) = failed_text failure
 answer_text BadLine = codes "5 bad line\n"

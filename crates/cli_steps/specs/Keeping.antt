@@ -1,6 +1,11 @@
 -- What a call makes of what a keeper holds.
 use Rattle.std.specs.Prelude.{◌≡◌, ◌⊎◌, List, [], ◌∷◌, Result, Ok, Err}
 use Rattle.path.specs.Query.{Accepts, Query}
+use Rattle.path_issuers.specs.Search.{Search}
+use Rattle.relying_search.specs.Finding.{FindsHolding}
+use Rattle.relying_search.specs.declared.finding.Finding.{Finding}
+use Rattle.relying_search.specs.declared.finding.Finding.TheVariants as Of
+use Rattle.relying_search.specs.declared.finding.FindingBudget.{FindingBudget}
 use Rattle.relying_agreement.specs.Verdict.{IsVerdict}
 use Rattle.relying_agreement.specs.declared.verdict.Verdict.{Verdict}
 use Rattle.relying_agreement.specs.declared.verdict.Verdict.TheVariants.{Invalid}
@@ -58,6 +63,19 @@ AnswersWithVerdict old new accepts query (Ok verdict) =
 AnswersWithVerdict old new accepts query (Err failure) =
     (kept : Kept) → old kept → new kept × IsNotKept failure
 
+-- a path with its verdict, which comes from there; that no path meets the conditions is so whatever is held
+abbrev pub IsNotFoundOrFrom : Type 0 → Finding → Type 0
+IsNotFoundOrFrom is_open (Of.Found c verdict) = is_open
+IsNotFoundOrFrom is_open Of.NotFound = Unit {0}
+IsNotFoundOrFrom is_open Of.GaveUp = Unit {0}
+
+-- what is found by what is held, or nothing is answered; and nothing changed
+abbrev pub AnswersWithFinding : Keeping → Keeping → Accepts → Search → FindingBudget → Result Finding Failure → Type 0
+AnswersWithFinding old new accepts s budget (Ok finding) =
+    (kept : Kept) → old kept → new kept × FindsHolding accepts s budget kept.held finding
+AnswersWithFinding old new accepts s budget (Err failure) =
+    (kept : Kept) → old kept → new kept × IsNotKept failure
+
 -- a keeper whose disk has returned what was written had such a disk before, and did this
 abbrev pub Cleanly : Type 0 → Type 0 → Type 0 → Type 0
 Cleanly was_clean is_clean Did = (is_clean → was_clean) × (is_clean → Did)
@@ -71,3 +89,8 @@ TakesCleanly is_clean keeps old new facts result =
 abbrev pub AnswersCleanly : {K : Type 0} → (K → Type 0) → (K → Keeping) → K → K → Accepts → Query → Result Verdict Failure → Type 0
 AnswersCleanly is_clean keeps old new accepts query result =
     Cleanly (is_clean old) (is_clean new) (AnswersWithVerdict (keeps old) (keeps new) accepts query result)
+
+-- and of one that was asked to find a path
+abbrev pub FindsCleanly : {K : Type 0} → (K → Type 0) → (K → Keeping) → K → K → Accepts → Search → FindingBudget → Result Finding Failure → Type 0
+FindsCleanly is_clean keeps old new accepts s budget result =
+    Cleanly (is_clean old) (is_clean new) (AnswersWithFinding (keeps old) (keeps new) accepts s budget result)

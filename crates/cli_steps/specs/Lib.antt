@@ -1,7 +1,10 @@
 pub mod AnswerText
 pub mod Commands
+pub mod Finding
+pub mod Found
 pub mod Keeping
 pub mod Passing
+pub mod SearchPrints
 pub mod State
 pub mod Steps
 pub mod Ways

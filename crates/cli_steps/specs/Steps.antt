@@ -1,6 +1,8 @@
 -- What a request makes of a session's party, and how it is answered.
-use Rattle.std.specs.Prelude.{◌≡◌, ◌⊎◌, ℕ, Bool, List}
+use Rattle.std.specs.Prelude.{◌≡◌, ◌⊎◌, ℕ, Bool, List, [], ◌∷◌}
 use Rattle.path.specs.Query.{Accepts, Query}
+use Rattle.relying_search.specs.Finding.{FindsHolding}
+use Rattle.relying_search.specs.declared.finding.Finding.{Finding}
 use Rattle.relying_agreement.specs.Verdict.{IsVerdict}
 use Rattle.statements_facts.specs.Coming.{AreCounts}
 use Rattle.statements_facts.specs.Fact.{Fact}
@@ -9,15 +11,18 @@ use Rattle.cli_failures.specs.declared.failure.Failure.{Failure}
 use Rattle.cli_failures.specs.declared.failure.Failure.TheVariants.{NoMemory}
 use Rattle.cli_operands.specs.Asked.{AcceptsJust, Asks, IsFailureOfQuery}
 use Rattle.cli_operands.specs.InOrder.{FailsFirst}
-use Rattle.cli_requests.specs.Requests.{Request, nothing, believe, deliver, check, prints, forget, quit}
+use Rattle.cli_requests.specs.Requests.{Request, SearchFiles, if_given, nothing, believe, deliver, check, find, prints, search_prints, forget, quit}
 use Rattle.cli_showing.specs.Shown.{ArePrintsUnder, IsFailureOfPrints}
 use Rattle.cli_words.specs.QueryTexts.{QueryTexts}
+use Rattle.cli_words.specs.SearchTexts.{SearchTexts}
 use Rattle.cli_words.specs.declared.line.Kind.{Kind}
+use Rattle.cli_steps.specs.Found.{AnswersFinding, IsAskedToFind, IsFailureOfSearch, SearchAsked, usual_budget}
 use Rattle.cli_steps.specs.Keeping.{IsNotKept, Kept, taking, trying}
 use Rattle.cli_steps.specs.Passing.{HoldsStatement, IsRefusedFrom}
+use Rattle.cli_steps.specs.SearchPrints.{AreSearchPrints, IsFailureOfSearchPrints}
 use Rattle.cli_steps.specs.State.{SessionState, believing, forgetting, keeping}
 use Rattle.cli_steps.specs.declared.answer.SessionAnswer.{SessionAnswer}
-use Rattle.cli_steps.specs.declared.answer.SessionAnswer.TheVariants.{Nothing, Believes, Forgets, Ends, Delivered, Told, Prints, Failed}
+use Rattle.cli_steps.specs.declared.answer.SessionAnswer.TheVariants.{Nothing, Believes, Forgets, Ends, Delivered, Told, Found, Prints, Failed}
 
 -- ---- deliveries
 
@@ -55,6 +60,23 @@ ChecksPath holds texts state (Told verdict) =
 ChecksPath holds texts state (Failed failure) = IsFailureOfVerdict holds texts failure
 ChecksPath holds texts state answer = ⊥
 
+-- ---- searches
+
+-- What is wrong with a request for a search, the first of it: its operands, and then the keeper.
+abbrev pub IsFailureOfFinding : Holding → SearchTexts → Failure → Type 0
+IsFailureOfFinding holds texts =
+    FailsFirst (IsFailureOfSearch holds texts) ((asked : SearchAsked) × IsAskedToFind holds texts asked) IsNotKept
+
+-- what is found by what is held, with a verifier that believes these fingerprints, and this is answered to it; or a failure
+abbrev pub FindsPath : Holding → SearchTexts → SessionState → SessionAnswer → Type 0
+FindsPath holds texts state (Found answer) =
+    (accepts : Accepts) × AcceptsJust state.prints accepts
+    × ((asked : SearchAsked) × IsAskedToFind holds texts asked
+    × ((finding : Finding) × FindsHolding accepts asked.search usual_budget state.kept.held finding
+    × AnswersFinding holds texts asked finding answer))
+FindsPath holds texts state (Failed failure) = IsFailureOfFinding holds texts failure
+FindsPath holds texts state answer = ⊥
+
 -- ---- others
 
 -- one fingerprint more is believed, or memory ran out
@@ -68,8 +90,16 @@ abbrev pub ShowsPrints : Holding → Kind → Bool → List ℕ → List ℕ →
 ShowsPrints holds kind with_parts issuer file (Prints text) =
     ArePrintsUnder holds issuer kind with_parts file text.items
 ShowsPrints holds kind with_parts issuer file (Failed failure) =
-    IsFailureOfPrints holds issuer kind file failure ⊎ (failure ≡ NoMemory)
+    IsFailureOfPrints holds issuer kind file failure
 ShowsPrints holds kind with_parts issuer file answer = ⊥
+
+-- the same of what it may be asked in a search
+abbrev pub ShowsSearchPrints : Holding → Bool → SearchFiles → SessionAnswer → Type 0
+ShowsSearchPrints holds with_parts files (Prints text) =
+    AreSearchPrints holds (files.anchors ∷ []) (if_given files.among) with_parts files.target text.items
+ShowsSearchPrints holds with_parts files (Failed failure) =
+    IsFailureOfSearchPrints holds (files.anchors ∷ []) (if_given files.among) files.target failure
+ShowsSearchPrints holds with_parts files answer = ⊥
 
 -- ---- requests
 
@@ -79,7 +109,10 @@ IsStep holds nothing old new answer = (answer ≡ Nothing) × (new ≡ old)
 IsStep holds (believe print) old new answer = BelievesMore print old new answer
 IsStep holds (deliver issuer file) old new answer = DeliversFile holds issuer file old new answer
 IsStep holds (check texts) old new answer = ChecksPath holds texts old answer × (new ≡ old)
+IsStep holds (find texts) old new answer = FindsPath holds texts old answer × (new ≡ old)
 IsStep holds (prints kind with_parts issuer file) old new answer =
     ShowsPrints holds kind with_parts issuer file answer × (new ≡ old)
+IsStep holds (search_prints with_parts files) old new answer =
+    ShowsSearchPrints holds with_parts files answer × (new ≡ old)
 IsStep holds forget old new answer = (answer ≡ Forgets) × (new ≡ forgetting old)
 IsStep holds quit old new answer = (answer ≡ Ends) × (new ≡ old)

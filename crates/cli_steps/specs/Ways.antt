@@ -1,6 +1,4 @@
 -- What is done on the way of a step.
-use Rattle.cli_failures.specs.declared.failure.Failure.{Failure}
-use Rattle.cli_failures.specs.declared.failure.Failure.TheVariants.{NoMemory, Unwritable}
 use Rattle.cli_session.specs.declared.believed.Believed.{Believed}
 use Rattle.cli_steps.specs.Keeping.{Keeping}
 use Rattle.cli_steps.specs.State.{IsState, SessionState}
@@ -17,10 +15,3 @@ abbrev pub MovesParty : {K : Type 0} → (K → Type 0) → (K → Keeping) → 
 MovesParty is_clean keeps old new Are =
     is_clean new.keeper →
     Steps old.believed (keeps old.keeper) new.believed (keeps new.keeper) Are
-
--- ---- fingerprints
-
--- a writer that fails is memory that ran out
-abbrev pub without_writer : Failure → Failure
-without_writer Unwritable = NoMemory
-without_writer failure = failure

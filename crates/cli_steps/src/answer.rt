@@ -1,9 +1,10 @@
 //! Answers, and the lines that say them.
 ghost use Rattle.std.specs.Prelude.{◌≡◌, OnOk};
 ghost use Rattle.std.specs.Io.KnownBytes.{Appends};
-ghost use Rattle.cli_steps.specs.AnswerText.{answer_text, delivered_text, failed_text, feeds_in, prints_text, verdict_answer};
+ghost use Rattle.cli_steps.specs.AnswerText.{answer_text, delivered_text, failed_text, feeds_in, found_answer, prints_text, verdict_answer};
 
-use cli_answers::{counts_to, verdict_status, verdict_to};
+use crate::found::FoundPath;
+use cli_answers::{counts_to, search_status, verdict_status, verdict_to};
 use cli_failures::Failure;
 use relying_agreement::Verdict;
 use statements_facts::Counts;
@@ -25,6 +26,8 @@ pub enum SessionAnswer<'a> {
     Delivered(Counts),
     /// The verdict on a path.
     Told(Verdict),
+    /// The path that is found to a certificate, with its verdict, or that there is none.
+    Found(FoundPath<'a>),
     /// The lines of what a verifier is asked.
     Prints(Vec<u8>),
     /// What failed.
@@ -66,6 +69,15 @@ fn write_verdict<W: Write>(verdict: Verdict, out: &mut W) -> io::Result<()>
     verdict_to(verdict, out)
 }
 
+fn write_found<W: Write>(found: &FoundPath<'_>, out: &mut W) -> io::Result<()>
+    ensures { OnOk result (Appends (W.contents out.old) (W.contents out.new)
+        (found_answer found.now)) }
+{
+    let status = search_status(found.verdict);
+    writeln!(out, "{status} {}", found.path.len() + 1)?;
+    found.tell(out)
+}
+
 fn write_failure<W: Write>(failure: &Failure<'_>, out: &mut W) -> io::Result<()>
     ensures { OnOk result (Appends (W.contents out.old) (W.contents out.new)
         (failed_text failure.now)) }
@@ -75,7 +87,8 @@ fn write_failure<W: Write>(failure: &Failure<'_>, out: &mut W) -> io::Result<()>
 }
 
 impl SessionAnswer<'_> {
-    /// Writes the answer: the status that the command would have ended with, a space, and the line that it would have written. It takes
+    /// Writes the answer: the status that the command would have ended with, a space, and the line that it would have written; where there
+    /// may be several lines, their number, and then the lines. It takes
     /// no memory.
     pub fn tell<W: Write>(&self, out: &mut W) -> io::Result<()>
         ensures { OnOk result (Appends (W.contents out.old) (W.contents out.new)
@@ -88,6 +101,7 @@ impl SessionAnswer<'_> {
             SessionAnswer::Ends => out.write_all(b"0 ended\n"),
             SessionAnswer::Delivered(counts) => write_counts(counts, out),
             SessionAnswer::Told(verdict) => write_verdict(*verdict, out),
+            SessionAnswer::Found(found) => write_found(found, out),
             SessionAnswer::Prints(text) => write_prints(text.as_slice(), out),
             SessionAnswer::Failed(failure) => write_failure(failure, out),
             SessionAnswer::BadLine => out.write_all(b"5 bad line\n"),

@@ -63,7 +63,7 @@ fn ask<'a, T, R: AnswerQuery<'a, T>, V: Verifier, S: Source>(
     ensures { AsksByWords (S.holds source.now) (V.accepts verifier.now) (seen_words words.now)
         R.answers receiver.old receiver.new result }
 {
-    let terms = read_terms(alloc, words)?;
+    let terms = read_terms(alloc, words.moment, words.purpose)?;
     ask_on(receiver, source, alloc, verifier, &terms, words)
 }
 

@@ -44,7 +44,7 @@ pub fn ask_believing<'a, T, R: AnswerQuery<'a, T>, S: Source>(
     ensures { AsksBelieving (S.holds source.now) verdicts.entry.now (seen_words words.now)
         R.answers receiver.old receiver.new result }
 {
-    let terms = read_terms(alloc, words)?;
+    let terms = read_terms(alloc, words.moment, words.purpose)?;
     let prints = read_fingerprints(source, alloc, verdicts)?;
     let verifier = ListVerifier::new(prints);
     ask_on(receiver, source, alloc, &verifier, &terms, words)

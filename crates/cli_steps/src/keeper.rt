@@ -2,11 +2,14 @@
 ghost use Rattle.std.specs.Prelude.{◌≡◌, false, IfOk, OnOk};
 ghost use Rattle.statements_facts.specs.Fact.{facts_in};
 ghost use Rattle.path.specs.Reading.{seen_query};
-ghost use Rattle.cli_steps.specs.Keeping.{AnswersWithVerdict, IsInvalidOrFrom, Keeps, Takes};
+ghost use Rattle.path_issuers.specs.View.{seen_search};
+ghost use Rattle.cli_steps.specs.Keeping.{AnswersWithFinding, AnswersWithVerdict, IsInvalidOrFrom, IsNotFoundOrFrom, Keeps, Takes};
 
 use cli_failures::Failure;
 use path::{Query, Verifier};
+use path_search::Search;
 use relying_agreement::Verdict;
+use relying_search::{Finding, FindingBudget};
 use statements_facts::{Counts, Facts};
 use std::alloc::Global;
 
@@ -46,6 +49,19 @@ pub trait Keeper {
         ensures open { is_clean self.new → IfOk result (IsInvalidOrFrom (is_open self.old)) }
         ensures finds { is_clean self.new → AnswersWithVerdict (keeps self.old) (keeps self.new)
             (V.accepts verifier.now) (seen_query query.now) result };
+
+    /// What is found to a certificate by what is held. A path with its verdict comes from an open connection.
+    fn find<'a, V: Verifier>(
+        &mut self,
+        alloc: Global,
+        verifier: &V,
+        search: &Search<'_, '_>,
+        budget: FindingBudget,
+    ) -> Result<Finding, Failure<'a>>
+        ensures clean { is_clean self.new → is_clean self.old }
+        ensures open { is_clean self.new → IfOk result (IsNotFoundOrFrom (is_open self.old)) }
+        ensures finds { is_clean self.new → AnswersWithFinding (keeps self.old) (keeps self.new)
+            (V.accepts verifier.now) (seen_search search.now) budget result };
 
     /// Whether it may still answer. It does not once its connection is shut.
     fn may_answer(&mut self) -> bool

@@ -2,10 +2,13 @@
 #![tactic(auto)]
 
 mod answer;
+mod asking;
 mod believing;
 mod checking;
 mod commanding;
 mod delivering;
+mod finding;
+mod found;
 mod keeper;
 mod party;
 mod printing;
@@ -13,8 +16,11 @@ mod receiver;
 mod stepping;
 
 pub use answer::SessionAnswer;
+pub use asking::search_prints;
 pub use commanding::{ask_believing, deliver_believing};
+pub use finding::find_believing;
+pub use found::FoundPath;
 pub use keeper::Keeper;
 pub use party::Party;
-pub use receiver::{AnswerQuery, TakeFacts};
+pub use receiver::{AnswerQuery, AnswerSearch, TakeFacts};
 pub use stepping::step;

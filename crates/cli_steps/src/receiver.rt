@@ -1,12 +1,15 @@
-//! Receivers: what takes the facts of a delivery, and what answers a query. That is a session's keeper, or a store that is opened when it
+//! Receivers: what takes the facts of a delivery, and what answers a query or a search. That is a session's keeper, or a store that is opened when it
 //! is called.
 ghost use Rattle.statements_facts.specs.Fact.{facts_in};
 ghost use Rattle.path.specs.Reading.{seen_query};
+ghost use Rattle.path_issuers.specs.View.{seen_search};
 
 use crate::keeper::Keeper;
 use cli_failures::Failure;
 use path::{Query, Verifier};
+use path_search::Search;
 use relying_agreement::Verdict;
+use relying_search::{Finding, FindingBudget};
 use statements_facts::{Counts, Facts};
 use std::alloc::Global;
 
@@ -45,6 +48,31 @@ pub trait AnswerQuery<'a, T> {
             result };
 }
 
+/// Answers a search with what it found. A failure names files, which live as long as `'a`.
+pub trait AnswerSearch<'a> {
+    ghost use Rattle.std.specs.Prelude.{Result};
+    ghost use Rattle.path.specs.Query.{Accepts};
+    ghost use Rattle.path_issuers.specs.Search.{Search};
+    ghost use Rattle.relying_search.specs.declared.finding.Finding.{Finding};
+    ghost use Rattle.relying_search.specs.declared.finding.FindingBudget.{FindingBudget};
+    ghost use Rattle.cli_failures.specs.declared.failure.Failure.{Failure};
+
+    /// Whether a call with a verifier that accepts so, with this search and with this budget takes it from one state to the other, and
+    /// returns this.
+    ghost finds: { Self → Self → Accepts → Search → FindingBudget → Result Finding Failure → Type 0 };
+
+    /// What is found, with this verifier.
+    fn answer_search<V: Verifier>(
+        &mut self,
+        alloc: Global,
+        verifier: &V,
+        search: &Search<'_, '_>,
+        budget: FindingBudget,
+    ) -> Result<Finding, Failure<'a>>
+        ensures { finds self.old self.new (V.accepts verifier.now) (seen_search search.now) budget
+            result };
+}
+
 /// A keeper takes facts as its own clauses say, if its disk returned what was written.
 impl<'a, K: Keeper> TakeFacts<'a> for K {
     ghost use Rattle.cli_steps.specs.Keeping.{TakesCleanly};
@@ -69,5 +97,22 @@ impl<'a, K: Keeper> AnswerQuery<'a, Verdict> for K {
         query: &Query<'_>,
     ) -> Result<Verdict, Failure<'a>> {
         self.verdict(alloc, verifier, query)
+    }
+}
+
+/// A keeper answers a search as its own clauses say, if its disk returned what was written.
+impl<'a, K: Keeper> AnswerSearch<'a> for K {
+    ghost use Rattle.cli_steps.specs.Keeping.{FindsCleanly};
+
+    ghost finds = { FindsCleanly K.is_clean K.keeps };
+
+    fn answer_search<V: Verifier>(
+        &mut self,
+        alloc: Global,
+        verifier: &V,
+        search: &Search<'_, '_>,
+        budget: FindingBudget,
+    ) -> Result<Finding, Failure<'a>> {
+        self.find(alloc, verifier, search, budget)
     }
 }

@@ -9,9 +9,10 @@ use crate::answer::SessionAnswer;
 use crate::believing::{believe, forget};
 use crate::checking::check;
 use crate::delivering::deliver;
+use crate::finding::find;
 use crate::keeper::Keeper;
 use crate::party::Party;
-use crate::printing::show_prints;
+use crate::printing::{show_prints, show_search_prints};
 use cli_failures::Source;
 use cli_requests::Request;
 use cli_session::OperandSource;
@@ -35,12 +36,16 @@ pub fn step<'a, K: Keeper, S: Source>(
         Request::Believe(print) => believe(party, print),
         Request::Deliver { issuer, file } => deliver(party, &operands, alloc, issuer, file),
         Request::Check(words) => check(party, &operands, alloc, &words),
+        Request::Find(words) => find(party, &operands, alloc, &words),
         Request::Prints {
             kind,
             with_parts,
             issuer,
             file,
         } => show_prints(&operands, alloc, kind, with_parts, issuer, file),
+        Request::SearchPrints { with_parts, files } => {
+            show_search_prints(&operands, alloc, with_parts, files)
+        }
         Request::Forget => {
             forget(party);
             SessionAnswer::Forgets

@@ -9,11 +9,17 @@ use Rattle.sqlite_trees.specs.Tree.{Trees}
 use Rattle.sqlite_trees.specs.declared.error.StoreError.{StoreError}
 use Rattle.sqlite_trees.specs.declared.error.StoreError.TheVariants.{Broken, Corrupt, Full, Io, OutOfMemory, Unstorable}
 use Rattle.path.specs.Query.{Accepts, Query}
-use Rattle.relying.specs.Asking.{AnswersOnlyIfOpen, HasLooked, Looks}
+use Rattle.path_issuers.specs.Search.{Search}
+use Rattle.relying.specs.Asking.{AnswersOnlyIfOpen, FindsOnlyIfOpen, HasLooked, IsFormed, Looks}
 use Rattle.relying_agreement.specs.Verdict.{InvalidExactlyWhere, IsVerdict}
 use Rattle.relying_agreement.specs.declared.verdict.Verdict.{Verdict}
 use Rattle.relying_agreement.specs.declared.verdict.Verdict.TheVariants.{Invalid, Revoked, Unknown, Valid}
+use Rattle.relying_search.specs.Finding.{FindsHolding, seen_finding}
+use Rattle.relying_search.specs.declared.finding.Finding.{Finding}
+use Rattle.relying_search.specs.declared.finding.Finding.TheVariants as Of
+use Rattle.relying_search.specs.declared.finding.FindingBudget.{FindingBudget}
 use Rattle.relying_verdicts.specs.Asking.{IsInvalidOrOpen}
+use Rattle.relying_verdicts.specs.Looking.{IsFoundOnlyIfOpen}
 use Rattle.relying_verdicts.specs.declared.fault.Fault.{Fault}
 use Rattle.relying_verdicts.specs.declared.fault.Fault.TheVariants.{Store as OfStore, Memory as WithoutMemory}
 use Rattle.statements_facts.specs.Coming.{after_all}
@@ -29,7 +35,7 @@ use Rattle.store_sql.specs.declared.fault.StoreFault.{StoreFault}
 use Rattle.store_sql.specs.declared.fault.StoreFault.TheVariants.{Store, Schema, Memory}
 use Rattle.store_taking.specs.Delivery.{AllOrNothing, PutsFacts}
 use Rattle.cli_failures.specs.declared.failure.Failure.{Failure}
-use Rattle.cli_steps.specs.Keeping.{AnswersWithVerdict, IsInvalidOrFrom, IsNotKept, Keeps, Kept, Takes, trying}
+use Rattle.cli_steps.specs.Keeping.{AnswersWithFinding, AnswersWithVerdict, IsInvalidOrFrom, IsNotFoundOrFrom, IsNotKept, Keeps, Kept, Takes, trying}
 use Rattle.cli_store.specs.Standing.{LeavesOneOf, told_of}
 use Rattle.cli_store.specs.Stored.{IsToldOverOpen, StaysIfClean, keeping_in}
 
@@ -163,21 +169,20 @@ module _ (old mid new : State) (stays : StaysIfClean mid new) (survives : Commit
         ],
       )
 
-  formed : (accepts : Accepts) (query : Query) (fault : Fault) (told : Failure) (kept : Kept) → Looks {A = Verdict} old mid (IsVerdict accepts query) (Err fault) → HasCleanDisk new
+  formed : (fault : Fault) (told : Failure) (kept : Kept) → (HasCleanDisk mid → StaysIfOpen old mid × IsFormed old fault) → HasCleanDisk new
       → IsStoreOf old.now kept.held → told ≡ told_of fault → IsNotKept told
-  formed accepts query (OfStore fault) told kept looks clean is same = subst IsNotKept (sym same) (other_fault fault (λ schema. (looks (clean_before clean)).1 schema kept.held is))
-  formed accepts query WithoutMemory told kept looks clean is same = inl same
+  formed (OfStore fault) told kept looks clean is same = subst IsNotKept (sym same) (other_fault fault (λ schema. (looks (clean_before clean)).1 schema kept.held is))
+  formed WithoutMemory told kept looks clean is same = inl same
 
-  was_open : (accepts : Accepts) (query : Query) (fault : Fault) → Looks {A = Verdict} old mid (IsVerdict accepts query) (Err fault) → HasCleanDisk new → IsTrue new.is_open → IsTrue old.is_open
-  was_open accepts query fault looks clean is_open = (looks (clean_before clean)).0.was_open ((stays clean).was_open is_open)
-
-  pub finds_none : (accepts : Accepts) (query : Query) (fault : Fault) (told : Failure) → Looks {A = Verdict} old mid (IsVerdict accepts query) (Err fault) → CommitsNothing old mid
-      → (HasCleanDisk new → IsNotKept told ⊎ IsToldOverOpen new fault told) → HasCleanDisk new → AnswersWithVerdict (keeping_in old) (keeping_in new) accepts query (Err told)
-  finds_none accepts query fault told looks nothing is clean kept keeps = (
+  -- a look-up that found nothing: of a verdict, or of a path
+  pub finds_none : (fault : Fault) (told : Failure) → (HasCleanDisk mid → StaysIfOpen old mid × IsFormed old fault) → CommitsNothing old mid
+      → (HasCleanDisk new → IsNotKept told ⊎ IsToldOverOpen new fault told) → HasCleanDisk new
+      → (kept : Kept) → keeping_in old kept → keeping_in new kept × IsNotKept told
+  finds_none fault told looks nothing is clean kept keeps = (
     kept_same mid new stays survives clean kept (kept_same old mid (λ before. (looks before).0) nothing (clean_before clean) kept keeps),
     elim (is clean) [
       | inl it ↦ it
-      | inr it ↦ formed accepts query fault told kept looks clean (keeps.0 (was_open accepts query fault looks clean it.1)) it.0
+      | inr it ↦ formed fault told kept looks clean (keeps.0 ((looks (clean_before clean)).0.was_open ((stays clean).was_open it.1))) it.0
     ],
   )
 
@@ -195,3 +200,24 @@ from_open accepts query (Invalid j reason) old it = tt
 from_open accepts query (Revoked j reason) old it = it
 from_open accepts query (Unknown j) old it = it
 from_open accepts query Valid old it = it
+
+-- ---- a path that is found
+
+-- that no path is valid is so whatever is held
+by_finding : (accepts : Accepts) (s : Search) (budget : FindingBudget) (held : Holdings) (finding : Finding) (old : State) → IsFoundOnlyIfOpen accepts s budget old.is_open (seen_finding finding)
+    → (IsTrue old.is_open → FindsHolding accepts s budget held finding) → FindsHolding accepts s budget held finding
+by_finding accepts s budget held (Of.Found c verdict) old is_open if_open = if_open is_open
+by_finding accepts s budget held Of.NotFound old none if_open = none
+by_finding accepts s budget held Of.GaveUp old either if_open = elim either [ inl is_open ↦ if_open is_open | inr any ↦ any held ]
+
+pub searches : (old new : State) (accepts : Accepts) (s : Search) (budget : FindingBudget) (finding : Finding) → FindsOnlyIfOpen accepts s budget old new (Ok finding)
+    → Looks {A = Finding} old new (FindsHolding accepts s budget) (Ok finding) → CommitsNothing old new → HasCleanDisk new → AnswersWithFinding (keeping_in old) (keeping_in new) accepts s budget (Ok finding)
+searches old new accepts s budget finding opens looks survives clean kept keeps = (
+  kept_same old new (λ clean. (looks clean).0) survives clean kept keeps,
+  by_finding accepts s budget kept.held finding old (opens clean) (λ is_open. (looks clean).1 kept.held (keeps.0 is_open)),
+)
+
+pub path_from_open : (accepts : Accepts) (s : Search) (budget : FindingBudget) (finding : Finding) (old new : State) → FindsOnlyIfOpen accepts s budget old new (Ok finding) → HasCleanDisk new → IsNotFoundOrFrom (IsTrue old.is_open) finding
+path_from_open accepts s budget (Of.Found c verdict) old new opens clean = opens clean
+path_from_open accepts s budget Of.NotFound old new opens clean = tt
+path_from_open accepts s budget Of.GaveUp old new opens clean = tt

@@ -4,16 +4,18 @@ ghost use Rattle.sqlite.specs.Files.{file_state};
 ghost use Rattle.sqlite.specs.State.{HasCleanDisk};
 ghost use Rattle.statements_facts.specs.Fact.{facts_in};
 ghost use Rattle.path.specs.Reading.{seen_query};
+ghost use Rattle.path_issuers.specs.View.{seen_search};
 ghost use Rattle.relying_verdicts.specs.Asking.{IsInvalidOrOpen};
 ghost use Rattle.store_sql.specs.Statements.{CommitsNothing};
-ghost use Rattle.cli_steps.specs.Keeping.{AnswersWithVerdict, IsNotKept, Takes};
+ghost use Rattle.cli_steps.specs.Keeping.{AnswersWithFinding, AnswersWithVerdict, IsNotFoundOrFrom, IsNotKept, Takes};
 ghost use Rattle.cli_store.specs.Stored.{IsToldOverOpen, StaysIfClean, keeping_in};
 
 use crate::stores::failed;
 use cli_failures::Failure;
 use cli_steps::Keeper;
+use path_search::Search;
 use path_verifiers::Verifier;
-use relying::{Fault, Query, Verdict, verdict_of};
+use relying::{Fault, Finding, FindingBudget, Query, Verdict, find_over, verdict_of};
 use relying_agreement::verdict_laws;
 use sqlite::{Error, ErrorCode};
 use sqlite_disk::Disk;
@@ -139,6 +141,29 @@ fn find_in<'a, D: Disk + Drop, V: Verifier>(
     }
 }
 
+// What is found by what the store holds.
+fn search_in<'a, D: Disk + Drop, V: Verifier>(
+    store: &mut Store<D>,
+    alloc: Global,
+    verifier: &V,
+    search: &Search<'_, '_>,
+    budget: FindingBudget,
+) -> Result<Finding, Failure<'a>>
+    ensures clean { HasCleanDisk (file_state store.new.conn)
+        → HasCleanDisk (file_state store.old.conn) }
+    ensures open { HasCleanDisk (file_state store.new.conn)
+        → IfOk result (IsNotFoundOrFrom (IsTrue (file_state store.old.conn).is_open)) }
+    ensures finds { HasCleanDisk (file_state store.new.conn)
+        → AnswersWithFinding (keeping_in (file_state store.old.conn))
+        (keeping_in (file_state store.new.conn))
+        (V.accepts verifier.now) (seen_search search.now) budget result }
+{
+    match find_over(alloc, verifier, &mut store.conn, search, budget) {
+        Ok(finding) => Ok(finding),
+        Err(fault) => Err(failure_of(store, fault)),
+    }
+}
+
 impl<D: Disk + Drop> Keeper for StoreKeeper<D> {
     ghost use Rattle.std.specs.Prelude.{IsTrue};
     ghost use Rattle.sqlite.specs.Files.{file_state};
@@ -162,6 +187,16 @@ impl<D: Disk + Drop> Keeper for StoreKeeper<D> {
         query: &Query<'_>,
     ) -> Result<Verdict, Failure<'a>> {
         find_in(&mut self.store, alloc, verifier, query)
+    }
+
+    fn find<'a, V: Verifier>(
+        &mut self,
+        alloc: Global,
+        verifier: &V,
+        search: &Search<'_, '_>,
+        budget: FindingBudget,
+    ) -> Result<Finding, Failure<'a>> {
+        search_in(&mut self.store, alloc, verifier, search, budget)
     }
 
     fn may_answer(&mut self) -> bool {

@@ -1,14 +1,13 @@
 -- What clap's definition makes of the words of `deliver --store STORE --verdicts VERDICTS --issuer ISSUER FILE`.
-use Rattle.std.proofs.Common.{◌≡◌, ◌==◌, ℕ, List, [], ◌∷◌, Some, false, refl, ap, codes}
+use Rattle.std.proofs.Common.{◌≡◌, List, [], ◌∷◌, Some, refl, ap, codes}
 use Rattle.clap.specs.Words.{Row, Text, fault_of, first_of, subcommand_of}
-use Rattle.clap.specs.Faults.{turn_fault}
 use Rattle.clap.specs.Kinds.{Kinds, or_else}
 use Rattle.clap.specs.Simple.{Shape}
-use Rattle.clap.specs.Walk.{Walk, arg_by_index, nothing_held, rows_after, settled_rows, to_positional, walk_from, walked}
+use Rattle.clap.specs.Walk.{Walk, nothing_held, rows_after, settled_rows, walk_from}
 use Rattle.clap.proofs.OnLiterals.{clap_on_literals}
 use Rattle.cli_words.specs.App.{program}
 use Rattle.cli_words.specs.PlainLine.{IsPlainWord}
-use Rattle.cli_words.proofs.Turns.{Enters, WalksTo, at, goes_more, goes_none, goes_option, is_other, level_well, rest_fault, rows_are, shape_of}
+use Rattle.cli_words.proofs.Turns.{Enters, WalksTo, filed, goes_file, goes_option, level_well, rest_fault, rows_are, shape_of}
 
 -- the words behind the subcommand
 abbrev pub deliver_words : Text → Text → Text → Text → List Text
@@ -28,30 +27,8 @@ stored store = rows (codes "store") store []
 abbrev judged : Text → Text → List Row
 judged store verdicts = rows (codes "verdicts") verdicts (stored store)
 
-abbrev signed : Text → Text → Text → Walk
-signed store verdicts issuer = at (judged store verdicts) (Some (codes "issuer", issuer ∷ []))
-
 abbrev ended : Text → Text → Text → Text → Walk
-ended store verdicts issuer file =
-    to_positional shape.rules (arg_by_index shape.rules 1) file (signed store verdicts issuer) (signed store verdicts issuer).held
-
-ends_at : (store verdicts issuer xs : Text) (x : ℕ) → (x == 45) ≡ false → walked shape.rules [] (signed store verdicts issuer) (x ∷ xs) ≡ ended store verdicts issuer (x ∷ xs)
-unfolding clap_on_literals
-ends_at store verdicts issuer xs x plain = simp plain
-
-ends : (store verdicts issuer file : Text) → IsPlainWord file → walked shape.rules [] (signed store verdicts issuer) file ≡ ended store verdicts issuer file
-unfolding clap_on_literals
-ends store verdicts issuer [] plain = refl
-ends store verdicts issuer (x ∷ xs) plain = ends_at store verdicts issuer xs x (is_other x plain)
-
-ends_well_at : (store verdicts issuer xs : Text) (x : ℕ) → (x == 45) ≡ false → turn_fault shape [] (signed store verdicts issuer) (x ∷ xs) ≡ []
-unfolding clap_on_literals
-ends_well_at store verdicts issuer xs x plain = simp plain
-
-ends_well : (store verdicts issuer file : Text) → IsPlainWord file → turn_fault shape [] (signed store verdicts issuer) file ≡ []
-unfolding clap_on_literals
-ends_well store verdicts issuer [] plain = refl
-ends_well store verdicts issuer (x ∷ xs) plain = ends_well_at store verdicts issuer xs x (is_other x plain)
+ended store verdicts issuer file = filed shape (judged store verdicts) (Some (codes "issuer", issuer ∷ [])) file
 
 goes : (store verdicts issuer file : Text) → IsPlainWord store → IsPlainWord verdicts → IsPlainWord issuer → IsPlainWord file
     → WalksTo shape (walk_from nothing_held) (deliver_words store verdicts issuer file) (ended store verdicts issuer file)
@@ -60,7 +37,7 @@ goes store verdicts issuer file plain plain' plain'' plain''' =
     goes_option shape _ (walk_from nothing_held) _ [] (codes "--store") (codes "store") store _ refl refl plain refl refl refl
     (goes_option shape _ _ _ (stored store) (codes "--verdicts") (codes "verdicts") verdicts _ refl refl plain' refl refl refl
     (goes_option shape _ _ _ (judged store verdicts) (codes "--issuer") (codes "issuer") issuer _ refl refl plain'' refl refl refl
-    (goes_more shape _ _ _ file [] (ends_well store verdicts issuer file plain''') (ends store verdicts issuer file plain''') (goes_none shape _))))
+    (goes_file shape _ _ file plain''' refl)))
 
 rest_well : (store verdicts issuer file : Text) → rest_fault shape (ended store verdicts issuer file) ≡ []
 unfolding clap_on_literals

@@ -5,6 +5,7 @@ pub mod PrintsWords
 pub mod DeliverWords
 pub mod CheckWords
 pub mod CompareWords
+pub mod FindWords
 pub mod ExplainWords
 mod SessionWords
 mod ListWords

@@ -4,11 +4,11 @@ use Rattle.std.proofs.lemmas.List.{append-nil}
 use Rattle.std.proofs.lemmas.Bool.Decides.{nat_tests}
 use Rattle.std.specs.Str.{bytes_eq}
 use Rattle.clap.specs.Words.{Row, Rule, Text, all_of, first_of}
-use Rattle.clap.specs.Faults.{check_fault, defaults_fault, entered_fault, level_fault, settle_fault, turn_fault, walk_fault}
+use Rattle.clap.specs.Faults.{check_fault, defaults_fault, entered_fault, level_fault, settle_fault, step_fault, turn_fault, walk_fault}
 use Rattle.clap.specs.Kinds.{Kinds, or_else, values_kinds}
 use Rattle.clap.specs.declared.builder.value_parser.ValueParser.TheVariants as vp
 use Rattle.clap.specs.Simple.{Shape, built, entered, label_of}
-use Rattle.clap.specs.Walk.{Names, Walk, answers_to, arg_by_id, finished, idle, most_values, nothing_held, option, rows_after, settled, walk_from, walked}
+use Rattle.clap.specs.Walk.{Names, Walk, answers_to, arg_by_id, arg_by_index, finished, idle, most_values, nothing_held, option, rows_after, settled, to_positional, value as file_value, walk_from, walked}
 use Rattle.clap.proofs.OnLiterals.{clap_on_literals}
 use Rattle.cli_words.specs.App.{program}
 use Rattle.cli_words.specs.PlainLine.{IsPlainWord}
@@ -85,6 +85,35 @@ goes_option s a w end rows flag id value words well asks plain known same one re
     goes_more s w (waits rows id) end flag (value ∷ words) well asks
     (goes_more s (waits rows id) (at rows (Some (id, value ∷ []))) end value words (answers_well s rows id value plain)
     (answers s.rules a rows id value plain known same one) rest)
+
+-- the one file of a subcommand
+abbrev pub filed : Shape → List Row → Option (Text × List Text) → Text → Walk
+filed s rows pending file = to_positional s.rules (arg_by_index s.rules 1) file (at rows pending) (at rows pending).held
+
+ends_at : (s : Shape) (rows : List Row) (pending : Option (Text × List Text)) (xs : Text) (x : ℕ) → (x == 45) ≡ false → walked s.rules [] (at rows pending) (x ∷ xs) ≡ filed s rows pending (x ∷ xs)
+unfolding clap_on_literals
+ends_at s rows pending xs x plain = simp plain
+
+ends : (s : Shape) (rows : List Row) (pending : Option (Text × List Text)) (file : Text) → IsPlainWord file → walked s.rules [] (at rows pending) file ≡ filed s rows pending file
+unfolding clap_on_literals
+ends s rows pending [] plain = refl
+ends s rows pending (x ∷ xs) plain = ends_at s rows pending xs x (is_other x plain)
+
+ends_well_at : (s : Shape) (rows : List Row) (pending : Option (Text × List Text)) (xs : Text) (x : ℕ) → (x == 45) ≡ false
+    → turn_fault s [] (at rows pending) (x ∷ xs) ≡ step_fault s 1 (at rows pending).held file_value
+unfolding clap_on_literals
+ends_well_at s rows pending xs x plain = simp plain
+
+ends_well : (s : Shape) (rows : List Row) (pending : Option (Text × List Text)) (file : Text) → IsPlainWord file → turn_fault s [] (at rows pending) file ≡ step_fault s 1 (at rows pending).held file_value
+unfolding clap_on_literals
+ends_well s rows pending [] plain = refl
+ends_well s rows pending (x ∷ xs) plain = ends_well_at s rows pending xs x (is_other x plain)
+
+pub goes_file : (s : Shape) (rows : List Row) (pending : Option (Text × List Text)) (file : Text) → IsPlainWord file → step_fault s 1 (at rows pending).held file_value ≡ []
+    → WalksTo s (at rows pending) (file ∷ []) (filed s rows pending file)
+goes_file s rows pending file plain well =
+    goes_more s (at rows pending) (filed s rows pending file) (filed s rows pending file) file [] (ends_well s rows pending file plain ∙ well) (ends s rows pending file plain)
+    (goes_none s (filed s rows pending file))
 
 -- what is refused behind a walk, and behind its last argument
 abbrev pub later_fault : Shape → Walk → Kinds

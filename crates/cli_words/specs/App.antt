@@ -1,7 +1,7 @@
 -- The command line of the program, in clap's terms.
 use Rattle.std.specs.Prelude.{◌≡◌, IfOk, Some, true, false, codes}
 use Rattle.clap.specs.Lexer.{usize_max}
-use Rattle.clap.specs.declared.builder.action.ArgAction.TheVariants.{SetTrue}
+use Rattle.clap.specs.declared.builder.action.ArgAction.TheVariants.{Append, SetTrue}
 use Rattle.clap.specs.Words.{App, Rule, Text, app_of, new_app, new_rule, rule_of, with_rule, with_subcommand}
 use Rattle.clap.specs.declared.builder.arg.Arg.{Arg}
 use Rattle.clap.specs.declared.builder.command.Command.{Command}
@@ -27,6 +27,10 @@ optional_value id = record (new_rule id) { long = Some id; value_names = 1 }
 -- `--id VALUE`, which has to be there
 abbrev pub needed : Text → Rule
 needed id = record (optional_value id) { required = true }
+
+-- `--id VALUE`, which may be given several times, and may be left out
+abbrev pub repeated : Text → Rule
+repeated id = record (optional_value id) { action = Some Append }
 
 -- `--id`, which may be left out
 abbrev pub flag : Text → Rule
@@ -60,11 +64,15 @@ issuer_rule = needed (codes "issuer")
 abbrev pub parts_rule : Rule
 parts_rule = flag (codes "parts")
 
--- `prints --issuer ISSUER [--as KIND] [--parts] FILE`
+-- `[--among FILE]..`
+abbrev pub among_rule : Rule
+among_rule = repeated (codes "among")
+
+-- `prints --issuer ISSUER [--as KIND] [--parts] [--among FILE].. FILE`
 abbrev pub prints_app : App
 prints_app =
-    with_rule (with_rule (with_rule (with_rule (new_app (codes "prints")) issuer_rule) kind_rule) parts_rule)
-    file_rule
+    with_rule (with_rule (with_rule (with_rule (with_rule (new_app (codes "prints")) issuer_rule) kind_rule)
+    parts_rule) among_rule) file_rule
 
 -- `--store STORE`, which has to be there
 abbrev pub store_rule : Rule
@@ -122,6 +130,24 @@ other_rule = needed (codes "other")
 abbrev pub compare_app : App
 compare_app = with_rule (asking (new_app (codes "compare"))) other_rule
 
+-- `--anchor FILE..`, at least once
+abbrev pub anchors_rule : Rule
+anchors_rule = record (repeated (codes "anchor")) { required = true }
+
+-- `--name NAME`, which may be left out
+abbrev pub name_rule : Rule
+name_rule = optional_value (codes "name")
+
+-- what `find` asks: `--at TIME --anchor FILE.. [--among FILE].. [--purpose OID] [--name NAME] FILE`
+abbrev pub searching : App → App
+searching a =
+    with_rule (with_rule (with_rule (with_rule (with_rule (with_rule a moment_rule) anchors_rule) among_rule)
+    purpose_rule) name_rule) file_rule
+
+-- `find --store STORE --verdicts VERDICTS`, with that
+abbrev pub find_app : App
+find_app = searching (storing (new_app (codes "find")))
+
 -- `WORD...`, which may be left out
 abbrev pub topic_rule : Rule
 topic_rule = record (new_rule (codes "topic")) {
@@ -157,6 +183,7 @@ wanting_subcommand a = record a { top = record a.top { subcommand_required = tru
 abbrev pub program : App
 program =
     with_subcommand (with_subcommand (with_subcommand (with_subcommand (with_subcommand (with_subcommand
-    (with_subcommand (with_subcommand (with_subcommand (wanting_subcommand (new_app (codes "x509check")))
+    (with_subcommand (with_subcommand (with_subcommand (with_subcommand
+    (wanting_subcommand (new_app (codes "x509check")))
     tree_app.top) show_app.top) prints_app.top) deliver_app.top) check_app.top) compare_app.top)
-    explain_app.top) session_app.top) list_app.top
+    find_app.top) explain_app.top) session_app.top) list_app.top

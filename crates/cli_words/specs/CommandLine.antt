@@ -1,5 +1,5 @@
 -- What a line is, by the matches that clap's definition of a simple command gives for the words.
-use Rattle.std.specs.Prelude.{◌≡◌, ◌⊎◌, [], ◌∷◌, Bool, false, List, Option, Some, None, codes, map, option_map, if◌then◌else◌}
+use Rattle.std.specs.Prelude.{◌≡◌, ◌≢◌, ◌⊎◌, [], ◌∷◌, Bool, false, List, Option, Some, None, codes, map, option_map, if◌then◌else◌}
 use Rattle.std.specs.Str.{bytes_eq}
 use Rattle.std.specs.Borrow.{Bor}
 use Rattle.clap.specs.Words.{IsAmong, Row, Text, all_of, fault_of, first_of, subcommand_of}
@@ -7,8 +7,9 @@ use Rattle.clap.specs.declared.error.kind.ErrorKind.{ErrorKind}
 use Rattle.clap.specs.declared.error.kind.ErrorKind.TheVariants.{InvalidValue, MissingRequiredArgument}
 use Rattle.cli_words.specs.App.{program}
 use Rattle.cli_words.specs.declared.line.Line.{Line}
-use Rattle.cli_words.specs.declared.line.Line.TheVariants.{Tree, Show, Prints, Deliver, Check, Compare, Explain, Session, List as Lists}
+use Rattle.cli_words.specs.declared.line.Line.TheVariants.{Tree, Show, Prints, SearchPrints, Deliver, Check, Compare, Find, Explain, Session, List as Lists}
 use Rattle.cli_words.specs.QueryTexts.{QueryTexts, seen_words}
+use Rattle.cli_words.specs.SearchTexts.{SearchTexts, seen_search_words}
 use Rattle.cli_words.specs.declared.line.Kind.{Kind}
 use Rattle.cli_words.specs.declared.line.Kind.TheVariants.{Certificate, RevocationList, Response}
 use Rattle.cli_words.specs.declared.line.Flaw.{Flaw}
@@ -54,6 +55,19 @@ abbrev pub words_in : Option (List Text) → List Text
 words_in (Some words) = words
 words_in None = []
 
+-- the rows give the argument with this id, which may be given several times, these texts
+abbrev pub GivesTexts : List Row → Text → List (Bor Text) → Type 0
+GivesTexts rows id words = all_of id rows ≡ Some (map (λ s. s.now) words)
+
+-- the rows have what is asked about a certificate that others lead to
+pub record AskToFind (rows : List Row) (texts : SearchTexts) : Type 0 where
+  pub moment : first_of (codes "at") rows ≡ Some texts.moment
+  pub purpose : first_of (codes "purpose") rows ≡ texts.purpose
+  pub name : first_of (codes "name") rows ≡ texts.name
+  pub anchors : all_of (codes "anchor") rows ≡ Some texts.anchors
+  pub among : words_in (all_of (codes "among") rows) ≡ texts.among
+  pub target : first_of (codes "file") rows ≡ Some texts.target
+
 -- the line of a subcommand with these rows
 abbrev pub IsLine : Text × List Row → Line → Type 0
 IsLine (name, rows) (Tree file) = (name ≡ codes "tree") × GivesText rows (codes "file") file
@@ -63,6 +77,11 @@ IsLine (name, rows) (Show kind with_details file) =
 IsLine (name, rows) (Prints issuer kind with_parts file) =
     (name ≡ codes "prints") × GivesText rows (codes "issuer") issuer × (kind_in_rows rows ≡ Some kind)
     × (flag_in rows (codes "parts") ≡ with_parts) × GivesText rows (codes "file") file
+    × (all_of (codes "among") rows ≡ None)
+IsLine (name, rows) (SearchPrints issuers among with_parts file) =
+    (name ≡ codes "prints") × GivesText rows (codes "issuer") issuers
+    × (kind_in_rows rows ≡ Some Certificate) × (flag_in rows (codes "parts") ≡ with_parts)
+    × GivesText rows (codes "file") file × GivesTexts rows (codes "among") among.items
 IsLine (name, rows) (Deliver store verdicts issuer file) =
     (name ≡ codes "deliver") × GivesText rows (codes "store") store
     × GivesText rows (codes "verdicts") verdicts × GivesText rows (codes "issuer") issuer
@@ -74,6 +93,9 @@ IsLine (name, rows) (Compare store other verdicts query) =
     (name ≡ codes "compare") × GivesText rows (codes "store") store
     × GivesText rows (codes "other") other × GivesText rows (codes "verdicts") verdicts
     × Ask rows (seen_words query)
+IsLine (name, rows) (Find store verdicts search) =
+    (name ≡ codes "find") × GivesText rows (codes "store") store
+    × GivesText rows (codes "verdicts") verdicts × AskToFind rows (seen_search_words search)
 IsLine (name, rows) (Explain words) =
     (name ≡ codes "explain")
     × (map (λ s. s.now) words.items ≡ words_in (all_of (codes "topic") rows))
@@ -112,6 +134,9 @@ of_check = codes "store" ∷ codes "verdicts" ∷ of_query
 abbrev pub of_compare : List Text
 of_compare = codes "store" ∷ codes "other" ∷ codes "verdicts" ∷ of_query
 
+abbrev pub of_find : List Text
+of_find = codes "store" ∷ codes "verdicts" ∷ of_query
+
 abbrev pub of_store : List Text
 of_store = codes "store" ∷ []
 
@@ -127,18 +152,26 @@ pub record HasNoLine (entered : Option (Text × List Row)) : Type 0 where
   pub deliver : EnteredWithout entered (codes "deliver") of_deliver
   pub check : EnteredWithout entered (codes "check") of_check
   pub compare : EnteredWithout entered (codes "compare") of_compare
+  pub find : EnteredWithout entered (codes "find") of_find
   pub explain : EnteredWithout entered (codes "explain") []
   pub session : EnteredWithout entered (codes "session") of_store
   pub list : EnteredWithout entered (codes "list") of_store
 
--- the subcommands that take the name of a kind
-abbrev pub TakesKind : Text → Type 0
-TakesKind name = (name ≡ codes "show") ⊎ (name ≡ codes "prints")
+-- the rows have files to search among, and name another kind than that of a certificate
+abbrev pub SearchesForOther : List Row → Type 0
+SearchesForOther rows =
+    (all_of (codes "among") rows ≢ None) × (kind_in_rows rows ≢ Some Certificate)
 
--- one of these was entered, with a name that no kind has
+-- the subcommand takes the name of a kind, and the rows have a name that no kind has, or one that a search does not take
+abbrev pub TakesOtherKind : Text → List Row → Type 0
+TakesOtherKind name rows =
+    ((name ≡ codes "show") × (kind_in_rows rows ≡ None))
+    ⊎ ((name ≡ codes "prints") × ((kind_in_rows rows ≡ None) ⊎ SearchesForOther rows))
+
+-- one of these was entered, with such a name
 abbrev pub HasOtherKind : Option (Text × List Row) → Type 0
 HasOtherKind entered =
-    (p : Text × List Row) × (entered ≡ Some p) × TakesKind p.0 × (kind_in_rows p.1 ≡ None)
+    (p : Text × List Row) × (entered ≡ Some p) × TakesOtherKind p.0 p.1
 
 -- what is wrong with the subcommand that was entered; nothing is where memory ran out
 abbrev pub HasFlaw : Option (Text × List Row) → Flaw → Type 0
@@ -146,13 +179,19 @@ HasFlaw entered ArgumentMissing = HasNoLine entered
 HasFlaw entered OtherKind = HasOtherKind entered
 HasFlaw entered NoMemory = Unit {0}
 
--- the same of the rows of a subcommand that takes a kind, and no memory
-abbrev pub IsFlaw : List Text → List Row → Flaw → Type 0
-IsFlaw ids rows ArgumentMissing = LacksOneOf ids rows
-IsFlaw ids rows OtherKind = kind_in_rows rows ≡ None
-IsFlaw ids rows NoMemory = ⊥
+-- the same of the rows of `show`
+abbrev pub IsFlawOfShow : List Row → Flaw → Type 0
+IsFlawOfShow rows ArgumentMissing = LacksOneOf of_file rows
+IsFlawOfShow rows OtherKind = kind_in_rows rows ≡ None
+IsFlawOfShow rows NoMemory = ⊥
 
--- of one that takes no kind, and no memory
+-- of those of `prints`
+abbrev pub IsFlawOfPrints : List Row → Flaw → Type 0
+IsFlawOfPrints rows ArgumentMissing = LacksOneOf of_prints rows
+IsFlawOfPrints rows OtherKind = (kind_in_rows rows ≡ None) ⊎ SearchesForOther rows
+IsFlawOfPrints rows NoMemory = Unit {0}
+
+-- of a subcommand that takes no kind, and no memory
 abbrev pub IsLack : List Text → List Row → Flaw → Type 0
 IsLack ids rows ArgumentMissing = LacksOneOf ids rows
 IsLack ids rows OtherKind = ⊥
@@ -168,7 +207,7 @@ IsFlawOfQuestion ids rows NoMemory = Unit {0}
 abbrev pub ReadsLine : List Text → Line → Type 0
 ReadsLine words line = (fault_of program words ≡ []) × IsLineOf (subcommand_of program words) line
 
--- the subcommand that was entered is refused with this kind of error: one of its files is missing, or no kind of input has the name
+-- the subcommand that was entered is refused with this kind of error: one of its files is missing, or no kind that it takes has the name
 abbrev pub IsRefusedWith : Option (Text × List Row) → ErrorKind → Type 0
 IsRefusedWith entered kind =
     ((kind ≡ MissingRequiredArgument) × HasNoLine entered)

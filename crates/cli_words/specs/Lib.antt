@@ -1,5 +1,6 @@
 pub mod App
 pub mod QueryTexts
+pub mod SearchTexts
 pub mod CommandLine
 pub mod PlainLine
 pub mod RunOptions

@@ -5,8 +5,9 @@ use Rattle.clap.specs.Words.{Text, kind_of}
 use Rattle.clap.specs.declared.error.Error.{Error}
 use Rattle.clap.specs.declared.error.kind.ErrorKind.TheVariants.{OutOfMemory}
 use Rattle.cli_words.specs.QueryTexts.{QueryTexts, seen_words}
+use Rattle.cli_words.specs.SearchTexts.{SearchTexts, seen_search_words}
 use Rattle.cli_words.specs.declared.line.Line.{Line}
-use Rattle.cli_words.specs.declared.line.Line.TheVariants.{Tree, Show, Prints, Deliver, Check, Compare, Explain, Session, List as Lists}
+use Rattle.cli_words.specs.declared.line.Line.TheVariants.{Tree, Show, Prints, Deliver, Check, Compare, Find, Explain, Session, List as Lists}
 use Rattle.cli_words.specs.declared.line.Kind.TheVariants.{Certificate}
 
 -- memory ran out while the words were read
@@ -37,6 +38,7 @@ pub data PlainLine : Type 0 where
   deliver : PlainWord → PlainWord → PlainWord → PlainWord → PlainLine
   check : PlainWord → PlainWord → PlainQuery → PlainLine
   compare : PlainWord → PlainWord → PlainQuery → PlainWord → PlainLine
+  find : PlainWord → PlainWord → PlainWord → PlainWord → PlainWord → PlainLine
   explain : PlainWord → PlainLine
   session : PlainWord → PlainLine
   list : PlainWord → PlainLine
@@ -61,6 +63,9 @@ plain_words (check store verdicts query) =
 plain_words (compare store verdicts query other) =
     codes "compare" ∷ stores_words store.text verdicts.text (codes "--at" ∷ query.moment.text
     ∷ codes "--anchor" ∷ query.anchor.text ∷ codes "--other" ∷ other.text ∷ query.file ∷ query.more)
+plain_words (find store verdicts moment anchor file) =
+    codes "find" ∷ stores_words store.text verdicts.text (codes "--at" ∷ moment.text
+    ∷ codes "--anchor" ∷ anchor.text ∷ file.text ∷ [])
 plain_words (explain word) = codes "explain" ∷ word.text ∷ []
 plain_words (session store) = codes "session" ∷ codes "--store" ∷ store.text ∷ []
 plain_words (list store) = codes "list" ∷ codes "--store" ∷ store.text ∷ []
@@ -104,6 +109,12 @@ IsCompare path trusted texts beside (Compare store other verdicts query) =
     (store.now ≡ path) × (other.now ≡ beside) × (verdicts.now ≡ trusted) × (seen_words query ≡ texts)
 IsCompare path trusted texts beside _ = ⊥
 
+-- `find --store STORE --verdicts VERDICTS --at TIME --anchor FILE FILE`
+abbrev pub IsFind : Text → Text → SearchTexts → Line → Type 0
+IsFind path trusted texts (Find store verdicts search) =
+    (store.now ≡ path) × (verdicts.now ≡ trusted) × (seen_search_words search ≡ texts)
+IsFind path trusted texts _ = ⊥
+
 -- `explain WORD`
 abbrev pub IsExplain : Text → Line → Type 0
 IsExplain word (Explain words) = map (λ s. s.now) words.items ≡ word ∷ []
@@ -133,6 +144,17 @@ query_texts query = record {
   files = query.file ∷ query.more;
 }
 
+-- what is asked about the certificate in a file under the anchors of one file, with nothing between them, no purpose and no name
+abbrev pub search_texts : Text → Text → Text → SearchTexts
+search_texts moment anchor file = record {
+  moment = moment;
+  purpose = None;
+  name = None;
+  anchors = anchor ∷ [];
+  among = [];
+  target = file;
+}
+
 -- a line says just this
 abbrev pub SpellsLine : PlainLine → Line → Type 0
 SpellsLine (tree file) = IsTree file.text
@@ -141,6 +163,8 @@ SpellsLine (prints issuer file) = IsPrints issuer.text file.text
 SpellsLine (deliver store verdicts issuer file) = IsDeliver store.text verdicts.text issuer.text file.text
 SpellsLine (check store verdicts query) = IsCheck store.text verdicts.text (query_texts query)
 SpellsLine (compare store verdicts query other) = IsCompare store.text verdicts.text (query_texts query) other.text
+SpellsLine (find store verdicts moment anchor file) =
+    IsFind store.text verdicts.text (search_texts moment.text anchor.text file.text)
 SpellsLine (explain word) = IsExplain word.text
 SpellsLine (session store) = IsSession store.text
 SpellsLine (list store) = IsList store.text

@@ -1,9 +1,9 @@
 //! The program and its subcommands, as clap sees them. Each subcommand is built in a function of its own.
 ghost use Rattle.std.specs.Prelude.{◌≡◌, IfOk};
 ghost use Rattle.clap.specs.Words.{App, app_of};
-ghost use Rattle.cli_words.specs.App.{IsApp, HasRule, asking as asking_app, certificates_rule, check_app, compare_app, deliver_app, explain_app, file_rule, issuer_rule, kind_rule, list_app, program as program_app, prints_app, session_app, show_app, store_rule, topic_rule, tree_app, verdicts_rule};
+ghost use Rattle.cli_words.specs.App.{IsApp, HasRule, among_rule, anchors_rule, asking as asking_app, certificates_rule, check_app, compare_app, deliver_app, explain_app, file_rule, find_app, issuer_rule, kind_rule, list_app, moment_rule, program as program_app, prints_app, purpose_rule, session_app, show_app, store_rule, topic_rule, tree_app, verdicts_rule};
 
-use crate::building::{Building, flag, needed, option};
+use crate::building::{Building, flag, needed, option, repeated};
 use clap::{Arg, Command};
 use std::alloc::{AllocError, Global};
 
@@ -14,8 +14,9 @@ With no command:
   --version         Print the version, the kit that proved it, and the SHA-256 of the sources
 
 Exit statuses:
-  0 done, valid     1 invalid     2 revoked     3 unknown     4 refused input
-  5 bad command line     6 a file, a store, memory or the output failed     7 the verdicts differ
+  0 done, valid     1 invalid, no path found     2 revoked     3 unknown, gave up
+  4 refused input     5 bad command line     6 a file, a store, memory or the output failed
+  7 the verdicts differ
   'x509check explain status 3' says what one means, 'x509check explain 4' the same of a fault.";
 
 const SESSION_HELP: &str = "Requests, a line each:
@@ -23,9 +24,13 @@ const SESSION_HELP: &str = "Requests, a line each:
   forget                                   Forget what came by 'believe'
   deliver ISSUER FILE                      Put a list or a response into the store
   check TIME [purpose=OID] ANCHOR FILE..   The verdict on a path
+  find TIME [purpose=OID] [name=NAME] ANCHORS [AMONG] FILE
+                                           A path to the certificate, and its verdict
   prints [parts] KIND ISSUER FILE          What a verifier is asked; with parts, the texts too
+  prints [parts] search ANCHORS [AMONG] FILE
+                                           What it may be asked in a search
   quit                                     End the session
-ISSUER, ANCHOR and FILE are files, or 'hex:' and the octets.
+ISSUER, ANCHOR and FILE are files, or 'hex:' and the octets; ANCHORS and AMONG have several certificates in a row.
 
 Example: echo quit | x509check session --store store";
 
@@ -91,6 +96,13 @@ fn issuer<'a>(alloc: Global) -> Arg<'a>
     )
 }
 
+// `--among FILE`, as often as there are files.
+fn among<'a>(alloc: Global, help: &'a str) -> Arg<'a>
+    ensures { HasRule among_rule result }
+{
+    repeated(alloc, "among", "FILE", help)
+}
+
 fn prints<'a>(alloc: Global) -> Building<'a>
     ensures { IsApp prints_app result }
 {
@@ -106,6 +118,10 @@ fn prints<'a>(alloc: Global) -> Building<'a>
         alloc,
         "parts",
         "Also prints what is verified: algorithm, key, message and signature, in hexadecimal",
+    ))
+    .arg(among(
+        alloc,
+        "A file of certificates in any order: prints what a verifier may be asked in a search for a path to FILE among them; the issuer's file then holds those of all trust anchors",
     ))
     .arg(file(alloc))
 }
@@ -158,6 +174,23 @@ fn certificates<'a>(alloc: Global) -> Arg<'a>
         .help("The files of the certificates of the path, from the one that the anchor issued on")
 }
 
+fn moment<'a>(alloc: Global) -> Arg<'a>
+    ensures { HasRule moment_rule result }
+{
+    needed(alloc, "at", "TIME", "The moment, as YYYYMMDDHHMMSSZ")
+}
+
+fn purpose<'a>(alloc: Global) -> Arg<'a>
+    ensures { HasRule purpose_rule result }
+{
+    option(
+        alloc,
+        "purpose",
+        "OID",
+        "The purpose of the key of the last certificate, as an OBJECT IDENTIFIER in dotted decimal",
+    )
+}
+
 // What `check` and `compare` ask.
 fn asking<'a>(alloc: Global, command: Building<'a>) -> Building<'a>
     ensures { (a : App) → IsApp a command.entry → IsApp (asking_app a) result }
@@ -165,19 +198,14 @@ fn asking<'a>(alloc: Global, command: Building<'a>) -> Building<'a>
     command
         .arg(store(alloc))
         .arg(verdicts(alloc))
-        .arg(needed(alloc, "at", "TIME", "The moment, as YYYYMMDDHHMMSSZ"))
+        .arg(moment(alloc))
         .arg(needed(
             alloc,
             "anchor",
             "ANCHOR",
             "The file of the trust anchor's certificate",
         ))
-        .arg(option(
-            alloc,
-            "purpose",
-            "OID",
-            "The purpose of the key of the last certificate, as an OBJECT IDENTIFIER in dotted decimal",
-        ))
+        .arg(purpose(alloc))
         .arg(certificates(alloc))
 }
 
@@ -203,6 +231,56 @@ fn compare<'a>(alloc: Global) -> Building<'a>
         "Example: x509check compare --store store --other other --verdicts good --at 20261201000000Z --anchor root.der middle.der leaf.der",
     );
     asking(alloc, command).arg(needed(alloc, "other", "STORE", "The file of the other store"))
+}
+
+// `--anchor FILE`, as often as there are files, and at least once.
+fn anchors<'a>(alloc: Global) -> Arg<'a>
+    ensures { HasRule anchors_rule result }
+{
+    repeated(
+        alloc,
+        "anchor",
+        "FILE",
+        "A file of the certificates of trust anchors, one behind the other; may be given several times",
+    )
+    .required(true)
+}
+
+// FILE: the one whose certificate is in question.
+fn target<'a>(alloc: Global) -> Arg<'a>
+    ensures { HasRule file_rule result }
+{
+    Arg::new(alloc, "file")
+        .required(true)
+        .value_name("FILE")
+        .help("The file of the certificate in question")
+}
+
+fn find<'a>(alloc: Global) -> Building<'a>
+    ensures { IsApp find_app result }
+{
+    Building::new(
+        alloc,
+        "find",
+        "Finds a path to a certificate under trust anchors, among certificates in any order, and prints it with its verdict",
+        "Example: x509check find --store store --verdicts good --at 20261201000000Z --anchor roots.der --among bag.der leaf.der",
+    )
+    .arg(store(alloc))
+    .arg(verdicts(alloc))
+    .arg(moment(alloc))
+    .arg(anchors(alloc))
+    .arg(among(
+        alloc,
+        "A file of certificates that may stand between an anchor and the target, in any order, one behind the other; may be given several times",
+    ))
+    .arg(purpose(alloc))
+    .arg(option(
+        alloc,
+        "name",
+        "NAME",
+        "A host, an IP address, or a mailbox with its at sign, that the certificate has to speak for",
+    ))
+    .arg(target(alloc))
 }
 
 // WORD...: it may be left out.
@@ -282,6 +360,7 @@ pub fn program<'a>(alloc: Global) -> Result<Command<'a>, AllocError>
     .subcommand(deliver(alloc))
     .subcommand(check(alloc))
     .subcommand(compare(alloc))
+    .subcommand(find(alloc))
     .subcommand(explain(alloc))
     .subcommand(session(alloc))
     .subcommand(list(alloc))

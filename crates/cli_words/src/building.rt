@@ -1,7 +1,7 @@
 //! Commands in the making, and the arguments that they take.
 ghost use Rattle.std.specs.Prelude.{IfOk};
 ghost use Rattle.clap.specs.Words.{App, Rule, new_app, with_rule, with_subcommand};
-ghost use Rattle.cli_words.specs.App.{IsApp, HasRule, IsCommand, flag as flag_rule, needed as needed_rule, optional_value, wanting_subcommand};
+ghost use Rattle.cli_words.specs.App.{IsApp, HasRule, IsCommand, flag as flag_rule, needed as needed_rule, optional_value, repeated as repeated_rule, wanting_subcommand};
 
 use clap::{Arg, ArgAction, Command};
 use std::alloc::{AllocError, Global};
@@ -91,6 +91,13 @@ pub(crate) fn needed<'a>(alloc: Global, id: &'a str, value: &'a str, help: &'a s
     ensures { HasRule (needed_rule id.entry.now) result }
 {
     option(alloc, id, value, help).required(true)
+}
+
+/// `--id VALUE`, which may be given several times, and may be left out.
+pub(crate) fn repeated<'a>(alloc: Global, id: &'a str, value: &'a str, help: &'a str) -> Arg<'a>
+    ensures { HasRule (repeated_rule id.entry.now) result }
+{
+    option(alloc, id, value, help).action(ArgAction::Append)
 }
 
 /// `--id`, which may be left out.

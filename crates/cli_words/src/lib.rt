@@ -2,12 +2,14 @@
 #![tactic(auto)]
 
 mod app;
+mod arguments;
 mod building;
 mod leading;
 mod line;
 mod query;
-mod topic;
+mod search;
 
 pub use leading::{RunOptions, RunWords, run_options};
 pub use line::{Kind, Line, command_of};
 pub use query::QueryWords;
+pub use search::SearchWords;

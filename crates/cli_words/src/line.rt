@@ -1,15 +1,16 @@
 //! What a command line asks for.
-ghost use Rattle.std.specs.Prelude.{◌≡◌, ◌<◌, ◌^◌, ◌⊎◌, ◌∷◌, IfErr, IfOk, MatchResult, codes, length, map, option_map};
-ghost use Rattle.clap.specs.Words.{Text, app_of, first_of, found_of, kind_of, rows_of, subcommand_rows_of};
+ghost use Rattle.std.specs.Prelude.{◌≡◌, ◌<◌, ◌^◌, ◌⊎◌, ◌∷◌, IfErr, IfOk, MatchResult, None, Some, codes, length, map, option_map};
+ghost use Rattle.clap.specs.Words.{Text, all_of, app_of, found_of, kind_of, rows_of, subcommand_rows_of};
 ghost use Rattle.clap.specs.declared.error.kind.ErrorKind.TheVariants.{OutOfMemory};
 ghost use Rattle.cli_words.specs.declared.line.Flaw.TheVariants.{NoMemory, OtherKind};
 ghost use Rattle.cli_words.specs.App.{program as program_app};
-ghost use Rattle.cli_words.specs.CommandLine.{AreRefusedWith, HasFlaw, IsErrorOf, IsFlaw, IsFlawOfQuestion, IsLack, IsLine, IsLineOf, IsRefusedWith, ReadsLine, flag_in, kind_in_rows, kind_or_certificate, of_check, of_compare, of_deliver, of_file, of_prints, of_store};
+ghost use Rattle.cli_words.specs.CommandLine.{AreRefusedWith, HasFlaw, IsErrorOf, GivesTexts, IsFlawOfPrints, IsFlawOfQuestion, IsFlawOfShow, IsLack, IsLine, IsLineOf, IsRefusedWith, ReadsLine, kind_in_rows, kind_or_certificate, of_check, of_compare, of_deliver, of_file, of_find, of_store};
 ghost use Rattle.cli_words.specs.PlainLine.{IsOutOfMemory, PlainLine, SpellsLine, plain_words};
 
 use crate::app::program;
+use crate::arguments::{any_words, is_set, text, words};
 use crate::query::{QueryWords, asked};
-use crate::topic::topic_words;
+use crate::search::{SearchWords, asked_to_find};
 use clap::error::ErrorKind;
 use clap::{ArgMatches, Command, Error};
 use std::alloc::{AllocError, Global};
@@ -48,6 +49,15 @@ pub enum Line<'a> {
         with_parts: bool,
         file: &'a str,
     },
+    /// Print the fingerprints of what a verifier may be asked in a search for a path to the certificate in the file, under the
+    /// certificates in the issuers' file, among those in the other files, of which there is at least one.
+    SearchPrints {
+        issuers: &'a str,
+        among: Vec<&'a str>,
+        /// Whether the texts that are verified are printed too.
+        with_parts: bool,
+        file: &'a str,
+    },
     /// Put the statement in the file into the store, if the key in the certificate in the issuer's file signed it, and a
     /// signature is good if its fingerprint is among the verdicts.
     Deliver {
@@ -68,6 +78,13 @@ pub enum Line<'a> {
         other: &'a str,
         verdicts: &'a str,
         query: QueryWords<'a>,
+    },
+    /// Print the path that is found to the certificate, by what the store holds, and its verdict. A signature is good if its
+    /// fingerprint is among the verdicts.
+    Find {
+        store: &'a str,
+        verdicts: &'a str,
+        search: SearchWords<'a>,
     },
     /// Print what the fault, reason or status of these words means; all of them if there is no word.
     Explain {
@@ -92,23 +109,6 @@ pub(crate) enum Flaw {
     ArgumentMissing,
     OtherKind,
     NoMemory,
-}
-
-/// The argument of this id.
-pub(crate) fn text<'a>(matches: &ArgMatches<'a>, id: &str) -> Option<&'a str>
-    ensures { option_map (λ s. s.now) result ≡ first_of id.now (rows_of (found_of matches.now)) }
-{
-    matches.get_str(id)
-}
-
-// Whether the option of this id, which takes no value, was given.
-fn is_set(matches: &ArgMatches<'_>, id: &str) -> bool
-    ensures { result ≡ flag_in (rows_of (found_of matches.now)) id.now }
-{
-    match text(matches, id) {
-        Some("true") => true,
-        _ => false,
-    }
 }
 
 fn tree_line<'a>(matches: &ArgMatches<'a>) -> Result<Line<'a>, Flaw>
@@ -144,7 +144,7 @@ fn kind_asked(matches: &ArgMatches<'_>) -> Result<Kind, Flaw>
 
 fn show_line<'a>(matches: &ArgMatches<'a>) -> Result<Line<'a>, Flaw>
     ensures line { IfOk result (IsLine (codes "show", rows_of (found_of matches.now))) }
-    ensures flaw { IfErr result (IsFlaw of_file (rows_of (found_of matches.now))) }
+    ensures flaw { IfErr result (IsFlawOfShow (rows_of (found_of matches.now))) }
 {
     let kind = kind_asked(matches)?;
     let Some(file) = text(matches, "file") else {
@@ -157,9 +157,11 @@ fn show_line<'a>(matches: &ArgMatches<'a>) -> Result<Line<'a>, Flaw>
     })
 }
 
-fn prints_line<'a>(matches: &ArgMatches<'a>) -> Result<Line<'a>, Flaw>
+// The line of `prints`, where there is nothing to search among.
+fn file_prints_line<'a>(matches: &ArgMatches<'a>) -> Result<Line<'a>, Flaw>
+    requires { all_of (codes "among") (rows_of (found_of matches.now)) ≡ None }
     ensures line { IfOk result (IsLine (codes "prints", rows_of (found_of matches.now))) }
-    ensures flaw { IfErr result (IsFlaw of_prints (rows_of (found_of matches.now))) }
+    ensures flaw { IfErr result (IsFlawOfPrints (rows_of (found_of matches.now))) }
 {
     let kind = kind_asked(matches)?;
     let (Some(issuer), Some(file)) = (text(matches, "issuer"), text(matches, "file")) else {
@@ -171,6 +173,37 @@ fn prints_line<'a>(matches: &ArgMatches<'a>) -> Result<Line<'a>, Flaw>
         with_parts: is_set(matches, "parts"),
         file,
     })
+}
+
+// The line of `prints`, where there are files to search among: what they lead to is a certificate.
+fn search_prints_line<'a>(matches: &ArgMatches<'a>, among: Vec<&'a str>) -> Result<Line<'a>, Flaw>
+    requires { GivesTexts (rows_of (found_of matches.now)) (codes "among") among.items }
+    ensures line { IfOk result (IsLine (codes "prints", rows_of (found_of matches.now))) }
+    ensures flaw { IfErr result (IsFlawOfPrints (rows_of (found_of matches.now))) }
+{
+    let Ok(Kind::Certificate) = kind_asked(matches) else {
+        return Err(Flaw::OtherKind);
+    };
+    let (Some(issuers), Some(file)) = (text(matches, "issuer"), text(matches, "file")) else {
+        return Err(Flaw::ArgumentMissing);
+    };
+    Ok(Line::SearchPrints {
+        issuers,
+        among,
+        with_parts: is_set(matches, "parts"),
+        file,
+    })
+}
+
+fn prints_line<'a>(alloc: Global, matches: &ArgMatches<'a>) -> Result<Line<'a>, Flaw>
+    ensures line { IfOk result (IsLine (codes "prints", rows_of (found_of matches.now))) }
+    ensures flaw { IfErr result (IsFlawOfPrints (rows_of (found_of matches.now))) }
+{
+    match words(alloc, matches, "among") {
+        Ok(Some(among)) => search_prints_line(matches, among),
+        Ok(None) => file_prints_line(matches),
+        Err(_) => Err(Flaw::NoMemory),
+    }
 }
 
 fn deliver_line<'a>(matches: &ArgMatches<'a>) -> Result<Line<'a>, Flaw>
@@ -226,11 +259,25 @@ fn compare_line<'a>(alloc: Global, matches: &ArgMatches<'a>) -> Result<Line<'a>,
     })
 }
 
+fn find_line<'a>(alloc: Global, matches: &ArgMatches<'a>) -> Result<Line<'a>, Flaw>
+    ensures line { IfOk result (IsLine (codes "find", rows_of (found_of matches.now))) }
+    ensures flaw { IfErr result (IsFlawOfQuestion of_find (rows_of (found_of matches.now))) }
+{
+    let (Some(store), Some(verdicts)) = (text(matches, "store"), text(matches, "verdicts")) else {
+        return Err(Flaw::ArgumentMissing);
+    };
+    Ok(Line::Find {
+        store,
+        verdicts,
+        search: asked_to_find(alloc, matches)?,
+    })
+}
+
 fn explain_line<'a>(alloc: Global, matches: &ArgMatches<'a>) -> Result<Line<'a>, Flaw>
     ensures line { IfOk result (IsLine (codes "explain", rows_of (found_of matches.now))) }
     ensures flaw { IfErr result (λ flaw. flaw ≡ NoMemory) }
 {
-    match topic_words(alloc, matches) {
+    match any_words(alloc, matches, "topic") {
         Ok(words) => Ok(Line::Explain { words }),
         Err(_) => Err(Flaw::NoMemory),
     }
@@ -273,10 +320,11 @@ fn line_of<'a>(alloc: Global, matches: &ArgMatches<'a>) -> Result<Line<'a>, Flaw
     match name {
         "tree" => tree_line(inner),
         "show" => show_line(inner),
-        "prints" => prints_line(inner),
+        "prints" => prints_line(alloc, inner),
         "deliver" => deliver_line(inner),
         "check" => check_line(alloc, inner),
         "compare" => compare_line(alloc, inner),
+        "find" => find_line(alloc, inner),
         "explain" => explain_line(alloc, inner),
         "session" => session_line(inner),
         "list" => list_line(inner),
@@ -303,7 +351,7 @@ fn error_of(command: &mut Command<'_>, flaw: Flaw) -> Result<Error, AllocError>
         Flaw::OtherKind => {
             command.error(
                 ErrorKind::InvalidValue,
-                "KIND has to be 'cert', 'crl' or 'ocsp'",
+                "KIND has to be 'cert', 'crl' or 'ocsp', and with --among 'cert'",
             )
         }
         Flaw::NoMemory => Err(AllocError),

@@ -1,12 +1,13 @@
 //! What is asked of a path of certificates.
-ghost use Rattle.std.specs.Prelude.{◌≡◌, IfErr, IfOk, codes, map, option_map};
-ghost use Rattle.clap.specs.Words.{all_of, found_of, rows_of};
+ghost use Rattle.std.specs.Prelude.{IfErr, IfOk};
+ghost use Rattle.clap.specs.Words.{found_of, rows_of};
 ghost use Rattle.cli_words.specs.CommandLine.{Ask, IsFlawOfQuestion, of_query};
 ghost use Rattle.cli_words.specs.QueryTexts.{seen_words};
 
-use crate::line::{Flaw, text};
+use crate::arguments::{text, words};
+use crate::line::Flaw;
 use clap::ArgMatches;
-use std::alloc::{AllocError, Global};
+use std::alloc::Global;
 
 /// What `check` and `compare` ask of a path, and a session's `check`: the words as they were given. None of them has been read.
 #[derive(Debug, Drop, PartialEq, Eq)]
@@ -21,23 +22,13 @@ pub struct QueryWords<'a> {
     pub files: Vec<&'a str>,
 }
 
-fn files<'a>(alloc: Global, matches: &ArgMatches<'a>) -> Result<Option<Vec<&'a str>>, AllocError>
-    ensures { IfOk result (λ files. option_map (λ v. map (λ s. s.now) v.items) files
-        ≡ all_of (codes "file") (rows_of (found_of matches.now))) }
-{
-    match matches.get_strs("file") {
-        Some(files) => Ok(Some(Vec::from_slice(alloc, files)?)),
-        None => Ok(None),
-    }
-}
-
 /// What the matches ask.
 #[tactic(auto, using(crate::proofs::Values::no_first))]
 pub(crate) fn asked<'a>(alloc: Global, matches: &ArgMatches<'a>) -> Result<QueryWords<'a>, Flaw>
     ensures query { IfOk result (λ query. Ask (rows_of (found_of matches.now)) (seen_words query)) }
     ensures flaw { IfErr result (IsFlawOfQuestion of_query (rows_of (found_of matches.now))) }
 {
-    let Ok(files) = files(alloc, matches) else {
+    let Ok(files) = words(alloc, matches, "file") else {
         return Err(Flaw::NoMemory);
     };
     let (Some(moment), Some(anchor), Some(files)) = (

@@ -18,18 +18,18 @@ use Rattle.relying.specs.declared.fault.DeliverFault.{DeliverFault}
 use Rattle.relying.specs.declared.node.Node.{Node}
 
 -- the connection was open, or no path is valid, whatever is held
-which : (accepts : Accepts) (s : Search) (live : Bool) (found : Finding) → found ≢ Finding.GaveUp → IsFoundOnlyIfOpen accepts s live found
+which : (accepts : Accepts) (s : Search) (budget : FindingBudget) (live : Bool) (found : Finding) → found ≢ Finding.GaveUp → IsFoundOnlyIfOpen accepts s budget live found
     → IsTrue live ⊎ ((found ≡ Finding.NotFound) × HasNoValid accepts s)
-which accepts s live (Finding.Found c verdict) ended opened = inl opened
-which accepts s live Finding.NotFound ended none = inr (refl, none)
-which accepts s live Finding.GaveUp ended opened = absurd (ended refl)
+which accepts s budget live (Finding.Found c verdict) ended opened = inl opened
+which accepts s budget live Finding.NotFound ended none = inr (refl, none)
+which accepts s budget live Finding.GaveUp ended opened = absurd (ended refl)
 
 module _ {V D : Type 0} {g : Ghosts D} (one_finding : FindingIsOne) (accepts : Accepts) (s : Search) (budget : FindingBudget) where
   -- where no path is valid, none is found
   none_found : (events : List Event) (answers : List (Result Counts DeliverFault)) (start : Holdings) (begun ran asked : Node V D g) (found : code.Finding)
       → HasNoValid accepts s → GaveFinding accepts s budget events answers start begun ran asked found → seen_finding found ≡ Finding.NotFound
   none_found events answers start begun ran asked found none gave =
-      elim (which accepts s (stored ran).is_open (seen_finding found) gave.ended gave.opens) [
+      elim (which accepts s budget (stored ran).is_open (seen_finding found) gave.ended gave.opens) [
         | inl live ↦
             let it = gave.came.ended live start gave.begins in
             one_finding accepts (λ query. it.held) s budget budget (seen_finding found) Finding.NotFound (gave.looks.1 it.held it.store) none gave.ended (λ e. cc)
@@ -38,9 +38,9 @@ module _ {V D : Type 0} {g : Ghosts D} (one_finding : FindingIsOne) (accepts : A
 
 pub nodes_find_the_same : {V D : Type 0} {g : Ghosts D} {W E : Type 0} {h : Ghosts E} → FindingIsOne → PartiesFindTheSame → NodesFindTheSame V D g W E h
 nodes_find_the_same one_finding parties accepts s budget others_budget events others answers others_answers start others_start begun ran asked other_begun other_ran other_asked found other_found one two premises =
-    elim (which accepts s (stored ran).is_open (seen_finding found) one.ended one.opens) [
+    elim (which accepts s budget (stored ran).is_open (seen_finding found) one.ended one.opens) [
       | inr none ↦ none.0 ∙ sym (none_found one_finding accepts s others_budget others others_answers others_start other_begun other_ran other_asked other_found none.1 two)
-      | inl live ↦ elim (which accepts s (stored other_ran).is_open (seen_finding other_found) two.ended two.opens) [
+      | inl live ↦ elim (which accepts s others_budget (stored other_ran).is_open (seen_finding other_found) two.ended two.opens) [
         | inr none ↦ none_found one_finding accepts s budget events answers start begun ran asked found none.1 one ∙ sym none.0
         | inl other_live ↦
             let it = one.came.ended live start one.begins in

@@ -14,6 +14,7 @@ use Rattle.relying_verdicts.specs.declared.fault.Fault.TheVariants.{Store, Memor
 use Rattle.relying_verdicts.specs.Asking.{AskIsCaused, AskOfBothIsCaused, HasAsked, HasAskedBoth, AreInvalidOrOpen, IsInvalidOrOpen}
 use Rattle.path_issuers.specs.Search.{Search}
 use Rattle.relying_search.specs.Finding.{Finding}
+use Rattle.relying_search.specs.declared.finding.FindingBudget.{FindingBudget}
 use Rattle.relying_verdicts.specs.Looking.{IsFoundOnlyIfOpen}
 use Rattle.relying.specs.Asking.{HasLooked, HasLookedAtBoth}
 
@@ -82,9 +83,9 @@ pub opened : {S : Type 0} (accepts : Accepts) (query : Query) (g : Ghosts S) (ol
     → IsInvalidOrOpen accepts query (state g begun).is_open verdict → IsInvalidOrOpen accepts query (state g old).is_open verdict
 opened accepts query g old begun verdict is it = subst (λ b. IsInvalidOrOpen accepts query (state g b).is_open verdict) is it
 
-pub found_open : {S : Type 0} (accepts : Accepts) (s : Search) (g : Ghosts S) (old begun : Held S) (finding : Finding) → begun ≡ record old { in_transaction = true }
-    → IsFoundOnlyIfOpen accepts s (state g begun).is_open finding → IsFoundOnlyIfOpen accepts s (state g old).is_open finding
-found_open accepts s g old begun finding is it = subst (λ b. IsFoundOnlyIfOpen accepts s (state g b).is_open finding) is it
+pub found_open : {S : Type 0} (accepts : Accepts) (s : Search) (budget : FindingBudget) (g : Ghosts S) (old begun : Held S) (finding : Finding) → begun ≡ record old { in_transaction = true }
+    → IsFoundOnlyIfOpen accepts s budget (state g begun).is_open finding → IsFoundOnlyIfOpen accepts s budget (state g old).is_open finding
+found_open accepts s budget g old begun finding is it = subst (λ b. IsFoundOnlyIfOpen accepts s budget (state g b).is_open finding) is it
 
 pub opened_both : {S T : Type 0} (accepts : Accepts) (query : Query) (g : Ghosts S) (h : Ghosts T) (old begun : Held S) (other other_begun : Held T) (comparison : Comparison)
     → begun ≡ record old { in_transaction = true } → other_begun ≡ record other { in_transaction = true }

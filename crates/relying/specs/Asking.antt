@@ -14,6 +14,7 @@ use Rattle.path_issuers.specs.Search.{Search}
 use Rattle.relying_verdicts.specs.Looking.{IsFoundOnlyIfOpen}
 use Rattle.relying_search.specs.Finding.{seen_finding}
 use Rattle.relying_search.specs.declared.finding.Finding.{Finding}
+use Rattle.relying_search.specs.declared.finding.FindingBudget.{FindingBudget}
 use Rattle.relying_verdicts.specs.declared.fault.Fault.{Fault}
 use Rattle.relying_verdicts.specs.declared.fault.Fault.TheVariants.{Store, Memory}
 
@@ -45,10 +46,10 @@ abbrev pub AnswersOnlyIfOpen : Accepts → Query → State → State → Result 
 AnswersOnlyIfOpen accepts query old new result = HasCleanDisk new → IfOk result (IsInvalidOrOpen accepts query old.is_open)
 
 -- A path with its verdict comes from an open connection alone, if the disk returned what was written; that none is valid is so whatever
--- is held.
-abbrev pub FindsOnlyIfOpen : Accepts → Search → State → State → Result Finding Fault → Type 0
-FindsOnlyIfOpen accepts s old new result =
-    HasCleanDisk new → IfOk result (λ finding. IsFoundOnlyIfOpen accepts s old.is_open (seen_finding finding))
+-- is held; that a search gave up is one or the other.
+abbrev pub FindsOnlyIfOpen : Accepts → Search → FindingBudget → State → State → Result Finding Fault → Type 0
+FindsOnlyIfOpen accepts s budget old new result =
+    HasCleanDisk new → IfOk result (λ finding. IsFoundOnlyIfOpen accepts s budget old.is_open (seen_finding finding))
 
 -- before a call and after it, what is shown is committed
 abbrev pub AreSettled : State → State → Type 0

@@ -25,7 +25,7 @@ pub record GaveFinding {V D : Type 0} {g : Ghosts D} (accepts : Accepts) (s : Se
   pub begins : IsStoreOf (stored begun).now start
   pub came : CameThrough accepts events answers (stored begun) (stored ran)
   pub looks : HasLooked StaysIfOpen (stored ran) (stored asked) (FindsHolding accepts s budget) (Ok finding)
-  pub opens : IsFoundOnlyIfOpen accepts s (stored ran).is_open (seen_finding finding)
+  pub opens : IsFoundOnlyIfOpen accepts s budget (stored ran).is_open (seen_finding finding)
   pub ended : seen_finding finding ≢ Finding.GaveUp
 
 -- Whatever two nodes took, whatever verifiers and disks they have: if both judge by one relation, and for each valid path among the

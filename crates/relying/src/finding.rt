@@ -27,7 +27,7 @@ fn find_in_transaction<V: Verifier, S: Alter>(
     ensures looks { LooksInside (state S.Store conn.old) (state S.Store conn.new)
         (FindsHolding (V.accepts verifier.now) (seen_search search.now) budget) result }
     ensures caused { LooksForCause (state S.Store conn.old) (state S.Store conn.new) result }
-    ensures open { FindsOnlyIfOpen (V.accepts verifier.now) (seen_search search.now)
+    ensures open { FindsOnlyIfOpen (V.accepts verifier.now) (seen_search search.now) budget
         (state S.Store conn.old) (state S.Store conn.new) result }
     ensures valid { IfErr result
         (IsFaultOfValidCandidate (V.accepts verifier.now) (seen_search search.now)) }
@@ -38,7 +38,7 @@ fn find_in_transaction<V: Verifier, S: Alter>(
 }
 
 /// What is found by what the store on a connection holds, in a transaction that is dropped.
-pub(crate) fn find_over<V: Verifier, S: Alter>(
+pub fn find_over<V: Verifier, S: Alter>(
     alloc: Global,
     verifier: &V,
     conn: &mut Connection<S>,
@@ -52,7 +52,7 @@ pub(crate) fn find_over<V: Verifier, S: Alter>(
     ensures caused { LooksForCause (state S.Store conn.old) (state S.Store conn.new) result }
     ensures settled { AreSettled (state S.Store conn.old) (state S.Store conn.new) }
     ensures durable { IsDurable (state S.Store conn.new) }
-    ensures open { FindsOnlyIfOpen (V.accepts verifier.now) (seen_search search.now)
+    ensures open { FindsOnlyIfOpen (V.accepts verifier.now) (seen_search search.now) budget
         (state S.Store conn.old) (state S.Store conn.new) result }
     ensures valid { IfErr result
         (IsFaultOfValidCandidate (V.accepts verifier.now) (seen_search search.now)) }

@@ -18,6 +18,7 @@ pub use comparing::compare;
 pub use delivering::read_statement;
 pub use events::{DeliverAnswer, Event};
 pub use fault::{DeliverFault, RunFault};
+pub use finding::find_over;
 pub use node::Node;
 pub use relying_search::{Finding, FindingBudget, finding_laws};
 pub use relying_verdicts::{Comparison, Fault, Query, QueryFault, Verdict};

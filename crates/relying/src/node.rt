@@ -140,7 +140,7 @@ impl<V: Verifier + Drop, D: Disk + Drop> Node<V, D> {
         ensures looks { Looks (stored self.old) (stored self.new)
             (FindsHolding (V.accepts self.old.verifier) (seen_search search.now) budget) result }
         ensures caused { LooksForCause (stored self.old) (stored self.new) result }
-        ensures open { FindsOnlyIfOpen (V.accepts self.old.verifier) (seen_search search.now)
+        ensures open { FindsOnlyIfOpen (V.accepts self.old.verifier) (seen_search search.now) budget
             (stored self.old) (stored self.new) result }
         ensures valid { IfErr result
             (IsFaultOfValidCandidate (V.accepts self.old.verifier) (seen_search search.now)) }

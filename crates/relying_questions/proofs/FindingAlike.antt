@@ -1,5 +1,5 @@
 -- Verifiers that answer the questions alike find the same.
-use Rattle.std.proofs.Common.{◌≡◌, ◌<◌, inl, inr, ℕ, ℤ, suc, List, [], ◌∷◌, ◌++◌, Option, length, map, get_or, sym, ◌∙◌, subst}
+use Rattle.std.proofs.Common.{◌≡◌, ◌<◌, inl, inr, ℕ, suc, List, [], ◌∷◌, ◌++◌, length, map, get_or, subst}
 use Rattle.std.specs.List.{AllByRecursion, Contains, flat_map}
 use Rattle.std.proofs.lemmas.List.Elements.{All-contains, All-from_recursion, Contains-get_or, recursion_from_All}
 use Rattle.cert.specs.Certificate.{Certificate}
@@ -7,10 +7,9 @@ use Rattle.path.specs.Query.{Query, Accepts}
 use Rattle.path.specs.Validity.{IsOutcome, IsValidPath}
 use Rattle.path.specs.declared.reason.Outcome.{Outcome}
 use Rattle.path.specs.declared.reason.Outcome.TheVariants.{Good, Bad}
-use Rattle.path_issuers.specs.Factors.{AreRight}
 use Rattle.path_issuers.specs.Links.{certificate_at}
 use Rattle.path_issuers.specs.Questions.{IsSearchQuestion, issuer_at}
-use Rattle.path_issuers.specs.Search.{Search, Candidate, IsFirstValid, IsValidCandidate, path_down_to, query_about}
+use Rattle.path_issuers.specs.Search.{Search, Candidate, IsFirstValid, IsValidCandidate, query_about}
 use Rattle.path_issuers.specs.declared.question.Issuer.{Issuer}
 use Rattle.path_issuers.specs.declared.question.SearchQuestion.{SearchQuestion}
 use Rattle.path_search.specs.Answer.{HasRightTails, IsRightTail}
@@ -28,14 +27,15 @@ use Rattle.relying_questions.specs.FindingQuestions.{AreFindingQuestions, asked_
 use Rattle.relying_questions.specs.Questions.{Judgement, answer, asked_of_path, asked_of_statement, asked_of_statements, asked_under, of_certificate, questions_of}
 use Rattle.relying_questions.proofs.Alike.{Alike, before, behind, each_alike, turned}
 use Rattle.relying_questions.proofs.Marking.{mapped}
-use Rattle.relying_questions.proofs.Pairs.{Neighbours, path_asked, tail_asked}
+use Rattle.relying_questions.proofs.Pairs.{Neighbours, path_asked}
 use Rattle.relying_questions.proofs.PathAlike.{outcome_alike}
 use Rattle.relying_questions.proofs.Prints.{alike}
 use Rattle.relying_questions.proofs.SameVerdicts.{decided}
+use Rattle.relying_questions.proofs.Tails.{PairsAlike, tail_too}
 
 -- ---- what is found, by what carries over from one verifier to the other
 
-each_too : {X : Type 0} (P Q : X → Type 0) → ((x : X) → P x → Q x) → (xs : List X) → AllByRecursion P xs → AllByRecursion Q xs
+pub each_too : {X : Type 0} (P Q : X → Type 0) → ((x : X) → P x → Q x) → (xs : List X) → AllByRecursion P xs → AllByRecursion Q xs
 each_too P Q too [] all = tt
 each_too P Q too (x ∷ xs) all = (too x all.0, each_too P Q too xs all.1)
 
@@ -171,33 +171,12 @@ module _ (accepts other : Accepts) where
         let links = links_asked 1 query.anchor query.certificates all in
         joined (asked_of_path query) (asked_of_statements (issuers_of query) statements) links.0 (all_told (issuers_of query) links.1)
 
-    right_too : (moment : ℤ) (purpose : Option (List ℕ)) (cs : List Certificate) → AreRight accepts moment purpose cs → Neighbours AskedAlike cs
-        → AreRight other moment purpose cs
-    right_too moment purpose [] right all = right
-    right_too moment purpose (c ∷ []) right all = right
-    right_too moment purpose (c ∷ next ∷ below) right all = (
-      record {
-        authority = right.0.authority;
-        issues = record { named = right.0.issues.named; signed = sym all.0.0 ∙ right.0.issues.signed };
-        different = right.0.different;
-        length = right.0.length;
-        names = right.0.names;
-      },
-      right_too moment purpose (next ∷ below) right.1 all.1,
-    )
-
     -- ---- the questions about a search
 
     module _ (s : Search) (asked : (issuer : Issuer) (below : ℕ) → IsSearchQuestion s (record { issuer = issuer; certificate = below })
         → AskedAlike (issuer_at s issuer) (certificate_at s below)) where
       path_alike : (c : Candidate) → IsValidCandidate accepts s c → Alike accepts other (questions_of (query_about s c) statements)
       path_alike c valid = query_asked (query_about s c) (path_asked s AskedAlike asked accepts c valid)
-
-      tail_too : (above : List ℕ) → IsRightTail accepts s above → IsRightTail other s above
-      tail_too above is = record {
-        there = is.there;
-        right = right_too s.moment s.purpose (path_down_to s.target s.bag above) is.right (tail_asked s AskedAlike asked accepts above is.there is.right);
-      }
 
       carries : Carries accepts other (held_for accepts statements) (held_for other statements) s
       carries = record {
@@ -212,15 +191,15 @@ module _ (accepts other : Accepts) where
         };
         tails = λ count has. record {
           tails = has.tails;
-          right = each_too (IsRightTail accepts s) (IsRightTail other s) tail_too has.tails has.right;
+          right = each_too (IsRightTail accepts s) (IsRightTail other s) (tail_too accepts other s (λ issuer below is. (asked issuer below is).0)) has.tails has.right;
           different = has.different;
           enough = has.enough;
         };
       }
 
-    questions_carry : (s : Search) (questions : List Judgement) → AreFindingQuestions s statements questions → Alike accepts other questions
-        → Carries accepts other (held_for accepts statements) (held_for other statements) s
-    questions_carry s questions are all = carries s (λ issuer below is.
+    pairs_of : (s : Search) (questions : List Judgement) → AreFindingQuestions s statements questions → Alike accepts other questions
+        → (issuer : Issuer) (below : ℕ) → IsSearchQuestion s (record { issuer = issuer; certificate = below }) → AskedAlike (issuer_at s issuer) (certificate_at s below)
+    pairs_of s questions are all issuer below is =
         let pair : SearchQuestion = record { issuer = issuer; certificate = below } in
         let among = are.are_pairs.all pair is in
         let issuers = map (issuer_at s) are.issuers in
@@ -230,7 +209,15 @@ module _ (accepts other : Accepts) where
           All-contains (λ p. answer accepts (asked_of_pair s p) ≡ answer other (asked_of_pair s p)) are.pairs pair
               (All-from_recursion (λ p. answer accepts (asked_of_pair s p) ≡ answer other (asked_of_pair s p)) are.pairs (each_mapped (asked_of_pair s) are.pairs pairs)) among,
           told_under issuers told (issuer_at s issuer) (mapped (issuer_at s) are.issuers issuer (are.are_issuers.all issuer (below, among))),
-        ))
+        )
+
+    questions_carry : (s : Search) (questions : List Judgement) → AreFindingQuestions s statements questions → Alike accepts other questions
+        → Carries accepts other (held_for accepts statements) (held_for other statements) s
+    questions_carry s questions are all = carries s (pairs_of s questions are all)
+
+    -- about certificates alone
+    pub pairs_alike : (s : Search) (questions : List Judgement) → AreFindingQuestions s statements questions → Alike accepts other questions → PairsAlike accepts other s
+    pairs_alike s questions are all = λ issuer below is. (pairs_of s questions are all issuer below is).0
 
 pub finding_questions_decide : FindingQuestionsDecide
 finding_questions_decide s statements questions are accepts other alike budget finding =

@@ -9,5 +9,7 @@ mod SearchStanding
 mod Marking
 mod Prints
 mod Pairs
+mod Tails
 mod FindingAlike
 mod Encodings
+mod WhyNotAlike

@@ -12,6 +12,7 @@ use Rattle.path_issuers.specs.Questions.{IsSearchQuestion, LeadsToTarget, issuer
 use Rattle.path_issuers.specs.Search.{Search, Candidate, IsValidCandidate, certificates_at, path_down_to, query_about}
 use Rattle.path_issuers.specs.declared.question.Issuer.{Issuer}
 use Rattle.path_issuers.specs.declared.question.Issuer.TheVariants.{Anchor, Bag}
+use Rattle.path_search.specs.Walk.{top_of}
 use Rattle.path_issuers.proofs.Laws.{valid_path_factors}
 
 -- it holds of each certificate and the one below it
@@ -38,6 +39,33 @@ named_right accepts moment purpose (c ∷ next ∷ below) right = (right.0.issue
 named_under : (accepts : Accepts) (anchor : Certificate) (cs : List Certificate) → IssuesFirst accepts anchor cs → Neighbours Names cs → Neighbours Names (anchor ∷ cs)
 named_under accepts anchor [] issues named = tt
 named_under accepts anchor (c ∷ below) issues named = (issues.named, named)
+
+-- the path of a tail, with the target by its number
+down_to : (s : Search) (above : List ℕ) → path_down_to s.target s.bag above ≡ reverse (certificates_at s.target s.bag above) ++ certificate_at s (length s.bag) ∷ []
+down_to s above =
+    reverse-append (s.target ∷ []) (certificates_at s.target s.bag above)
+    ∙ ap (λ (t : Certificate). reverse (certificates_at s.target s.bag above) ++ t ∷ []) (sym (get_or-eq_default s.bag s.target (omega arith)))
+
+-- the top of a tail leads to the target by names, of which the one below does
+leads_up : (s : Search) (below : ℕ) (above : List ℕ) (behind : List Certificate) → LeadsToTarget s below → AllByRecursion (λ place. place < length s.bag) above
+    → Neighbours Names (reverse (certificates_at s.target s.bag above) ++ certificate_at s below ∷ behind) → LeadsToTarget s (top_of below above)
+leads_up s below [] behind leads there named = leads
+leads_up s below (place ∷ above) behind leads there named =
+    let c = certificate_at s place in
+    let certs = certificates_at s.target s.bag above in
+    let rest = certificate_at s below ∷ behind in
+    let turned : reverse (c ∷ certs) ++ rest ≡ reverse certs ++ c ∷ rest =
+    ap (λ (l : List Certificate). l ++ rest) (reverse-append (c ∷ []) certs) ∙ append_assoc (reverse certs) (c ∷ []) rest in
+    let whole = subst (Neighbours Names) turned named in
+    let here = (neighbours_below Names (reverse certs) (c ∷ rest) whole).0 in
+    leads_up s place above rest (below ∷ leads.0, (there.0, here, leads.1)) there.1 whole
+
+pub leads_to_target : (s : Search) (accepts : Accepts) (above : List ℕ) → AllByRecursion (λ place. place < length s.bag) above
+    → AreRight accepts s.moment s.purpose (path_down_to s.target s.bag above) → LeadsToTarget s (top_of (length s.bag) above)
+leads_to_target s accepts above there right =
+    let certs = certificates_at s.target s.bag above in
+    leads_up s (length s.bag) above [] ([], refl) there
+    (subst (Neighbours Names) (down_to s above) (named_right accepts s.moment s.purpose (path_down_to s.target s.bag above) right))
 
 module _ (s : Search) (IsAsked : Certificate → Certificate → Type 0)
     (asked : (issuer : Issuer) (below : ℕ) → IsSearchQuestion s (record { issuer = issuer; certificate = below })
@@ -69,12 +97,8 @@ module _ (s : Search) (IsAsked : Certificate → Certificate → Type 0)
   asked_to_target : (top : List Certificate) → MayStandAbove top → (above : List ℕ) → AllByRecursion (λ place. place < length s.bag) above
       → Neighbours Names (top ++ path_down_to s.target s.bag above) → Neighbours IsAsked (top ++ path_down_to s.target s.bag above)
   asked_to_target top may above there named =
-      let certs = certificates_at s.target s.bag above in
-      let target : certificate_at s (length s.bag) ≡ s.target = get_or-eq_default s.bag s.target (omega arith) in
-      let turned : path_down_to s.target s.bag above ≡ reverse certs ++ certificate_at s (length s.bag) ∷ [] =
-      reverse-append (s.target ∷ []) certs ∙ ap (λ (t : Certificate). reverse certs ++ t ∷ []) (sym target) in
-      subst (λ (l : List Certificate). Neighbours IsAsked (top ++ l)) (sym turned)
-      (asked_down top may (length s.bag) above [] ([], refl) there (subst (λ (l : List Certificate). Neighbours Names (top ++ l)) turned named) tt)
+      subst (λ (l : List Certificate). Neighbours IsAsked (top ++ l)) (sym (down_to s above))
+      (asked_down top may (length s.bag) above [] ([], refl) there (subst (λ (l : List Certificate). Neighbours Names (top ++ l)) (down_to s above) named) tt)
 
   -- those of a tail
   pub tail_asked : (accepts : Accepts) (above : List ℕ) → AllByRecursion (λ place. place < length s.bag) above

@@ -1,7 +1,10 @@
 -- Verifiers that answer the same questions alike.
-use Rattle.std.specs.Prelude.{◌≡◌, ◌↔◌, ℕ, List, Contains, IsTrue}
+use Rattle.std.specs.Prelude.{◌≡◌, ◌↔◌, ℕ, List, Option, Contains, IsTrue}
 use Rattle.path.specs.Query.{Query, Accepts}
 use Rattle.path_issuers.specs.Search.{Search}
+use Rattle.path_search.specs.WhyNot.{IsWhyNot}
+use Rattle.path_search.specs.declared.answer.Budget.{Budget}
+use Rattle.path_search.specs.declared.diagnosis.WhyNot.{WhyNot}
 use Rattle.path_verifiers.specs.Fingerprint.{fingerprint_of}
 use Rattle.relying_agreement.specs.declared.verdict.Verdict.{Verdict}
 use Rattle.statements.specs.Statement.{Statement}
@@ -39,6 +42,17 @@ FindingQuestionsDecide =
     (s : Search) (statements : List Statement) (questions : List Judgement) → AreFindingQuestions s statements questions →
     DecideFinding questions s statements
 
+-- Verifiers that answer the questions about a search alike say the same of why no path is found, whatever may be spent.
+abbrev pub DecideWhyNot : List Judgement → Search → Type 0
+DecideWhyNot questions s =
+    (accepts other : Accepts) → AnswerAlike accepts other questions →
+    (budget : Budget) (found : Option WhyNot) → IsWhyNot accepts s budget found ↔ IsWhyNot other s budget found
+
+-- The questions about a search and any statements do so.
+abbrev pub WhyNotQuestionsDecide : Type 0
+WhyNotQuestionsDecide =
+    (s : Search) (statements : List Statement) (questions : List Judgement) → AreFindingQuestions s statements questions → DecideWhyNot questions s
+
 -- ---- by fingerprints
 
 -- exactly those signatures are accepted whose fingerprints are among these
@@ -62,3 +76,11 @@ FindingPrintsDecide =
     ((asked : Judgement) → Contains questions asked → (IsTrue (answer accepts asked) ↔ Contains prints (judgement_print asked))) →
     (budget : FindingBudget) (finding : Finding) →
     IsFinding accepts (held_for accepts statements) s budget finding ↔ IsFinding by_prints (held_for by_prints statements) s budget finding
+
+-- the same of why no path is found
+abbrev pub WhyNotPrintsDecide : Type 0
+WhyNotPrintsDecide =
+    (accepts by_prints : Accepts) (s : Search) (statements : List Statement) (questions : List Judgement) (prints : List (List ℕ)) →
+    AreFindingQuestions s statements questions → AcceptsPrints by_prints prints →
+    ((asked : Judgement) → Contains questions asked → (IsTrue (answer accepts asked) ↔ Contains prints (judgement_print asked))) →
+    (budget : Budget) (found : Option WhyNot) → IsWhyNot accepts s budget found ↔ IsWhyNot by_prints s budget found

@@ -10,3 +10,4 @@ pub use Rattle.relying_agreement.specs.Verdict
 pub use Rattle.path.specs.Query
 pub use Rattle.path_issuers.specs.Search
 pub use Rattle.relying_search.specs.Finding
+pub use Rattle.path_search.specs.WhyNot

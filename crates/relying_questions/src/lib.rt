@@ -14,7 +14,7 @@ mod statement_questions;
 mod under_issuers;
 
 pub use asking::questions;
-pub use deciding::{finding_question_laws, question_laws};
+pub use deciding::{finding_question_laws, question_laws, why_not_question_laws};
 pub use finding::finding_questions;
 pub use part::{TextPart, WhichText};
 pub use question::SignatureQuestion;

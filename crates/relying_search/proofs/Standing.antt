@@ -41,7 +41,8 @@ was_asked asked (C.Found c verdict) None is found = absurd cc
 was_asked asked (C.Found c verdict) (Some it) is found = λ none. let e : None ≡ Some it = sym none ∙ is in absurd cc
 was_asked asked C.NotFound None is found = is
 was_asked asked C.NotFound (Some it) is found = absurd cc
-was_asked asked C.GaveUp first is found = tt
+was_asked asked C.GaveUp None is found = absurd cc
+was_asked asked C.GaveUp (Some it) is found = absurd cc
 
 -- the next one comes before none of those in front
 descends : (last : Option Candidate) (c : Candidate) (candidates : List Candidate) → IsAfter last c → BeginsWith last candidates → AreDescending candidates

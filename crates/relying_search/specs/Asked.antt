@@ -96,11 +96,11 @@ abbrev pub found_first : Option (path.Candidate × Verdict) → Finding
 found_first None = Finding.NotFound
 found_first (Some first) = Finding.Found (seen_candidate first.0) first.1
 
--- a path that is found in the end was asked about
+-- a path that is found in the end was asked about, and such a search has not given up
 abbrev pub WasAsked : Asked → code.Finding → Type 0
 WasAsked asked (C.Found c verdict) = asked.first ≢ None
 WasAsked asked C.NotFound = asked.first ≡ None
-WasAsked asked C.GaveUp = ⊤
+WasAsked asked C.GaveUp = ⊥
 
 -- what is found is a path with its verdict
 abbrev pub IsPath : code.Finding → Type 0

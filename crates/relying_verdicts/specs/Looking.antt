@@ -6,10 +6,12 @@ use Rattle.path_search.specs.Answer.{HasNoMore, IsNextValid}
 use Rattle.path_search.specs.Paths.{ArePaths}
 use Rattle.path_search.specs.declared.paths.Paths.{Paths}
 use Rattle.path_search.specs.declared.answer.Budget.{Budget}
-use Rattle.relying_search.specs.Finding.{Finding}
+use Rattle.statements_facts.specs.Statement.{Holdings}
+use Rattle.relying_search.specs.Finding.{Finding, IsFinding, IsUsedUp}
 use Rattle.relying_search.specs.declared.asked.Asked.{Asked}
 use Rattle.relying_search.specs.declared.finding.Finding as code
 use Rattle.relying_search.specs.declared.finding.Finding.TheVariants as C
+use Rattle.relying_search.specs.declared.finding.FindingBudget.{FindingBudget}
 use Rattle.relying_verdicts.specs.declared.fault.Fault.{Fault}
 use Rattle.relying_verdicts.specs.declared.fault.Fault.TheVariants.{Store, Memory}
 
@@ -18,11 +20,13 @@ abbrev pub IsFaultOfValidCandidate : Accepts → Search → Fault → Type 0
 IsFaultOfValidCandidate accepts s (Store fault) = (c : Candidate) × IsValidCandidate accepts s c
 IsFaultOfValidCandidate accepts s Memory = ⊤
 
--- a path with its verdict comes from an open connection; that no path is valid is so whatever is held
-abbrev pub IsFoundOnlyIfOpen : Accepts → Search → Bool → Finding → Type 0
-IsFoundOnlyIfOpen accepts s is_open (Finding.Found c verdict) = IsTrue is_open
-IsFoundOnlyIfOpen accepts s is_open Finding.NotFound = HasNoValid accepts s
-IsFoundOnlyIfOpen accepts s is_open Finding.GaveUp = ⊤
+-- a path with its verdict comes from an open connection; that no path is valid is so whatever is held; that a search gave up is one or the
+-- other
+abbrev pub IsFoundOnlyIfOpen : Accepts → Search → FindingBudget → Bool → Finding → Type 0
+IsFoundOnlyIfOpen accepts s budget is_open (Finding.Found c verdict) = IsTrue is_open
+IsFoundOnlyIfOpen accepts s budget is_open Finding.NotFound = HasNoValid accepts s
+IsFoundOnlyIfOpen accepts s budget is_open Finding.GaveUp =
+    IsTrue is_open ⊎ ((held : Holdings) → IsFinding accepts (λ query. held) s budget Finding.GaveUp)
 
 -- ---- one step, wherever the search stands, and whatever is held
 
@@ -30,13 +34,13 @@ abbrev pub IsFaultOfNextCandidate : Search → Paths → Fault → Type 0
 IsFaultOfNextCandidate s paths fault =
     (accepts : Accepts) (budget : Budget) (last : Option Candidate) → ArePaths accepts s budget last paths → IsFaultOfValidCandidate accepts s fault
 
--- the next valid path was asked about; or none was found, since none is left and none was asked about
+-- the next valid path was asked about; or none was found, since none is left and none was asked about; or a budget is used up
 abbrev pub WalksTo : Accepts → Search → Budget → Option Candidate → Asked → Paths → Asked → Option code.Finding → Type 0
 WalksTo accepts s budget last asked next new None =
     (c : Candidate) × IsNextValid accepts s last c × ArePaths accepts s budget (Some c) next × (new.first ≢ None)
 WalksTo accepts s budget last asked next new (Some (C.Found c verdict)) = ⊤
 WalksTo accepts s budget last asked next new (Some C.NotFound) = HasNoMore accepts s last × (asked.first ≡ None)
-WalksTo accepts s budget last asked next new (Some C.GaveUp) = ⊤
+WalksTo accepts s budget last asked next new (Some C.GaveUp) = IsUsedUp accepts s budget
 
 abbrev pub Walks : Search → Paths → Asked → Paths → Asked → Option code.Finding → Type 0
 Walks s paths asked next new answer =

@@ -102,7 +102,7 @@ pub fn find<V: Verifier, S: Alter>(
         (FindsHolding (V.accepts verifier.now) (seen_search search.now) budget) result }
     ensures caused { AsksForCause S.Store tx.old tx.new result }
     ensures open { HasCleanDisk (inside S.Store tx.new) → IfOk result (λ finding.
-        IsFoundOnlyIfOpen (V.accepts verifier.now) (seen_search search.now)
+        IsFoundOnlyIfOpen (V.accepts verifier.now) (seen_search search.now) budget
         (inside S.Store tx.old).is_open (seen_finding finding)) }
     ensures valid { IfErr result
         (IsFaultOfValidCandidate (V.accepts verifier.now) (seen_search search.now)) }

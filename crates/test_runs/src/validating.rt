@@ -2,6 +2,7 @@
 
 mod delivering;
 mod files;
+mod finding;
 mod in_session;
 mod listed;
 mod quick_start;

@@ -40,6 +40,19 @@ const ROWS: &[(&str, &str)] = &[
         "check 20250615000000Z hex:0500 b\n",
         "4 hex:0500: refused 22 Layout at 0\n",
     ),
+    ("find 20251301000000Z a b\n", "5 bad time\n"),
+    (
+        "find 20250615000000Z purpose=1.2 name=a@ a b\n",
+        "5 bad name at 2\n",
+    ),
+    ("find 20250615000000Z name=a a b c\n", "6 cannot read c\n"),
+    ("find 20250615000000Z b\n", "5 bad line\n"),
+    ("find 20250615000000Z a b c d\n", "5 bad line\n"),
+    ("prints search a b\n", "6 cannot read b\n"),
+    (
+        "prints parts search a b hex:0500\n",
+        "4 hex:0500: refused 22 Layout at 0\n",
+    ),
     ("prints cert a b\n", "6 cannot read a\n"),
     (
         "prints crl hex:0500 b\n",

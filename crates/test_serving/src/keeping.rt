@@ -5,8 +5,10 @@ use cli_serving::{End, serve};
 use cli_session::Believed;
 use cli_steps::{Keeper, Party};
 use path::Query;
+use path_search::{Candidate, Search};
 use path_verifiers::{ListVerifier, Verifier};
 use relying_agreement::Verdict;
+use relying_search::{Finding, FindingBudget};
 use statements_facts::{Counts, Facts};
 use std::alloc::Global;
 use std::io::{Read, Write};
@@ -44,6 +46,23 @@ impl Keeper for Told {
         _query: &Query<'_>,
     ) -> Result<Verdict, Failure<'a>> {
         self.verdict.ok_or(REFUSAL)
+    }
+
+    fn find<'a, V: Verifier>(
+        &mut self,
+        alloc: Global,
+        _verifier: &V,
+        _search: &Search<'_, '_>,
+        _budget: FindingBudget,
+    ) -> Result<Finding, Failure<'a>> {
+        let path = Candidate {
+            anchor: 0,
+            above: Vec::new(alloc),
+        };
+        match self.verdict {
+            Some(verdict) => Ok(Finding::Found(path, verdict)),
+            None => Err(REFUSAL),
+        }
     }
 
     fn may_answer(&mut self) -> bool {

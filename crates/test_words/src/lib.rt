@@ -7,6 +7,8 @@ mod answers;
 #[cfg(test)]
 mod explaining;
 #[cfg(test)]
+mod finding;
+#[cfg(test)]
 mod listing;
 #[cfg(test)]
 mod looking;
@@ -18,6 +20,8 @@ mod options;
 mod purposes;
 #[cfg(test)]
 mod requests;
+#[cfg(test)]
+mod search_texts;
 #[cfg(test)]
 mod validating;
 #[cfg(test)]

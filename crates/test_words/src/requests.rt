@@ -1,7 +1,7 @@
 //! What lines ask for.
 
-use cli_requests::{Operand, Request, RequestFault, operand_of, request_of};
-use cli_words::{Kind, QueryWords};
+use cli_requests::{Operand, Request, RequestFault, SearchFiles, operand_of, request_of};
+use cli_words::{Kind, QueryWords, SearchWords};
 use std::alloc::Global;
 use std::process::Abort;
 use std::test::Fail;
@@ -31,6 +31,15 @@ const BAD: &[&str] = &[
     "check 20250615000000Z",
     "check 20250615000000Z a",
     "check 20250615000000Z purpose=1.2 a",
+    "find 20250615000000Z",
+    "find 20250615000000Z a",
+    "find 20250615000000Z name=x a",
+    "find 20250615000000Z purpose=1.2 name=x a",
+    "find 20250615000000Z a b c d",
+    "find 20250615000000Z a b hex:0",
+    "prints search a",
+    "prints search a b c d",
+    "prints parts search",
     "prints cert a",
     "prints crt a b",
     "believe",
@@ -118,6 +127,37 @@ fn reads_questions(rt: HostRuntime) -> Result<(), Fail> {
     });
     let request = request_of(alloc, b"check 20250615000000Z purpose=1.2.3 a b c")?;
     assert!(rt; request == expected);
+    Ok(())
+}
+
+#[test]
+fn reads_searches(rt: HostRuntime) -> Result<(), Fail> {
+    let alloc = rt.alloc();
+    let (mut anchors, mut among) = (Vec::new(alloc), Vec::new(alloc));
+    anchors.push("a")?;
+    among.push("b")?;
+    let expected = Request::Find(SearchWords {
+        moment: "20250615000000Z",
+        purpose: Some("1.2.3"),
+        name: Some("x.example"),
+        anchors,
+        among,
+        target: "c",
+    });
+    let line = b"find 20250615000000Z purpose=1.2.3 name=x.example a b c";
+    assert!(rt; request_of(alloc, line)? == expected);
+    let prints = request_of(alloc, b"prints parts search a b")?;
+    assert!(rt;
+        prints
+            == Request::SearchPrints {
+                with_parts: true,
+                files: SearchFiles {
+                    anchors: "a",
+                    among: None,
+                    target: "b"
+                }
+            }
+    );
     Ok(())
 }
 

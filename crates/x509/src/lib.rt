@@ -152,7 +152,7 @@ pub mod revocation {
 pub mod at_hand {
     pub use relying_questions::{
         SignatureQuestion, TextPart, WhichText, finding_question_laws, finding_questions,
-        question_laws, questions,
+        question_laws, questions, why_not_question_laws,
     };
     pub use relying_texts::{StatementsFault, delivery_laws, find, read_statements, verdict};
 }

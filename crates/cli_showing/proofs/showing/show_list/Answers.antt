@@ -1,14 +1,13 @@
 use Rattle.std.proofs.Common.{rules, ◌≡◌, ◌∙◌, Ok, [], false}
-use Rattle.std.specs.Io.KnownBytes.{Appends}
 use Rattle.statements_crl.specs.CertificateList.{certificate_list, seen_list}
 use Rattle.cli_printing.specs.CrlText.{crl_text}
 use Rattle.cli_showing.proofs.Detailed.{detailed}
 use Rattle.cli_showing.proofs.showing.show_list.Goals as goal
 
-pub returns-clause-done : goal.returns-clause-done
-returns-clause-done g c =
+pub returns-in-Ok-clause-shows : goal.returns-in-Ok-clause-shows
+returns-in-Ok-clause-shows c =
     let read = seen_list c.in_ok-list.list in
     let is : certificate_list c.args.octets.now ≡ Ok read = search rules in
-    let first : Appends (g.O.Write.contents c.args.out.now) (g.O.Write.contents c.crl_to.new.writer) (crl_text read) = search rules in
+    let written : c.crl_to.new.writer.items ≡ crl_text read = search rules in
     let none : c.args.with_details ≡ false → c.as_slice.result.now ≡ [] = λ plain. c.as_slice.ensures.value ∙ c.in_ok-details.ensures.none plain in
-    detailed (λ x. certificate_list c.args.octets.now ≡ Ok x) crl_text read c.args.with_details c.as_slice.result.now _ _ _ c.write_end.result is none first c.write_end.ensures.done
+    detailed (λ x. certificate_list c.args.octets.now ≡ Ok x) crl_text read c.args.with_details c.crl_to.new.writer.items c.as_slice.result.now c.with_lines.result is none written c.with_lines.ensures.joined

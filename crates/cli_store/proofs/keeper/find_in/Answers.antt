@@ -11,5 +11,5 @@ returns-in-Ok-clause-finds g c =
 pub returns-in-Err-clause-finds : goal.returns-in-Err-clause-finds
 returns-in-Err-clause-finds g c =
     finds_none (file_state c.args.store.now.conn) (file_state c.verdict_of.new.conn) (file_state c.failure_of.new.store.conn)
-    c.failure_of.ensures.stays c.failure_of.ensures.survives (g.V.Verifier.accepts c.args.verifier.now)
-    (seen_query c.args.query.now) c.in-Err.fault c.failure_of.result c.in-Err.ensures.looks c.in-Err.ensures.survives c.failure_of.ensures.told
+    c.failure_of.ensures.stays c.failure_of.ensures.survives
+    c.in-Err.fault c.failure_of.result c.in-Err.ensures.looks c.in-Err.ensures.survives c.failure_of.ensures.told

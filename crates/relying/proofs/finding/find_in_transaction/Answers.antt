@@ -23,10 +23,10 @@ returns-clause-open g c =
     let same : c.drop-tx.new.self.0 ≡ c.conn-1.given.0 = search rules in
     let accepts = g.V.Verifier.accepts c.args.verifier.now in
     let s = seen_search c.args.search.now in
-    subst (λ h. FindsOnlyIfOpen accepts s (state g.S.Store c.args.conn.now) (state g.S.Store h) c.find.result) same
+    subst (λ h. FindsOnlyIfOpen accepts s c.args.budget (state g.S.Store c.args.conn.now) (state g.S.Store h) c.find.result) same
     (λ clean. let step = c.drop-tx.ensures.survives.clean in
-    IfOk-weaker c.find.result (λ f. IsFoundOnlyIfOpen accepts s (state g.S.Store c.transaction-tx.result.conn.now).is_open (seen_finding f)) (λ f. IsFoundOnlyIfOpen accepts s (state g.S.Store c.args.conn.now).is_open (seen_finding f))
-    (λ f. found_open accepts s g.S.Store c.args.conn.now c.transaction-tx.result.conn.now (seen_finding f) c.transaction-tx.ensures.begun) (c.find.ensures.open (omega (arith, step, clean))))
+    IfOk-weaker c.find.result (λ f. IsFoundOnlyIfOpen accepts s c.args.budget (state g.S.Store c.transaction-tx.result.conn.now).is_open (seen_finding f)) (λ f. IsFoundOnlyIfOpen accepts s c.args.budget (state g.S.Store c.args.conn.now).is_open (seen_finding f))
+    (λ f. found_open accepts s c.args.budget g.S.Store c.args.conn.now c.transaction-tx.result.conn.now (seen_finding f) c.transaction-tx.ensures.begun) (c.find.ensures.open (omega (arith, step, clean))))
 
 pub returns-clause-caused : goal.returns-clause-caused
 returns-clause-caused g c =

@@ -5,7 +5,7 @@ use Rattle.path_search.specs.Answer.{seen_candidate}
 use Rattle.path_search.specs.Paths.{AnswersNext}
 use Rattle.relying_search.proofs.Laws.{steps_ended, steps_found, steps_gave_up}
 use Rattle.relying_verdicts.proofs.Chains.{found_as, found_same}
-use Rattle.relying_verdicts.proofs.Searching.{has_verdict, next_fails, walks_ended, walks_found}
+use Rattle.relying_verdicts.proofs.Searching.{has_verdict, next_fails, walks_ended, walks_found, walks_gave_up}
 use Rattle.relying_verdicts.proofs.finding.ask_next.Goals as goal
 
 pub returns-in_err-verdict-in-Found-clause-valid : goal.returns-in_err-verdict-in-Found-clause-valid
@@ -41,3 +41,8 @@ returns-in-GaveUp-clause-asks g c clean =
     found_same _ _ _ (c.requires.inside clean)
     (λ held accepts. steps_gave_up accepts (λ query. held) (seen_search c.args.search.now) c.args.paths.now _ c.args.asked.now c.args.asked.now
     (subst (AnswersNext c.args.paths.now _) c.in-GaveUp.is c.in_ok-path.ensures.answers))
+
+pub returns-in-GaveUp-clause-walks : goal.returns-in-GaveUp-clause-walks
+returns-in-GaveUp-clause-walks g c =
+    walks_gave_up (seen_search c.args.search.now) c.args.paths.now _ c.args.asked.now c.args.asked.now
+    (subst (AnswersNext c.args.paths.now _) c.in-GaveUp.is c.in_ok-path.ensures.answers)

@@ -14,7 +14,7 @@ pub loop-init : goal.loop-init
 loop-init g c = (
   refl,
   survives_itself _,
-  (None, c.in_ok-paths.ensures, λ e. refl, λ clean. found_same _ _ c.none-asked.result (c.requires.inside clean) (λ held. c.none-asked.ensures.stands _ _ _)),
+  (None, c.in_ok-paths.ensures, λ e. (refl, refl), λ clean. found_same _ _ c.none-asked.result (c.requires.inside clean) (λ held. c.none-asked.ensures.stands _ _ _)),
   λ clean some. absurd (some c.none-asked.ensures.empty),
 )
 
@@ -56,7 +56,7 @@ returns-in-Some-clause-open g c clean =
     let s = seen_search c.args.search.now in
     let at = c.loop.invariant.2 in
     let before : HasCleanDisk (inside g.S.Store c.loop.tx) = omega (arith, clean, c.ask_next.ensures.survives.clean) in
-    found_open accepts s c.args.budget.search at.0 (inside g.S.Store c.args.tx.now).is_open (inside g.S.Store c.loop.tx).is_open c.loop.asked c.ask_next.new.asked c.ask_next.new.paths c.in-Some.finding
+    found_open accepts s c.args.budget at.0 c.loop.counter (inside g.S.Store c.args.tx.now).is_open (inside g.S.Store c.loop.tx).is_open c.loop.asked c.ask_next.new.asked c.ask_next.new.paths c.in-Some.finding
     (subst (IsAskedOnlyIfOpen (inside g.S.Store c.loop.tx).is_open c.loop.asked) c.in-Some.is (c.in_ok-answer.ensures.open clean))
     (at.3 before).keeps.was_open (c.loop.invariant.3 before) at.2
     (subst (WalksTo accepts s c.args.budget.search at.0 c.loop.asked c.ask_next.new.paths c.ask_next.new.asked) c.in-Some.is (c.in_ok-answer.ensures.walks accepts c.args.budget.search at.0 at.1))
@@ -95,5 +95,5 @@ returns-clause-asks g c clean =
 pub returns-clause-open : goal.returns-clause-open
 returns-clause-open g c clean =
     let at = c.loop.invariant.2 in
-    behind_open (g.V.Verifier.accepts c.args.verifier.now) (seen_search c.args.search.now) c.args.budget.search at.0 (inside g.S.Store c.args.tx.now).is_open c.loop.asked c.loop.paths
-    c.in_ok-end_behind.field-0 (c.loop.invariant.3 clean) at.2 at.1 c.in_ok-end_behind.ensures.asked
+    behind_open (g.V.Verifier.accepts c.args.verifier.now) (seen_search c.args.search.now) c.args.budget at.0 c.loop.counter (inside g.S.Store c.args.tx.now).is_open c.loop.asked c.loop.paths
+    c.in_ok-end_behind.field-0 (c.loop.invariant.3 clean) at.2 at.1 (omega (arith, c.loop-test.false)) c.in_ok-end_behind.ensures.asked c.in_ok-end_behind.ensures.ends

@@ -17,6 +17,6 @@ invariant-loop g l =
     let accepts = g.V.Verifier.accepts l.fn.verifier in
     let s = seen_search l.fn.search in
     (l.tx.conn.ghost_name ≡ l.initial.tx.conn.ghost_name) × CommitsNothing old now
-    × ((last : Option Candidate) × ArePaths accepts s l.fn.budget.search last l.paths × HasFirst last l.asked
+    × ((last : Option Candidate) × ArePaths accepts s l.fn.budget.search last l.paths × HasFirst last l.counter l.asked
     × (HasCleanDisk now → IsFoundIn old now (λ held asked. StandsAt accepts (λ query. held) s last l.counter asked) l.asked))
     × (HasCleanDisk now → l.asked.first ≢ None → IsTrue old.is_open)

@@ -1,5 +1,0 @@
-use Rattle.capi.proofs.Asking.{AreFirst}
-use Rattle.capi.proofs.finding.write.Given as goal
-
-abbrev pub invariant-loop-index : goal.invariant-loop-index
-invariant-loop-index l = AreFirst l.index l.numbers l.fn.room l.room

@@ -1,7 +1,0 @@
-use Rattle.std.proofs.Common.{map}
-use Rattle.capi.specs.Questions.{question_of}
-use Rattle.capi.proofs.Asking.{AreFirst}
-use Rattle.capi.proofs.questions.write.Given as goal
-
-abbrev pub invariant-loop-index : goal.invariant-loop-index
-invariant-loop-index l = AreFirst l.index (map question_of l.asked) l.fn.questions l.questions

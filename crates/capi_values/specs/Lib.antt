@@ -1,0 +1,15 @@
+pub mod Parts
+pub mod Arrays
+pub mod Texts
+pub mod Refusal
+pub mod Verdict
+pub mod Questions
+pub mod Judging
+pub mod Searching
+pub mod Finding
+pub mod Among
+pub mod WhyNot
+pub use Rattle.asn.specs.Place
+pub use Rattle.names.specs.GeneralView
+pub use Rattle.path.specs.Query
+pub use Rattle.relying_questions.specs.Places
