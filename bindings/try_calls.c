@@ -267,6 +267,43 @@ static void try_searches(void)
     EXPECT(is_refusal(found.verdict.refusal, X509CHECK_CERTIFICATES, 0, X509CHECK_FAULT_DER, 4, 0));
 }
 
+static int is_diagnosis(struct x509check_diagnosis answer, uint32_t why, uint32_t reason, size_t above, size_t anchors, size_t obstacles)
+{
+    return answer.why == why && answer.reason == reason && answer.above_count == above && answer.anchor_count == anchors
+        && answer.obstacle_count == obstacles && is_refusal(answer.refusal, 0, 0, 0, 0, 0);
+}
+
+/* Why no path to the leaf is found: the anchors have the numbers 0 and 1, the leaf 2, the others 3 to 5. */
+static void try_diagnoses(void)
+{
+    static const uint8_t client[] = {0x2B, 6, 1, 5, 5, 7, 3, 2};
+    static const struct x509check_search zeros;
+    const struct x509check_text anchors[] = {constraints, root}, bag[] = {delegate, root, middle};
+    struct x509check_search search = {
+        .anchors = anchors, .anchor_count = 2, .target = leaf, .bag = bag, .bag_count = 2, .moment = MOMENT,
+        .limits = {X509CHECK_SIGNATURES, X509CHECK_STEPS, 0}};
+    struct x509check_obstacle obstacles[2] = {{9, 9}, {9, 9}};
+    size_t above[2] = {9, 9}, named[2] = {9, 9};
+    struct x509check_diagnosis answer;
+
+    EXPECT(is_diagnosis(x509check_why_not(&search, good[0], good_count, above, 2, named, 2, obstacles, 2), X509CHECK_PATHS_END, 0, 0, 0, 0));
+    search.bag_count = 3;
+    /* The second of the good signatures is that of the leaf. */
+    EXPECT(is_diagnosis(x509check_why_not(&search, NULL, 0, above, 2, named, 2, obstacles, 2), X509CHECK_PATHS_END, 0, 0, 0, 1));
+    EXPECT(obstacles[0].certificate == 5 && obstacles[0].reason == 2 && obstacles[1].certificate == 9);
+    EXPECT(above[0] == 9 && named[0] == 9);
+    EXPECT(is_diagnosis(x509check_why_not(&search, good[1], 1, above, 2, named, 2, obstacles, 2), X509CHECK_PATHS_END, 0, 1, 1, 1));
+    EXPECT(above[0] == 5 && above[1] == 9 && named[0] == 1 && named[1] == 9 && obstacles[0].certificate == 4 && obstacles[0].reason == 2);
+    EXPECT(is_diagnosis(x509check_why_not(&search, good[1], 1, NULL, 0, NULL, 0, NULL, 0), X509CHECK_PATHS_END, 0, 1, 1, 1));
+    search.limits.signatures = 0;
+    EXPECT(is_diagnosis(x509check_why_not(&search, good[0], good_count, NULL, 0, NULL, 0, NULL, 0), X509CHECK_GAVE_UP, 0, 0, 0, 0));
+    search.purpose = (struct x509check_text){client, sizeof client};
+    EXPECT(is_diagnosis(x509check_why_not(&search, good[0], good_count, NULL, 0, NULL, 0, NULL, 0), X509CHECK_TARGET_AT_FAULT, 14, 0, 0, 0));
+    answer = x509check_why_not(&zeros, NULL, 0, NULL, 0, NULL, 0, NULL, 0);
+    EXPECT(answer.why == X509CHECK_REFUSED && answer.above_count == 0 && answer.anchor_count == 0 && answer.obstacle_count == 0);
+    EXPECT(is_refusal(answer.refusal, X509CHECK_CERTIFICATES, 0, X509CHECK_FAULT_DER, 4, 0));
+}
+
 static void try_200_certificates(void)
 {
     struct x509check_text path[200];
@@ -325,6 +362,7 @@ int main(void)
     try_questions();
     try_extensions();
     try_searches();
+    try_diagnoses();
     try_200_certificates();
     try_names();
     return failed;

@@ -12,6 +12,7 @@ import collections
 import hashlib
 import os
 import random
+import runpy
 import sys
 import time
 
@@ -24,6 +25,7 @@ import x509check  # noqa: E402
 from x509check import Kind, Verdict  # noqa: E402
 
 AUTHORITY = os.path.join(TOP, "examples", "authority")
+VALIDATE = runpy.run_path(os.path.join(TOP, "bin", "validate"))
 LABELS = [
     "CERTIFICATE", "X509 CERTIFICATE", "X.509 CERTIFICATE", "TRUSTED CERTIFICATE", "X509 CRL", "CRL", "OCSP RESPONSE", "PKCS7", "CMS",
     "PKCS #7 SIGNED DATA", "PRIVATE KEY", "EC PRIVATE KEY", "PUBLIC KEY", "CERTIFICATE REQUEST", "ATTRIBUTE CERTIFICATE", "certificate",
@@ -57,19 +59,16 @@ class Case:
         self.leaf_lines = lines_of(self.leaf)
 
     def answer(self, target, others, index):
-        """The answer about the certificate in a file, or about one of several, whose others serve as chain with those of another file."""
-        values = x509check.load(target)
-        if index is None and len(values) != 1 or index is not None and index >= len(values):
-            raise ValueError("which certificate is in question?")
-        chosen = values[index or 0]
-        path = x509check.path_to(self.root, chosen, [*values, *x509check.load(others, Kind.CERTIFICATE)])
-        return x509check.validate(self.root, path, self.lists, "2026-12-01T00:00:00Z", fingerprints=self.good, target=chosen)
+        """The answer about the certificate in a file, or about one of several, whose others may stand above it with those of another file."""
+        chosen, beside = VALIDATE["target_in"](target, index)
+        sent = [chosen, *beside, *x509check.load(others, Kind.CERTIFICATE)]
+        return x509check.validate_peer(sent, [self.root], self.lists, "2026-12-01T00:00:00Z", fingerprints=self.good)
 
     def complaint(self, target, result):
         """What is wrong with an answer, if something is."""
         about = self.digests.get(result.target.sha256)
         if about is None:
-            return None if result.verdict is Verdict.INVALID else f"a changed certificate is {result.verdict.value}"
+            return None if result.verdict is Verdict.NOT_FOUND else f"a changed certificate is {result.verdict.value}"
         if about == self.leaf:
             return "the revoked certificate is valid" if result else None
         left = [line for line in self.leaf_lines if line in target]
@@ -198,7 +197,7 @@ def bundle(spoiler, case):
     order = [case.root, case.middle, case.leaf] + [case.middle] * spoiler.random.randrange(2)
     spoiler.random.shuffle(order)
     lines = [line for one in order for line in block(one)]
-    return spoiler.spoil(lines, Spoiler.STILL), order.index(case.leaf)
+    return spoiler.spoil(lines, Spoiler.STILL), order.index(case.leaf) + 1
 
 
 def others(spoiler, case):
@@ -219,7 +218,7 @@ def run(seconds, seed, most=None):
         chain = others(spoiler, case)
         try:
             result = case.answer(target, chain, index)
-        except ValueError as refusal:
+        except (ValueError, VALIDATE["Stop"]) as refusal:
             ends[type(refusal).__name__] += 1
             continue
         ends[f"{result.verdict.value} {'leaf' if case.digests.get(result.target.sha256) == case.leaf else 'other'}"] += 1

@@ -1,9 +1,9 @@
-"""A node of a fleet: a subscriber of statements, the session of `x509check` that takes them, and a store of its own.
+"""A node of a fleet: a subscriber of statements, the party of `x509check` that takes them, and a store of its own.
 
     python3 node.py FOLDER NAME [--last]
 
 It reads FOLDER/fleet.json and keeps all it has in FOLDER/nodes/NAME. Of each statement it judges the signatures, says which are good, and
-delivers it; what the session answered goes to its log before the broker is told that the statement came. A node that is started again
+delivers it; what the party answered goes to its log before the broker is told that the statement came. A node that is started again
 first delivers the statement at which it was ended. With --last it judges by another rule, which the checks of `run` have to notice: it
 takes the list that was delivered last. `run` starts it, and says on its standard input, a line each: `checkpoint TITLE MOMENT`, to ask for
 all verdicts and leave them with a copy of the store in FOLDER/checkpoints/TITLE, or `subscribe`, to be sent again what the broker retains.
@@ -24,10 +24,10 @@ from typing import Dict
 import paho.mqtt.client as mqtt
 
 sys.dont_write_bytecode = True
-sys.path.insert(0, os.path.join(os.path.dirname(os.path.realpath(__file__)), ".."))
+sys.path.insert(0, os.path.join(os.path.dirname(os.path.realpath(__file__)), "..", "..", "bindings", "python"))
 
 import signatures  # noqa: E402
-from session import Answer, Session  # noqa: E402
+from x509check import Party, Refused  # noqa: E402
 
 TOPIC = "statements/#"
 FORGET = 200    # statements after which the session forgets what it was told to believe
@@ -55,7 +55,8 @@ class Node:
         with open(self.file("verdicts"), "w", encoding="ascii") as out:
             out.writelines(f"{it}\n" for path in self.paths for above, below in zip(path, path[1:])
                            for it in signatures.of_certificate(self.certificates[above], self.certificates[below]))
-        self.session = Session([fleet["program"]], self.file("store"), self.file("verdicts"))
+        self.program = fleet["program"]
+        self.party = self.opened()
         self.log = open(self.file("log"), "ab", buffering=0)
         self.log.write(b"\n")     # (the line before may lack its end)
         self.taken = 0
@@ -70,6 +71,9 @@ class Node:
     def file(self, name: str) -> str:
         return os.path.join(self.home, name)
 
+    def opened(self) -> Party:
+        return Party(self.file("store"), self.file("verdicts"), program=self.program)
+
     # ---- statements
 
     def take(self, topic: str, octets: bytes) -> None:
@@ -81,34 +85,35 @@ class Node:
 
     def deliver(self, topic: str, octets: bytes) -> None:
         _, issuer, kind, slot = topic.split("/")
-        for it in signatures.good(kind, self.certificates[issuer], octets):
-            if it not in self.session.believed:
-                self.session.believe(it)
         answer = self.answer_to(issuer, kind, slot, octets)
-        self.log.write(f"{time.time():.3f} {hashlib.sha256(octets).hexdigest()[:16]} {answer.status} {answer.text}\n".encode())
+        self.log.write(f"{time.time():.3f} {hashlib.sha256(octets).hexdigest()[:16]} {answer}\n".encode())
         self.taken += 1
         if self.taken % FORGET == 0:
-            self.session.forget()
+            self.party.forget()
 
-    def answer_to(self, issuer: str, kind: str, slot: str, octets: bytes) -> Answer:
-        return self.session.deliver(self.certificates[issuer], octets)
+    def answer_to(self, issuer: str, kind: str, slot: str, octets: bytes) -> str:
+        """The status and the line for a delivery, whose signatures the party judges."""
+        try:
+            return f"0 {self.party.deliver(self.certificates[issuer], octets)}"
+        except Refused as refused:
+            return f"{refused.answer.status} {refused}"
 
     # ---- what `run` says
 
     def checkpoint(self, title: str, moment: str) -> None:
         """Leaves the verdicts on all paths, the store that they are by, and how long the log is."""
         into = os.path.join(self.folder, "checkpoints", title, self.name + ".")
-        answers = [self.session.check(moment, *self.operands(path)).text for path in self.paths]
-        self.session.close()
+        answers = [self.party.ask(f"check {moment} {self.operands(path)}").text for path in self.paths]
+        self.party.close()
         for name in ("store", "store-wal"):
             if os.path.exists(self.file(name)):
                 shutil.copyfile(self.file(name), into + name)
         with open(into + "json", "w", encoding="ascii") as out:
             json.dump({"log": os.path.getsize(self.file("log")), "verdicts": answers}, out)
+        self.party = self.opened()
 
-    def operands(self, path):
-        anchor, *below = (self.certificates[title] for title in path)
-        return anchor, below
+    def operands(self, path) -> str:
+        return " ".join(f"hex:{self.certificates[title].hex()}" for title in path)
 
     def obey(self, line: str) -> None:
         word, *rest = line.split()
@@ -141,16 +146,17 @@ class Node:
 class TakesLast(Node):
     """A node by another rule: of lists it holds the one that came last, whatever its number."""
 
-    def answer_to(self, issuer: str, kind: str, slot: str, octets: bytes) -> Answer:
+    def answer_to(self, issuer: str, kind: str, slot: str, octets: bytes) -> str:
         answer = super().answer_to(issuer, kind, slot, octets)
-        if kind == "list" and answer.text.startswith("stored 0"):
-            self.session.close()
+        if kind == "list" and answer.startswith("0 stored 0"):
+            self.party.close()
             with sqlite3.connect(self.file("store")) as store:
                 key = signatures.info_of(signatures.key_of(self.certificates[issuer]))
                 for table in ("scoped_entries", "scoped_crls"):
                     store.execute(f"DELETE FROM {table} WHERE scope = ? AND issuer IN (SELECT id FROM issuers WHERE spki = ?)",
                                   (SCOPES[slot], key))
             store.close()
+            self.party = self.opened()
             super().answer_to(issuer, kind, slot, octets)
         return answer
 
@@ -161,7 +167,7 @@ def main() -> None:
     try:
         node.serve()
     finally:
-        node.session.close()
+        node.party.close()
 
 
 if __name__ == "__main__":

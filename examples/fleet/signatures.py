@@ -1,4 +1,4 @@
-"""Judges the signatures of certificates, lists and responses, for a node and for `run`: which of what a verifier is asked is good.
+"""Judges the signatures of certificates, for a node and for `run`: which of what a verifier is asked is good.
 
 The authority signs everything by ECDSA with SHA-256 and a key on P-256, so that is all this file knows; bin/verdicts serves more. It
 is imported, and needs the Debian package python3-cryptography.
@@ -13,7 +13,6 @@ from cryptography.exceptions import InvalidSignature
 from cryptography.hazmat.primitives import hashes
 from cryptography.hazmat.primitives.asymmetric import ec
 from cryptography.hazmat.primitives.serialization import Encoding, PublicFormat
-from cryptography.x509 import ocsp
 
 ECDSA_SHA256 = bytes.fromhex("300a06082a8648ce3d040302")   # the whole algorithm identifier
 
@@ -46,26 +45,3 @@ def key_of(certificate: bytes) -> ec.EllipticCurvePublicKey:
 def of_certificate(issuer: bytes, certificate: bytes) -> List[str]:
     read = x509.load_der_x509_certificate(certificate)
     return signed(key_of(issuer), read.tbs_certificate_bytes, read.signature)
-
-
-def of_list(issuer: bytes, octets: bytes) -> List[str]:
-    read = x509.load_der_x509_crl(octets)
-    return signed(key_of(issuer), read.tbs_certlist_bytes, read.signature)
-
-
-def of_response(issuer: bytes, octets: bytes) -> List[str]:
-    """Those of the delegate whose certificate comes with the response, and of the response under its key; else under the issuer's."""
-    read = ocsp.load_der_ocsp_response(octets)
-    delegates = [it.public_bytes(Encoding.DER) for it in read.certificates]
-    good = [it for delegate in delegates for it in of_certificate(issuer, delegate)]
-    for key in map(key_of, delegates or [issuer]):
-        good += signed(key, read.tbs_response_bytes, read.signature)
-    return good
-
-
-def good(kind: str, issuer: bytes, octets: bytes) -> List[str]:
-    """The fingerprints of the good signatures of a statement of the kind `list` or `response`; none if it cannot be read."""
-    try:
-        return {"list": of_list, "response": of_response}[kind](issuer, octets)
-    except ValueError:
-        return []

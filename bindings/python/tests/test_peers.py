@@ -8,7 +8,8 @@ import unittest
 from unittest import mock
 
 import x509check
-from x509check import BadReference, Certificate, Fault, Limits, NotLoaded, NotValid, Result, RevocationReason, Text, Verdict
+from x509check import BadReference, Certificate, Fault, Limits, NotLoaded, NotValid, Reason, Result, RevocationReason, Text, Verdict, WhyNot
+from x509check import _query, _verdicts
 
 from . import authority
 from .authority import DECEMBER, GOOD_PRINTS, LEAF, MIDDLE, MIDDLE_LIST, REVOKING_LIST, ROOT, ROOT_LIST
@@ -49,6 +50,46 @@ class OverTheAuthority(unittest.TestCase):
         self.assertEqual(verdict([MIDDLE], statements=[ROOT_LIST]), Result(Verdict.VALID))
         # Below the anchor's own certificate stands the leaf of its issuer alone.
         self.assertEqual(verdict([ROOT], statements=[ROOT_LIST]).verdict, Verdict.NOT_FOUND)
+
+    def test_why_no_path_is_found(self):
+        root, middle, leaf = (Certificate.from_der(it).identity for it in (ROOT, MIDDLE, LEAF))
+        prints = [GOOD_PRINTS[name] for name in GOOD_PRINTS]
+        for words, why in (
+            ({"certificates": [LEAF]}, WhyNot(leaf)),
+            ({"anchors": [authority.CONSTRAINTS]}, WhyNot(leaf, above=(middle,))),
+            ({"fingerprints": []}, WhyNot(leaf, obstacles=((middle, Reason.SIGNATURE),))),
+            ({"fingerprints": prints[1:2]}, WhyNot(leaf, above=(middle,), anchors=(root,))),
+            ({"fingerprints": prints[1:2], "certificates": [LEAF, ROOT, MIDDLE]},
+             WhyNot(leaf, above=(middle,), anchors=(root,), obstacles=((root, Reason.SIGNATURE),))),
+            ({"at": 0}, WhyNot(leaf, Reason.NOT_YET)),
+            ({"purpose": "clientAuth"}, WhyNot(leaf, Reason.PURPOSE)),
+        ):
+            result = verdict(**words)
+            self.assertEqual((result.verdict, result.why_not), (Verdict.NOT_FOUND, why), words)
+            self.assertTrue(str(result).endswith(f"; {why}"))
+        for result in (verdict(), verdict(statements=[]), verdict(name="mail.example"), verdict(limits=Limits(steps=0))):
+            self.assertIsNone(result.why_not)
+
+    def test_why_no_path_is_found_in_a_sentence(self):
+        self.assertEqual(str(verdict([LEAF]).why_not), 'no certificate at hand has the name of the issuer of "CN=leaf,O=Example" serial 03')
+        self.assertEqual(str(verdict(at=0).why_not), '"CN=leaf,O=Example" serial 03 cannot stand at the end of any path (not yet)')
+        prints = [*GOOD_PRINTS.values()][1:2]
+        self.assertEqual(
+            str(verdict([LEAF, ROOT, MIDDLE], fingerprints=prints).why_not),
+            'no certificate at hand can stand above "CN=middle,O=Example" serial 02: '
+            f'the anchor "CN=Root,O=Example" serial {Certificate.from_der(ROOT).serial.hex()} did not sign it, '
+            f'"CN=Root,O=Example" serial {Certificate.from_der(ROOT).serial.hex()} cannot stand there (signature)')
+
+    def test_numbers_that_say_why(self):
+        target = Certificate.from_der(LEAF).identity
+
+        def told(why, reason=0):
+            return _verdicts.why_not_of(_query.Diagnosis(why, reason, [], [], []), target)
+        self.assertEqual((told(7), told(8, 4), told(9)), (WhyNot(target, gave_up=True), WhyNot(target, Reason.EXPIRED), WhyNot(target)))
+        self.assertIn("limits", str(told(7)))
+        for why, reason, kind in ((0, 0, RuntimeError), (1, 0, RuntimeError), (5, 0, RuntimeError), (10, 0, RuntimeError), (8, 0, ValueError)):
+            with self.assertRaises(kind):
+                told(why, reason)
 
     def test_names(self):
         for name in ("www.example", "WWW.Example."):
@@ -183,6 +224,8 @@ class OfTheField(unittest.TestCase):
             cls.short = make("Issuer", "Root", FOR_AUTHORITY.replace("CA:TRUE", "CA:TRUE,pathlen:0"))
             cls.below, cls.deep = make("Below", "Issuer"), make("Deep", "Below", FOR_SERVER)
             cls.constrained = make("Issuer", "Root", FOR_AUTHORITY + "nameConstraints=critical,permitted;DNS:example.com\n")
+            cls.expired, cls.no_authority = make("Issuer", "Root", days=-1), make("Issuer", "Root", "basicConstraints=critical,CA:FALSE\n")
+            cls.other_root = make("Root|other", "Root|other")
 
     def found(self, certificates, anchors, **words):
         return x509check.validate_peer(certificates, anchors, [], "now", **words)
@@ -210,6 +253,32 @@ class OfTheField(unittest.TestCase):
         self.assertEqual(self.found([self.deep, self.other_key, self.below], [self.root]).verdict, Verdict.NOT_FOUND)
         self.assertEqual(self.found([self.deep, self.short, self.below], [self.root]).verdict, Verdict.NOT_FOUND)
         self.assertEqual(self.found([self.server, self.constrained], [self.root]).verdict, Verdict.NOT_FOUND)
+
+    def test_why_no_path_is_found(self):
+        def identities(certificates):
+            return tuple(Certificate.from_der(it).identity for it in certificates)
+
+        def why(certificates, anchors, above=(), named=(), obstacles=(), **words):
+            result = self.found(certificates, anchors, **words)
+            told = WhyNot(
+                result.target, above=identities(above), anchors=identities(named),
+                obstacles=tuple((Certificate.from_der(it).identity, reason) for it, reason in obstacles))
+            self.assertEqual((result.verdict, result.why_not), (Verdict.NOT_FOUND, told))
+            return str(result.why_not)
+        self.assertIn("has the name of the issuer of \"CN=Server\"", why([self.server], [self.root]))
+        self.assertIn("(expired)", why([self.server, self.expired], [self.root], obstacles=[(self.expired, Reason.EXPIRED)]))
+        why([self.server, self.other_key], [self.root], obstacles=[(self.other_key, Reason.SIGNATURE)])
+        why([self.server, self.no_authority], [self.root], obstacles=[(self.no_authority, Reason.NOT_CA)])
+        why([self.server, self.constrained], [self.root], obstacles=[(self.constrained, Reason.NOT_PERMITTED)])
+        why([self.deep, self.short, self.below], [self.root], above=[self.below], obstacles=[(self.short, Reason.PATH_LENGTH)])
+        self.assertIn(
+            "the anchor \"CN=Root\"", why([self.server, self.issuer], [self.other_root], above=[self.issuer], named=[self.other_root]))
+        # The end that got furthest is told of, and not that of the certificate that was sent first.
+        why([self.server, self.expired, self.issuer, self.expired_cross], [self.old_root], above=[self.issuer],
+            obstacles=[(self.expired_cross, Reason.EXPIRED)])
+        target = self.found([self.server, self.issuer], [self.root], purpose="clientAuth")
+        self.assertEqual(target.why_not, WhyNot(target.target, Reason.PURPOSE))
+        self.assertIsNone(self.found([self.server, self.issuer], [self.root]).why_not)
 
     def test_names_of_the_server(self):
         server = Certificate.from_der(self.server)

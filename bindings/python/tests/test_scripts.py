@@ -15,7 +15,7 @@ from .authority import LEAF, MIDDLE, ROOT, ROOT_LIST
 from .test_loading import KEY, pem
 
 STAND_IN = f"#!/bin/sh\nexec '{sys.executable}' -B '{os.path.join(authority.HERE, 'stand_in.py')}' \"$@\"\n"
-IDENTITIES = {name: Certificate.from_der(octets).identity for name, octets in (("leaf", LEAF), ("middle", MIDDLE))}
+IDENTITIES = {name: Certificate.from_der(octets).identity for name, octets in (("root", ROOT), ("middle", MIDDLE), ("leaf", LEAF))}
 AT = ["--at", "20261201000000Z"]
 
 
@@ -45,11 +45,16 @@ class Validate(unittest.TestCase):
                               stderr=subprocess.PIPE, text=True, check=False)
         return done.returncode, done.stdout, done.stderr
 
-    def answered(self, status, line, *words, target="leaf", decides=None, why=None):
+    def answered(self, status, line, *words, path=("root", "middle", "leaf"), why=""):
         found, out, err = self.run_script("--anchor", "root.pem", *words)
-        named = [] if decides is None else [f"certificate {line.split()[1]} {IDENTITIES[decides]}"]
-        self.assertEqual((found, out.splitlines()), (status, [line, f"target {IDENTITIES[target]}", *named]), err)
-        self.assertIn(why or "", err)
+        named = [f"{number} {IDENTITIES[name]}" for number, name in enumerate(path)]
+        self.assertEqual((found, out.splitlines()), (status, [line, f"target {IDENTITIES[path[-1]]}", *named]), err)
+        self.assertIn(why, err)
+
+    def not_found(self, why, *words):
+        found, out, err = self.run_script("--anchor", "root.pem", *words)
+        self.assertEqual((found, out.splitlines()), (1, ["not found", f"target {IDENTITIES['leaf']}"]), err)
+        self.assertIn(why, err)
 
     def stopped(self, status, why, *words, **environment):
         found, out, err = self.run_script(*words, **environment)
@@ -60,16 +65,25 @@ class Validate(unittest.TestCase):
     def test_verdicts(self):
         chain, lists = ["--chain", "middle.pem"], ["--crl", "root.crl", "--crl", "middle.crl"]
         self.answered(0, "valid", *AT, *chain, *lists, "leaf.pem", why="root.crl: stored 1 kept 0 contradicted 0")
-        self.answered(2, "revoked 2 1", *AT, *chain, *lists, "--crl", "middle2.crl", "leaf.pem", decides="leaf")
-        self.answered(2, "revoked 2 1", "--keep", "a", *AT, *chain, "--crl", "root.crl", "--ocsp", "leaf.ocsp", "leaf.pem", decides="leaf")
-        self.answered(3, "unknown 2", "--keep", "b", *AT, *chain, "--crl", "root.crl", "leaf.pem", decides="leaf")
+        self.answered(2, "revoked 2 1", *AT, *chain, *lists, "--crl", "middle2.crl", "leaf.pem")
+        self.answered(2, "revoked 2 1", "--keep", "a", *AT, *chain, "--crl", "root.crl", "--ocsp", "leaf.ocsp", "leaf.pem")
+        self.answered(3, "unknown 2", "--keep", "b", *AT, *chain, "--crl", "root.crl", "leaf.pem")
         self.answered(0, "valid", "--keep", "c", "--at", "2026-12-01T01:00+01:00", "--purpose", "serverAuth", *chain, *lists, "leaf.pem")
-        self.answered(1, "invalid 2 14 Purpose", *AT, "--purpose", "1.3.6.1.5.5.7.3.2", *chain, *lists, "leaf.pem", decides="leaf")
-        self.answered(0, "valid", "--keep", "d", *AT, "--crl", "root.crl", "middle.pem", target="middle")
+        self.answered(1, "other name", "--keep", "c", *AT, "--name", "mx.example", *chain, *lists, "leaf.pem")
+        self.not_found("(purpose)", *AT, "--purpose", "1.3.6.1.5.5.7.3.2", *chain, *lists, "leaf.pem")
+        self.answered(0, "valid", "--keep", "d", *AT, "--crl", "root.crl", "middle.pem", path=("root", "middle"))
+
+    def test_any_anchor_may_do(self):
+        words = ["--chain", "middle.pem", "--crl", "root.crl", "--crl", "middle.crl", *AT, "leaf.pem"]
+        both = self.put("both.pem", pem(LEAF) + pem(ROOT) + pem(ROOT))
+        other = self.put("other.pem", KEY + pem(MIDDLE))
+        status, out, err = self.run_script("--anchor", both, "--anchor", other, *words)
+        self.assertEqual((status, out.splitlines()), (0, ["valid", *(
+            f"{number} {IDENTITIES[name]}" for number, name in (("target", "leaf"), (0, "middle"), (1, "leaf")))]), err)
 
     def test_a_path_is_checked_without_a_statement_too(self):
-        self.answered(1, "invalid 2 4 Expired", "--at", "2028-01-01T00:00:00Z", "--chain", "middle.pem", "leaf.pem", decides="leaf")
-        self.answered(3, "unknown 1", *AT, "--chain", "middle.pem", "leaf.pem", decides="middle")
+        self.not_found("(expired)", "--at", "2028-01-01T00:00:00Z", "--chain", "middle.pem", "leaf.pem")
+        self.answered(3, "unknown 1", *AT, "--chain", "middle.pem", "leaf.pem")
 
     def test_shapes_of_a_file_that_are_not_the_certificate_in_question(self):
         words = ["--anchor", "root.pem", *AT, "--chain", "middle.pem", "--crl", "root.crl", "--crl", "middle2.crl"]
@@ -77,24 +91,52 @@ class Validate(unittest.TestCase):
         for name, octets, why in (
             ("trusted.pem", pem(LEAF, "TRUSTED CERTIFICATE") + pem(MIDDLE), "openssl x509"),
             ("packed.pem", pem(LEAF, "PKCS7") + pem(MIDDLE), "openssl pkcs7"),
-            ("key.pem", KEY + pem(MIDDLE), "EC PRIVATE KEY"),
+            ("key.pem", KEY + pem(LEAF) + pem(MIDDLE), "EC PRIVATE KEY"),
             ("cut.pem", leaf[:-30] + pem(MIDDLE), "line"),
             ("nothing.pem", b"-----BEGIN CERTIFICATE-----\n-----END CERTIFICATE-----\n" + pem(MIDDLE), "empty"),
             ("bundle.pem", pem(ROOT) + pem(MIDDLE) + leaf, "--index 3: " + str(IDENTITIES["leaf"])),
-            ("older.pem", pem(LEAF, "X509 CERTIFICATE") + pem(MIDDLE), "--index 1: " + str(IDENTITIES["leaf"])),
+            ("two.pem", leaf + leaf, "--index 2: " + str(IDENTITIES["leaf"])),
+            ("apart.pem", leaf + pem(ROOT), "--index 1: " + str(IDENTITIES["leaf"])),
+            ("upward.pem", pem(MIDDLE) + leaf, "--index 2: " + str(IDENTITIES["leaf"])),
             ("list.pem", leaf + pem(ROOT_LIST, "X509 CRL"), "22 Layout"),
             ("empty.pem", b"", "4 Truncated"),
         ):
             with self.subTest(name):
                 self.stopped(4, why, *words, self.put(name, octets))
-        bundle, older = os.path.join(self.folder, "bundle.pem"), os.path.join(self.folder, "older.pem")
-        for index, path in (("3", bundle), ("1", older)):
-            self.answered(2, "revoked 2 1", *words[2:], "--index", index, path, decides="leaf")
+        bundle = os.path.join(self.folder, "bundle.pem")
+        self.answered(2, "revoked 2 1", *words[2:], "--index", "3", bundle)
         self.stopped(4, "--index 3: ", *words, "--index", "4", bundle)
 
+    def test_the_first_of_a_file_is_in_question(self):
+        words = [*AT, "--crl", "root.crl", "--crl", "middle2.crl"]
+        for name, octets in (("sent.pem", pem(LEAF) + pem(MIDDLE) + pem(ROOT)), ("turned.der", LEAF + ROOT + MIDDLE),
+                             ("older.pem", pem(LEAF, "X509 CERTIFICATE") + pem(MIDDLE))):
+            with self.subTest(name):
+                self.answered(2, "revoked 2 1", *words, self.put(name, octets))
+        self.answered(0, "valid", *words, "--index", "3", os.path.join(self.folder, "turned.der"), path=("root", "middle"))
+
+    def test_a_report(self):
+        chain, lists = ["--chain", "middle.pem", *AT], ["--crl", "root.crl", "--crl", "middle.crl"]
+        page = os.path.join(self.folder, "report.html")
+        for folder, verdict, words, line in (
+            (0, "valid", [*lists, "leaf.pem"], (0, "valid")), (1, "revoked (key compromise)", [*lists, "--crl", "middle2.crl", "leaf.pem"], (2, "revoked 2 1")),
+            (2, "unknown", ["--crl", "root.crl", "leaf.pem"], (3, "unknown 2")), (3, "other name", [*lists, "--name", "mx.example", "leaf.pem"], (1, "other name")),
+        ):
+            self.answered(*line, "--keep", str(folder), "--html", page, *chain, *words)
+            with open(page, encoding="utf-8") as file:
+                self.assertIn(f"<strong>{verdict}</strong>", file.read())
+            os.remove(page)
+        self.not_found("", *AT, "--keep", "4", "--html", page, "leaf.pem")
+        self.assertTrue(os.path.exists(page))
+        os.remove(page)
+        # The store holds the list that revokes: the report could not show it.
+        for why, words in (("by these files alone the verdict is valid", ["--keep", "1", *chain, *lists]), ("cannot write", ["--keep", "0", *chain, *lists]),
+                           ("could not show", ["--keep", "0", "--ignore-unreadable", *chain, *lists, "--crl", self.put("empty.crl", b"")])):
+            self.stopped(6, why, "--anchor", "root.pem", "--html", "/nowhere/report.html" if why == "cannot write" else page, *words, "leaf.pem")
+            self.assertFalse(os.path.exists(page))
+
     def test_no_way_to_the_anchor(self):
-        self.stopped(4, str(IDENTITIES["leaf"]), "--anchor", "root.pem", *AT, "leaf.pem")
-        self.stopped(4, "one anchor", "--anchor", self.put("two.pem", pem(ROOT) + pem(ROOT)), *AT, "leaf.pem")
+        self.not_found('no certificate at hand has the name of the issuer of "CN=leaf,O=Example"', *AT, "leaf.pem")
         self.stopped(4, "key.pem", "--anchor", self.put("key.pem", KEY), *AT, "leaf.pem")
 
     def test_statements_that_cannot_be_read(self):
@@ -105,22 +147,20 @@ class Validate(unittest.TestCase):
             with self.subTest(name):
                 self.stopped(4, why, "--anchor", "root.pem", *bad, *words)
         self.answered(0, "valid", "--ignore-unreadable", *bad, *words, why=why)
-        self.answered(2, "revoked 2 1", "--keep", "other", "--crl", "middle2.crl", *bad, *words, decides="leaf", why=why)
+        self.answered(2, "revoked 2 1", "--keep", "other", "--crl", "middle2.crl", *bad, *words, why=why)
 
     def test_signatures_that_are_not_good(self):
         octets = bytearray(MIDDLE)
         octets[-1] ^= 1
         forged = self.put("forged.pem", pem(bytes(octets)))
-        status, _, err = self.run_script("--anchor", "root.pem", *AT, "--chain", forged, "leaf.pem")
-        self.assertEqual(status, 1)
-        self.assertIn("certificate 1: not signed under the issuer's key", err)
+        self.not_found(f", under {IDENTITIES['root']}: not signed under the issuer's key", *AT, "--chain", forged, "leaf.pem")
         octets = bytearray(ROOT_LIST)
         octets[-1] ^= 1
         bad = self.put("forged.crl", pem(bytes(octets), "X509 CRL"))
-        self.answered(3, "unknown 1", *AT, "--chain", "middle.pem", "--crl", bad, "leaf.pem", decides="middle",
-                      why="forged.crl, under the anchor, signature 1 of 1: not signed under the issuer's key")
+        self.answered(3, "unknown 1", *AT, "--chain", "middle.pem", "--crl", bad, "leaf.pem",
+                      why=f"forged.crl, under {IDENTITIES['root']}, signature 1 of 1: not signed under the issuer's key")
         other = os.path.join(authority.TOP, "examples", "list.pem")
-        self.answered(3, "unknown 1", *AT, "--chain", "middle.pem", "--crl", other, "leaf.pem", decides="middle", why="of no issuer of the path")
+        self.answered(3, "unknown 1", *AT, "--chain", "middle.pem", "--crl", other, "leaf.pem", why="of no issuer that is at hand")
 
     def test_words_that_are_none(self):
         for words in (["--at", "noon"], ["--at", "0001-01-01T00:00+14:00"], ["--at", "2026-12-01T00:00:00"], ["--purpose", ""],

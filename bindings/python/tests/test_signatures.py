@@ -1,4 +1,4 @@
-"""Tests of the judge of signatures, of bin/verdicts and of examples/session.py, over certificates that OpenSSL's command line signs.
+"""Tests of the judge of signatures and of bin/verdicts, over certificates that OpenSSL's command line signs.
 
 Each engine that is there is asked, and all have to answer the same.
 """
@@ -559,23 +559,12 @@ import json, sys
 def answer(words):
     answers = json.load(open(%r))
     return answers.get(" ".join(words), [5, ["bad line"]])
-if sys.argv[1] == "prints":
-    _, _, parts, _, issuer, _, kind, file = sys.argv
-    read = lambda name: open(name, "rb").read().hex()
-    status, lines = answer([kind, read(issuer), read(file)])
-    lines = [line.replace("ISSUER", issuer).replace("FILE", file) for line in lines]
-    print("\\n".join(lines), file=sys.stderr if status else sys.stdout)
-    sys.exit(status)
-for line in sys.stdin:
-    words = line.split()
-    if words[:2] == ["prints", "parts"]:
-        status, lines = answer([words[2]] + [word[4:] for word in words[3:]])
-        print("\\n".join([f"{status} {lines[0]}"] if status else [f"0 {len(lines)}"] + lines), flush=True)
-    elif words[0] == "believe":
-        print("0 believed", flush=True)
-    else:
-        status, lines = answer(words)
-        print(lines[0], flush=True)
+_, _, parts, _, issuer, _, kind, file = sys.argv
+read = lambda name: open(name, "rb").read().hex()
+status, lines = answer([kind, read(issuer), read(file)])
+lines = [line.replace("ISSUER", issuer).replace("FILE", file) for line in lines]
+print("\\n".join(lines), file=sys.stderr if status else sys.stdout)
+sys.exit(status)
 """
 
 
@@ -753,84 +742,6 @@ class Verdicts(WithStandIn):
                               stdout=subprocess.PIPE, text=True, check=False, env={**os.environ, "X509CHECK": self.program})
         self.assertEqual((done.returncode, done.stdout), (3, ""), done.stderr)
         self.assertIn("no judge of signatures", done.stderr)
-
-
-class Sessions(WithStandIn):
-    def setUp(self) -> None:
-        super().setUp()
-        self.module = script(os.path.join(EXAMPLES, "session.py"))
-        self.session = self.module.Session([self.program], "store")
-        self.addCleanup(self.session.close)
-
-    def test_good_ones_are_believed(self) -> None:
-        certificate, weak = self.certificate("ed25519"), self.certificate("rsa sha1")
-        judged, = self.session.judge("cert", certificate, certificate)
-        self.assertEqual((judged.words, judged.question, judged.opinion), ("certificate issuer", about("ed25519"), Opinion(GOOD)))
-        self.assertEqual(list(self.session.believed), [about("ed25519").fingerprint.hex()])
-        judged, = self.session.judge("cert", weak, weak)
-        self.assertIs(judged.opinion.judgement, REFUSED)
-        self.assertEqual(len(self.session.believed), 1)
-        judged, = self.session.judge("cert", weak, weak, LAX)
-        self.assertIs(judged.opinion.judgement, GOOD)
-        self.assertEqual(len(self.session.believed), 2)
-
-    def test_what_is_refused(self) -> None:
-        certificate = self.certificate("ed25519")
-        self.answer(f"cert {certificate.hex()} 30", 4, ["FILE: refused 4 Truncated at 0"])
-        with self.assertRaises(self.module.Refused):
-            self.session.judge("cert", certificate, b"0")
-        self.assertEqual(self.session.believed, {})
-
-    def test_lines_about_other_octets(self) -> None:
-        certificate, other = self.certificate("ed25519"), signed().made["ecdsa sha256"].certificate
-        self.answer_about("cert", certificate, other, line_of(about("ed25519"), "certificate issuer"))
-        with self.assertRaises(self.module.Garbled):
-            self.session.judge("cert", certificate, other)
-        for lines in ([line_of(about("ed25519"), "crl issuer")], [line_of(about("ed25519"), "certificate issuer")[:-2]], ["5 bad line"]):
-            self.answer_about("cert", certificate, other, *lines)
-            with self.assertRaises(BadLine):
-                self.session.judge("cert", certificate, other)
-        self.assertEqual(self.session.believed, {})
-
-    def test_answers_to_other_requests(self) -> None:
-        for text in ("0 believed", "0 ended", "3", "7 valid", "0 valid ", " 0 valid", "valid", "", "0", "4", "1 valid", "0 invalid 1 2", "00 valid",
-                     "0 valid 1", "1 invalid 1 2", "2 revoked 1", "3 unknown", "3 unknown \u0663", "\u0663 unknown 1"):
-            self.answer("check 20260101000000Z hex:30 hex:31", 0, [text])
-            session = self.module.Session([self.program], "store")
-            with self.subTest(text), self.assertRaises(self.module.Garbled):
-                session.check("20260101000000Z", b"0", [b"1"])
-            self.assertIsNone(session.process)
-        for status, text in ((0, "valid"), (1, "invalid 1 2 BadSignature"), (2, "revoked 1 1"), (3, "unknown 12"),
-                             (4, "x: refused 4 Truncated at 0")):
-            self.answer("check 20260101000000Z hex:30 hex:31", 0, [f"{status} {text}"])
-            self.assertEqual(self.session.check("20260101000000Z", b"0", [b"1"]), self.module.Answer(status, text))
-
-    def test_an_answer_that_was_not_read_to_its_end(self) -> None:
-        certificate = self.certificate("ed25519")
-        self.session.judge("cert", certificate, certificate)
-        with mock.patch.object(self.module.Session, "_read_line", side_effect=KeyboardInterrupt), self.assertRaises(KeyboardInterrupt):
-            self.session.prints("cert", certificate, certificate, parts=True)
-        self.assertIsNone(self.session.process)
-        self.assertEqual(len(self.session.judge("cert", certificate, certificate)), 1)
-
-    def test_requests_that_are_none_or_two(self) -> None:
-        for line in ("", "# nothing", "forget\nforget", "\n"):
-            with self.subTest(line), self.assertRaises(ValueError):
-                self.session.ask(line)
-        session = self.session
-        for call in (
-            lambda: session.check("20260101000000Z x", b"0", [b"1"]), lambda: session.check("", b"0", [b"1"]),
-            lambda: session.check("20260101000000Z", b"0", [b"1"], ""), lambda: session.check("20260101000000Z", b"0", [b"1"], "1.2 x"),
-            lambda: session.prints("cert hex:30", b"0", b"1"), lambda: session.believe("00 11"), lambda: session.deliver("", b"0"),
-            lambda: session.deliver(5, b"0"),
-        ):
-            with self.assertRaises(ValueError):
-                call()
-        with self.assertRaises(TypeError):
-            session.check("20260101000000Z", b"0", b"1")
-        with self.assertRaises(TypeError):
-            bool(self.module.Answer(0, "valid"))
-        self.assertIsNone(self.session.process)
 
 
 class Fuzzing(unittest.TestCase):

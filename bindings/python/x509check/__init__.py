@@ -18,21 +18,26 @@ from ._certificates import Certificate, Extensions, check, fingerprint
 from ._faults import Fault, Text
 from ._files import NoPath, load, path_to
 from ._library import LibraryMissing
+from ._lines import Answer
+from ._link import Garbled, PartyEnded, PartyError, TimeIsUp
 from ._names import Identity
+from ._party import Delivery, Party, PartyLimits, Refused
 from ._peers import NoAnchors, peer_questions, system_anchors, validate_peer
 from ._pem import Kind, Loaded, NotLoaded
 from ._program import ProgramMissing, explain
 from ._query import Limits
 from ._questions import SignatureQuestion, questions
 from ._reference import BadReference, ReferenceRule
-from ._verdicts import NotValid, Reason, Result, RevocationReason, Verdict, validate
+from ._report import report, report_on_two
+from ._verdicts import NotValid, Reason, Result, RevocationReason, Verdict, WhyNot, validate
 from .signatures import Judgement, JudgeMissing, Opinion, Policy, judge, judge_all, opinions
 
 __version__ = "0.10.0"
 
 __all__ = [
-    "BadReference", "Certificate", "Extensions", "Fault", "Identity", "JudgeMissing", "Judgement", "Kind", "LibraryMissing", "Limits",
-    "Loaded", "NoAnchors", "NoPath", "NotLoaded", "NotValid", "Opinion", "Policy", "ProgramMissing", "PURPOSES", "SignatureQuestion", "Reason", "ReferenceRule",
-    "Result", "RevocationReason", "Text", "Verdict", "check", "explain", "fingerprint", "judge", "judge_all", "load", "opinions", "path_to",
-    "peer_questions", "questions", "system_anchors", "validate", "validate_peer",
+    "Answer", "BadReference", "Certificate", "Delivery", "Extensions", "Fault", "Garbled", "Identity", "JudgeMissing", "Judgement", "Kind", "LibraryMissing", "Limits",
+    "Loaded", "NoAnchors", "NoPath", "NotLoaded", "NotValid", "Opinion", "Party", "PartyEnded", "PartyError", "PartyLimits",
+    "Policy", "ProgramMissing", "PURPOSES", "SignatureQuestion", "Reason", "ReferenceRule", "Refused",
+    "Result", "RevocationReason", "Text", "TimeIsUp", "Verdict", "WhyNot", "check", "explain", "fingerprint", "judge", "judge_all", "load", "opinions", "path_to",
+    "peer_questions", "questions", "report", "report_on_two", "system_anchors", "validate", "validate_peer",
 ]

@@ -100,6 +100,15 @@ def seconds_of(at: Moment) -> int:
     return seconds
 
 
+def moment_text(at: Moment) -> str:
+    """The moment as the program takes it (docs/REFERENCE.md, "Moments, purposes ..")."""
+    try:
+        when = _EPOCH + datetime.timedelta(seconds=seconds_of(at))
+    except OverflowError:
+        raise ValueError("the moment is out of range: the years 1 to 9999 are wanted") from None
+    return f"{when.year:04}{when:%m%d%H%M%S}Z"
+
+
 # Of RFC 5280, 4.2.1.12, and RFC 6960, 4.2.2.2.
 PURPOSES = {
     "serverAuth": "1.3.6.1.5.5.7.3.1",

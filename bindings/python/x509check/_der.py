@@ -92,6 +92,14 @@ def value(octets: bytes) -> Value:
     return found
 
 
+def first_identifier(octets: bytes) -> Optional[int]:
+    """The identifier octet of the first value inside the value that the octets begin with, if there is one. Nothing else is looked at."""
+    if len(octets) < 2:
+        return None
+    begin = 2 + (octets[1] - 0x80 if octets[1] >= 0x80 else 0)
+    return octets[begin] if begin < len(octets) else None
+
+
 def encoded(identifier: int, *parts: bytes) -> bytes:
     """The value with this identifier octet and these contents."""
     contents = b"".join(parts)

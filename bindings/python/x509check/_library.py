@@ -17,6 +17,8 @@ REFUSED = next(number for number, word in VERDICT_NUMBERS.items() if word == "re
 VERDICT_WORDS = {number: word for number, word in VERDICT_NUMBERS.items() if number < REFUSED}
 # Of a search no path may be valid, and its limits may be used up.
 FINDING_WORDS = {number: word for number, word in VERDICT_NUMBERS.items() if number != REFUSED}
+# Why no path is found.
+GAVE_UP, TARGET_AT_FAULT, PATHS_END = 7, 8, 9
 _TRUNCATED, _DER_OF_CERTIFICATE = 4, 21
 _NAME_ROOM = 32
 
@@ -126,6 +128,20 @@ class FindingAnswer(ctypes.Structure):
     _fields_ = [("verdict", VerdictAnswer), ("path_count", ctypes.c_size_t)]
 
 
+class ObstacleFields(ctypes.Structure):
+    _fields_ = [("certificate", ctypes.c_size_t), ("reason", ctypes.c_uint32)]
+
+
+class DiagnosisAnswer(ctypes.Structure):
+    """Why no path is found, and how many certificates are told of."""
+
+    _fields_ = [
+        *((name, ctypes.c_uint32) for name in ("why", "reason")),
+        *((name, ctypes.c_size_t) for name in ("above_count", "anchor_count", "obstacle_count")),
+        ("refusal", Refusal),
+    ]
+
+
 class Place(ctypes.Structure):
     """Octets of a certificate or of a statement: the text is a `Text`, and the index says which of them."""
 
@@ -172,6 +188,7 @@ def _typed(opened: ctypes.CDLL) -> ctypes.CDLL:
     text = [ctypes.c_char_p, ctypes.c_size_t]
     asked, sought = ([ctypes.POINTER(it), ctypes.POINTER(TextFields), ctypes.c_size_t] for it in (QueryFields, SearchFields))
     written = [ctypes.POINTER(QuestionFields), ctypes.c_size_t]
+    numbers, obstacles = ([ctypes.POINTER(it), ctypes.c_size_t] for it in (ctypes.c_size_t, ObstacleFields))
     for name, takes, answers in (
         ("x509check_check", text, Answer),
         ("x509check_read_certificate", text, CertificateAnswer),
@@ -181,7 +198,8 @@ def _typed(opened: ctypes.CDLL) -> ctypes.CDLL:
         ("x509check_questions", [*asked, *written], AskedAnswer),
         ("x509check_validate", [*asked, *text], VerdictAnswer),
         ("x509check_find_questions", [*sought, *written], AskedAnswer),
-        ("x509check_find", [*sought, *text, ctypes.POINTER(ctypes.c_size_t), ctypes.c_size_t], FindingAnswer),
+        ("x509check_find", [*sought, *text, *numbers], FindingAnswer),
+        ("x509check_why_not", [ctypes.POINTER(SearchFields), *text, *numbers, *numbers, *obstacles], DiagnosisAnswer),
     ):
         call = getattr(opened, name)
         call.argtypes, call.restype = takes, answers

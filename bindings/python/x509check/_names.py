@@ -12,6 +12,8 @@ _SHORT = {
 }
 # The most octets of a type of an attribute that is written in dotted form.
 _LONG = 64
+# What the program shows as it is, and RFC 4514 escapes.
+_SEPARATING = '",;<>'
 # UTF8String, NumericString, PrintableString, TeletexString, IA5String, VisibleString: their octets are the text, mostly of ASCII. Values of
 # other types are written in hexadecimal.
 _TEXTS = (0x0C, 0x12, 0x13, 0x14, 0x16, 0x1A)
@@ -49,6 +51,17 @@ def name_text(name: bytes) -> str:
     """
     rdns = value(name).as_a(SEQUENCE).members()
     return ",".join("+".join(_attribute(one) for one in rdn.as_a(SET).members()) for rdn in reversed(rdns))
+
+
+def name_from_shown(shown: str) -> str:
+    """The text of a name that the program shows (docs/REFERENCE.md, "show"), in the order and with the words of `name_text`. What the program
+    escapes stays so; RFC 4514 reads it alike."""
+    def attribute(text: str) -> str:
+        oid, _, value = text.partition("=")
+        return f"{_SHORT.get(oid, oid)}={''.join(chr(92) + one if one in _SEPARATING else one for one in value)}"
+    if shown == "-":
+        return ""
+    return ",".join("+".join(map(attribute, rdn.split("+"))) for rdn in reversed(shown.split("/")[1:]))
 
 
 @dataclasses.dataclass(frozen=True)

@@ -14,7 +14,9 @@ from ._pem import Kind, Loaded
 from ._query import Ignored, Limits, Search
 from ._questions import SignatureQuestion, ask
 from ._reference import Reference, speaks_for
-from ._verdicts import Judge, Result, Verdict, check_flag, different, given_prints, good_prints, identity_of, judged_by, result_of
+from ._verdicts import (
+    Judge, Result, Verdict, check_flag, different, given_prints, good_prints, identity_of, judged_by, result_of, why_not_of,
+)
 
 # Where systems keep the certificates of their anchors in one file, beside where Python's OpenSSL looks for them: Debian, Alpine and Arch;
 # Fedora and Red Hat; openSUSE; FreeBSD and macOS.
@@ -44,7 +46,7 @@ def system_anchors() -> List[Loaded]:
     return load(places[0], Kind.CERTIFICATE)
 
 
-def _sent(certificates: Iterable[Value]) -> List[Value]:
+def sent_by(certificates: Iterable[Value]) -> List[Value]:
     """What a peer sent: the certificate in question, and others."""
     sent = listed("certificates", certificates)
     if not sent:
@@ -74,7 +76,7 @@ def peer_questions(certificates: Iterable[Value], anchors: Iterable[Value], stat
 
     Raises a Fault if a certificate or a statement cannot be read, and ValueError for no certificates.
     """
-    sent = _sent(certificates)
+    sent = sent_by(certificates)
     return ask(Search(anchors, sent[0], sent[1:], statements))
 
 
@@ -95,7 +97,7 @@ def validate_peer(
     """The verdict on what a peer sent: `certificates` has the one in question first, as TLS sends it, and then others in any order, which
     may stand between it and an anchor or may not. A path is found if there is one: the first whose verdict is VALID by the statements; if
     there is none, the first that meets the conditions of RFC 5280, 6.1, with its verdict; shorter paths come first. `Result.path` has it.
-    If no path meets the conditions the verdict is NOT_FOUND.
+    If no path meets the conditions the verdict is NOT_FOUND, and `Result.why_not` says why.
 
     With a name, the certificate has to speak for it too: a host (``mx.example.org``), an IP address, or a mailbox (``user@example.org``), as
     `Certificate.speaks_for` says. If it does not, a VALID verdict becomes OTHER_NAME; no other verdict changes. A server's name is
@@ -114,7 +116,7 @@ def validate_peer(
     if limits is not None and not isinstance(limits, Limits):
         raise TypeError(f"limits: Limits are wanted, not {type(limits).__name__}")
     moment, asked_for = seconds_of(at), purpose_of(purpose)
-    sent = _sent(certificates)
+    sent = sent_by(certificates)
     ignored: Tuple[Ignored, ...] = ()
     if ignore_unreadable_certificates:
         sent, ignored = _readable(sent)
@@ -123,10 +125,13 @@ def validate_peer(
     if ignore_unreadable:
         ignored += search.leave_out_unreadable()
     judged = judged_by(different(ask(search)), verify) if given is None else ()
-    answer, path = search.finding(good_prints(judged) if given is None else given)
+    prints = good_prints(judged) if given is None else given
+    answer, path = search.finding(prints)
     result = result_of(answer, FINDING_WORDS, path)
     if result.verdict is Verdict.VALID and speaks is False:
         result = dataclasses.replace(result, verdict=Verdict.OTHER_NAME)
+    target = identity_of(search.target)
+    why_not = why_not_of(search.diagnosis(prints), target) if result.verdict is Verdict.NOT_FOUND else None
     return dataclasses.replace(
-        result, target=identity_of(search.target), judgements=judged, ignored=ignored, path=tuple(map(identity_of, path)),
+        result, target=target, why_not=why_not, judgements=judged, ignored=ignored, path=tuple(map(identity_of, path)),
         name=None if name is None else str(name))

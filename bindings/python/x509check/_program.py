@@ -4,7 +4,7 @@ import enum
 import os
 import shutil
 import subprocess
-from typing import Union
+from typing import List, Union
 
 from ._faults import Fault
 from ._verdicts import Reason, RevocationReason
@@ -24,7 +24,7 @@ class ProgramMissing(RuntimeError):
     """The program is at none of the places where it is looked for, or it does not answer."""
 
 
-def _program() -> str:
+def program_path() -> str:
     """The program that X509CHECK names; else the repository's, the installed one, or that of the path."""
     named = os.environ.get("X509CHECK")
     found = named or next(filter(os.path.isfile, PLACES), None) or shutil.which("x509check")
@@ -49,7 +49,7 @@ def explain(it: Union[int, Fault, Reason, RevocationReason]) -> str:
     """
     topic = _topic(it)
     try:
-        done = subprocess.run([_program(), "explain", *topic.split()], stdin=subprocess.DEVNULL, stdout=subprocess.PIPE,
+        done = subprocess.run([program_path(), "explain", *topic.split()], stdin=subprocess.DEVNULL, stdout=subprocess.PIPE,
                               stderr=subprocess.PIPE, encoding="utf-8", timeout=_SECONDS, check=False)
     except (OSError, subprocess.TimeoutExpired, UnicodeDecodeError) as cause:
         raise ProgramMissing(f"the program x509check cannot be asked: {cause}") from cause
@@ -58,3 +58,13 @@ def explain(it: Union[int, Fault, Reason, RevocationReason]) -> str:
     if done.returncode or not done.stdout.startswith(f"{topic} "):
         raise ProgramMissing(f"the program x509check does not explain {topic}: status {done.returncode}")
     return done.stdout.strip()
+
+
+def version_lines() -> List[str]:
+    """What the program says of its version: version, kit, and digest of its sources."""
+    try:
+        done = subprocess.run([program_path(), "--version"], stdin=subprocess.DEVNULL, stdout=subprocess.PIPE, stderr=subprocess.DEVNULL,
+                              encoding="ascii", errors="backslashreplace", timeout=_SECONDS, check=True)
+    except (OSError, subprocess.SubprocessError) as cause:
+        raise ProgramMissing(f"the program x509check cannot be asked: {cause}") from cause
+    return done.stdout.split("\n")[:-1]

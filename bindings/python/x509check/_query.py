@@ -2,14 +2,14 @@
 
 import ctypes
 import dataclasses
-from typing import Any, Callable, Iterable, List, Optional, Sequence, Tuple, Union
+from typing import Any, Callable, Iterable, List, NamedTuple, Optional, Sequence, Tuple, Union
 
 from ._arguments import Value, der_of, listed
 from ._certificates import origin_of
 from ._faults import MEMORY, Fault, Text, refusal
 from ._library import (
-    REFUSED, AskedAnswer, FindingAnswer, LimitFields, Place, QueryFields, QuestionFields, Refusal, SearchFields, TextFields, VerdictAnswer, library,
-    text_array, text_fields,
+    REFUSED, AskedAnswer, DiagnosisAnswer, FindingAnswer, LimitFields, ObstacleFields, Place, QueryFields, QuestionFields, Refusal, SearchFields,
+    TextFields, VerdictAnswer, library, text_array, text_fields,
 )
 from ._pem import Loaded
 
@@ -40,6 +40,16 @@ class Limits:
                 raise TypeError(f"{name}: an int is wanted, not {type(value).__name__}")
             if not 0 <= value < 2**64:
                 raise ValueError(f"{name} is out of range")
+
+
+class Diagnosis(NamedTuple):
+    """Why no path is found, in the numbers of the header, and the certificates that are told of."""
+
+    why: int
+    reason: int
+    above: List[bytes]
+    anchors: List[bytes]
+    obstacles: List[Tuple[bytes, int]]
 
 
 class _HandedIn:
@@ -158,3 +168,19 @@ class Search(_HandedIn):
         if answer.path_count > _PATH_ROOM:
             raise RuntimeError(f"the library for C answered a path of {answer.path_count} certificates")
         return answer.verdict, [self.certificates[at] for at in path[:answer.path_count]]
+
+    def diagnosis(self, fingerprints: bytes) -> Diagnosis:
+        """Why no path is found, if these signatures are good."""
+        tops, others = self._fields.anchor_count, self._fields.bag_count
+        above, anchors, obstacles = (ctypes.c_size_t * _PATH_ROOM)(), (ctypes.c_size_t * tops)(), (ObstacleFields * others)()
+        answer: DiagnosisAnswer = library().x509check_why_not(
+            self._fields, fingerprints, len(fingerprints) // 32, above, _PATH_ROOM, anchors, tops, obstacles, others)
+        if answer.why == REFUSED:
+            raise self._refused(answer.refusal)
+        counts = answer.above_count, answer.anchor_count, answer.obstacle_count
+        if any(count > room for count, room in zip(counts, (_PATH_ROOM, tops, others))):
+            raise RuntimeError(f"the library for C answered an end of a path with {counts} certificates")
+        return Diagnosis(
+            answer.why, answer.reason, [self.certificates[at] for at in above[:counts[0]]],
+            [self.certificates[at] for at in anchors[:counts[1]]],
+            [(self.certificates[it.certificate], it.reason) for it in obstacles[:counts[2]]])

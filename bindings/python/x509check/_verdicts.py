@@ -7,9 +7,9 @@ from typing import Callable, Iterable, List, Mapping, Optional, Sequence, Tuple,
 
 from ._arguments import Moment, Value, der_of, listed, octets_of, purpose_of, seconds_of
 from ._certificates import Certificate
-from ._library import VERDICT_WORDS, VerdictAnswer
+from ._library import GAVE_UP, PATHS_END, TARGET_AT_FAULT, VERDICT_WORDS, VerdictAnswer
 from ._names import Identity
-from ._query import Ignored, Query
+from ._query import Diagnosis, Ignored, Query
 from ._questions import SignatureQuestion, ask
 from .signatures import Judgement, judge_all
 
@@ -89,6 +89,50 @@ def _in_words(name: str) -> str:
     return name.lower().replace("_", " ")
 
 
+def _named(identity: Identity) -> str:
+    return f'"{identity.subject}" serial {identity.serial}'
+
+
+@dataclasses.dataclass(frozen=True)
+class WhyNot:
+    """Why no path to a certificate meets the conditions (RFC 5280, 6.1). Printed, it is one sentence.
+
+    Either the certificate in question cannot stand at the end of any path, for a `reason`; or its paths end somewhere: at the longest end
+    whose certificates all meet the conditions on them nobody at hand can stand above the `top`. If there are no `anchors` and no `obstacles`
+    then, the certificate of the top's issuer is missing. Which of two ends of one length is told of depends on the order of the certificates.
+    """
+
+    target: Identity
+    """The certificate in question."""
+    reason: Optional[Reason] = None
+    """What is wrong with the certificate in question by itself."""
+    above: Tuple[Identity, ...] = ()
+    """The certificates of that end above the one in question, from it upward."""
+    anchors: Tuple[Identity, ...] = ()
+    """The anchors that have the name of the top's issuer, but did not sign the top."""
+    obstacles: Tuple[Tuple[Identity, Reason], ...] = ()
+    """The other certificates that have that name, each with the first condition that it does not meet there: REPEATED, SIGNATURE,
+    NOT_PERMITTED, EXCLUDED, CONSTRAINT_FORM and PATH_LENGTH are about it and the certificates below it."""
+    gave_up: bool = False
+    """Whether the limits of the search were used up before this was known."""
+
+    @property
+    def top(self) -> Identity:
+        """The certificate whose issuer is looked for: the last of those above, or the one in question."""
+        return self.above[-1] if self.above else self.target
+
+    def __str__(self) -> str:
+        if self.gave_up:
+            return f"the limits were used up before it was known where the paths to {_named(self.target)} end"
+        if self.reason is not None:
+            return f"{_named(self.target)} cannot stand at the end of any path ({_in_words(self.reason.name)})"
+        others = [f"the anchor {_named(it)} did not sign it" for it in self.anchors]
+        others += [f"{_named(it)} cannot stand there ({_in_words(reason.name)})" for it, reason in self.obstacles]
+        if not others:
+            return f"no certificate at hand has the name of the issuer of {_named(self.top)}"
+        return f"no certificate at hand can stand above {_named(self.top)}: {', '.join(others)}"
+
+
 @dataclasses.dataclass(frozen=True)
 class Result:
     """The verdict on a path, and whom it is about. A result is true if its verdict is VALID.
@@ -112,6 +156,8 @@ class Result:
     """The certificates of the path, from the anchor on to the one in question; none if no path was found. `certificate` counts along it."""
     name: Optional[str] = dataclasses.field(default=None, compare=False)
     """The host, address or mailbox that was asked for, if one was."""
+    why_not: Optional[WhyNot] = dataclasses.field(default=None, compare=False)
+    """Why no path meets the conditions, if the verdict is NOT_FOUND."""
 
     def __bool__(self) -> bool:
         return bool(self.verdict)
@@ -121,7 +167,8 @@ class Result:
         about = "the path" if self.target is None else str(self.target)
         name = "" if self.name is None else f", asked for {self.name}"
         by = "" if self.certificate is None else f", by certificate {self.certificate}: {self.decides}" if self.decides else ", by the path itself"
-        return f"{self.verdict.value}{reason}: {about}{name}{by}"
+        why = "" if self.why_not is None else f"; {self.why_not}"
+        return f"{self.verdict.value}{reason}: {about}{name}{by}{why}"
 
     def require_valid(self) -> "Result":
         """The result itself; raises NotValid unless the verdict is VALID."""
@@ -209,6 +256,18 @@ def result_of(answer: VerdictAnswer, words: Mapping[int, str], certificates: Seq
         reason = Reason(answer.reason) if verdict is Verdict.INVALID else RevocationReason(answer.reason)
     decides = identity_of(certificates[answer.certificate]) if answer.certificate else None
     return Result(verdict, answer.certificate, reason, decides=decides)
+
+
+def why_not_of(diagnosis: Diagnosis, target: Identity) -> WhyNot:
+    """What the numbers say in words. One that has none raises."""
+    if diagnosis.why == TARGET_AT_FAULT:
+        return WhyNot(target, Reason(diagnosis.reason))
+    if diagnosis.why == GAVE_UP:
+        return WhyNot(target, gave_up=True)
+    if diagnosis.why != PATHS_END:
+        raise RuntimeError(f"the library for C answered {diagnosis.why}, which does not say why no path is found")
+    above, anchors = (tuple(map(identity_of, them)) for them in (diagnosis.above, diagnosis.anchors))
+    return WhyNot(target, None, above, anchors, tuple((identity_of(one), Reason(rank)) for one, rank in diagnosis.obstacles))
 
 
 def validate(

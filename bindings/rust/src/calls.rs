@@ -2,9 +2,10 @@
 
 use crate::fault::{error_of, Error, Text};
 use crate::library::{
-    x509check_find, x509check_find_questions, x509check_questions, x509check_validate, AskedAnswer,
-    FindingAnswer, LimitFields, QueryFields, QuestionFields, Refusal, SearchFields, TextFields,
-    VerdictAnswer, CERTIFICATES, PATH_ROOM, REFUSED, STATEMENTS,
+    x509check_find, x509check_find_questions, x509check_questions, x509check_validate,
+    x509check_why_not, AskedAnswer, DiagnosisAnswer, FindingAnswer, LimitFields, ObstacleFields,
+    QueryFields, QuestionFields, Refusal, SearchFields, TextFields, VerdictAnswer, CERTIFICATES,
+    PATH_ROOM, REFUSED, STATEMENTS,
 };
 use crate::query::Query;
 use crate::search::Limits;
@@ -180,4 +181,53 @@ pub(crate) fn find(
         Some(numbers) => Ok((answer, numbers.to_vec())),
         None => Err(Error::Unexpected("a path of length", answer.path_count)),
     }
+}
+
+/// Why no path is found, and the numbers of the certificates that are told of.
+pub(crate) struct Diagnosis {
+    pub answer: DiagnosisAnswer,
+    pub above: Vec<usize>,
+    pub anchors: Vec<usize>,
+    pub obstacles: Vec<ObstacleFields>,
+}
+
+/// As many of the values as there are, if there was room for them.
+fn first<T: Clone>(values: &[T], count: usize) -> Result<Vec<T>, Error> {
+    match values.get(..count) {
+        Some(first) => Ok(first.to_vec()),
+        None => Err(Error::Unexpected("an end of a path of length", count)),
+    }
+}
+
+/// Why the library finds no path if the signatures with these fingerprints are good and no others.
+pub(crate) fn diagnose(search: &SearchCall<'_>, good: &[[u8; 32]]) -> Result<Diagnosis, Error> {
+    let anchors = TextFields::of_each(search.anchors);
+    let bag = TextFields::of_each(search.bag);
+    let fields = search_fields_of(search, &anchors, &bag);
+    let mut above = [0; PATH_ROOM];
+    let mut named = vec![0; anchors.len()];
+    let mut obstacles = vec![ObstacleFields::default(); bag.len()];
+    // As in `ask`; the call writes to these three alone, and no more than their room.
+    let answer = unsafe {
+        x509check_why_not(
+            &fields,
+            good.as_ptr(),
+            good.len(),
+            above.as_mut_ptr(),
+            above.len(),
+            named.as_mut_ptr(),
+            named.len(),
+            obstacles.as_mut_ptr(),
+            obstacles.len(),
+        )
+    };
+    if answer.why == REFUSED {
+        return Err(refused(answer.refusal, anchors.len()));
+    }
+    Ok(Diagnosis {
+        above: first(&above, answer.above_count)?,
+        anchors: first(&named, answer.anchor_count)?,
+        obstacles: first(&obstacles, answer.obstacle_count)?,
+        answer,
+    })
 }

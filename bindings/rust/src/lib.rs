@@ -1,7 +1,7 @@
 //! X.509 certificates, and whether a path of them may be believed at a moment (RFC 5280; RFC 6960).
 //!
 //! The work is done by the library for C of x509check, whose code is proved; this crate calls it and depends on nothing else. No call keeps
-//! anything, and any number of threads may call. Octets are DER.
+//! anything, except that a [`Party`] has a process of the program with a store. Any number of threads may call. Octets are DER.
 //!
 //! ```
 //! # fn main() -> Result<(), Box<dyn std::error::Error>> {
@@ -42,11 +42,13 @@ mod identity;
 mod judge;
 mod library;
 mod name;
+mod party;
 mod query;
 mod reference;
 mod search;
 mod values;
 mod verdict;
+mod why_not;
 
 pub use answer::{Answer, NotValid};
 pub use certificate::{check, fingerprint, sha256, Certificate, Extensions, KeyUsage};
@@ -55,7 +57,9 @@ pub use identity::Identity;
 pub use judge::{
     judge_by, Fingerprints, Judge, JudgeBy, Judgement, SignatureQuestion, SignatureQuestions,
 };
+pub use party::{Delivery, Party, PartyError, PartyQuery, PartySearch};
 pub use query::Query;
 pub use reference::{Reference, ReferenceRule, SpeakingError};
 pub use search::{Finding, Limits, NotBelieved, Peer, Search, SearchError};
 pub use verdict::{Reason, Verdict};
+pub use why_not::{End, WhyNot};

@@ -139,6 +139,10 @@ pub(crate) const REFUSED: u32 = 5;
 pub(crate) const NOT_FOUND: u32 = 6;
 pub(crate) const GAVE_UP: u32 = 7;
 
+/// Why no path is found, beside the limits that are used up.
+pub(crate) const TARGET_AT_FAULT: u32 = 8;
+pub(crate) const PATHS_END: u32 = 9;
+
 /// Which certificate or statement is refused, and why. All is 0 if none is.
 #[repr(C)]
 #[derive(Clone, Copy, Default)]
@@ -163,6 +167,24 @@ pub(crate) struct VerdictAnswer {
 pub(crate) struct FindingAnswer {
     pub verdict: VerdictAnswer,
     pub path_count: usize,
+}
+
+#[repr(C)]
+#[derive(Clone, Copy, Default)]
+pub(crate) struct ObstacleFields {
+    pub certificate: usize,
+    pub reason: u32,
+}
+
+/// Why no path is found, and how many certificates are told of.
+#[repr(C)]
+pub(crate) struct DiagnosisAnswer {
+    pub why: u32,
+    pub reason: u32,
+    pub above_count: usize,
+    pub anchor_count: usize,
+    pub obstacle_count: usize,
+    pub refusal: Refusal,
 }
 
 /// The room that the numbers of each path fit into.
@@ -269,6 +291,17 @@ extern "C" {
         path: *mut usize,
         room: usize,
     ) -> FindingAnswer;
+    pub(crate) fn x509check_why_not(
+        search: *const SearchFields,
+        fingerprints: *const [u8; 32],
+        fingerprint_count: usize,
+        above: *mut usize,
+        above_room: usize,
+        anchors: *mut usize,
+        anchor_room: usize,
+        obstacles: *mut ObstacleFields,
+        obstacle_room: usize,
+    ) -> DiagnosisAnswer;
 }
 
 #[cfg(test)]
@@ -282,6 +315,8 @@ mod tests {
         assert_eq!(size_of::<QueryFields>(), 56);
         assert_eq!(size_of::<SearchFields>(), 96);
         assert_eq!(size_of::<FindingAnswer>(), 56);
+        assert_eq!(size_of::<ObstacleFields>(), 16);
+        assert_eq!(size_of::<DiagnosisAnswer>(), 64);
         assert_eq!(size_of::<Part>(), 16);
         assert_eq!(size_of::<Answer>(), 16);
         assert_eq!(size_of::<ExtensionFields>(), 56);

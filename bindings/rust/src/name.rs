@@ -91,7 +91,7 @@ fn inside<'a>(value: &Value<'a>, identifier: u8) -> Option<Vec<Value<'a>>> {
 }
 
 /// The numbers of an OBJECT IDENTIFIER with dots between them; none if one has more than 128 bits, or the last is cut off.
-fn dotted(contents: &[u8]) -> Option<String> {
+pub(crate) fn dotted(contents: &[u8]) -> Option<String> {
     if *contents.last()? >= 0x80 {
         return None;
     }

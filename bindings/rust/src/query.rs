@@ -13,9 +13,9 @@ use crate::values::Values;
 use crate::verdict::{Reason, Verdict};
 
 /// The certificates that a path may have.
-const MOST_CERTIFICATES: usize = 128;
+pub(crate) const MOST_CERTIFICATES: usize = 128;
 /// Of a longer path the library gets one more, which it answers by [`Reason::TooLong`], and reads none of the others.
-const MOST_HANDED: usize = MOST_CERTIFICATES + 1;
+pub(crate) const MOST_HANDED: usize = MOST_CERTIFICATES + 1;
 
 /// The question about a path.
 ///
@@ -161,14 +161,14 @@ pub(crate) fn check_purpose(contents: &[u8]) -> Result<(), Error> {
 }
 
 /// A query whose certificates and statements were read.
-struct Asking<'a> {
+pub(crate) struct Asking<'a> {
     query: Query<'a>,
     path_length: usize,
     questions: SignatureQuestions<'a>,
 }
 
 impl<'a> Asking<'a> {
-    fn of(query: &Query<'a>) -> Result<Asking<'a>, Error> {
+    pub(crate) fn of(query: &Query<'a>) -> Result<Asking<'a>, Error> {
         query.purpose.map_or(Ok(()), check_purpose)?;
         Ok(Asking {
             questions: query.signature_questions()?,
@@ -186,7 +186,7 @@ impl<'a> Asking<'a> {
         Verdict::of(&validate(&query, good)?, query.path.len())
     }
 
-    fn ask_about(&self, text: u32, heard: &mut Heard<'_>) {
+    pub(crate) fn ask_about(&self, text: u32, heard: &mut Heard<'_>) {
         for question in self.questions.of_text(text) {
             heard.ask(&question);
         }
@@ -231,7 +231,8 @@ impl<'a> Asking<'a> {
         heard.of(&question.fingerprint)
     }
 
-    fn answer(&self, verdict: Verdict, heard: &Heard<'_>) -> Result<Answer, Error> {
+    /// The answer, once the verdict is known.
+    pub(crate) fn answer(&self, verdict: Verdict, heard: &Heard<'_>) -> Result<Answer, Error> {
         let target = match self.path_length {
             number @ 1..=MOST_CERTIFICATES => Some(self.identity(number)?),
             _ => None,

@@ -3,7 +3,7 @@
 use std::error;
 use std::fmt;
 
-use crate::calls::{find, SearchCall};
+use crate::calls::{diagnose, find, SearchCall};
 use crate::certificate::Certificate;
 use crate::fault::{Error, Fault, Text};
 use crate::identity::Identity;
@@ -13,6 +13,7 @@ use crate::query::{check_purpose, readable};
 use crate::reference::{Reference, SpeakingError};
 use crate::values::Values;
 use crate::verdict::Verdict;
+use crate::why_not::WhyNot;
 
 /// What a search may spend. It gives up if one of these is used up; paths that servers send take a small part of it.
 #[derive(Clone, Copy, Debug, PartialEq, Eq)]
@@ -94,6 +95,8 @@ pub struct Peer {
     pub path: Vec<Identity>,
     /// Whom the certificate in question names.
     pub target: Identity,
+    /// Why no path meets the conditions, if none is found for that.
+    pub why_not: Option<WhyNot>,
     /// What cannot be read and was left out, each with its fault: nothing unless that was asked for.
     pub ignored: Vec<Fault>,
 }
@@ -151,12 +154,15 @@ impl From<SearchError> for NotBelieved {
     }
 }
 
-/// On one line: what is found, and behind a `; ` each whom it is about and what was left out.
+/// On one line: what is found, and behind a `; ` each whom it is about, why no path is found, and what was left out.
 impl fmt::Display for Peer {
     fn fmt(&self, out: &mut fmt::Formatter<'_>) -> fmt::Result {
         write!(out, "{}; target {}", self.finding, self.target)?;
         if let Some(decides) = self.decides() {
             write!(out, "; decided by {decides}")?;
+        }
+        if let Some(why_not) = &self.why_not {
+            write!(out, "; {why_not}")?;
         }
         self.ignored
             .iter()
@@ -203,9 +209,19 @@ impl<'a> Search<'a> {
         let questions = self.signature_questions()?;
         let mut heard = Heard::nothing(judge);
         questions.iter().for_each(|question| heard.ask(&question));
-        let (answer, numbers) = find(&self.call(target), &heard.good)?;
+        let call = self.call(target);
+        let (answer, numbers) = find(&call, &heard.good)?;
         let finding = finding_of(&answer, numbers.len(), speaks)?;
         let values = self.values(target);
+        let named = Certificate::read(target)?.identity()?;
+        let why_not = match finding {
+            Finding::NotFound => Some(WhyNot::of(
+                &diagnose(&call, &heard.good)?,
+                &named,
+                |number| identity_of(&values, number),
+            )?),
+            _ => None,
+        };
         let path: Result<Vec<Identity>, Error> = numbers
             .into_iter()
             .map(|number| identity_of(&values, number))
@@ -213,7 +229,8 @@ impl<'a> Search<'a> {
         Ok(Peer {
             finding,
             path: path?,
-            target: Certificate::read(target)?.identity()?,
+            target: named,
+            why_not,
             ignored: Vec::new(),
         })
     }
@@ -259,7 +276,7 @@ impl<'a> Search<'a> {
     }
 
     /// Whether the certificate in question speaks for the name, if one is asked for.
-    fn speaks(&self, target: &[u8]) -> Result<Option<bool>, SearchError> {
+    pub(crate) fn speaks(&self, target: &[u8]) -> Result<Option<bool>, SearchError> {
         let Some(name) = self.name else {
             return Ok(None);
         };

@@ -107,14 +107,21 @@ const REASONS: [Reason; 16] = [
     Reason::TooLong,
 ];
 
-/// The reason of this rank, which is one of the path itself or one of a certificate.
-fn reason_at(certificate: usize, rank: u32) -> Result<Reason, Error> {
-    let of_path = certificate == 0;
+/// The reason of this rank.
+pub(crate) fn reason_of(rank: u32) -> Result<Reason, Error> {
     let found = REASONS.iter().find(|reason| **reason as u32 == rank);
-    match found {
-        Some(reason) if matches!(reason, Reason::Empty | Reason::TooLong) == of_path => Ok(*reason),
-        _ => Err(Error::Unexpected("the reason", rank as usize)),
+    found
+        .copied()
+        .ok_or(Error::Unexpected("the reason", rank as usize))
+}
+
+/// The same, which is one of the path itself or one of a certificate.
+fn reason_at(certificate: usize, rank: u32) -> Result<Reason, Error> {
+    let (of_path, reason) = (certificate == 0, reason_of(rank)?);
+    if matches!(reason, Reason::Empty | Reason::TooLong) == of_path {
+        return Ok(reason);
     }
+    Err(Error::Unexpected("the reason", rank as usize))
 }
 
 /// The reason of a revocation, if it is one of RFC 5280, 5.3.1.

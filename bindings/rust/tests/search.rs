@@ -4,8 +4,8 @@ use std::cell::Cell;
 use std::fs;
 
 use x509check::{
-    Certificate, Error, Finding, Fingerprints, Judge, Limits, NotBelieved, Peer, Reference,
-    ReferenceRule, Search, SearchError, SignatureQuestion, SpeakingError, Text, Verdict,
+    Certificate, Error, Finding, Fingerprints, Judge, Limits, NotBelieved, Peer, Reason, Reference,
+    ReferenceRule, Search, SearchError, SignatureQuestion, SpeakingError, Text, Verdict, WhyNot,
 };
 
 /// 2026-12-01T00:00:00Z
@@ -120,6 +120,47 @@ fn findings() {
         );
         assert_eq!(peer.unwrap().finding, Finding::GaveUp);
     }
+}
+
+/// The names of the certificates above the one in question, of the anchors and of the obstacles.
+fn told_end(peer: &Peer) -> (Vec<&str>, Vec<&str>, Vec<(&str, Reason)>) {
+    let Some(WhyNot::End(end)) = &peer.why_not else {
+        panic!("{peer}");
+    };
+    assert_eq!(&end.top, end.above.last().unwrap_or(&peer.target));
+    (
+        end.above.iter().map(|it| &it.name[..]).collect(),
+        end.anchors.iter().map(|it| &it.name[..]).collect(),
+        end.obstacles
+            .iter()
+            .map(|(it, reason)| (&it.name[..], *reason))
+            .collect(),
+    )
+}
+
+#[test]
+fn why_no_path_is_found() {
+    let (chain, good) = (["leaf.der", "root.der", "middle.der"], good());
+    let why = |certificates: &[&str], prints: &[[u8; 32]], moment| {
+        let judge = Fingerprints(prints);
+        found_by(certificates, &[], |it| it.moment = moment, &judge).unwrap()
+    };
+    let missing = why(&chain[..2], &good, DECEMBER);
+    assert_eq!(told_end(&missing), (vec![], vec![], vec![]));
+    assert!(missing
+        .to_string()
+        .contains("; no certificate at hand has the name of the issuer of serial 03 "));
+    let unsigned = why(&chain, &[], DECEMBER);
+    let middle = ("CN=middle,O=Example", Reason::Signature);
+    assert_eq!(told_end(&unsigned), (vec![], vec![], vec![middle]));
+    let (root, above) = ("CN=Root,O=Example", vec!["CN=middle,O=Example"]);
+    assert_eq!(
+        told_end(&why(&chain, &good[1..2], DECEMBER)),
+        (above, vec![root], vec![(root, Reason::Signature)])
+    );
+    let early = why(&chain, &good, 0);
+    assert_eq!(early.why_not, Some(WhyNot::Target(Reason::NotYet)));
+    assert_eq!(why(&chain, &good, DECEMBER).why_not, None);
 }
 
 #[test]

@@ -1,0 +1,75 @@
+"""Until when a statement counts: nextUpdate of lists and of responses, of which the program has taken or read the octets.
+
+What is read here says when to ask again, and nothing of what is believed: that the store says by itself.
+"""
+
+import calendar
+import re
+import time
+from typing import List, Optional
+
+from ._der import SEQUENCE, Value, value
+
+_INTEGER, _UTC_TIME, _GENERALIZED_TIME, _OCTET_STRING = 0x02, 0x17, 0x18, 0x04
+_EXPLICIT_0 = 0xA0
+# Without nextUpdate a response counts so long (docs/REFERENCE.md, "Statements that are believed").
+_DAY = 86_400
+
+
+def seconds_of_time(it: Value) -> int:
+    """The seconds from 1970-01-01T00:00:00Z of a UTCTime or GeneralizedTime to the second (RFC 5280, 4.1.2.5)."""
+    text = bytes(it.contents).decode("ascii", "replace")
+    if it.identifier == _UTC_TIME:
+        text = ("19" if text[:2] >= "50" else "20") + text
+    elif it.identifier != _GENERALIZED_TIME:
+        raise ValueError(f"a value {it.identifier:02x} where a time is wanted")
+    if not re.fullmatch("[0-9]{14}Z", text):
+        raise ValueError(f"{text!r} is no time")
+    return calendar.timegm(time.strptime(text, "%Y%m%d%H%M%SZ"))
+
+
+def _octets(it: bytes) -> Value:
+    # A view, so that the entries of a long list are not copied.
+    return value(memoryview(it))  # type: ignore[arg-type]
+
+
+def _first(it: Value, most: int) -> Value:
+    """The first of the values inside."""
+    found = it.as_a(SEQUENCE).members(most)
+    if not found:
+        raise ValueError("nothing where a value is wanted")
+    return found[0]
+
+
+def list_until(octets: bytes) -> int:
+    """nextUpdate of a revocation list (RFC 5280, 5.1.2.5). Raises ValueError if it cannot be read."""
+    signed = _first(_octets(octets), 3).as_a(SEQUENCE).members()
+    if signed[:1] and signed[0].identifier == _INTEGER:
+        del signed[0]
+    # signature, issuer, thisUpdate, nextUpdate
+    if len(signed) < 4:
+        raise ValueError("a list without nextUpdate")
+    return seconds_of_time(signed[3])
+
+
+def _single_until(single: Value, serial: bytes) -> Optional[int]:
+    """Until when a single response counts, if it is about that certificate: certID, certStatus, thisUpdate, nextUpdate [0]."""
+    identifier, _, this_update, *rest = single.as_a(SEQUENCE).members(5)
+    _, _, _, number = identifier.as_a(SEQUENCE).members(4)
+    if bytes(number.contents) != serial:
+        return None
+    following = [seconds_of_time(it.only_member()) for it in rest if it.identifier == _EXPLICIT_0]
+    return following[0] if following else seconds_of_time(this_update) + _DAY
+
+
+def response_until(octets: bytes, serial: bytes) -> Optional[int]:
+    """The first moment at which what an OCSP response says of a certificate counts no more (RFC 6960, 4.2.2.1); None if it says nothing
+    of the serial number. Raises ValueError if it cannot be read."""
+    _, wrapped = _octets(octets).as_a(SEQUENCE).members(2)
+    _, inner = wrapped.only_member().as_a(SEQUENCE).members(2)
+    basic = _first(value(inner.as_a(_OCTET_STRING).contents), 4).as_a(SEQUENCE)
+    singles: List[Value] = [it for it in basic.members(4) if it.identifier == SEQUENCE]
+    if len(singles) != 1:
+        raise ValueError("a response without its single responses")
+    found = [until for until in (_single_until(it, serial) for it in singles[0].members()) if until is not None]
+    return min(found, default=None)

@@ -1,0 +1,289 @@
+"""Serves one party to several processes of a host, over a Unix socket.
+
+    python3 -m x509check.party --store STORE [--verdicts VERDICTS] [--listen SOCKET] [--mode MODE] [--connections N] [--octets N]
+                               [--seconds SECONDS]
+
+`x509check.Party.connect(SOCKET)` is a party there. Each line that comes is a request of `x509check session` (docs/REFERENCE.md,
+"session"), and is answered as a session answers it; but `quit` ends the connection, and not the session, and `forget` is about what came
+by `believe` on this connection: what others said stays. A line of more than N octets (2^20) is answered `5 line too long`. If the session
+cannot answer, also after it was started again, the connection is shut without an answer.
+
+Without --listen the socket is the one that systemd hands over (a socket unit with `Accept=no`). The file SOCKET is made with the
+permissions MODE, in octal (600): its owner alone may connect. Whoever may connect may say which signatures are good, for all, deliver
+statements, and have the session read files of DER that it may read. N connections (64) are served at once; others wait.
+
+A request is answered within SECONDS (30), in which also a line that was begun has to end, and an answer has to be taken. The status is 0
+after SIGTERM or SIGINT, 5 for words that are none, and 6 if the store cannot be opened or SOCKET cannot be listened at.
+"""
+
+import argparse
+import contextlib
+import os
+import signal
+import socket
+import stat
+import sys
+import threading
+from typing import Dict, List, Optional, Sequence, Set
+
+from . import _lines
+from ._link import PartyError
+from ._party import Party, PartyLimits, is_fingerprint
+from ._program import ProgramMissing
+
+# The first descriptor that systemd hands over (sd_listen_fds(3)).
+_FIRST_HANDED_OVER = 3
+_WORDS_ARE_NONE, _FAILED = 5, 6
+_TOO_LONG, _BAD_LINE = b"5 line too long\n", b"5 bad line\n"
+_PIECE = 1 << 16
+
+
+class TooLong(Exception):
+    """A line of more octets than one may have; it was read to its end."""
+
+
+class Lines:
+    """The lines that come on a connection, each of which has to end some seconds after it was begun."""
+
+    def __init__(self, connection: socket.socket, most: int, seconds: float) -> None:
+        self._connection, self._most, self._seconds = connection, most, seconds
+        self._left = bytearray()
+
+    def next(self) -> Optional[bytes]:
+        """The next line, without its end; None at the end of the connection, also within a line."""
+        passed_over, searched = False, 0
+        while True:
+            at = self._left.find(b"\n", searched)
+            if at >= 0:
+                line = bytes(self._left[:at])
+                del self._left[:at + 1]
+                if passed_over or len(line) > self._most:
+                    raise TooLong
+                return line
+            if len(self._left) > self._most:
+                self._left.clear()
+                passed_over = True
+            searched = len(self._left)
+            if not self._receive(is_begun=passed_over or searched > 0):
+                return None
+
+    def _receive(self, is_begun: bool) -> bool:
+        # (between lines a connection may rest as long as it likes)
+        self._connection.settimeout(self._seconds if is_begun else None)
+        piece = self._connection.recv(_PIECE)
+        self._left += piece
+        return bool(piece)
+
+
+class Beliefs:
+    """A party, and which connection said of which signature that it is good."""
+
+    def __init__(self, party: Party) -> None:
+        self._party = party
+        self._lock = threading.Lock()
+        self._said: Dict[int, Set[str]] = {}      # by the number of the connection
+
+    def ask(self, connection: int, line: str) -> _lines.Answer:
+        """The answer to a request of a connection."""
+        if line == "forget":
+            return self._forget(connection)
+        word, _, fingerprint = line.partition(" ")
+        if word == "believe" and is_fingerprint(fingerprint):
+            with self._lock:
+                self._said.setdefault(connection, set()).add(fingerprint.lower())
+        return self._party.ask(line)
+
+    def _forget(self, connection: int) -> _lines.Answer:
+        """What others said is told again, before any other request is answered."""
+        with self._lock:
+            self._said.pop(connection, None)
+            others = sorted(set().union(*self._said.values()))
+            return self._party.ask_together(["forget", *(f"believe {fingerprint}" for fingerprint in others)])[0]
+
+    def end(self, connection: int) -> None:
+        """A connection is gone. What it said is believed until somebody forgets."""
+        with self._lock:
+            self._said.pop(connection, None)
+
+
+class Server:
+    """A party, and those who are connected to it."""
+
+    def __init__(self, party: Party, listening: socket.socket, connections: int, octets: int, seconds: float) -> None:
+        self._beliefs, self._listening, self._octets, self._seconds = Beliefs(party), listening, octets, seconds
+        self._room = threading.BoundedSemaphore(connections)
+        self._lock = threading.Lock()
+        self._connected: List[socket.socket] = []
+        self._is_ending = False
+
+    def serve(self) -> None:
+        """Takes connections, until `end`."""
+        while True:
+            self._room.acquire()
+            try:
+                connection, _ = self._listening.accept()
+            except OSError:
+                self._room.release()
+                if self._is_ending:
+                    return
+                raise
+            with self._lock:
+                self._connected.append(connection)
+            threading.Thread(target=self._serve_one, args=(connection,), daemon=True).start()
+
+    def end(self) -> None:
+        """Takes no connection any more, and shuts those that are there."""
+        self._is_ending = True
+        with contextlib.suppress(OSError):
+            self._listening.shutdown(socket.SHUT_RDWR)
+        self._listening.close()
+        with self._lock:
+            for connection in self._connected:
+                with contextlib.suppress(OSError):
+                    connection.shutdown(socket.SHUT_RDWR)
+
+    def _serve_one(self, connection: socket.socket) -> None:
+        try:
+            self._answer_all(connection)
+        except PartyError as cause:
+            print(f"party: a connection is shut without an answer: {cause}", file=sys.stderr, flush=True)
+        except OSError:
+            pass    # whoever was connected is gone, or was too slow
+        finally:
+            with self._lock:
+                self._connected.remove(connection)
+            self._beliefs.end(id(connection))
+            connection.close()
+            self._room.release()
+
+    def _answer_all(self, connection: socket.socket) -> None:
+        lines = Lines(connection, self._octets, self._seconds)
+        while True:
+            try:
+                line = lines.next()
+                answer = None if line is None else self._answer(id(connection), line)
+            except TooLong:
+                line, answer = b"", _TOO_LONG
+            if line is None:
+                return
+            if answer is not None:
+                connection.settimeout(self._seconds)
+                connection.sendall(answer)
+            if line == b"quit":
+                return
+
+    def _answer(self, connection: int, line: bytes) -> Optional[bytes]:
+        """The answer to a line, with its ends of lines; an empty line and a comment have none."""
+        if not line or line.startswith(b"#"):
+            return None
+        if line == b"quit":
+            return b"0 ended\n"
+        try:
+            text = line.decode("utf-8")
+        except UnicodeDecodeError:
+            return _BAD_LINE
+        answer = self._beliefs.ask(connection, text)
+        return "".join(f"{one}\n" for one in (str(answer), *answer.lines)).encode("ascii", "backslashreplace")
+
+
+def handed_over() -> socket.socket:
+    """The socket that systemd hands over. Raises OSError if there is not just one."""
+    if os.environ.get("LISTEN_PID") != str(os.getpid()) or os.environ.get("LISTEN_FDS") != "1":
+        raise OSError("--listen is missing, and systemd hands over no socket")
+    listening = socket.socket(fileno=_FIRST_HANDED_OVER)
+    if listening.family != socket.AF_UNIX or listening.type != socket.SOCK_STREAM:
+        listening.close()
+        raise OSError("the socket that systemd hands over is no Unix socket for streams")
+    os.set_inheritable(_FIRST_HANDED_OVER, False)
+    return listening
+
+
+def listen(path: str, mode: int) -> socket.socket:
+    """A socket that listens at a path. A socket that was left there, at which nobody listens, makes way. Raises OSError."""
+    with contextlib.suppress(FileNotFoundError):
+        if stat.S_ISSOCK(os.lstat(path).st_mode) and not _is_served(path):
+            os.unlink(path)
+    listening = socket.socket(socket.AF_UNIX, socket.SOCK_STREAM)
+    try:
+        # Made for nobody first: between bind and chmod no other may connect.
+        before = os.umask(0o777)
+        try:
+            listening.bind(path)
+        finally:
+            os.umask(before)
+        listening.listen()
+        os.chmod(path, mode)
+    except BaseException:
+        listening.close()
+        raise
+    return listening
+
+
+def _is_served(path: str) -> bool:
+    with socket.socket(socket.AF_UNIX, socket.SOCK_STREAM) as probe:
+        try:
+            probe.connect(path)
+        except ConnectionRefusedError:
+            return False
+    return True
+
+
+def _positive(text: str) -> int:
+    if not text.isascii() or not text.isdigit() or int(text) == 0:
+        raise ValueError("no number from 1 on")
+    return int(text)
+
+
+def _mode(text: str) -> int:
+    mode = int(text, 8)
+    if not 0 <= mode <= 0o777:
+        raise ValueError("no permissions")
+    return mode
+
+
+def words_of(arguments: Sequence[str]) -> argparse.Namespace:
+    parser = argparse.ArgumentParser(prog="python3 -m x509check.party", description=__doc__,
+                                     formatter_class=argparse.RawDescriptionHelpFormatter, allow_abbrev=False)
+    parser.add_argument("--store", required=True, metavar="STORE")
+    parser.add_argument("--verdicts", metavar="VERDICTS")
+    parser.add_argument("--listen", metavar="SOCKET")
+    parser.add_argument("--mode", type=_mode, default=0o600, metavar="MODE")
+    parser.add_argument("--connections", type=_positive, default=64, metavar="N")
+    parser.add_argument("--octets", type=_positive, default=_lines.MOST, metavar="N")
+    parser.add_argument("--seconds", type=_positive, default=30, metavar="SECONDS")
+    words = parser.parse_args(arguments)
+    if words.octets > _lines.MOST:
+        parser.error(f"--octets: a session takes lines of {_lines.MOST} octets at most")
+    return words
+
+
+def _serve(words: argparse.Namespace) -> None:
+    with Party(words.store, words.verdicts, limits=PartyLimits(seconds=words.seconds)) as party:
+        with handed_over() if words.listen is None else listen(words.listen, words.mode) as listening:
+            server = Server(party, listening, words.connections, words.octets, words.seconds)
+            for number in (signal.SIGTERM, signal.SIGINT):
+                signal.signal(number, lambda *_: threading.Thread(target=server.end).start())
+            print("party: listening", file=sys.stderr, flush=True)
+            try:
+                server.serve()
+            finally:
+                if words.listen is not None:
+                    with contextlib.suppress(OSError):
+                        os.unlink(words.listen)
+
+
+def main(arguments: Sequence[str]) -> int:
+    try:
+        words = words_of(arguments)
+    except SystemExit as end:
+        return _WORDS_ARE_NONE if end.code else 0
+    try:
+        _serve(words)
+    except (PartyError, ProgramMissing, OSError) as cause:
+        print(f"party: {cause}", file=sys.stderr)
+        return _FAILED
+    return 0
+
+
+if __name__ == "__main__":
+    sys.exit(main(sys.argv[1:]))
