@@ -120,6 +120,18 @@ pub mod search {
     };
 }
 
+/// Certificate policies (RFC 5280, 4.2.1.4, 4.2.1.5, 4.2.1.11, 4.2.1.14 and 6.1; RFC 9618), for who asks for them.
+///
+/// `validate` looks at none of them, and refuses a path whose certificates carry policyMappings, policyConstraints or inhibitAnyPolicy. Of a
+/// path that it calls good, `policy_certificates` and then `process_policies` say under which policies it is.
+pub mod policies {
+    pub use cert_policies::{PolicyExtensions, PolicyMapping, policy_layout_laws};
+    pub use path_policies::{
+        ANY_POLICY, PolicyCertificate, PolicyOutcome, PolicyQuery, PolicyReason, PolicySets,
+        policy_certificates, process_policies,
+    };
+}
+
 /// The parts of a certificate (RFC 5280, 4.1 and 4.2).
 pub mod certificates {
     pub use cert::{

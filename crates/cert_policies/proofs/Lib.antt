@@ -1,0 +1,18 @@
+mod Saturation
+mod ContainedValues
+mod Places
+mod Numbers
+mod AddedItems
+mod NewPolicies
+mod PoliciesLaws
+mod MappingsLaws
+mod AnyPolicyLaws
+mod ConstraintsLaws
+mod PolicyTypes
+mod FieldRuns
+mod PolicyRuns
+mod TaggedExtensions
+mod PolicyFieldLaws
+mod FaultSteps
+mod PolicyFaults
+pub mod Laws

@@ -1,0 +1,17 @@
+pub mod PolicyExtensions
+pub mod Number
+pub mod CertificatePolicies
+pub mod PolicyMappings
+pub mod PolicyConstraints
+pub mod InhibitAnyPolicy
+pub mod PolicyReading
+pub mod PolicyFields
+pub mod Offsets
+pub use Rattle.asn.specs.DerLaws
+pub use Rattle.asn.specs.Oid
+pub use Rattle.asn.specs.Place
+pub use Rattle.cert.specs.Certificate
+pub use Rattle.cert.specs.CertificateForms
+pub use Rattle.cert.specs.Extension
+pub use Rattle.cert.specs.ExtensionFields
+pub use Rattle.cert.specs.Fault

@@ -1,0 +1,15 @@
+mod Members
+mod Picks
+mod Adding
+mod Counting
+mod Walking
+mod Going
+mod Upward
+mod Same
+mod Reaching
+mod Flags
+mod Validity
+mod Chains
+mod Naming
+mod Ending
+mod Taking

@@ -1,0 +1,14 @@
+pub mod Query
+pub mod Counters
+pub mod Policies
+pub mod Acceptance
+pub mod Sets
+pub mod Lists
+pub mod Reading
+pub mod Seen
+pub mod Steps
+pub mod Walk
+pub mod Outcome
+pub use Rattle.cert_policies.specs.PolicyExtensions
+pub use Rattle.cert.specs.Certificate
+pub use Rattle.cert_policies.specs.PolicyReading
