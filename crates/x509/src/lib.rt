@@ -130,6 +130,7 @@ pub mod policies {
         ANY_POLICY, PolicyCertificate, PolicyOutcome, PolicyQuery, PolicyReason, PolicySets,
         policy_certificates, process_policies,
     };
+    pub use path_policy_tree::tree_laws;
 }
 
 /// The parts of a certificate (RFC 5280, 4.1 and 4.2).

@@ -1,0 +1,17 @@
+mod Counting
+mod Members
+mod Depths
+mod Growing
+mod Known
+mod Traces
+mod Following
+mod Deleting
+mod Mapping
+mod Preparing
+mod Trees
+mod Branching
+mod Lasting
+mod Choosing
+mod Accepting
+mod Success
+mod Pinned
