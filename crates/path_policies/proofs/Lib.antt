@@ -13,3 +13,4 @@ mod Chains
 mod Naming
 mod Ending
 mod Taking
+mod Deciding

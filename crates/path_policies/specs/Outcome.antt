@@ -46,3 +46,16 @@ IsPolicyOutcome q (Good sets) = IsGood q sets
 IsPolicyOutcome q (Bad j NoValidPolicy) = IsFirstUnacceptable q j × ¬ HasRequiredPolicy q j
 IsPolicyOutcome q (Bad j AnyPolicyMapped) = IsFirstUnacceptable q j × (HasRequiredPolicy q j × ¬ MapsNoAny q j)
 IsPolicyOutcome q (Bad j NoUserPolicy) = (j ≡ count q) × (((i : ℕ) → 1 ≤ i → i ≤ j → IsAcceptable q i) × ¬ HasUserPolicy q)
+
+-- laws: a path has one outcome
+
+abbrev pub AreSameOutcome : PolicyOutcome → PolicyOutcome → Type 0
+AreSameOutcome (Good one) (Good other) =
+    (map oid_contents one.authority_constrained.items ≡ map oid_contents other.authority_constrained.items)
+    × (map oid_contents one.user_constrained.items ≡ map oid_contents other.user_constrained.items)
+AreSameOutcome (Good one) (Bad j reason) = ⊥
+AreSameOutcome (Bad i reason) (Good other) = ⊥
+AreSameOutcome (Bad i one) (Bad j other) = (i ≡ j) × (one ≡ other)
+
+abbrev pub PolicyOutcomeIsOne : Type 0
+PolicyOutcomeIsOne = (q : PolicyQuery) (one other : PolicyOutcome) → IsPolicyOutcome q one → IsPolicyOutcome q other → AreSameOutcome one other

@@ -15,6 +15,6 @@ mod reason;
 mod walk;
 
 pub use policy::ANY_POLICY;
-pub use processing::process_policies;
+pub use processing::{policy_outcome_laws, process_policies};
 pub use query::{PolicyCertificate, PolicyQuery, policy_certificates};
 pub use reason::{PolicyOutcome, PolicyReason, PolicySets};

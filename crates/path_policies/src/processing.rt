@@ -1,7 +1,7 @@
 //! The processing of the policies of a path (RFC 5280, 6.1).
 
 ghost use Rattle.std.specs.Prelude.{◌≡◌, ◌<◌, ℕ, length, IfOk};
-ghost use Rattle.path_policies.specs.Outcome.{IsPolicyOutcome};
+ghost use Rattle.path_policies.specs.Outcome.{IsPolicyOutcome, PolicyOutcomeIsOne};
 ghost use Rattle.path_policies.specs.Seen.{seen_query, inhibitions_in};
 ghost use Rattle.path_policies.specs.Steps.{inhibitions_behind};
 ghost use Rattle.path_policies.specs.Walk.{HasWalked};
@@ -60,3 +60,8 @@ pub fn process_policies<'c>(
         Walk::Ended(firsts, valid) => end(alloc, query, each.as_slice(), firsts.as_slice(), &valid),
     }
 }
+
+/// A path has one outcome: the same sets in the same order, or the same certificate and reason.
+pub fn policy_outcome_laws()
+    ensures { PolicyOutcomeIsOne }
+{}

@@ -128,7 +128,7 @@ pub mod policies {
     pub use cert_policies::{PolicyExtensions, PolicyMapping, policy_layout_laws};
     pub use path_policies::{
         ANY_POLICY, PolicyCertificate, PolicyOutcome, PolicyQuery, PolicyReason, PolicySets,
-        policy_certificates, process_policies,
+        policy_certificates, policy_outcome_laws, process_policies,
     };
     pub use path_policy_tree::tree_laws;
 }
