@@ -27,16 +27,19 @@ fn row_of(row: &str) -> Row<'_> {
 
 #[test]
 fn each_row_has_its_answer(rt: HostRuntime) -> Result<(), Fail> {
-    let mut count = 0;
     for rows in [ROWS, RANDOM_ROWS, MORE_ROWS] {
         for line in rows.lines().filter(|line| line.contains(';')) {
             let row = row_of(line);
             let answer = answer_to(rt.alloc(), row.inputs, row.certificates);
             let answer = answer.map_err(|_| "an answer")?;
             assert_eq!(rt; answer.as_str(), row.wanted, "{}", row.name);
-            count += 1;
         }
     }
-    assert_eq!(rt; count, 705);
     Ok(())
+}
+
+#[test]
+fn no_row_is_lost(rt: HostRuntime) {
+    let count = |rows: &str| rows.lines().filter(|line| line.contains(';')).count();
+    assert_eq!(rt; [ROWS, RANDOM_ROWS, MORE_ROWS].map(count), [305, 200, 200]);
 }
