@@ -207,6 +207,8 @@ class OfCertificates(InFolder):
 
     def setUp(self):
         super().setUp()
+        # (its responses are made by a process each)
+        self.client = Client(HttpLimits(seconds=30, octets=100_000), allow_private=True)
         self.made = Authority(self.folder)
         self.made.root()
 
