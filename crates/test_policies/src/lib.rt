@@ -7,6 +7,8 @@ mod asking;
 #[cfg(test)]
 mod by_hand;
 #[cfg(test)]
+mod hostile;
+#[cfg(test)]
 mod processing;
 #[cfg(test)]
 mod random;
