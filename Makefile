@@ -62,7 +62,7 @@ help:
 	@echo 'make                      the program and the library for C from dist/ (or what make build made), and the shared object for Python'
 	@echo 'make build                proves and builds them from the sources, by the Rattle kit: an hour'
 	@echo 'make prove                proves all and tries what must be refused: from nothing some 240 minutes of a processor'
-	@echo 'make check                tries the program, the library and the bindings, as users have them, in some four minutes; proves nothing'
+	@echo 'make check                tries the program, the library and the bindings, as users have them, in some two minutes; proves nothing'
 	@echo 'make install PREFIX=/usr/local DESTDIR='
 	@echo '                          bin/x509check, lib/libx509check.a, include/x509check.h, lib/x509check/libx509check.so,'
 	@echo '                          libexec/x509check/verdicts, validate, to_der and fetch, share/x509check/python, openssl, rust,'
