@@ -746,7 +746,7 @@ class Verdicts(WithStandIn):
 
 class Fuzzing(unittest.TestCase):
     def test_some_seconds(self) -> None:
-        counts: Dict[str, int] = fuzz_signatures.fuzz(signed().questions(), seconds=2, seed=1)
+        counts: Dict[str, int] = fuzz_signatures.fuzz(signed().questions(), seconds=6, seed=1)
         for said in ("good", "wrong", "not served"):
             self.assertGreater(counts[said], 10)
 
