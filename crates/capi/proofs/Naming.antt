@@ -94,6 +94,9 @@ names_of_ranks reason.CriticalUnknown = refl
 names_of_ranks reason.Purpose = refl
 names_of_ranks reason.Empty = refl
 names_of_ranks reason.TooLong = refl
+names_of_ranks reason.NoValidPolicy = refl
+names_of_ranks reason.AnyPolicyMapped = refl
+names_of_ranks reason.NoUserPolicy = refl
 
 -- ---- a zero behind a name
 

@@ -109,6 +109,9 @@ rank_name number =
     if number == 14 then codes "Purpose" else
     if number == 15 then codes "Empty" else
     if number == 16 then codes "TooLong" else
+    if number == 17 then codes "NoValidPolicy" else
+    if number == 18 then codes "AnyPolicyMapped" else
+    if number == 19 then codes "NoUserPolicy" else
     []
 
 abbrev pub NamesAreOfRanks : Type 0

@@ -98,6 +98,9 @@ fn rank_name(number: u32) -> &'static str
         14 => "Purpose",
         15 => "Empty",
         16 => "TooLong",
+        17 => "NoValidPolicy",
+        18 => "AnyPolicyMapped",
+        19 => "NoUserPolicy",
         _ => "",
     }
 }

@@ -1,6 +1,6 @@
 -- What is known of stores on files of the system, by what these held as they were opened. No clause of the kit names files by their path: the
 -- image is that of the one pair of files that `Start` stands for.
-use Rattle.std.specs.Prelude.{◌≡◌, ◌⊎◌, [], ⊤}
+use Rattle.std.specs.Prelude.{◌≡◌, ◌⊎◌, ⊤}
 use Rattle.sqlite_disk.specs.declared.Disk.{Ghosts}
 use Rattle.sqlite_store.specs.declared.store.FileStore.{FileStore}
 use Rattle.sqlite_wal.specs.Recovery.{Image}
@@ -43,10 +43,6 @@ places_on image = record {
   leaves = λ path seen. ⊤;
   lasts = λ path left. ⊤;
 }
-
--- what `Unknown` says of files, in place of all that they may hold
-abbrev pub nothing_held : Image
-nothing_held = record { log = []; db = [] }
 
 -- ---- connections
 

@@ -282,7 +282,8 @@ pub(crate) fn open_or_make_at<'a, S: Start>(
 
 /// The system's files, at `Unknown`.
 impl Stores<Store<File>> for HostRuntime {
-    ghost use Rattle.cli_store.specs.OnFiles.{nothing_held, places_on};
+    ghost use Rattle.store.specs.Opens.{nothing_held};
+    ghost use Rattle.cli_store.specs.OnFiles.{places_on};
 
     ghost places = { λ _. places_on nothing_held };
 

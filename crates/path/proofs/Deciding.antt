@@ -15,7 +15,7 @@ use Rattle.cert.specs.Certificate.{Certificate, is_self_issued, seen_certificate
 use Rattle.cert.specs.declared.certificate.Certificate as code
 use Rattle.path_conditions.specs.declared.form_set.FormSet.{FormSet}
 use Rattle.path.specs.declared.reason.Reason.{Reason}
-use Rattle.path.specs.declared.reason.Reason.TheVariants.{Repeated, Signature, NotYet, Expired, Issuer, NotPermitted, Excluded, ConstraintForm, NotCa, PathLength, KeyCertSign, Policy, CriticalUnknown, Purpose, Empty, TooLong}
+use Rattle.path.specs.declared.reason.Reason.TheVariants.{Repeated, Signature, NotYet, Expired, Issuer, NotPermitted, Excluded, ConstraintForm, NotCa, PathLength, KeyCertSign, Policy, CriticalUnknown, Purpose, Empty, TooLong, NoValidPolicy, AnyPolicyMapped, NoUserPolicy}
 use Rattle.path.specs.Query.{Query, Accepts, count, certificate_numbered}
 use Rattle.path_conditions.specs.NamesOf.{names_of, BearsForm}
 use Rattle.path.specs.Reason.{reason_rank}
@@ -158,7 +158,7 @@ module _ (laws : Laws) (q : Query) (k : ℕ) (issuer : NameContents) (key : List
 -- reasons by rank
 
 reasons : List Reason
-reasons = Empty ∷ Repeated ∷ Signature ∷ NotYet ∷ Expired ∷ Issuer ∷ NotPermitted ∷ Excluded ∷ ConstraintForm ∷ NotCa ∷ PathLength ∷ KeyCertSign ∷ Policy ∷ CriticalUnknown ∷ Purpose ∷ Empty ∷ TooLong ∷ []
+reasons = Empty ∷ Repeated ∷ Signature ∷ NotYet ∷ Expired ∷ Issuer ∷ NotPermitted ∷ Excluded ∷ ConstraintForm ∷ NotCa ∷ PathLength ∷ KeyCertSign ∷ Policy ∷ CriticalUnknown ∷ Purpose ∷ Empty ∷ TooLong ∷ NoValidPolicy ∷ AnyPolicyMapped ∷ NoUserPolicy ∷ []
 
 of_rank_is : (s : Reason) → get_or reasons (reason_rank s) Empty ≡ s
 unfolding reasons
@@ -178,6 +178,9 @@ of_rank_is CriticalUnknown = refl
 of_rank_is Purpose = refl
 of_rank_is Empty = refl
 of_rank_is TooLong = refl
+of_rank_is NoValidPolicy = refl
+of_rank_is AnyPolicyMapped = refl
+of_rank_is NoUserPolicy = refl
 
 pub same_rank : (s t : Reason) → reason_rank s ≡ reason_rank t → s ≡ t
 same_rank s t e = sym (of_rank_is s) ∙ (ap (λ n. get_or reasons n Empty) e ∙ of_rank_is t)
@@ -210,6 +213,9 @@ meets_all accepts q j h CriticalUnknown = h CriticalUnknown (omega arith)
 meets_all accepts q j h Purpose = h Purpose (omega arith)
 meets_all accepts q j h Empty = tt
 meets_all accepts q j h TooLong = tt
+meets_all accepts q j h NoValidPolicy = tt
+meets_all accepts q j h AnyPolicyMapped = tt
+meets_all accepts q j h NoUserPolicy = tt
 
 low_rank : (s : Reason) → 1 ≤ reason_rank s
 low_rank Repeated = omega arith
@@ -228,6 +234,9 @@ low_rank CriticalUnknown = omega arith
 low_rank Purpose = omega arith
 low_rank Empty = omega arith
 low_rank TooLong = omega arith
+low_rank NoValidPolicy = omega arith
+low_rank AnyPolicyMapped = omega arith
+low_rank NoUserPolicy = omega arith
 
 pub meets_none : (accepts : Accepts) (q : Query) (j : ℕ) → MeetsBelow accepts q j 1
 meets_none accepts q j s h = let low = low_rank s in absurd (omega arith)

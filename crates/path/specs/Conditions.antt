@@ -9,7 +9,7 @@ use Rattle.names.specs.DistinguishedName.{NamesMatch}
 use Rattle.cert.specs.Certificate.{Certificate, is_self_issued}
 use Rattle.cert.specs.NameConstraints.{NameConstraints}
 use Rattle.path.specs.declared.reason.Reason.{Reason}
-use Rattle.path.specs.declared.reason.Reason.TheVariants.{Repeated, Signature, NotYet, Expired, Issuer, NotPermitted, Excluded, ConstraintForm, NotCa, PathLength, KeyCertSign, Policy, CriticalUnknown, Purpose, Empty, TooLong}
+use Rattle.path.specs.declared.reason.Reason.TheVariants.{Repeated, Signature, NotYet, Expired, Issuer, NotPermitted, Excluded, ConstraintForm, NotCa, PathLength, KeyCertSign, Policy, CriticalUnknown, Purpose, Empty, TooLong, NoValidPolicy, AnyPolicyMapped, NoUserPolicy}
 use Rattle.path.specs.Query.{Query, Accepts, count, certificate_numbered}
 use Rattle.path_conditions.specs.NamesOf.{names_of, BearsForm, Permits, Excludes, Constrains}
 use Rattle.path_conditions.specs.CertificateConditions.{HasBegun, HasNotExpired, IsCa, path_length_of, MaySignCertificates, NeedsNoPolicyTree, CriticalExtensionsAreKnown, AllowsPurpose}
@@ -79,6 +79,9 @@ MeetsCondition accepts q j CriticalUnknown = CriticalExtensionsAreKnown (certifi
 MeetsCondition accepts q j Purpose = j ≡ count q → AllowsPurpose (certificate_numbered q j) q.purpose
 MeetsCondition accepts q j Empty = Unit {0}
 MeetsCondition accepts q j TooLong = Unit {0}
+MeetsCondition accepts q j NoValidPolicy = Unit {0}
+MeetsCondition accepts q j AnyPolicyMapped = Unit {0}
+MeetsCondition accepts q j NoUserPolicy = Unit {0}
 
 abbrev pub MeetsConditions : Accepts → Query → ℕ → Type 0
 MeetsConditions accepts q j = (reason : Reason) → MeetsCondition accepts q j reason

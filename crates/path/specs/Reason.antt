@@ -1,7 +1,7 @@
 -- Why a path is refused, by rank.
 use Rattle.std.specs.Prelude.{ℕ, List, codes}
 use Rattle.path.specs.declared.reason.Reason.{Reason}
-use Rattle.path.specs.declared.reason.Reason.TheVariants.{Repeated, Signature, NotYet, Expired, Issuer, NotPermitted, Excluded, ConstraintForm, NotCa, PathLength, KeyCertSign, Policy, CriticalUnknown, Purpose, Empty, TooLong}
+use Rattle.path.specs.declared.reason.Reason.TheVariants.{Repeated, Signature, NotYet, Expired, Issuer, NotPermitted, Excluded, ConstraintForm, NotCa, PathLength, KeyCertSign, Policy, CriticalUnknown, Purpose, Empty, TooLong, NoValidPolicy, AnyPolicyMapped, NoUserPolicy}
 
 abbrev pub reason_rank : Reason → ℕ
 reason_rank Repeated = 1
@@ -20,6 +20,9 @@ reason_rank CriticalUnknown = 13
 reason_rank Purpose = 14
 reason_rank Empty = 15
 reason_rank TooLong = 16
+reason_rank NoValidPolicy = 17
+reason_rank AnyPolicyMapped = 18
+reason_rank NoUserPolicy = 19
 
 abbrev pub reason_name : Reason → List ℕ
 reason_name Repeated = codes "Repeated"
@@ -38,3 +41,6 @@ reason_name CriticalUnknown = codes "CriticalUnknown"
 reason_name Purpose = codes "Purpose"
 reason_name Empty = codes "Empty"
 reason_name TooLong = codes "TooLong"
+reason_name NoValidPolicy = codes "NoValidPolicy"
+reason_name AnyPolicyMapped = codes "AnyPolicyMapped"
+reason_name NoUserPolicy = codes "NoUserPolicy"

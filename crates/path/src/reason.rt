@@ -57,10 +57,19 @@ pub enum Reason {
     /// The path has more than 128 certificates.
     #[error("too many certificates")]
     TooLong,
+    /// A policy is required, and none is valid (6.1.3 (f)). This reason and those behind it are for who asks for policies.
+    #[error("a policy is required, and none is valid")]
+    NoValidPolicy,
+    /// anyPolicy is mapped, or mapped to (6.1.4 (a)).
+    #[error("anyPolicy is mapped")]
+    AnyPolicyMapped,
+    /// A policy is required at the end, and none that the user takes is valid (6.1.5 (g)).
+    #[error("a policy is required, and none of the user's is valid")]
+    NoUserPolicy,
 }
 
 impl Reason {
-    /// The number by which the product names the reason, from 1 to 16.
+    /// The number by which the product names the reason, from 1 to 19.
     pub fn rank(self) -> u8
         ensures { result ≡ reason_rank self }
     {
@@ -81,6 +90,9 @@ impl Reason {
             Reason::Purpose => 14,
             Reason::Empty => 15,
             Reason::TooLong => 16,
+            Reason::NoValidPolicy => 17,
+            Reason::AnyPolicyMapped => 18,
+            Reason::NoUserPolicy => 19,
         }
     }
 
@@ -105,6 +117,9 @@ impl Reason {
             Reason::Purpose => "Purpose",
             Reason::Empty => "Empty",
             Reason::TooLong => "TooLong",
+            Reason::NoValidPolicy => "NoValidPolicy",
+            Reason::AnyPolicyMapped => "AnyPolicyMapped",
+            Reason::NoUserPolicy => "NoUserPolicy",
         }
     }
 }

@@ -290,6 +290,7 @@ impl<'p, 'c, V: Verifier> State<'p, 'c, V> {
             Reason::CriticalUnknown => are_critical_extensions_known(certificate),
             Reason::Purpose => !self.is_last() || allows_purpose(certificate, self.purpose),
             Reason::Empty | Reason::TooLong => true,
+            Reason::NoValidPolicy | Reason::AnyPolicyMapped | Reason::NoUserPolicy => true,
         }
     }
 

@@ -5,7 +5,7 @@ use Rattle.std.proofs.lemmas.List.Sums.{sum_by-take-le}
 use Rattle.cert.specs.Certificate.{Certificate, is_self_issued}
 use Rattle.cert.specs.NameConstraints.{NameConstraints}
 use Rattle.path_conditions.specs.CertificateConditions.{HasBegun, HasNotExpired, IsCa, path_length_of, MaySignCertificates, NeedsNoPolicyTree, CriticalExtensionsAreKnown, AllowsPurpose}
-use Rattle.path.specs.declared.reason.Reason.TheVariants.{Repeated, Signature, NotYet, Expired, Issuer, NotPermitted, Excluded, ConstraintForm, NotCa, PathLength, KeyCertSign, Policy, CriticalUnknown, Purpose, Empty, TooLong}
+use Rattle.path.specs.declared.reason.Reason.TheVariants.{Repeated, Signature, NotYet, Expired, Issuer, NotPermitted, Excluded, ConstraintForm, NotCa, PathLength, KeyCertSign, Policy, CriticalUnknown, Purpose, Empty, TooLong, NoValidPolicy, AnyPolicyMapped, NoUserPolicy}
 use Rattle.path.specs.Query.{Accepts, Query, count, certificate_numbered}
 use Rattle.path.specs.Conditions.{IsSignedByIssuer, IsNamedByIssuer, AreNamesChecked, MeetsConditions, others_between}
 use Rattle.path_issuers.specs.Factors.{IsRightAlone, IsRightAsAuthority, Issues, IssuesFirst, PermitNames, ExcludeNoName, ConstrainNoOtherForm, AdmitNames, AdmitNamesBelow, others_above_target, IsRightAbove, AreRight, ValidPathFactors, TailIsRight}
@@ -73,6 +73,9 @@ module _ (accepts : Accepts) (moment : ℤ) (purpose : Option (List ℕ)) where
     meets_next meets Purpose = λ last. next_alone (λ x. AllowsPurpose x purpose) (meets Purpose (omega arith))
     meets_next meets Empty = tt
     meets_next meets TooLong = tt
+    meets_next meets NoValidPolicy = tt
+    meets_next meets AnyPolicyMapped = tt
+    meets_next meets NoUserPolicy = tt
 
     meets_with : MeetsConditions accepts whole (suc j) → MeetsWith c rest j
     meets_with meets = record {
@@ -109,6 +112,9 @@ module _ (accepts : Accepts) (moment : ℤ) (purpose : Option (List ℕ)) where
     meets_before first meets Purpose = λ last. before_alone (λ x. AllowsPurpose x purpose) (meets Purpose (omega arith))
     meets_before first meets Empty = tt
     meets_before first meets TooLong = tt
+    meets_before first meets NoValidPolicy = tt
+    meets_before first meets AnyPolicyMapped = tt
+    meets_before first meets NoUserPolicy = tt
 
   -- names, by number and along the list
 
@@ -195,6 +201,9 @@ module _ (accepts : Accepts) (moment : ℤ) (purpose : Option (List ℕ)) where
   meets_alone a c cs issued alone authority allowed Purpose = allowed
   meets_alone a c cs issued alone authority allowed Empty = tt
   meets_alone a c cs issued alone authority allowed TooLong = tt
+  meets_alone a c cs issued alone authority allowed NoValidPolicy = tt
+  meets_alone a c cs issued alone authority allowed AnyPolicyMapped = tt
+  meets_alone a c cs issued alone authority allowed NoUserPolicy = tt
 
   -- the whole path
 

@@ -10,7 +10,7 @@ use Rattle.cert.specs.NameConstraints.{NameConstraints}
 use Rattle.path.specs.Query.{Accepts}
 use Rattle.path.specs.Conditions.{IsNamedByIssuer, IsSignedByIssuer}
 use Rattle.path.specs.declared.reason.Reason.{Reason}
-use Rattle.path.specs.declared.reason.Reason.TheVariants.{Repeated, Signature, NotYet, Expired, Issuer, NotPermitted, Excluded, ConstraintForm, NotCa, PathLength, KeyCertSign, Policy, CriticalUnknown, Purpose, Empty, TooLong}
+use Rattle.path.specs.declared.reason.Reason.TheVariants.{Repeated, Signature, NotYet, Expired, Issuer, NotPermitted, Excluded, ConstraintForm, NotCa, PathLength, KeyCertSign, Policy, CriticalUnknown, Purpose, Empty, TooLong, NoValidPolicy, AnyPolicyMapped, NoUserPolicy}
 use Rattle.path_issuers.specs.Search.{Search, path_down_to}
 use Rattle.path_issuers.specs.Factors.{AdmitNames, AdmitNamesBelow, ConstrainNoOtherForm, ExcludeNoName, HoldsOfNamed, IsRightAbove, Issues, PermitNames}
 use Rattle.path_issuers.specs.Asking.{ArePicked}
@@ -47,6 +47,9 @@ meets_as_target s right CriticalUnknown = right.alone.known
 meets_as_target s right Purpose = right.allowed
 meets_as_target s right Empty = tt
 meets_as_target s right TooLong = tt
+meets_as_target s right NoValidPolicy = tt
+meets_as_target s right AnyPolicyMapped = tt
+meets_as_target s right NoUserPolicy = tt
 
 pub target_factors : TargetFactors
 target_factors s = (
@@ -140,6 +143,9 @@ module _ (accepts : Accepts) (s : Search) (above : List ℕ) where
   meets_if_right place room right issues Purpose = tt
   meets_if_right place room right issues Empty = tt
   meets_if_right place room right issues TooLong = room
+  meets_if_right place room right issues NoValidPolicy = tt
+  meets_if_right place room right issues AnyPolicyMapped = tt
+  meets_if_right place room right issues NoUserPolicy = tt
 
   pub meets_in_tail : (place : ℕ) → IsTail accepts s (above ++ place ∷ []) → MeetsEach (Meets place)
   meets_in_tail place tail =

@@ -3,12 +3,12 @@ use Rattle.std.proofs.Common.{◌≡◌, ◌↔◌, ◌+◌, ◌<◌, ◌≤◌,
 use Rattle.std.proofs.lemmas.Bool.{cases_order}
 use Rattle.cert.specs.Certificate.{Certificate}
 use Rattle.path.specs.declared.reason.Reason.{Reason}
-use Rattle.path.specs.declared.reason.Reason.TheVariants.{Repeated, Signature, NotYet, Expired, Issuer, NotPermitted, Excluded, ConstraintForm, NotCa, PathLength, KeyCertSign, Policy, CriticalUnknown, Purpose, Empty, TooLong}
+use Rattle.path.specs.declared.reason.Reason.TheVariants.{Repeated, Signature, NotYet, Expired, Issuer, NotPermitted, Excluded, ConstraintForm, NotCa, PathLength, KeyCertSign, Policy, CriticalUnknown, Purpose, Empty, TooLong, NoValidPolicy, AnyPolicyMapped, NoUserPolicy}
 use Rattle.path.specs.Reason.{reason_rank}
 use Rattle.path_search.specs.WhyNot.{IsFirstUnmet, MeetsAbove, MeetsEach}
 
 abbrev pub by_rank : List Reason
-by_rank = Repeated ∷ Signature ∷ NotYet ∷ Expired ∷ Issuer ∷ NotPermitted ∷ Excluded ∷ ConstraintForm ∷ NotCa ∷ PathLength ∷ KeyCertSign ∷ Policy ∷ CriticalUnknown ∷ Purpose ∷ Empty ∷ TooLong ∷ []
+by_rank = Repeated ∷ Signature ∷ NotYet ∷ Expired ∷ Issuer ∷ NotPermitted ∷ Excluded ∷ ConstraintForm ∷ NotCa ∷ PathLength ∷ KeyCertSign ∷ Policy ∷ CriticalUnknown ∷ Purpose ∷ Empty ∷ TooLong ∷ NoValidPolicy ∷ AnyPolicyMapped ∷ NoUserPolicy ∷ []
 
 reasons : List Reason
 reasons = Empty ∷ by_rank
@@ -31,12 +31,15 @@ of_rank_is CriticalUnknown = refl
 of_rank_is Purpose = refl
 of_rank_is Empty = refl
 of_rank_is TooLong = refl
+of_rank_is NoValidPolicy = refl
+of_rank_is AnyPolicyMapped = refl
+of_rank_is NoUserPolicy = refl
 
 same_rank : (s t : Reason) → reason_rank s ≡ reason_rank t → s ≡ t
 same_rank s t e = sym (of_rank_is s) ∙ (ap (λ n. get_or reasons n Empty) e ∙ of_rank_is t)
 
 abbrev IsRank : ℕ → Type 0
-IsRank n = (1 ≤ n) × (n ≤ 16)
+IsRank n = (1 ≤ n) × (n ≤ 19)
 
 rank_within : (s : Reason) → IsRank (reason_rank s)
 rank_within Repeated = (omega arith, omega arith)
@@ -55,6 +58,9 @@ rank_within CriticalUnknown = (omega arith, omega arith)
 rank_within Purpose = (omega arith, omega arith)
 rank_within Empty = (omega arith, omega arith)
 rank_within TooLong = (omega arith, omega arith)
+rank_within NoValidPolicy = (omega arith, omega arith)
+rank_within AnyPolicyMapped = (omega arith, omega arith)
+rank_within NoUserPolicy = (omega arith, omega arith)
 
 -- reasons in the order of their ranks
 abbrev Ascend : ℕ → List Reason → Type 0
@@ -66,9 +72,9 @@ rank_at n [] i d up h = absurd (omega arith)
 rank_at n (r ∷ rs) zero d up h = omega (arith, up.0)
 rank_at n (r ∷ rs) (suc i) d up h = omega (arith, rank_at (n + 1) rs i d up.1 (omega arith))
 
-pub rank_by_rank : (i : ℕ) → i < 16 → reason_rank (get_or by_rank i Repeated) ≡ i + 1
+pub rank_by_rank : (i : ℕ) → i < 19 → reason_rank (get_or by_rank i Repeated) ≡ i + 1
 rank_by_rank i h =
-    let up : Ascend 1 by_rank = (refl, (refl, (refl, (refl, (refl, (refl, (refl, (refl, (refl, (refl, (refl, (refl, (refl, (refl, (refl, (refl, tt)))))))))))))))) in
+    let up : Ascend 1 by_rank = (refl, (refl, (refl, (refl, (refl, (refl, (refl, (refl, (refl, (refl, (refl, (refl, (refl, (refl, (refl, (refl, (refl, (refl, (refl, tt))))))))))))))))))) in
     omega (arith, rank_at 1 by_rank i Repeated up h)
 
 module _ (Meets : Reason → Type 0) where
@@ -86,7 +92,7 @@ module _ (Meets : Reason → Type 0) where
         | inr o ↦ elim o [ inl below ↦ before s below | inr above ↦ absurd (omega arith) ]
       ]
 
-  pub meets_all : MeetsBelow 17 → MeetsEach Meets
+  pub meets_all : MeetsBelow 20 → MeetsEach Meets
   meets_all below s = below s (let high = (rank_within s).1 in omega arith)
 
 -- the same of conditions that are as strong
@@ -113,6 +119,9 @@ module _ (A B : Type 0) (f : A → B) (moment : ℤ) (c : Certificate) (below : 
   meets_by Purpose met = met
   meets_by Empty met = met
   meets_by TooLong met = met
+  meets_by NoValidPolicy met = met
+  meets_by AnyPolicyMapped met = met
+  meets_by NoUserPolicy met = met
 
 -- the first one by the answers to a question that is as strong
 pub unmet_by : (A B : Type 0) → A ↔ B → (moment : ℤ) (c : Certificate) (below : List Certificate) (unmet : Option Reason)

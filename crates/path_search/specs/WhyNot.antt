@@ -5,7 +5,7 @@ use Rattle.std.specs.List.Sorted.{IsStrictlyIncreasing}
 use Rattle.cert.specs.Certificate.{Certificate}
 use Rattle.path_conditions.specs.CertificateConditions.{HasBegun, HasNotExpired, IsCa, MaySignCertificates, NeedsNoPolicyTree, CriticalExtensionsAreKnown, AllowsPurpose}
 use Rattle.path.specs.declared.reason.Reason.{Reason}
-use Rattle.path.specs.declared.reason.Reason.TheVariants.{Repeated, Signature, NotYet, Expired, Issuer, NotPermitted, Excluded, ConstraintForm, NotCa, PathLength, KeyCertSign, Policy, CriticalUnknown, Purpose, Empty, TooLong}
+use Rattle.path.specs.declared.reason.Reason.TheVariants.{Repeated, Signature, NotYet, Expired, Issuer, NotPermitted, Excluded, ConstraintForm, NotCa, PathLength, KeyCertSign, Policy, CriticalUnknown, Purpose, Empty, TooLong, NoValidPolicy, AnyPolicyMapped, NoUserPolicy}
 use Rattle.path.specs.Conditions.{IsNamedByIssuer, IsSignedByIssuer}
 use Rattle.path.specs.Query.{Accepts}
 use Rattle.path.specs.Reason.{reason_rank}
@@ -52,6 +52,9 @@ MeetsAsTarget moment purpose c PathLength = Unit {0}
 MeetsAsTarget moment purpose c KeyCertSign = Unit {0}
 MeetsAsTarget moment purpose c Empty = Unit {0}
 MeetsAsTarget moment purpose c TooLong = Unit {0}
+MeetsAsTarget moment purpose c NoValidPolicy = Unit {0}
+MeetsAsTarget moment purpose c AnyPolicyMapped = Unit {0}
+MeetsAsTarget moment purpose c NoUserPolicy = Unit {0}
 
 -- The condition whose breach is the reason, on a certificate above others that are in order down to a target, of which the first one
 -- names it as its issuer; `Signed` says that its key accepts the signature of that one. A validation that fails for Repeated, Signature,
@@ -74,6 +77,9 @@ MeetsAbove Signed moment c below Purpose = Unit {0}
 MeetsAbove Signed moment c below Empty = Unit {0}
 -- a path has at most 128 certificates (a choice of the profile)
 MeetsAbove Signed moment c below TooLong = length below < 128
+MeetsAbove Signed moment c below NoValidPolicy = Unit {0}
+MeetsAbove Signed moment c below AnyPolicyMapped = Unit {0}
+MeetsAbove Signed moment c below NoUserPolicy = Unit {0}
 
 -- the certificate at the top of a tail
 abbrev pub top_certificate : Search → List ℕ → Certificate

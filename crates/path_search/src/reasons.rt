@@ -15,7 +15,7 @@ use path_conditions::{
 use path_issuers::Search;
 
 /// All reasons, by rank.
-const REASONS: [Reason; 16] = [
+const REASONS: [Reason; 19] = [
     Reason::Repeated,
     Reason::Signature,
     Reason::NotYet,
@@ -32,6 +32,9 @@ const REASONS: [Reason; 16] = [
     Reason::Purpose,
     Reason::Empty,
     Reason::TooLong,
+    Reason::NoValidPolicy,
+    Reason::AnyPolicyMapped,
+    Reason::NoUserPolicy,
 ];
 
 /// Whether the target meets, by itself, the condition whose breach is the reason.
@@ -89,6 +92,7 @@ impl<'p, 'c> Authority<'p, 'c> {
             Reason::CriticalUnknown => are_critical_extensions_known(self.certificate),
             Reason::TooLong => tail.above.len() < 127,
             Reason::Issuer | Reason::Purpose | Reason::Empty => true,
+            Reason::NoValidPolicy | Reason::AnyPolicyMapped | Reason::NoUserPolicy => true,
         }
     }
 

@@ -2,7 +2,7 @@
 use Rattle.std.proofs.Common.{◌≡◌, ◌<◌, arith, lit≤, refl, sym, subst, inr, true≢false}
 use Rattle.path.specs.declared.reason.Outcome.TheVariants.{Good, Bad}
 use Rattle.path.specs.declared.reason.Reason.{Reason}
-use Rattle.path.specs.declared.reason.Reason.TheVariants.{Repeated, Signature, NotYet, Expired, Issuer, NotPermitted, Excluded, ConstraintForm, NotCa, PathLength, KeyCertSign, Policy, CriticalUnknown, Purpose, Empty, TooLong}
+use Rattle.path.specs.declared.reason.Reason.TheVariants.{Repeated, Signature, NotYet, Expired, Issuer, NotPermitted, Excluded, ConstraintForm, NotCa, PathLength, KeyCertSign, Policy, CriticalUnknown, Purpose, Empty, TooLong, NoValidPolicy, AnyPolicyMapped, NoUserPolicy}
 use Rattle.path.specs.Reason.{reason_rank}
 use Rattle.path.specs.Conditions.{MeetsCondition, MeetsConditions}
 use Rattle.path.specs.Validity.{IsServed, IsOutcome}
@@ -28,6 +28,9 @@ meets CriticalUnknown = refl
 meets Purpose = λ last. tt
 meets Empty = tt
 meets TooLong = tt
+meets NoValidPolicy = tt
+meets AnyPolicyMapped = tt
+meets NoUserPolicy = tt
 
 pub path_is_valid : IsOutcome accepts_all query Good
 path_is_valid = record {
@@ -52,6 +55,9 @@ only_repeated CriticalUnknown below = absurd (omega arith)
 only_repeated Purpose below = absurd (omega arith)
 only_repeated Empty below = absurd (omega arith)
 only_repeated TooLong below = absurd (omega arith)
+only_repeated NoValidPolicy below = absurd (omega arith)
+only_repeated AnyPolicyMapped below = absurd (omega arith)
+only_repeated NoUserPolicy below = absurd (omega arith)
 
 pub signature_is_denied : IsOutcome accepts_none query (Bad 1 Signature)
 signature_is_denied = inr (record {

@@ -2,7 +2,7 @@
 use Rattle.std.proofs.Common.{◌≡◌, inl, inr, ℕ, zero, suc, ◌-◌, ◌<◌, ◌≤◌, List, [], ◌∷◌, length, map, slice_index_or, arith, sym, ◌∙◌, subst}
 use Rattle.cert.specs.Certificate.{Certificate}
 use Rattle.path.specs.declared.reason.Reason.{Reason}
-use Rattle.path.specs.declared.reason.Reason.TheVariants.{Repeated, Signature, NotYet, Expired, Issuer, NotPermitted, Excluded, ConstraintForm, NotCa, PathLength, KeyCertSign, Policy, CriticalUnknown, Purpose, Empty, TooLong}
+use Rattle.path.specs.declared.reason.Reason.TheVariants.{Repeated, Signature, NotYet, Expired, Issuer, NotPermitted, Excluded, ConstraintForm, NotCa, PathLength, KeyCertSign, Policy, CriticalUnknown, Purpose, Empty, TooLong, NoValidPolicy, AnyPolicyMapped, NoUserPolicy}
 use Rattle.path.specs.declared.reason.Outcome.{Outcome}
 use Rattle.path.specs.declared.reason.Outcome.TheVariants.{Good, Bad}
 use Rattle.path.specs.Query.{Query, Accepts, count, certificate_numbered}
@@ -52,6 +52,9 @@ condition_alike accepts other q alike j from to CriticalUnknown is = is
 condition_alike accepts other q alike j from to Purpose is = is
 condition_alike accepts other q alike j from to Empty is = is
 condition_alike accepts other q alike j from to TooLong is = is
+condition_alike accepts other q alike j from to NoValidPolicy is = is
+condition_alike accepts other q alike j from to AnyPolicyMapped is = is
+condition_alike accepts other q alike j from to NoUserPolicy is = is
 
 first_broken_alike : (accepts other : Accepts) (q : Query) → Alike accepts other (asked_of_path q) → (j : ℕ) (reason : Reason)
     → IsFirstBroken accepts q j reason → IsFirstBroken other q j reason

@@ -7,7 +7,7 @@ use Rattle.cert.specs.Certificate.{Certificate}
 use Rattle.path.specs.Conditions.{IsNamedByIssuer, IsSignedByIssuer}
 use Rattle.path.specs.Query.{Accepts}
 use Rattle.path.specs.declared.reason.Reason.{Reason}
-use Rattle.path.specs.declared.reason.Reason.TheVariants.{Repeated, Signature, NotYet, Expired, Issuer, NotPermitted, Excluded, ConstraintForm, NotCa, PathLength, KeyCertSign, Policy, CriticalUnknown, Purpose, Empty, TooLong}
+use Rattle.path.specs.declared.reason.Reason.TheVariants.{Repeated, Signature, NotYet, Expired, Issuer, NotPermitted, Excluded, ConstraintForm, NotCa, PathLength, KeyCertSign, Policy, CriticalUnknown, Purpose, Empty, TooLong, NoValidPolicy, AnyPolicyMapped, NoUserPolicy}
 use Rattle.path_issuers.specs.Links.{anchor_at, certificate_at}
 use Rattle.path_issuers.specs.Search.{Search, path_down_to}
 use Rattle.path_issuers.specs.declared.question.Issuer.TheVariants as of
@@ -46,6 +46,9 @@ module _ (A B : Type 0) (f : A → B) (moment : ℤ) (c : Certificate) (below : 
   meets_by Purpose met = met
   meets_by Empty met = met
   meets_by TooLong met = met
+  meets_by NoValidPolicy met = met
+  meets_by AnyPolicyMapped met = met
+  meets_by NoUserPolicy met = met
 
 module _ (accepts other : Accepts) (s : Search) (there : PairsAlike accepts other s) (back : PairsAlike other accepts s) where
   is_tail_too : (above : List ℕ) → IsTail accepts s above → IsTail other s above

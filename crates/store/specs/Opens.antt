@@ -1,7 +1,11 @@
 -- Why no store is opened or made at a path, or opened again, and what is left then.
-use Rattle.std.specs.Prelude.{◌≡◌, ◌≢◌, ⊤, IsTrue}
+use Rattle.std.specs.Prelude.{◌≡◌, ◌≢◌, [], ⊤, IsTrue}
+use Rattle.std.specs.IoError.{error_kind}
+use Rattle.std.specs.declared.io.ErrorKind.TheVariants as kind
 use Rattle.sqlite_disk.specs.declared.Disk.{Ghosts}
 use Rattle.sqlite_disk.specs.declared.Files.{Files}
+use Rattle.sqlite_std_file.specs.declared.pair.OpenError.{OpenError}
+use Rattle.sqlite_std_file.specs.declared.pair.OpenError.TheVariants.{Busy, HotJournal, Io, OutOfMemory}
 use Rattle.sqlite_store.specs.declared.store.FileStore.{FileStore}
 use Rattle.sqlite.specs.Held.{Held}
 use Rattle.sqlite.specs.Files.{FailsToClose, FailsToOpenFiles, Finds, IsCleanLeft, IsClosed, IsOpened, LeavesFiles, file_state}
@@ -26,7 +30,18 @@ use Rattle.store.specs.declared.refusal.OpenFault.{OpenFault}
 use Rattle.store.specs.declared.refusal.OpenFault.TheVariants.{Unconnected, Refused}
 use Rattle.store.specs.Adopts.{AdoptIsCaused, CopiesTo, IsCreatedOn, IsNoStore, IsUnlimited, KeepsStoreOn, MigratesStoreOn, StaysIfOpen, WasStoreOn}
 
+-- memory ran out while files were opened
+abbrev pub WantsMemory : OpenError → Type 0
+WantsMemory OutOfMemory = Unit {0}
+WantsMemory (Io error) = error_kind error ≡ kind.OutOfMemory
+WantsMemory Busy = ⊥
+WantsMemory HotJournal = ⊥
+
 -- ---- at a path
+
+-- what `Unknown` says of files, in place of all that they may hold
+abbrev pub nothing_held : Image
+nothing_held = record { log = []; db = [] }
 
 -- The files held this as they were opened. A connection found a store there, which is taken as it was, or one of version 1, which is migrated.
 pub record IsTakenFrom {D : Type 0} {g : Ghosts D} (image : Image) (store : Held (FileStore D g)) : Type 0 where
@@ -68,30 +83,34 @@ abbrev pub IsNotMade : {D : Type 0} {g : Ghosts D} → OpenFault D g → Type 0
 IsNotMade (Unconnected fault) = fault ≢ Schema
 IsNotMade (Refused refused) = HasCleanDisk (file_state refused.conn) → refused.fault ≢ Schema
 
--- Why a connection that was opened is not taken for a store, if what is migrated fits; no limit on steps is the cause. It comes back as it
--- was, if it is still open. Why none could be opened is not said.
-pub record RefusesToOpenForCause {D : Type 0} {g : Ghosts D} (refused : refusal.Refused D g) : Type 0 where
+-- Why a connection that was opened on files that held this is not taken for a store, if what is migrated fits; no limit on steps is the
+-- cause. If it is for the tables and rows, what the files held is a store of neither version. The connection comes back as it was, if it is
+-- still open. Why none could be opened is not said.
+pub record RefusesToOpenForCause {D : Type 0} {g : Ghosts D} (image : Image) (refused : refusal.Refused D g) : Type 0 where
   pub conn : Held (FileStore D g)
+  pub found : FindsIn image (file_state conn)
   pub opened : IsOpened conn
   pub unlimited : IsUnlimited (file_state conn)
   pub stays : StaysIfOpen (file_state conn) (file_state refused.conn)
+  pub neither : refused.fault ≡ Schema → IsNoStore (file_state conn).now
   pub caused : FitsVersion2 (file_state conn).now → AdoptIsCaused (file_state conn) (file_state refused.conn) refused.fault
 
-abbrev pub IsNotOpenedForCause : {D : Type 0} {g : Ghosts D} → OpenFault D g → Type 0
-IsNotOpenedForCause (Unconnected fault) = ⊤
-IsNotOpenedForCause (Refused refused) = HasCleanDisk (file_state refused.conn) → RefusesToOpenForCause refused
+abbrev pub IsNotOpenedForCause : {D : Type 0} {g : Ghosts D} → Image → OpenFault D g → Type 0
+IsNotOpenedForCause image (Unconnected fault) = ⊤
+IsNotOpenedForCause image (Refused refused) = HasCleanDisk (file_state refused.conn) → RefusesToOpenForCause image refused
 
 -- the same where a store is made in an empty database
-pub record RefusesToMakeForCause {D : Type 0} {g : Ghosts D} (refused : refusal.Refused D g) : Type 0 where
+pub record RefusesToMakeForCause {D : Type 0} {g : Ghosts D} (image : Image) (refused : refusal.Refused D g) : Type 0 where
   pub conn : Held (FileStore D g)
+  pub found : FindsIn image (file_state conn)
   pub opened : IsOpened conn
   pub unlimited : IsUnlimited (file_state conn)
   pub stays : StaysIfOpen (file_state conn) (file_state refused.conn)
   pub caused : CreateIsCaused (file_state conn) (file_state refused.conn) refused.fault
 
-abbrev pub IsNotMadeForCause : {D : Type 0} {g : Ghosts D} → OpenFault D g → Type 0
-IsNotMadeForCause (Unconnected fault) = ⊤
-IsNotMadeForCause (Refused refused) = HasCleanDisk (file_state refused.conn) → RefusesToMakeForCause refused
+abbrev pub IsNotMadeForCause : {D : Type 0} {g : Ghosts D} → Image → OpenFault D g → Type 0
+IsNotMadeForCause image (Unconnected fault) = ⊤
+IsNotMadeForCause image (Refused refused) = HasCleanDisk (file_state refused.conn) → RefusesToMakeForCause image refused
 
 -- ---- again
 

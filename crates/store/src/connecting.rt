@@ -1,11 +1,12 @@
 //! Connections to the files at a path.
 
-ghost use Rattle.std.specs.Prelude.{◌≢◌, IfErr, IfOk};
+ghost use Rattle.std.specs.Prelude.{◌≡◌, ◌≢◌, IfErr, IfOk};
 ghost use Rattle.sqlite.specs.Files.{IsOpened, file_state};
 ghost use Rattle.sqlite.specs.Held.{IsNew};
 ghost use Rattle.sqlite.specs.Start.{FindsIn};
 ghost use Rattle.sqlite.specs.State.{HasCleanDisk};
 ghost use Rattle.sqlite_wal.specs.Files.{image_at};
+ghost use Rattle.store.specs.Opens.{WantsMemory};
 
 use sqlite::{Connection, FileStore, Options};
 use sqlite_disk::Start;
@@ -33,8 +34,11 @@ fn random_options(rt: &HostRuntime) -> Result<Options, StoreFault>
     Ok(options(state.hash_one(&0u8)))
 }
 
+// Want of memory is told as that, and all else as a refusal.
 fn fault_of(error: &OpenError) -> StoreFault
-    ensures { result ≢ StoreFault.Schema }
+    ensures memory { WantsMemory error.now → result ≡ StoreFault.Memory }
+    ensures store { (WantsMemory error.now → ⊥) → result ≡ StoreFault.Store }
+    ensures schema { result ≢ StoreFault.Schema }
 {
     match error {
         OpenError::OutOfMemory => StoreFault::Memory,

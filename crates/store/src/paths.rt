@@ -6,7 +6,7 @@ ghost use Rattle.sqlite_wal.specs.Files.{image_at};
 ghost use Rattle.store_adoption.specs.Creates.{IsSettled};
 ghost use Rattle.store.specs.Adopts.{IsEmptyStoreOn, IsOpenOn, IsStoreOn, IsUnlimited};
 ghost use Rattle.store_sql.specs.Statements.{IsDurable};
-ghost use Rattle.store.specs.Opens.{IsMadeFromOn, IsNotMade, IsNotMadeForCause, IsNotOpened, IsNotOpenedForCause, IsTakenFromOn, fault_of};
+ghost use Rattle.store.specs.Opens.{IsMadeFromOn, IsNotMade, IsNotMadeForCause, IsNotOpened, IsNotOpenedForCause, IsTakenFromOn, fault_of, nothing_held};
 
 use crate::connecting::connect;
 use crate::handle::Store;
@@ -32,13 +32,14 @@ impl Store<File> {
     /// Takes the file at a path for a store, after migrating it if it is of version 1: `StoreFault::Store` if there is no file or it is no
     /// database, `StoreFault::Schema` if it is no store. A connection that is not taken for a store comes back. Each row is read once.
     pub fn open(rt: &HostRuntime, path: &str) -> Result<Store<File>, OpenFault>
+        ensures found { IfOk result (λ store. IsTakenFromOn nothing_held store.conn) }
         ensures store { IfOk result (λ store. IsStoreOn store.conn) }
         ensures is_open { IfOk result (λ store. IsOpenOn store.conn) }
         ensures unlimited { IfOk result (λ store. IsUnlimited (file_state store.conn)) }
         ensures settled { IfOk result (λ store. IsSettled (file_state store.conn)) }
         ensures durable { IfOk result (λ store. IsDurable (file_state store.conn)) }
         ensures fails { IfErr result IsNotOpened }
-        ensures caused { IfErr result IsNotOpenedForCause }
+        ensures caused { IfErr result (IsNotOpenedForCause nothing_held) }
     {
         Store::open_from(rt, path, Unknown)
     }
@@ -46,13 +47,14 @@ impl Store<File> {
     /// Makes a store that holds nothing at a path: `StoreFault::Store` if a file is there. A connection in which no store could be made
     /// comes back.
     pub fn make(rt: &HostRuntime, path: &str) -> Result<Store<File>, OpenFault>
+        ensures found { IfOk result (λ store. IsMadeFromOn nothing_held store.conn) }
         ensures store { IfOk result (λ store. IsEmptyStoreOn store.conn) }
         ensures is_open { IfOk result (λ store. IsOpenOn store.conn) }
         ensures unlimited { IfOk result (λ store. IsUnlimited (file_state store.conn)) }
         ensures settled { IfOk result (λ store. IsSettled (file_state store.conn)) }
         ensures durable { IfOk result (λ store. IsDurable (file_state store.conn)) }
         ensures fails { IfErr result IsNotMade }
-        ensures caused { IfErr result IsNotMadeForCause }
+        ensures caused { IfErr result (IsNotMadeForCause nothing_held) }
     {
         Store::make_from(rt, path, Unknown)
     }
@@ -73,7 +75,7 @@ impl<S: Start> Store<FileFrom<S>> {
         ensures settled { IfOk result (λ store. IsSettled (file_state store.conn)) }
         ensures durable { IfOk result (λ store. IsDurable (file_state store.conn)) }
         ensures fails { IfErr result IsNotOpened }
-        ensures caused { IfErr result IsNotOpenedForCause }
+        ensures caused { IfErr result (IsNotOpenedForCause (image_at S.Start)) }
     {
         let conn = connect(rt, path, true, start)?;
         Ok(Store::adopt(rt.alloc(), conn)?)
@@ -92,7 +94,7 @@ impl<S: Start> Store<FileFrom<S>> {
         ensures settled { IfOk result (λ store. IsSettled (file_state store.conn)) }
         ensures durable { IfOk result (λ store. IsDurable (file_state store.conn)) }
         ensures fails { IfErr result IsNotMade }
-        ensures caused { IfErr result IsNotMadeForCause }
+        ensures caused { IfErr result (IsNotMadeForCause (image_at S.Start)) }
     {
         let conn = connect(rt, path, false, start)?;
         Ok(Store::create(conn)?)

@@ -1,7 +1,7 @@
 -- The path meets all conditions.
 use Rattle.std.proofs.Common.{◌≡◌, pos, arith, lit≤, [], ◌∷◌, None, refl, subst}
 use Rattle.path.specs.declared.reason.Outcome.TheVariants.{Good}
-use Rattle.path.specs.declared.reason.Reason.TheVariants.{Repeated, Signature, NotYet, Expired, Issuer, NotPermitted, Excluded, ConstraintForm, NotCa, PathLength, KeyCertSign, Policy, CriticalUnknown, Purpose, Empty, TooLong}
+use Rattle.path.specs.declared.reason.Reason.TheVariants.{Repeated, Signature, NotYet, Expired, Issuer, NotPermitted, Excluded, ConstraintForm, NotCa, PathLength, KeyCertSign, Policy, CriticalUnknown, Purpose, Empty, TooLong, NoValidPolicy, AnyPolicyMapped, NoUserPolicy}
 use Rattle.path.specs.Query.{Query}
 use Rattle.path.specs.Conditions.{MeetsConditions}
 use Rattle.path.specs.Validity.{IsServed, IsOutcome}
@@ -33,6 +33,9 @@ meets CriticalUnknown = refl
 meets Purpose = λ last. tt
 meets Empty = tt
 meets TooLong = tt
+meets NoValidPolicy = tt
+meets AnyPolicyMapped = tt
+meets NoUserPolicy = tt
 
 pub path_is_valid : IsOutcome accepts_toys query Good
 path_is_valid = record {

@@ -122,8 +122,10 @@ pub mod search {
 
 /// Certificate policies (RFC 5280, 4.2.1.4, 4.2.1.5, 4.2.1.11, 4.2.1.14 and 6.1; RFC 9618), for who asks for them.
 ///
-/// `validate` looks at none of them, and refuses a path whose certificates carry policyMappings, policyConstraints or inhibitAnyPolicy. Of a
-/// path that it calls good, `policy_certificates` and then `process_policies` say under which policies it is.
+/// `validate` looks at none of them, and refuses a path whose certificates carry policyMappings, policyConstraints or inhibitAnyPolicy.
+/// `validate_with_policies` processes them: it answers the policies at the end of the path, or the first certificate that is refused, for a
+/// reason of the path or of its policies. A party is asked for its verdict on `QueryWithPolicies::path`, and `add_policies` adds the policies to
+/// its answer; `verdict_with_policies` does both by statements at hand. `process_policies` looks at policies alone.
 pub mod policies {
     pub use cert_policies::{PolicyExtensions, PolicyMapping, policy_layout_laws};
     pub use path_policies::{
@@ -131,6 +133,13 @@ pub mod policies {
         policy_certificates, policy_outcome_laws, process_policies,
     };
     pub use path_policy_tree::tree_laws;
+    pub use path_with_policies::{
+        OutcomeWithPolicies, PolicyInputs, QueryWithPolicies, join_outcomes,
+        outcome_with_policies_laws, policies_apart, reason_of_policy, validate_with_policies,
+    };
+    pub use relying_policies::{
+        VerdictWithPolicies, add_policies, verdict_with_policies, verdict_with_policies_laws,
+    };
 }
 
 /// The parts of a certificate (RFC 5280, 4.1 and 4.2).

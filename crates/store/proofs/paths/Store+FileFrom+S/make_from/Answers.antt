@@ -19,7 +19,7 @@ returns-in_err-create-clause-caused g c =
     let p = err_from_is_err_and c.from_residual-in_err-create.result c.from_residual-in_err-create.ensures.1 in
     rw (p.1, p.2) (λ clean.
     let before : HasCleanDisk (file_state c.in_ok-conn.conn) = let step = c.in_err-create.ensures.refused_crash.clean in omega (arith, step, clean) in
-    record { conn = c.in_ok-conn.conn; opened = c.in_ok-conn.ensures.opened before; unlimited = c.in_ok-conn.ensures.fresh.unlimited; stays = (c.in_err-create.ensures.refused clean).0; caused = c.in_err-create.ensures.caused clean })
+    record { conn = c.in_ok-conn.conn; found = c.in_ok-conn.ensures.found before; opened = c.in_ok-conn.ensures.opened before; unlimited = c.in_ok-conn.ensures.fresh.unlimited; stays = (c.in_err-create.ensures.refused clean).0; caused = c.in_err-create.ensures.caused clean })
 
 pub returns-clause-found : goal.returns-clause-found
 returns-clause-found g c clean =

@@ -1,0 +1,5 @@
+mod Joining
+mod Leaving
+mod Ranks
+mod OneOutcome
+mod Asking

@@ -1,0 +1,8 @@
+//! Verdicts on paths whose policies are processed, for who asks for them.
+#![tactic(auto)]
+
+mod verdict;
+
+pub use verdict::{
+    VerdictWithPolicies, add_policies, verdict_with_policies, verdict_with_policies_laws,
+};
