@@ -90,6 +90,13 @@ fn first_apart(one: &[Evidence], other: &[Evidence]) -> Option<usize>
     None
 }
 
+/// Whether both verdicts are the same.
+fn same_verdicts(one: Verdict, other: Verdict) -> bool
+    ensures { IsTrue result ↔ (one ≡ other) }
+{
+    one == other
+}
+
 /// The comparison of the verdicts on a path that meets all conditions.
 fn compare_evidence(one: &[Evidence], other: &[Evidence], moment: i64) -> Comparison
     requires { length one.now ≡ length other.now }
@@ -101,7 +108,7 @@ fn compare_evidence(one: &[Evidence], other: &[Evidence], moment: i64) -> Compar
         return Comparison::Same(verdict);
     };
     let others = verdict_by(other, moment);
-    if verdict == others {
+    if same_verdicts(verdict, others) {
         Comparison::Same(verdict)
     } else {
         Comparison::Differ(verdict, others, number)

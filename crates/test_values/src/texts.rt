@@ -138,6 +138,15 @@ const REASON: &[(Reason, &str)] = &[
     (Reason::Purpose, "another purpose"),
     (Reason::Empty, "no certificate"),
     (Reason::TooLong, "too many certificates"),
+    (
+        Reason::NoValidPolicy,
+        "a policy is required, and none is valid",
+    ),
+    (Reason::AnyPolicyMapped, "anyPolicy is mapped"),
+    (
+        Reason::NoUserPolicy,
+        "a policy is required, and none of the user's is valid",
+    ),
 ];
 
 #[test]
