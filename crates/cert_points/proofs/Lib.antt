@@ -1,0 +1,19 @@
+mod ContainedValues
+mod Places
+mod AddedItems
+mod NamesAmong
+mod ListedNames
+mod ReasonBits
+mod RelativeParts
+mod ChosenNames
+mod OnePoint
+mod ManyPoints
+mod CompletePoints
+mod TaggedExtensions
+mod PointsType
+mod FirstOfType
+mod PointsOfCertificate
+mod FaultSteps
+mod PointFaults
+mod Answered
+pub mod Laws

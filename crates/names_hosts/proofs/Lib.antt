@@ -1,0 +1,5 @@
+mod HostTexts
+mod HostLaws
+mod UriTexts
+mod MailLaws
+pub mod Laws

@@ -1,0 +1,43 @@
+use Rattle.std.specs.Prelude.{◌≡◌, ◌⊎◌, ◌↔◌, ℕ, List}
+use Rattle.names_hosts.specs.Hosts.{HostNames, IsAmongHosts, AreHostsOf, AreHostsInside}
+use Rattle.names_hosts.specs.Mail.{MailText, MailNames, IsMailName, IsMailOf, IsAmongMail, IsMailInside}
+use Rattle.names_hosts.specs.Uri.{IsHostOfUri}
+
+-- a base says one thing
+abbrev pub HostBaseIsOne : Type 0
+HostBaseIsOne = (base : List ℕ) (s t : HostNames) → AreHostsOf base s → AreHostsOf base t → s ≡ t
+
+-- the first hosts are inside the second just if each of the first is one of the second
+abbrev pub HostsInsideIsExact : Type 0
+HostsInsideIsExact =
+    (s t : HostNames) → (AreHostsInside s t ↔ ((x : List ℕ) → IsAmongHosts x s → IsAmongHosts x t))
+
+-- two that share a host are nested, one way or the other
+abbrev pub SharedHostsAreNested : Type 0
+SharedHostsAreNested =
+    (x : List ℕ) (s t : HostNames) → IsAmongHosts x s → IsAmongHosts x t →
+    AreHostsInside s t ⊎ AreHostsInside t s
+
+-- a URI has one host
+abbrev pub UriHostIsOne : Type 0
+UriHostIsOne = (uri one other : List ℕ) → IsHostOfUri uri one → IsHostOfUri uri other → one ≡ other
+
+-- a text is one mail address
+abbrev pub MailNameIsOne : Type 0
+MailNameIsOne =
+    (text : List ℕ) (one other : MailText) → IsMailName text one → IsMailName text other → one ≡ other
+
+-- a base says one thing
+abbrev pub MailBaseIsOne : Type 0
+MailBaseIsOne = (base : List ℕ) (s t : MailNames) → IsMailOf base s → IsMailOf base t → s ≡ t
+
+-- the first mail addresses are inside the second just if each of the first is one of the second
+abbrev pub MailInsideIsExact : Type 0
+MailInsideIsExact =
+    (s t : MailNames) → (IsMailInside s t ↔ ((x : MailText) → IsAmongMail x s → IsAmongMail x t))
+
+-- two that share a mail address are nested, one way or the other
+abbrev pub SharedMailIsNested : Type 0
+SharedMailIsNested =
+    (x : MailText) (s t : MailNames) → IsAmongMail x s → IsAmongMail x t →
+    IsMailInside s t ⊎ IsMailInside t s

@@ -1,0 +1,115 @@
+-- The host of a URI (RFC 3986, 3.1 and 3.2), to which the constraints on URIs apply (RFC 5280, 4.2.1.10).
+use Rattle.std.specs.Prelude.{◌≡◌, ◌⊎◌, ◌==◌, ◌||◌, ℕ, List, [], ◌∷◌, ◌++◌, Bool, false, true, IsTrue}
+use Rattle.std.specs.List.{All, AllPass, list_any}
+use Rattle.std.specs.Char.{is_ascii_alphabetic, is_ascii_alphanumeric, is_ascii_digit}
+use Rattle.names_identity.specs.Host.{IsHost}
+use Rattle.names_hosts.specs.Hosts.{HostNames, IsAmongHosts}
+
+-- the octet is one of these
+abbrev pub is_one_of : List ℕ → ℕ → Bool
+is_one_of ends octet = list_any (λ end. end == octet) ends
+
+abbrev pub HasNone : List ℕ → List ℕ → Type 0
+HasNone ends text = All (λ octet. is_one_of ends octet ≡ false) text
+
+-- no octets, or the first is one of these
+abbrev pub IsStop : List ℕ → List ℕ → Type 0
+IsStop ends [] = Unit {0}
+IsStop ends (octet ∷ behind) = is_one_of ends octet ≡ true
+
+-- the text up to the first octet that is one of these, and the rest
+pub record IsCut (ends text front behind : List ℕ) : Type 0 where
+  pub joined : text ≡ front ++ behind
+  pub none : HasNone ends front
+  pub stops : IsStop ends behind
+
+-- scheme = ALPHA *( ALPHA / DIGIT / "+" / "-" / "." )
+abbrev pub is_scheme_octet : ℕ → Bool
+is_scheme_octet octet = is_ascii_alphanumeric octet || (octet == 43 || (octet == 45 || octet == 46))
+
+pub record IsScheme (scheme : List ℕ) : Type 0 where
+  pub first : ℕ
+  pub rest : List ℕ
+  pub joined : scheme ≡ first ∷ rest
+  pub letter : IsTrue (is_ascii_alphabetic first)
+  pub others : AllPass is_scheme_octet rest
+
+-- URI = scheme ":" "//" rest
+pub record IsBehindScheme (uri rest : List ℕ) : Type 0 where
+  pub scheme : List ℕ
+  pub joined : uri ≡ scheme ++ 58 ∷ 47 ∷ 47 ∷ rest
+  pub is_scheme : IsScheme scheme
+
+-- what ends an authority: a slash, a question mark, a number sign, or the end of the URI
+abbrev pub authority_ends : List ℕ
+authority_ends = 47 ∷ 63 ∷ 35 ∷ []
+
+-- the authority, and a path, a query or a fragment behind it, which are not looked at
+pub record HasAuthority (uri authority : List ℕ) : Type 0 where
+  pub rest : List ℕ
+  pub behind : List ℕ
+  pub behind_scheme : IsBehindScheme uri rest
+  pub cut : IsCut authority_ends rest authority behind
+
+-- octets of userinfo: unreserved, sub-delims, a colon, and the percent sign of pct-encoded, which is not looked behind (a choice of this
+-- profile). None is an at sign.
+abbrev pub user_marks : List ℕ
+user_marks =
+    33 ∷ 36 ∷ 37 ∷ 38 ∷ 39 ∷ 40 ∷ 41 ∷ 42 ∷ 43 ∷ 44 ∷ 45 ∷ 46 ∷ 58 ∷ 59 ∷ 61 ∷ 95 ∷ 126 ∷ []
+
+abbrev pub is_user_octet : ℕ → Bool
+is_user_octet octet = is_ascii_alphanumeric octet || is_one_of user_marks octet
+
+-- nothing, or userinfo "@"
+pub record IsUserAt (part : List ℕ) : Type 0 where
+  pub user : List ℕ
+  pub joined : part ≡ user ++ 64 ∷ []
+  pub octets : AllPass is_user_octet user
+
+abbrev pub IsUserPart : List ℕ → Type 0
+IsUserPart part = (part ≡ []) ⊎ IsUserAt part
+
+-- nothing, or ":" *DIGIT
+pub record IsPortBehind (part : List ℕ) : Type 0 where
+  pub port : List ℕ
+  pub joined : part ≡ 58 ∷ port
+  pub digits : AllPass is_ascii_digit port
+
+abbrev pub IsPortPart : List ℕ → Type 0
+IsPortPart part = (part ≡ []) ⊎ IsPortBehind part
+
+-- authority = [ userinfo "@" ] rest
+pub record IsBehindUser (authority rest : List ℕ) : Type 0 where
+  pub user : List ℕ
+  pub joined : authority ≡ user ++ rest
+  pub is_user : IsUserPart user
+
+-- rest = host [ ":" port ], where the host is a DNS name; with a dot at its end it is none (a choice of this profile)
+pub record IsHostAndPort (rest host : List ℕ) : Type 0 where
+  pub port : List ℕ
+  pub joined : rest ≡ host ++ port
+  pub is_host : IsHost host
+  pub is_port : IsPortPart port
+
+pub record IsHostOfAuthority (authority host : List ℕ) : Type 0 where
+  pub rest : List ℕ
+  pub behind_user : IsBehindUser authority rest
+  pub host_and_port : IsHostAndPort rest host
+
+-- the host of a URI, if its authority has one that is a DNS name
+pub record IsHostOfUri (uri host : List ℕ) : Type 0 where
+  pub authority : List ℕ
+  pub has_authority : HasAuthority uri authority
+  pub has_host : IsHostOfAuthority authority host
+
+-- the URI has a host, and it is one of these; or it has one, and it is none of these. A URI without one is neither (RFC 5280, 4.2.1.10: it
+-- must be rejected where a constraint on URIs applies).
+pub record IsUriAmong (uri : List ℕ) (names : HostNames) : Type 0 where
+  pub host : List ℕ
+  pub is_host : IsHostOfUri uri host
+  pub among : IsAmongHosts host names
+
+pub record IsUriClearOf (uri : List ℕ) (names : HostNames) : Type 0 where
+  pub host : List ℕ
+  pub is_host : IsHostOfUri uri host
+  pub clear : IsAmongHosts host names → ⊥

@@ -1,0 +1,4 @@
+mod Search
+mod HostOrder
+mod HostMembers
+mod MailMembers
