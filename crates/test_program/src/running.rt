@@ -1,31 +1,12 @@
 //! Runs over a shelf: two stores that hold a list each, of which one is newer, and paths where no store stands.
 
 use crate::shelf::{Kept, Medium, Shelf, Text};
+use crate::walking::{Runs, octets_of, texts};
 use cert::Certificate;
-use cli::execute;
 use statements::genuine;
-use std::alloc::{AllocError, Global};
+use std::alloc::Global;
 use std::test::Fail;
-use vectors::{ToyVerifier, certificate, revocation_list};
-
-// The texts that hold certificates and lists: each has a name, and what it holds.
-const TEXTS: &str = "
-r.der = ca(R,R)
-l.der = ee(L,R)
-m.der = ee(M,R){serial 0102}
-c.crl = crl(R,5)
-d.crl = crl(R,6,[0102 1])
-e.crl = crl(R,5,[05 1])
-";
-
-// The runs whose lines are the verdicts.
-const PRINTS: &str = "
-prints --issuer r.der l.der
-prints --issuer r.der m.der
-prints --issuer r.der --as crl c.crl
-prints --issuer r.der --as crl d.crl
-prints --issuer r.der --as crl e.crl
-";
+use vectors::ToyVerifier;
 
 // Each run has its words, what it prints, and its status.
 const STEPS: &str = "
@@ -80,25 +61,6 @@ status 0
 const REQUESTS: &[u8] =
     b"check 20250615000000Z r.der m.der\ndeliver r.der d.crl\ncheck 20250615000000Z r.der m.der\nquit\n";
 
-fn octets_of(alloc: Global, text: &str) -> Result<Vec<u8>, Fail> {
-    let octets = if text.starts_with("crl") {
-        revocation_list(alloc, text).ok()
-    } else {
-        certificate(alloc, text).ok()
-    };
-    Ok(octets.ok_or("notation")?)
-}
-
-fn texts(alloc: Global) -> Result<Vec<Text<'static>>, Fail> {
-    let mut texts = Vec::new(alloc);
-    for line in TEXTS.lines().skip(1) {
-        let (name, said) = line.split_once(" = ").ok_or("a name")?;
-        let octets = octets_of(alloc, said)?;
-        texts.push(Text { name, octets })?;
-    }
-    Ok(texts)
-}
-
 // The store at the path, into which the list was put.
 fn kept<'t>(
     alloc: Global,
@@ -114,84 +76,22 @@ fn kept<'t>(
     Ok(Kept { path, statements })
 }
 
-// The words of a line, behind the program's name.
-fn words_of<'a>(alloc: Global, line: &'a str) -> Result<Vec<&'a str>, AllocError> {
-    let mut words: Vec<&'a str> = Vec::new(alloc);
-    words.push("x509check")?;
-    for word in line.split_whitespace() {
-        words.push(word)?;
+fn runs_over<'s, 't>(shelf: &'s Shelf<'t>) -> Runs<'s, Shelf<'t>> {
+    Runs {
+        source: shelf,
+        alloc: shelf.medium.alloc,
+        input: REQUESTS,
     }
-    Ok(words)
-}
-
-// Whether the run ends with this status and prints this text, on one of its two outputs.
-fn ends_so(shelf: &Shelf<'_>, words: &[&str], status: u8, text: &str) -> bool {
-    let (mut out, mut err) = (Vec::new(shelf.medium.alloc), Vec::new(shelf.medium.alloc));
-    let mut input = REQUESTS;
-    let ended = execute(
-        shelf,
-        shelf.medium.alloc,
-        words,
-        &mut input,
-        &mut out,
-        &mut err,
-    );
-    let (out_text, err_text) = if text.starts_with("x509check: ") {
-        ("", text)
-    } else {
-        (text, "")
-    };
-    ended == status
-        && out.as_slice() == out_text.as_bytes()
-        && err.as_slice() == err_text.as_bytes()
-}
-
-// Whether the step goes as its lines say.
-fn goes_so(shelf: &Shelf<'_>, step: &str) -> Result<bool, AllocError> {
-    let (line, answer) = step.split_once('\n').unwrap_or((step, ""));
-    let (text, number) = answer.rsplit_once("status ").unwrap_or(("", ""));
-    let words = words_of(shelf.medium.alloc, line)?;
-    Ok(match number.trim_end().parse() {
-        Ok(status) => ends_so(shelf, words.as_slice(), status, text),
-        Err(_) => false,
-    })
-}
-
-fn walk(shelf: &Shelf<'_>, steps: &str) -> Result<(), Fail> {
-    for step in steps.split('$').skip(1) {
-        if !goes_so(shelf, step)? {
-            return Err(Fail::new(format_args!("not so: ${step}")));
-        }
-    }
-    Ok(())
-}
-
-// The lines that these runs print.
-fn printed(shelf: &Shelf<'_>, lines: &str) -> Result<Vec<u8>, Fail> {
-    let (mut out, mut err) = (Vec::new(shelf.medium.alloc), Vec::new(shelf.medium.alloc));
-    for line in lines.lines().skip(1) {
-        let words = words_of(shelf.medium.alloc, line)?;
-        let mut input: &[u8] = &[];
-        execute(
-            shelf,
-            shelf.medium.alloc,
-            words.as_slice(),
-            &mut input,
-            &mut out,
-            &mut err,
-        );
-    }
-    Ok(out)
 }
 
 // The steps, over the shelf, with the verdicts that it prints.
 fn walk_on(shelf: &mut Shelf<'_>) -> Result<(), Fail> {
-    let octets = printed(shelf, PRINTS)?;
+    let octets = runs_over(shelf).verdicts()?;
     shelf.texts.push(Text {
         name: "good",
         octets,
     })?;
-    walk(shelf, STEPS)
+    runs_over(shelf).walk(STEPS)
 }
 
 // What is put into stores: a list, a newer one, and the certificate of their issuer.

@@ -53,7 +53,7 @@ pub struct Shelf<'t> {
 }
 
 // The octets of the first text of this name.
-fn text_of<'s>(texts: &'s [Text<'_>], name: &str) -> Option<&'s [u8]>
+pub(crate) fn text_of<'s>(texts: &'s [Text<'_>], name: &str) -> Option<&'s [u8]>
     ensures { option_map (λ octets. octets.now) result ≡ octets_under texts.now name.now }
 {
     for text in texts {
@@ -100,7 +100,7 @@ fn connected(medium: Medium) -> Result<Connection<FileStore<Disks>>, StoreFault>
 }
 
 // A store that holds nothing.
-fn made(medium: Medium) -> Result<Store<Disks>, StoreFault>
+pub(crate) fn made(medium: Medium) -> Result<Store<Disks>, StoreFault>
     ensures empty { IfOk result (λ store.
         IsStoreOf (file_state store.conn).now empty_holdings) }
     ensures open { IfOk result (λ store. IsTrue (file_state store.conn).is_open) }
