@@ -201,6 +201,24 @@ struct x509check_finding {
     size_t path_count;                /* how many certificates the path has, the anchor and the target with it; 0 if none is found */
 };
 
+/* What the user asks of certificate policies (RFC 5280, 6.1.1 (c), (e), (f) and (g)). A flag is set by any number but 0. */
+struct x509check_policy_inputs {
+    const struct x509check_text *initial_policies; /* user-initial-policy-set: the contents of OBJECT IDENTIFIERs; 55 1D 20 00, anyPolicy,
+                                                    * stands for every policy */
+    size_t initial_policy_count;
+    uint32_t inhibit_policy_mapping;
+    uint32_t require_explicit_policy;
+    uint32_t inhibit_any_policy;
+};
+
+/* The verdict on a path whose policies are processed, and the policies at its end. What has no number there is 0. */
+struct x509check_policies {
+    struct x509check_verdict verdict;
+    size_t authority_count; /* how many policies are in authorities-constrained-policy-set (RFC 5280, 6.1.5 (g)) */
+    size_t user_count;      /* and how many in user-constrained-policy-set */
+    size_t octet_count;     /* how many octets the contents of all of them have together */
+};
+
 /* A certificate that has the name of an issuer, but cannot stand above the certificate that it would have issued. */
 struct x509check_obstacle {
     size_t certificate; /* which one of the search (X509CHECK_CERTIFICATES) */
@@ -318,6 +336,15 @@ X509CHECK_STANDS_AT(x509check_verdict, refusal, 16);
 X509CHECK_HAS_SIZE(x509check_verdict, 48);
 X509CHECK_STANDS_AT(x509check_finding, path_count, 48);
 X509CHECK_HAS_SIZE(x509check_finding, 56);
+X509CHECK_STANDS_AT(x509check_policy_inputs, initial_policy_count, 8);
+X509CHECK_STANDS_AT(x509check_policy_inputs, inhibit_policy_mapping, 16);
+X509CHECK_STANDS_AT(x509check_policy_inputs, require_explicit_policy, 20);
+X509CHECK_STANDS_AT(x509check_policy_inputs, inhibit_any_policy, 24);
+X509CHECK_HAS_SIZE(x509check_policy_inputs, 32);
+X509CHECK_STANDS_AT(x509check_policies, authority_count, 48);
+X509CHECK_STANDS_AT(x509check_policies, user_count, 56);
+X509CHECK_STANDS_AT(x509check_policies, octet_count, 64);
+X509CHECK_HAS_SIZE(x509check_policies, 72);
 X509CHECK_STANDS_AT(x509check_obstacle, reason, 8);
 X509CHECK_HAS_SIZE(x509check_obstacle, 16);
 X509CHECK_STANDS_AT(x509check_diagnosis, reason, 4);
@@ -410,6 +437,20 @@ struct x509check_asked x509check_questions(const struct x509check_query *query, 
  * during the call, and freed before it returns; if it is refused, the fault is X509CHECK_FAULT_MEMORY. */
 struct x509check_verdict x509check_validate(const struct x509check_query *query, const struct x509check_text *statements,
                                             size_t statement_count, const uint8_t *fingerprints, size_t fingerprint_count);
+
+/* The same for who asks for certificate policies (RFC 5280, 6.1): the verdict, and the policies at the end of the path.
+ *
+ * policyMappings, policyConstraints and inhibitAnyPolicy are processed, and no path is invalid for rank 12 (Policy); it may be for the ranks
+ * 17 to 19, behind the others. If an extension about policies of a certificate of the path is malformed, that certificate is refused, after
+ * the certificates and the statements that cannot be read. `inputs` may not be null. The questions are those of x509check_questions.
+ *
+ * If the path is not invalid, up to so many lengths are written to `lengths`, and so many octets to `octets`, as there is room for: the
+ * length of the contents of each policy, those of the authorities first, and these contents one behind the other. The counts tell how many
+ * there are. Either array may be null if its room is 0. No text may overlap with an array, and no array with another. */
+struct x509check_policies x509check_validate_with_policies(const struct x509check_query *query, const struct x509check_policy_inputs *inputs,
+                                                           const struct x509check_text *statements, size_t statement_count,
+                                                           const uint8_t *fingerprints, size_t fingerprint_count, size_t *lengths,
+                                                           size_t length_room, uint8_t *octets, size_t octet_room);
 
 /* The questions that a judge of signatures may be asked for what x509check_find finds, at whatever moment and for whatever purpose. As
  * x509check_questions, of a search: first about each certificate that leads to the target by names, under each anchor and each of the others

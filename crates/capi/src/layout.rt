@@ -2,8 +2,8 @@
 
 use super::*;
 use capi_values::{
-    Asked, FindingAnswer, Limits, NumberedObstacle, Part, Place, QueryOfTexts, Refusal,
-    SearchOfTexts, SignatureQuestion, Text, VerdictAnswer, WhyNotAnswer,
+    Asked, FindingAnswer, Limits, NumberedObstacle, Part, Place, PolicyAnswer, PolicyInputsOfTexts,
+    QueryOfTexts, Refusal, SearchOfTexts, SignatureQuestion, Text, VerdictAnswer, WhyNotAnswer,
 };
 use std::alloc::AllocError;
 use std::fmt::Debug;
@@ -11,7 +11,7 @@ use std::test::Fail;
 
 #[test]
 fn structs_have_their_sizes(rt: HostRuntime) {
-    const SIZES: [usize; 18] = [
+    const SIZES: [usize; 20] = [
         size_of::<Text<'static>>(),
         size_of::<QueryOfTexts<'static>>(),
         size_of::<Limits>(),
@@ -30,11 +30,13 @@ fn structs_have_their_sizes(rt: HostRuntime) {
         size_of::<SpeakingAnswer>(),
         size_of::<NumberedObstacle>(),
         size_of::<WhyNotAnswer>(),
+        size_of::<PolicyInputsOfTexts<'static>>(),
+        size_of::<PolicyAnswer>(),
     ];
     assert!(rt;
         SIZES
             == [
-                16, 56, 24, 96, 16, 16, 56, 208, 224, 32, 48, 56, 32, 160, 40, 24, 16, 64
+                16, 56, 24, 96, 16, 16, 56, 208, 224, 32, 48, 56, 32, 160, 40, 24, 16, 64, 32, 72
             ]
     );
 }
@@ -80,6 +82,14 @@ const WHY_NOT: &str =
     "WhyNotAnswer { why: 0, reason: 0, above_count: 0, anchor_count: 0, obstacle_count: 0, \
     refusal: Refusal { text: 0, fault: 0, der_fault: 0, index: 0, offset: 0 } }";
 
+const POLICY_INPUTS: &str = "PolicyInputsOfTexts { initial_policies: [], \
+    inhibit_policy_mapping: 0, require_explicit_policy: 0, inhibit_any_policy: 0 }";
+
+const POLICY_ANSWER: &str =
+    "PolicyAnswer { verdict: VerdictAnswer { verdict: 0, reason: 0, certificate: 0, \
+    refusal: Refusal { text: 0, fault: 0, der_fault: 0, index: 0, offset: 0 } }, \
+    authority_count: 0, user_count: 0, octet_count: 0 }";
+
 const SPEAKING: &str = "SpeakingAnswer { speaks: 0, fault: 0, der_fault: 0, offset: 0 }";
 
 const QUESTION: &str = "SignatureQuestion { \
@@ -123,6 +133,19 @@ fn search_of<'a>(texts: &'a [Text<'a>], target: Text<'a>) -> SearchOfTexts<'a> {
         purpose: target,
         limits: Limits::default(),
     }
+}
+
+#[test]
+fn policies_have_their_fields_in_order(rt: HostRuntime) -> Result<(), Fail> {
+    let inputs = PolicyInputsOfTexts {
+        initial_policies: &[],
+        inhibit_policy_mapping: 0,
+        require_explicit_policy: 0,
+        inhibit_any_policy: 0,
+    };
+    assert!(rt; prints(&rt, &inputs, POLICY_INPUTS)?);
+    assert!(rt; prints(&rt, &PolicyAnswer::default(), POLICY_ANSWER)?);
+    Ok(())
 }
 
 #[test]

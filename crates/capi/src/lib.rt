@@ -10,6 +10,7 @@ mod finding;
 mod fingerprint_call;
 mod identity_call;
 mod name_calls;
+mod policy_call;
 mod questions;
 mod reading;
 mod validating;
@@ -24,6 +25,7 @@ pub use finding::x509check_find;
 pub use fingerprint_call::x509check_fingerprint;
 pub use identity_call::{SpeakingAnswer, x509check_speaks_for};
 pub use name_calls::{x509check_fault_name, x509check_reason_name};
+pub use policy_call::x509check_validate_with_policies;
 pub use questions::{x509check_find_questions, x509check_questions};
 pub use reading::x509check_read_certificate;
 pub use validating::x509check_validate;
@@ -38,6 +40,8 @@ mod ends;
 mod extended;
 #[cfg(test)]
 mod layout;
+#[cfg(test)]
+mod policies;
 #[cfg(test)]
 mod searches;
 #[cfg(test)]

@@ -195,7 +195,7 @@ pub(crate) fn revoking<'a>() -> [Text<'a>; 2] {
     pair(REVOKING.split_at(226))
 }
 
-fn query<'a>(
+pub(crate) fn query<'a>(
     anchor: Text<'a>,
     path: &'a [Text<'a>],
     moment: i64,

@@ -151,23 +151,28 @@ same_questions one other these those certificates same =
     ∙ ap (questions_of other) same
 
 module _ (accepts : Accepts) (query : QueryOfTexts) (statements : List Text) (prints : List (List ℕ)) (are : AreJudged accepts query statements prints) where
-  written : AreWritten are.about statements are.room are.questions are.asked.count
+  pub written : AreWritten are.about statements are.room are.questions are.asked.count
   written = was_written are.about statements are.room are.questions are.asked are.tells.0 are.tells.1 are.tells.2 are.no_fault
 
   certificates_are : AreCertificates (certificate_texts query) (written.read.anchor ∷ written.read.certificates)
   certificates_are = subst (λ texts. AreCertificates texts (written.read.anchor ∷ written.read.certificates)) are.same_certificates written.is_read.query_is.certificates
 
-  good : (one : Judgement) → Contains written.asked one → Answers (answer accepts one) (judgement_print one) prints
+  pub good : (one : Judgement) → Contains written.asked one → Answers (answer accepts one) (judgement_print one) prints
   good =
       all_answered accepts (certificate_texts query) (octets_of_texts statements) prints written.asked are.room are.questions are.asked.count
       (subst (λ texts. AreTold texts (octets_of_texts statements) written.asked are.room are.questions are.asked.count) are.same_certificates written.told) are.answered
 
-  read_again : (read : Query) (these : List Statement) → IsRead query statements read these → written.asked ≡ questions_of read these
+  pub read_again : (read : Query) (these : List Statement) → IsRead query statements read these → written.asked ≡ questions_of read these
   read_again read these is =
       written.may_be_asked read.moment read.purpose
       ∙ same_questions written.read read written.these these
       (one_reading certificate (certificate_texts query) (written.read.anchor ∷ written.read.certificates) (read.anchor ∷ read.certificates) certificates_are is.query_is.certificates)
       (one_reading statement (octets_of_texts statements) written.these these written.is_read.statements_are is.statements_are)
+
+  -- what was asked about was read, so only memory can be refused
+  pub only_refused : (told : Refusal) → TellsRefusal (certificate_texts query) statements told → told ≡ no_memory
+  only_refused told refused =
+      only_memory (certificate_texts query) statements (written.read.anchor ∷ written.read.certificates) written.these certificates_are written.is_read.statements_are told refused
 
   by_judge : PrintsDecide → (verdict : Verdict) → IsVerdictOn query statements prints verdict → IsVerdictFor accepts query statements verdict
   by_judge law verdict on =
@@ -184,5 +189,4 @@ module _ (accepts : Accepts) (query : QueryOfTexts) (statements : List Text) (pr
   pub verdict_of_judge : PrintsDecide → (result : VerdictAnswer) → TellsAnswer result query statements prints → TellsVerdictFor result accepts query statements
   verdict_of_judge law result (inl (verdict, on, tells)) = inl (verdict, by_judge law verdict on, tells)
   verdict_of_judge law result (inr (told, refused, is)) =
-      inr (is ∙ ap refusal_answer
-      (only_memory (certificate_texts query) statements (written.read.anchor ∷ written.read.certificates) written.these certificates_are written.is_read.statements_are told refused))
+      inr (is ∙ ap refusal_answer (only_refused told refused))

@@ -6,3 +6,4 @@ mod Readings
 mod Gathering
 mod Among
 mod Ends
+mod PolicyJudging

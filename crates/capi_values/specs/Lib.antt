@@ -9,6 +9,8 @@ pub mod Searching
 pub mod Finding
 pub mod Among
 pub mod WhyNot
+pub mod Policies
+pub mod PolicyCase
 pub use Rattle.asn.specs.Place
 pub use Rattle.names.specs.GeneralView
 pub use Rattle.path.specs.Query
