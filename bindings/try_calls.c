@@ -304,6 +304,30 @@ static void try_diagnoses(void)
     EXPECT(is_refusal(answer.refusal, X509CHECK_CERTIFICATES, 0, X509CHECK_FAULT_DER, 4, 0));
 }
 
+/* The certificates state no policies. */
+static void try_policies(void)
+{
+    static const uint8_t any[] = {0x55, 0x1D, 0x20, 0};
+    static const struct x509check_query zeros;
+    static const struct x509check_policy_inputs none;
+    const struct x509check_text path[] = {middle, leaf}, statements[] = {root_list, middle_list}, all = {any, sizeof any};
+    struct x509check_query query = query_of(root, path, 2);
+    struct x509check_policy_inputs inputs = {&all, 1, 0, 0, 0}, explicit_policy = {&all, 1, 0, 1, 0};
+    size_t lengths[2] = {7, 7};
+    uint8_t octets[2] = {7, 7};
+    struct x509check_policies answer =
+        x509check_validate_with_policies(&query, &inputs, statements, 2, good[0], good_count, lengths, 2, octets, 2);
+
+    EXPECT(answer.verdict.verdict == X509CHECK_VALID && answer.authority_count == 0 && answer.user_count == 0 && answer.octet_count == 0);
+    answer = x509check_validate_with_policies(&query, &explicit_policy, statements, 2, good[0], good_count, lengths, 2, octets, 2);
+    EXPECT(answer.verdict.verdict == X509CHECK_INVALID && answer.verdict.certificate == 1 && answer.verdict.reason == 17);
+    EXPECT(lengths[0] == 7 && lengths[1] == 7 && octets[0] == 7 && octets[1] == 7);
+    answer = x509check_validate_with_policies(&query, &none, statements, 2, good[0], good_count, NULL, 0, NULL, 0);
+    EXPECT(answer.verdict.verdict == X509CHECK_VALID && answer.user_count == 0);
+    answer = x509check_validate_with_policies(&zeros, &none, NULL, 0, NULL, 0, NULL, 0, NULL, 0);
+    EXPECT(answer.verdict.verdict == X509CHECK_REFUSED && is_refusal(answer.verdict.refusal, X509CHECK_CERTIFICATES, 0, X509CHECK_FAULT_DER, 4, 0));
+}
+
 static void try_200_certificates(void)
 {
     struct x509check_text path[200];
@@ -324,6 +348,7 @@ static void try_names(void)
     EXPECT(x509check_fault_name(4, name, 9) == 9);
     EXPECT(x509check_fault_name(0, name, sizeof name) == 0 && name[0] == '\0');
     EXPECT(x509check_reason_name(X509CHECK_INVALID, 16, name, sizeof name) == 7 && strcmp(name, "TooLong") == 0);
+    EXPECT(x509check_reason_name(X509CHECK_INVALID, 19, name, sizeof name) == 12 && strcmp(name, "NoUserPolicy") == 0);
     EXPECT(x509check_reason_name(X509CHECK_REVOKED, 1, name, sizeof name) == 13 && strcmp(name, "keyCompromise") == 0);
     EXPECT(x509check_reason_name(X509CHECK_VALID, 1, name, sizeof name) == 0 && name[0] == '\0');
     for (uint32_t number = 0; number < 300; number++) {
@@ -363,6 +388,7 @@ int main(void)
     try_extensions();
     try_searches();
     try_diagnoses();
+    try_policies();
     try_200_certificates();
     try_names();
     return failed;
