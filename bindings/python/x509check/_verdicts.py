@@ -57,6 +57,10 @@ class Reason(enum.IntEnum):
     PURPOSE = 14
     EMPTY = 15
     TOO_LONG = 16
+    NO_VALID_POLICY = 17
+    """This reason and the next two are for who asks for policies, which no call here does yet."""
+    ANY_POLICY_MAPPED = 18
+    NO_USER_POLICY = 19
 
 
 class RevocationReason(enum.IntEnum):

@@ -86,9 +86,15 @@ pub enum Reason {
     Empty = 15,
     /// The path has more than 128 certificates.
     TooLong = 16,
+    /// A policy is required, and none is valid. This reason and the next two are for who asks for policies, which no call here does yet.
+    NoValidPolicy = 17,
+    /// It maps anyPolicy, or a policy to anyPolicy.
+    AnyPolicyMapped = 18,
+    /// A policy is required, and none of the user's is valid at the end of the path.
+    NoUserPolicy = 19,
 }
 
-const REASONS: [Reason; 16] = [
+const REASONS: [Reason; 19] = [
     Reason::Repeated,
     Reason::Signature,
     Reason::NotYet,
@@ -105,6 +111,9 @@ const REASONS: [Reason; 16] = [
     Reason::Purpose,
     Reason::Empty,
     Reason::TooLong,
+    Reason::NoValidPolicy,
+    Reason::AnyPolicyMapped,
+    Reason::NoUserPolicy,
 ];
 
 /// The reason of this rank.
@@ -222,7 +231,7 @@ mod tests {
                 Err(Error::Unexpected("the verdict", number as usize))
             );
         }
-        for rank in [0, 15, 16, 17, u32::MAX] {
+        for rank in [0, 15, 16, 20, u32::MAX] {
             assert_eq!(
                 verdict(2, rank, 1),
                 Err(Error::Unexpected("the reason", rank as usize))
