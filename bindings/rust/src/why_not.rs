@@ -167,7 +167,7 @@ mod tests {
         for number in [0, 1, 5, 6, 10, u32::MAX] {
             assert!(told(number, 0, &[]).is_err(), "{number}");
         }
-        for rank in [0, 17, u32::MAX] {
+        for rank in [0, 20, u32::MAX] {
             assert!(told(8, rank, &[]).is_err(), "{rank}");
             assert!(told(9, 0, &[(3, rank)]).is_err(), "{rank}");
         }
