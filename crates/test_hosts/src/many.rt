@@ -8,26 +8,26 @@ use std::test::Fail;
 /// Bases on hosts: more domains than are gone over one by one, and hosts, in no order.
 const HOST_BASES: &str = "
 www.example.com
-.d07.example
+.k07.example
 .example.org
 host.example.net
-.d01.example
-.a.d01.example
+.k01.example
+.a.k01.example
 WWW.Example.Org
-.d12.example
+.k12.example
 example.com
-.d03.example
-.d10.example
-.d02.example
+.k03.example
+.k10.example
+.k02.example
 a.example
-.d09.example
-.d05.example
-.d04.example
+.k09.example
+.k05.example
+.k04.example
 z.example
-.d11.example
-.d06.example
-.d08.example
-.D13.Example
+.k11.example
+.k06.example
+.k08.example
+.K13.Example
 localhost
 .test
 ";
@@ -49,15 +49,15 @@ no http://example.net/
 yes http://a.example/
 no http://b.example/
 no http://a.a.example/
-yes ftp://x.d01.example/
-yes ftp://x.a.d01.example/
-no ftp://d01.example/
-yes ftp://a.d01.example/
-yes ftp://x.d13.example/
-yes ftp://x.D02.EXAMPLE/
-no ftp://x.d14.example/
-yes ftp://x.y.z.d12.example/
-no ftp://xd12.example/
+yes ftp://x.k01.example/
+yes ftp://x.a.k01.example/
+no ftp://k01.example/
+yes ftp://a.k01.example/
+yes ftp://x.k13.example/
+yes ftp://x.K02.EXAMPLE/
+no ftp://x.k14.example/
+yes ftp://x.y.z.k12.example/
+no ftp://xk12.example/
 yes https://localhost/
 no https://localhost.example/
 yes https://any.test/
@@ -78,7 +78,7 @@ mail.example.net
 Root@example.net
 webmaster@localhost
 example.edu
-.d01.example
+.k01.example
 ";
 
 /// Whether the mail address is among those.
@@ -105,8 +105,8 @@ yes any@Example.Edu
 no any@mail.example.edu
 yes webmaster@localhost
 no postmaster@localhost
-yes any@a.d01.example
-no any@d01.example
+yes any@a.k01.example
+no any@k01.example
 ";
 
 /// Whether the base lies in one of those on hosts.
@@ -117,11 +117,11 @@ no .www.example.com
 yes .example.org
 no example.org
 no .org
-yes .d01.example
-yes .x.D01.Example
-yes x.d01.example
-no d01.example
-no .d14.example
+yes .k01.example
+yes .x.K01.Example
+yes x.k01.example
+no k01.example
+no .k14.example
 yes a.example
 no .a.example
 yes .test
@@ -143,7 +143,7 @@ no b.example
 no .b.example
 no localhost
 yes example.edu
-yes .x.d01.example
+yes .x.k01.example
 ";
 
 fn hosts_of(alloc: Global) -> Result<Vec<HostBase<'static>>, Fail> {
