@@ -5,7 +5,7 @@
  * them. A pointer may be null if its length or count is 0. Results are numbers and parts of the caller's text: offsets and lengths in
  * octets, counted from its first octet. There is nothing to free. All calls may run on several threads at a time.
  *
- * Faults are numbers, 0 for none: 1 to 7 of DER, 11 to 17 of names, 21 to 33 of certificates, 41 to 59 of statements
+ * Faults are numbers, 0 for none: 1 to 7 of DER, 11 to 19 of names, 21 to 33 of certificates, 41 to 59 of statements
  * (docs/REFERENCE.md), which x509check_fault_name names. The fault is the first in the text, and its offset that of the value at fault.
  *
  * Link with libx509check.a, which `make` puts in bindings/out and `make install` in lib. It needs nothing but libc, and takes memory from

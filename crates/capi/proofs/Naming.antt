@@ -34,6 +34,8 @@ of_names name.Text = refl
 of_names name.DnsForm = refl
 of_names name.IpForm = refl
 of_names name.MaskForm = refl
+of_names name.MailForm = refl
+of_names name.UriForm = refl
 
 of_certificates : (fault : CertFault) → numbered_fault_name (cert_fault_number fault) ≡ cert_fault_name fault
 of_certificates (cert.Refused (cert_rule.Der one) at) = refl

@@ -30,6 +30,8 @@ der_or_name_fault number =
     if number == 15 then codes "DnsForm" else
     if number == 16 then codes "IpForm" else
     if number == 17 then codes "MaskForm" else
+    if number == 18 then codes "MailForm" else
+    if number == 19 then codes "UriForm" else
     []
 
 -- of certificates

@@ -24,6 +24,8 @@ fn der_or_name_fault(number: u32) -> &'static str
         15 => "DnsForm",
         16 => "IpForm",
         17 => "MaskForm",
+        18 => "MailForm",
+        19 => "UriForm",
         _ => "",
     }
 }

@@ -435,6 +435,7 @@ const FAULT_NAMES: &[(u32, &[u8])] = &[
     (8, b"Memory"),
     (10, b""),
     (17, b"MaskForm"),
+    (19, b"UriForm"),
     (20, b""),
     (21, b"Der"),
     (33, b"Memory"),

@@ -1,5 +1,5 @@
 -- Certificates (RFC 5280, 4.1): SEQUENCE { tbsCertificate, signatureAlgorithm, signatureValue BIT STRING }
-use Rattle.std.specs.Prelude.{ℕ, Bool, List, Option, Some, None, Result, Ok}
+use Rattle.std.specs.Prelude.{ℕ, Bool, List, [], map, Option, Some, None, Result, Ok}
 use Rattle.std.specs.Str.{bytes_eq}
 use Rattle.asn.specs.Place.{Place, seen_tlv, body}
 use Rattle.asn.specs.Members.{Members, left, members}
@@ -83,7 +83,8 @@ signature_value value = check_that (has_no_unused_bits (body value)) R.Signature
 abbrev pub next_signature : Members → Result (BitString × Members) (CertRule × ℕ)
 next_signature left = component 0x03 signature_value left
 
--- The fields of a certificate. What is a part of its octets is told with its place.
+-- The fields of a certificate. What is a part of its octets is told with its place. The points are names under which lists about it are
+-- published (4.2.1.13), each a general name as its octets, where they count; reading leaves them out.
 pub record Certificate : Type 0 where
   pub octets : List ℕ
   pub tbs : Place
@@ -96,6 +97,7 @@ pub record Certificate : Type 0 where
   pub key_info : SubjectPublicKeyInfo
   pub extensions : Extensions
   pub signature : BitString
+  pub points : List (List ℕ)
 
 abbrev pub seen_certificate : code.Certificate → Certificate
 seen_certificate read = record {
@@ -110,6 +112,7 @@ seen_certificate read = record {
   key_info = seen_key_info read.subject_public_key_info;
   extensions = seen_extensions read.extensions;
   signature = seen_bit_string read.signature;
+  points = map (λ name. name.now) read.points.items;
 }
 
 abbrev pub certificate_with : List ℕ → Place → TbsCertificate → BitString → Certificate
@@ -125,6 +128,7 @@ certificate_with octets signed tbs signature = record {
   key_info = tbs.subject.key_info;
   extensions = tbs.extensions;
   signature = signature;
+  points = [];
 }
 
 -- The checks in their order.

@@ -40,6 +40,9 @@ pub struct Certificate<'a> {
     pub extensions: Extensions<'a>,
     /// signatureValue, in which no bit is unused.
     pub signature: BitString<'a>,
+    /// The names under which lists about it are published, each a general name as its octets (4.2.1.13). Reading leaves them out: they
+    /// count in the wide profile alone.
+    pub points: Vec<&'a [u8]>,
 }
 
 /// extensions [3] EXPLICIT Extensions OPTIONAL, in v3 alone
@@ -179,6 +182,7 @@ impl<'a> Certificate<'a> {
             subject_public_key_info: tbs.subject.key_info,
             extensions: tbs.extensions,
             signature,
+            points: Vec::new(alloc),
         })
     }
 

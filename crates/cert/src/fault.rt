@@ -76,7 +76,7 @@ pub enum CertFault {
 }
 
 impl CertRule {
-    /// The number of the rule, from 21 to 32, or from 11 to 17 for a fault in a name.
+    /// The number of the rule, from 21 to 32, or from 11 to 19 for a fault in a name.
     pub fn number(self) -> u8
         ensures { result ≡ cert_rule_number self }
     {

@@ -18,6 +18,8 @@ fault 14 Text: A string with octets that its type does not hold. Ask the issuer 
 fault 15 DnsForm: No DNS name, or no base of a constraint on them. Wildcards and names that are not of ASCII letters are served as they stand; a name of more than 253 octets, or with an empty label, is not one. (RFC 5280, 4.2.1.6 and 4.2.1.10; RFC 1034, 3.5)
 fault 16 IpForm: An address, or an address with its mask, of another number of octets. An address has 4 or 16 octets, one with a mask 8 or 32. (RFC 5280, 4.2.1.6 and 4.2.1.10)
 fault 17 MaskForm: A mask that is not ones and then zeros. Ask the issuer for a new certificate. (RFC 5280, 4.2.1.10)
+fault 18 MailForm: No mail address, or no base of a constraint on them. A local part in quotes is not served. Ask the issuer for a new certificate. (RFC 5280, 4.2.1.6 and 4.2.1.10; RFC 5321, 4.1.2)
+fault 19 UriForm: No base of a constraint on URIs, which is a host, or a dot and a domain. Ask the issuer for a new certificate. (RFC 5280, 4.2.1.10)
 fault 21 Der: The input, or the contents of an OCTET STRING that holds a value, are not DER; the inner fault is one of 1 to 7, and the program says its number and name. The message has the inner fault, 1 to 7: look that up. (X.690)
 fault 22 Layout: An identifier octet that the layout does not have there, a value that is missing or left over, a DEFAULT FALSE that is spelled out. If the file begins with `-----BEGIN`, it is PEM: convert it by bin/to_der. Or the file holds something else than a certificate. (RFC 5280, 4.1)
 fault 23 Version: A version other than v2 and v3 that is spelled out; a unique identifier in v1; extensions before v3. Ask the issuer for a new certificate. (RFC 5280, 4.1.2.1 and 4.1.2.8)

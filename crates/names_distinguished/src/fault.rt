@@ -29,13 +29,19 @@ pub enum NameRule {
     /// A mask that is not ones and then zeros (RFC 4632, 3.1).
     #[error("fault 17: not a mask of ones and then zeros")]
     MaskForm,
+    /// Not an rfc822Name, or not the base of a constraint on them (RFC 5280, 4.2.1.6 and 4.2.1.10); told only to who asks for such names.
+    #[error("fault 18: not a mail address")]
+    MailForm,
+    /// Not the base of a constraint on URIs: a host, or a dot and a domain (RFC 5280, 4.2.1.10); told only to who asks for such names.
+    #[error("fault 19: not a constraint on URIs")]
+    UriForm,
 }
 
 /// The rule that is broken, and the offset of the value, from the first octet of the value that was handed in.
 pub type NameRefusal = (NameRule, usize);
 
 impl NameRule {
-    /// The number of the fault, from 11 to 17.
+    /// The number of the fault, from 11 to 19.
     pub fn number(self) -> u8
         ensures { result ≡ name_rule_number self }
     {
@@ -47,6 +53,8 @@ impl NameRule {
             NameRule::DnsForm => 15,
             NameRule::IpForm => 16,
             NameRule::MaskForm => 17,
+            NameRule::MailForm => 18,
+            NameRule::UriForm => 19,
         }
     }
 
@@ -62,6 +70,8 @@ impl NameRule {
             NameRule::DnsForm => "DnsForm",
             NameRule::IpForm => "IpForm",
             NameRule::MaskForm => "MaskForm",
+            NameRule::MailForm => "MailForm",
+            NameRule::UriForm => "UriForm",
         }
     }
 }

@@ -42,6 +42,7 @@ plain key issuer serial extensions = record {
   key_info = record { value = record { octets = key ∷ []; at = 0 }; algorithm = no_algorithm; key = record { value = nowhere; octets = key ∷ [] } };
   extensions = extensions;
   signature = record { value = nowhere; octets = [] };
+  points = [];
 }
 
 -- the anchor R, 82, and below it T, 84

@@ -1,5 +1,5 @@
 -- What signed statements say of certificates, and what is held of them (RFC 5280, 5; RFC 6960, 4.2).
-use Rattle.std.specs.Prelude.{◌&&◌, ℕ, ℤ, Bool, true, false, List, Option, None}
+use Rattle.std.specs.Prelude.{◌&&◌, ◌++◌, ℕ, ℤ, Bool, true, false, List, Option, None}
 use Rattle.std.specs.Str.{bytes_eq}
 use Rattle.statements_facts.specs.declared.scope.Scope.{Scope}
 use Rattle.statements_facts.specs.declared.scope.Scope.TheVariants.{All, User, Ca}
@@ -10,6 +10,11 @@ use Rattle.statements_facts.specs.declared.single.Status.{Status}
 pub record IssuerIdentity : Type 0 where
   pub name : List ℕ
   pub key_info : List ℕ
+
+-- the issuer at a point, a general name as its octets, where it publishes lists (RFC 5280, 5.2.5): behind the key of a name nothing stands,
+-- so what is held under the issuer at a point is apart from what is held under the issuer
+abbrev pub at_point : List ℕ → IssuerIdentity → IssuerIdentity
+at_point point issuer = record { name = issuer.name ++ point; key_info = issuer.key_info }
 
 -- when a statement counts: from thisUpdate until nextUpdate (RFC 5280, 5.1.2.4 and 5.1.2.5; RFC 6960, 4.2.2.1)
 pub record Window : Type 0 where

@@ -176,6 +176,8 @@ const FAULTS: &[(NameRule, u8, &str)] = &[
     (NameRule::DnsForm, 15, "DnsForm"),
     (NameRule::IpForm, 16, "IpForm"),
     (NameRule::MaskForm, 17, "MaskForm"),
+    (NameRule::MailForm, 18, "MailForm"),
+    (NameRule::UriForm, 19, "UriForm"),
 ];
 
 #[test]

@@ -108,6 +108,8 @@ const NAME_RULE: &[(NameRule, &str)] = &[
         NameRule::MaskForm,
         "fault 17: not a mask of ones and then zeros",
     ),
+    (NameRule::MailForm, "fault 18: not a mail address"),
+    (NameRule::UriForm, "fault 19: not a constraint on URIs"),
 ];
 
 #[test]
