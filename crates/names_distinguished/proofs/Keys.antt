@@ -12,8 +12,8 @@ use Rattle.names_distinguished.specs.declared.attribute.Attribute.{Attribute}
 use Rattle.names_distinguished.specs.NameView.{entry_of}
 use Rattle.names_distinguished.specs.AttributeValue.{ComparedValue, Text, Other}
 use Rattle.names_distinguished.specs.DistinguishedName.{ComparedAttribute, RdnMap}
-use Rattle.names_distinguished.specs.NameKey.{four_octets, counted, value_key, entry_key, rdn_key, name_key, rdns_key, ValueFits, EntryFits, RdnFits, NameFits, KeyIsExact, WithinIsByKeys}
-use Rattle.names_distinguished.specs.NameOctets.{rdns_of, KeysDecideWithin}
+use Rattle.names_distinguished.specs.NameKey.{four_octets, counted, value_key, entry_key, rdn_key, name_key, rdns_key, ValueFits, EntryFits, RdnFits, NameFits, KeyIsExact, KeyTellsItsEnd, WithinIsByKeys}
+use Rattle.names_distinguished.specs.NameOctets.{rdns_of, KeysDecideWithin, KeysTellTheirEnd}
 use Rattle.names_distinguished.proofs.Matching.{within_is_exact}
 use Rattle.names_distinguished.proofs.SequenceFits.{sequence_fits}
 
@@ -89,11 +89,17 @@ rdn_apart m n r s p q h =
     let b = all_apart entry_key EntryFits entry_apart (entries m) (entries n) r s p.each q.each a.0 a.1 in
     (same_entries_map m n b.0, b.1)
 
+pub key_tells_its_end : KeyTellsItsEnd
+unfolding name_key
+key_tells_its_end n m r s p q e =
+    let f : four_octets (length n) ++ (flat_map rdn_key n ++ r) ≡ four_octets (length m) ++ (flat_map rdn_key m ++ s) =
+    sym (append_assoc (four_octets (length n)) (flat_map rdn_key n) r) ∙ (e ∙ append_assoc (four_octets (length m)) (flat_map rdn_key m) s) in
+    let a = number_apart (length n) (length m) _ _ p.count_fits q.count_fits f in
+    all_apart rdn_key RdnFits rdn_apart n m r s p.each q.each a.0 a.1
+
 pub same_names : (n m : List RdnMap) → NameFits n → NameFits m → name_key n ≡ name_key m → n ≡ m
 unfolding name_key
-same_names n m p q e =
-    let a = number_apart (length n) (length m) (flat_map rdn_key n) (flat_map rdn_key m) p.count_fits q.count_fits e in
-    (all_apart rdn_key RdnFits rdn_apart n m [] [] p.each q.each a.0 (append-nil (flat_map rdn_key n) ∙ (a.1 ∙ sym (append-nil (flat_map rdn_key m))))).0
+same_names n m p q e = (key_tells_its_end n m [] [] p q (append-nil (name_key n) ∙ (e ∙ sym (append-nil (name_key m))))).0
 
 pub key_is_exact : KeyIsExact
 key_is_exact n m p q = (same_names n m p q, λ e. ap name_key e)
@@ -113,6 +119,11 @@ within_is_by_keys inner outer p q =
     both_ways _ _
     (λ t. let w = within.0 t in begins.1 (rdns_key w.rest) (ap rdns_key w.joined ∙ flat_map-append rdn_key outer w.rest))
     (λ t. let w = all_begin rdn_key RdnFits rdn_apart rdn_key_some inner outer _ p.each q.each (begins.0 t) in within.1 (record { rest = w.0; joined = w.1 }))
+
+pub keys_tell_their_end : KeysTellTheirEnd
+unfolding rdns_of
+keys_tell_their_end left right behind after e =
+    key_tells_its_end (rdns_of left) (rdns_of right) behind after (sequence_fits left.rdns) (sequence_fits right.rdns) e
 
 pub keys_decide_within : KeysDecideWithin
 unfolding rdns_of

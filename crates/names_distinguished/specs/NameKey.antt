@@ -60,6 +60,12 @@ KeyIsExact =
     (left right : List RdnMap) → NameFits left → NameFits right →
     (name_key left ≡ name_key right ↔ NamesMatch left right)
 
+-- a key tells where it ends: of octets that begin with the key of a name, that name and what stands behind its key are one
+abbrev pub KeyTellsItsEnd : Type 0
+KeyTellsItsEnd =
+    (left right : List RdnMap) (behind after : List ℕ) → NameFits left → NameFits right →
+    name_key left ++ behind ≡ name_key right ++ after → NamesMatch left right × (behind ≡ after)
+
 -- a name lies within another exactly where the one's key of sets begins with the other's
 abbrev pub WithinIsByKeys : Type 0
 WithinIsByKeys =

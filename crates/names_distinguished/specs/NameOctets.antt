@@ -1,5 +1,5 @@
 -- What a name that was read holds.
-use Rattle.std.specs.Prelude.{◌≡◌, ◌↔◌, ℕ, nat_eq, List}
+use Rattle.std.specs.Prelude.{◌≡◌, ◌↔◌, ℕ, nat_eq, List, ◌++◌}
 use Rattle.std.specs.List.{starts_with}
 use Rattle.names_distinguished.specs.declared.name.Name.{Name}
 use Rattle.names_distinguished.specs.DistinguishedName.{RdnMap, NamesMatch, is_within}
@@ -22,6 +22,12 @@ rdns_of name = maps_of name.rdns
 abbrev pub KeysDecideMatching : Type 0
 KeysDecideMatching =
     (left right : Name) → (name_key (rdns_of left) ≡ name_key (rdns_of right) ↔ NamesMatch (rdns_of left) (rdns_of right))
+
+-- the key of a name tells where it ends
+abbrev pub KeysTellTheirEnd : Type 0
+KeysTellTheirEnd =
+    (left right : Name) (behind after : List ℕ) → name_key (rdns_of left) ++ behind ≡ name_key (rdns_of right) ++ after →
+    NamesMatch (rdns_of left) (rdns_of right) × (behind ≡ after)
 
 -- a name lies within another exactly where the one's key of sets begins with the other's
 abbrev pub KeysDecideWithin : Type 0

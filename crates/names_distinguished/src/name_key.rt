@@ -3,8 +3,8 @@
 ghost use Rattle.std.specs.Prelude.{◌≡◌, ◌↔◌, ◌<◌, ◌^◌, ◌++◌, ◌∷◌, IsTrue, OnOk, IfOk, map, length};
 ghost use Rattle.std.specs.FinMap.{entries};
 ghost use Rattle.names_distinguished.specs.AttributeOrder.{AscendsByKind, HasSameValues, EndsInKind, AreFirstOfEach};
-ghost use Rattle.names_distinguished.specs.NameKey.{four_octets, counted, entry_key, rdn_key, name_key, rdns_key, EntryFits, RdnFits, KeyIsExact, WithinIsByKeys};
-ghost use Rattle.names_distinguished.specs.NameOctets.{KeysDecideMatching, KeysDecideWithin};
+ghost use Rattle.names_distinguished.specs.NameKey.{four_octets, counted, entry_key, rdn_key, name_key, rdns_key, EntryFits, RdnFits, KeyIsExact, KeyTellsItsEnd, WithinIsByKeys};
+ghost use Rattle.names_distinguished.specs.NameOctets.{KeysDecideMatching, KeysDecideWithin, KeysTellTheirEnd};
 ghost use Rattle.names_distinguished.specs.NameView.{entry_of, entries_of, map_of, maps_of};
 
 use crate::attribute::{Attribute, is_text};
@@ -180,11 +180,13 @@ impl RdnSequence<'_> {
     }
 }
 
-/// Two names have one key exactly if they match, and one lies within another exactly if its key of sets begins with the other's: any two
-/// that were read, and all lists of sets whose numbers fit in four octets.
+/// Two names have one key exactly if they match; a key tells where it ends; and one name lies within another exactly if its key of sets
+/// begins with the other's: any two that were read, and all lists of sets whose numbers fit in four octets.
 pub fn key_laws()
     ensures names { KeysDecideMatching }
     ensures lists { KeyIsExact }
+    ensures ends { KeysTellTheirEnd }
+    ensures lists_end { KeyTellsItsEnd }
     ensures names_within { KeysDecideWithin }
     ensures lists_within { WithinIsByKeys }
 {}

@@ -1,19 +1,18 @@
 -- The same newest facts of consistent issuers are the same facts, so the verdicts are equal.
-use Rattle.std.proofs.Common.{◌≡◌, List, [], ◌∷◌, ◌++◌, Option, option_map, Contains, refl, sym, ap, subst, ◌∙◌, inl, inr}
+use Rattle.std.proofs.Common.{◌≡◌, ℕ, List, [], ◌∷◌, ◌++◌, map, ap₂, Option, option_map, Contains, refl, sym, ap, subst, ◌∙◌, inl, inr}
 use Rattle.std.specs.List.{AllByRecursion}
 use Rattle.std.proofs.lemmas.List.Elements.{Contains-append_left, Contains-append_right, Contains-append_cases}
 use Rattle.cert.specs.Place.{body}
-use Rattle.statements_facts.specs.declared.scope.Scope.TheVariants.{All}
 use Rattle.statements_facts.specs.Statement.{Holdings, CrlSlot, OcspSlot, CrlFact, OcspFact, CrlAnswer, answer_for}
 use Rattle.path.specs.Query.{Query, Accepts}
 use Rattle.path.specs.Validity.{OutcomeIsOne}
 use Rattle.relying_agreement.specs.declared.verdict.Verdict.{Verdict}
-use Rattle.relying_agreement.specs.Link.{Link, links_of, own_scope, crl_slot_for, ocsp_slot_for}
+use Rattle.relying_agreement.specs.Link.{Link, links_of, crl_slots_of, ocsp_slot_for}
 use Rattle.statements_facts.specs.Newest.{is_unexceeded, newer_crl, newer_ocsp}
-use Rattle.relying_agreement.specs.Status.{Answers}
+use Rattle.relying_agreement.specs.Status.{Answers, list_held}
 use Rattle.relying_agreement.specs.Verdict.{verdict_of, IsVerdict}
 use Rattle.relying_agreement.specs.Run.{Party, PartyHoldsNewest, crls_seen, responses_seen}
-use Rattle.relying_agreement.specs.Agreement.{HoldSameNewest, HoldSameNewestOf, CrlsSeenAreConsistent, ResponsesSeenAreConsistent, IssuerIsConsistent, AllAreConsistent, AllIsEnough, CrlsHeldAreConsistent, ResponsesHeldAreConsistent, HeldIsConsistent, HeldAreConsistent, PartiesAgree, RunsAgree, RunsAgreeWhereAllAreConsistent, HeldWasSeen, SameNewestIsTheSame, OneOfANumberIsConsistent, PointwiseIsEnough}
+use Rattle.relying_agreement.specs.Agreement.{HoldSameNewest, HoldSameNewestOf, HoldSameNumber, CrlsSeenAreConsistent, ResponsesSeenAreConsistent, IssuerIsConsistent, AllAreConsistent, AllIsEnough, CrlsHeldAreConsistent, ResponsesHeldAreConsistent, HeldIsConsistent, HeldAreConsistent, PartiesAgree, RunsAgree, RunsAgreeWhereAllAreConsistent, HeldWasSeen, SameNewestIsTheSame, OneOfANumberIsConsistent, PointwiseIsEnough}
 use Rattle.relying_agreement.specs.Comparison.{HoldSameOf}
 use Rattle.relying_agreement.proofs.Options.{found_within, same_by_mark}
 use Rattle.relying_agreement.proofs.VerdictLaws.{same_verdicts, verdict_is_one}
@@ -31,13 +30,18 @@ responses_were_seen one other a b slot consistent = λ f g is_f is_g. consistent
     (Contains-append_left (responses_seen one slot) (responses_seen other slot) f (found_within (is_unexceeded newer_ocsp (responses_seen one slot)) (responses_seen one slot) f (sym (a.ocsp slot) ∙ is_f)))
     (Contains-append_right (responses_seen one slot) (responses_seen other slot) g (found_within (is_unexceeded newer_ocsp (responses_seen other slot)) (responses_seen other slot) g (sym (b.ocsp slot) ∙ is_g)))
 
+each_list_was_seen : (one other : Party) → PartyHoldsNewest one → PartyHoldsNewest other → (slots : List CrlSlot) → AllByRecursion (CrlsSeenAreConsistent one other) slots
+    → AllByRecursion (CrlsHeldAreConsistent one.held other.held) slots
+each_list_was_seen one other a b [] consistent = tt
+each_list_was_seen one other a b (slot ∷ slots) consistent =
+    (crls_were_seen one other a b slot consistent.0, each_list_was_seen one other a b slots consistent.1)
+
 each_was_seen : (one other : Party) → PartyHoldsNewest one → PartyHoldsNewest other → (links : List Link) → AllByRecursion (IssuerIsConsistent one other) links
     → AllByRecursion (HeldIsConsistent one.held other.held) links
 each_was_seen one other a b [] consistent = tt
 each_was_seen one other a b (link ∷ links) consistent = (
   record {
-    all = crls_were_seen one other a b (crl_slot_for link All) consistent.0.all;
-    own = crls_were_seen one other a b (crl_slot_for link (own_scope link.certificate)) consistent.0.own;
+    lists = each_list_was_seen one other a b (crl_slots_of link) consistent.0.lists;
     ocsp = responses_were_seen one other a b (ocsp_slot_for link) consistent.0.ocsp;
   },
   each_was_seen one other a b links consistent.1,
@@ -46,33 +50,37 @@ each_was_seen one other a b (link ∷ links) consistent = (
 pub held_was_seen : HeldWasSeen
 held_was_seen query one other a b consistent = each_was_seen one other a b (links_of query) consistent
 
+enough_lists : (one other : Party) → AllAreConsistent one other → (slots : List CrlSlot) → AllByRecursion (CrlsSeenAreConsistent one other) slots
+enough_lists one other all [] = tt
+enough_lists one other all (slot ∷ slots) = (all.crls slot, enough_lists one other all slots)
+
 enough : (one other : Party) → AllAreConsistent one other → (links : List Link) → AllByRecursion (IssuerIsConsistent one other) links
 enough one other all [] = tt
 enough one other all (link ∷ links) = (
-  record { all = all.crls (crl_slot_for link All); own = all.crls (crl_slot_for link (own_scope link.certificate)); ocsp = all.responses (ocsp_slot_for link) },
+  record { lists = enough_lists one other all (crl_slots_of link); ocsp = all.responses (ocsp_slot_for link) },
   enough one other all links,
 )
 
 pub all_is_enough : AllIsEnough
 all_is_enough query one other all = enough one other all (links_of query)
 
-same_answers : (all_one all_other own_one own_other : Option CrlAnswer) (ocsp_one ocsp_other : Option OcspFact)
-    → all_one ≡ all_other → own_one ≡ own_other → ocsp_one ≡ ocsp_other
-    → ◌≡◌ {A = Answers} (record { all = all_one; own = own_one; ocsp = ocsp_one }) (record { all = all_other; own = own_other; ocsp = ocsp_other })
-same_answers a b c d e f all own ocsp = λ i. record { all = all i; own = own i; ocsp = ocsp i }
-
 same_crl : (one other : Holdings) (slot : CrlSlot) → CrlsHeldAreConsistent one other slot
     → option_map (λ (fact : CrlFact). fact.number) (one.crl slot) ≡ option_map (λ (fact : CrlFact). fact.number) (other.crl slot)
     → one.crl slot ≡ other.crl slot
 same_crl one other slot consistent same = same_by_mark (λ (fact : CrlFact). fact.number) (one.crl slot) (other.crl slot) consistent same
 
+same_lists : (one other : Holdings) (serial : List ℕ) (slots : List CrlSlot) → AllByRecursion (CrlsHeldAreConsistent one other) slots → AllByRecursion (HoldSameNumber one other) slots
+    → map (list_held one serial) slots ≡ map (list_held other serial) slots
+same_lists one other serial [] consistent newest = refl
+same_lists one other serial (slot ∷ slots) consistent newest =
+    ap₂ (λ crl crls. option_map (answer_for serial) crl ∷ crls) (same_crl one other slot consistent.0 newest.0) (same_lists one other serial slots consistent.1 newest.1)
+
 -- the same newest of a certificate is the same answer
 pub same_of_newest : SameNewestIsTheSame
 same_of_newest one other link consistent newest =
-    same_answers _ _ _ _ _ _
-    (ap (option_map (answer_for (body link.certificate.serial))) (same_crl one other (crl_slot_for link All) consistent.all newest.all))
-    (ap (option_map (answer_for (body link.certificate.serial))) (same_crl one other (crl_slot_for link (own_scope link.certificate)) consistent.own newest.own))
-    (same_by_mark (λ (fact : OcspFact). fact.times) (one.ocsp (ocsp_slot_for link)) (other.ocsp (ocsp_slot_for link)) consistent.ocsp newest.ocsp)
+    let lists = same_lists one other (body link.certificate.serial) (crl_slots_of link) consistent.lists newest.lists in
+    let ocsp = same_by_mark (λ (fact : OcspFact). fact.times) (one.ocsp (ocsp_slot_for link)) (other.ocsp (ocsp_slot_for link)) consistent.ocsp newest.ocsp in
+    λ i. record { lists = lists i; ocsp = ocsp i }
 
 all_same : (one other : Holdings) (links : List Link) → AllByRecursion (HeldIsConsistent one other) links → AllByRecursion (HoldSameNewestOf one other) links
     → AllByRecursion (HoldSameOf one other) links

@@ -76,7 +76,7 @@ valid_verdict party v same is = subst (λ accepts. IsVerdict accepts query party
 -- lists of R on T, and responses, by what they compute to
 one_holds : HoldSameNewest query one.held other.held
 unfolding name_key contents
-one_holds = (record { all = refl; own = refl; ocsp = rw (itself (sha1 (82 ∷ []))) refl }, tt)
+one_holds = (record { lists = (refl, (refl, tt)); ocsp = rw (itself (sha1 (82 ∷ []))) refl }, tt)
 
 pub all_premises_hold : AllPremisesHold
 unfolding name_key contents
@@ -117,7 +117,7 @@ needs_consistency = record {
   one_verifier = refl;
   a_newest = newest accepts_all (given_crl (crl_numbered 5) ∷ []);
   b_newest = newest accepts_all (given_crl (crl_with_entry 5) ∷ []);
-  same_newest = (record { all = refl; own = refl; ocsp = refl }, tt);
+  same_newest = (record { lists = (refl, (refl, tt)); ocsp = refl }, tt);
   disagree = record {
     v = Valid;
     w = Revoked 1 1;
@@ -156,7 +156,7 @@ needs_holds_newest = record {
   a_newest = newest accepts_all (given_crl (crl_numbered 5) ∷ []);
   consistent = all_is_enough query holds_5 planted
       (one_of_a_number (λ slot. crl_numbered) (λ slot. good_at) holds_5 planted (ours accepts_all (given_crl (crl_numbered 5) ∷ []) (refl, tt)) nothing_seen);
-  same_newest = (record { all = refl; own = refl; ocsp = refl }, tt);
+  same_newest = (record { lists = (refl, (refl, tt)); ocsp = refl }, tt);
   disagree = record {
     v = Valid;
     w = Revoked 1 1;
@@ -174,7 +174,7 @@ needs_one_verifier = record {
   a_newest = newest accepts_all (given_crl (crl_numbered 5) ∷ []);
   b_newest = newest accepts_none (given_crl (crl_numbered 5) ∷ []);
   consistent = consistent accepts_all accepts_none (given_crl (crl_numbered 5) ∷ []) (given_crl (crl_numbered 5) ∷ []) (refl, tt) (refl, tt);
-  same_newest = (record { all = refl; own = refl; ocsp = refl }, tt);
+  same_newest = (record { lists = (refl, (refl, tt)); ocsp = refl }, tt);
   disagree = record {
     v = Valid;
     w = Invalid 1 Signature;
@@ -194,8 +194,10 @@ strangers_do_not_matter = record {
   not_all = λ all. true≢false (sym (ap (λ (f : CrlFact). is_some (f.reasons (5 ∷ []))) (all.crls stranger_slot (crl_numbered 1) (crl_with_entry 1) (0, lit< tt, refl) (1, lit< tt, refl) refl)));
   consistent = (
     record {
-      all = λ f g in_f in_g same. all_one (crl_numbered 3) (crl_numbered 3 ∷ crl_numbered 3 ∷ []) (refl, (refl, tt)) f g in_f in_g;
-      own = λ f g in_f in_g same. all_one (crl_numbered 3) [] tt f g in_f in_g;
+      lists = (
+        λ f g in_f in_g same. all_one (crl_numbered 3) (crl_numbered 3 ∷ crl_numbered 3 ∷ []) (refl, (refl, tt)) f g in_f in_g,
+        (λ f g in_f in_g same. all_one (crl_numbered 3) [] tt f g in_f in_g, tt),
+      );
       ocsp = λ f g in_f in_g same. all_one (good_at (record { this_update = pos 1; produced_at = pos 1 })) [] tt f g in_f in_g;
     },
     tt,

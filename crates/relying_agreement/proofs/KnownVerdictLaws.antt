@@ -1,5 +1,5 @@
 -- The known verdicts, by computing.
-use Rattle.std.proofs.Common.{◌==◌, Bool, true, false, [], ◌∷◌, Option, Some, None, refl, ap, true≢false}
+use Rattle.std.proofs.Common.{◌==◌, Bool, true, false, List, [], ◌∷◌, Option, Some, None, refl, ap, true≢false}
 use Rattle.sha1.specs.Sha1.{sha1}
 use Rattle.names.specs.NameKey.{name_key}
 use Rattle.cert.specs.Part.{contents}
@@ -52,9 +52,9 @@ abbrev is_valid : Verdict → Bool
 is_valid Valid = true
 is_valid other = false
 
-abbrev is_five : Option CrlAnswer → Bool
-is_five None = false
-is_five (Some crl) = crl.number == 5
+abbrev begins_with_five : List (Option CrlAnswer) → Bool
+begins_with_five (Some crl ∷ crls) = crl.number == 5
+begins_with_five crls = false
 
 pub names_first_difference : NamesFirstDifference
 unfolding name_key contents
@@ -62,5 +62,5 @@ names_first_difference = (
   refl,
   refl,
   λ same. true≢false (ap is_valid same),
-  record { before = []; link = _; after = _; is = refl; number = refl; same_before = tt; differs = λ same. true≢false (ap (λ (a : Answers). is_five a.all) same) },
+  record { before = []; link = _; after = _; is = refl; number = refl; same_before = tt; differs = λ same. true≢false (ap (λ (a : Answers). begins_with_five a.lists) same) },
 )

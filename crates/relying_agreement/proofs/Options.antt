@@ -1,10 +1,10 @@
 -- Options: what is kept, mapped or chained, and by what it was.
-use Rattle.std.proofs.Common.{◌≡◌, ◌⊎◌, Bool, true, List, Option, Some, None, option_map, option_and_then, is_some, find, Contains, Decides, refl, sym, ap, ◌∙◌, inl, inr, true≢false}
+use Rattle.std.proofs.Common.{◌≡◌, ◌⊎◌, ◌||◌, Bool, true, List, [], ◌∷◌, map, Any, Option, Some, None, option_map, option_and_then, is_some, find, Contains, Decides, refl, sym, ap, ◌∙◌, inl, inr, true≢false}
 use Rattle.std.specs.Option.{option_or}
-use Rattle.std.specs.List.{slice_get, position_or_len}
+use Rattle.std.specs.List.{slice_get, position_or_len, list_any}
 use Rattle.std.proofs.lemmas.Bool.{cases_Bool}
 use Rattle.std.proofs.lemmas.Option.{none-some, same_Some, slice_get_within, get_or_from_slice_get}
-use Rattle.std.proofs.lemmas.List.Folds.{find_at}
+use Rattle.std.proofs.lemmas.List.Folds.{find_at, Any-from_list_any, list_any-from_Any}
 use Rattle.relying_agreement.specs.Status.{kept_if}
 
 -- what is found stands in the list
@@ -83,3 +83,22 @@ or_second a b none = ap (λ o. option_or o b) none
 pub none_of : {A : Type 0} (o : Option A) → ((x : A) → o ≡ Some x → ⊥) → o ≡ None
 none_of None never = refl
 none_of (Some x) never = absurd (never x refl)
+
+pub some_or : {A : Type 0} (a b : Option A) → is_some (option_or a b) ≡ (is_some a || is_some b)
+some_or None b = refl
+some_or (Some x) b = refl
+
+pub or_none : {A : Type 0} (a b : Option A) → option_or a b ≡ None → (a ≡ None) × (b ≡ None)
+or_none None b none = (refl, none)
+or_none (Some x) b none = absurd (none-some x (sym none))
+
+-- one of a list
+pub any_decides : {A : Type 0} (test : A → Bool) (P : A → Type 0) → ((x : A) → Decides (test x) (P x)) → (xs : List A) → Decides (list_any test xs) (Any P xs)
+any_decides test P each xs = (
+  λ passed. let a = Any-from_list_any test xs passed in (a.0, a.1, a.2, a.3, (each a.1).0 a.4),
+  λ a. list_any-from_Any test xs (a.0, a.1, a.2, a.3, (each a.1).1 a.4),
+)
+
+pub any_mapped : {A B : Type 0} (test : B → Bool) (f : A → B) (xs : List A) → list_any test (map f xs) ≡ list_any (λ x. test (f x)) xs
+any_mapped test f [] = refl
+any_mapped test f (x ∷ xs) = ap (λ b. test (f x) || b) (any_mapped test f xs)

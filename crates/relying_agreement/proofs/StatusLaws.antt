@@ -1,18 +1,18 @@
 -- The tests of status say what the words do: which statements count, whether one covers, whether one revokes.
-use Rattle.std.proofs.Common.{◌≡◌, ◌⊎◌, ◌&&◌, ℕ, ℤ, ◌≤ℤ◌, int_le, Bool, true, false, T, Option, Some, None, option_map, is_some, IsSome, Decides, refl, sym, ap, subst, ◌∙◌, inl, inr, true≢false}
+use Rattle.std.proofs.Common.{◌≡◌, ◌⊎◌, ◌&&◌, ◌||◌, ℕ, ℤ, ◌≤ℤ◌, int_le, Bool, true, false, T, List, [], ◌∷◌, map, Option, Some, None, option_map, is_some, IsSome, Any, Decides, refl, sym, ap, subst, ◌∙◌, inl, inr, true≢false}
 use Rattle.std.specs.Bool.{passes}
+use Rattle.std.specs.List.{AllByRecursion, list_any}
+use Rattle.std.specs.Option.{option_or}
 use Rattle.std.proofs.lemmas.Bool.{and_parts, and_from}
 use Rattle.std.proofs.lemmas.Option.{none-some, same_Some}
 use Rattle.std.proofs.lemmas.Bool.Decides.{Decides-and, Decides-or, Decides-like}
 use Rattle.cert.specs.Place.{body}
-use Rattle.statements_facts.specs.declared.scope.Scope.{Scope}
-use Rattle.statements_facts.specs.declared.scope.Scope.TheVariants.{All}
 use Rattle.statements_facts.specs.declared.single.Status.{Status}
 use Rattle.statements_facts.specs.declared.single.Status.TheVariants as said
-use Rattle.statements_facts.specs.Statement.{Window, CrlFact, OcspFact, Holdings, CrlAnswer, answer_for}
-use Rattle.relying_agreement.specs.Link.{Link, own_scope, crl_slot_for, ocsp_slot_for}
-use Rattle.relying_agreement.specs.Status.{IsCurrent, is_current, may_sign_crls, crl_answer, evidence_of, kept_if, crl_that_counts, ocsp_that_counts, reason_of_status, is_good, crl_reason, ocsp_reason, deciding_reason, is_covered_by, CrlCounts, OcspCounts, CrlRevokes, OcspRevokes, IsNotListed, IsRevoked, SomeRevokes, IsCovered}
-use Rattle.relying_agreement.proofs.Options.{kept_is, is_kept, kept_some, mapped_is, chained_is, is_chained, chained_to, to_chained, first_or, or_first, or_second, none_of, either_decides, some_value}
+use Rattle.statements_facts.specs.Statement.{Window, CrlSlot, CrlFact, OcspFact, Holdings, CrlAnswer, answer_for}
+use Rattle.relying_agreement.specs.Link.{Link, crl_slots_of, ocsp_slot_for}
+use Rattle.relying_agreement.specs.Status.{IsCurrent, is_current, may_sign_crls, list_held, evidence_of, kept_if, crl_that_counts, ocsp_that_counts, reason_of_status, is_good, crl_reason, listed_reason, ocsp_reason, deciding_reason, is_covered_by, CrlCounts, SomeCrlCounts, SomeCrlLists, OcspCounts, CrlRevokes, FirstCrlRevokes, OcspRevokes, IsNotListed, IsRevoked, SomeRevokes, IsCovered}
+use Rattle.relying_agreement.proofs.Options.{kept_is, is_kept, kept_some, mapped_is, chained_is, is_chained, chained_to, to_chained, first_or, or_first, or_second, or_none, none_of, some_or, either_decides, some_value, any_decides, any_mapped}
 
 is_so : (b : Bool) → T b → b ≡ true
 is_so true t = refl
@@ -34,45 +34,67 @@ module _ (held : Holdings) (moment : ℤ) (link : Link) where
   abbrev may_sign : Bool
   may_sign = may_sign_crls link
 
-  -- the list of a scope is held and counts
-  abbrev CountsIn : Scope → CrlFact → Type 0
-  CountsIn scope fact = (held.crl (crl_slot_for link scope) ≡ Some fact) × (may_sign_crls link ≡ true) × IsCurrent fact.window moment
+  abbrev serial : List ℕ
+  serial = body link.certificate.serial
+
+  -- the answer of the list in a slot
+  abbrev told : CrlSlot → Option CrlAnswer
+  told slot = list_held held serial slot
 
   abbrev test : CrlAnswer → Bool
   test crl = may_sign_crls link && is_current crl.window moment
 
   abbrev answer : CrlFact → CrlAnswer
-  answer fact = answer_for (body link.certificate.serial) fact
+  answer fact = answer_for serial fact
 
-  counted : (scope : Scope) (found : CrlAnswer) → crl_that_counts moment may_sign (crl_answer held link scope) ≡ Some found
-      → (fact : CrlFact) × CountsIn scope fact × (answer fact ≡ found)
-  counted scope found e =
-      let kept = kept_some test (crl_answer held link scope) found e in
-      let from = mapped_is answer (held.crl (crl_slot_for link scope)) found kept.0 in
+  counted : (slot : CrlSlot) (found : CrlAnswer) → crl_that_counts moment may_sign (told slot) ≡ Some found
+      → (fact : CrlFact) × CrlCounts held moment link slot fact × (answer fact ≡ found)
+  counted slot found e =
+      let kept = kept_some test (told slot) found e in
+      let from = mapped_is answer (held.crl slot) found kept.0 in
       let parts = and_parts (may_sign_crls link) (is_current from.0.window moment) (ap test from.2 ∙ kept.1) in
-      (from.0, (from.1, parts.0, (current_decides from.0.window moment).0 parts.1), from.2)
+      (from.0, record { is_held = from.1; may_sign = parts.0; current = (current_decides from.0.window moment).0 parts.1 }, from.2)
 
-  counts : (scope : Scope) (fact : CrlFact) → CountsIn scope fact → crl_that_counts moment may_sign (crl_answer held link scope) ≡ Some (answer fact)
-  counts scope fact c =
-      is_kept test (crl_answer held link scope) (answer fact) (ap (option_map answer) c.0)
-      (and_from (may_sign_crls link) (is_current fact.window moment) c.1 ((current_decides fact.window moment).1 c.2))
+  counts : (slot : CrlSlot) (fact : CrlFact) → CrlCounts held moment link slot fact → crl_that_counts moment may_sign (told slot) ≡ Some (answer fact)
+  counts slot fact c =
+      is_kept test (told slot) (answer fact) (ap (option_map answer) c.is_held)
+      (and_from (may_sign_crls link) (is_current fact.window moment) c.may_sign ((current_decides fact.window moment).1 c.current))
 
-  crl_covers : (scope : Scope) → Decides (is_some (crl_that_counts moment may_sign (crl_answer held link scope))) ((fact : CrlFact) × CountsIn scope fact)
-  crl_covers scope = (
-    λ some. let found = some_value (crl_that_counts moment may_sign (crl_answer held link scope)) some in
-        let c = counted scope found.0 found.1 in (c.0, c.1),
-    λ (fact, c). ap is_some (counts scope fact c),
+  crl_covers : (slot : CrlSlot) → Decides (is_some (crl_that_counts moment may_sign (told slot))) (SomeCrlCounts held moment link slot)
+  crl_covers slot = (
+    λ some. let found = some_value (crl_that_counts moment may_sign (told slot)) some in
+        let c = counted slot found.0 found.1 in (c.0, c.1),
+    λ (fact, c). ap is_some (counts slot fact c),
   )
 
-  abbrev Lists : Scope → Type 0
-  Lists scope = (fact : CrlFact) × CountsIn scope fact × IsSome (fact.reasons (body link.certificate.serial))
+  lists_cover : (slots : List CrlSlot) → Decides (list_any (λ crl. is_some (crl_that_counts moment may_sign crl)) (map told slots)) (Any (SomeCrlCounts held moment link) slots)
+  lists_cover slots =
+      let decides = any_decides (λ slot. is_some (crl_that_counts moment may_sign (told slot))) (SomeCrlCounts held moment link) crl_covers slots in
+      let same = any_mapped (λ crl. is_some (crl_that_counts moment may_sign crl)) told slots in (
+        λ some. decides.0 (sym same ∙ some),
+        λ covers. same ∙ decides.1 covers,
+      )
 
-  crl_lists : (scope : Scope) → Decides (is_some (crl_reason moment may_sign (crl_answer held link scope))) (Lists scope)
-  crl_lists scope = (
-    λ some. let found = chained_is (λ (counted : CrlAnswer). counted.reason) (crl_that_counts moment may_sign (crl_answer held link scope)) some in
-        let c = counted scope found.0 found.1 in (c.0, c.1, ap (λ (a : CrlAnswer). is_some a.reason) c.2 ∙ found.2),
-    λ (fact, c, some). is_chained (λ (counted : CrlAnswer). counted.reason) (crl_that_counts moment may_sign (crl_answer held link scope)) (answer fact) (counts scope fact c) some,
+  crl_lists : (slot : CrlSlot) → Decides (is_some (crl_reason moment may_sign (told slot))) (SomeCrlLists held moment link slot)
+  crl_lists slot = (
+    λ some. let found = chained_is (λ (counted : CrlAnswer). counted.reason) (crl_that_counts moment may_sign (told slot)) some in
+        let c = counted slot found.0 found.1 in (c.0, c.1, ap (λ (a : CrlAnswer). is_some a.reason) c.2 ∙ found.2),
+    λ (fact, c, some). is_chained (λ (counted : CrlAnswer). counted.reason) (crl_that_counts moment may_sign (told slot)) (answer fact) (counts slot fact c) some,
   )
+
+  -- the lists give a reason if one of them does
+  some_listed : (slots : List CrlSlot) → is_some (listed_reason moment may_sign (map told slots)) ≡ list_any (λ slot. is_some (crl_reason moment may_sign (told slot))) slots
+  some_listed [] = refl
+  some_listed (slot ∷ slots) =
+      some_or (crl_reason moment may_sign (told slot)) (listed_reason moment may_sign (map told slots))
+      ∙ ap (λ b. is_some (crl_reason moment may_sign (told slot)) || b) (some_listed slots)
+
+  lists_list : (slots : List CrlSlot) → Decides (is_some (listed_reason moment may_sign (map told slots))) (Any (SomeCrlLists held moment link) slots)
+  lists_list slots =
+      let decides = any_decides (λ slot. is_some (crl_reason moment may_sign (told slot))) (SomeCrlLists held moment link) crl_lists slots in (
+        λ some. decides.0 (sym (some_listed slots) ∙ some),
+        λ lists. some_listed slots ∙ decides.1 lists,
+      )
 
   abbrev response_test : OcspFact → Bool
   response_test response = is_current response.window moment
@@ -107,61 +129,55 @@ module _ (held : Holdings) (moment : ℤ) (link : Link) where
     λ (fact, c, some). is_chained (λ (response : OcspFact). reason_of_status response.status) the_response fact (response_counts fact c) some,
   )
 
-  abbrev own : Scope
-  own = own_scope link.certificate
-
-  in_words : (scope : Scope) (fact : CrlFact) → (scope ≡ All) ⊎ (scope ≡ own) → CountsIn scope fact → CrlCounts held moment link fact
-  in_words scope fact speaks c = record { scope = scope; speaks = speaks; is_held = c.0; may_sign = c.1; current = c.2 }
-
-  at_scope : (scope : Scope) (fact : CrlFact) (c : CrlCounts held moment link fact) → c.scope ≡ scope → CountsIn scope fact
-  at_scope scope fact c same = (subst (λ s. held.crl (crl_slot_for link s) ≡ Some fact) same c.is_held, c.may_sign, c.current)
-
   -- the test of cover is the words'
   pub cover_decides : Decides (is_covered_by moment (evidence_of held link)) (IsCovered held moment link)
-  cover_decides =
-      Decides-like (is_covered_by moment (evidence_of held link))
-      (λ either. elim either [
-        | inl (fact, c) ↦ inl (fact, in_words All fact (inl refl) c)
-        | inr others ↦ elim others [ inl (fact, c) ↦ inl (fact, in_words own fact (inr refl) c) | inr response ↦ inr response ]
-      ])
-      (λ either. elim either [
-        | inl (fact, c) ↦ elim c.speaks [ inl all ↦ inl (fact, at_scope All fact c all) | inr kind ↦ inr (inl (fact, at_scope own fact c kind)) ]
-        | inr response ↦ inr (inr response)
-      ])
-      (Decides-or _ _ (crl_covers All) (Decides-or _ _ (crl_covers own) response_covers))
+  cover_decides = Decides-or _ _ (lists_cover (crl_slots_of link)) response_covers
 
   -- and so is the test of revocation
   pub revoke_decides : Decides (is_some (deciding_reason moment (evidence_of held link))) (SomeRevokes held moment link)
-  revoke_decides =
-      Decides-like (is_some (deciding_reason moment (evidence_of held link)))
-      (λ either. elim either [
-        | inl (fact, c, some) ↦ inl (fact, in_words All fact (inl refl) c, some)
-        | inr others ↦ elim others [ inl (fact, c, some) ↦ inl (fact, in_words own fact (inr refl) c, some) | inr response ↦ inr response ]
-      ])
-      (λ either. elim either [
-        | inl (fact, c, some) ↦ elim c.speaks [ inl all ↦ inl (fact, at_scope All fact c all, some) | inr kind ↦ inr (inl (fact, at_scope own fact c kind, some)) ]
-        | inr response ↦ inr (inr response)
-      ])
-      (either_decides _ _ (crl_lists All) (either_decides _ _ (crl_lists own) response_revokes))
+  revoke_decides = either_decides _ _ (lists_list (crl_slots_of link)) response_revokes
 
   -- ---- why
 
-  crl_revokes : (scope : Scope) (reason : ℕ) → crl_reason moment may_sign (crl_answer held link scope) ≡ Some reason → CrlRevokes held moment link scope reason
-  crl_revokes scope reason e =
-      let found = chained_to (λ (counted : CrlAnswer). counted.reason) (crl_that_counts moment may_sign (crl_answer held link scope)) reason e in
-      let c = counted scope found.0 found.1 in
-      record { fact = c.0; is_held = c.1.0; may_sign = c.1.1; current = c.1.2; listed = ap (λ (a : CrlAnswer). a.reason) c.2 ∙ found.2 }
+  crl_revokes : (slot : CrlSlot) (reason : ℕ) → crl_reason moment may_sign (told slot) ≡ Some reason → CrlRevokes held moment link slot reason
+  crl_revokes slot reason e =
+      let found = chained_to (λ (counted : CrlAnswer). counted.reason) (crl_that_counts moment may_sign (told slot)) reason e in
+      let c = counted slot found.0 found.1 in
+      record { fact = c.0; counts = c.1; listed = ap (λ (a : CrlAnswer). a.reason) c.2 ∙ found.2 }
 
-  crl_gives : (scope : Scope) (reason : ℕ) → CrlRevokes held moment link scope reason → crl_reason moment may_sign (crl_answer held link scope) ≡ Some reason
-  crl_gives scope reason r =
-      to_chained (λ (counted : CrlAnswer). counted.reason) (crl_that_counts moment may_sign (crl_answer held link scope)) (answer r.fact) reason
-      (counts scope r.fact (r.is_held, r.may_sign, r.current)) r.listed
+  crl_gives : (slot : CrlSlot) (reason : ℕ) → CrlRevokes held moment link slot reason → crl_reason moment may_sign (told slot) ≡ Some reason
+  crl_gives slot reason r =
+      to_chained (λ (counted : CrlAnswer). counted.reason) (crl_that_counts moment may_sign (told slot)) (answer r.fact) reason
+      (counts slot r.fact r.counts) r.listed
 
-  not_listed : (scope : Scope) → crl_reason moment may_sign (crl_answer held link scope) ≡ None → IsNotListed held moment link scope
-  not_listed scope none reason revokes = none-some reason (sym none ∙ crl_gives scope reason revokes)
+  not_listed : (slot : CrlSlot) → crl_reason moment may_sign (told slot) ≡ None → IsNotListed held moment link slot
+  not_listed slot none reason revokes = none-some reason (sym none ∙ crl_gives slot reason revokes)
 
-  gives_none : (scope : Scope) → IsNotListed held moment link scope → crl_reason moment may_sign (crl_answer held link scope) ≡ None
-  gives_none scope none = none_of (crl_reason moment may_sign (crl_answer held link scope)) (λ reason e. none reason (crl_revokes scope reason e))
+  gives_none : (slot : CrlSlot) → IsNotListed held moment link slot → crl_reason moment may_sign (told slot) ≡ None
+  gives_none slot none = none_of (crl_reason moment may_sign (told slot)) (λ reason e. none reason (crl_revokes slot reason e))
+
+  -- the reason of the first list that gives one
+  first_revokes : (slots : List CrlSlot) (reason : ℕ) → listed_reason moment may_sign (map told slots) ≡ Some reason → FirstCrlRevokes held moment link slots reason
+  first_revokes [] reason e = none-some reason e
+  first_revokes (slot ∷ slots) reason e = elim (first_or _ _ reason e) [
+    | inl here ↦ inl (crl_revokes slot reason here)
+    | inr (none, later) ↦ inr (not_listed slot none, first_revokes slots reason later)
+  ]
+
+  first_gives : (slots : List CrlSlot) (reason : ℕ) → FirstCrlRevokes held moment link slots reason → listed_reason moment may_sign (map told slots) ≡ Some reason
+  first_gives [] reason r = absurd r
+  first_gives (slot ∷ slots) reason r = elim r [
+    | inl here ↦ or_first _ _ reason (crl_gives slot reason here)
+    | inr (none, later) ↦ or_second _ _ (gives_none slot none) ∙ first_gives slots reason later
+  ]
+
+  none_revokes : (slots : List CrlSlot) → listed_reason moment may_sign (map told slots) ≡ None → AllByRecursion (IsNotListed held moment link) slots
+  none_revokes [] e = tt
+  none_revokes (slot ∷ slots) e = let parts = or_none _ _ e in (not_listed slot parts.0, none_revokes slots parts.1)
+
+  none_gives : (slots : List CrlSlot) → AllByRecursion (IsNotListed held moment link) slots → listed_reason moment may_sign (map told slots) ≡ None
+  none_gives [] none = refl
+  none_gives (slot ∷ slots) none = or_second _ _ (gives_none slot none.0) ∙ none_gives slots none.1
 
   status_is : (status : Status) (reason : ℕ) → reason_of_status status ≡ Some reason → status ≡ said.Revoked reason
   status_is said.Good reason e = absurd (none-some reason e)
@@ -180,21 +196,12 @@ module _ (held : Holdings) (moment : ℤ) (link : Link) where
   -- the reason that is found is the one of the words
   pub revoked_so : (reason : ℕ) → deciding_reason moment (evidence_of held link) ≡ Some reason → IsRevoked held moment link reason
   revoked_so reason e = elim (first_or _ _ reason e) [
-    | inl all ↦ inl (crl_revokes All reason all)
-    | inr (none, later) ↦ inr (
-      not_listed All none,
-      elim (first_or _ _ reason later) [
-        | inl kind ↦ inl (crl_revokes own reason kind)
-        | inr (no_kind, response) ↦ inr (not_listed own no_kind, ocsp_revokes reason response)
-      ],
-    )
+    | inl listed ↦ inl (first_revokes (crl_slots_of link) reason listed)
+    | inr (none, response) ↦ inr (none_revokes (crl_slots_of link) none, ocsp_revokes reason response)
   ]
 
   pub reason_so : (reason : ℕ) → IsRevoked held moment link reason → deciding_reason moment (evidence_of held link) ≡ Some reason
   reason_so reason revoked = elim revoked [
-    | inl all ↦ or_first _ _ reason (crl_gives All reason all)
-    | inr (none, later) ↦ or_second _ _ (gives_none All none) ∙ elim later [
-      | inl kind ↦ or_first _ _ reason (crl_gives own reason kind)
-      | inr (no_kind, response) ↦ or_second _ _ (gives_none own no_kind) ∙ ocsp_gives reason response
-    ]
+    | inl listed ↦ or_first _ _ reason (first_gives (crl_slots_of link) reason listed)
+    | inr (none, response) ↦ or_second _ _ (none_gives (crl_slots_of link) none) ∙ ocsp_gives reason response
   ]

@@ -1,6 +1,8 @@
 -- Tests of equality, for verdicts on a valid path and for what is held of a certificate.
-use Rattle.std.proofs.Common.{◌≡◌, ◌==◌, ◌&&◌, ℕ, zero, suc, Bool, false, Option, Some, None, Decides, int_eq, refl, sym, ap, ◌∙◌, true≢false}
+use Rattle.std.proofs.Common.{◌≡◌, ◌==◌, ◌&&◌, ℕ, zero, suc, Bool, true, false, List, [], ◌∷◌, Option, Some, None, Decides, int_eq, refl, sym, ap, ◌∙◌, true≢false}
+use Rattle.std.specs.Cmp.Lexicographic.{pointwise}
 use Rattle.std.specs.Option.{option_eq}
+use Rattle.std.proofs.lemmas.Slice.Eq.{slice_eq-Decides}
 use Rattle.std.proofs.lemmas.Option.{none-some, same_Some}
 use Rattle.std.proofs.lemmas.Bool.Decides.{Decides-and, Decides-like, Decides-eqb, Decides-int_eq}
 use Rattle.statements_facts.specs.declared.single.Status.{Status}
@@ -133,13 +135,18 @@ response_decides a b =
     (λ e. (ap (λ (r : OcspFact). r.times) e, (ap (λ (r : OcspFact). r.window) e, ap (λ (r : OcspFact). r.status) e)))
     (Decides-and _ _ (times_decides a.times b.times) (Decides-and _ _ (window_decides a.window b.window) (status_decides a.status b.status)))
 
+abbrev pub same_lists : List (Option CrlAnswer) → List (Option CrlAnswer) → Bool
+same_lists a b = pointwise (λ x y. option_eq same_crl x y) a b
+
+lists_decide : (a b : List (Option CrlAnswer)) → Decides (same_lists a b) (a ≡ b)
+lists_decide a b = slice_eq-Decides (option_decides same_crl crl_decides) a b (same_lists a b) refl
+
 abbrev pub same_answers : Answers → Answers → Bool
-same_answers a b = option_eq same_crl a.all b.all && (option_eq same_crl a.own b.own && option_eq same_response a.ocsp b.ocsp)
+same_answers a b = same_lists a.lists b.lists && option_eq same_response a.ocsp b.ocsp
 
 pub answers_decide : (a b : Answers) → Decides (same_answers a b) (a ≡ b)
 answers_decide a b =
     Decides-like (same_answers a b)
-    (λ (all, (own, ocsp)). λ i. record { all = all i; own = own i; ocsp = ocsp i })
-    (λ e. (ap (λ (x : Answers). x.all) e, (ap (λ (x : Answers). x.own) e, ap (λ (x : Answers). x.ocsp) e)))
-    (Decides-and _ _ (option_decides same_crl crl_decides a.all b.all)
-    (Decides-and _ _ (option_decides same_crl crl_decides a.own b.own) (option_decides same_response response_decides a.ocsp b.ocsp)))
+    (λ (lists, ocsp). λ i. record { lists = lists i; ocsp = ocsp i })
+    (λ e. (ap (λ (x : Answers). x.lists) e, ap (λ (x : Answers). x.ocsp) e))
+    (Decides-and _ _ (lists_decide a.lists b.lists) (option_decides same_response response_decides a.ocsp b.ocsp))

@@ -1,11 +1,10 @@
 -- Agreement of relying parties: what the same newest statements make of two of them.
 use Rattle.std.specs.Prelude.{◌≡◌, ℕ, List, ◌++◌, Option, Some, option_map, Contains}
 use Rattle.std.specs.List.{AllByRecursion}
-use Rattle.statements_facts.specs.declared.scope.Scope.TheVariants.{All}
 use Rattle.statements_facts.specs.Statement.{Holdings, Times, CrlSlot, CrlFact, OcspSlot, OcspFact}
 use Rattle.path.specs.Query.{Query, Accepts}
 use Rattle.relying_agreement.specs.declared.verdict.Verdict.{Verdict}
-use Rattle.relying_agreement.specs.Link.{Link, links_of, own_scope, crl_slot_for, ocsp_slot_for}
+use Rattle.relying_agreement.specs.Link.{Link, links_of, crl_slots_of, ocsp_slot_for}
 use Rattle.relying_agreement.specs.Status.{answers_of}
 use Rattle.relying_agreement.specs.Verdict.{IsVerdict}
 use Rattle.relying_agreement.specs.Run.{Event, DeliveryAnswer, FactsOf, Party, crls_seen, responses_seen, PartyHoldsNewest, HasRun}
@@ -15,13 +14,15 @@ use Rattle.relying_agreement.specs.Run.{Event, DeliveryAnswer, FactsOf, Party, c
 abbrev pub number_held : Holdings → CrlSlot → Option ℕ
 number_held held slot = option_map (λ fact. fact.number) (held.crl slot)
 
+abbrev pub HoldSameNumber : Holdings → Holdings → CrlSlot → Type 0
+HoldSameNumber one other slot = number_held one slot ≡ number_held other slot
+
 abbrev pub times_held : Holdings → OcspSlot → Option Times
 times_held held slot = option_map (λ fact. fact.times) (held.ocsp slot)
 
 -- in each slot that speaks of the certificate both hold nothing, or lists of one number, or responses of the same times
 pub record HoldSameNewestOf (one other : Holdings) (link : Link) : Type 0 where
-  pub all : number_held one (crl_slot_for link All) ≡ number_held other (crl_slot_for link All)
-  pub own : number_held one (crl_slot_for link (own_scope link.certificate)) ≡ number_held other (crl_slot_for link (own_scope link.certificate))
+  pub lists : AllByRecursion (HoldSameNumber one other) (crl_slots_of link)
   pub ocsp : times_held one (ocsp_slot_for link) ≡ times_held other (ocsp_slot_for link)
 
 abbrev pub HoldSameNewest : Query → Holdings → Holdings → Type 0
@@ -48,8 +49,7 @@ ResponsesSeenAreConsistent one other slot = ResponsesAreConsistent (responses_se
 
 -- in the slots that speak of the certificate
 pub record IssuerIsConsistent (one other : Party) (link : Link) : Type 0 where
-  pub all : CrlsSeenAreConsistent one other (crl_slot_for link All)
-  pub own : CrlsSeenAreConsistent one other (crl_slot_for link (own_scope link.certificate))
+  pub lists : AllByRecursion (CrlsSeenAreConsistent one other) (crl_slots_of link)
   pub ocsp : ResponsesSeenAreConsistent one other (ocsp_slot_for link)
 
 -- The issuers of a path are consistent; of others nothing is asked.
@@ -74,8 +74,7 @@ ResponsesHeldAreConsistent one other slot =
     (f g : OcspFact) → one.ocsp slot ≡ Some f → other.ocsp slot ≡ Some g → f.times ≡ g.times → f ≡ g
 
 pub record HeldIsConsistent (one other : Holdings) (link : Link) : Type 0 where
-  pub all : CrlsHeldAreConsistent one other (crl_slot_for link All)
-  pub own : CrlsHeldAreConsistent one other (crl_slot_for link (own_scope link.certificate))
+  pub lists : AllByRecursion (CrlsHeldAreConsistent one other) (crl_slots_of link)
   pub ocsp : ResponsesHeldAreConsistent one other (ocsp_slot_for link)
 
 -- what two maps hold of a path is consistent

@@ -1,12 +1,13 @@
 -- Paths as revocation sees them (RFC 5280, 6.1 and 6.3): each certificate with the one above it, and the slots that speak of it.
-use Rattle.std.specs.Prelude.{ℕ, suc, Bool, false, List, [], ◌∷◌, Option, Some, None, if◌then◌else◌}
+use Rattle.std.specs.Prelude.{ℕ, suc, Bool, false, List, [], ◌∷◌, ◌++◌, Option, Some, None, if◌then◌else◌}
+use Rattle.std.specs.List.{flat_map}
 use Rattle.sha1.specs.Sha1.{sha1}
 use Rattle.cert.specs.Place.{body}
 use Rattle.cert.specs.BasicConstraints.{BasicConstraints}
 use Rattle.cert.specs.Certificate.{Certificate}
 use Rattle.statements_facts.specs.declared.scope.Scope.{Scope}
-use Rattle.statements_facts.specs.declared.scope.Scope.TheVariants.{User, Ca}
-use Rattle.statements_facts.specs.Statement.{CrlSlot, OcspSlot}
+use Rattle.statements_facts.specs.declared.scope.Scope.TheVariants.{All, User, Ca}
+use Rattle.statements_facts.specs.Statement.{IssuerIdentity, CrlSlot, OcspSlot, at_point}
 use Rattle.path.specs.Query.{Query}
 use Rattle.statements.specs.Issuer.{identity_of}
 
@@ -33,7 +34,21 @@ has_ca (Some constraints) = constraints.ca
 abbrev pub own_scope : Certificate → Scope
 own_scope certificate = if has_ca certificate.extensions.basic_constraints then Ca else User
 
--- The slot of a list that speaks of the certificate: its issuer's, with the scope.
+-- of all certificates of an issuer, and of those of this one's kind
+abbrev pub slots_under : Certificate → IssuerIdentity → List CrlSlot
+slots_under certificate issuer =
+    record { issuer = issuer; scope = All } ∷ record { issuer = issuer; scope = own_scope certificate } ∷ []
+
+-- The slots of the lists that speak of a certificate of the issuer, in the order in which they decide: of whole lists, and of those that are
+-- published at its points (6.3.3 (b) (2) (i)).
+abbrev pub list_slots : IssuerIdentity → Certificate → List CrlSlot
+list_slots issuer certificate =
+    slots_under certificate issuer ++ flat_map (λ point. slots_under certificate (at_point point issuer)) certificate.points
+
+abbrev pub crl_slots_of : Link → List CrlSlot
+crl_slots_of link = list_slots (identity_of link.issuer) link.certificate
+
+-- The slot of a whole list that speaks of the certificate: its issuer's, with the scope.
 abbrev pub crl_slot_for : Link → Scope → CrlSlot
 crl_slot_for link scope = record { issuer = identity_of link.issuer; scope = scope }
 

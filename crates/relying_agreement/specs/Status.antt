@@ -1,17 +1,16 @@
 -- Whether a certificate is revoked, and whether a statement speaks of it (RFC 5280, 6.3.3; RFC 6960, 2.2 and 3.2).
-use Rattle.std.specs.Prelude.{◌≡◌, ◌⊎◌, ◌==◌, ◌||◌, ◌&&◌, ℕ, ℤ, ◌≤ℤ◌, int_le, Bool, true, false, List, Option, Some, None, option_map, option_and_then, is_some, if◌then◌else◌, IsTrue, IsSome}
+use Rattle.std.specs.Prelude.{◌≡◌, ◌⊎◌, ◌==◌, ◌||◌, ◌&&◌, ℕ, ℤ, ◌≤ℤ◌, int_le, Bool, true, false, List, [], ◌∷◌, Option, Some, None, map, option_map, option_and_then, is_some, if◌then◌else◌, IsTrue, IsSome, Any}
+use Rattle.std.specs.List.{AllByRecursion, list_any}
 use Rattle.std.specs.Option.{option_or}
 use Rattle.cert.specs.Place.{body}
 use Rattle.cert.specs.KeyUsage.{has_bit}
 use Rattle.cert.specs.Certificate.{Certificate}
-use Rattle.statements_facts.specs.declared.scope.Scope.{Scope}
-use Rattle.statements_facts.specs.declared.scope.Scope.TheVariants.{All}
 use Rattle.statements_facts.specs.declared.single.Status.{Status}
 use Rattle.statements_facts.specs.declared.single.Status.TheVariants as said
 use Rattle.sha1.specs.Sha1.{sha1}
-use Rattle.statements_facts.specs.Statement.{IssuerIdentity, Window, CrlFact, CrlAnswer, OcspFact, Holdings, answer_for}
+use Rattle.statements_facts.specs.Statement.{IssuerIdentity, Window, CrlSlot, CrlFact, CrlAnswer, OcspFact, Holdings, answer_for}
 use Rattle.statements.specs.Issuer.{identity_of}
-use Rattle.relying_agreement.specs.Link.{Link, own_scope, ocsp_slot_for, crl_slot_for}
+use Rattle.relying_agreement.specs.Link.{Link, list_slots, crl_slots_of, ocsp_slot_for}
 
 -- thisUpdate is not after the moment, nextUpdate not before it (RFC 5280, 6.3.3 (a); RFC 6960, 3.2)
 abbrev pub IsCurrent : Window → ℤ → Type 0
@@ -31,24 +30,19 @@ may_sign_crls link = link.number == 1 || has_crl_sign link.issuer.extensions.key
 
 -- ---- what a store answers of a certificate
 
--- the list of a scope under an issuer, and its entry for one serial number
-abbrev pub list_held : Holdings → IssuerIdentity → Scope → List ℕ → Option CrlAnswer
-list_held held issuer scope serial = option_map (answer_for serial) (held.crl (record { issuer = issuer; scope = scope }))
+-- the list in a slot, and its entry for one serial number
+abbrev pub list_held : Holdings → List ℕ → CrlSlot → Option CrlAnswer
+list_held held serial slot = option_map (answer_for serial) (held.crl slot)
 
-abbrev pub crl_answer : Holdings → Link → Scope → Option CrlAnswer
-crl_answer held link scope = list_held held (identity_of link.issuer) scope (body link.certificate.serial)
-
--- the list of all certificates, that of the certificate's own kind, and the response
+-- the lists that speak of a certificate, in the order of their slots, and the response
 pub record Answers : Type 0 where
-  pub all : Option CrlAnswer
-  pub own : Option CrlAnswer
+  pub lists : List (Option CrlAnswer)
   pub ocsp : Option OcspFact
 
 -- the answers on a certificate of the issuer
 abbrev pub answers_held : Holdings → IssuerIdentity → Certificate → Answers
 answers_held held issuer certificate = record {
-  all = list_held held issuer All (body certificate.serial);
-  own = list_held held issuer (own_scope certificate) (body certificate.serial);
+  lists = map (list_held held (body certificate.serial)) (list_slots issuer certificate);
   ocsp = held.ocsp (record { issuer = issuer; name_hash = sha1 certificate.issuer.octets; serial = body certificate.serial });
 }
 
@@ -96,11 +90,15 @@ crl_reason moment may_sign crl = option_and_then (λ counted. counted.reason) (c
 abbrev pub ocsp_reason : ℤ → Option OcspFact → Option ℕ
 ocsp_reason moment response = option_and_then (λ counted. reason_of_status counted.status) (ocsp_that_counts moment response)
 
--- the reason of the list of all certificates, else of the list of its kind, else of the response
+-- the reason of the first list that gives one
+abbrev pub listed_reason : ℤ → Bool → List (Option CrlAnswer) → Option ℕ
+listed_reason moment may_sign [] = None
+listed_reason moment may_sign (crl ∷ crls) = option_or (crl_reason moment may_sign crl) (listed_reason moment may_sign crls)
+
+-- that of the lists, else of the response
 abbrev pub deciding_reason : ℤ → Evidence → Option ℕ
 deciding_reason moment it =
-    option_or (crl_reason moment it.may_sign_crls it.answers.all)
-    (option_or (crl_reason moment it.may_sign_crls it.answers.own) (ocsp_reason moment it.answers.ocsp))
+    option_or (listed_reason moment it.may_sign_crls it.answers.lists) (ocsp_reason moment it.answers.ocsp)
 
 abbrev pub has_good_response : ℤ → Option OcspFact → Bool
 has_good_response moment response = is_some (kept_if (λ counted. is_good counted.status) (ocsp_that_counts moment response))
@@ -108,16 +106,14 @@ has_good_response moment response = is_some (kept_if (λ counted. is_good counte
 -- a list counts, or a response that says good does
 abbrev pub is_covered_by : ℤ → Evidence → Bool
 is_covered_by moment it =
-    is_some (crl_that_counts moment it.may_sign_crls it.answers.all)
-    || (is_some (crl_that_counts moment it.may_sign_crls it.answers.own) || has_good_response moment it.answers.ocsp)
+    list_any (λ crl. is_some (crl_that_counts moment it.may_sign_crls crl)) it.answers.lists
+    || has_good_response moment it.answers.ocsp
 
 -- ---- the same in words
 
--- A list that speaks of the certificate is held, is current, and its issuer may sign lists.
-pub record CrlCounts (held : Holdings) (moment : ℤ) (link : Link) (fact : CrlFact) : Type 0 where
-  pub scope : Scope
-  pub speaks : (scope ≡ All) ⊎ (scope ≡ own_scope link.certificate)
-  pub is_held : held.crl (crl_slot_for link scope) ≡ Some fact
+-- The list of a slot is held, is current, and its issuer may sign lists.
+pub record CrlCounts (held : Holdings) (moment : ℤ) (link : Link) (slot : CrlSlot) (fact : CrlFact) : Type 0 where
+  pub is_held : held.crl slot ≡ Some fact
   pub may_sign : IsTrue (may_sign_crls link)
   pub current : IsCurrent fact.window moment
 
@@ -126,22 +122,32 @@ pub record OcspCounts (held : Holdings) (moment : ℤ) (link : Link) (fact : Ocs
   pub is_held : held.ocsp (ocsp_slot_for link) ≡ Some fact
   pub current : IsCurrent fact.window moment
 
--- a statement that counts says that it is revoked
+-- a list counts, and lists the certificate
+abbrev pub SomeCrlLists : Holdings → ℤ → Link → CrlSlot → Type 0
+SomeCrlLists held moment link slot =
+    (fact : CrlFact) × CrlCounts held moment link slot fact × IsSome (fact.reasons (body link.certificate.serial))
+
+-- a statement that counts, and speaks of the certificate, says that it is revoked
 abbrev pub SomeRevokes : Holdings → ℤ → Link → Type 0
 SomeRevokes held moment link =
-    ((fact : CrlFact) × CrlCounts held moment link fact × IsSome (fact.reasons (body link.certificate.serial)))
+    Any (SomeCrlLists held moment link) (crl_slots_of link)
     ⊎ ((fact : OcspFact) × OcspCounts held moment link fact × IsSome (reason_of_status fact.status))
 
--- the list of a scope counts, and lists the certificate for this reason
-pub record CrlRevokes (held : Holdings) (moment : ℤ) (link : Link) (scope : Scope) (reason : ℕ) : Type 0 where
+-- the list of a slot counts, and lists the certificate for this reason
+pub record CrlRevokes (held : Holdings) (moment : ℤ) (link : Link) (slot : CrlSlot) (reason : ℕ) : Type 0 where
   pub fact : CrlFact
-  pub is_held : held.crl (crl_slot_for link scope) ≡ Some fact
-  pub may_sign : IsTrue (may_sign_crls link)
-  pub current : IsCurrent fact.window moment
+  pub counts : CrlCounts held moment link slot fact
   pub listed : fact.reasons (body link.certificate.serial) ≡ Some reason
 
-abbrev pub IsNotListed : Holdings → ℤ → Link → Scope → Type 0
-IsNotListed held moment link scope = (reason : ℕ) → ¬ (CrlRevokes held moment link scope reason)
+abbrev pub IsNotListed : Holdings → ℤ → Link → CrlSlot → Type 0
+IsNotListed held moment link slot = (reason : ℕ) → ¬ (CrlRevokes held moment link slot reason)
+
+-- of the lists of these slots the first that counts and lists the certificate does so for this reason
+abbrev pub FirstCrlRevokes : Holdings → ℤ → Link → List CrlSlot → ℕ → Type 0
+FirstCrlRevokes held moment link [] reason = ⊥
+FirstCrlRevokes held moment link (slot ∷ slots) reason =
+    CrlRevokes held moment link slot reason
+    ⊎ (IsNotListed held moment link slot × FirstCrlRevokes held moment link slots reason)
 
 -- the response counts, and says that the certificate is revoked for this reason
 pub record OcspRevokes (held : Holdings) (moment : ℤ) (link : Link) (reason : ℕ) : Type 0 where
@@ -149,16 +155,17 @@ pub record OcspRevokes (held : Holdings) (moment : ℤ) (link : Link) (reason : 
   pub counts : OcspCounts held moment link fact
   pub status : fact.status ≡ said.Revoked reason
 
--- Revoked, and why: the list of all certificates says so; if it does not, the list of the certificate's kind; else the response.
+-- Revoked, and why: the first of the lists that say so, else the response.
 abbrev pub IsRevoked : Holdings → ℤ → Link → ℕ → Type 0
 IsRevoked held moment link reason =
-    CrlRevokes held moment link All reason
-    ⊎ (IsNotListed held moment link All
-    × (CrlRevokes held moment link (own_scope link.certificate) reason
-    ⊎ (IsNotListed held moment link (own_scope link.certificate) × OcspRevokes held moment link reason)))
+    FirstCrlRevokes held moment link (crl_slots_of link) reason
+    ⊎ (AllByRecursion (IsNotListed held moment link) (crl_slots_of link) × OcspRevokes held moment link reason)
 
--- a list counts, or a response that says good
+abbrev pub SomeCrlCounts : Holdings → ℤ → Link → CrlSlot → Type 0
+SomeCrlCounts held moment link slot = (fact : CrlFact) × CrlCounts held moment link slot fact
+
+-- a list that speaks of the certificate counts, or a response that says good
 abbrev pub IsCovered : Holdings → ℤ → Link → Type 0
 IsCovered held moment link =
-    ((fact : CrlFact) × CrlCounts held moment link fact)
+    Any (SomeCrlCounts held moment link) (crl_slots_of link)
     ⊎ ((fact : OcspFact) × OcspCounts held moment link fact × (fact.status ≡ said.Good))

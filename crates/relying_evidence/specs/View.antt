@@ -1,10 +1,11 @@
 -- What the code has at hand, as the definitions see it.
-use Rattle.std.specs.Prelude.{option_map}
+use Rattle.std.specs.Prelude.{List, Option, map, option_map}
 use Rattle.cert.specs.Certificate.{seen_certificate}
 use Rattle.statements_facts.specs.Answer.{seen_crl, seen_ocsp}
-use Rattle.statements_facts.specs.declared.answer.Answers as answered
+use Rattle.statements_facts.specs.declared.answer.CrlAnswer as listed
+use Rattle.statements_facts.specs.Statement.{CrlAnswer}
 use Rattle.relying_agreement.specs.Link.{Link}
-use Rattle.relying_agreement.specs.Status.{Answers, Evidence}
+use Rattle.relying_agreement.specs.Status.{Evidence}
 use Rattle.relying_evidence.specs.declared.evidence.Evidence as known
 use Rattle.relying_evidence.specs.declared.link.Link as linked
 
@@ -15,12 +16,12 @@ seen_link link = record {
   certificate = seen_certificate link.certificate.now;
 }
 
-abbrev pub seen_answers : answered.Answers → Answers
-seen_answers answers = record {
-  all = option_map seen_crl answers.all;
-  own = option_map seen_crl answers.own;
-  ocsp = option_map seen_ocsp answers.ocsp;
-}
+abbrev pub seen_lists : List (Option listed.CrlAnswer) → List (Option CrlAnswer)
+seen_lists lists = map (λ crl. option_map seen_crl crl) lists
 
 abbrev pub seen_evidence : known.Evidence → Evidence
-seen_evidence it = record { number = it.number; may_sign_crls = it.may_sign_crls; answers = seen_answers it.answers }
+seen_evidence it = record {
+  number = it.number;
+  may_sign_crls = it.may_sign_crls;
+  answers = record { lists = seen_lists it.lists.items; ocsp = option_map seen_ocsp it.ocsp };
+}

@@ -1,20 +1,25 @@
 //! What bears on a certificate of a path, and what it says (RFC 5280, 6.3.3; RFC 6960, 2.2).
 
 ghost use Rattle.std.specs.Prelude.{◌≡◌, ◌&&◌, is_some, option_map};
-ghost use Rattle.relying_agreement.specs.Status.{crl_reason, crl_that_counts, deciding_reason, has_good_response, is_covered_by, is_current, is_good, kept_if, ocsp_reason, ocsp_that_counts, reason_of_status};
-ghost use Rattle.relying_evidence.specs.View.{seen_evidence};
+ghost use Rattle.std.specs.List.{list_any};
+ghost use Rattle.relying_agreement.specs.Status.{crl_reason, crl_that_counts, deciding_reason, has_good_response, is_covered_by, is_current, is_good, kept_if, listed_reason, ocsp_reason, ocsp_that_counts, reason_of_status};
+ghost use Rattle.relying_evidence.specs.View.{seen_evidence, seen_lists};
 ghost use Rattle.statements_facts.specs.Answer.{seen_crl, seen_ocsp};
 
-use statements_facts::{Answers, CrlAnswer, OcspAnswer, Status};
+use statements_facts::{CrlAnswer, OcspAnswer, Status};
 
 /// What bears on a certificate of a path.
-#[derive(Clone, Copy)]
+#[derive(Drop)]
 pub struct Evidence {
     /// Its number on the path, from 1 on.
     pub number: usize,
     /// Whether its issuer may sign lists.
     pub may_sign_crls: bool,
-    pub answers: Answers,
+    /// What the newest lists that speak of it say, in the order in which they decide: of whole lists that of all certificates and that of its
+    /// kind, and then the same at each of its points.
+    pub lists: Vec<Option<CrlAnswer>>,
+    /// What the newest response says.
+    pub ocsp: Option<OcspAnswer>,
 }
 
 /// Whether a list counts: it is current, and its issuer may sign lists (RFC 5280, 6.3.3 (a) and (f)).
@@ -44,6 +49,31 @@ fn crl_reason(crl: Option<CrlAnswer>, may_sign: bool, moment: i64) -> Option<u8>
     } else {
         None
     }
+}
+
+/// Whether one of the lists counts.
+fn has_list_among(lists: &[Option<CrlAnswer>], may_sign: bool, moment: i64) -> bool
+    ensures { result ≡ list_any (λ crl. is_some (crl_that_counts moment may_sign crl))
+        (seen_lists lists.now) }
+{
+    for crl in lists {
+        if has_list(*crl, may_sign, moment) {
+            return true;
+        }
+    }
+    false
+}
+
+/// The reason of the first list that gives one.
+fn listed_reason(lists: &[Option<CrlAnswer>], may_sign: bool, moment: i64) -> Option<u8>
+    ensures { result ≡ listed_reason moment may_sign (seen_lists lists.now) }
+{
+    for crl in lists {
+        if let Some(reason) = crl_reason(*crl, may_sign, moment) {
+            return Some(reason);
+        }
+    }
+    None
 }
 
 /// Whether a response counts: it is current (RFC 6960, 3.2).
@@ -96,24 +126,19 @@ fn has_good_response(said: Option<OcspAnswer>, moment: i64) -> bool
 }
 
 impl Evidence {
-    /// Why the certificate is revoked at the moment, if it is: the reason of the list of all certificates, else of the list of its kind,
-    /// else of the response.
+    /// Why the certificate is revoked at the moment, if it is: the reason of the first list that gives one, else of the response.
     pub fn reason(&self, moment: i64) -> Option<u8>
         ensures { result ≡ deciding_reason moment (seen_evidence self.now) }
     {
-        let may_sign = self.may_sign_crls;
-        let told = ocsp_reason(self.answers.ocsp, moment);
-        let own = crl_reason(self.answers.own, may_sign, moment);
-        crl_reason(self.answers.all, may_sign, moment).or(own.or(told))
+        let told = ocsp_reason(self.ocsp, moment);
+        listed_reason(&self.lists, self.may_sign_crls, moment).or(told)
     }
 
     /// Whether a statement speaks of the certificate: a list that counts, or a response that says good.
     pub fn is_covered(&self, moment: i64) -> bool
         ensures { result ≡ is_covered_by moment (seen_evidence self.now) }
     {
-        let may_sign = self.may_sign_crls;
-        has_list(self.answers.all, may_sign, moment)
-            || (has_list(self.answers.own, may_sign, moment)
-                || has_good_response(self.answers.ocsp, moment))
+        has_list_among(&self.lists, self.may_sign_crls, moment)
+            || has_good_response(self.ocsp, moment)
     }
 }
