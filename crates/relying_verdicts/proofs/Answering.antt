@@ -1,35 +1,65 @@
 -- What look-ups answer, as what bears on a certificate.
-use Rattle.std.proofs.Common.{◌≡◌, ℕ, ◌+◌, Bool, true, List, Option, ap, ◌∙◌, if◌then◌else◌}
+use Rattle.std.proofs.Common.{◌≡◌, ℕ, ◌+◌, Bool, true, List, [], ◌∷◌, ◌++◌, map, Option, option_map, refl, sym, ap, ap₂, ◌∙◌, if◌then◌else◌}
+use Rattle.std.specs.List.{flat_map}
+use Rattle.std.proofs.lemmas.List.{map-append}
 use Rattle.sha1.specs.Sha1.{sha1}
 use Rattle.asn.specs.Place.{body}
 use Rattle.cert.specs.Certificate.{Certificate}
+use Rattle.statements_facts.specs.declared.answer.Answers as listed
+use Rattle.statements_facts.specs.declared.answer.CrlAnswer.{CrlAnswer}
 use Rattle.statements_facts.specs.declared.scope.Scope.{Scope}
 use Rattle.statements_facts.specs.declared.scope.Scope.TheVariants.{All}
-use Rattle.statements_facts.specs.Statement.{IssuerIdentity, CrlAnswer, OcspFact, Holdings}
+use Rattle.statements_facts.specs.Answer.{seen_crl, seen_ocsp}
+use Rattle.statements_facts.specs.Statement.{IssuerIdentity, Holdings, at_point}
 use Rattle.statements.specs.Issuer.{identity_of}
-use Rattle.relying_agreement.specs.Link.{Link, own_scope}
-use Rattle.relying_agreement.specs.Status.{Answers, Evidence, evidence_of, may_sign_crls, list_held, answers_held}
+use Rattle.relying_agreement.specs.Link.{Link, list_slots, own_scope, slots_under}
+use Rattle.relying_agreement.specs.Status.{evidence_of, may_sign_crls, list_held, answers_held}
+use Rattle.relying_evidence.specs.declared.evidence.Evidence as known
+use Rattle.relying_evidence.specs.View.{seen_evidence, seen_lists}
+use Rattle.relying_verdicts.specs.Found.{AreAnswersOn, AreListsAt, IsAssembled, lists_held_under, lists_in}
 
-pub answers_are : (held : Holdings) (issuer : IssuerIdentity) (certificate : Certificate) (kind : Scope) (serial hash : List ℕ) (all own : Option CrlAnswer) (ocsp : Option OcspFact)
+pub answers_are : (held : Holdings) (issuer : IssuerIdentity) (certificate : Certificate) (kind : Scope) (serial hash : List ℕ) (answers : listed.Answers)
     → kind ≡ own_scope certificate → serial ≡ body certificate.serial → hash ≡ sha1 certificate.issuer.octets
-    → all ≡ list_held held issuer All serial → own ≡ list_held held issuer kind serial
-    → ocsp ≡ held.ocsp (record { issuer = issuer; name_hash = hash; serial = serial })
-    → ◌≡◌ {A = Answers} (record { all = all; own = own; ocsp = ocsp }) (answers_held held issuer certificate)
-answers_are held issuer certificate kind serial hash all own ocsp kind_is serial_is hash_is all_is own_is ocsp_is =
-    let of_all : all ≡ list_held held issuer All (body certificate.serial) = all_is ∙ ap (λ s. list_held held issuer All s) serial_is in
-    let of_kind : own ≡ list_held held issuer (own_scope certificate) (body certificate.serial) =
-    own_is ∙ ap (λ k. list_held held issuer k serial) kind_is ∙ ap (λ s. list_held held issuer (own_scope certificate) s) serial_is in
-    let by_hash : ocsp ≡ held.ocsp (record { issuer = issuer; name_hash = sha1 certificate.issuer.octets; serial = body certificate.serial }) =
+    → option_map seen_crl answers.all ≡ list_held held serial (record { issuer = issuer; scope = All })
+    → option_map seen_crl answers.own ≡ list_held held serial (record { issuer = issuer; scope = kind })
+    → option_map seen_ocsp answers.ocsp ≡ held.ocsp (record { issuer = issuer; name_hash = hash; serial = serial })
+    → AreAnswersOn issuer certificate held answers
+answers_are held issuer certificate kind serial hash answers kind_is serial_is hash_is all_is own_is ocsp_is = record {
+  lists =
+    ap₂ (λ all own. all ∷ own ∷ [])
+    (all_is ∙ ap (λ s. list_held held s (record { issuer = issuer; scope = All })) serial_is)
+    (own_is ∙ ap (λ k. list_held held serial (record { issuer = issuer; scope = k })) kind_is ∙ ap (λ s. list_held held s (record { issuer = issuer; scope = own_scope certificate })) serial_is);
+  ocsp =
     ocsp_is
     ∙ ap (λ h. held.ocsp (record { issuer = issuer; name_hash = h; serial = serial })) hash_is
-    ∙ ap (λ s. held.ocsp (record { issuer = issuer; name_hash = sha1 certificate.issuer.octets; serial = s })) serial_is in
-    λ i. record { all = of_all i; own = of_kind i; ocsp = by_hash i }
+    ∙ ap (λ s. held.ocsp (record { issuer = issuer; name_hash = sha1 certificate.issuer.octets; serial = s })) serial_is;
+}
 
-pub evidence_is : (held : Holdings) (link : Link) (issuer : IssuerIdentity) (may_sign : Bool) (answers : Answers) → issuer ≡ identity_of link.issuer → may_sign ≡ may_sign_crls link
-    → answers ≡ answers_held held issuer link.certificate → ◌≡◌ {A = Evidence} (record { number = link.number; may_sign_crls = may_sign; answers = answers }) (evidence_of held link)
-evidence_is held link issuer may_sign answers issuer_is may_is answers_is =
-    let all : answers ≡ answers_held held (identity_of link.issuer) link.certificate = answers_is ∙ ap (λ i. answers_held held i link.certificate) issuer_is in
-    λ i. record { number = link.number; may_sign_crls = may_is i; answers = all i }
+map_flat : {A B C : Type 0} (f : B → C) (g : A → List B) (xs : List A) → map f (flat_map g xs) ≡ flat_map (λ x. map f (g x)) xs
+map_flat f g [] = refl
+map_flat f g (x ∷ xs) = map-append f (g x) (flat_map g xs) ∙ ap (λ l. map f (g x) ++ l) (map_flat f g xs)
+
+-- the lists of all slots are those under the issuer, and those at its points
+all_slots : (held : Holdings) (issuer : IssuerIdentity) (certificate : Certificate)
+    → map (list_held held (body certificate.serial)) (list_slots issuer certificate)
+    ≡ lists_held_under held certificate issuer ++ flat_map (λ point. lists_held_under held certificate (at_point point issuer)) certificate.points
+all_slots held issuer certificate =
+    let f = list_held held (body certificate.serial) in
+    map-append f (slots_under certificate issuer) (flat_map (λ point. slots_under certificate (at_point point issuer)) certificate.points)
+    ∙ ap (λ l. lists_held_under held certificate issuer ++ l) (map_flat f (λ point. slots_under certificate (at_point point issuer)) certificate.points)
+
+pub evidence_is : (held : Holdings) (link : Link) (issuer : IssuerIdentity) (answers : listed.Answers) (at_points : List (Option CrlAnswer)) (it : known.Evidence)
+    → issuer ≡ identity_of link.issuer → IsAssembled link answers at_points it
+    → AreAnswersOn issuer link.certificate held answers → AreListsAt issuer link.certificate link.certificate.points held at_points
+    → seen_evidence it ≡ evidence_of held link
+evidence_is held link issuer answers at_points it issuer_is assembled are at_them_are =
+    let lists : lists_in answers ++ seen_lists at_points ≡ map (list_held held (body link.certificate.serial)) (list_slots (identity_of link.issuer) link.certificate) =
+    ap₂ (λ here there. here ++ there) are.lists at_them_are
+    ∙ sym (all_slots held issuer link.certificate)
+    ∙ ap (λ i. map (list_held held (body link.certificate.serial)) (list_slots i link.certificate)) issuer_is in
+    let ocsp : option_map seen_ocsp answers.ocsp ≡ (answers_held held (identity_of link.issuer) link.certificate).ocsp =
+    are.ocsp ∙ ap (λ i. (answers_held held i link.certificate).ocsp) issuer_is in
+    assembled ∙ (λ i. record { number = link.number; may_sign_crls = may_sign_crls link; answers = record { lists = lists i; ocsp = ocsp i } })
 
 -- what a list is after a push that succeeded
 pub pushed : {A : Type 0} (ok : Bool) (more same now : List A) → ok ≡ true → now ≡ (if ok then more else same) → now ≡ more

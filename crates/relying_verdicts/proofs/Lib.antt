@@ -3,4 +3,6 @@ mod Chains
 mod Differing
 mod Opening
 mod Links
+mod Points
+mod SameLists
 mod Searching

@@ -9,7 +9,7 @@ ghost use Rattle.relying_agreement.specs.Comparison.{IsComparison};
 ghost use Rattle.relying_verdicts.specs.Asking.{AreAskedOpen, AsksStores, AsksBothForCause, BothAreInvalidOrOpen, IsFaultOfValidPath};
 ghost use Rattle.relying_verdicts.specs.Difference.{ComparesEvidence, IsFirstApart};
 ghost use Rattle.relying_verdicts.specs.Found.{ComparesHeld};
-ghost use Rattle.relying_evidence.specs.View.{seen_answers, seen_evidence};
+ghost use Rattle.relying_evidence.specs.View.{seen_evidence, seen_lists};
 ghost use Rattle.path.specs.Reading.{seen_query};
 
 use crate::evidence::verdict_by;
@@ -19,7 +19,7 @@ use path::{Outcome, Query, Verifier};
 use relying_agreement::{Comparison, Verdict};
 use relying_evidence::Evidence;
 use sqlite::{Alter, Transaction};
-use statements_facts::{Answers, CrlAnswer, OcspAnswer};
+use statements_facts::{CrlAnswer, OcspAnswer};
 use std::alloc::Global;
 
 /// Whether two lists have the same number, window and entry.
@@ -31,7 +31,7 @@ fn same_list(one: &CrlAnswer, other: &CrlAnswer) -> bool
 }
 
 /// Whether nothing is held twice, or two lists of which the same is said.
-fn same_lists(one: Option<CrlAnswer>, other: Option<CrlAnswer>) -> bool
+fn same_in_slot(one: Option<CrlAnswer>, other: Option<CrlAnswer>) -> bool
     ensures { IsTrue result ↔ (option_map seen_crl one ≡ option_map seen_crl other) }
 {
     match (one, other) {
@@ -39,6 +39,21 @@ fn same_lists(one: Option<CrlAnswer>, other: Option<CrlAnswer>) -> bool
         (Some(one), Some(other)) => same_list(&one, &other),
         _ => false,
     }
+}
+
+/// Whether the same is said slot by slot.
+fn same_lists(one: &[Option<CrlAnswer>], other: &[Option<CrlAnswer>]) -> bool
+    ensures { IsTrue result ↔ (seen_lists one.now ≡ seen_lists other.now) }
+{
+    if one.len() != other.len() {
+        return false;
+    }
+    for (index, crl) in one.iter().enumerate() {
+        if !same_in_slot(*crl, other[index]) {
+            return false;
+        }
+    }
+    true
 }
 
 /// Whether two responses have the same times, window and status.
@@ -61,20 +76,12 @@ fn same_responses(one: Option<OcspAnswer>, other: Option<OcspAnswer>) -> bool
     }
 }
 
-/// Whether the same is held of a certificate.
-fn same_answers(one: &Answers, other: &Answers) -> bool
-    ensures { IsTrue result ↔ (seen_answers one.now ≡ seen_answers other.now) }
-{
-    same_lists(one.all, other.all)
-        && (same_lists(one.own, other.own) && same_responses(one.ocsp, other.ocsp))
-}
-
 /// Whether all that bears on a certificate is the same.
 fn same_evidence(one: &Evidence, other: &Evidence) -> bool
     ensures { IsTrue result ↔ (seen_evidence one.now ≡ seen_evidence other.now) }
 {
     (one.number == other.number && one.may_sign_crls == other.may_sign_crls)
-        && same_answers(&one.answers, &other.answers)
+        && (same_lists(&one.lists, &other.lists) && same_responses(one.ocsp, other.ocsp))
 }
 
 /// The first certificate on which something different bears.

@@ -1,17 +1,18 @@
 //! What a store holds of the certificates of a path.
 
-ghost use Rattle.std.specs.Prelude.{◌≡◌, ◌≢◌, [], IsTrue, IfOk, length, map, vec_len};
+ghost use Rattle.std.specs.Prelude.{◌≡◌, ◌≢◌, ◌++◌, [], IsTrue, IfOk, OnOk, length, map, vec_len};
 ghost use Rattle.sqlite.specs.State.{HasCleanDisk};
 ghost use Rattle.cert.specs.Certificate.{seen_certificate};
 ghost use Rattle.statements_facts.specs.Fact.{seen_issuer};
+ghost use Rattle.statements_facts.specs.Statement.{at_point};
 ghost use Rattle.store_sql.specs.Inside.{IsInTransaction, KeepsReference, SucceedsOnlyIfOpen, inside};
 ghost use Rattle.store_sql.specs.Statements.{CommitsNothing};
 ghost use Rattle.store_maps.specs.LooksUp.{LooksUpInside, CausedOverStore};
 ghost use Rattle.relying_agreement.specs.Status.{evidence_of};
 ghost use Rattle.relying_agreement.specs.Verdict.{evidence_on};
 ghost use Rattle.relying_verdicts.specs.Asking.{AsksStore, AsksForCause};
-ghost use Rattle.relying_verdicts.specs.Found.{AreAnswersOn};
-ghost use Rattle.relying_evidence.specs.View.{seen_evidence, seen_link};
+ghost use Rattle.relying_verdicts.specs.Found.{AreAnswersOn, AreListsAtPoints, IsAssembled, lists_in};
+ghost use Rattle.relying_evidence.specs.View.{seen_evidence, seen_link, seen_lists};
 ghost use Rattle.path.specs.Reading.{seen_query};
 
 use crate::fault::Fault;
@@ -21,8 +22,8 @@ use relying_evidence::{Evidence, Link, links_of, may_sign_crls, own_scope};
 use sha1::Sha1;
 use sqlite::{Alter, Transaction};
 use statements::issuer_of;
-use statements_facts::{Answers, Issuer};
-use std::alloc::Global;
+use statements_facts::{Answers, CrlAnswer, Issuer};
+use std::alloc::{AllocError, Global};
 use store_maps::{CertificateKey, answers_on};
 use store_sql::StoreFault;
 
@@ -49,7 +50,79 @@ fn look_up<S: Alter>(
     answers_on(tx, issuer, &key)
 }
 
-/// What bears on a certificate. Memory is taken for the key of the issuer's name.
+/// The same at a point where the issuer publishes lists.
+fn look_up_at<S: Alter>(
+    alloc: Global,
+    tx: &mut Transaction<'_, S>,
+    issuer: &Issuer<'_>,
+    certificate: &Certificate<'_>,
+    point: &[u8],
+) -> Result<Answers, Fault>
+    requires inside { IsInTransaction S.Store tx.old }
+    ensures same_reference { KeepsReference tx.old tx.new }
+    ensures asks { AsksStore S.Store tx.old tx.new (AreAnswersOn
+        (at_point point.now (seen_issuer issuer.now)) (seen_certificate certificate.now)) result }
+    ensures caused { AsksForCause S.Store tx.old tx.new result }
+    ensures survives { CommitsNothing (inside S.Store tx.old) (inside S.Store tx.new) }
+{
+    let there = issuer.at_point(alloc, point)?;
+    Ok(look_up(tx, &there, certificate)?)
+}
+
+/// Adds what both lists say.
+fn push_lists(lists: &mut Vec<Option<CrlAnswer>>, answers: &Answers) -> Result<(), AllocError>
+    ensures { OnOk result (seen_lists lists.new.items
+        ≡ seen_lists lists.old.items ++ lists_in answers.now) }
+{
+    lists.push(answers.all)?;
+    lists.push(answers.own)?;
+    Ok(())
+}
+
+/// What the lists say that the issuer publishes at the points of the certificate: of each point one look-up.
+fn lists_at_points<S: Alter>(
+    alloc: Global,
+    tx: &mut Transaction<'_, S>,
+    issuer: &Issuer<'_>,
+    certificate: &Certificate<'_>,
+) -> Result<Vec<Option<CrlAnswer>>, Fault>
+    requires inside { IsInTransaction S.Store tx.old }
+    ensures same_reference { KeepsReference tx.old tx.new }
+    ensures asks { AsksStore S.Store tx.old tx.new
+        (AreListsAtPoints (seen_issuer issuer.now) (seen_certificate certificate.now)) result }
+    ensures caused { AsksForCause S.Store tx.old tx.new result }
+    ensures survives { CommitsNothing (inside S.Store tx.old) (inside S.Store tx.new) }
+{
+    let mut lists = Vec::new(alloc);
+    let points = certificate.points.as_slice();
+    for point in points {
+        let answers = look_up_at(alloc, tx, issuer, certificate, point)?;
+        push_lists(&mut lists, &answers)?;
+    }
+    Ok(lists)
+}
+
+/// What bears on a certificate, by what is held of it under its issuer, and of lists at its points.
+fn assembled(
+    alloc: Global,
+    link: &Link<'_, '_>,
+    answers: &Answers,
+    at_points: &[Option<CrlAnswer>],
+) -> Result<Evidence, AllocError>
+    ensures { IfOk result (IsAssembled (seen_link link.now) answers.now at_points.now) }
+{
+    let mut lists = Vec::new(alloc);
+    push_lists(&mut lists, answers)?;
+    lists.extend_from_slice(at_points)?;
+    Ok(Evidence {
+        number: link.number,
+        may_sign_crls: may_sign_crls(link),
+        lists,
+        ocsp: answers.ocsp,
+    })
+}
+
+/// What bears on a certificate. Memory is taken for the key of the issuer's name, and at each of the certificate's points once more.
 fn evidence_of<S: Alter>(
     alloc: Global,
     tx: &mut Transaction<'_, S>,
@@ -65,14 +138,12 @@ fn evidence_of<S: Alter>(
 {
     let issuer = issuer_of(alloc, link.issuer)?;
     let answers = look_up(tx, &issuer, link.certificate)?;
-    Ok(Evidence {
-        number: link.number,
-        may_sign_crls: may_sign_crls(link),
-        answers,
-    })
+    let at_points = lists_at_points(alloc, tx, &issuer, link.certificate)?;
+    Ok(assembled(alloc, link, &answers, &at_points)?)
 }
 
-/// What bears on certificates, one after the other: of each one look-up in a slot, and the key of the issuer's name once.
+/// What bears on certificates, one after the other: of each one look-up in a slot, one more at each of its points, and the key of the
+/// issuer's name once.
 pub(crate) fn evidence_of_each<S: Alter>(
     alloc: Global,
     tx: &mut Transaction<'_, S>,

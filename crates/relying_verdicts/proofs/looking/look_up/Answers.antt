@@ -12,5 +12,5 @@ returns-clause-looks_up g c clean =
     let serial = c.args.certificate.now.serial in
     let hash_is : c.digest-name_hash.result ≡ sha1 (seen_certificate c.args.certificate.now).issuer.octets = cc in
     looks_as _ _ c.answers_on.result _ (AreAnswersOn (seen_issuer c.args.issuer.now) (seen_certificate c.args.certificate.now)) (c.answers_on.ensures.looks_up clean)
-    (λ held found there. answers_are held (seen_issuer c.args.issuer.now) (seen_certificate c.args.certificate.now) c.own_scope.result serial.body.now c.digest-name_hash.result _ _ _
+    (λ held found there. answers_are held (seen_issuer c.args.issuer.now) (seen_certificate c.args.certificate.now) c.own_scope.result serial.body.now c.digest-name_hash.result found
     c.own_scope.ensures serial.body_is hash_is there.0 there.1 there.2)
