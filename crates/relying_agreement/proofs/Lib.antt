@@ -1,4 +1,6 @@
 mod Options
+mod Places
+pub mod Laws
 mod StatusLaws
 mod ValidLaws
 mod WordLaws

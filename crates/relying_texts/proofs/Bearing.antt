@@ -1,16 +1,20 @@
 -- What bears on a certificate, by what was found in its slots.
-use Rattle.std.proofs.Common.{◌≡◌, ℕ, Bool, List, map, Option, None, option_map, filter_map, refl, ap, ◌∙◌}
-use Rattle.sha1.specs.Sha1.{sha1}
+use Rattle.std.proofs.Common.{◌≡◌, ℕ, ◌+◌, ◌<◌, ◌≤◌, Bool, List, [], ◌∷◌, ◌++◌, map, length, take, get_or, Option, None, option_map, filter_map, refl, sym, ap, ◌∙◌, append-nil, append_assoc}
+use Rattle.std.specs.Borrow.{Bor}
+use Rattle.std.specs.List.{flat_map}
+use Rattle.std.proofs.lemmas.List.{map-append, take_more, take_all}
+use Rattle.std.proofs.lemmas.List.Concat.{flat_map-append}
+use Rattle.std.proofs.lemmas.List.Folds.{flat_map-map}
 use Rattle.asn.specs.Place.{body}
-use Rattle.statements_facts.specs.declared.scope.Scope.{Scope}
-use Rattle.statements_facts.specs.declared.scope.Scope.TheVariants.{All}
 use Rattle.statements_facts.specs.Fact.{Fact}
-use Rattle.statements_facts.specs.Statement.{CrlAnswer, OcspFact, answer_for}
+use Rattle.statements_facts.specs.Statement.{IssuerIdentity, CrlSlot, CrlAnswer, OcspFact, answer_for, at_point}
+use Rattle.statements_facts.specs.Answer.{seen_crl}
+use Rattle.statements_facts.specs.declared.answer.CrlAnswer as listed
 use Rattle.statements_facts.specs.Coming.{crl_for, ocsp_for}
-use Rattle.statements_facts.specs.Newest.{newer_crl, newer_ocsp, held_after}
 use Rattle.statements_facts.proofs.Laws.{crls_keep_newest, responses_keep_newest}
 use Rattle.statements.specs.Issuer.{identity_of}
-use Rattle.relying_agreement.specs.Link.{Link, links_of, own_scope, crl_slot_for}
+use Rattle.relying_agreement.specs.Link.{Link, crl_slots_of, links_of, ocsp_slot_for, slots_under}
+use Rattle.relying_agreement.proofs.Laws.{place_by_place}
 use Rattle.relying_agreement.specs.Status.{Evidence, evidence_of, may_sign_crls, list_held}
 use Rattle.relying_agreement.specs.Verdict.{verdict_by}
 use Rattle.relying_agreement.specs.declared.verdict.Verdict.{Verdict}
@@ -18,38 +22,57 @@ use Rattle.path.specs.Query.{Query, Accepts}
 use Rattle.cert.specs.Certificate.{Certificate}
 use Rattle.statements.specs.Statement.{Statement}
 use Rattle.relying_texts.specs.Texts.{facts_told, evidence_told}
+use Rattle.relying_evidence.specs.View.{seen_lists}
+use Rattle.relying_texts.specs.Told.{AreToldUpTo, all_lists_told, list_told, lists_told, response_told}
 use Rattle.relying_texts.specs.View.{held_of}
 
-abbrev pub list_found : List Fact → Link → Scope → List ℕ → Option CrlAnswer
-list_found facts link scope serial = option_map (answer_for serial) (held_after newer_crl None (filter_map (crl_for (crl_slot_for link scope)) facts))
+-- the newest of the facts of a slot is what is held there
+told_is_held : (facts : List Fact) (serial : List ℕ) (slot : CrlSlot) → list_told facts serial slot ≡ list_held (held_of facts) serial slot
+told_is_held facts serial slot = ap (option_map (answer_for serial)) (crls_keep_newest.held None (filter_map (crl_for slot) facts))
 
-abbrev pub response_found : List Fact → Link → List ℕ → List ℕ → Option OcspFact
-response_found facts link hash serial =
-    held_after newer_ocsp None (filter_map (ocsp_for (record { issuer = identity_of link.issuer; name_hash = hash; serial = serial })) facts)
+-- no octets behind the key of the issuer's name: it is the issuer itself
+anywhere : (issuer : IssuerIdentity) → at_point [] issuer ≡ issuer
+anywhere issuer = λ i. record { name = append-nil issuer.name i; key_info = issuer.key_info }
 
-list_is : (facts : List Fact) (link : Link) (scope kind : Scope) (serial of : List ℕ) (answer : Option CrlAnswer) → scope ≡ kind → serial ≡ of
-    → answer ≡ list_found facts link scope serial → answer ≡ list_held (held_of facts) (identity_of link.issuer) kind of
-list_is facts link scope kind serial of answer kind_is serial_is is =
-    is
-    ∙ ap (option_map (answer_for serial)) (crls_keep_newest.held None (filter_map (crl_for (crl_slot_for link scope)) facts))
-    ∙ ap (λ k. option_map (answer_for serial) ((held_of facts).crl (crl_slot_for link k))) kind_is
-    ∙ ap (λ s. option_map (answer_for s) ((held_of facts).crl (crl_slot_for link kind))) serial_is
+lists_are : (facts : List Fact) (link : Link)
+    → all_lists_told facts link ≡ map (list_held (held_of facts) (body link.certificate.serial)) (crl_slots_of link)
+lists_are facts link =
+    let serial = body link.certificate.serial in
+    let issuer = identity_of link.issuer in
+    (λ i. map (λ slot. told_is_held facts serial slot i) (slots_under link.certificate (anywhere issuer i))
+    ++ flat_map (λ point. map (λ slot. told_is_held facts serial slot i) (slots_under link.certificate (at_point point issuer))) link.certificate.points)
+    ∙ sym (place_by_place (list_held (held_of facts) serial) issuer link.certificate)
 
-pub bears : (facts : List Fact) (link : Link) (kind : Scope) (serial hash : List ℕ) (may : Bool) (all own : Option CrlAnswer) (ocsp : Option OcspFact)
-    → kind ≡ own_scope link.certificate → serial ≡ body link.certificate.serial → hash ≡ sha1 link.certificate.issuer.octets → may ≡ may_sign_crls link
-    → all ≡ list_found facts link All serial → own ≡ list_found facts link kind serial → ocsp ≡ response_found facts link hash serial
-    → ◌≡◌ {A = Evidence} (record { number = link.number; may_sign_crls = may; answers = record { all = all; own = own; ocsp = ocsp } }) (evidence_of (held_of facts) link)
-bears facts link kind serial hash may all own ocsp kind_is serial_is hash_is may_is all_is own_is ocsp_is =
-    let of_all : all ≡ list_held (held_of facts) (identity_of link.issuer) All (body link.certificate.serial) =
-    list_is facts link All All serial (body link.certificate.serial) all refl serial_is all_is in
-    let of_kind : own ≡ list_held (held_of facts) (identity_of link.issuer) (own_scope link.certificate) (body link.certificate.serial) =
-    list_is facts link kind (own_scope link.certificate) serial (body link.certificate.serial) own kind_is serial_is own_is in
-    let of_response : ocsp ≡ (held_of facts).ocsp (record { issuer = identity_of link.issuer; name_hash = sha1 link.certificate.issuer.octets; serial = body link.certificate.serial }) =
-    ocsp_is
-    ∙ responses_keep_newest.held None (filter_map (ocsp_for (record { issuer = identity_of link.issuer; name_hash = hash; serial = serial })) facts)
-    ∙ ap (λ h. (held_of facts).ocsp (record { issuer = identity_of link.issuer; name_hash = h; serial = serial })) hash_is
-    ∙ ap (λ s. (held_of facts).ocsp (record { issuer = identity_of link.issuer; name_hash = sha1 link.certificate.issuer.octets; serial = s })) serial_is in
-    λ i. record { number = link.number; may_sign_crls = may_is i; answers = record { all = of_all i; own = of_kind i; ocsp = of_response i } }
+pub bears : (facts : List Fact) (link : Link) (may : Bool) (lists : List (Option CrlAnswer)) (ocsp : Option OcspFact)
+    → may ≡ may_sign_crls link → lists ≡ all_lists_told facts link → ocsp ≡ response_told facts link
+    → ◌≡◌ {A = Evidence} (record { number = link.number; may_sign_crls = may; answers = record { lists = lists; ocsp = ocsp } }) (evidence_of (held_of facts) link)
+bears facts link may lists ocsp may_is lists_told_are ocsp_is =
+    let lists_held = lists_told_are ∙ lists_are facts link in
+    let response_held : ocsp ≡ (held_of facts).ocsp (ocsp_slot_for link) = ocsp_is ∙ responses_keep_newest.held None (filter_map (ocsp_for (ocsp_slot_for link)) facts) in
+    λ i. record { number = link.number; may_sign_crls = may_is i; answers = record { lists = lists_held i; ocsp = response_held i } }
+
+-- one more point
+pub one_more : (facts : List Fact) (link : Link) (points : List (Bor (List ℕ))) (i : ℕ) (d : Bor (List ℕ)) (lists more : List (Option CrlAnswer))
+    → i < length points → more ≡ lists ++ lists_told facts link (get_or points i d).now
+    → AreToldUpTo facts link points i lists → AreToldUpTo facts link points (i + 1) more
+one_more facts link points i d lists more below pushed so_far =
+    let at : Bor (List ℕ) → List (Option CrlAnswer) = λ point. lists_told facts link point.now in
+    pushed
+    ∙ ap (λ l. l ++ at (get_or points i d)) so_far
+    ∙ append_assoc (lists_told facts link []) (flat_map at (take i points)) (at (get_or points i d))
+    ∙ ap (λ l. lists_told facts link [] ++ (flat_map at (take i points) ++ l)) (sym (append-nil (at (get_or points i d))))
+    ∙ ap (λ l. lists_told facts link [] ++ l) (sym (flat_map-append at (take i points) (get_or points i d ∷ [])) ∙ ap (flat_map at) (sym (take_more points i d below)))
+
+pub all_points : (facts : List Fact) (link : Link) (points : List (Bor (List ℕ))) (i : ℕ) (lists : List (Option CrlAnswer))
+    → length points ≤ i → map (λ (point : Bor (List ℕ)). point.now) points ≡ link.certificate.points
+    → AreToldUpTo facts link points i lists → lists ≡ all_lists_told facts link
+all_points facts link points i lists le points_are so_far =
+    let at : Bor (List ℕ) → List (Option CrlAnswer) = λ point. lists_told facts link point.now in
+    so_far
+    ∙ ap (λ l. lists_told facts link [] ++ l)
+    (ap (flat_map at) (take_all i points le)
+    ∙ sym (flat_map-map (lists_told facts link) (λ (point : Bor (List ℕ)). point.now) points)
+    ∙ ap (flat_map (lists_told facts link)) points_are)
 
 -- the verdict by what was gathered is that by what the statements tell
 pub decided : (accepts : Accepts) (query : Query) (statements : List Statement) (facts : List Fact) (links : List Link) (issuers : List Certificate) (verdict : Verdict)
@@ -60,3 +83,15 @@ decided accepts query statements facts links issuers verdict facts_are issuers_a
     is
     ∙ ap (λ told. verdict_by query.moment (map (evidence_of (held_of told)) links)) (facts_are ∙ ap (λ names. facts_told accepts names statements) issuers_are)
     ∙ ap (λ all. verdict_by query.moment (map (evidence_of (held_of (facts_told accepts (map (λ (link : Link). link.issuer) all) statements))) all)) links_are
+
+-- two lists were added
+pub both_added : (lists mid new : List (Option listed.CrlAnswer)) (a b : Option listed.CrlAnswer) (x y : Option CrlAnswer)
+    → mid ≡ lists ++ a ∷ [] → new ≡ mid ++ b ∷ [] → option_map seen_crl a ≡ x → option_map seen_crl b ≡ y
+    → seen_lists new ≡ seen_lists lists ++ x ∷ y ∷ []
+both_added lists mid new a b x y mid_is new_is is_x is_y =
+    let s : Option listed.CrlAnswer → Option CrlAnswer = λ crl. option_map seen_crl crl in
+    ap seen_lists (new_is ∙ ap (λ l. l ++ b ∷ []) mid_is)
+    ∙ map-append s (lists ++ a ∷ []) (b ∷ [])
+    ∙ ap (λ l. l ++ s b ∷ []) (map-append s lists (a ∷ []))
+    ∙ append_assoc (map s lists) (s a ∷ []) (s b ∷ [])
+    ∙ (λ i. map s lists ++ is_x i ∷ is_y i ∷ [])

@@ -4,3 +4,4 @@ mod Runs
 mod Deciding
 mod Bearing
 mod StatementsRead
+mod SameIssuers

@@ -1,5 +1,6 @@
 pub mod Texts
 pub mod View
+pub mod Told
 pub mod Reading
 pub mod Deliveries
 pub use Rattle.relying_agreement.specs.Verdict

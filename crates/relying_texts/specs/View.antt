@@ -12,7 +12,7 @@ use Rattle.statements_crl.specs.declared.list.Crl as list
 use Rattle.statements_facts.specs.declared.scope.Scope.{Scope}
 use Rattle.statements_facts.specs.Fact.{Fact}
 use Rattle.statements_facts.specs.Single.{SingleFact}
-use Rattle.statements_facts.specs.Statement.{IssuerIdentity, CrlSlot, CrlFact, OcspSlot, OcspFact, Holdings}
+use Rattle.statements_facts.specs.Statement.{IssuerIdentity, CrlSlot, CrlFact, OcspSlot, OcspFact, Holdings, at_point}
 use Rattle.statements_facts.specs.Coming.{crl_for, ocsp_for}
 use Rattle.statements_facts.specs.Newest.{newer_crl, newer_ocsp, newest_in}
 use Rattle.statements.specs.Issuer.{identity_of}
@@ -61,8 +61,9 @@ facts_in_all statements = flat_map facts_of_genuine statements
 abbrev pub list_fact_at : Bor list.Crl → CrlFact
 list_fact_at list = list_fact list.now
 
-abbrev pub crl_slot_of : certificate.Certificate → Scope → CrlSlot
-crl_slot_of issuer scope = record { issuer = identity_seen issuer; scope = scope }
+-- the slot of the lists that an issuer publishes at a point; no octets stand for those that it publishes anywhere
+abbrev pub crl_slot_of : certificate.Certificate → List ℕ → Scope → CrlSlot
+crl_slot_of issuer point scope = record { issuer = at_point point (identity_seen issuer); scope = scope }
 
 abbrev pub ocsp_slot_of : certificate.Certificate → List ℕ → List ℕ → OcspSlot
 ocsp_slot_of issuer name_hash serial = record { issuer = identity_seen issuer; name_hash = name_hash; serial = serial }

@@ -26,15 +26,16 @@ use std::alloc::{AllocError, Global};
 
 /// The verdict on a path that meets all conditions, at the moment that is asked for.
 fn verdict_at(
+    alloc: Global,
     search: &Search<'_, '_>,
     links: &[Link<'_, '_>],
     genuine: &[GenuineStatement<'_, '_, '_>],
-) -> Verdict
-    ensures { result ≡ verdict_by search.now.moment
-        (map (evidence_of (held_of (facts_in_all genuine.now))) (map seen_link links.now)) }
+) -> Result<Verdict, AllocError>
+    ensures { IfOk result (λ verdict. verdict ≡ verdict_by search.now.moment
+        (map (evidence_of (held_of (facts_in_all genuine.now))) (map seen_link links.now))) }
 {
     let moment = search.moment;
-    verdict_on(links, genuine, moment)
+    verdict_on(alloc, links, genuine, moment)
 }
 
 /// The verdict on the path of a valid candidate.
@@ -54,7 +55,7 @@ fn verdict_on_candidate<V: Verifier>(
 {
     let links = links_of_candidate(alloc, search, candidate)?;
     let genuine = genuine_statements(alloc, verifier, links.as_slice(), statements)?;
-    Ok(verdict_at(search, links.as_slice(), genuine.as_slice()))
+    verdict_at(alloc, search, links.as_slice(), genuine.as_slice())
 }
 
 /// Asks about the next valid path. Answers what is found, if that ends the search.

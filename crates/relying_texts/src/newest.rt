@@ -1,4 +1,4 @@
-//! The newest list of an issuer and a scope.
+//! The newest list of an issuer, a point and a scope.
 
 ghost use Rattle.std.specs.Prelude.{◌≡◌, None, option_map};
 ghost use Rattle.std.specs.List.{filter_map};
@@ -10,23 +10,24 @@ ghost use Rattle.statements_facts.specs.Answer.{seen_crl};
 ghost use Rattle.relying_texts.specs.View.{crl_slot_of, facts_of_genuine, facts_in_all, list_fact, list_fact_at};
 
 use crate::contents::{Contents, GenuineStatement};
-use crate::same_issuer::is_same_issuer;
+use crate::same_issuer::is_issuer_at;
 use cert::Certificate;
 use statements_crl::Crl;
 use statements_facts::{CrlAnswer, Scope};
 
-/// The list, if it is one of the issuer and the scope.
+/// The list, if it is one of the issuer and the scope, published at the point; no octets stand for anywhere.
 fn list_for<'t, 'a>(
     statement: &'t GenuineStatement<'_, '_, 'a>,
     issuer: &Certificate<'_>,
+    point: &[u8],
     scope: Scope,
 ) -> Option<&'t Crl<'a>>
     ensures { option_to_list (option_map list_fact_at result)
-        ≡ filter_map (crl_for (crl_slot_of issuer.now scope)) (facts_of_genuine statement.now) }
+        ≡ filter_map (crl_for (crl_slot_of issuer.now point.now scope)) (facts_of_genuine statement.now) }
 {
     match &statement.contents {
         Contents::List(list) => {
-            if is_same_issuer(statement.issuer, issuer) && list.scope == scope {
+            if is_issuer_at(statement.issuer, issuer, point) && list.scope == scope {
                 Some(list)
             } else {
                 None
@@ -57,18 +58,19 @@ fn newer_list<'t, 'a>(held: Option<&'t Crl<'a>>, next: Option<&'t Crl<'a>>) -> O
     }
 }
 
-/// The newest list of the issuer and the scope, the first of those with its number.
+/// The newest list of the issuer, the point and the scope, the first of those with its number.
 fn newest_list<'t, 'a>(
     genuine: &'t [GenuineStatement<'_, '_, 'a>],
     issuer: &Certificate<'_>,
+    point: &[u8],
     scope: Scope,
 ) -> Option<&'t Crl<'a>>
     ensures { option_map list_fact_at result ≡ held_after newer_crl None
-        (filter_map (crl_for (crl_slot_of issuer.now scope)) (facts_in_all genuine.now)) }
+        (filter_map (crl_for (crl_slot_of issuer.now point.now scope)) (facts_in_all genuine.now)) }
 {
     let mut newest = None;
     for statement in genuine {
-        newest = newer_list(newest, list_for(statement, issuer, scope));
+        newest = newer_list(newest, list_for(statement, issuer, point, scope));
     }
     newest
 }
@@ -85,17 +87,18 @@ fn answer_of(list: &Crl<'_>, serial: &[u8]) -> CrlAnswer
     }
 }
 
-/// What the newest list of the issuer and the scope says of one serial number.
+/// What the newest list of the issuer, the point and the scope says of one serial number.
 pub(crate) fn list_answer(
     genuine: &[GenuineStatement<'_, '_, '_>],
     issuer: &Certificate<'_>,
+    point: &[u8],
     scope: Scope,
     serial: &[u8],
 ) -> Option<CrlAnswer>
     ensures { option_map seen_crl result ≡ option_map (answer_for serial.now)
         (held_after newer_crl None
-        (filter_map (crl_for (crl_slot_of issuer.now scope)) (facts_in_all genuine.now))) }
+        (filter_map (crl_for (crl_slot_of issuer.now point.now scope)) (facts_in_all genuine.now))) }
 {
-    let list = newest_list(genuine, issuer, scope)?;
+    let list = newest_list(genuine, issuer, point, scope)?;
     Some(answer_of(list, serial))
 }

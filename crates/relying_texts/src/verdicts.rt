@@ -1,14 +1,16 @@
 //! The verdict on a path by statements at hand.
 
 ghost use Rattle.path.specs.Validity.{IsValidPath};
-ghost use Rattle.std.specs.Prelude.{◌≡◌, IfOk, OnErr, None, Some, if◌then◌else◌, map};
+ghost use Rattle.std.specs.Prelude.{◌≡◌, ◌++◌, IfOk, OnErr, OnOk, None, Some, if◌then◌else◌, map, option_map};
 ghost use Rattle.std.specs.Option.{option_or};
 ghost use Rattle.relying_agreement.specs.Status.{deciding_reason, evidence_of, is_covered_by};
 ghost use Rattle.relying_agreement.specs.Verdict.{verdict_by};
-ghost use Rattle.relying_evidence.specs.View.{seen_evidence, seen_link};
+ghost use Rattle.relying_evidence.specs.View.{seen_evidence, seen_link, seen_lists};
+ghost use Rattle.statements_facts.specs.Answer.{seen_ocsp};
 ghost use Rattle.path.specs.Reading.{seen_query};
 ghost use Rattle.statements.specs.Statement.{seen_statement};
 ghost use Rattle.relying_texts.specs.Texts.{IsVerdictByStatements, evidence_told};
+ghost use Rattle.relying_texts.specs.Told.{all_lists_told, lists_told, response_told};
 ghost use Rattle.relying_texts.specs.View.{CarriesNoSubtrees, facts_in_all, held_of};
 
 use crate::contents::GenuineStatement;
@@ -21,40 +23,87 @@ use relying_agreement::Verdict;
 use relying_evidence::{Evidence, Link, links_of, may_sign_crls, own_scope};
 use sha1::Sha1;
 use statements::Statement;
-use statements_facts::{Answers, Scope};
+use statements_facts::{CrlAnswer, OcspAnswer, Scope};
 use std::alloc::{AllocError, Global};
 
-/// What bears on the certificate by the newest statements.
-fn evidence_of(link: &Link<'_, '_>, genuine: &[GenuineStatement<'_, '_, '_>]) -> Evidence
-    ensures { seen_evidence result
-        ≡ evidence_of (held_of (facts_in_all genuine.now)) (seen_link link.now) }
+/// Adds what both lists say that the issuer publishes at the point.
+fn push_lists_at(
+    lists: &mut Vec<Option<CrlAnswer>>,
+    link: &Link<'_, '_>,
+    genuine: &[GenuineStatement<'_, '_, '_>],
+    point: &[u8],
+) -> Result<(), AllocError>
+    ensures { OnOk result (seen_lists lists.new.items ≡ seen_lists lists.old.items
+        ++ lists_told (facts_in_all genuine.now) (seen_link link.now) point.now) }
 {
     let (issuer, certificate) = (link.issuer, link.certificate);
     let serial = certificate.serial.body;
+    lists.push(list_answer(genuine, issuer, point, Scope::All, serial))?;
+    lists.push(list_answer(genuine, issuer, point, own_scope(certificate), serial))?;
+    Ok(())
+}
+
+/// What the newest lists say that speak of the certificate: those that are published anywhere, and those at its points.
+fn lists_on(
+    alloc: Global,
+    link: &Link<'_, '_>,
+    genuine: &[GenuineStatement<'_, '_, '_>],
+) -> Result<Vec<Option<CrlAnswer>>, AllocError>
+    ensures { IfOk result (λ lists. seen_lists lists.items
+        ≡ all_lists_told (facts_in_all genuine.now) (seen_link link.now)) }
+{
+    let mut lists = Vec::new(alloc);
+    push_lists_at(&mut lists, link, genuine, &[])?;
+    for point in link.certificate.points.as_slice() {
+        push_lists_at(&mut lists, link, genuine, point)?;
+    }
+    Ok(lists)
+}
+
+/// What the newest response says of the certificate.
+fn response_on(
+    link: &Link<'_, '_>,
+    genuine: &[GenuineStatement<'_, '_, '_>],
+) -> Option<OcspAnswer>
+    ensures { option_map seen_ocsp result
+        ≡ response_told (facts_in_all genuine.now) (seen_link link.now) }
+{
+    let certificate = link.certificate;
     let name_hash = Sha1::digest(certificate.issuer.raw());
-    let all = list_answer(genuine, issuer, Scope::All, serial);
-    let own = list_answer(genuine, issuer, own_scope(certificate), serial);
-    let ocsp = response_answer(genuine, issuer, &name_hash, serial);
-    Evidence {
+    response_answer(genuine, link.issuer, &name_hash, certificate.serial.body)
+}
+
+/// What bears on the certificate by the newest statements.
+fn evidence_of(
+    alloc: Global,
+    link: &Link<'_, '_>,
+    genuine: &[GenuineStatement<'_, '_, '_>],
+) -> Result<Evidence, AllocError>
+    ensures { IfOk result (λ it. seen_evidence it
+        ≡ evidence_of (held_of (facts_in_all genuine.now)) (seen_link link.now)) }
+{
+    Ok(Evidence {
         number: link.number,
         may_sign_crls: may_sign_crls(link),
-        answers: Answers { all, own, ocsp },
-    }
+        lists: lists_on(alloc, link, genuine)?,
+        ocsp: response_on(link, genuine),
+    })
 }
 
 /// Why the certificate is revoked, if it is, and whether a statement speaks of it.
 fn status_of(
+    alloc: Global,
     link: &Link<'_, '_>,
     genuine: &[GenuineStatement<'_, '_, '_>],
     moment: i64,
-) -> (Option<u8>, bool)
-    ensures reason { result.0 ≡ deciding_reason moment
-        (evidence_of (held_of (facts_in_all genuine.now)) (seen_link link.now)) }
-    ensures covered { result.1 ≡ is_covered_by moment
-        (evidence_of (held_of (facts_in_all genuine.now)) (seen_link link.now)) }
+) -> Result<(Option<u8>, bool), AllocError>
+    ensures reason { IfOk result (λ status. status.0 ≡ deciding_reason moment
+        (evidence_of (held_of (facts_in_all genuine.now)) (seen_link link.now))) }
+    ensures covered { IfOk result (λ status. status.1 ≡ is_covered_by moment
+        (evidence_of (held_of (facts_in_all genuine.now)) (seen_link link.now))) }
 {
-    let evidence = evidence_of(link, genuine);
-    (evidence.reason(moment), evidence.is_covered(moment))
+    let evidence = evidence_of(alloc, link, genuine)?;
+    Ok((evidence.reason(moment), evidence.is_covered(moment)))
 }
 
 /// The first certificate of which no statement speaks, with one more.
@@ -70,38 +119,40 @@ fn first_uncovered(earlier: Option<usize>, number: usize, is_covered: bool) -> O
 /// The verdict on the certificates of a path that meets all conditions: the first that is revoked; if none is, the first of which no
 /// statement speaks; else that the path is valid.
 pub(crate) fn verdict_on(
+    alloc: Global,
     links: &[Link<'_, '_>],
     genuine: &[GenuineStatement<'_, '_, '_>],
     moment: i64,
-) -> Verdict
-    ensures { result ≡ verdict_by moment
-        (map (evidence_of (held_of (facts_in_all genuine.now))) (map seen_link links.now)) }
+) -> Result<Verdict, AllocError>
+    ensures { IfOk result (λ verdict. verdict ≡ verdict_by moment
+        (map (evidence_of (held_of (facts_in_all genuine.now))) (map seen_link links.now))) }
 {
     let mut uncovered = None;
     for link in links {
-        let (revoked, is_covered) = status_of(link, genuine, moment);
+        let (revoked, is_covered) = status_of(alloc, link, genuine, moment)?;
         if let Some(reason) = revoked {
-            return Verdict::Revoked(link.number, reason);
+            return Ok(Verdict::Revoked(link.number, reason));
         }
         uncovered = first_uncovered(uncovered, link.number, is_covered);
     }
     match uncovered {
-        Some(number) => Verdict::Unknown(number),
-        None => Verdict::Valid,
+        Some(number) => Ok(Verdict::Unknown(number)),
+        None => Ok(Verdict::Valid),
     }
 }
 
 /// The same at the moment that is asked for.
 fn verdict_at(
+    alloc: Global,
     query: &Query<'_>,
     links: &[Link<'_, '_>],
     genuine: &[GenuineStatement<'_, '_, '_>],
-) -> Verdict
-    ensures { result ≡ verdict_by query.now.moment
-        (map (evidence_of (held_of (facts_in_all genuine.now))) (map seen_link links.now)) }
+) -> Result<Verdict, AllocError>
+    ensures { IfOk result (λ verdict. verdict ≡ verdict_by query.now.moment
+        (map (evidence_of (held_of (facts_in_all genuine.now))) (map seen_link links.now))) }
 {
     let moment = query.moment;
-    verdict_on(links, genuine, moment)
+    verdict_on(alloc, links, genuine, moment)
 }
 
 /// The verdict on a path that meets all conditions.
@@ -117,7 +168,7 @@ fn verdict_by_statements<V: Verifier>(
 {
     let links = links_of(alloc, &query.anchor, query.path.as_slice())?;
     let genuine = genuine_statements(alloc, verifier, links.as_slice(), statements)?;
-    Ok(verdict_at(query, links.as_slice(), genuine.as_slice()))
+    verdict_at(alloc, query, links.as_slice(), genuine.as_slice())
 }
 
 /// The verdict on a path by statements, lists and responses in any order: that of a relying party that began with nothing and was
@@ -126,7 +177,7 @@ fn verdict_by_statements<V: Verifier>(
 ///
 /// The verifier is asked about a list once for each issuer whose name it has, about a response once for each
 /// issuer and for each certificate that comes with it. For each certificate of the path at most two lists are walked over once more, the
-/// newest of either scope. Memory is taken for the certificates of the path, for genuine statements and for the certificates that come
+/// newest of either scope, and as many at each of its points. Memory is taken for the certificates of the path, for genuine statements and for the certificates that come
 /// with responses, but not for the entries of lists.
 pub fn verdict<V: Verifier>(
     alloc: Global,

@@ -1,7 +1,5 @@
 -- What look-ups answer, as what bears on a certificate.
-use Rattle.std.proofs.Common.{◌≡◌, ℕ, ◌+◌, Bool, true, List, [], ◌∷◌, ◌++◌, map, Option, option_map, refl, sym, ap, ap₂, ◌∙◌, if◌then◌else◌}
-use Rattle.std.specs.List.{flat_map}
-use Rattle.std.proofs.lemmas.List.{map-append}
+use Rattle.std.proofs.Common.{◌≡◌, ℕ, ◌+◌, Bool, true, List, [], ◌∷◌, ◌++◌, map, Option, option_map, sym, ap, ap₂, ◌∙◌, if◌then◌else◌}
 use Rattle.sha1.specs.Sha1.{sha1}
 use Rattle.asn.specs.Place.{body}
 use Rattle.cert.specs.Certificate.{Certificate}
@@ -10,13 +8,14 @@ use Rattle.statements_facts.specs.declared.answer.CrlAnswer.{CrlAnswer}
 use Rattle.statements_facts.specs.declared.scope.Scope.{Scope}
 use Rattle.statements_facts.specs.declared.scope.Scope.TheVariants.{All}
 use Rattle.statements_facts.specs.Answer.{seen_crl, seen_ocsp}
-use Rattle.statements_facts.specs.Statement.{IssuerIdentity, Holdings, at_point}
+use Rattle.statements_facts.specs.Statement.{IssuerIdentity, Holdings}
 use Rattle.statements.specs.Issuer.{identity_of}
-use Rattle.relying_agreement.specs.Link.{Link, list_slots, own_scope, slots_under}
+use Rattle.relying_agreement.specs.Link.{Link, list_slots, own_scope}
 use Rattle.relying_agreement.specs.Status.{evidence_of, may_sign_crls, list_held, answers_held}
+use Rattle.relying_agreement.proofs.Laws.{place_by_place}
 use Rattle.relying_evidence.specs.declared.evidence.Evidence as known
 use Rattle.relying_evidence.specs.View.{seen_evidence, seen_lists}
-use Rattle.relying_verdicts.specs.Found.{AreAnswersOn, AreListsAt, IsAssembled, lists_held_under, lists_in}
+use Rattle.relying_verdicts.specs.Found.{AreAnswersOn, AreListsAt, IsAssembled, lists_in}
 
 pub answers_are : (held : Holdings) (issuer : IssuerIdentity) (certificate : Certificate) (kind : Scope) (serial hash : List ℕ) (answers : listed.Answers)
     → kind ≡ own_scope certificate → serial ≡ body certificate.serial → hash ≡ sha1 certificate.issuer.octets
@@ -35,19 +34,6 @@ answers_are held issuer certificate kind serial hash answers kind_is serial_is h
     ∙ ap (λ s. held.ocsp (record { issuer = issuer; name_hash = sha1 certificate.issuer.octets; serial = s })) serial_is;
 }
 
-map_flat : {A B C : Type 0} (f : B → C) (g : A → List B) (xs : List A) → map f (flat_map g xs) ≡ flat_map (λ x. map f (g x)) xs
-map_flat f g [] = refl
-map_flat f g (x ∷ xs) = map-append f (g x) (flat_map g xs) ∙ ap (λ l. map f (g x) ++ l) (map_flat f g xs)
-
--- the lists of all slots are those under the issuer, and those at its points
-all_slots : (held : Holdings) (issuer : IssuerIdentity) (certificate : Certificate)
-    → map (list_held held (body certificate.serial)) (list_slots issuer certificate)
-    ≡ lists_held_under held certificate issuer ++ flat_map (λ point. lists_held_under held certificate (at_point point issuer)) certificate.points
-all_slots held issuer certificate =
-    let f = list_held held (body certificate.serial) in
-    map-append f (slots_under certificate issuer) (flat_map (λ point. slots_under certificate (at_point point issuer)) certificate.points)
-    ∙ ap (λ l. lists_held_under held certificate issuer ++ l) (map_flat f (λ point. slots_under certificate (at_point point issuer)) certificate.points)
-
 pub evidence_is : (held : Holdings) (link : Link) (issuer : IssuerIdentity) (answers : listed.Answers) (at_points : List (Option CrlAnswer)) (it : known.Evidence)
     → issuer ≡ identity_of link.issuer → IsAssembled link answers at_points it
     → AreAnswersOn issuer link.certificate held answers → AreListsAt issuer link.certificate link.certificate.points held at_points
@@ -55,7 +41,7 @@ pub evidence_is : (held : Holdings) (link : Link) (issuer : IssuerIdentity) (ans
 evidence_is held link issuer answers at_points it issuer_is assembled are at_them_are =
     let lists : lists_in answers ++ seen_lists at_points ≡ map (list_held held (body link.certificate.serial)) (list_slots (identity_of link.issuer) link.certificate) =
     ap₂ (λ here there. here ++ there) are.lists at_them_are
-    ∙ sym (all_slots held issuer link.certificate)
+    ∙ sym (place_by_place (list_held held (body link.certificate.serial)) issuer link.certificate)
     ∙ ap (λ i. map (list_held held (body link.certificate.serial)) (list_slots i link.certificate)) issuer_is in
     let ocsp : option_map seen_ocsp answers.ocsp ≡ (answers_held held (identity_of link.issuer) link.certificate).ocsp =
     are.ocsp ∙ ap (λ i. (answers_held held i link.certificate).ocsp) issuer_is in

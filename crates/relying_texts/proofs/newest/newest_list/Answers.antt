@@ -7,7 +7,7 @@ use Rattle.relying_texts.proofs.newest.newest_list.Goals as goal
 
 pub loop-statement-preserved : goal.loop-statement-preserved
 loop-statement-preserved c =
-    let of = crl_for (crl_slot_of c.args.issuer.now c.args.scope) in
+    let of = crl_for (crl_slot_of c.args.issuer.now c.args.point.now c.args.scope) in
     let all = c.args.genuine.now in
     let i = c.loop-statement.statement-index in
     came newer_crl facts_of_genuine of (option_map list_fact_at c.loop-statement.newest) (option_map list_fact_at c.newer_list-newest.result) c.statement-item.result

@@ -18,7 +18,7 @@ returns-in-Some c =
     is_revoked _ c.loop-link.uncovered (map bears (map seen_link (drop i links))) (map bears (map seen_link links)) c.loop-link.invariant
     it (map bears (map seen_link (drop (i + 1) links))) c.link-item.result.number c.in-Some.reason
     (ap (λ l. map bears (map seen_link l)) (one_left links i c.link-item.result c.loop-link-test.true c.link-item.is)) refl
-    (sym c.in-Some.is ∙ c.status_of-revoked.ensures.reason)
+    (sym c.in-Some.is ∙ c.in_ok-revoked.ensures.reason)
     ∙ ap (λ m. verdict_by m (map bears (map seen_link links))) (to_z-of_z c.ranges.moment)
 
 pub loop-link-preserved : goal.loop-link-preserved
@@ -28,7 +28,7 @@ loop-link-preserved c =
     let i = c.loop-link.link-index in
     let it = bears (seen_link c.link-item.result) in
     goes_on _ c.loop-link.uncovered c.first_uncovered-uncovered.result (map bears (map seen_link (drop i links))) (map bears (map seen_link links))
-    it (map bears (map seen_link (drop (i + 1) links))) c.link-item.result.number c.status_of-revoked.result.1 c.loop-link.invariant
+    it (map bears (map seen_link (drop (i + 1) links))) c.link-item.result.number c.in_ok-revoked.is_covered c.loop-link.invariant
     (ap (λ l. map bears (map seen_link l)) (one_left links i c.link-item.result c.loop-link-test.true c.link-item.is)) refl
-    (sym c.in_default.is ∙ c.status_of-revoked.ensures.reason) c.status_of-revoked.ensures.covered
+    (sym c.in_default.is ∙ c.in_ok-revoked.ensures.reason) c.in_ok-revoked.ensures.covered
     c.first_uncovered-uncovered.ensures

@@ -1,7 +1,7 @@
 use Rattle.relying_agreement.proofs.ValidLaws.{invalid_exactly_where, valid_exactly_where}
 use Rattle.relying_agreement.proofs.VerdictLaws.{verdict_is_one}
 use Rattle.relying_agreement.proofs.WordLaws.{revoked_exactly_where, unknown_exactly_where}
-use Rattle.relying_agreement.proofs.laws.verdict_laws.Goals as goal
+use Rattle.relying_agreement.proofs.agreement.verdict_laws.Goals as goal
 
 pub returns-clause-one : goal.returns-clause-one
 returns-clause-one c = verdict_is_one c.outcome_laws.ensures

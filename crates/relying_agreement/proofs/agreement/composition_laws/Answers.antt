@@ -1,5 +1,5 @@
 use Rattle.relying_agreement.proofs.RunLaws.{each_holds_newest, runs_compose, steps_make_a_run}
-use Rattle.relying_agreement.proofs.laws.composition_laws.Goals as goal
+use Rattle.relying_agreement.proofs.agreement.composition_laws.Goals as goal
 
 pub returns-clause-compose : goal.returns-clause-compose
 returns-clause-compose c = runs_compose

@@ -1,5 +1,5 @@
 use Rattle.relying_agreement.proofs.ComparisonLaws.{comparison_exists, comparison_is_one, never_differs}
-use Rattle.relying_agreement.proofs.laws.comparison_laws.Goals as goal
+use Rattle.relying_agreement.proofs.agreement.comparison_laws.Goals as goal
 
 pub returns-clause-exists : goal.returns-clause-exists
 returns-clause-exists c = comparison_exists

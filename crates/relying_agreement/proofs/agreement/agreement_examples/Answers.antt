@@ -1,6 +1,6 @@
 use Rattle.relying_agreement.proofs.KnownVerdictLaws.{known_verdicts, names_first_difference}
 use Rattle.relying_agreement.proofs.ExampleLaws.{all_premises_hold, needs_consistency, needs_same_newest, needs_holds_newest, needs_one_verifier, strangers_do_not_matter}
-use Rattle.relying_agreement.proofs.laws.agreement_examples.Goals as goal
+use Rattle.relying_agreement.proofs.agreement.agreement_examples.Goals as goal
 
 pub returns-clause-all_hold : goal.returns-clause-all_hold
 returns-clause-all_hold c = all_premises_hold

@@ -1,5 +1,5 @@
 use Rattle.relying_agreement.proofs.AgreementLaws.{all_is_enough, held_was_seen, one_of_a_number, parties_agree, pointwise_is_enough, runs_agree, runs_agree_where_all, same_of_newest}
-use Rattle.relying_agreement.proofs.laws.agreement_laws.Goals as goal
+use Rattle.relying_agreement.proofs.agreement.agreement_laws.Goals as goal
 
 pub returns-clause-agree : goal.returns-clause-agree
 returns-clause-agree c = parties_agree c.outcome_laws.ensures
