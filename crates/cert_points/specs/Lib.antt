@@ -7,6 +7,7 @@ pub mod DistributionPoints
 pub mod CompleteNames
 pub mod PointReading
 pub mod OneAnswer
+pub mod Published
 pub mod Offsets
 pub use Rattle.asn.specs.DerLaws
 pub use Rattle.asn.specs.Place

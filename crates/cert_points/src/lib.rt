@@ -8,6 +8,7 @@ mod general_names;
 mod layout;
 mod point_name;
 mod points;
+mod published;
 mod reasons;
 mod relative_name;
 
@@ -16,3 +17,4 @@ pub use general_names::GeneralNames;
 pub use layout::{point_layout_laws, point_reading_laws};
 pub use point_name::PointName;
 pub use points::DistributionPoints;
+pub use published::take_points;

@@ -47,6 +47,7 @@ root = record {
   key_info = key_at key_r 82;
   extensions = record no_extensions { basic_constraints = Some (record { ca = true; path_length = None }) };
   signature = record { value = text_at anchor_signature 118; octets = drop 3 anchor_signature };
+  points = [];
 }
 
 abbrev pub leaf : Certificate
@@ -62,6 +63,7 @@ leaf = record {
   key_info = key_at key_t 84;
   extensions = no_extensions;
   signature = record { value = text_at target_signature 97; octets = drop 3 target_signature };
+  points = [];
 }
 
 pub leaf_is_read : certificate target_der ≡ Ok leaf

@@ -59,8 +59,10 @@ same_newest : HoldSameNewest query a.held b.held
 unfolding contents
 same_newest = (
   record {
-    all = ap (option_map (λ (fact : CrlFact). fact.number)) (a_holds.all ∙ sym b_holds.all);
-    own = ap (option_map (λ (fact : CrlFact). fact.number)) (a_holds.own ∙ sym b_holds.own);
+    lists = (
+      ap (option_map (λ (fact : CrlFact). fact.number)) (a_holds.all ∙ sym b_holds.all),
+      (ap (option_map (λ (fact : CrlFact). fact.number)) (a_holds.own ∙ sym b_holds.own), tt),
+    );
     ocsp = ap (option_map (λ (fact : OcspFact). fact.times)) (a_holds.ocsp ∙ sym b_holds.ocsp);
   },
   tt,
@@ -70,8 +72,7 @@ consistent : IssuersAreConsistent query a b
 unfolding contents
 consistent = (
   record {
-    all = all_consistent issuer hash itself (same hash);
-    own = own_consistent issuer hash itself (same hash);
+    lists = (all_consistent issuer hash itself (same hash), (own_consistent issuer hash itself (same hash), tt));
     ocsp = responses_consistent issuer hash itself (same hash);
   },
   tt,
