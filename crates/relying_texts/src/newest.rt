@@ -23,7 +23,8 @@ fn list_for<'t, 'a>(
     scope: Scope,
 ) -> Option<&'t Crl<'a>>
     ensures { option_to_list (option_map list_fact_at result)
-        ≡ filter_map (crl_for (crl_slot_of issuer.now point.now scope)) (facts_of_genuine statement.now) }
+        ≡ filter_map (crl_for (crl_slot_of issuer.now point.now scope))
+        (facts_of_genuine statement.now) }
 {
     match &statement.contents {
         Contents::List(list) => {
@@ -97,7 +98,8 @@ pub(crate) fn list_answer(
 ) -> Option<CrlAnswer>
     ensures { option_map seen_crl result ≡ option_map (answer_for serial.now)
         (held_after newer_crl None
-        (filter_map (crl_for (crl_slot_of issuer.now point.now scope)) (facts_in_all genuine.now))) }
+        (filter_map (crl_for (crl_slot_of issuer.now point.now scope))
+        (facts_in_all genuine.now))) }
 {
     let list = newest_list(genuine, issuer, point, scope)?;
     Some(answer_of(list, serial))
