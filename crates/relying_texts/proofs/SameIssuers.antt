@@ -17,9 +17,9 @@ same_at here there point key empty is_none none ends =
     sym (together empty (bytes_eq here there) key)
     ∙ ap (λ b. b && key) (both_ways _ _
     (λ t. let parts = and_parts empty (bytes_eq here there) t in
-        (bytes_eq-Decides here (there ++ point)).1 ((bytes_eq-Decides here there).0 parts.1 ∙ sym (append-nil there) ∙ ap (λ p. there ++ p) (sym (is_none parts.0))))
+    (bytes_eq-Decides here (there ++ point)).1 ((bytes_eq-Decides here there).0 parts.1 ∙ sym (append-nil there) ∙ ap (λ p. there ++ p) (sym (is_none parts.0))))
     (λ t. let is = ends point (append-nil here ∙ (bytes_eq-Decides here (there ++ point)).0 t) in
-        and_from empty (bytes_eq here there) (none (sym is.1)) ((bytes_eq-Decides here there).1 is.0)))
+    and_from empty (bytes_eq here there) (none (sym is.1)) ((bytes_eq-Decides here there).1 is.0)))
 
 pub no_octets : (point : List ℕ) → (length point == 0) ≡ true → point ≡ []
 no_octets [] e = refl

@@ -61,10 +61,7 @@ fn lists_on(
 }
 
 /// What the newest response says of the certificate.
-fn response_on(
-    link: &Link<'_, '_>,
-    genuine: &[GenuineStatement<'_, '_, '_>],
-) -> Option<OcspAnswer>
+fn response_on(link: &Link<'_, '_>, genuine: &[GenuineStatement<'_, '_, '_>]) -> Option<OcspAnswer>
     ensures { option_map seen_ocsp result
         ≡ response_told (facts_in_all genuine.now) (seen_link link.now) }
 {

@@ -25,13 +25,13 @@ pub answers_are : (held : Holdings) (issuer : IssuerIdentity) (certificate : Cer
     → AreAnswersOn issuer certificate held answers
 answers_are held issuer certificate kind serial hash answers kind_is serial_is hash_is all_is own_is ocsp_is = record {
   lists =
-    ap₂ (λ all own. all ∷ own ∷ [])
-    (all_is ∙ ap (λ s. list_held held s (record { issuer = issuer; scope = All })) serial_is)
-    (own_is ∙ ap (λ k. list_held held serial (record { issuer = issuer; scope = k })) kind_is ∙ ap (λ s. list_held held s (record { issuer = issuer; scope = own_scope certificate })) serial_is);
+      ap₂ (λ all own. all ∷ own ∷ [])
+      (all_is ∙ ap (λ s. list_held held s (record { issuer = issuer; scope = All })) serial_is)
+      (own_is ∙ ap (λ k. list_held held serial (record { issuer = issuer; scope = k })) kind_is ∙ ap (λ s. list_held held s (record { issuer = issuer; scope = own_scope certificate })) serial_is);
   ocsp =
-    ocsp_is
-    ∙ ap (λ h. held.ocsp (record { issuer = issuer; name_hash = h; serial = serial })) hash_is
-    ∙ ap (λ s. held.ocsp (record { issuer = issuer; name_hash = sha1 certificate.issuer.octets; serial = s })) serial_is;
+      ocsp_is
+      ∙ ap (λ h. held.ocsp (record { issuer = issuer; name_hash = h; serial = serial })) hash_is
+      ∙ ap (λ s. held.ocsp (record { issuer = issuer; name_hash = sha1 certificate.issuer.octets; serial = s })) serial_is;
 }
 
 pub evidence_is : (held : Holdings) (link : Link) (issuer : IssuerIdentity) (answers : listed.Answers) (at_points : List (Option CrlAnswer)) (it : known.Evidence)
