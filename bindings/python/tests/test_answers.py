@@ -129,8 +129,8 @@ class Targets(unittest.TestCase):
             self.assertEqual(calls, ["x509check_questions"] * asked + ["x509check_validate"])
 
     def test_a_library_of_another_version_is_not_asked(self):
-        calls = ("check", "read_certificate", "fingerprint", "fault_name", "speaks_for", "questions", "validate", "find_questions", "find", "why_not",
-                 "version")
+        calls = ("check", "read_certificate", "fingerprint", "fault_name", "speaks_for", "questions", "validate", "validate_with_policies",
+                 "find_questions", "find", "why_not", "version")
         for version, number in (("0.9.0", 900), ("0.10.0", 1000), ("1.2.34", 10234)):
             with mock.patch.object(x509check, "__version__", version):
                 self.assertEqual(_library._version_number(), number)

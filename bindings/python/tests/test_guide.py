@@ -54,6 +54,11 @@ class Guide(unittest.TestCase):
             line, = printed_by(block_with(part, "import x509check"))
             self.assertIn(f"`{line}`", part)
 
+    def test_policies(self):
+        part = part_of_guide("From Python")
+        line, = printed_by("import x509check\n" + block_with(part, 'folder = "examples/policies/"'))
+        self.assertIn(f"`{line}`", part)
+
     @unittest.skipUnless(PROGRAM, "the program is missing")
     def test_a_report(self):
         part = part_of_guide("From Python")

@@ -8,7 +8,7 @@ import re
 import time
 from typing import Any, Iterable, List, Optional, Protocol, SupportsIndex, Union
 
-from ._der import contents_of
+from ._der import arcs_of, contents_of
 from ._pem import Encoded, Octets, is_pem
 
 _EPOCH = datetime.datetime(1970, 1, 1, tzinfo=datetime.timezone.utc)
@@ -136,12 +136,9 @@ def dotted_purpose(text: str) -> str:
 
 def _want_identifier(dotted: str) -> None:
     """Raises ValueError unless the text is an object identifier as the program takes it (docs/REFERENCE.md, "Moments, purposes ..")."""
-    words = dotted.split(".")
-    if not all(word.isascii() and word.isdigit() and (word == "0" or word[0] != "0") and len(word) < 20 for word in words):
-        raise ValueError("no dotted numbers")
-    arcs = [int(word) for word in words]
-    if len(arcs) < 2 or max(arcs) >= 2**63 or arcs[0] > 2 or arcs[0] < 2 and arcs[1] > 39 or 40 * arcs[0] + arcs[1] >= 2**63:
-        raise ValueError("no object identifier")
+    first, second, *others = arcs_of(dotted)
+    if max(40 * first + second, *others, 0) >= 2**63:
+        raise ValueError("a number that the program does not take")
 
 
 def purpose_of(text: Optional[str]) -> bytes:
@@ -149,3 +146,25 @@ def purpose_of(text: Optional[str]) -> bytes:
     if text is None:
         return b""
     return contents_of(dotted_purpose(text))
+
+
+# anyPolicy (RFC 5280, 4.2.1.4).
+ANY_POLICY = "2.5.29.32.0"
+
+
+def policies_of(what: str, policies: Optional[Iterable[str]]) -> List[bytes]:
+    """The contents of the OBJECT IDENTIFIERs of policies in dotted form. None stands for every policy, and no policies stand for none."""
+    if policies is None:
+        return [contents_of(ANY_POLICY)]
+    if isinstance(policies, (str, bytes, bytearray, memoryview, dict)) or not isinstance(policies, Iterable):
+        raise TypeError(f"{what}: a list of dotted object identifiers or None is wanted, not {type(policies).__name__}")
+    return [_policy(what, one) for one in policies]
+
+
+def _policy(what: str, dotted: str) -> bytes:
+    if not isinstance(dotted, str):
+        raise TypeError(f"{what}: a dotted object identifier is wanted, not {type(dotted).__name__}")
+    try:
+        return contents_of(dotted)
+    except ValueError as cause:
+        raise ValueError(f"{what}: {cause}") from None

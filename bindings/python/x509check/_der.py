@@ -4,12 +4,14 @@ Whoever calls holds octets in which the proved readers found these values. This 
 apart as definite lengths in their shortest form raises ValueError. It takes time in proportion to the octets.
 """
 
+import re
 from typing import List, NamedTuple, Optional
 
 INTEGER, BIT_STRING, NULL, OBJECT_IDENTIFIER = 0x02, 0x03, 0x05, 0x06
 SEQUENCE, SET = 0x30, 0x31
 # An arc of an OBJECT IDENTIFIER has at most so many octets here: the time for a number grows faster than its octets.
 _ARC_MOST = 512
+_ARC, _ARC_DIGITS = re.compile("0|[1-9][0-9]*"), len(str(1 << 7 * _ARC_MOST))
 
 
 class Value(NamedTuple):
@@ -128,13 +130,23 @@ def dotted(contents: bytes) -> str:
     return ".".join(str(arc) for arc in (first, arcs[0] - 40 * first, *arcs[1:]))
 
 
-def contents_of(text: str) -> bytes:
-    """The contents of the OBJECT IDENTIFIER with this dotted form (8.19)."""
-    arcs = [int(arc) if arc.isascii() and arc.isdigit() else -1 for arc in text.split(".")]
-    if len(arcs) < 2 or min(arcs) < 0 or arcs[0] > 2 or arcs[0] < 2 and arcs[1] > 39:
+def arcs_of(text: str) -> List[int]:
+    """The numbers of the OBJECT IDENTIFIER with this dotted form (8.19): two or more, the first 0, 1 or 2, and the second below 40 unless the
+    first is 2. Each is written in digits of ASCII, without a zero in front."""
+    words = text.split(".")
+    if len(words) < 2 or not all(_ARC.fullmatch(word) and len(word) <= _ARC_DIGITS for word in words):
         raise ValueError(f"{text!r} is no object identifier")
+    arcs = [int(word) for word in words]
+    if arcs[0] > 2 or arcs[0] < 2 and arcs[1] > 39 or max(40 * arcs[0] + arcs[1], *arcs[2:], 0) >= 1 << 7 * _ARC_MOST:
+        raise ValueError(f"{text!r} is no object identifier")
+    return arcs
+
+
+def contents_of(text: str) -> bytes:
+    """The contents of the OBJECT IDENTIFIER with this dotted form (8.19), which `dotted` makes of them again."""
+    first, second, *others = arcs_of(text)
     octets = bytearray()
-    for arc in (arcs[0] * 40 + arcs[1], *arcs[2:]):
+    for arc in (first * 40 + second, *others):
         groups = [arc & 0x7F]
         while arc := arc >> 7:
             groups.append(arc & 0x7F | 0x80)

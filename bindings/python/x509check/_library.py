@@ -128,6 +128,22 @@ class FindingAnswer(ctypes.Structure):
     _fields_ = [("verdict", VerdictAnswer), ("path_count", ctypes.c_size_t)]
 
 
+class PolicyInputFields(ctypes.Structure):
+    """What is asked of policies: which, each by its contents, and three flags."""
+
+    _fields_ = [
+        ("initial_policies", ctypes.POINTER(TextFields)),
+        ("initial_policy_count", ctypes.c_size_t),
+        *((name, ctypes.c_uint32) for name in ("inhibit_policy_mapping", "require_explicit_policy", "inhibit_any_policy")),
+    ]
+
+
+class PoliciesAnswer(ctypes.Structure):
+    """The verdict, how many policies there are of the authorities and of the user, and how many octets all of them have."""
+
+    _fields_ = [("verdict", VerdictAnswer), *((name, ctypes.c_size_t) for name in ("authority_count", "user_count", "octet_count"))]
+
+
 class ObstacleFields(ctypes.Structure):
     _fields_ = [("certificate", ctypes.c_size_t), ("reason", ctypes.c_uint32)]
 
@@ -188,6 +204,7 @@ def _typed(opened: ctypes.CDLL) -> ctypes.CDLL:
     text = [ctypes.c_char_p, ctypes.c_size_t]
     asked, sought = ([ctypes.POINTER(it), ctypes.POINTER(TextFields), ctypes.c_size_t] for it in (QueryFields, SearchFields))
     written = [ctypes.POINTER(QuestionFields), ctypes.c_size_t]
+    policies = [ctypes.POINTER(QueryFields), ctypes.POINTER(PolicyInputFields), *asked[1:]]
     numbers, obstacles = ([ctypes.POINTER(it), ctypes.c_size_t] for it in (ctypes.c_size_t, ObstacleFields))
     for name, takes, answers in (
         ("x509check_check", text, Answer),
@@ -197,6 +214,7 @@ def _typed(opened: ctypes.CDLL) -> ctypes.CDLL:
         ("x509check_speaks_for", [*text, ctypes.c_uint32, *text], SpeakingAnswer),
         ("x509check_questions", [*asked, *written], AskedAnswer),
         ("x509check_validate", [*asked, *text], VerdictAnswer),
+        ("x509check_validate_with_policies", [*policies, *text, *numbers, *text], PoliciesAnswer),
         ("x509check_find_questions", [*sought, *written], AskedAnswer),
         ("x509check_find", [*sought, *text, *numbers], FindingAnswer),
         ("x509check_why_not", [ctypes.POINTER(SearchFields), *text, *numbers, *numbers, *obstacles], DiagnosisAnswer),

@@ -2,14 +2,15 @@
 
 import ctypes
 import dataclasses
+import itertools
 from typing import Any, Callable, Iterable, List, NamedTuple, Optional, Sequence, Tuple, Union
 
 from ._arguments import Value, der_of, listed
 from ._certificates import origin_of
 from ._faults import MEMORY, Fault, Text, refusal
 from ._library import (
-    REFUSED, AskedAnswer, DiagnosisAnswer, FindingAnswer, LimitFields, ObstacleFields, Place, QueryFields, QuestionFields, Refusal, SearchFields,
-    TextFields, VerdictAnswer, library, text_array, text_fields,
+    REFUSED, AskedAnswer, DiagnosisAnswer, FindingAnswer, LimitFields, ObstacleFields, Place, PoliciesAnswer, PolicyInputFields, QueryFields,
+    QuestionFields, Refusal, SearchFields, TextFields, VerdictAnswer, library, text_array, text_fields,
 )
 from ._pem import Loaded
 
@@ -17,6 +18,8 @@ from ._pem import Loaded
 _MOST_ROOM = 4096
 # A path has at most so many certificates, its anchor with it.
 _PATH_ROOM = 129
+# There is room for so many policies first, and for so many octets of them.
+_POLICY_ROOM, _POLICY_OCTETS = 64, 1024
 
 Ignored = Tuple[Union[Loaded, int], Fault]
 """A value that was left out, as it was loaded or by its number from 0, and why."""
@@ -40,6 +43,23 @@ class Limits:
                 raise TypeError(f"{name}: an int is wanted, not {type(value).__name__}")
             if not 0 <= value < 2**64:
                 raise ValueError(f"{name} is out of range")
+
+
+class PolicyInputs(NamedTuple):
+    """What is asked of policies (RFC 5280, 6.1.1 (c), (e), (f) and (g)): which, each by the contents of its OBJECT IDENTIFIER, and flags."""
+
+    initial_policies: List[bytes]
+    inhibit_policy_mapping: bool
+    require_explicit_policy: bool
+    inhibit_any_policy: bool
+
+
+class PolicySets(NamedTuple):
+    """The verdict on a path, in the numbers of the header, and the policies at its end, each by its contents."""
+
+    verdict: VerdictAnswer
+    authority: List[bytes]
+    user: List[bytes]
 
 
 class Diagnosis(NamedTuple):
@@ -128,6 +148,31 @@ class Query(_HandedIn):
         if answer.verdict == REFUSED:
             raise self._refused(answer.refusal)
         return answer
+
+    def verdict_with_policies(self, fingerprints: bytes, inputs: PolicyInputs) -> PolicySets:
+        """The same of a path whose policies are processed. If there are more of them than there was room for, it is asked a second time."""
+        asked = PolicyInputFields(text_array(inputs.initial_policies), len(inputs.initial_policies), *map(int, inputs[1:]))
+        statements, count = text_array(self.statements), len(self.statements)
+        room, octet_room = _POLICY_ROOM, _POLICY_OCTETS
+        while True:
+            lengths, octets = (ctypes.c_size_t * room)(), ctypes.create_string_buffer(octet_room)
+            answer: PoliciesAnswer = library().x509check_validate_with_policies(
+                self._fields, asked, statements, count, fingerprints, len(fingerprints) // 32, lengths, room, octets, octet_room)
+            if answer.verdict.verdict == REFUSED:
+                raise self._refused(answer.verdict.refusal)
+            policies = answer.authority_count + answer.user_count
+            if policies <= room and answer.octet_count <= octet_room:
+                found = _cut(octets.raw[:answer.octet_count], lengths[:policies])
+                return PolicySets(answer.verdict, found[:answer.authority_count], found[answer.authority_count:])
+            room, octet_room = max(room, policies), max(octet_room, answer.octet_count)
+
+
+def _cut(octets: bytes, lengths: Sequence[int]) -> List[bytes]:
+    """The octets cut into parts of these lengths, which have to be all of them."""
+    if sum(lengths) != len(octets):
+        raise RuntimeError(f"the library for C answered {len(octets)} octets of policies that have {sum(lengths)}")
+    ends = list(itertools.accumulate(lengths))
+    return [octets[end - length:end] for end, length in zip(ends, lengths)]
 
 
 class Search(_HandedIn):

@@ -3,7 +3,7 @@
 import dataclasses
 import enum
 import inspect
-from typing import Callable, Iterable, List, Mapping, Optional, Sequence, Tuple, Union
+from typing import Callable, Iterable, List, Mapping, NamedTuple, Optional, Sequence, Tuple, TypeVar, Union
 
 from ._arguments import Moment, Value, der_of, listed, octets_of, purpose_of, seconds_of
 from ._certificates import Certificate
@@ -58,7 +58,7 @@ class Reason(enum.IntEnum):
     EMPTY = 15
     TOO_LONG = 16
     NO_VALID_POLICY = 17
-    """This reason and the next two are for who asks for policies, which no call here does yet."""
+    """This reason and the next two are for who asks for policies (`validate_with_policies`), and POLICY is for all others."""
     ANY_POLICY_MAPPED = 18
     NO_USER_POLICY = 19
 
@@ -137,6 +137,9 @@ class WhyNot:
         return f"no certificate at hand can stand above {_named(self.top)}: {', '.join(others)}"
 
 
+Some = TypeVar("Some", bound="Result")
+
+
 @dataclasses.dataclass(frozen=True)
 class Result:
     """The verdict on a path, and whom it is about. A result is true if its verdict is VALID.
@@ -174,7 +177,7 @@ class Result:
         why = "" if self.why_not is None else f"; {self.why_not}"
         return f"{self.verdict.value}{reason}: {about}{name}{by}{why}"
 
-    def require_valid(self) -> "Result":
+    def require_valid(self: "Some") -> "Some":
         """The result itself; raises NotValid unless the verdict is VALID."""
         if self.verdict is not Verdict.VALID:
             raise NotValid(self)
@@ -274,6 +277,35 @@ def why_not_of(diagnosis: Diagnosis, target: Identity) -> WhyNot:
     return WhyNot(target, None, above, anchors, tuple((identity_of(one), Reason(rank)) for one, rank in diagnosis.obstacles))
 
 
+class Case(NamedTuple):
+    """A query whose signatures were judged: the fingerprints of the good ones, what the judge said, and what was left out."""
+
+    query: Query
+    good: bytes
+    judged: Tuple[Judged, ...]
+    ignored: Tuple[Ignored, ...]
+
+    def result(self, answer: VerdictAnswer) -> Result:
+        """What the library answered, and whom it is about."""
+        path = self.query.certificates
+        about = identity_of(path[-1]) if 1 < len(path) <= 1 + _MOST else None
+        return dataclasses.replace(result_of(answer, VERDICT_WORDS, path), target=about, judgements=self.judged, ignored=self.ignored)
+
+
+def judged_case(anchor: Value, chain: Iterable[Value], statements: Iterable[Value], at: Moment, purpose: Optional[str], verify: Optional[Judge],
+                fingerprints: Optional[Iterable[Value]], target: Optional[Value], ignore_unreadable: bool) -> Case:
+    """The query of `validate`, and what the judge says of its questions."""
+    given = given_prints(verify, fingerprints)
+    check_flag("ignore_unreadable", ignore_unreadable)
+    moment, asked_for = seconds_of(at), purpose_of(purpose)
+    # Of a longer path so many certificates are handed on that the library says that it is too long.
+    query = Query(anchor, listed("chain", chain, _MOST + 1), statements, moment, asked_for)
+    ignored = query.leave_out_unreadable() if ignore_unreadable else ()
+    _check_target(query, target)
+    judged = judged_by(different(ask(query)), verify) if given is None else ()
+    return Case(query, good_prints(judged) if given is None else given, judged, ignored)
+
+
 def validate(
     anchor: Value,
     chain: Iterable[Value],
@@ -307,14 +339,5 @@ def validate(
     Raises a Fault if a certificate or a statement cannot be read, ValueError for a moment, a purpose, a target or a fingerprint that is
     none, and TypeError for arguments and answers of a judge that are of another kind.
     """
-    given = given_prints(verify, fingerprints)
-    check_flag("ignore_unreadable", ignore_unreadable)
-    moment, asked_for = seconds_of(at), purpose_of(purpose)
-    # Of a longer path so many certificates are handed on that the library says that it is too long.
-    query = Query(anchor, listed("chain", chain, _MOST + 1), statements, moment, asked_for)
-    ignored = query.leave_out_unreadable() if ignore_unreadable else ()
-    _check_target(query, target)
-    judged = judged_by(different(ask(query)), verify) if given is None else ()
-    answer = query.verdict(good_prints(judged) if given is None else given)
-    about = identity_of(query.certificates[-1]) if 1 < len(query.certificates) <= 1 + _MOST else None
-    return dataclasses.replace(result_of(answer, VERDICT_WORDS, query.certificates), target=about, judgements=judged, ignored=ignored)
+    case = judged_case(anchor, chain, statements, at, purpose, verify, fingerprints, target, ignore_unreadable)
+    return case.result(case.query.verdict(case.good))

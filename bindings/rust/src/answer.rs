@@ -6,6 +6,7 @@ use std::fmt;
 use crate::fault::{Error, Fault};
 use crate::identity::Identity;
 use crate::judge::Judgement;
+use crate::policies::Policies;
 use crate::verdict::Verdict;
 
 /// The answer to a query: the verdict on the path, and whom it is about.
@@ -22,6 +23,9 @@ pub struct Answer {
     pub decides: Option<Identity>,
     /// What the judge said of the signature of that certificate, if the path is invalid because of it.
     pub signature: Option<Judgement>,
+    /// The policies at the end of the path. There are none if the path is invalid, and none unless they were asked for, by
+    /// [`QueryWithPolicies`](crate::QueryWithPolicies).
+    pub policies: Option<Policies>,
     /// The statements that cannot be read and were left out, each with its fault: none unless the query was to be answered without them.
     pub ignored: Vec<Fault>,
 }
@@ -45,7 +49,7 @@ impl Answer {
     }
 }
 
-/// On one line: the verdict, and behind a `; ` each whom it is about and what was left out. No name has a `;`.
+/// On one line: the verdict, and behind a `; ` each whom it is about, the policies and what was left out. No name has a `;`.
 impl fmt::Display for Answer {
     fn fmt(&self, out: &mut fmt::Formatter<'_>) -> fmt::Result {
         self.verdict.fmt(out)?;
@@ -57,6 +61,9 @@ impl fmt::Display for Answer {
         }
         if let Some(decides) = &self.decides {
             write!(out, "; decided by {decides}")?;
+        }
+        if let Some(policies) = &self.policies {
+            write!(out, "; policies {policies}")?;
         }
         self.ignored
             .iter()

@@ -3,15 +3,19 @@
 use crate::fault::{error_of, Error, Text};
 use crate::library::{
     x509check_find, x509check_find_questions, x509check_questions, x509check_validate,
-    x509check_why_not, AskedAnswer, DiagnosisAnswer, FindingAnswer, LimitFields, ObstacleFields,
-    QueryFields, QuestionFields, Refusal, SearchFields, TextFields, VerdictAnswer, CERTIFICATES,
-    PATH_ROOM, REFUSED, STATEMENTS,
+    x509check_validate_with_policies, x509check_why_not, AskedAnswer, DiagnosisAnswer,
+    FindingAnswer, LimitFields, ObstacleFields, PolicyInputFields, QueryFields, QuestionFields,
+    Refusal, SearchFields, TextFields, VerdictAnswer, CERTIFICATES, PATH_ROOM, REFUSED, STATEMENTS,
 };
+use crate::policies::{PolicyInputs, Written};
 use crate::query::Query;
 use crate::search::Limits;
 
 /// So many questions there is room for at most when they are asked for first.
 const MOST_ROOM: usize = 4096;
+/// There is room for so many policies first, and for so many octets of them.
+const POLICY_ROOM: usize = 64;
+const POLICY_OCTETS: usize = 1024;
 
 /// A search as it is handed to the library.
 pub(crate) struct SearchCall<'a> {
@@ -129,6 +133,54 @@ pub(crate) fn validate(query: &Query<'_>, good: &[[u8; 32]]) -> Result<VerdictAn
         return Ok(answer);
     }
     Err(refused(answer.refusal, 0))
+}
+
+/// The same of a path whose policies are processed, with these. If there are more than there was room for, it is asked a second time.
+pub(crate) fn validate_with_policies(
+    query: &Query<'_>,
+    inputs: &PolicyInputs<'_>,
+    good: &[[u8; 32]],
+) -> Result<(VerdictAnswer, Written), Error> {
+    let path = TextFields::of_each(query.path);
+    let statements = TextFields::of_each(query.statements);
+    let fields = fields_of(query, &path);
+    let initial = TextFields::of_each(&inputs.contents());
+    let asked = PolicyInputFields {
+        initial_policies: initial.as_ptr(),
+        initial_policy_count: initial.len(),
+        inhibit_policy_mapping: inputs.inhibit_policy_mapping.into(),
+        require_explicit_policy: inputs.require_explicit_policy.into(),
+        inhibit_any_policy: inputs.inhibit_any_policy.into(),
+    };
+    let mut written = Written::with_room(POLICY_ROOM, POLICY_OCTETS);
+    loop {
+        // As in `ask`; the call writes to these two arrays alone, and no more than their room.
+        let answer = unsafe {
+            x509check_validate_with_policies(
+                &fields,
+                &asked,
+                statements.as_ptr(),
+                statements.len(),
+                good.as_ptr(),
+                good.len(),
+                written.lengths.as_mut_ptr(),
+                written.lengths.len(),
+                written.octets.as_mut_ptr(),
+                written.octets.len(),
+            )
+        };
+        if answer.verdict.verdict == REFUSED {
+            return Err(refused(answer.verdict.refusal, 0));
+        }
+        let fits = written.take(
+            answer.authority_count,
+            answer.user_count,
+            answer.octet_count,
+        )?;
+        if fits {
+            return Ok((answer.verdict, written));
+        }
+    }
 }
 
 /// What may be asked for what is found.

@@ -38,11 +38,13 @@ mod answer;
 mod calls;
 mod certificate;
 mod fault;
+mod identifier;
 mod identity;
 mod judge;
 mod library;
 mod name;
 mod party;
+mod policies;
 mod query;
 mod reference;
 mod search;
@@ -53,11 +55,13 @@ mod why_not;
 pub use answer::{Answer, NotValid};
 pub use certificate::{check, fingerprint, sha256, Certificate, Extensions, KeyUsage};
 pub use fault::{Error, Fault, Text};
+pub use identifier::{IdentifierError, ObjectIdentifier};
 pub use identity::Identity;
 pub use judge::{
     judge_by, Fingerprints, Judge, JudgeBy, Judgement, SignatureQuestion, SignatureQuestions,
 };
 pub use party::{Delivery, Party, PartyError, PartyQuery, PartySearch};
+pub use policies::{Policies, PolicyInputs, QueryWithPolicies};
 pub use query::Query;
 pub use reference::{Reference, ReferenceRule, SpeakingError};
 pub use search::{Finding, Limits, NotBelieved, Peer, Search, SearchError};

@@ -162,6 +162,25 @@ pub(crate) struct VerdictAnswer {
     pub refusal: Refusal,
 }
 
+/// What is asked of policies: which, each by its contents, and three flags.
+#[repr(C)]
+pub(crate) struct PolicyInputFields {
+    pub initial_policies: *const TextFields,
+    pub initial_policy_count: usize,
+    pub inhibit_policy_mapping: u32,
+    pub require_explicit_policy: u32,
+    pub inhibit_any_policy: u32,
+}
+
+/// The verdict, how many policies there are of the authorities and of the user, and how many octets all of them have.
+#[repr(C)]
+pub(crate) struct PoliciesAnswer {
+    pub verdict: VerdictAnswer,
+    pub authority_count: usize,
+    pub user_count: usize,
+    pub octet_count: usize,
+}
+
 /// The verdict on the path that is found, and how many certificates it has.
 #[repr(C)]
 pub(crate) struct FindingAnswer {
@@ -275,6 +294,18 @@ extern "C" {
         fingerprints: *const [u8; 32],
         fingerprint_count: usize,
     ) -> VerdictAnswer;
+    pub(crate) fn x509check_validate_with_policies(
+        query: *const QueryFields,
+        inputs: *const PolicyInputFields,
+        statements: *const TextFields,
+        statement_count: usize,
+        fingerprints: *const [u8; 32],
+        fingerprint_count: usize,
+        lengths: *mut usize,
+        length_room: usize,
+        octets: *mut u8,
+        octet_room: usize,
+    ) -> PoliciesAnswer;
     pub(crate) fn x509check_find_questions(
         search: *const SearchFields,
         statements: *const TextFields,
@@ -314,6 +345,8 @@ mod tests {
         assert_eq!(size_of::<TextFields>(), 16);
         assert_eq!(size_of::<QueryFields>(), 56);
         assert_eq!(size_of::<SearchFields>(), 96);
+        assert_eq!(size_of::<PolicyInputFields>(), 32);
+        assert_eq!(size_of::<PoliciesAnswer>(), 72);
         assert_eq!(size_of::<FindingAnswer>(), 56);
         assert_eq!(size_of::<ObstacleFields>(), 16);
         assert_eq!(size_of::<DiagnosisAnswer>(), 64);

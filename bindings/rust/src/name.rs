@@ -112,7 +112,7 @@ pub(crate) fn dotted(contents: &[u8]) -> Option<String> {
     Some(text)
 }
 
-fn add_hex(text: &mut String, octets: &[u8]) {
+pub(crate) fn add_hex(text: &mut String, octets: &[u8]) {
     for octet in octets {
         let _ = write!(text, "{octet:02X}");
     }

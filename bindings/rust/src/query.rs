@@ -3,12 +3,14 @@
 use std::slice;
 
 use crate::answer::{Answer, NotValid};
-use crate::calls::{ask, validate};
-use crate::certificate::{check, Certificate};
+use crate::calls::{ask, validate, validate_with_policies};
+use crate::certificate::Certificate;
 use crate::fault::{Error, Fault, Text};
+use crate::identifier::check_contents;
 use crate::identity::Identity;
 use crate::judge::{Heard, Judge, Judgement, SignatureQuestions};
 use crate::library::{CERTIFICATES, STATEMENTS};
+use crate::policies::{Policies, PolicyInputs};
 use crate::values::Values;
 use crate::verdict::{Reason, Verdict};
 
@@ -53,11 +55,21 @@ impl<'a> Query<'a> {
     ///
     /// The judge is asked about the statements only if the path is valid without them, and about each signature at most once.
     pub fn answer(&self, judge: &dyn Judge) -> Result<Answer, Error> {
-        let asking = Asking::of(self)?;
-        let mut heard = Heard::nothing(judge);
-        let verdict = asking.verdict(&mut heard)?;
-        self.check_length(verdict)?;
-        asking.answer(verdict, &heard)
+        Asking::of(self)?.answered(judge)
+    }
+
+    /// The same, with the policies of the path.
+    pub(crate) fn answer_under(
+        &self,
+        inputs: PolicyInputs<'a>,
+        judge: &dyn Judge,
+    ) -> Result<Answer, Error> {
+        let inputs = Some(inputs);
+        let asking = Asking {
+            inputs,
+            ..Asking::of(self)?
+        };
+        asking.answered(judge)
     }
 
     /// As [`answer`](Query::answer), but a statement that cannot be read is left out, and the answer names it among the `ignored`.
@@ -99,21 +111,6 @@ impl<'a> Query<'a> {
             statements: self.statements.to_vec(),
         }
     }
-
-    /// Refuses a verdict on a part of the path, unless it is that the path is too long.
-    fn check_length(&self, verdict: Verdict) -> Result<(), Error> {
-        let too_long = Verdict::Invalid {
-            certificate: 0,
-            reason: Reason::TooLong,
-        };
-        if self.path.len() > MOST_CERTIFICATES && verdict != too_long {
-            return Err(Error::Unexpected(
-                "a verdict on a path of length",
-                self.path.len(),
-            ));
-        }
-        Ok(())
-    }
 }
 
 /// The statements that can be read, and the faults of the others. Each is read alone, behind a certificate.
@@ -144,17 +141,9 @@ pub(crate) fn readable<'a>(
     Ok((readable, ignored))
 }
 
-/// Refuses octets that are no contents of an OBJECT IDENTIFIER; the library says whether they are.
+/// Refuses a purpose that is no contents of an OBJECT IDENTIFIER.
 pub(crate) fn check_purpose(contents: &[u8]) -> Result<(), Error> {
-    let digits = contents.len().to_be_bytes();
-    let skipped = digits.iter().take_while(|digit| **digit == 0).count();
-    let mut octets = vec![0x06];
-    if contents.len() >= 0x80 {
-        octets.push(0x80 | (digits.len() - skipped) as u8);
-    }
-    octets.extend_from_slice(&digits[skipped.min(digits.len() - 1)..]);
-    octets.extend_from_slice(contents);
-    match check(&octets) {
+    match check_contents(contents) {
         Err(Error::Refused(_)) => Err(Error::Purpose),
         other => other,
     }
@@ -165,7 +154,12 @@ pub(crate) struct Asking<'a> {
     query: Query<'a>,
     path_length: usize,
     questions: SignatureQuestions<'a>,
+    /// What is asked of policies, if they are processed.
+    inputs: Option<PolicyInputs<'a>>,
 }
+
+/// The verdict, and the policies at the end of the path if they are processed and it is not invalid.
+type Said = (Verdict, Option<Policies>);
 
 impl<'a> Asking<'a> {
     pub(crate) fn of(query: &Query<'a>) -> Result<Asking<'a>, Error> {
@@ -174,16 +168,47 @@ impl<'a> Asking<'a> {
             questions: query.signature_questions()?,
             query: query.handed(),
             path_length: query.path.len(),
+            inputs: None,
         })
     }
 
+    /// The answer of who believes the judge.
+    fn answered(&self, judge: &dyn Judge) -> Result<Answer, Error> {
+        let mut heard = Heard::nothing(judge);
+        let (verdict, policies) = self.verdict(&mut heard)?;
+        self.check_length(verdict)?;
+        let answer = self.answer(verdict, &heard)?;
+        Ok(Answer { policies, ..answer })
+    }
+
+    /// Refuses a verdict on a part of the path, unless it is that the path is too long.
+    fn check_length(&self, verdict: Verdict) -> Result<(), Error> {
+        let too_long = Verdict::Invalid {
+            certificate: 0,
+            reason: Reason::TooLong,
+        };
+        if self.path_length > MOST_CERTIFICATES && verdict != too_long {
+            return Err(Error::Unexpected(
+                "a verdict on a path of length",
+                self.path_length,
+            ));
+        }
+        Ok(())
+    }
+
     /// What the library says if these signatures are good and no others.
-    fn verdict_by(&self, statements: &[&[u8]], good: &[[u8; 32]]) -> Result<Verdict, Error> {
+    fn verdict_by(&self, statements: &[&[u8]], good: &[[u8; 32]]) -> Result<Said, Error> {
         let query = Query {
             statements,
             ..self.query
         };
-        Verdict::of(&validate(&query, good)?, query.path.len())
+        let Some(inputs) = &self.inputs else {
+            let verdict = Verdict::of(&validate(&query, good)?, query.path.len())?;
+            return Ok((verdict, None));
+        };
+        let (answer, written) = validate_with_policies(&query, inputs, good)?;
+        let verdict = Verdict::of(&answer, query.path.len())?;
+        Ok((verdict, Policies::of(verdict, written)?))
     }
 
     pub(crate) fn ask_about(&self, text: u32, heard: &mut Heard<'_>) {
@@ -194,13 +219,13 @@ impl<'a> Asking<'a> {
 
     /// The verdict, as if the judge had been asked every question. A path is looked at before its statements, so a path that is invalid
     /// stays so whatever they say; and whether it is too long does not depend on signatures.
-    fn verdict(&self, heard: &mut Heard<'_>) -> Result<Verdict, Error> {
+    fn verdict(&self, heard: &mut Heard<'_>) -> Result<Said, Error> {
         if self.path_length > MOST_CERTIFICATES {
             return self.verdict_by(&[], &[]);
         }
         self.ask_about(CERTIFICATES, heard);
         let on_path = self.verdict_by(&[], &heard.good)?;
-        if matches!(on_path, Verdict::Invalid { .. }) {
+        if matches!(on_path, (Verdict::Invalid { .. }, _)) {
             return Ok(on_path);
         }
         self.ask_about(STATEMENTS, heard);
@@ -246,6 +271,7 @@ impl<'a> Asking<'a> {
             target,
             decides,
             signature: self.refused_signature(verdict, heard),
+            policies: None,
             ignored: Vec::new(),
         })
     }

@@ -86,7 +86,8 @@ pub enum Reason {
     Empty = 15,
     /// The path has more than 128 certificates.
     TooLong = 16,
-    /// A policy is required, and none is valid. This reason and the next two are for who asks for policies, which no call here does yet.
+    /// A policy is required, and none is valid. This reason and the next two are for who asks for policies
+    /// ([`QueryWithPolicies`](crate::QueryWithPolicies)), and `Policy` is for all others.
     NoValidPolicy = 17,
     /// It maps anyPolicy, or a policy to anyPolicy.
     AnyPolicyMapped = 18,

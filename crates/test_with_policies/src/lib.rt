@@ -9,4 +9,6 @@ mod certificates;
 #[cfg(test)]
 mod paths;
 #[cfg(test)]
+mod pkits;
+#[cfg(test)]
 mod verdicts;

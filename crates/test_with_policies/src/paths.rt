@@ -54,7 +54,7 @@ fn text_of(alloc: Global, outcome: &OutcomeWithPolicies<'_>) -> Result<String, R
 }
 
 /// What is answered to a row.
-fn answer_to(alloc: Global, user: &str, inputs: &str, names: &str) -> Result<String, RowFault> {
+pub fn answer_to(alloc: Global, user: &str, inputs: &str, names: &str) -> Result<String, RowFault> {
     let octets = octets_of(alloc, names)?;
     let policies = policies_of(alloc, user)?;
     let query = question(alloc, &octets, inputs_of(&policies, inputs))?;
