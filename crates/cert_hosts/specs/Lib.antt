@@ -1,0 +1,10 @@
+pub mod CertificateHosts
+pub mod SaidValues
+pub mod Reading
+pub mod Laws
+pub use Rattle.asn.specs.Place
+pub use Rattle.cert.specs.Certificate
+pub use Rattle.cert.specs.Fault
+pub use Rattle.names_hosts.specs.Hosts
+pub use Rattle.names_hosts.specs.Mail
+pub use Rattle.names_hosts.specs.Uri

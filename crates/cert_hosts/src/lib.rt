@@ -1,0 +1,14 @@
+//! What certificates say of mail addresses and of the hosts of URIs (RFC 5280, 4.1.2.6, 4.2.1.6 and 4.2.1.10), for who asks for it.
+#![tactic(auto)]
+
+mod alternative_names;
+mod certificate_hosts;
+mod constraints;
+mod contained;
+mod laws;
+mod said;
+mod subject;
+mod values;
+
+pub use certificate_hosts::CertificateHosts;
+pub use laws::certificate_hosts_laws;
