@@ -7,9 +7,11 @@ use Rattle.asn.specs.Place.{Place}
 use Rattle.asn.specs.Walk.{◌>>=◌}
 use Rattle.asn.proofs.Laws.{bind_ok, outermost_again}
 use Rattle.cert.specs.Certificate.{Certificate}
-use Rattle.statements_crl.specs.CertificateList.{CertificateList, certificate_list, certificate_list_at}
-use Rattle.statements_crl.specs.ListForms.{IsCertificateList, IsCertificateListAt}
-use Rattle.statements_crl.proofs.Laws.{list_is_exact}
+use Rattle.cert.specs.declared.profile.Profile.{Profile}
+use Rattle.cert.specs.declared.profile.Profile.TheVariants.{Stated, Wide}
+use Rattle.statements_crl.specs.CertificateList.{CertificateList, certificate_list_at_under, certificate_list_under}
+use Rattle.statements_crl.specs.ListForms.{IsCertificateListUnder, IsCertificateListAtUnder}
+use Rattle.statements_crl.proofs.Laws.{list_is_exact_under, stated_is_wide}
 use Rattle.statements_ocsp.specs.Kind.{is_response}
 use Rattle.statements_ocsp.specs.OcspResponse.{OcspResponse, ocsp_response, ocsp_response_at}
 use Rattle.statements_ocsp.specs.ResponseForms.{IsOcspResponse, IsOcspResponseAt}
@@ -21,7 +23,7 @@ use Rattle.statements.specs.CrlFact.{list_said}
 use Rattle.statements.specs.Genuine.{Accepts, ◌then◌, as_refused}
 use Rattle.statements.specs.Issuer.{identity_of}
 use Rattle.statements.specs.OcspFact.{fact_with, response_said}
-use Rattle.statements.specs.Statement.{Statement, StatementIsExact, IsGenuine, GenuineStatementsAreFacts, genuine_statement, statement, statement_at, statement_said}
+use Rattle.statements.specs.Statement.{Statement, StatementIsExact, StatementIsExactUnder, IsStatementUnder, StatedStatementsAreReadWide, IsGenuine, GenuineStatementsAreFacts, genuine_statement, statement, statement_at_under, statement_under, statement_said}
 use Rattle.statements.proofs.Genuineness.{then_ok, said_is, was_read, list_says, says_list}
 use Rattle.statements.proofs.Responses.{response_says, says_response}
 
@@ -29,18 +31,18 @@ abbrev whole : List ℕ → Place
 whole octets = record { octets = octets; at = 0 }
 
 -- the kind of what is a list, and of what is a response
-list_kind : (value : Place) (list : CertificateList) → IsCertificateListAt value list → is_response value ≡ false
+list_kind : (profile : Profile) (value : Place) (list : CertificateList) → IsCertificateListAtUnder profile value list → is_response value ≡ false
 unfolding is_response begins
-list_kind value list is = rw (is.members_are, is.signed_is.sequence, is.sequence) refl
+list_kind profile value list is = rw (is.members_are, is.signed_is.sequence, is.sequence) refl
 
 response_kind : (value : Place) (response : OcspResponse) → IsOcspResponseAt value response → is_response value ≡ true
 unfolding is_response begins
 response_kind value response is = rw (is.members_are, is.enumerated, is.sequence) refl
 
 -- a value of one kind is read so
-reads_list : (value : Place) (list : CertificateList) → statement_at value ≡ Ok (Statement.OfList list) → certificate_list_at value ≡ Ok list
-unfolding statement_at
-reads_list value list e = by (is_response value) (ocsp_response_at value) (certificate_list_at value) e where
+reads_list : (profile : Profile) (value : Place) (list : CertificateList) → statement_at_under profile value ≡ Ok (Statement.OfList list) → certificate_list_at_under profile value ≡ Ok list
+unfolding statement_at_under
+reads_list profile value list e = by (is_response value) (ocsp_response_at value) (certificate_list_at_under profile value) e where
   by : (b : Bool) (response : Result OcspResponse (StatementRule × ℕ)) (found : Result CertificateList (StatementRule × ℕ))
       → (if b then (response >>= λ response. Ok (Statement.OfResponse response)) else (found >>= λ list. Ok (Statement.OfList list))) ≡ Ok (Statement.OfList list)
       → found ≡ Ok list
@@ -49,9 +51,9 @@ reads_list value list e = by (is_response value) (ocsp_response_at value) (certi
   by false response (Ok found) e = cc
   by false response (Err fault) e = absurd cc
 
-reads_response : (value : Place) (response : OcspResponse) → statement_at value ≡ Ok (Statement.OfResponse response) → ocsp_response_at value ≡ Ok response
-unfolding statement_at
-reads_response value response e = by (is_response value) (ocsp_response_at value) (certificate_list_at value) e where
+reads_response : (profile : Profile) (value : Place) (response : OcspResponse) → statement_at_under profile value ≡ Ok (Statement.OfResponse response) → ocsp_response_at value ≡ Ok response
+unfolding statement_at_under
+reads_response profile value response e = by (is_response value) (ocsp_response_at value) (certificate_list_at_under profile value) e where
   by : (b : Bool) (found : Result OcspResponse (StatementRule × ℕ)) (list : Result CertificateList (StatementRule × ℕ))
       → (if b then (found >>= λ response. Ok (Statement.OfResponse response)) else (list >>= λ list. Ok (Statement.OfList list))) ≡ Ok (Statement.OfResponse response)
       → found ≡ Ok response
@@ -60,35 +62,47 @@ reads_response value response e = by (is_response value) (ocsp_response_at value
   by false found (Ok list) e = absurd cc
   by false found (Err fault) e = absurd cc
 
-list_read : (octets : List ℕ) (list : CertificateList) → AreOctets octets → statement octets ≡ Ok (Statement.OfList list) → IsCertificateList octets list
-unfolding statement certificate_list
-list_read octets list fits e =
-    let value = bind_ok {A = Place} (as_statement_der (outermost octets)) (λ value. statement_at value) (Statement.OfList list) e in
-    (list_is_exact octets list fits).0 (rw value.1 (reads_list value.0 list value.2))
+list_read : (profile : Profile) (octets : List ℕ) (list : CertificateList) → AreOctets octets → statement_under profile octets ≡ Ok (Statement.OfList list) → IsCertificateListUnder profile octets list
+unfolding statement_under certificate_list_under
+list_read profile octets list fits e =
+    let value = bind_ok {A = Place} (as_statement_der (outermost octets)) (λ value. statement_at_under profile value) (Statement.OfList list) e in
+    (list_is_exact_under profile octets list fits).0 (rw value.1 (reads_list profile value.0 list value.2))
 
-response_read : (octets : List ℕ) (response : OcspResponse) → AreOctets octets → statement octets ≡ Ok (Statement.OfResponse response) → IsOcspResponse octets response
-unfolding statement ocsp_response
-response_read octets response fits e =
-    let value = bind_ok {A = Place} (as_statement_der (outermost octets)) (λ value. statement_at value) (Statement.OfResponse response) e in
-    (response_is_exact octets response fits).0 (rw value.1 (reads_response value.0 response value.2))
+response_read : (profile : Profile) (octets : List ℕ) (response : OcspResponse) → AreOctets octets → statement_under profile octets ≡ Ok (Statement.OfResponse response) → IsOcspResponse octets response
+unfolding statement_under ocsp_response
+response_read profile octets response fits e =
+    let value = bind_ok {A = Place} (as_statement_der (outermost octets)) (λ value. statement_at_under profile value) (Statement.OfResponse response) e in
+    (response_is_exact octets response fits).0 (rw value.1 (reads_response profile value.0 response value.2))
 
-read_list : (octets : List ℕ) (list : CertificateList) → AreOctets octets → IsCertificateList octets list → statement octets ≡ Ok (Statement.OfList list)
-unfolding statement statement_at certificate_list
-read_list octets list fits is =
+read_list : (profile : Profile) (octets : List ℕ) (list : CertificateList) → AreOctets octets → IsCertificateListUnder profile octets list → statement_under profile octets ≡ Ok (Statement.OfList list)
+unfolding statement_under statement_at_under certificate_list_under
+read_list profile octets list fits is =
     let value = outermost_again octets (is.value, is.der) in
-    let read : certificate_list_at (whole octets) ≡ Ok list = (let all = (list_is_exact octets list fits).1 is in rw value at all) in
-    rw (value, list_kind (whole octets) list is.layout, read) refl
+    let read : certificate_list_at_under profile (whole octets) ≡ Ok list = (let all = (list_is_exact_under profile octets list fits).1 is in rw value at all) in
+    rw (value, list_kind profile (whole octets) list is.layout, read) refl
 
-read_response : (octets : List ℕ) (response : OcspResponse) → AreOctets octets → IsOcspResponse octets response → statement octets ≡ Ok (Statement.OfResponse response)
-unfolding statement statement_at ocsp_response
-read_response octets response fits is =
+read_response : (profile : Profile) (octets : List ℕ) (response : OcspResponse) → AreOctets octets → IsOcspResponse octets response → statement_under profile octets ≡ Ok (Statement.OfResponse response)
+unfolding statement_under statement_at_under ocsp_response
+read_response profile octets response fits is =
     let value = outermost_again octets (is.value, is.der) in
     let read : ocsp_response_at (whole octets) ≡ Ok response = (let all = (response_is_exact octets response fits).1 is in rw value at all) in
     rw (value, response_kind (whole octets) response is.layout, read) refl
 
+pub statement_is_exact_under : (profile : Profile) → StatementIsExactUnder profile
+statement_is_exact_under profile octets (Statement.OfList list) fits = (list_read profile octets list fits, read_list profile octets list fits)
+statement_is_exact_under profile octets (Statement.OfResponse response) fits = (response_read profile octets response fits, read_response profile octets response fits)
+
 pub statement_is_exact : StatementIsExact
-statement_is_exact octets (Statement.OfList list) fits = (list_read octets list fits, read_list octets list fits)
-statement_is_exact octets (Statement.OfResponse response) fits = (response_read octets response fits, read_response octets response fits)
+statement_is_exact octets (Statement.OfList list) fits = (list_read Stated octets list fits, read_list Stated octets list fits)
+statement_is_exact octets (Statement.OfResponse response) fits = (response_read Stated octets response fits, read_response Stated octets response fits)
+
+wide_is : (octets : List ℕ) (read : Statement) → IsStatementUnder Stated octets read → IsStatementUnder Wide octets read
+wide_is octets (Statement.OfList list) is = stated_is_wide octets list is
+wide_is octets (Statement.OfResponse response) is = is
+
+pub stated_statements_are_read_wide : StatedStatementsAreReadWide
+stated_statements_are_read_wide octets read fits e =
+    (statement_is_exact_under Wide octets read fits).1 (wide_is octets read ((statement_is_exact_under Stated octets read fits).0 e))
 
 -- ---- what is genuine
 
@@ -97,11 +111,11 @@ module _ (accepts : Accepts) (issuer : Certificate) (octets : List ℕ) (facts :
   is_said (Statement.OfList list) read said =
       let told = then_ok (list_said accepts issuer list) (λ said. Ok (Fact.OfCrl said.0 said.1 ∷ [])) facts said in
       let says = list_says accepts issuer list told.0.0 told.0.1 told.1 in
-      inl (told.0.0, told.0.1, record { list = list; is_list = list_read octets list fits read; named = says.named; signed = says.signed; slot_is = says.slot_is; fact_is = says.fact_is }, sym (said_is (Fact.OfCrl told.0.0 told.0.1 ∷ []) facts told.2))
+      inl (told.0.0, told.0.1, record { list = list; is_list = list_read Stated octets list fits read; named = says.named; signed = says.signed; slot_is = says.slot_is; fact_is = says.fact_is }, sym (said_is (Fact.OfCrl told.0.0 told.0.1 ∷ []) facts told.2))
   is_said (Statement.OfResponse response) read said =
       let told = then_ok (response_said accepts issuer response) (λ singles. Ok (map (fact_with (identity_of issuer)) singles)) facts said in
       let says = response_says accepts issuer response told.0 told.1 in
-      inr (told.0, record { response = response; is_response = response_read octets response fits read; signer = says.signer; is_signer = says.is_signer; singles_are = says.singles_are; some = says.some }, sym (said_is (map (fact_with (identity_of issuer)) told.0) facts told.2))
+      inr (told.0, record { response = response; is_response = response_read Stated octets response fits read; signer = says.signer; is_signer = says.is_signer; singles_are = says.singles_are; some = says.some }, sym (said_is (map (fact_with (identity_of issuer)) told.0) facts told.2))
 
   is_genuine : genuine_statement accepts issuer octets ≡ Ok facts → IsGenuine accepts issuer octets facts
   unfolding genuine_statement
@@ -113,10 +127,10 @@ module _ (accepts : Accepts) (issuer : Certificate) (octets : List ℕ) (facts :
   unfolding genuine_statement
   genuine_is (inl (slot, fact, is, facts_are)) =
       let said = says_list accepts issuer is.list slot fact record { named = is.named; signed = is.signed; slot_is = is.slot_is; fact_is = is.fact_is } in
-      rw (read_list octets is.list fits is.is_list, said, facts_are) refl
+      rw (read_list Stated octets is.list fits is.is_list, said, facts_are) refl
   genuine_is (inr (singles, is, facts_are)) =
       let said = says_response accepts issuer is.response singles record { signer = is.signer; is_signer = is.is_signer; singles_are = is.singles_are; some = is.some } in
-      rw (read_response octets is.response fits is.is_response, said, facts_are) refl
+      rw (read_response Stated octets is.response fits is.is_response, said, facts_are) refl
 
 pub statements_are_facts : GenuineStatementsAreFacts
 statements_are_facts accepts issuer octets facts fits = (is_genuine accepts issuer octets facts fits, genuine_is accepts issuer octets facts fits)

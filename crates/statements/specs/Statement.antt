@@ -5,8 +5,10 @@ use Rattle.asn.specs.Outermost.{outermost}
 use Rattle.asn.specs.Place.{Place}
 use Rattle.asn.specs.Walk.{◌>>=◌}
 use Rattle.cert.specs.Certificate.{Certificate}
-use Rattle.statements_crl.specs.CertificateList.{CertificateList, certificate_list_at, seen_list}
-use Rattle.statements_crl.specs.ListForms.{IsCertificateList}
+use Rattle.cert.specs.declared.profile.Profile.{Profile}
+use Rattle.cert.specs.declared.profile.Profile.TheVariants.{Stated, Wide}
+use Rattle.statements_crl.specs.CertificateList.{CertificateList, certificate_list_at_under, seen_list}
+use Rattle.statements_crl.specs.ListForms.{IsCertificateList, IsCertificateListUnder}
 use Rattle.statements_ocsp.specs.Kind.{is_response}
 use Rattle.statements_ocsp.specs.OcspResponse.{OcspResponse, ocsp_response_at, seen_response}
 use Rattle.statements_ocsp.specs.ResponseForms.{IsOcspResponse}
@@ -32,16 +34,32 @@ abbrev pub seen_statement : code → Statement
 seen_statement (read_list list) = Statement.OfList (seen_list list)
 seen_statement (read_response response) = Statement.OfResponse (seen_response response)
 
--- the value as a response, if the first value inside is an ENUMERATED, else as a list
-unfoldable pub statement_at : Place → Result Statement (StatementRule × ℕ)
-statement_at value =
+-- the value as a response, if the first value inside is an ENUMERATED, else as a list in a profile
+unfoldable pub statement_at_under : Profile → Place → Result Statement (StatementRule × ℕ)
+statement_at_under profile value =
     if is_response value then (ocsp_response_at value >>= λ response. Ok (Statement.OfResponse response))
-    else (certificate_list_at value >>= λ list. Ok (Statement.OfList list))
+    else (certificate_list_at_under profile value >>= λ list. Ok (Statement.OfList list))
 
-unfoldable pub statement : List ℕ → Result Statement (StatementRule × ℕ)
-statement octets = as_statement_der (outermost octets) >>= λ value. statement_at value
+unfoldable pub statement_under : Profile → List ℕ → Result Statement (StatementRule × ℕ)
+statement_under profile octets = as_statement_der (outermost octets) >>= λ value. statement_at_under profile value
+
+-- the same in the stated profile
+abbrev pub statement_at : Place → Result Statement (StatementRule × ℕ)
+statement_at = statement_at_under Stated
+
+abbrev pub statement : List ℕ → Result Statement (StatementRule × ℕ)
+statement = statement_under Stated
 
 -- what is read is exactly what the standards call a list or a response
+abbrev pub IsStatementUnder : Profile → List ℕ → Statement → Type 0
+IsStatementUnder profile octets (Statement.OfList list) = IsCertificateListUnder profile octets list
+IsStatementUnder profile octets (Statement.OfResponse response) = IsOcspResponse octets response
+
+abbrev pub StatementIsExactUnder : Profile → Type 0
+StatementIsExactUnder profile =
+    (octets : List ℕ) (read : Statement) → AreOctets octets →
+    (statement_under profile octets ≡ Ok read) ↔ IsStatementUnder profile octets read
+
 abbrev pub IsStatement : List ℕ → Statement → Type 0
 IsStatement octets (Statement.OfList list) = IsCertificateList octets list
 IsStatement octets (Statement.OfResponse response) = IsOcspResponse octets response
@@ -49,6 +67,12 @@ IsStatement octets (Statement.OfResponse response) = IsOcspResponse octets respo
 abbrev pub StatementIsExact : Type 0
 StatementIsExact =
     (octets : List ℕ) (read : Statement) → AreOctets octets → (statement octets ≡ Ok read) ↔ IsStatement octets read
+
+-- what is read in the stated profile is read as the same in the wide one
+abbrev pub StatedStatementsAreReadWide : Type 0
+StatedStatementsAreReadWide =
+    (octets : List ℕ) (read : Statement) → AreOctets octets →
+    statement octets ≡ Ok read → statement_under Wide octets ≡ Ok read
 
 -- ---- what it says
 

@@ -2,7 +2,7 @@
 
 ghost use Rattle.statements.specs.OneIssuer.{IssuerDecides};
 ghost use Rattle.statements.specs.Responder.{SignersAreFound};
-ghost use Rattle.statements.specs.Statement.{GenuineStatementsAreFacts, StatementIsExact};
+ghost use Rattle.statements.specs.Statement.{GenuineStatementsAreFacts, StatedStatementsAreReadWide, StatementIsExact, StatementIsExactUnder};
 
 /// Octets are read as a statement exactly if they are a list or a response as the standards lay them out. A response has a signer exactly
 /// if one is found. A statement is genuine exactly if it is a list that names the issuer, whose signature is accepted under the issuer's
@@ -17,4 +17,11 @@ pub fn statement_laws()
 /// and find the same facts in them.
 pub fn identity_laws()
     ensures { IssuerDecides }
+{}
+
+/// In either profile octets are read as a statement exactly if they are one. What is read in the stated one is read as the same in the
+/// wide one.
+pub fn statement_profile_laws()
+    ensures exact { (profile : _) → StatementIsExactUnder profile }
+    ensures wide { StatedStatementsAreReadWide }
 {}

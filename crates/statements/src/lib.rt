@@ -14,6 +14,6 @@ mod statement;
 pub use genuine_list::check_crl_issuer;
 pub use genuine_response::response_singles;
 pub use issuing::issuer_of;
-pub use laws::{identity_laws, statement_laws};
+pub use laws::{identity_laws, statement_laws, statement_profile_laws};
 pub use responder::{is_named_by, may_sign_responses};
 pub use statement::{Statement, genuine};

@@ -6,12 +6,12 @@ ghost use Rattle.cert.specs.Certificate.{seen_certificate};
 ghost use Rattle.statements_facts.specs.Fact.{facts_in};
 ghost use Rattle.statements_parts.specs.Fault.{StatementGivesUnlessFull};
 ghost use Rattle.statements.specs.Genuine.{AnswersUnlessFull};
-ghost use Rattle.statements.specs.Statement.{genuine_statement, seen_statement, statement, statement_at, statement_said};
+ghost use Rattle.statements.specs.Statement.{genuine_statement, seen_statement, statement, statement_at, statement_at_under, statement_said, statement_under};
 
 use crate::genuine_list::list_facts;
 use crate::genuine_response::response_facts;
 use asn::Tlv;
-use cert::Certificate;
+use cert::{Certificate, Profile};
 use path_verifiers::Verifier;
 use statements_crl::Crl;
 use statements_facts::Facts;
@@ -31,24 +31,48 @@ pub enum Statement<'a> {
 impl<'a> Statement<'a> {
     /// Reads a statement from DER: a response if the first value inside the outermost is an ENUMERATED, else a list; or answers the first
     /// fault. Time and memory are those of `Crl::read` and `Response::read`.
-    #[tactic(auto, unfolding(crate::specs::Statement::statement))]
     pub fn read(alloc: Global, octets: &'a [u8]) -> Result<Statement<'a>, ReadingFault>
         ensures { StatementGivesUnlessFull seen_statement result (statement octets.now) }
     {
-        let value = outermost(octets)?;
-        Statement::at(alloc, value)
+        Statement::read_under(alloc, Profile::Stated, octets)
     }
 
     /// As `read`, of a value in the text handed to `asn::whole`, with offsets in that text.
-    #[tactic(auto, unfolding(crate::specs::Statement::statement_at))]
     pub fn at(alloc: Global, value: Tlv<'a>) -> Result<Statement<'a>, ReadingFault>
         ensures { StatementGivesUnlessFull seen_statement result
             (statement_at (seen_tlv value.entry)) }
     {
+        Statement::at_under(alloc, Profile::Stated, value)
+    }
+
+    /// As `read`, in a profile: that of `Crl::read_under`. Responses are read alike in both.
+    #[tactic(auto, unfolding(crate::specs::Statement::statement_under))]
+    pub(crate) fn read_under(
+        alloc: Global,
+        profile: Profile,
+        octets: &'a [u8],
+    ) -> Result<Statement<'a>, ReadingFault>
+        ensures { StatementGivesUnlessFull seen_statement result
+            (statement_under profile octets.now) }
+    {
+        let value = outermost(octets)?;
+        Statement::at_under(alloc, profile, value)
+    }
+
+    /// As `read_under`, of a value in the text handed to `asn::whole`, with offsets in that text.
+    #[tactic(auto, unfolding(crate::specs::Statement::statement_at_under))]
+    pub(crate) fn at_under(
+        alloc: Global,
+        profile: Profile,
+        value: Tlv<'a>,
+    ) -> Result<Statement<'a>, ReadingFault>
+        ensures { StatementGivesUnlessFull seen_statement result
+            (statement_at_under profile (seen_tlv value.entry)) }
+    {
         if is_response(value) {
             Ok(Statement::Response(Response::at(alloc, value)?))
         } else {
-            Ok(Statement::List(Crl::at(alloc, value)?))
+            Ok(Statement::List(Crl::at_under(alloc, profile, value)?))
         }
     }
 

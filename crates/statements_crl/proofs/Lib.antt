@@ -6,6 +6,8 @@ mod Numbers
 mod ExtensionTypes
 mod ReasonLaws
 mod EntryLaws
+mod IssuingPointLaws
 mod ListExtensionLaws
 mod ListLaws
+mod Profiles
 pub mod Laws

@@ -26,8 +26,10 @@ use Rattle.statements_parts.specs.declared.fault.StatementRule.TheVariants.{Layo
 use Rattle.statements_crl.specs.Parts.{list_issuer, same_list_algorithm}
 use Rattle.statements_crl.specs.Entry.{Entry, entries}
 use Rattle.statements_crl.specs.ListExtension.{NumberAndScope, number_and_scope, list_extensions}
-use Rattle.statements_crl.specs.CertificateList.{version_2, ListHead, list_head, revoked_in, revoked, TbsCertList, tbs_cert_list, CertificateList, list_with, certificate_list_at, certificate_list}
-use Rattle.statements_crl.specs.ListForms.{AreRevoked, IsTbsCertList, IsCertificateListAt, CertificateListIsExact, CertificateListIsUnique}
+use Rattle.cert.specs.declared.profile.Profile.{Profile}
+use Rattle.cert.specs.declared.profile.Profile.TheVariants.{Stated}
+use Rattle.statements_crl.specs.CertificateList.{version_2, ListHead, list_head, revoked_in, revoked, TbsCertList, tbs_cert_list, CertificateList, list_with, certificate_list_at_under, certificate_list_under}
+use Rattle.statements_crl.specs.ListForms.{AreRevoked, IsTbsCertList, IsCertificateListAtUnder, CertificateListIsExact, CertificateListIsExactUnder, CertificateListIsUnique, CertificateListIsUniqueUnder}
 use Rattle.statements_crl.proofs.EntryLaws.{in_order, then, are_entries, entries_are}
 use Rattle.statements_crl.proofs.ListExtensionLaws.{Octets, all_behind, has_extensions, extensions_has}
 
@@ -190,28 +192,28 @@ revoked_again left (place ∷ []) explicit list e t are = (
 revoked_again left (place ∷ other ∷ lists) explicit list e t are = absurd are
 
 -- the extensions
-record TakesExtensions (left : Members) (found : NumberAndScope) (others : Members) : Type 0 where
+record TakesExtensions (profile : Profile) (left : Members) (found : NumberAndScope) (others : Members) : Type 0 where
   explicit : Place
   list : Place
   values : left.values ≡ explicit ∷ others.values
   tagged : tag explicit ≡ 0xA0
   one_inside : (members explicit).values ≡ list ∷ []
-  read : number_and_scope list ≡ Ok found
+  read : number_and_scope profile list ≡ Ok found
 
 abbrev extensions_end : Members → Members → NumberAndScope → Result (NumberAndScope × Members) (StatementRule × ℕ)
 extensions_end others rest said = ended Layout rest >>= λ done. Ok (said, others)
 
-extensions_ok : (left : Members) (x : NumberAndScope × Members) → list_extensions left ≡ Ok x → TakesExtensions left x.0 x.1
+extensions_ok : (profile : Profile) (left : Members) (x : NumberAndScope × Members) → list_extensions profile left ≡ Ok x → TakesExtensions profile left x.0 x.1
 unfolding list_extensions
-extensions_ok left x e =
+extensions_ok profile left x e =
     let any = bind_ok {A = Unit {0}} (some NoNumber left) _ x e in
     let explicit = bind_ok {A = Place × Members} (required 0xA0 Layout left) _ x any.2 in
-    let list = bind_ok {A = Place × Members} (next_or Layout (members explicit.0.0)) (λ list. number_and_scope list.0 >>= extensions_end explicit.0.1 list.1) x explicit.2 in
-    let said = bind_ok {A = NumberAndScope} (number_and_scope list.0.0) (extensions_end explicit.0.1 list.0.1) x list.2 in
+    let list = bind_ok {A = Place × Members} (next_or Layout (members explicit.0.0)) (λ list. number_and_scope profile list.0 >>= extensions_end explicit.0.1 list.1) x explicit.2 in
+    let said = bind_ok {A = NumberAndScope} (number_and_scope profile list.0.0) (extensions_end explicit.0.1 list.0.1) x list.2 in
     let done = bind_ok {A = Unit {0}} (ended Layout list.0.1) (λ done. Ok (said.0, explicit.0.1)) x said.2 in
     let outer = required_ok 0xA0 Layout left explicit.0 explicit.1 in
     let inner = next_or_ok Layout (members explicit.0.0) list.0 list.1 in
-    let P : NumberAndScope × Members → Type 0 = λ y. TakesExtensions left y.0 y.1 in
+    let P : NumberAndScope × Members → Type 0 = λ y. TakesExtensions profile left y.0 y.1 in
     subst P {x = (said.0, explicit.0.1)} (ok_is {E = StatementRule × ℕ} (said.0, explicit.0.1) x done.2) record {
       explicit = explicit.0.0;
       list = list.0.0;
@@ -221,9 +223,9 @@ extensions_ok left x e =
       read = said.1;
     }
 
-extensions_again : (left : Members) (explicit list : Place) (found : NumberAndScope) → left.values ≡ explicit ∷ [] → tag explicit ≡ 0xA0 → (members explicit).values ≡ list ∷ [] → number_and_scope list ≡ Ok found → list_extensions left ≡ Ok (found, record { values = []; end = left.end })
+extensions_again : (profile : Profile) (left : Members) (explicit list : Place) (found : NumberAndScope) → left.values ≡ explicit ∷ [] → tag explicit ≡ 0xA0 → (members explicit).values ≡ list ∷ [] → number_and_scope profile list ≡ Ok found → list_extensions profile left ≡ Ok (found, record { values = []; end = left.end })
 unfolding list_extensions
-extensions_again left explicit list found e tagged inside read =
+extensions_again profile left explicit list found e tagged inside read =
     rw (
       some_again NoNumber left explicit [] e,
       required_again 0xA0 Layout left explicit [] e tagged,
@@ -250,21 +252,21 @@ tbs_from head list named = record { head = head.0; entries = list.0; named = nam
 abbrev tbs_end : ListHead × Members → List Entry × Members → NumberAndScope × Members → Result TbsCertList (StatementRule × ℕ)
 tbs_end head list named = ended Layout named.1 >>= λ done. Ok (tbs_from head list named)
 
-is_tbs : (value : Place) (fields : TbsCertList) → AreOctets value.octets → tbs_cert_list value ≡ Ok fields → IsTbsCertList value fields
+is_tbs : (profile : Profile) (value : Place) (fields : TbsCertList) → AreOctets value.octets → tbs_cert_list profile value ≡ Ok fields → IsTbsCertList profile value fields
 unfolding tbs_cert_list
-is_tbs value fields fits e =
+is_tbs profile value fields fits e =
     let sequence = bind_ok {A = Unit {0}} (is_a 0x30 Layout value) _ fields e in
     let head = bind_ok {A = ListHead × Members} (list_head (members value)) _ fields sequence.2 in
-    let list = bind_ok {A = List Entry × Members} (revoked head.0.1) (λ list. list_extensions list.1 >>= tbs_end head.0 list) fields head.2 in
-    let named = bind_ok {A = NumberAndScope × Members} (list_extensions list.0.1) (tbs_end head.0 list.0) fields list.2 in
+    let list = bind_ok {A = List Entry × Members} (revoked head.0.1) (λ list. list_extensions profile list.1 >>= tbs_end head.0 list) fields head.2 in
+    let named = bind_ok {A = NumberAndScope × Members} (list_extensions profile list.0.1) (tbs_end head.0 list.0) fields list.2 in
     let done = bind_ok {A = Unit {0}} (ended Layout named.0.1) (λ done. Ok (tbs_from head.0 list.0 named.0)) fields named.2 in
     let first = head_ok (members value) head.0 head.1 in
     let second = revoked_ok head.0.1 list.0 list.1 in
-    let third = extensions_ok list.0.1 named.0 named.1 in
+    let third = extensions_ok profile list.0.1 named.0 named.1 in
     let values = behind_head (members value).values head.0.1.values second.lists list.0.1.values named.0.1.values first.version first.signature first.issuer first.this_update first.next_update third.explicit first.values second.values third.values (ended_ok Layout named.0.1 done.0 done.1) in
     let list_fits = extensions_octets value first.version first.signature first.issuer first.this_update first.next_update third.explicit third.list second.lists fits values third.one_inside in
     let found = tbs_from head.0 list.0 named.0 in
-    subst (IsTbsCertList value) {x = found} (ok_is {E = StatementRule × ℕ} found fields done.2) record {
+    subst (IsTbsCertList profile value) {x = found} (ok_is {E = StatementRule × ℕ} found fields done.2) record {
       version = first.version;
       signature = first.signature;
       issuer = first.issuer;
@@ -285,12 +287,12 @@ is_tbs value fields fits e =
       revoked_are = second.are;
       tagged = third.tagged;
       one_inside = third.one_inside;
-      extensions_are = has_extensions third.list named.0.0 list_fits third.read;
+      extensions_are = has_extensions profile third.list named.0.0 list_fits third.read;
     }
 
-tbs_is : (value : Place) (fields : TbsCertList) → AreOctets value.octets → IsTbsCertList value fields → tbs_cert_list value ≡ Ok fields
+tbs_is : (profile : Profile) (value : Place) (fields : TbsCertList) → AreOctets value.octets → IsTbsCertList profile value fields → tbs_cert_list profile value ≡ Ok fields
 unfolding tbs_cert_list
-tbs_is value fields fits is =
+tbs_is profile value fields fits is =
     let head : IsHead is.version is.signature is.issuer is.this_update is.next_update fields.head = record {
       version_integer = is.version_integer;
       version_2_is = is.version_2;
@@ -307,7 +309,7 @@ tbs_is value fields fits is =
       is_a_again 0x30 Layout value is.sequence,
       head_again (members value) is.version is.signature is.issuer is.this_update is.next_update behind.values fields.head is.members_are head,
       list.1,
-      extensions_again list.0 is.explicit is.extensions fields.named list.2 is.tagged is.one_inside (extensions_has is.extensions fields.named list_fits is.extensions_are),
+      extensions_again profile list.0 is.explicit is.extensions fields.named list.2 is.tagged is.one_inside (extensions_has profile is.extensions fields.named list_fits is.extensions_are),
       ended_again Layout (record { values = []; end = list.0.end }) refl,
     ) refl
 
@@ -327,12 +329,12 @@ abbrev list_behind : Place → TbsCertList → Members → Result CertificateLis
 list_behind signed tbs left =
     statement_component 0x30 (same_list_algorithm tbs.head.signature) left >>= λ algorithm. statement_component 0x03 signature_in_statement algorithm.1 >>= list_end signed tbs
 
-is_list_at : (value : Place) (fields : CertificateList) → AreOctets value.octets → certificate_list_at value ≡ Ok fields → IsCertificateListAt value fields
-unfolding certificate_list_at
-is_list_at value fields fits e =
+is_list_at : (profile : Profile) (value : Place) (fields : CertificateList) → AreOctets value.octets → certificate_list_at_under profile value ≡ Ok fields → IsCertificateListAtUnder profile value fields
+unfolding certificate_list_at_under
+is_list_at profile value fields fits e =
     let sequence = bind_ok {A = Unit {0}} (is_a 0x30 Layout value) _ fields e in
     let signed = bind_ok {A = Place × Members} (next_or Layout (members value)) _ fields sequence.2 in
-    let tbs = bind_ok {A = TbsCertList} (tbs_cert_list signed.0.0) (λ tbs. list_behind signed.0.0 tbs signed.0.1) fields signed.2 in
+    let tbs = bind_ok {A = TbsCertList} (tbs_cert_list profile signed.0.0) (λ tbs. list_behind signed.0.0 tbs signed.0.1) fields signed.2 in
     let algorithm = bind_ok {A = Unit {0} × Members} (statement_component 0x30 (same_list_algorithm tbs.0.head.signature) signed.0.1) (λ algorithm. statement_component 0x03 signature_in_statement algorithm.1 >>= list_end signed.0.0 tbs.0) fields tbs.2 in
     let signature = bind_ok {A = BitString × Members} (statement_component 0x03 signature_in_statement algorithm.0.1) (list_end signed.0.0 tbs.0) fields algorithm.2 in
     let done = bind_ok {A = Unit {0}} (ended Layout signature.0.1) (λ done. Ok (list_with signed.0.0 tbs.0 signature.0.0)) fields signature.2 in
@@ -344,46 +346,53 @@ is_list_at value fields fits e =
     let signed_fits = (subst (AllByRecursion Octets) first.values (members_octets value fits)).0 in
     let values = in_order (members value).values signed.0.1.values algorithm.0.1.values [] signed.0.0 second.value third.value first.values second.took.values last in
     let found = list_with signed.0.0 tbs.0 signature.0.0 in
-    subst (IsCertificateListAt value) {x = found} (ok_is {E = StatementRule × ℕ} found fields done.2) record {
+    subst (IsCertificateListAtUnder profile value) {x = found} (ok_is {E = StatementRule × ℕ} found fields done.2) record {
       signed = signed.0.0;
       algorithm = second.value;
       signature = signature.0.0;
       tbs = tbs.0;
       sequence = is_a_ok 0x30 Layout value sequence.0 sequence.1;
       members_are = values ∙ ap (λ (v : Place). signed.0.0 ∷ second.value ∷ v ∷ []) signature_is.0;
-      signed_is = is_tbs signed.0.0 tbs.0 signed_fits tbs.1;
+      signed_is = is_tbs profile signed.0.0 tbs.0 signed_fits tbs.1;
       algorithm_sequence = second.took.tag_is;
       same_algorithm = algorithm_ok tbs.0.head.signature second.value algorithm.0.0 second.read_is;
       signature_is = signature_is.1;
       fields_are = refl;
     }
 
-list_at_is : (value : Place) (fields : CertificateList) → AreOctets value.octets → IsCertificateListAt value fields → certificate_list_at value ≡ Ok fields
-unfolding certificate_list_at
-list_at_is value fields fits is =
+list_at_is : (profile : Profile) (value : Place) (fields : CertificateList) → AreOctets value.octets → IsCertificateListAtUnder profile value fields → certificate_list_at_under profile value ≡ Ok fields
+unfolding certificate_list_at_under
+list_at_is profile value fields fits is =
     let next : List Place → Members = λ values. record { values = values; end = (members value).end } in
     let signed_fits = (subst (AllByRecursion Octets) is.members_are (members_octets value fits)).0 in
     rw (
       is_a_again 0x30 Layout value is.sequence,
       next_or_again Layout (members value) is.signed (is.algorithm ∷ is.signature.value ∷ []) is.members_are,
-      tbs_is is.signed is.tbs signed_fits is.signed_is,
+      tbs_is profile is.signed is.tbs signed_fits is.signed_is,
       component_again 0x30 (same_list_algorithm is.tbs.head.signature) (next (is.algorithm ∷ is.signature.value ∷ [])) is.algorithm (is.signature.value ∷ []) tt refl is.algorithm_sequence (algorithm_again is.tbs.head.signature is.algorithm is.same_algorithm),
       component_again 0x03 signature_in_statement (next (is.signature.value ∷ [])) is.signature.value [] is.signature refl is.signature_is.bit_string (signature_again is.signature is.signature_is),
       ended_again Layout (next []) refl,
       is.fields_are,
     ) refl
 
-pub list_is_exact : CertificateListIsExact
-unfolding certificate_list
-list_is_exact octets fields fits = (
+pub list_is_exact_under : (profile : Profile) → CertificateListIsExactUnder profile
+unfolding certificate_list_under
+list_is_exact_under profile octets fields fits = (
   λ e.
-      let value = bind_ok {A = Place} (as_statement_der (outermost octets)) (λ value. certificate_list_at value) fields e in
+      let value = bind_ok {A = Place} (as_statement_der (outermost octets)) (λ value. certificate_list_at_under profile value) fields e in
       let whole = outermost_ok octets value.0 fits (as_der_ok (outermost octets) value.0 value.1) in
-      let at = subst (λ v. certificate_list_at v ≡ Ok fields) whole.0 value.2 in
-      record { value = whole.1.0; der = whole.1.1; layout = is_list_at (record { octets = octets; at = 0 }) fields fits at },
-  λ is. rw (outermost_again octets (is.value, is.der)) (list_at_is (record { octets = octets; at = 0 }) fields fits is.layout),
+      let at = subst (λ v. certificate_list_at_under profile v ≡ Ok fields) whole.0 value.2 in
+      record { value = whole.1.0; der = whole.1.1; layout = is_list_at profile (record { octets = octets; at = 0 }) fields fits at },
+  λ is. rw (outermost_again octets (is.value, is.der)) (list_at_is profile (record { octets = octets; at = 0 }) fields fits is.layout),
 )
 
+pub list_is_unique_under : (profile : Profile) → CertificateListIsUniqueUnder profile
+list_is_unique_under profile octets one other fits is also =
+    ok_is {E = StatementRule × ℕ} one other (sym ((list_is_exact_under profile octets one fits).1 is) ∙ (list_is_exact_under profile octets other fits).1 also)
+
+-- the stated profile
+pub list_is_exact : CertificateListIsExact
+list_is_exact = list_is_exact_under Stated
+
 pub list_is_unique : CertificateListIsUnique
-list_is_unique octets one other fits is also =
-    ok_is {E = StatementRule × ℕ} one other (sym ((list_is_exact octets one fits).1 is) ∙ (list_is_exact octets other fits).1 also)
+list_is_unique = list_is_unique_under Stated

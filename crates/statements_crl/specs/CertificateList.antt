@@ -9,6 +9,9 @@ use Rattle.names.specs.GeneralLayout.{NameContents}
 use Rattle.names.specs.GeneralView.{name_contents}
 use Rattle.cert.specs.AlgorithmIdentifier.{AlgorithmIdentifier, algorithm_identifier, seen_algorithm}
 use Rattle.cert.specs.BitString.{BitString, seen_bit_string}
+use Rattle.cert.specs.declared.profile.Profile.{Profile}
+use Rattle.cert.specs.declared.profile.Profile.TheVariants.{Stated}
+use Rattle.cert_points.specs.CompleteNames.{names_if_any}
 use Rattle.statements_facts.specs.declared.scope.Scope.{Scope}
 use Rattle.statements_crl.specs.declared.list.Crl as code
 use Rattle.statements_crl.specs.declared.list.ListHead as head
@@ -64,12 +67,12 @@ pub record TbsCertList : Type 0 where
 abbrev pub seen_tbs_list : signed_part.TbsCertList → TbsCertList
 seen_tbs_list read = record { head = seen_list_head read.head; entries = entries_left read.revoked; named = seen_named read.named }
 
-unfoldable pub tbs_cert_list : Place → Result TbsCertList (StatementRule × ℕ)
-tbs_cert_list value = do
+unfoldable pub tbs_cert_list : Profile → Place → Result TbsCertList (StatementRule × ℕ)
+tbs_cert_list profile value = do
   sequence ← is_a 0x30 Layout value
   head ← list_head (members value)
   entries ← revoked head.1
-  named ← list_extensions entries.1
+  named ← list_extensions profile entries.1
   done ← ended Layout named.1
   Ok (record { head = head.0; entries = entries.0; named = named.0 })
 
@@ -83,6 +86,8 @@ pub record CertificateList : Type 0 where
   pub entries : List Entry
   pub number : List ℕ
   pub scope : Scope
+  -- the general names of the point where it is published, each as its octets; none of a whole list
+  pub points : List (List ℕ)
   pub signature : BitString
 
 abbrev pub seen_list : code.Crl → CertificateList
@@ -95,6 +100,7 @@ seen_list read = record {
   entries = entries_left read.revoked;
   number = read.number.contents.now;
   scope = read.scope;
+  points = names_if_any read.points;
   signature = seen_bit_string read.signature;
 }
 
@@ -108,19 +114,27 @@ list_with signed tbs signature = record {
   entries = tbs.entries;
   number = tbs.named.number;
   scope = tbs.named.scope;
+  points = tbs.named.points;
   signature = signature;
 }
 
--- The checks in their order.
-unfoldable pub certificate_list_at : Place → Result CertificateList (StatementRule × ℕ)
-certificate_list_at value = do
+-- The checks in their order, in a profile.
+unfoldable pub certificate_list_at_under : Profile → Place → Result CertificateList (StatementRule × ℕ)
+certificate_list_at_under profile value = do
   sequence ← is_a 0x30 Layout value
   signed ← next_or Layout (members value)
-  tbs ← tbs_cert_list signed.0
+  tbs ← tbs_cert_list profile signed.0
   algorithm ← statement_component 0x30 (same_list_algorithm tbs.head.signature) signed.1
   signature ← statement_component 0x03 signature_in_statement algorithm.1
   done ← ended Layout signature.1
   Ok (list_with signed.0 tbs signature.0)
 
-unfoldable pub certificate_list : List ℕ → Result CertificateList (StatementRule × ℕ)
-certificate_list octets = as_statement_der (outermost octets) >>= λ value. certificate_list_at value
+unfoldable pub certificate_list_under : Profile → List ℕ → Result CertificateList (StatementRule × ℕ)
+certificate_list_under profile octets = as_statement_der (outermost octets) >>= λ value. certificate_list_at_under profile value
+
+-- The same in the stated profile.
+abbrev pub certificate_list_at : Place → Result CertificateList (StatementRule × ℕ)
+certificate_list_at = certificate_list_at_under Stated
+
+abbrev pub certificate_list : List ℕ → Result CertificateList (StatementRule × ℕ)
+certificate_list = certificate_list_under Stated

@@ -1,6 +1,7 @@
 pub mod Parts
 pub mod CrlNumber
 pub mod IssuerScope
+pub mod IssuingPoint
 pub mod EntryExtension
 pub mod EntryWalk
 pub mod Entry
@@ -11,3 +12,6 @@ pub mod ListForms
 pub use Rattle.statements_parts.specs.Fault
 pub use Rattle.statements_parts.specs.declared.fault.StatementRule
 pub use Rattle.statements_parts.specs.declared.fault.ReadingFault
+pub use Rattle.cert.specs.declared.profile.Profile
+pub use Rattle.cert_points.specs.GeneralNames
+pub use Rattle.cert_points.specs.PointName

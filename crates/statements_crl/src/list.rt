@@ -2,7 +2,7 @@
 
 ghost use Rattle.std.specs.Prelude.{◌≡◌, ◌==◌, Some};
 ghost use Rattle.asn.specs.Reading.{seen_tlv, left, Gives};
-ghost use Rattle.statements_crl.specs.CertificateList.{certificate_list, certificate_list_at, list_head, seen_list_head, seen_list, seen_tbs_list, tbs_cert_list, version_2};
+ghost use Rattle.statements_crl.specs.CertificateList.{certificate_list, certificate_list_at, certificate_list_at_under, certificate_list_under, list_head, seen_list_head, seen_list, seen_tbs_list, tbs_cert_list, version_2};
 ghost use Rattle.statements_crl.specs.Entry.{entries_left, reason_listed};
 ghost use Rattle.statements_parts.specs.Fault.{StatementGivesUnlessFull};
 ghost use Rattle.asn.specs.Walk.{StepGives};
@@ -13,7 +13,8 @@ use crate::list_extension::NumberAndScope;
 use crate::number::CrlNumber;
 use crate::parts::{take_issuer, take_same_algorithm};
 use asn::{Cursor, INTEGER, SEQUENCE, Tlv};
-use cert::{AlgorithmIdentifier, BitString};
+use cert::{AlgorithmIdentifier, BitString, Profile};
+use cert_points::GeneralNames;
 use names::Name;
 use statements_facts::Scope;
 use statements_parts::{
@@ -39,6 +40,8 @@ pub struct Crl<'a> {
     pub number: CrlNumber<'a>,
     /// Which certificates the list is about.
     pub scope: Scope,
+    /// The names of the point where the list is published (5.2.5); `None` for a whole list.
+    pub points: Option<GeneralNames<'a>>,
     /// signatureValue, in which no bit is unused.
     pub signature: BitString<'a>,
 }
@@ -96,15 +99,19 @@ pub(crate) struct TbsCertList<'a> {
 impl<'a> TbsCertList<'a> {
     /// TBSCertList ::= SEQUENCE { version, signature, issuer, thisUpdate, nextUpdate, revokedCertificates, crlExtensions [0] }
     #[tactic(auto, unfolding(crate::specs::CertificateList::tbs_cert_list))]
-    fn read(alloc: Global, value: Tlv<'a>) -> Result<TbsCertList<'a>, ReadingFault>
+    fn read(
+        alloc: Global,
+        profile: Profile,
+        value: Tlv<'a>,
+    ) -> Result<TbsCertList<'a>, ReadingFault>
         ensures { StatementGivesUnlessFull seen_tbs_list result
-            (tbs_cert_list (seen_tlv value.entry)) }
+            (tbs_cert_list profile (seen_tlv value.entry)) }
     {
         value.is_a(SEQUENCE, StatementRule::Layout)?;
         let mut members = value.members();
         let head = ListHead::take(&mut members)?;
         let revoked = take_entries(alloc, &mut members)?;
-        let named = NumberAndScope::take(alloc, &mut members)?;
+        let named = NumberAndScope::take(alloc, profile, &mut members)?;
         members.ended(StatementRule::Layout)?;
         Ok(TbsCertList {
             head,
@@ -118,26 +125,52 @@ impl<'a> Crl<'a> {
     /// Reads a list from DER (RFC 5280, 5.1), or answers the first fault: the rule that is broken, and the offset of the value that breaks
     /// it. Fields are parts of the octets. Time is linear in the octets; an entry, or the list, with more than 16 extensions takes memory
     /// for their types, and n log n time.
-    #[tactic(auto, unfolding(crate::specs::CertificateList::certificate_list))]
     pub fn read(alloc: Global, octets: &'a [u8]) -> Result<Crl<'a>, ReadingFault>
         ensures { StatementGivesUnlessFull seen_list result (certificate_list octets.now) }
     {
-        let value = outermost(octets)?;
-        Crl::at(alloc, value)
+        Crl::read_under(alloc, Profile::Stated, octets)
     }
 
-    /// CertificateList ::= SEQUENCE { tbsCertList TBSCertList, signatureAlgorithm AlgorithmIdentifier, signatureValue BIT STRING }
-    ///
     /// As `read`, of a value in the text handed to `asn::whole`, with offsets in that text.
-    #[tactic(auto, unfolding(crate::specs::CertificateList::certificate_list_at))]
     pub fn at(alloc: Global, value: Tlv<'a>) -> Result<Crl<'a>, ReadingFault>
         ensures { StatementGivesUnlessFull seen_list result
             (certificate_list_at (seen_tlv value.entry)) }
     {
+        Crl::at_under(alloc, Profile::Stated, value)
+    }
+
+    /// As `read`, in a profile. In the wide one issuingDistributionPoint (5.2.5) may also have a full name, alone or with one of the two
+    /// flags; the list has the names as its `points`. What such a list says may not be stored: `statements` takes a list for one that is
+    /// published anywhere, and reads no other.
+    #[tactic(auto, unfolding(crate::specs::CertificateList::certificate_list_under))]
+    pub fn read_under(
+        alloc: Global,
+        profile: Profile,
+        octets: &'a [u8],
+    ) -> Result<Crl<'a>, ReadingFault>
+        ensures { StatementGivesUnlessFull seen_list result
+            (certificate_list_under profile octets.now) }
+    {
+        let value = outermost(octets)?;
+        Crl::at_under(alloc, profile, value)
+    }
+
+    /// CertificateList ::= SEQUENCE { tbsCertList TBSCertList, signatureAlgorithm AlgorithmIdentifier, signatureValue BIT STRING }
+    ///
+    /// As `read_under`, of a value in the text handed to `asn::whole`, with offsets in that text.
+    #[tactic(auto, unfolding(crate::specs::CertificateList::certificate_list_at_under))]
+    pub fn at_under(
+        alloc: Global,
+        profile: Profile,
+        value: Tlv<'a>,
+    ) -> Result<Crl<'a>, ReadingFault>
+        ensures { StatementGivesUnlessFull seen_list result
+            (certificate_list_at_under profile (seen_tlv value.entry)) }
+    {
         value.is_a(SEQUENCE, StatementRule::Layout)?;
         let mut members = value.members();
         let signed = members.next_or(StatementRule::Layout)?;
-        let tbs = TbsCertList::read(alloc, signed)?;
+        let tbs = TbsCertList::read(alloc, profile, signed)?;
         take_same_algorithm(tbs.head.signature, &mut members)?;
         let signature = take_signature(&mut members)?;
         members.ended(StatementRule::Layout)?;
@@ -150,6 +183,7 @@ impl<'a> Crl<'a> {
             revoked: tbs.revoked,
             number: tbs.named.number,
             scope: tbs.named.scope,
+            points: tbs.named.points,
             signature,
         })
     }

@@ -8,10 +8,11 @@ ghost use Rattle.statements_crl.specs.ListExtension.{all_list_extensions, number
 ghost use Rattle.statements_parts.specs.Fault.{StatementGivesUnlessFull};
 ghost use Rattle.statements_parts.specs.Steps.{StepGivesUnlessFull, TakesUnlessFull};
 
-use crate::issuer_scope::scope_of;
+use crate::issuing_point::IssuingPoint;
 use crate::number::CrlNumber;
 use asn::{Cursor, SEQUENCE, Tlv};
-use cert::{Extension, OidSet, certificate_extension_number};
+use cert::{Extension, OidSet, Profile, certificate_extension_number};
+use cert_points::GeneralNames;
 use statements_facts::Scope;
 use statements_parts::{ReadingFault, StatementRefusal, StatementRule, new_extension};
 use std::alloc::Global;
@@ -44,18 +45,24 @@ impl ListExtensionKind {
     }
 }
 
-/// What the extensions say so far: the number, and the scope.
+/// What the extensions say so far: the number, the scope, and the names of the point.
 #[derive(Clone, Copy)]
 struct ListExtensions<'a> {
     number: Option<CrlNumber<'a>>,
     scope: Scope,
+    points: Option<GeneralNames<'a>>,
 }
 
 impl<'a> ListExtensions<'a> {
     /// What is known once one more extension was read; or its fault, at the extension.
     #[tactic(auto, unfolding(crate::specs::ListExtension::said_by, asn::specs::Walk::check_that))]
-    fn with(&self, one: Extension<'a>) -> Result<ListExtensions<'a>, StatementRefusal>
-        ensures { Gives seen_said result (said_by (seen_extension one.entry) (seen_said self.now)) }
+    fn with(
+        &self,
+        profile: Profile,
+        one: Extension<'a>,
+    ) -> Result<ListExtensions<'a>, StatementRefusal>
+        ensures { Gives seen_said result
+            (said_by profile (seen_extension one.entry) (seen_said self.now)) }
     {
         let at = one.whole.at;
         match ListExtensionKind::of(one.oid.contents()) {
@@ -63,14 +70,18 @@ impl<'a> ListExtensions<'a> {
                 Some(number) => Ok(ListExtensions {
                     number: Some(number),
                     scope: self.scope,
+                    points: self.points,
                 }),
                 None => Err((StatementRule::NumberRange, at)),
             },
             ListExtensionKind::DeltaIndicator => Err((StatementRule::Delta, at)),
-            ListExtensionKind::IssuingDistributionPoint => match scope_of(one.value.body) {
-                Some(scope) => Ok(ListExtensions {
+            ListExtensionKind::IssuingDistributionPoint => match IssuingPoint::read(
+                profile, one.value,
+            ) {
+                Some(point) => Ok(ListExtensions {
                     number: self.number,
-                    scope,
+                    scope: point.scope,
+                    points: point.points,
                 }),
                 None => Err((StatementRule::Scope, at)),
             },
@@ -92,20 +103,24 @@ struct TakenOfList<'a> {
 impl<'a> TakenOfList<'a> {
     /// Takes one more extension, which must be of a type that none of the earlier ones has.
     #[tactic(auto, unfolding(crate::specs::ListExtension::one_list_extension))]
-    fn take(&mut self, value: Tlv<'a>) -> Result<(), ReadingFault>
+    fn take(&mut self, profile: Profile, value: Tlv<'a>) -> Result<(), ReadingFault>
         ensures { TakesUnlessFull seen_taken_of_list self.old self.new value.entry result
-            one_list_extension }
+            (one_list_extension profile) }
     {
         let extension = new_extension(&mut self.types, value)?;
-        self.said = self.said.with(extension)?;
+        self.said = self.said.with(profile, extension)?;
         Ok(())
     }
 }
 
 /// Takes the extensions that the values are.
-fn take_all<'a>(alloc: Global, members: Cursor<'a>) -> Result<TakenOfList<'a>, ReadingFault>
+fn take_all<'a>(
+    alloc: Global,
+    profile: Profile,
+    members: Cursor<'a>,
+) -> Result<TakenOfList<'a>, ReadingFault>
     ensures { StatementGivesUnlessFull seen_taken_of_list result
-        (all_list_extensions (left members.entry)) }
+        (all_list_extensions profile (left members.entry)) }
 {
     let mut members = members;
     let mut taken = TakenOfList {
@@ -113,10 +128,11 @@ fn take_all<'a>(alloc: Global, members: Cursor<'a>) -> Result<TakenOfList<'a>, R
         said: ListExtensions {
             number: None,
             scope: Scope::All,
+            points: None,
         },
     };
     while let Some(value) = members.next() {
-        taken.take(value)?;
+        taken.take(profile, value)?;
     }
     Ok(taken)
 }
@@ -126,6 +142,7 @@ fn take_all<'a>(alloc: Global, members: Cursor<'a>) -> Result<TakenOfList<'a>, R
 pub(crate) struct NumberAndScope<'a> {
     pub(crate) number: CrlNumber<'a>,
     pub(crate) scope: Scope,
+    pub(crate) points: Option<GeneralNames<'a>>,
 }
 
 /// The offset of the end of the value.
@@ -139,20 +156,25 @@ fn end_of(list: Tlv<'_>) -> usize
 impl<'a> NumberAndScope<'a> {
     /// Extensions ::= SEQUENCE SIZE (1..MAX) OF Extension, one of which is the number
     #[tactic(auto, unfolding(crate::specs::ListExtension::number_and_scope))]
-    fn read(alloc: Global, list: Tlv<'a>) -> Result<NumberAndScope<'a>, ReadingFault>
+    fn read(
+        alloc: Global,
+        profile: Profile,
+        list: Tlv<'a>,
+    ) -> Result<NumberAndScope<'a>, ReadingFault>
         ensures { StatementGivesUnlessFull seen_named result
-            (number_and_scope (seen_tlv list.entry)) }
+            (number_and_scope profile (seen_tlv list.entry)) }
     {
         list.is_a(SEQUENCE, StatementRule::Layout)?;
         let members = list.members();
         members.some(StatementRule::Layout)?;
-        let taken = take_all(alloc, members)?;
+        let taken = take_all(alloc, profile, members)?;
         let Some(number) = taken.said.number else {
             return Err(ReadingFault::Refused(StatementRule::NoNumber, end_of(list)));
         };
         Ok(NumberAndScope {
             number,
             scope: taken.said.scope,
+            points: taken.said.points,
         })
     }
 
@@ -160,15 +182,17 @@ impl<'a> NumberAndScope<'a> {
     #[tactic(auto, unfolding(crate::specs::ListExtension::list_extensions))]
     pub(crate) fn take(
         alloc: Global,
+        profile: Profile,
         members: &mut Cursor<'a>,
     ) -> Result<NumberAndScope<'a>, ReadingFault>
-        ensures { StepGivesUnlessFull seen_named result members.old members.new list_extensions }
+        ensures { StepGivesUnlessFull seen_named result members.old members.new
+            (list_extensions profile) }
     {
         members.some(StatementRule::NoNumber)?;
         let explicit = members.required(0xA0, StatementRule::Layout)?;
         let mut inside = explicit.members();
         let list = inside.next_or(StatementRule::Layout)?;
-        let named = NumberAndScope::read(alloc, list)?;
+        let named = NumberAndScope::read(alloc, profile, list)?;
         inside.ended(StatementRule::Layout)?;
         Ok(named)
     }

@@ -74,6 +74,7 @@ list_with number signature = record {
   entries = [];
   number = number ∷ [];
   scope = All;
+  points = [];
   signature = bits_at signature 79;
 }
 

@@ -1,0 +1,8 @@
+use Rattle.statements.proofs.StatementLaws.{statement_is_exact_under, stated_statements_are_read_wide}
+use Rattle.statements.proofs.laws.statement_profile_laws.Goals as goal
+
+pub returns-clause-exact : goal.returns-clause-exact
+returns-clause-exact c = statement_is_exact_under
+
+pub returns-clause-wide : goal.returns-clause-wide
+returns-clause-wide c = stated_statements_are_read_wide
