@@ -74,8 +74,15 @@ class Browser:
 
     def open(self, path):
         """Shows a file; the events before it are forgotten."""
+        self._load("Page.navigate", url=f"file://{path}")
+
+    def reload(self):
+        """Shows the same file again; the events before it are forgotten."""
+        self._load("Page.reload")
+
+    def _load(self, method, **words):
         self.events.clear()
-        self.call("Page.navigate", url=f"file://{path}")
+        self.call(method, **words)
         until = time.monotonic() + SECONDS
         while not any(event.get("method") == "Page.loadEventFired" for event in self.events):
             self.events.append(self._message(until))

@@ -278,8 +278,7 @@ class InABrowser(unittest.TestCase):
         self.assertLessEqual(browser.value("document.documentElement.scrollWidth"), 360)
         browser.call("Emulation.setScriptExecutionDisabled", value=True)
         try:
-            browser.call("Page.reload")
-            time.sleep(0.5)
+            browser.reload()
             self.assertTrue(browser.value("document.getElementById('slider').hidden"))
             self.assertIn("valid", browser.value("document.body.innerText"))
         finally:
