@@ -7,15 +7,13 @@ use Rattle.path.specs.Query.{Accepts}
 use Rattle.statements_crl.specs.CertificateList.{CertificateList}
 use Rattle.statements_ocsp.specs.Certificates.{certificates_in}
 use Rattle.statements_ocsp.specs.OcspResponse.{OcspResponse}
-use Rattle.statements.specs.CrlFact.{of_issuer, slot_of, fact_of_list}
+use Rattle.statements.specs.CrlFact.{crl_facts, of_issuer}
 use Rattle.statements.specs.Genuine.{◌then◌}
 use Rattle.statements.specs.Issuer.{identity_of}
 use Rattle.statements.specs.OcspFact.{fact_with, response_said, signer_or_fault, or_nothing, singles_of}
 use Rattle.statements.specs.Responder.{the_issuer, delegate, is_named_by, is_responder, may_respond, signs_itself, delegate_of, signer_of}
 use Rattle.statements.specs.Statement.{Statement}
-use Rattle.statements_facts.specs.Fact.{Fact}
 use Rattle.statements_facts.specs.Single.{SingleFact, some_singles}
-use Rattle.statements_facts.specs.Statement.{CrlSlot, CrlFact}
 use Rattle.statements_parts.specs.declared.fault.StatementFault.{StatementFault}
 use Rattle.relying_agreement.specs.Run.{facts_or_none}
 use Rattle.relying_texts.specs.Texts.{facts_of, facts_told, facts_under_each}
@@ -86,9 +84,7 @@ module _ (accepts other : Accepts) (issuer : Certificate) where
 
   statement_alike : (read : Statement) → Alike accepts other (asked_under read issuer) → facts_of accepts issuer read ≡ facts_of other issuer read
   statement_alike (Statement.OfList list) alike =
-      let said : Result (CrlSlot × CrlFact) StatementFault = Ok (slot_of issuer list, fact_of_list list) in
-      let fact : CrlSlot × CrlFact → Result (List Fact) StatementFault = λ said. Ok (Fact.OfCrl said.0 said.1 ∷ []) in
-      ap (λ (is : Result (Unit {0}) StatementFault). facts_or_none ((is then λ done. said) then fact)) (list_alike list alike)
+      ap (λ (is : Result (Unit {0}) StatementFault). facts_or_none (is then λ done. Ok (crl_facts issuer list))) (list_alike list alike)
   statement_alike (Statement.OfResponse response) alike =
       ap (λ (answer : Result (List SingleFact) StatementFault). facts_or_none (answer then λ singles. Ok (map (fact_with (identity_of issuer)) singles))) (said_alike response alike)
 

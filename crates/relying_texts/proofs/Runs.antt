@@ -4,7 +4,7 @@ use Rattle.cert.specs.Certificate.{Certificate, certificate}
 use Rattle.path.specs.Query.{Accepts}
 use Rattle.statements_facts.specs.Fact.{Fact}
 use Rattle.statements_parts.specs.declared.fault.StatementFault.{StatementFault}
-use Rattle.statements.specs.Statement.{Statement, genuine_statement, statement, statement_said}
+use Rattle.statements.specs.Statement.{Statement, genuine_statement, genuine_statement_under, statement, statement_said}
 use Rattle.relying_agreement.specs.Run.{Event, DeliveryAnswer, genuine_facts, facts_taken, facts_under, facts_or_none}
 use Rattle.relying_texts.specs.Texts.{facts_of, facts_under_each, facts_told, issuers_of}
 use Rattle.relying_texts.specs.Deliveries.{deliveries, delivery_answer, delivery_answers, AreRead, StatementsMakeARun}
@@ -19,7 +19,7 @@ module _ (accepts : Accepts) where
 
   -- what octets tell is what the statement tells that they are
   said_so : (c : Certificate) (text : List ℕ) (read : Statement) → statement text ≡ Ok read → genuine_statement accepts c text ≡ statement_said accepts c read
-  unfolding genuine_statement
+  unfolding genuine_statement_under
   said_so c text read is = rw is refl
 
   -- one delivery: what is taken of it is what is told

@@ -1,6 +1,6 @@
 -- What the code has at hand, as the definitions see it.
-use Rattle.std.specs.Prelude.{◌&&◌, ℕ, List, [], ◌∷◌, map, Option, Some, None, if◌then◌else◌}
-use Rattle.std.specs.List.{filter_map, flat_map}
+use Rattle.std.specs.Prelude.{◌&&◌, ℕ, Bool, List, [], ◌∷◌, map, Option, Some, None, if◌then◌else◌}
+use Rattle.std.specs.List.{filter_map, flat_map, list_any}
 use Rattle.std.specs.Str.{bytes_eq}
 use denote.Ref.{Bor}
 use Rattle.cert.specs.Certificate.{Certificate, seen_certificate}
@@ -10,9 +10,9 @@ use Rattle.path.specs.declared.query.Query as asked
 use Rattle.statements_crl.specs.CertificateList.{seen_list}
 use Rattle.statements_crl.specs.declared.list.Crl as list
 use Rattle.statements_facts.specs.declared.scope.Scope.{Scope}
-use Rattle.statements_facts.specs.Fact.{Fact}
+use Rattle.statements_facts.specs.Fact.{Fact, list_facts, slot_for}
 use Rattle.statements_facts.specs.Single.{SingleFact}
-use Rattle.statements_facts.specs.Statement.{IssuerIdentity, CrlSlot, CrlFact, OcspSlot, OcspFact, Holdings, at_point}
+use Rattle.statements_facts.specs.Statement.{IssuerIdentity, CrlSlot, CrlFact, OcspSlot, OcspFact, Holdings, at_point, kept_for, same_crl_slot, same_issuer}
 use Rattle.statements_facts.specs.Coming.{crl_for, ocsp_for}
 use Rattle.statements_facts.specs.Newest.{newer_crl, newer_ocsp, newest_in}
 use Rattle.statements.specs.Issuer.{identity_of}
@@ -38,9 +38,13 @@ issuers_in links = map (λ (link : Link). link.issuer) (map seen_link links)
 abbrev pub list_fact : list.Crl → CrlFact
 list_fact list = fact_of_list (seen_list list)
 
+-- the general names of the point where it is published; none of a whole list
+abbrev pub points_of : list.Crl → List (List ℕ)
+points_of list = (seen_list list).points
+
 -- what genuine contents tell of the certificates of an issuer
 abbrev pub facts_with : IssuerIdentity → Contents → List Fact
-facts_with issuer (C.List list) = Fact.OfCrl (record { issuer = issuer; scope = list.scope }) (list_fact list) ∷ []
+facts_with issuer (C.List list) = list_facts list.scope (list_fact list) (kept_for (points_of list) issuer)
 facts_with issuer (C.Singles singles) = map (fact_with issuer) singles
 
 abbrev pub facts_if_some : IssuerIdentity → Option Contents → List Fact
@@ -64,6 +68,19 @@ list_fact_at list = list_fact list.now
 -- the slot of the lists that an issuer publishes at a point; no octets stand for those that it publishes anywhere
 abbrev pub crl_slot_of : certificate.Certificate → List ℕ → Scope → CrlSlot
 crl_slot_of issuer point scope = record { issuer = at_point point (identity_seen issuer); scope = scope }
+
+-- The point is one of these names; of a whole list there are none, and no octets stand for anywhere.
+abbrev pub is_published_at : List (List ℕ) → List ℕ → Bool
+is_published_at [] point = bytes_eq [] point
+is_published_at (name ∷ names) point = list_any (λ other. bytes_eq other point) (name ∷ names)
+
+-- a list of the one with these names is kept for the other at the point
+abbrev pub is_kept_at : IssuerIdentity → List (List ℕ) → IssuerIdentity → List ℕ → Bool
+is_kept_at one names other point = list_any (λ issuer. same_issuer issuer (at_point point other)) (kept_for names one)
+
+-- a list of the issuer is kept in the slot
+abbrev pub is_kept_in : IssuerIdentity → list.Crl → CrlSlot → Bool
+is_kept_in issuer list slot = list_any (λ for. same_crl_slot (slot_for list.scope for) slot) (kept_for (points_of list) issuer)
 
 abbrev pub ocsp_slot_of : certificate.Certificate → List ℕ → List ℕ → OcspSlot
 ocsp_slot_of issuer name_hash serial = record { issuer = identity_seen issuer; name_hash = name_hash; serial = serial }

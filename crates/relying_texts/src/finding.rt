@@ -38,8 +38,9 @@ fn verdict_at(
     verdict_on(alloc, links, genuine, moment)
 }
 
-/// The verdict on the path of a valid candidate.
-fn verdict_on_candidate<V: Verifier>(
+/// The verdict on the path of a valid candidate, as `verdict` answers it. The path is not validated once more. The only error is lack of
+/// memory.
+pub fn verdict_on_candidate<V: Verifier>(
     alloc: Global,
     verifier: &V,
     search: &Search<'_, '_>,

@@ -12,7 +12,7 @@ mod same_issuer;
 mod verdicts;
 
 pub use deliveries::delivery_laws;
-pub use finding::find;
-pub use reading::{StatementsFault, read_statements};
+pub use finding::{find, verdict_on_candidate};
+pub use reading::{StatementsFault, read_statements, read_statements_under};
 pub use relying_agreement::Verdict;
 pub use verdicts::verdict;

@@ -1,34 +1,36 @@
 //! The newest list of an issuer, a point and a scope.
 
-ghost use Rattle.std.specs.Prelude.{◌≡◌, None, option_map};
+ghost use Rattle.std.specs.Prelude.{◌≡◌, Option, None, option_map};
 ghost use Rattle.std.specs.List.{filter_map};
 ghost use Rattle.std.specs.Option.{option_to_list};
 ghost use Rattle.statements_facts.specs.Coming.{crl_for};
 ghost use Rattle.statements_facts.specs.Newest.{held_after, newer_crl};
-ghost use Rattle.statements_facts.specs.Statement.{answer_for};
+ghost use Rattle.statements_facts.specs.Statement.{CrlFact, answer_for};
 ghost use Rattle.statements_facts.specs.Answer.{seen_crl};
 ghost use Rattle.relying_texts.specs.View.{crl_slot_of, facts_of_genuine, facts_in_all, list_fact, list_fact_at};
 
 use crate::contents::{Contents, GenuineStatement};
-use crate::same_issuer::is_issuer_at;
+use crate::same_issuer::is_kept_in;
 use cert::Certificate;
 use statements_crl::Crl;
 use statements_facts::{CrlAnswer, Scope};
 
-/// The list, if it is one of the issuer and the scope, published at the point; no octets stand for anywhere.
+/// The list, if it is one of the issuer and the scope, published at the point; no octets stand for anywhere. A point that it names twice
+/// counts once.
 fn list_for<'t, 'a>(
     statement: &'t GenuineStatement<'_, '_, 'a>,
     issuer: &Certificate<'_>,
     point: &[u8],
     scope: Scope,
 ) -> Option<&'t Crl<'a>>
-    ensures { option_to_list (option_map list_fact_at result)
-        ≡ filter_map (crl_for (crl_slot_of issuer.now point.now scope))
-        (facts_of_genuine statement.now) }
+    ensures { (held : Option CrlFact) →
+        held_after newer_crl held (option_to_list (option_map list_fact_at result))
+        ≡ held_after newer_crl held (filter_map (crl_for (crl_slot_of issuer.now point.now scope))
+        (facts_of_genuine statement.now)) }
 {
     match &statement.contents {
         Contents::List(list) => {
-            if is_issuer_at(statement.issuer, issuer, point) && list.scope == scope {
+            if is_kept_in(statement.issuer, list, issuer, point, scope) {
                 Some(list)
             } else {
                 None

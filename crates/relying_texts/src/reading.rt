@@ -3,8 +3,9 @@
 ghost use Rattle.std.specs.Prelude.{IfErr, IfOk, map};
 ghost use Rattle.path.specs.Reading.{texts_of};
 ghost use Rattle.statements.specs.Statement.{seen_statement};
-ghost use Rattle.relying_texts.specs.Reading.{AreStatementsRead, IsFirstStatementRefused};
+ghost use Rattle.relying_texts.specs.Reading.{AreStatementsRead, AreStatementsReadUnder, IsFirstStatementRefused, IsFirstStatementRefusedUnder};
 
+use cert::Profile;
 use statements::Statement;
 use statements_parts::ReadingFault;
 use std::alloc::Global;
@@ -29,9 +30,23 @@ pub fn read_statements<'a>(
     ensures refused { IfErr result (λ refusal.
         IsFirstStatementRefused (texts_of texts.now) refusal.statement refusal.fault) }
 {
+    read_statements_under(alloc, Profile::Stated, texts)
+}
+
+/// As `read_statements`, in a profile: each text as `Statement::read_under` reads it.
+pub fn read_statements_under<'a>(
+    alloc: Global,
+    profile: Profile,
+    texts: &[&'a [u8]],
+) -> Result<Vec<Statement<'a>>, StatementsFault>
+    ensures reads { IfOk result (λ read.
+        AreStatementsReadUnder profile (texts_of texts.now) (map seen_statement read.items)) }
+    ensures refused { IfErr result (λ refusal. IsFirstStatementRefusedUnder profile
+        (texts_of texts.now) refusal.statement refusal.fault) }
+{
     let mut statements = Vec::new(alloc);
     for (index, text) in texts.iter().enumerate() {
-        let statement = match Statement::read(alloc, text) {
+        let statement = match Statement::read_under(alloc, profile, text) {
             Ok(statement) => statement,
             Err(fault) => {
                 return Err(StatementsFault {

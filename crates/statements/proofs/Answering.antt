@@ -1,5 +1,5 @@
 -- Checks one after the other: what the first that fails answers.
-use Rattle.std.proofs.Common.{◌≡◌, ℕ, List, [], ◌∷◌, map, Result, Ok, Err, refl}
+use Rattle.std.proofs.Common.{◌≡◌, ℕ, List, map, Result, Ok, Err, refl}
 use Rattle.statements_parts.specs.Fault as reading
 use Rattle.statements_parts.specs.declared.fault.ReadingFault.{ReadingFault}
 use Rattle.statements_parts.specs.declared.fault.ReadingFault.TheVariants as read
@@ -7,16 +7,14 @@ use Rattle.statements_parts.specs.declared.fault.StatementRule.{StatementRule}
 use Rattle.statements_parts.specs.declared.fault.StatementFault.{StatementFault}
 use Rattle.statements_parts.specs.declared.fault.StatementFault.TheVariants.{Refused, OtherIssuer, BadSignature, NoSigner, NothingForIssuer, Memory}
 use Rattle.cert.specs.Certificate.{Certificate}
-use Rattle.statements_crl.specs.CertificateList.{CertificateList}
+use Rattle.cert.specs.declared.profile.Profile.{Profile}
 use Rattle.statements_ocsp.specs.OcspResponse.{OcspResponse}
-use Rattle.statements_facts.specs.Statement.{IssuerIdentity, CrlSlot, CrlFact}
+use Rattle.statements_facts.specs.Statement.{IssuerIdentity}
 use Rattle.statements_facts.specs.Single.{SingleFact, some_singles}
-use Rattle.statements_facts.specs.Fact.{Fact}
 use Rattle.statements.specs.Issuer.{identity_of}
-use Rattle.statements.specs.CrlFact.{list_said}
 use Rattle.statements.specs.Responder.{Signer, signer_of}
 use Rattle.statements.specs.OcspFact.{signer_or_fault, or_nothing, singles_of, response_said, fact_with}
-use Rattle.statements.specs.Statement.{Statement, genuine_statement, statement, statement_said}
+use Rattle.statements.specs.Statement.{Statement, genuine_statement_under, statement_under, statement_said}
 use Rattle.statements.specs.Genuine.{Accepts, ◌then◌, as_refused, RefusesUnlessFull, AnswersUnlessFull}
 
 -- what is not read is refused so
@@ -66,21 +64,15 @@ module _ (accepts : Accepts) (issuer : Certificate) where
   pub response_fails : (response : OcspResponse) (fault : StatementFault) → RefusesUnlessFull fault (response_said accepts issuer response) → RefusesUnlessFull fault (statement_said accepts issuer (Statement.OfResponse response))
   response_fails response fault fails = first_fails fault (response_said accepts issuer response) (λ singles. Ok (map (fact_with (identity_of issuer)) singles)) fails
 
-  pub list_fails : (list : CertificateList) (fault : StatementFault) → RefusesUnlessFull fault (list_said accepts issuer list) → RefusesUnlessFull fault (statement_said accepts issuer (Statement.OfList list))
-  list_fails list fault fails = first_fails fault (list_said accepts issuer list) (λ said. Ok (Fact.OfCrl said.0 said.1 ∷ [])) fails
-
   pub response_is : (response : OcspResponse) (identity : IssuerIdentity) (singles : List SingleFact) → response_said accepts issuer response ≡ Ok singles → identity ≡ identity_of issuer → statement_said accepts issuer (Statement.OfResponse response) ≡ Ok (map (fact_with identity) singles)
   response_is response identity singles said is = rw (said, is) refl
 
-  pub list_is : (list : CertificateList) (slot : CrlSlot) (fact : CrlFact) → list_said accepts issuer list ≡ Ok (slot, fact) → statement_said accepts issuer (Statement.OfList list) ≡ Ok (Fact.OfCrl slot fact ∷ [])
-  list_is list slot fact said = rw said refl
-
   -- ---- octets
 
-  pub not_read_fails : (octets : List ℕ) (fault : ReadingFault) → reading.StatementFailsUnlessFull fault (statement octets) → RefusesUnlessFull (reading.not_read fault) (genuine_statement accepts issuer octets)
-  unfolding genuine_statement
-  not_read_fails octets fault fails = unread fault (statement octets) (λ read. statement_said accepts issuer read) fails
+  pub not_read_fails : (profile : Profile) (octets : List ℕ) (fault : ReadingFault) → reading.StatementFailsUnlessFull fault (statement_under profile octets) → RefusesUnlessFull (reading.not_read fault) (genuine_statement_under profile accepts issuer octets)
+  unfolding genuine_statement_under
+  not_read_fails profile octets fault fails = unread fault (statement_under profile octets) (λ read. statement_said accepts issuer read) fails
 
-  pub read_says : (octets : List ℕ) (read : Statement) → statement octets ≡ Ok read → genuine_statement accepts issuer octets ≡ statement_said accepts issuer read
-  unfolding genuine_statement
-  read_says octets read is = rw is refl
+  pub read_says : (profile : Profile) (octets : List ℕ) (read : Statement) → statement_under profile octets ≡ Ok read → genuine_statement_under profile accepts issuer octets ≡ statement_said accepts issuer read
+  unfolding genuine_statement_under
+  read_says profile octets read is = rw is refl

@@ -1,5 +1,5 @@
 -- Statements are read and believed exactly where the standards say so.
-use Rattle.std.proofs.Common.{◌≡◌, ℕ, Bool, true, false, List, [], ◌∷◌, map, Result, Ok, Err, inl, inr, if◌then◌else◌, refl, sym}
+use Rattle.std.proofs.Common.{◌≡◌, ℕ, Bool, true, false, List, [], ◌∷◌, map, Result, Ok, Err, inl, inr, if◌then◌else◌, refl, sym, ap, ◌∙◌}
 use Rattle.asn.specs.DerLaws.{AreOctets}
 use Rattle.asn.specs.Outermost.{outermost}
 use Rattle.asn.specs.Members.{begins}
@@ -10,20 +10,21 @@ use Rattle.cert.specs.Certificate.{Certificate}
 use Rattle.cert.specs.declared.profile.Profile.{Profile}
 use Rattle.cert.specs.declared.profile.Profile.TheVariants.{Stated, Wide}
 use Rattle.statements_crl.specs.CertificateList.{CertificateList, certificate_list_at_under, certificate_list_under}
-use Rattle.statements_crl.specs.ListForms.{IsCertificateListUnder, IsCertificateListAtUnder}
-use Rattle.statements_crl.proofs.Laws.{list_is_exact_under, stated_is_wide}
+use Rattle.statements_crl.specs.ListForms.{IsCertificateList, IsCertificateListUnder, IsCertificateListAtUnder}
+use Rattle.statements_crl.proofs.Laws.{list_is_exact_under, stated_is_wide, stated_lists_are_whole}
 use Rattle.statements_ocsp.specs.Kind.{is_response}
 use Rattle.statements_ocsp.specs.OcspResponse.{OcspResponse, ocsp_response, ocsp_response_at}
 use Rattle.statements_ocsp.specs.ResponseForms.{IsOcspResponse, IsOcspResponseAt}
 use Rattle.statements_ocsp.proofs.Laws.{response_is_exact}
 use Rattle.statements_parts.specs.Fault.{as_statement_der}
 use Rattle.statements_parts.specs.declared.fault.StatementRule.{StatementRule}
-use Rattle.statements_facts.specs.Fact.{Fact}
-use Rattle.statements.specs.CrlFact.{list_said}
+use Rattle.statements_facts.specs.Fact.{Fact, list_facts}
+use Rattle.statements_facts.specs.Statement.{kept_for}
+use Rattle.statements.specs.CrlFact.{fact_of_list, crl_facts, slot_of}
 use Rattle.statements.specs.Genuine.{Accepts, ◌then◌, as_refused}
 use Rattle.statements.specs.Issuer.{identity_of}
 use Rattle.statements.specs.OcspFact.{fact_with, response_said}
-use Rattle.statements.specs.Statement.{Statement, StatementIsExact, StatementIsExactUnder, IsStatementUnder, StatedStatementsAreReadWide, IsGenuine, GenuineStatementsAreFacts, genuine_statement, statement, statement_at_under, statement_under, statement_said}
+use Rattle.statements.specs.Statement.{Statement, StatementIsExact, StatementIsExactUnder, IsStatementUnder, StatedStatementsAreReadWide, IsGenuine, IsGenuineUnder, GenuineStatementsAreFacts, GenuineStatementsAreFactsUnder, genuine_statement_under, statement, statement_at_under, statement_under, statement_said}
 use Rattle.statements.proofs.Genuineness.{then_ok, said_is, was_read, list_says, says_list}
 use Rattle.statements.proofs.Responses.{response_says, says_response}
 
@@ -106,31 +107,63 @@ stated_statements_are_read_wide octets read fits e =
 
 -- ---- what is genuine
 
-module _ (accepts : Accepts) (issuer : Certificate) (octets : List ℕ) (facts : List Fact) (fits : AreOctets octets) where
-  is_said : (read : Statement) → statement octets ≡ Ok read → statement_said accepts issuer read ≡ Ok facts → IsGenuine accepts issuer octets facts
+module _ (profile : Profile) (accepts : Accepts) (issuer : Certificate) (octets : List ℕ) (facts : List Fact) (fits : AreOctets octets) where
+  is_said : (read : Statement) → statement_under profile octets ≡ Ok read → statement_said accepts issuer read ≡ Ok facts → IsGenuineUnder profile accepts issuer octets facts
   is_said (Statement.OfList list) read said =
-      let told = then_ok (list_said accepts issuer list) (λ said. Ok (Fact.OfCrl said.0 said.1 ∷ [])) facts said in
-      let says = list_says accepts issuer list told.0.0 told.0.1 told.1 in
-      inl (told.0.0, told.0.1, record { list = list; is_list = list_read Stated octets list fits read; named = says.named; signed = says.signed; slot_is = says.slot_is; fact_is = says.fact_is }, sym (said_is (Fact.OfCrl told.0.0 told.0.1 ∷ []) facts told.2))
+      let says = list_says accepts issuer list facts said in
+      inl record { list = list; is_list = list_read profile octets list fits read; named = says.named; signed = says.signed; facts_are = says.facts_are }
   is_said (Statement.OfResponse response) read said =
       let told = then_ok (response_said accepts issuer response) (λ singles. Ok (map (fact_with (identity_of issuer)) singles)) facts said in
       let says = response_says accepts issuer response told.0 told.1 in
-      inr (told.0, record { response = response; is_response = response_read Stated octets response fits read; signer = says.signer; is_signer = says.is_signer; singles_are = says.singles_are; some = says.some }, sym (said_is (map (fact_with (identity_of issuer)) told.0) facts told.2))
+      inr (told.0, record { response = response; is_response = response_read profile octets response fits read; signer = says.signer; is_signer = says.is_signer; singles_are = says.singles_are; some = says.some }, sym (said_is (map (fact_with (identity_of issuer)) told.0) facts told.2))
 
-  is_genuine : genuine_statement accepts issuer octets ≡ Ok facts → IsGenuine accepts issuer octets facts
-  unfolding genuine_statement
+  is_genuine : genuine_statement_under profile accepts issuer octets ≡ Ok facts → IsGenuineUnder profile accepts issuer octets facts
+  unfolding genuine_statement_under
   is_genuine e =
-      let read = then_ok (as_refused (statement octets)) (λ read. statement_said accepts issuer read) facts e in
-      is_said read.0 (was_read (statement octets) read.0 read.1) read.2
+      let read = then_ok (as_refused (statement_under profile octets)) (λ read. statement_said accepts issuer read) facts e in
+      is_said read.0 (was_read (statement_under profile octets) read.0 read.1) read.2
 
-  genuine_is : IsGenuine accepts issuer octets facts → genuine_statement accepts issuer octets ≡ Ok facts
-  unfolding genuine_statement
-  genuine_is (inl (slot, fact, is, facts_are)) =
-      let said = says_list accepts issuer is.list slot fact record { named = is.named; signed = is.signed; slot_is = is.slot_is; fact_is = is.fact_is } in
-      rw (read_list Stated octets is.list fits is.is_list, said, facts_are) refl
+  genuine_is : IsGenuineUnder profile accepts issuer octets facts → genuine_statement_under profile accepts issuer octets ≡ Ok facts
+  unfolding genuine_statement_under
+  genuine_is (inl is) =
+      let said = says_list accepts issuer is.list facts record { named = is.named; signed = is.signed; facts_are = is.facts_are } in
+      rw (read_list profile octets is.list fits is.is_list, said) refl
   genuine_is (inr (singles, is, facts_are)) =
       let said = says_response accepts issuer is.response singles record { signer = is.signer; is_signer = is.is_signer; singles_are = is.singles_are; some = is.some } in
-      rw (read_response Stated octets is.response fits is.is_response, said, facts_are) refl
+      rw (read_response profile octets is.response fits is.is_response, said, facts_are) refl
+
+pub statements_are_facts_under : (profile : Profile) → GenuineStatementsAreFactsUnder profile
+statements_are_facts_under profile accepts issuer octets facts fits = (is_genuine profile accepts issuer octets facts fits, genuine_is profile accepts issuer octets facts fits)
+
+-- ---- and in the stated profile, where lists are whole
+
+module _ (accepts : Accepts) (issuer : Certificate) (octets : List ℕ) (facts : List Fact) (fits : AreOctets octets) where
+  is_whole : (list : CertificateList) → IsCertificateList octets list → list.points ≡ []
+  is_whole list is = stated_lists_are_whole octets list fits ((list_is_exact_under Stated octets list fits).1 is)
+
+  one_fact : (list : CertificateList) → IsCertificateList octets list → crl_facts issuer list ≡ Fact.OfCrl (slot_of issuer list) (fact_of_list list) ∷ []
+  one_fact list is = ap (λ points. list_facts list.scope (fact_of_list list) (kept_for points (identity_of issuer))) (is_whole list is)
+
+  stated_is : IsGenuineUnder Stated accepts issuer octets facts → IsGenuine accepts issuer octets facts
+  stated_is (inl is) = inl (
+    slot_of issuer is.list,
+    fact_of_list is.list,
+    record { list = is.list; is_list = is.is_list; named = is.named; signed = is.signed; slot_is = refl; fact_is = refl },
+    is.facts_are ∙ one_fact is.list is.is_list,
+  )
+  stated_is (inr is) = inr is
+
+  is_stated : IsGenuine accepts issuer octets facts → IsGenuineUnder Stated accepts issuer octets facts
+  is_stated (inl (slot, fact, is, facts_are)) = inl record {
+    list = is.list;
+    is_list = is.is_list;
+    named = is.named;
+    signed = is.signed;
+    facts_are = rw (facts_are, is.slot_is, is.fact_is) (sym (one_fact is.list is.is_list));
+  }
+  is_stated (inr is) = inr is
 
 pub statements_are_facts : GenuineStatementsAreFacts
-statements_are_facts accepts issuer octets facts fits = (is_genuine accepts issuer octets facts fits, genuine_is accepts issuer octets facts fits)
+statements_are_facts accepts issuer octets facts fits =
+    let under = statements_are_facts_under Stated accepts issuer octets facts fits in
+    (λ e. stated_is accepts issuer octets facts fits (under.0 e), λ is. under.1 (is_stated accepts issuer octets facts fits is))

@@ -1,6 +1,7 @@
 -- Tests and facts of certificates, lists and responses as the code has them: each has the name of what it says of their fields, with
 -- `_seen` behind it.
-use Rattle.std.specs.Prelude.{◌≡◌, ◌≢◌, ℤ, Bool, false, [], Result, Ok}
+use Rattle.std.specs.Prelude.{◌≡◌, ◌≢◌, ℤ, Bool, false, List, [], ◌∷◌, map, Result, Ok}
+use Rattle.std.specs.Global.{Vec}
 use Rattle.cert.specs.Certificate.{seen_certificate}
 use Rattle.cert.specs.declared.certificate.Certificate as certificate
 use Rattle.statements_crl.specs.CertificateList.{seen_list}
@@ -14,9 +15,9 @@ use Rattle.statements_ocsp.specs.declared.single.SingleResponse as single
 use Rattle.statements_parts.specs.declared.fault.StatementFault.{StatementFault}
 use Rattle.statements_facts.specs.Fact.{seen_issuer}
 use Rattle.statements_facts.specs.Single.{SingleFact}
-use Rattle.statements_facts.specs.Statement.{CrlSlot, Window}
+use Rattle.statements_facts.specs.Statement.{IssuerIdentity, Window}
 use Rattle.statements_facts.specs.declared.issuer.Issuer as facts
-use Rattle.statements.specs.CrlFact.{of_issuer, slot_of}
+use Rattle.statements.specs.CrlFact.{issuers_of, of_issuer}
 use Rattle.statements.specs.Genuine.{Accepts}
 use Rattle.statements.specs.Issuer.{identity_of}
 use Rattle.statements.specs.OcspFact.{single_fact, window_of}
@@ -37,8 +38,12 @@ of_issuer_seen accepts issuer list = of_issuer accepts (seen_certificate issuer)
 abbrev pub IsOfIssuer : Accepts → certificate.Certificate → list.Crl → Type 0
 IsOfIssuer accepts issuer list = of_issuer_seen accepts issuer list ≡ Ok tt
 
-abbrev pub slot_of_seen : certificate.Certificate → list.Crl → CrlSlot
-slot_of_seen issuer list = slot_of (seen_certificate issuer) (seen_list list)
+abbrev pub issuers_of_seen : certificate.Certificate → list.Crl → List IssuerIdentity
+issuers_of_seen issuer list = issuers_of (seen_certificate issuer) (seen_list list)
+
+-- these are the first of them, and the others
+abbrev pub AreIssuersOf : certificate.Certificate → list.Crl → facts.Issuer → Vec facts.Issuer → Type 0
+AreIssuersOf issuer list first others = seen_issuer first ∷ map seen_issuer others.items ≡ issuers_of_seen issuer list
 
 -- ---- responses
 

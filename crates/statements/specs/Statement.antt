@@ -18,7 +18,7 @@ use Rattle.statements_parts.specs.declared.fault.StatementRule.{StatementRule}
 use Rattle.statements_facts.specs.Fact.{Fact}
 use Rattle.statements_facts.specs.Single.{SingleFact}
 use Rattle.statements_facts.specs.Statement.{CrlSlot, CrlFact}
-use Rattle.statements.specs.CrlFact.{IsCrlFact, list_said}
+use Rattle.statements.specs.CrlFact.{AreCrlFacts, IsCrlFact, list_said}
 use Rattle.statements.specs.Genuine.{Accepts, ◌then◌, as_refused}
 use Rattle.statements.specs.Issuer.{identity_of}
 use Rattle.statements.specs.OcspFact.{IsGenuineResponse, fact_with, response_said}
@@ -78,16 +78,27 @@ StatedStatementsAreReadWide =
 
 -- The facts that a statement tells of its issuer's certificates, in order, or why it is none of the issuer.
 abbrev pub statement_said : Accepts → Certificate → Statement → Result (List Fact) StatementFault
-statement_said accepts issuer (Statement.OfList list) =
-    list_said accepts issuer list then λ said. Ok (Fact.OfCrl said.0 said.1 ∷ [])
+statement_said accepts issuer (Statement.OfList list) = list_said accepts issuer list
 statement_said accepts issuer (Statement.OfResponse response) =
     response_said accepts issuer response then λ singles. Ok (map (fact_with (identity_of issuer)) singles)
 
--- The checks in their order: whether the octets are read, and what they say.
-unfoldable pub genuine_statement : Accepts → Certificate → List ℕ → Result (List Fact) StatementFault
-genuine_statement accepts issuer octets = as_refused (statement octets) then λ read. statement_said accepts issuer read
+-- The checks in their order: whether the octets are read in a profile, and what they say.
+unfoldable pub genuine_statement_under : Profile → Accepts → Certificate → List ℕ → Result (List Fact) StatementFault
+genuine_statement_under profile accepts issuer octets =
+    as_refused (statement_under profile octets) then λ read. statement_said accepts issuer read
 
--- The octets are a list of the issuer, or a response that may answer for it, and tell these facts. No moment is looked at.
+-- The same in the stated profile.
+abbrev pub genuine_statement : Accepts → Certificate → List ℕ → Result (List Fact) StatementFault
+genuine_statement = genuine_statement_under Stated
+
+-- The octets are a list of the issuer in a profile, or a response that may answer for it, and tell these facts. No moment is looked at.
+abbrev pub IsGenuineUnder : Profile → Accepts → Certificate → List ℕ → List Fact → Type 0
+IsGenuineUnder profile accepts issuer octets facts =
+    AreCrlFacts profile accepts issuer octets facts
+    ⊎ ((singles : List SingleFact) × IsGenuineResponse accepts issuer octets singles
+    × (facts ≡ map (fact_with (identity_of issuer)) singles))
+
+-- In the stated profile a list is whole: it says one thing.
 abbrev pub IsGenuine : Accepts → Certificate → List ℕ → List Fact → Type 0
 IsGenuine accepts issuer octets facts =
     ((slot : CrlSlot) × (fact : CrlFact) × IsCrlFact accepts issuer octets slot fact × (facts ≡ Fact.OfCrl slot fact ∷ []))
@@ -95,6 +106,11 @@ IsGenuine accepts issuer octets facts =
     × (facts ≡ map (fact_with (identity_of issuer)) singles))
 
 -- The checks succeed exactly there.
+abbrev pub GenuineStatementsAreFactsUnder : Profile → Type 0
+GenuineStatementsAreFactsUnder profile =
+    (accepts : Accepts) (issuer : Certificate) (octets : List ℕ) (facts : List Fact) → AreOctets octets →
+    (genuine_statement_under profile accepts issuer octets ≡ Ok facts) ↔ IsGenuineUnder profile accepts issuer octets facts
+
 abbrev pub GenuineStatementsAreFacts : Type 0
 GenuineStatementsAreFacts =
     (accepts : Accepts) (issuer : Certificate) (octets : List ℕ) (facts : List Fact) → AreOctets octets →

@@ -2,7 +2,7 @@
 
 ghost use Rattle.statements.specs.OneIssuer.{IssuerDecides};
 ghost use Rattle.statements.specs.Responder.{SignersAreFound};
-ghost use Rattle.statements.specs.Statement.{GenuineStatementsAreFacts, StatedStatementsAreReadWide, StatementIsExact, StatementIsExactUnder};
+ghost use Rattle.statements.specs.Statement.{GenuineStatementsAreFacts, GenuineStatementsAreFactsUnder, StatedStatementsAreReadWide, StatementIsExact, StatementIsExactUnder};
 
 /// Octets are read as a statement exactly if they are a list or a response as the standards lay them out. A response has a signer exactly
 /// if one is found. A statement is genuine exactly if it is a list that names the issuer, whose signature is accepted under the issuer's
@@ -20,8 +20,9 @@ pub fn identity_laws()
 {}
 
 /// In either profile octets are read as a statement exactly if they are one. What is read in the stated one is read as the same in the
-/// wide one.
+/// wide one. A statement is genuine exactly as `statement_laws` says, but that a list is one in the profile.
 pub fn statement_profile_laws()
     ensures exact { (profile : _) → StatementIsExactUnder profile }
     ensures wide { StatedStatementsAreReadWide }
+    ensures genuine { (profile : _) → GenuineStatementsAreFactsUnder profile }
 {}

@@ -16,4 +16,4 @@ pub use genuine_response::response_singles;
 pub use issuing::issuer_of;
 pub use laws::{identity_laws, statement_laws, statement_profile_laws};
 pub use responder::{is_named_by, may_sign_responses};
-pub use statement::{Statement, genuine};
+pub use statement::{Statement, genuine, genuine_under};

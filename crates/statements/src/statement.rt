@@ -6,7 +6,7 @@ ghost use Rattle.cert.specs.Certificate.{seen_certificate};
 ghost use Rattle.statements_facts.specs.Fact.{facts_in};
 ghost use Rattle.statements_parts.specs.Fault.{StatementGivesUnlessFull};
 ghost use Rattle.statements.specs.Genuine.{AnswersUnlessFull};
-ghost use Rattle.statements.specs.Statement.{genuine_statement, seen_statement, statement, statement_at, statement_at_under, statement_said, statement_under};
+ghost use Rattle.statements.specs.Statement.{genuine_statement, genuine_statement_under, seen_statement, statement, statement_at, statement_at_under, statement_said, statement_under};
 
 use crate::genuine_list::list_facts;
 use crate::genuine_response::response_facts;
@@ -47,7 +47,7 @@ impl<'a> Statement<'a> {
 
     /// As `read`, in a profile: that of `Crl::read_under`. Responses are read alike in both.
     #[tactic(auto, unfolding(crate::specs::Statement::statement_under))]
-    pub(crate) fn read_under(
+    pub fn read_under(
         alloc: Global,
         profile: Profile,
         octets: &'a [u8],
@@ -61,7 +61,7 @@ impl<'a> Statement<'a> {
 
     /// As `read_under`, of a value in the text handed to `asn::whole`, with offsets in that text.
     #[tactic(auto, unfolding(crate::specs::Statement::statement_at_under))]
-    pub(crate) fn at_under(
+    pub fn at_under(
         alloc: Global,
         profile: Profile,
         value: Tlv<'a>,
@@ -79,7 +79,7 @@ impl<'a> Statement<'a> {
     /// The facts of a statement of the issuer (RFC 5280, 6.3.3 (f), (g); RFC 6960, 3.2). The first fault is reported: of a list, that it
     /// is one of another issuer, or that its signature is not accepted under the issuer's key; of a response, as of `response_singles`.
     /// Whether the statement is current is not checked. Time is n log n in the octets, and memory is taken for the entries of a list.
-    #[tactic(auto, using(crate::proofs::Answering::response_fails, crate::proofs::Answering::list_fails, crate::proofs::Answering::response_is, crate::proofs::Answering::list_is))]
+    #[tactic(auto, using(crate::proofs::Answering::response_fails, crate::proofs::Answering::response_is))]
     pub fn facts<V: Verifier>(
         &self,
         alloc: Global,
@@ -99,7 +99,6 @@ impl<'a> Statement<'a> {
 }
 
 /// The facts of a statement of the issuer: `Statement::read`, and then `facts`.
-#[tactic(auto, using(crate::proofs::Answering::not_read_fails, crate::proofs::Answering::read_says))]
 pub fn genuine<'a, V: Verifier>(
     alloc: Global,
     verifier: &V,
@@ -109,6 +108,21 @@ pub fn genuine<'a, V: Verifier>(
     ensures { AnswersUnlessFull facts_in result
         (genuine_statement (V.accepts verifier.now) (seen_certificate issuer.now) octets.now) }
 {
-    let statement = Statement::read(alloc, octets)?;
+    genuine_under(alloc, Profile::Stated, verifier, issuer, octets)
+}
+
+/// The same in a profile: `Statement::read_under`, and then `facts`.
+#[tactic(auto, using(crate::proofs::Answering::not_read_fails, crate::proofs::Answering::read_says))]
+pub fn genuine_under<'a, V: Verifier>(
+    alloc: Global,
+    profile: Profile,
+    verifier: &V,
+    issuer: &Certificate<'a>,
+    octets: &'a [u8],
+) -> Result<Facts<'a>, StatementFault>
+    ensures { AnswersUnlessFull facts_in result (genuine_statement_under profile
+        (V.accepts verifier.now) (seen_certificate issuer.now) octets.now) }
+{
+    let statement = Statement::read_under(alloc, profile, octets)?;
     statement.facts(alloc, verifier, issuer)
 }

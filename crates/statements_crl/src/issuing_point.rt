@@ -84,7 +84,7 @@ impl<'a> IssuingPoint<'a> {
         }
     }
 
-    /// The same, inside the OCTET STRING of the extension; `None` for a value that is none.
+    /// The same, inside the OCTET STRING of the extension; `None` for another value.
     #[tactic(auto, unfolding(crate::specs::IssuingPoint::published_in))]
     fn published_in(octet_string: Tlv<'a>) -> Option<IssuingPoint<'a>>
         ensures { seen seen_issuing_point result ≡ published_in (seen_tlv octet_string.entry) }

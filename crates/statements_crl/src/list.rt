@@ -140,8 +140,7 @@ impl<'a> Crl<'a> {
     }
 
     /// As `read`, in a profile. In the wide one issuingDistributionPoint (5.2.5) may also have a full name, alone or with one of the two
-    /// flags; the list has the names as its `points`. What such a list says may not be stored: `statements` takes a list for one that is
-    /// published anywhere, and reads no other.
+    /// flags; the list has the names as its `points`.
     #[tactic(auto, unfolding(crate::specs::CertificateList::certificate_list_under))]
     pub fn read_under(
         alloc: Global,

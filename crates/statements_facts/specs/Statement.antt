@@ -1,5 +1,5 @@
 -- What signed statements say of certificates, and what is held of them (RFC 5280, 5; RFC 6960, 4.2).
-use Rattle.std.specs.Prelude.{◌&&◌, ◌++◌, ℕ, ℤ, Bool, true, false, List, Option, None}
+use Rattle.std.specs.Prelude.{◌&&◌, ◌++◌, ℕ, ℤ, Bool, true, false, List, [], ◌∷◌, map, Option, None}
 use Rattle.std.specs.Str.{bytes_eq}
 use Rattle.statements_facts.specs.declared.scope.Scope.{Scope}
 use Rattle.statements_facts.specs.declared.scope.Scope.TheVariants.{All, User, Ca}
@@ -15,6 +15,11 @@ pub record IssuerIdentity : Type 0 where
 -- so what is held under the issuer at a point is apart from what is held under the issuer
 abbrev pub at_point : List ℕ → IssuerIdentity → IssuerIdentity
 at_point point issuer = record { name = issuer.name ++ point; key_info = issuer.key_info }
+
+-- for whom a list of an issuer is kept, in order: the issuer, or, if the list is published at points, the issuer at each of them
+abbrev pub kept_for : List (List ℕ) → IssuerIdentity → List IssuerIdentity
+kept_for [] issuer = issuer ∷ []
+kept_for (point ∷ points) issuer = map (λ name. at_point name issuer) (point ∷ points)
 
 -- when a statement counts: from thisUpdate until nextUpdate (RFC 5280, 5.1.2.4 and 5.1.2.5; RFC 6960, 4.2.2.1)
 pub record Window : Type 0 where

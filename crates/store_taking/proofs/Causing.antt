@@ -12,7 +12,11 @@ use Rattle.sqlite.specs.Effect.{Database}
 use Rattle.sqlite.specs.State.{State, HasCleanDisk, Survives}
 use Rattle.statements_facts.specs.declared.fact.CrlFacts.{CrlFacts}
 use Rattle.statements_facts.specs.declared.fact.Facts.{Facts}
+use Rattle.statements_facts.specs.declared.issuer.Issuer.{Issuer}
+use Rattle.statements_facts.specs.declared.scope.Scope.{Scope}
 use Rattle.statements_facts.specs.declared.single.Single.{Single}
+use Rattle.statements_facts.specs.Fact.{Fact, crl_fact, facts_in_list, seen_issuer, slot_for}
+use Rattle.statements_facts.specs.Listed.{ListedSerial}
 use Rattle.statements_facts.specs.Single.{SingleFact, seen_single}
 use Rattle.statements_facts.specs.Statement.{IssuerIdentity, OcspFact}
 use Rattle.store_sql.specs.Cause.{MayRefuse}
@@ -20,15 +24,16 @@ use Rattle.store_sql.specs.declared.fault.StoreFault.{StoreFault}
 use Rattle.store_sql.specs.declared.fault.StoreFault.TheVariants.{Store, Schema, Memory}
 use Rattle.store_sql.specs.Fault.{fault_from}
 use Rattle.store_sql.proofs.Laws.{begun_refuses, commit_refuses, later_refuses, sooner_refuses}
-use Rattle.store_rows.specs.Contents.{CrlRow, SingleRow, Contents, id_of, single_row, is_single_of}
-use Rattle.store_rows.specs.Holding.{HasRoom, IsSaid, next_id, with_issuer, with_single}
+use Rattle.store_rows.specs.Contents.{CrlHead, CrlRow, SingleRow, Contents, crl_row, id_of, is_crl_of, scope_number, single_row, is_single_of}
+use Rattle.store_rows.specs.Holding.{FitInList, HasRoom, IsNumbered, IsSaid, next_id, with_crl, with_issuer, with_single}
 use Rattle.store_rows.specs.Room.{CanPutSingle, IssuerFitsRow, SingleFitsRow, LeavesIds, CrlsLeaveAnId, SinglesLeaveIds, EntriesFit}
 use Rattle.store_rows.specs.Steps.{HasFound, Fails, IsCaused, IsCausedOr, IsCausedIfRoom, Moves}
 use Rattle.store_maps.specs.Held.{held_in}
 use Rattle.store_taking.specs.Passing.{KnowsId}
 use Rattle.store_taking.specs.Room.{HasRoomFor, IsStoreWithRoom, KnowsWithRoom, LacksWithRoom, Knows, IsCausedOver, ListFits, FactsFit, HasRoomForFacts}
 use Rattle.store_taking.proofs.Chains.{still_holds}
-use Rattle.store_taking.proofs.Forms.{all_and, all_as, all_filtered, issuer_in_form, issuer_owned, id_below, last_is, new_id, single_in_form, single_owned}
+use Rattle.store_taking.specs.Lists.{with_list}
+use Rattle.store_taking.proofs.Forms.{all_and, all_as, all_filtered, crl_in_form, entries_in_form, issuer_in_form, issuer_owned, id_below, last_is, list_owned, new_id, scope_low, single_in_form, single_owned}
 use Rattle.store_maps.proofs.HeldLaws.{same_held}
 
 -- ---- room
@@ -46,6 +51,10 @@ last_leaves : (n : ℕ) (s : ℤ) (xs : List SingleRow) → LeavesIds n s → Al
 last_leaves n s [] first h = first
 last_leaves n s (x ∷ xs) first h = last_leaves n (x.id +ℤ pos 1) xs (next_leaves n x.id h.0) h.1
 
+last_crl_leaves : (n : ℕ) (s : ℤ) (xs : List CrlRow) → LeavesIds n s → AllByRecursion (λ (row : CrlRow). LeavesIds (suc n) row.id) xs → LeavesIds n (fold (λ _ r. id_in (rowid r) +ℤ pos 1) s (map crl_row xs))
+last_crl_leaves n s [] first h = first
+last_crl_leaves n s (x ∷ xs) first h = last_crl_leaves n (x.id +ℤ pos 1) xs (next_leaves n x.id h.0) h.1
+
 first_leaves : (n : ℕ) → n < 9223372036854775807 → LeavesIds n (pos 1)
 first_leaves n few = record { low = grind (arith, ints); high = grind (arith, ints) }
 
@@ -60,6 +69,19 @@ room_for_single issuers rows id single it room =
       crls = all_as (λ (row : CrlRow). LeavesIds (suc rows) row.id) (λ (row : CrlRow). LeavesIds rows row.id) it.crls (λ row l. leaves_fewer rows row.id l) room.crls;
       singles = all_and (λ (row : SingleRow). LeavesIds rows row.id) others _ (all_as (λ (row : SingleRow). LeavesIds (suc rows) row.id) (λ (row : SingleRow). LeavesIds rows row.id) others (λ row l. leaves_fewer rows row.id l) left)
           (last_leaves rows (pos 1) others (first_leaves rows few) left);
+    }
+
+pub room_for_list : (issuers rows id : ℕ) (scope : Scope) (head : CrlHead) (listed : List ListedSerial) (it : Contents) → HasRoomFor issuers (suc rows) it → HasRoomFor issuers rows (with_list id scope head listed it)
+room_for_list issuers rows id scope head listed it room =
+    let few : rows < 9223372036854775807 = let f = room.few in omega (arith, f) in
+    let others = filter (λ row. not (is_crl_of id scope row)) it.crls in
+    let left = all_filtered (λ (row : CrlRow). LeavesIds (suc rows) row.id) (λ row. not (is_crl_of id scope row)) it.crls room.crls in
+    record {
+      new_issuers = room.new_issuers;
+      few = few;
+      crls = all_and (λ (row : CrlRow). LeavesIds rows row.id) others _ (all_as (λ (row : CrlRow). LeavesIds (suc rows) row.id) (λ (row : CrlRow). LeavesIds rows row.id) others (λ row l. leaves_fewer rows row.id l) left)
+          (last_crl_leaves rows (pos 1) others (first_leaves rows few) left);
+      singles = all_as (λ (row : SingleRow). LeavesIds (suc rows) row.id) (λ (row : SingleRow). LeavesIds rows row.id) it.singles (λ row l. leaves_fewer rows row.id l) room.singles;
     }
 
 pub room_for_issuer : (issuers rows : ℕ) (identity : IssuerIdentity) (it : Contents) → HasRoomFor (suc issuers) rows it → HasRoomFor issuers rows (with_issuer identity it)
@@ -216,7 +238,7 @@ module _ (identity : IssuerIdentity) (id issuers rows : ℕ) where
       later_refuses old mid new _ _ first second clean
       (caused e store.origin store.contents (still_holds old mid store.origin store.contents there store.rows) store.form (single_room issuers rows store.contents before.room, fits))
 
-  -- a single response that is left out takes no room
+  -- what is left out takes no room
   pub room_if_left : {A : Type 0} (old new : State) (P : Contents → A → Type 0) (a : A) → HasFound old new P a → KnowsWithRoom identity id issuers (suc rows) old.now → IsStoreWithRoom issuers rows new.now
   room_if_left old new P a answer before =
       let store = before.was.store in
@@ -227,7 +249,26 @@ module _ (identity : IssuerIdentity) (id issuers rows : ℕ) where
         room = fewer_rows issuers rows store.contents before.room;
       }
 
-  -- and one that is put takes one id
+  -- and what is put takes one id
+  pub room_if_list_put : {A : Type 0} (old mid new : State) (scope : Scope) (head : CrlHead) (listed : List ListedSerial) (P : Contents → A → Type 0) (a : A) → HasFound old mid P a
+      → Moves mid new (with_list id scope head listed) → IsNumbered head → FitInList listed → HasRoom id → KnowsWithRoom identity id issuers (suc rows) old.now → IsStoreWithRoom issuers rows new.now
+  room_if_list_put old mid new scope head listed P a answer moves numbered formed room before =
+      let store = before.was.store in
+      let it = store.contents in
+      let there = (answer.rows store.origin it store.rows store.form).0 in
+      record {
+        held = held_in (with_list id scope head listed it);
+        store = record {
+          origin = store.origin;
+          contents = with_list id scope head listed it;
+          rows = moves.rows store.origin it (still_holds old mid store.origin it there store.rows) store.form;
+          form = entries_in_form (with_crl id scope head it) id (scope_number scope) listed (crl_in_form it id scope head store.form numbered) room (scope_low scope) formed.few formed.ascend formed.bytes;
+          owned = list_owned it id scope head listed store.owned (id_below it.issuers identity id store.rows.issuers_rise before.was.known);
+          held_is = refl;
+        };
+        room = room_for_list issuers rows id scope head listed it before.room;
+      }
+
   pub room_if_put : {A : Type 0} (old mid new : State) (name_hash serial : List ℕ) (said : OcspFact) (P : Contents → A → Type 0) (a : A) → HasFound old mid P a
       → Moves mid new (with_single id (record { name_hash = name_hash; serial = serial; fact = said })) → IsSaid said → KnowsWithRoom identity id issuers (suc rows) old.now → IsStoreWithRoom issuers rows new.now
   room_if_put old mid new name_hash serial said P a answer moves formed before =
@@ -247,16 +288,28 @@ module _ (identity : IssuerIdentity) (id issuers rows : ℕ) where
         room = room_for_single issuers rows id (record { name_hash = name_hash; serial = serial; fact = said }) it before.room;
       }
 
--- ---- single responses, one after the other
+-- ---- one after the other
+
+pub as_many : {X Y : Type 0} (f : X → Y) (xs : List X) → length (map f xs) ≡ length xs
+as_many f [] = refl
+as_many f (x ∷ xs) = ap suc (as_many f xs)
+
+issuer_at : (all : List Issuer) (k : ℕ) (d : Issuer) → k < length all → AllByRecursion IssuerFitsRow (map seen_issuer all) → IssuerFitsRow (seen_issuer (get_or all k d))
+issuer_at [] k d low h = absurd (omega (arith, low))
+issuer_at (x ∷ all) zero d low h = h.0
+issuer_at (x ∷ all) (suc k) d low h = issuer_at all k d (omega (arith, low)) h.1
+
+pub issuer_fits_at : (all : List Issuer) (k : ℕ) (next : Issuer) → k < length all → next ≡ get_or all k next → AllByRecursion IssuerFitsRow (map seen_issuer all) → IssuerFitsRow (seen_issuer next)
+issuer_fits_at all k next low is h = subst (λ issuer. IssuerFitsRow (seen_issuer issuer)) (sym is) (issuer_at all k next low h)
+
+-- a fact for the first, and one for each other
+pub one_each : (list : CrlFacts) → length (facts_in_list list) ≡ suc (length list.others.items)
+one_each list = ap suc (as_many (λ issuer. Fact.OfCrl (slot_for list.scope issuer) (crl_fact list)) (map seen_issuer list.others.items) ∙ as_many seen_issuer list.others.items)
 
 pub fits_at : (all : List Single) (k : ℕ) (d : Single) → k < length all → AllByRecursion SingleFitsRow (map seen_single all) → SingleFitsRow (seen_single (get_or all k d))
 fits_at [] k d low h = absurd (omega (arith, low))
 fits_at (x ∷ all) zero d low h = h.0
 fits_at (x ∷ all) (suc k) d low h = fits_at all k d (omega (arith, low)) h.1
-
-pub as_many : {X Y : Type 0} (f : X → Y) (xs : List X) → length (map f xs) ≡ length xs
-as_many f [] = refl
-as_many f (x ∷ xs) = ap suc (as_many f xs)
 
 pub one_left : (k n : ℕ) → k < n → (left : ℕ) × (suc left + k ≡ n)
 one_left zero zero low = absurd (omega (arith, low))

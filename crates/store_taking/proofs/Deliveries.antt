@@ -11,10 +11,12 @@ use Rattle.sqlite.proofs.InsideLemmas.{keeps_then}
 use Rattle.sqlite.specs.Held.{Held, state}
 use Rattle.sqlite_trees.specs.declared.store.Store.{Ghosts}
 use Rattle.sqlite_trees.specs.Tree.{Trees}
+use Rattle.statements_facts.specs.declared.issuer.Issuer.{Issuer}
+use Rattle.statements_facts.specs.declared.scope.Scope.{Scope}
 use Rattle.statements_facts.specs.declared.single.Single.{Single}
-use Rattle.statements_facts.specs.Statement.{IssuerIdentity, Holdings}
+use Rattle.statements_facts.specs.Statement.{IssuerIdentity, CrlFact, Holdings}
 use Rattle.statements_facts.specs.Single.{SingleFact, seen_single}
-use Rattle.statements_facts.specs.Fact.{Fact}
+use Rattle.statements_facts.specs.Fact.{Fact, list_facts, seen_issuer, slot_for}
 use Rattle.store_sql.specs.declared.fault.StoreFault.{StoreFault}
 use Rattle.statements_facts.specs.declared.counts.TakenAs.{TakenAs}
 use Rattle.statements_facts.specs.declared.counts.Counts.{Counts}
@@ -66,6 +68,15 @@ one_taken old new fact none counts outcome one zero added = record {
       let it = one.held held store in
       record { hold = it.holds; counted = one_more_counted held [] none counts fact outcome (nothing_counted held none zero) it.counted added };
 }
+
+-- ---- a list, kept for several
+
+pub list_more : (scope : Scope) (fact : CrlFact) (first : IssuerIdentity) (others : List Issuer) (k : ℕ) (next : Issuer) → k < length others → next ≡ get_or others k next
+    → list_facts scope fact (first ∷ map seen_issuer (take (k + 1) others)) ≡ list_facts scope fact (first ∷ map seen_issuer (take k others)) ++ Fact.OfCrl (slot_for scope (seen_issuer next)) fact ∷ []
+list_more scope fact first others k next low is =
+    ap (λ issuers. list_facts scope fact (first ∷ issuers)) (map_more seen_issuer others k next low)
+    ∙ map-append (λ issuer. Fact.OfCrl (slot_for scope issuer) fact) (first ∷ map seen_issuer (take k others)) (seen_issuer (get_or others k next) ∷ [])
+    ∙ ap (λ issuer. list_facts scope fact (first ∷ map seen_issuer (take k others)) ++ Fact.OfCrl (slot_for scope (seen_issuer issuer)) fact ∷ []) (sym is)
 
 -- ---- the single responses of one response
 

@@ -9,7 +9,7 @@ use Rattle.statements_facts.specs.declared.fact.CrlFacts.{CrlFacts}
 use Rattle.statements_facts.specs.declared.fact.OcspFacts.{OcspFacts}
 use Rattle.statements_facts.specs.declared.fact.Facts.{Facts}
 use Rattle.statements_facts.specs.declared.fact.Facts.TheVariants.{Crl, Ocsp}
-use Rattle.statements_facts.specs.Fact.{facts_in, seen_issuer}
+use Rattle.statements_facts.specs.Fact.{crl_issuers, facts_in, seen_issuer}
 use Rattle.statements_facts.specs.Statement.{IssuerIdentity, Holdings}
 use Rattle.store_sql.specs.Cause.{MayRefuse}
 use Rattle.store_sql.specs.Inside.{inside}
@@ -25,7 +25,7 @@ use Rattle.store_taking.specs.Passing.{HasIssuer, LacksIssuer}
 
 -- a list has fewer than 2^32 entries, and no octet string in a statement has about a billion octets
 pub record ListFits (list : CrlFacts) : Type 0 where
-  pub issuer : IssuerFitsRow (seen_issuer list.issuer)
+  pub issuers : AllByRecursion IssuerFitsRow (crl_issuers list)
   pub few : length list.revoked < 4294967296
   pub short : AllByRecursion (λ entry. FitRow (length entry.serial)) list.revoked
 

@@ -8,7 +8,7 @@ use Rattle.statements_facts.specs.declared.issuer.Issuer.{Issuer}
 use Rattle.statements_facts.specs.declared.single.Single.{Single}
 use Rattle.statements_facts.specs.Statement.{IssuerIdentity, Holdings}
 use Rattle.statements_facts.specs.Single.{SingleFact, seen_single}
-use Rattle.statements_facts.specs.Fact.{Fact, seen_issuer, crl_slot, crl_fact, ocsp_slot}
+use Rattle.statements_facts.specs.Fact.{Fact, seen_issuer, slot_for, crl_fact, ocsp_slot}
 use Rattle.statements_facts.specs.declared.counts.TakenAs.{TakenAs}
 use Rattle.statements_facts.specs.declared.counts.Counts.{Counts}
 use Rattle.statements_facts.specs.Coming.{IsTakenAs, after_one, after_all, AreCounts}
@@ -35,8 +35,8 @@ facts_of_singles issuer singles = map (fact_of_single issuer) singles
 
 -- ---- as the code has them
 
-abbrev pub fact_of_crl : CrlFacts → Fact
-fact_of_crl list = Fact.OfCrl (crl_slot list) (crl_fact list)
+abbrev pub fact_of_crl : Issuer → CrlFacts → Fact
+fact_of_crl issuer list = Fact.OfCrl (slot_for list.scope (seen_issuer issuer)) (crl_fact list)
 
 abbrev pub fact_from : Issuer → Single → Fact
 fact_from issuer single = fact_of_single (seen_issuer issuer) (seen_single single)

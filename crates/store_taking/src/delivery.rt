@@ -7,13 +7,35 @@ ghost use Rattle.store_sql.specs.Statements.{CommitsNothing, IsDurable};
 ghost use Rattle.store_sql.specs.Inside.{inside, IsInTransaction, KeepsReference, SucceedsOnlyIfOpen};
 ghost use Rattle.store_taking.specs.Taking.{TakesFacts};
 ghost use Rattle.store_taking.specs.Delivery.{EndsDelivery, PutsFacts, AllOrNothing};
-ghost use Rattle.store_taking.specs.Room.{CausedOverIn, FactsFit, HasRoomForFacts, PutsForCause, ResponseFits};
+ghost use Rattle.store_taking.specs.Room.{CausedOverIn, FactsFit, HasRoomForFacts, ListFits, PutsForCause, ResponseFits};
 
 use crate::lists::take_list;
 use crate::responses::take_single;
 use sqlite::{Alter, Connection, Transaction};
-use statements_facts::{Counts, Facts, OcspFacts};
+use statements_facts::{Counts, CrlFacts, Facts, OcspFacts};
 use store_sql::StoreFault;
+
+/// Takes a list for each of those that it is kept for, in order.
+fn take_lists<S: Alter>(
+    tx: &mut Transaction<'_, S>,
+    list: &CrlFacts<'_>,
+) -> Result<Counts, StoreFault>
+    requires inside { IsInTransaction S.Store tx.old }
+    ensures same_reference { KeepsReference tx.old tx.new }
+    ensures takes { TakesFacts S.Store tx.old tx.new (facts_in (Facts.Crl list.now)) result }
+    ensures caused { CausedOverIn S.Store tx.old tx.new
+        (HasRoomForFacts (Facts.Crl list.now)) (ListFits list.now) result }
+    ensures open { SucceedsOnlyIfOpen S.Store tx.old tx.new result }
+    ensures survives { CommitsNothing (inside S.Store tx.old) (inside S.Store tx.new) }
+{
+    let outcome = take_list(tx, &list.issuer, list)?;
+    let mut counts = Counts::none().and(outcome);
+    'each: for issuer in list.others.as_slice() {
+        let outcome = take_list(tx, issuer, list)?;
+        counts = counts.and(outcome);
+    }
+    Ok(counts)
+}
 
 fn take_singles<S: Alter>(
     tx: &mut Transaction<'_, S>,
@@ -47,10 +69,7 @@ fn take_all<S: Alter>(tx: &mut Transaction<'_, S>, facts: &Facts<'_>) -> Result<
     ensures survives { CommitsNothing (inside S.Store tx.old) (inside S.Store tx.new) }
 {
     match facts {
-        Facts::Crl(list) => {
-            let outcome = take_list(tx, list)?;
-            Ok(Counts::none().and(outcome))
-        }
+        Facts::Crl(list) => take_lists(tx, list),
         Facts::Ocsp(response) => take_singles(tx, response),
     }
 }

@@ -1,6 +1,6 @@
 //! Revocation lists that are put into a store.
 
-ghost use Rattle.std.specs.Prelude.{◌≡◌, ◌<◌, ◌≤◌, ◌^◌, length, IfSome, IfNone, OnOk};
+ghost use Rattle.std.specs.Prelude.{◌≡◌, ◌<◌, ◌≤◌, ◌^◌, ℕ, suc, length, IfSome, IfNone, OnOk};
 ghost use Rattle.statements_facts.specs.Fact.{seen_issuer};
 ghost use Rattle.statements_facts.specs.Listed.{IsAscending};
 ghost use Rattle.store_sql.specs.Statements.{CommitsNothing};
@@ -9,14 +9,14 @@ ghost use Rattle.store_rows.specs.Seen.{seen_head};
 ghost use Rattle.store_taking.specs.Lists.{crl_head, with_crl_facts, HeadDecides, EntriesDecide, ListIsTakenAs};
 ghost use Rattle.store_sql.specs.Inside.{inside, IsInTransaction, KeepsReference, SucceedsOnlyIfOpen};
 ghost use Rattle.store_taking.specs.Taking.{fact_of_crl, TakesFact, TakesUnder};
-ghost use Rattle.store_rows.specs.Room.{CrlsLeaveAnId, EntriesFit};
+ghost use Rattle.store_rows.specs.Room.{CrlsLeaveAnId, EntriesFit, IssuerFitsRow};
 ghost use Rattle.store_rows.specs.Steps.{FindsIn, ChangesIn, CausedOrIn, CausedIfRoomIn};
-ghost use Rattle.store_taking.specs.Room.{ListFits, TakesForCause, TakesUnderForCause};
+ghost use Rattle.store_taking.specs.Room.{IsStoreWithRoom, KnowsWithRoom, LeavesRoomIn, ListFits, TakesForCause, TakesUnderForCause};
 
 use crate::known::issuer_id;
 use asn::Number20;
 use sqlite::{Alter, Transaction};
-use statements_facts::{CrlFacts, TakenAs};
+use statements_facts::{CrlFacts, Issuer, TakenAs};
 use std::cmp::Ordering;
 use store_rows::{Head, ListKey, find_crl, has_entries, replace_crl, replace_entries};
 use store_sql::StoreFault;
@@ -127,14 +127,18 @@ fn store_list<S: Alter>(
 fn take_under<S: Alter>(
     tx: &mut Transaction<'_, S>,
     id: u32,
+    issuer: &Issuer<'_>,
     list: &CrlFacts<'_>,
 ) -> Result<TakenAs, StoreFault>
     requires issuer { id < 536870911 }
     requires inside { IsInTransaction S.Store tx.old }
     ensures same_reference { KeepsReference tx.old tx.new }
-    ensures goes { TakesUnder S.Store tx.old tx.new id (fact_of_crl list.now) result }
+    ensures goes { TakesUnder S.Store tx.old tx.new id (fact_of_crl issuer.now list.now) result }
     ensures caused { TakesUnderForCause S.Store tx.old tx.new
-        (seen_issuer list.now.issuer) id (ListFits list.now) result }
+        (seen_issuer issuer.now) id (ListFits list.now) result }
+    ensures leaves { (issuers rows : ℕ) → LeavesRoomIn S.Store tx.old tx.new
+        (KnowsWithRoom (seen_issuer issuer.now) id issuers (suc rows))
+        (λ _. IsStoreWithRoom issuers rows) result }
     ensures survives { CommitsNothing (inside S.Store tx.old) (inside S.Store tx.new) }
 {
     let key = ListKey {
@@ -150,19 +154,23 @@ fn take_under<S: Alter>(
     Ok(TakenAs::Stored)
 }
 
-/// Takes a list, inside a transaction: it is held if it is the first of its issuer and scope, or newer. A fault leaves what was written so
-/// far, to be rolled back.
+/// Takes a list for one of those that it is kept for, inside a transaction: it is held if it is the first of that issuer and scope, or newer.
+/// A fault leaves what was written so far, to be rolled back.
 pub fn take_list<S: Alter>(
     tx: &mut Transaction<'_, S>,
+    issuer: &Issuer<'_>,
     list: &CrlFacts<'_>,
 ) -> Result<TakenAs, StoreFault>
     requires inside { IsInTransaction S.Store tx.old }
     ensures same_reference { KeepsReference tx.old tx.new }
-    ensures takes { TakesFact S.Store tx.old tx.new (fact_of_crl list.now) result }
-    ensures caused { TakesForCause S.Store tx.old tx.new (ListFits list.now) result }
+    ensures takes { TakesFact S.Store tx.old tx.new (fact_of_crl issuer.now list.now) result }
+    ensures caused { TakesForCause S.Store tx.old tx.new
+        (IssuerFitsRow (seen_issuer issuer.now) × ListFits list.now) result }
+    ensures leaves { (issuers rows : ℕ) → LeavesRoomIn S.Store tx.old tx.new
+        (IsStoreWithRoom (suc issuers) (suc rows)) (λ _. IsStoreWithRoom issuers rows) result }
     ensures open { SucceedsOnlyIfOpen S.Store tx.old tx.new result }
     ensures survives { CommitsNothing (inside S.Store tx.old) (inside S.Store tx.new) }
 {
-    let id = issuer_id(tx, &list.issuer)?;
-    take_under(tx, id, list)
+    let id = issuer_id(tx, issuer)?;
+    take_under(tx, id, issuer, list)
 }

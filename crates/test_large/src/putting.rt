@@ -56,6 +56,7 @@ fn list<'a>(alloc: Global, key_info: &'a [u8], serials: &'a [u8]) -> Option<Fact
     }
     Some(Facts::Crl(CrlFacts {
         issuer: issuer(alloc, key_info)?,
+        others: Vec::new(alloc),
         scope: Scope::All,
         number: Number20::from_octets([1; 20]),
         from: 10,

@@ -21,7 +21,7 @@ use Rattle.statements_ocsp.specs.Responder.{by_name}
 use Rattle.statements.specs.Issuer.{identity_of}
 use Rattle.statements.specs.CrlFact.{of_issuer}
 use Rattle.statements.specs.Responder.{key_hash, signs_itself}
-use Rattle.statements.specs.Statement.{Statement, statement, genuine_statement}
+use Rattle.statements.specs.Statement.{Statement, statement, genuine_statement, genuine_statement_under}
 use Rattle.relying_agreement.specs.Run.{facts_or_none, facts_under, genuine_facts}
 use Rattle.test_premises.specs.Octets.{octets, anchor_der, name_r, algorithm, key_r, list_1, list_2, response_der, basic_response_der}
 use Rattle.test_premises.specs.Premises.{accepts_toys}
@@ -107,7 +107,7 @@ same_name = (matching_is_exact (rdns 114) (rdns 114)).1 refl
 list_says : (list : List ℕ) (number : ℕ) (signature : List ℕ) → statement list ≡ Ok (Statement.OfList (list_with number signature))
     → accepts_toys algorithm key_r (list_tbs number) signature ≡ true → binary_value (number ∷ []) ≡ number
     → genuine_statement accepts_toys root list ≡ Ok (list_of (identity_of root) number ∷ [])
-unfolding genuine_statement of_issuer
+unfolding genuine_statement_under of_issuer
 list_says list number signature reads signed counts = rw (reads, same_name, signed, counts) refl
 
 -- ---- the response
@@ -160,7 +160,7 @@ unfolding on_literals
 name_hash_is = refl
 
 response_says : genuine_statement accepts_toys root response_der ≡ Ok (response_of (identity_of root) (sha1 name_r) ∷ [])
-unfolding genuine_statement signs_itself
+unfolding genuine_statement_under signs_itself
 response_says = rw (response_is_read, same_name, response_signed, key_hash_is, name_hash_is) refl
 
 -- ---- what the parties take

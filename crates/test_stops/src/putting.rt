@@ -40,6 +40,7 @@ fn list(alloc: Global, number: u8, listed: &[Listed<'static>]) -> Option<Facts<'
     let entries = Vec::from_slice(alloc, listed).ok()?;
     Some(Facts::Crl(CrlFacts {
         issuer: issuer(alloc)?,
+        others: Vec::new(alloc),
         scope: Scope::All,
         number: Number20::from_octets(octets),
         from: -10,

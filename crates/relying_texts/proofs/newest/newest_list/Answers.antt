@@ -1,4 +1,4 @@
-use Rattle.std.proofs.Common.{◌+◌, None, drop, option_map, filter_map, ap, ◌∙◌}
+use Rattle.std.proofs.Common.{◌+◌, None, drop, option_map, filter_map, ◌∙◌}
 use Rattle.statements_facts.specs.Coming.{crl_for}
 use Rattle.statements_facts.specs.Newest.{held_after, newer_crl}
 use Rattle.relying_texts.specs.View.{crl_slot_of, facts_of_genuine, facts_in_all, list_fact_at}
@@ -13,5 +13,5 @@ loop-statement-preserved c =
     came newer_crl facts_of_genuine of (option_map list_fact_at c.loop-statement.newest) (option_map list_fact_at c.newer_list-newest.result) c.statement-item.result
     (drop i all) (drop (i + 1) all) (held_after newer_crl None (filter_map of (facts_in_all all)))
     (one_left all i c.statement-item.result c.loop-statement-test.true c.statement-item.is)
-    (c.newer_list-newest.ensures ∙ ap (held_after newer_crl (option_map list_fact_at c.loop-statement.newest)) c.list_for.ensures)
+    (c.newer_list-newest.ensures ∙ c.list_for.ensures (option_map list_fact_at c.loop-statement.newest))
     c.loop-statement.invariant

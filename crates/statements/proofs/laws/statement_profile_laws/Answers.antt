@@ -1,4 +1,4 @@
-use Rattle.statements.proofs.StatementLaws.{statement_is_exact_under, stated_statements_are_read_wide}
+use Rattle.statements.proofs.StatementLaws.{statement_is_exact_under, stated_statements_are_read_wide, statements_are_facts_under}
 use Rattle.statements.proofs.laws.statement_profile_laws.Goals as goal
 
 pub returns-clause-exact : goal.returns-clause-exact
@@ -6,3 +6,6 @@ returns-clause-exact c = statement_is_exact_under
 
 pub returns-clause-wide : goal.returns-clause-wide
 returns-clause-wide c = stated_statements_are_read_wide
+
+pub returns-clause-genuine : goal.returns-clause-genuine
+returns-clause-genuine c = statements_are_facts_under
