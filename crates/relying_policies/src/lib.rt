@@ -4,5 +4,6 @@
 mod verdict;
 
 pub use verdict::{
-    VerdictWithPolicies, add_policies, verdict_with_policies, verdict_with_policies_laws,
+    VerdictWithPolicies, add_policies, join_verdict, verdict_with_policies,
+    verdict_with_policies_laws,
 };

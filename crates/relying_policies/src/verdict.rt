@@ -36,7 +36,7 @@ fn outcome_of(verdict: Verdict) -> Outcome
 
 /// The verdict, by that on the path without its policies and the outcome of its policies alone: Invalid with the first certificate that one
 /// of the two refuses, else the verdict, with the policies.
-fn join_verdict<'c>(verdict: Verdict, policies: PolicyOutcome<'c>) -> VerdictWithPolicies<'c>
+pub fn join_verdict<'c>(verdict: Verdict, policies: PolicyOutcome<'c>) -> VerdictWithPolicies<'c>
     ensures { JoinsVerdict verdict policies.entry result }
 {
     verdict_laws();

@@ -23,7 +23,7 @@ b ; E ; anchor ca-a ee-a / crl(R,1) crl(A,1) ; bad 2 19 NoUserPolicy
 * ; E ; anchor ca-a ee-a-forged / crl(R,1) crl(A,1) ; bad 2 2 Signature
 ";
 
-fn lists_of(alloc: Global, texts: &str) -> Result<Vec<Vec<u8>>, RowFault> {
+pub fn lists_of(alloc: Global, texts: &str) -> Result<Vec<Vec<u8>>, RowFault> {
     let mut lists = Vec::new(alloc);
     for text in texts.split_whitespace() {
         match revocation_list(alloc, text) {
@@ -45,7 +45,7 @@ fn told(alloc: Global, word: &str, answer: &VerdictWithPolicies<'_>) -> Result<S
     Ok(text)
 }
 
-fn text_of(alloc: Global, answer: &VerdictWithPolicies<'_>) -> Result<String, RowFault> {
+pub fn text_of(alloc: Global, answer: &VerdictWithPolicies<'_>) -> Result<String, RowFault> {
     match answer.verdict {
         Verdict::Invalid(number, reason) => bad(alloc, number, reason),
         Verdict::Revoked(2, _) => told(alloc, "revoked 2", answer),

@@ -1,0 +1,2 @@
+mod Downward
+mod Found

@@ -1,0 +1,5 @@
+mod Standing
+mod Same
+mod Every
+mod Ending
+pub mod Laws
