@@ -120,12 +120,29 @@ pub mod search {
     };
 }
 
+/// Constraints on mail addresses and on the hosts of URIs (RFC 5280, 4.2.1.10), for who asks for them.
+///
+/// `validate` refuses a path where such a constraint meets a name of its form. `validate_with_hosts` processes them: `QueryWithHosts` reads
+/// the certificates with what they say of mail addresses and URIs. `QueryWithHosts::path` is the path without these constraints: a verdict on
+/// it counts only if `hosts_outcome`, which looks at them alone, is Good.
+pub mod hosts {
+    pub use cert_hosts::{CertificateHosts, certificate_hosts_laws};
+    pub use names_hosts::{
+        HostBase, MailBase, MailName, host_laws, host_of_uri, is_host, mail_laws, uri_laws,
+    };
+    pub use path_hosts::{
+        HostCertificate, QueryWithHosts, host_certificates, hosts_apart, hosts_outcome, join_hosts,
+        outcome_with_hosts_laws, validate_with_hosts,
+    };
+}
+
 /// Certificate policies (RFC 5280, 4.2.1.4, 4.2.1.5, 4.2.1.11, 4.2.1.14 and 6.1; RFC 9618), for who asks for them.
 ///
 /// `validate` looks at none of them, and refuses a path whose certificates carry policyMappings, policyConstraints or inhibitAnyPolicy.
 /// `validate_with_policies` processes them: it answers the policies at the end of the path, or the first certificate that is refused, for a
 /// reason of the path or of its policies. A party is asked for its verdict on `QueryWithPolicies::path`, and `add_policies` adds the policies to
-/// its answer; `verdict_with_policies` does both by statements at hand. `process_policies` looks at policies alone.
+/// its answer; `verdict_with_policies` does both by statements at hand. `find_with_policies` searches for a path, by statements at hand, whose
+/// policies are acceptable. `process_policies` looks at policies alone.
 pub mod policies {
     pub use cert_policies::{PolicyExtensions, PolicyMapping, policy_layout_laws};
     pub use path_policies::{
@@ -137,8 +154,13 @@ pub mod policies {
         OutcomeWithPolicies, PolicyInputs, QueryWithPolicies, join_outcomes,
         outcome_with_policies_laws, policies_apart, reason_of_policy, validate_with_policies,
     };
+    pub use relying_find_policies::{
+        FindingWithPolicies, PoliciesApart, SearchPolicies, find_with_policies,
+        finding_with_policies_laws, search_policies_apart,
+    };
     pub use relying_policies::{
-        VerdictWithPolicies, add_policies, verdict_with_policies, verdict_with_policies_laws,
+        VerdictWithPolicies, add_policies, join_verdict, verdict_with_policies,
+        verdict_with_policies_laws,
     };
 }
 
@@ -172,11 +194,31 @@ pub mod revocation {
 
 /// Verdicts by statements at hand, without a store, and what a verifier may be asked for them.
 pub mod at_hand {
+    pub use relying_find_policies::find_among;
     pub use relying_questions::{
         SignatureQuestion, TextPart, WhichText, finding_question_laws, finding_questions,
         question_laws, questions, why_not_question_laws,
     };
-    pub use relying_texts::{StatementsFault, delivery_laws, find, read_statements, verdict};
+    pub use relying_search_filtered::{EachPath, PathFilter, among_all_law, finding_among_laws};
+    pub use relying_texts::{
+        StatementsFault, delivery_laws, find, read_statements, verdict, verdict_on_candidate,
+    };
+}
+
+/// Lists that are published by distribution point (RFC 5280, 4.2.1.13, 5.2.5 and 6.3.3), for who asks for them.
+///
+/// `take_points` gives a certificate that was read the names of its points. `read_statements_under` and `genuine_under` read lists with points
+/// in `Profile::Wide`; in `Profile::Stated`, that of all other calls, these are refused. A verdict then asks for the lists at the names of each
+/// certificate, beside those of all its issuer's certificates. What `genuine_under` answers is put into a store by `Store::put`.
+pub mod points {
+    pub use cert::Profile;
+    pub use cert_points::{
+        DistributionPoint, DistributionPoints, GeneralNames, PointName, point_layout_laws,
+        point_reading_laws, take_points,
+    };
+    pub use relying_texts::read_statements_under;
+    pub use statements::{genuine_under, statement_profile_laws};
+    pub use statements_crl::profile_laws;
 }
 
 /// What a store holds, and how a connection is taken for a store and looked up.

@@ -1,0 +1,13 @@
+mod Narrowed
+mod Loops
+mod MailBases
+mod HostBases
+mod Before
+mod Numbered
+mod Joining
+mod Ranks
+mod OneOutcome
+mod Leaving
+mod Parted
+mod Taking
+mod Asking

@@ -1,0 +1,12 @@
+//! Paths whose constraints on mail addresses and on URIs are processed: rows from RFC 5280, 4.2.1.10 and 6.1, and by hand. All of this
+//! crate are tests, over the public calls of `path_hosts`.
+#![tactic(auto)]
+
+#[cfg(test)]
+mod asking;
+#[cfg(test)]
+mod building;
+#[cfg(test)]
+mod malformed;
+#[cfg(test)]
+mod paths;

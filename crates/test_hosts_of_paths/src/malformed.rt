@@ -1,0 +1,102 @@
+//! Certificates with malformed mail addresses or bases, of which the first is refused before the path is validated.
+
+use crate::asking::{MIDDLE, RowFault, answer_to, octets_of, question};
+use cert::{CertFault, CertRule};
+use path::QueryFault;
+use path_hosts::QueryWithHosts;
+use std::alloc::Global;
+use std::test::Fail;
+
+/// The answer is the certificate that is refused, the fault, 18 for mail addresses and their bases and 19 for bases of URIs, and its place
+/// in the certificate. Behind it stand the certificates below the anchor R, between strokes. Comments begin with a number sign.
+const ROWS: &str = "
+# no mail address (RFC 5280, 4.2.1.6), or one with a local part in quotes
+refused 2 18 106 ; ca(A,R) / ee(T,A){mail root@}
+refused 2 18 106 ; ca(A,R) / ee(T,A){mail root}
+refused 2 18 106 ; ca(A,R) / ee(T,A){mail @example.com}
+refused 2 18 106 ; ca(A,R) / ee(T,A){mail .example.com}
+refused 2 18 106 ; ca(A,R) / ee(T,A){mail \"root\"@example.com}
+refused 2 18 106 ; ca(A,R) / ee(T,A){mail a b@example.com}
+refused 2 18 106 ; ca(A,R) / ee(T,A){mail root@192.0.2.1}
+refused 2 18 121 ; ca(A,R) / ee(T,A){mail a@example.com}{mail root}
+refused 2 18 82 ; ca(A,R) / ee(T,A){email root}
+# an emailAddress of the subject stands before the names of subjectAltName, and these before the constraints
+refused 2 18 83 ; ca(A,R) / ca(T,A){email root}{mail a}{permit mail b@}
+refused 2 18 107 ; ca(A,R) / ca(T,A){mail a}{permit mail b@}
+# no bases (4.2.1.10)
+refused 1 18 131 ; ca(A,R){permit mail @example.com} / ee(T,A)
+refused 1 18 131 ; ca(A,R){exclude mail root@.example.com} / ee(T,A)
+refused 1 18 148 ; ca(A,R){permit mail example.com}{exclude mail ..} / ee(T,A)
+refused 1 19 131 ; ca(A,R){permit uri http://example.com/} / ee(T,A)
+refused 1 19 131 ; ca(A,R){permit uri *.example.com} / ee(T,A)
+refused 1 19 131 ; ca(A,R){exclude uri 192.0.2.1} / ee(T,A)
+refused 1 19 131 ; ca(A,R){exclude uri root@example.com} / ee(T,A)
+refused 1 19 131 ; ca(A,R){permit uri .} / ee(T,A)
+# the first certificate that has one, whatever else the path is refused for
+refused 1 18 106 ; ca(A,R){mail a} / ee(T,A){mail b}
+refused 2 18 106 ; ca(A,R){until 250201000000Z} / ee(T,A){signed X}{mail b}
+refused 3 19 131 ; ca(A,R) / ca(A,A){key B} / ca(T,A){signed B}{permit uri a..b}
+refused 2 18 106 ; ca(A,R){permit dns example.com} / ee(T,A){mail root}
+# a URI may be any text where URIs are not constrained
+good ; ca(A,R) / ee(T,A){uri :}
+good ; ca(A,R) / ee(T,A){uri http://root@/}
+";
+
+fn row_holds(alloc: Global, row: &str) -> Result<bool, Fail> {
+    let (wanted, path) = row.split_once(" ; ").ok_or("an answer")?;
+    let answer = answer_to(alloc, path).map_err(|_| "an answer")?;
+    Ok(answer.as_str() == wanted)
+}
+
+#[test]
+fn each_row_has_its_fault(rt: HostRuntime) -> Result<(), Fail> {
+    for row in ROWS.lines().filter(|row| row.contains(';')) {
+        assert!(rt; row_holds(rt.alloc(), row)?, "{row}");
+    }
+    Ok(())
+}
+
+#[test]
+fn no_row_is_lost(rt: HostRuntime) {
+    assert_eq!(rt; ROWS.lines().filter(|row| row.contains(';')).count(), 25);
+}
+
+/// What a text is refused for that is no certificate, in place of a path's first.
+fn refusal_of(alloc: Global, text: &[u8]) -> Result<Option<QueryFault>, RowFault> {
+    let octets = octets_of(alloc, "")?;
+    let Some(anchor) = octets.first() else {
+        return Err(RowFault::Word);
+    };
+    match QueryWithHosts::read(alloc, anchor, &[text], MIDDLE, None) {
+        Ok(_) => Ok(None),
+        Err(fault) => Ok(Some(fault)),
+    }
+}
+
+#[test]
+fn a_text_that_is_no_certificate_is_refused(rt: HostRuntime) -> Result<(), Fail> {
+    let refusal = refusal_of(rt.alloc(), b"\x05\x00").map_err(|_| "octets")?;
+    let fault = CertFault::Refused(CertRule::Layout, 0);
+    assert_eq!(rt;
+        refusal,
+        Some(QueryFault {
+            certificate: 1,
+            fault
+        })
+    );
+    Ok(())
+}
+
+#[test]
+fn a_question_has_what_was_asked(rt: HostRuntime) -> Result<(), Fail> {
+    let path = "ca(A,R){permit mail example.com} / ee(T,A){mail a@example.com}{mail b@example.com}";
+    let octets = octets_of(rt.alloc(), path).map_err(|_| "octets")?;
+    let query = question(rt.alloc(), &octets).map_err(|_| "a question")?;
+    let [above, below] = query.hosts() else {
+        return Err(Fail::from("two certificates"));
+    };
+    assert!(rt; above.hosts.permitted_mail.len() == 1 && above.hosts.mail.is_empty());
+    assert!(rt; below.hosts.permitted_mail.is_empty() && below.hosts.mail.len() == 2);
+    assert!(rt; query.path().path.len() == 2);
+    Ok(())
+}
