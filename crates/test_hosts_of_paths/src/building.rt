@@ -12,16 +12,21 @@ const EMAIL_ADDRESS: &[u8] = b"\x2A\x86\x48\x86\xF7\x0D\x01\x09\x01";
 const SUBJECT: usize = 5;
 
 /// Puts the tag of rfc822Name in place of that of dNSName, which stands for nothing else in a value of fewer than 256 octets.
+fn retag_octets(value: &mut Tree) {
+    if let Tree::Primitive(_, octets) = value {
+        for octet in octets.iter_mut() {
+            if *octet == 0x82 {
+                *octet = 0x81;
+            }
+        }
+    }
+}
+
+/// The same in the value of an extension, its last member.
 fn retag_value(extension: &mut Tree) {
-    let Tree::Constructed(_, members) = extension else {
-        return;
-    };
-    let Some(Tree::Primitive(_, octets)) = members.last_mut() else {
-        return;
-    };
-    for octet in octets.iter_mut() {
-        if *octet == 0x82 {
-            *octet = 0x81;
+    if let Tree::Constructed(_, members) = extension {
+        if let Some(value) = members.last_mut() {
+            retag_octets(value);
         }
     }
 }
@@ -34,12 +39,18 @@ fn retag_list(list: &mut Tree) {
     }
 }
 
-/// The same in all extensions of a signed part, whose last member these are.
-fn retag(members: &mut Vec<Tree>) {
-    if let Some(Tree::Constructed(_, lists)) = members.last_mut() {
+fn retag_extensions(tagged: &mut Tree) {
+    if let Tree::Constructed(_, lists) = tagged {
         for list in lists.iter_mut() {
             retag_list(list);
         }
+    }
+}
+
+/// The same in all extensions of a signed part, whose last member these are.
+fn retag(members: &mut Vec<Tree>) {
+    if let Some(last) = members.last_mut() {
+        retag_extensions(last);
     }
 }
 

@@ -1,9 +1,8 @@
 //! Certificates with malformed mail addresses or bases, of which the first is refused before the path is validated.
 
-use crate::asking::{MIDDLE, RowFault, answer_to, octets_of, question};
+use crate::asking::{RowFault, answer_to, octets_of, question};
 use cert::{CertFault, CertRule};
 use path::QueryFault;
-use path_hosts::QueryWithHosts;
 use std::alloc::Global;
 use std::test::Fail;
 
@@ -63,13 +62,12 @@ fn no_row_is_lost(rt: HostRuntime) {
 
 /// What a text is refused for that is no certificate, in place of a path's first.
 fn refusal_of(alloc: Global, text: &[u8]) -> Result<Option<QueryFault>, RowFault> {
-    let octets = octets_of(alloc, "")?;
-    let Some(anchor) = octets.first() else {
-        return Err(RowFault::Word);
-    };
-    match QueryWithHosts::read(alloc, anchor, &[text], MIDDLE, None) {
+    let mut octets = octets_of(alloc, "")?;
+    octets.push(Vec::from_slice(alloc, text)?)?;
+    match question(alloc, &octets) {
         Ok(_) => Ok(None),
-        Err(fault) => Ok(Some(fault)),
+        Err(RowFault::Refused(fault)) => Ok(Some(fault)),
+        Err(fault) => Err(fault),
     }
 }
 

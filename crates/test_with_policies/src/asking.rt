@@ -2,9 +2,12 @@
 
 use crate::certificates::hexadecimal;
 use asn::Oid;
+use cert::CertFault;
+use hex::FromHexError;
 use path::{QueryFault, Reason};
 use path_policies::{ANY_POLICY, PolicySets};
 use path_with_policies::{PolicyInputs, QueryWithPolicies};
+use statements_parts::ReadingFault;
 use std::alloc::{AllocError, AllocFailed, Global};
 
 /// 2025-06-15T00:00:00Z
@@ -18,6 +21,8 @@ pub enum RowFault {
     Word,
     /// A certificate that is refused.
     Refused(QueryFault),
+    /// The place of a certificate of a search whose extensions about policies are malformed.
+    Malformed(usize),
 }
 
 impl From<AllocError> for RowFault {
@@ -32,6 +37,33 @@ impl<T: Drop> From<AllocFailed<T>> for RowFault {
     }
 }
 
+impl From<FromHexError> for RowFault {
+    fn from(fault: FromHexError) -> RowFault {
+        match fault {
+            FromHexError::OutOfMemory => RowFault::Memory,
+            _ => RowFault::Word,
+        }
+    }
+}
+
+impl From<CertFault> for RowFault {
+    fn from(fault: CertFault) -> RowFault {
+        match fault {
+            CertFault::Memory => RowFault::Memory,
+            CertFault::Refused(_, _) => RowFault::Word,
+        }
+    }
+}
+
+impl From<ReadingFault> for RowFault {
+    fn from(fault: ReadingFault) -> RowFault {
+        match fault {
+            ReadingFault::Memory => RowFault::Memory,
+            ReadingFault::Refused(_, _) => RowFault::Word,
+        }
+    }
+}
+
 impl From<QueryFault> for RowFault {
     fn from(fault: QueryFault) -> RowFault {
         RowFault::Refused(fault)
@@ -42,8 +74,7 @@ impl From<QueryFault> for RowFault {
 pub fn octets_of(alloc: Global, names: &str) -> Result<Vec<Vec<u8>>, RowFault> {
     let mut all = Vec::new(alloc);
     for name in names.split_whitespace() {
-        let octets = hex::decode(alloc, hexadecimal(name)).map_err(|_| RowFault::Word)?;
-        all.push(octets)?;
+        all.push(hex::decode(alloc, hexadecimal(name))?)?;
     }
     Ok(all)
 }
@@ -65,7 +96,7 @@ pub fn policies_of(alloc: Global, letters: &str) -> Result<Vec<Oid<'static>>, Ro
 
 /// The inputs, by their letters: `E` for initial-explicit-policy, `M` for initial-policy-mapping-inhibit and `A` for
 /// initial-any-policy-inhibit.
-pub fn inputs_of<'p>(policies: &'p [Oid<'p>], letters: &str) -> PolicyInputs<'p, 'p> {
+pub fn inputs_of<'p, 'c>(policies: &'p [Oid<'c>], letters: &str) -> PolicyInputs<'p, 'c> {
     PolicyInputs {
         initial_policies: policies,
         inhibit_policy_mapping: letters.contains('M'),

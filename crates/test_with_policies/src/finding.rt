@@ -2,11 +2,11 @@
 
 use crate::asking::{MIDDLE, RowFault, inputs_of, octets_of, policies_of, row_of};
 use crate::verdicts::{lists_of, text_of};
-use cert::Certificate;
+use asn::Oid;
+use cert::{CertFault, Certificate};
 use path_search::{Budget, Candidate, Search};
-use path_with_policies::PolicyInputs;
 use relying_find_policies::{
-    FindingWithPolicies, SearchPolicies, find_with_policies, search_policies_apart,
+    FindingWithPolicies, PoliciesApart, SearchPolicies, find_with_policies, search_policies_apart,
 };
 use relying_search::FindingBudget;
 use statements::Statement;
@@ -38,11 +38,71 @@ b ; E ; ca-a ca-ab-e0 / ee-ab / crl(R,1) crl(A,1) / 9 ; 0 : 1 = valid A=ab U=b
 * ; E ; ca-none ee-empty / ee-a / crl(R,1) crl(A,1) / 9 ; malformed 1
 ";
 
-/// The certificates that the octets are.
+/// The certificates of a search, and what of them and of the user's policies counts.
+#[derive(Drop)]
+struct Asked<'c> {
+    anchors: Vec<Certificate<'c>>,
+    bag: Vec<Certificate<'c>>,
+    target: Certificate<'c>,
+    policies: PoliciesApart<'c>,
+    user: Vec<Oid<'c>>,
+}
+
+impl<'c> Asked<'c> {
+    fn search(&self) -> Search<'_, 'c> {
+        Search {
+            anchors: self.anchors.as_slice(),
+            bag: self.bag.as_slice(),
+            target: &self.target,
+            moment: MIDDLE,
+            purpose: None,
+        }
+    }
+
+    fn policies(&self, inputs: &str) -> SearchPolicies<'_, 'c> {
+        SearchPolicies {
+            bag: self.policies.bag.as_slice(),
+            target: &self.policies.target,
+            inputs: inputs_of(&self.user, inputs),
+        }
+    }
+}
+
 fn certificates_of(alloc: Global, octets: &[Vec<u8>]) -> Result<Vec<Certificate<'_>>, RowFault> {
     let mut read = Vec::new(alloc);
     for text in octets {
-        read.push(Certificate::read(alloc, text).map_err(|_| RowFault::Word)?)?;
+        read.push(Certificate::read(alloc, text)?)?;
+    }
+    Ok(read)
+}
+
+fn malformed((place, fault): (usize, CertFault)) -> RowFault {
+    match fault {
+        CertFault::Memory => RowFault::Memory,
+        CertFault::Refused(_, _) => RowFault::Malformed(place),
+    }
+}
+
+/// A search among certificates, of which the first is the anchor, and the last the target.
+fn asked_of<'c>(alloc: Global, octets: &'c [Vec<u8>], user: &str) -> Result<Asked<'c>, RowFault> {
+    let (anchor, behind) = octets.split_at_checked(1).ok_or(RowFault::Word)?;
+    let anchors = certificates_of(alloc, anchor)?;
+    let mut bag = certificates_of(alloc, behind)?;
+    let mut target = bag.pop().ok_or(RowFault::Word)?;
+    let policies = search_policies_apart(alloc, &mut bag, &mut target).map_err(malformed)?;
+    Ok(Asked {
+        anchors,
+        bag,
+        target,
+        policies,
+        user: policies_of(alloc, user)?,
+    })
+}
+
+fn statements_in(alloc: Global, octets: &[Vec<u8>]) -> Result<Vec<Statement<'_>>, RowFault> {
+    let mut read = Vec::new(alloc);
+    for text in octets {
+        read.push(Statement::read(alloc, text)?)?;
     }
     Ok(read)
 }
@@ -71,89 +131,52 @@ fn finding_text(alloc: Global, finding: &FindingWithPolicies<'_>) -> Result<Stri
     }
 }
 
-/// What is found under the anchors.
-fn found_under<'p>(
-    alloc: Global,
-    anchors: &[Certificate<'_>],
-    bag: &mut [Certificate<'p>],
-    target: &mut Certificate<'p>,
-    inputs: PolicyInputs<'p, 'p>,
-    statements: &[Statement<'_>],
-    verdicts: usize,
-) -> Result<String, RowFault> {
-    let apart = match search_policies_apart(alloc, bag, target) {
-        Ok(apart) => apart,
-        Err((place, _)) => return Ok(format!(in alloc; "malformed {place}")?),
+fn budget_of(verdicts: usize) -> FindingBudget {
+    let search = Budget {
+        signatures: 100,
+        steps: 100,
     };
-    let search = Search {
-        anchors,
-        bag,
-        target,
-        moment: MIDDLE,
-        purpose: None,
-    };
-    let policies = SearchPolicies {
-        bag: apart.bag.as_slice(),
-        target: &apart.target,
-        inputs,
-    };
-    let budget = FindingBudget {
-        search: Budget {
-            signatures: 100,
-            steps: 100,
-        },
-        verdicts,
-    };
-    let finding = find_with_policies(alloc, &ToyVerifier, &search, &policies, statements, budget)?;
-    finding_text(alloc, &finding)
+    FindingBudget { search, verdicts }
 }
 
-/// What is found among certificates, of which the first is that of the anchor, and the last the target.
-fn found_over(
-    alloc: Global,
-    octets: &[Vec<u8>],
-    lists: &[Vec<u8>],
-    user: &str,
-    inputs: &str,
-    verdicts: usize,
-) -> Result<String, RowFault> {
-    let mut statements = Vec::new(alloc);
-    for list in lists {
-        statements.push(Statement::read(alloc, list).map_err(|_| RowFault::Word)?)?;
-    }
-    let policies = policies_of(alloc, user)?;
-    let (anchor, behind) = octets.split_at_checked(1).ok_or(RowFault::Word)?;
-    let anchors = certificates_of(alloc, anchor)?;
-    let mut bag = certificates_of(alloc, behind)?;
-    let mut target = bag.pop().ok_or(RowFault::Word)?;
-    let inputs = inputs_of(&policies, inputs);
-    found_under(
-        alloc,
-        &anchors,
-        &mut bag,
-        &mut target,
-        inputs,
-        &statements,
-        verdicts,
-    )
+/// The parts of the third column: the bag, the target, the lists, and how many valid paths may be asked about.
+fn parts_of(texts: &str) -> Option<(&str, &str, &str, usize)> {
+    let mut parts = texts.split('/').map(str::trim);
+    let (bag, target, lists) = (parts.next()?, parts.next()?, parts.next()?);
+    Some((bag, target, lists, parts.next()?.parse().ok()?))
 }
 
 /// What is found of what the row asks.
 fn found_of(alloc: Global, user: &str, inputs: &str, texts: &str) -> Result<String, RowFault> {
-    let mut parts = texts.split('/').map(str::trim);
-    let (bag, target) = (parts.next().unwrap_or(""), parts.next().unwrap_or(""));
-    let (lists, verdicts) = (parts.next().unwrap_or(""), parts.next().unwrap_or(""));
-    let names = format!(in alloc; "anchor {bag} {target}")?;
-    let (octets, lists) = (octets_of(alloc, &names)?, lists_of(alloc, lists)?);
-    let verdicts = verdicts.parse().map_err(|_| RowFault::Word)?;
-    found_over(alloc, &octets, &lists, user, inputs, verdicts)
+    let (bag, target, lists, verdicts) = parts_of(texts).ok_or(RowFault::Word)?;
+    let octets = octets_of(alloc, &format!(in alloc; "anchor {bag} {target}")?)?;
+    let lists = lists_of(alloc, lists)?;
+    let statements = statements_in(alloc, &lists)?;
+    let asked = asked_of(alloc, &octets, user)?;
+    let finding = find_with_policies(
+        alloc,
+        &ToyVerifier,
+        &asked.search(),
+        &asked.policies(inputs),
+        &statements,
+        budget_of(verdicts),
+    )?;
+    finding_text(alloc, &finding)
+}
+
+/// The same, and the place of a certificate whose policies are malformed.
+fn answer_to(alloc: Global, user: &str, inputs: &str, texts: &str) -> Result<String, RowFault> {
+    match found_of(alloc, user, inputs, texts) {
+        Err(RowFault::Malformed(place)) => Ok(format!(in alloc; "malformed {place}")?),
+        answer => answer,
+    }
 }
 
 #[test]
 fn each_row_has_its_finding(rt: HostRuntime) -> Result<(), Fail> {
     for line in ROWS.lines().filter(|line| line.contains(';')) {
         let row = row_of(line);
-        let found = found_of(rt.alloc(), row.user, row.inputs, row.names);
+        let found = answer_to(rt.alloc(), row.user, row.inputs, row.names);
         let found = found.map_err(|_| "a finding")?;
         assert_eq!(rt; found.as_str(), row.wanted, "{line}");
     }
