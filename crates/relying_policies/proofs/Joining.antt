@@ -1,12 +1,10 @@
 -- The verdict on a path whose policies are processed, by the verdict without them.
-use Rattle.std.proofs.Common.{◌≡◌, ◌↔◌, ℕ, ℤ, Option, Some, None, refl, sym, ap, subst, ◌∙◌}
+use Rattle.std.proofs.Common.{◌≡◌, ◌↔◌, ℕ, Option, Some, None, refl, sym, subst, ◌∙◌}
 use Rattle.std.specs.List.{AllByRecursion}
 use Rattle.statements_facts.specs.Statement.{Holdings}
 use Rattle.path.specs.declared.reason.Reason.{Reason}
-use Rattle.path.specs.declared.reason.Outcome.{Outcome}
 use Rattle.path.specs.declared.reason.Outcome.TheVariants as path
-use Rattle.path.specs.Query.{Query, Accepts}
-use Rattle.path.specs.Validity.{IsOutcome}
+use Rattle.path.specs.Query.{Accepts}
 use Rattle.path_policies.specs.declared.reason.PolicySets.{PolicySets}
 use Rattle.path_policies.specs.declared.reason.PolicyOutcome.{PolicyOutcome}
 use Rattle.path_policies.specs.Outcome.{IsPolicyOutcome}
@@ -17,34 +15,12 @@ use Rattle.path_with_policies.specs.Joining.{AreOutcomesOf, Joins}
 use Rattle.relying_agreement.specs.declared.verdict.Verdict.{Verdict}
 use Rattle.relying_agreement.specs.declared.verdict.Verdict.TheVariants.{Invalid, Revoked, Unknown, Valid}
 use Rattle.relying_agreement.specs.Link.{links_of}
-use Rattle.relying_agreement.specs.Verdict.{IsClear, IsVerdict, ValidExactlyWhere, VerdictIsOne, evidence_on, verdict_by, verdict_from, verdict_of}
+use Rattle.relying_agreement.specs.Verdict.{IsClear, IsVerdict, ValidExactlyWhere, VerdictIsOne, evidence_on, verdict_by, verdict_from}
 use Rattle.relying_policies.specs.declared.verdict.VerdictWithPolicies.{VerdictWithPolicies}
 use Rattle.relying_policies.specs.WithPolicies.{IsVerdictWithPolicies, ValidWithPoliciesExactlyWhere, InvalidWithPoliciesExactlyWhere, JoinsVerdict, SameVerdictsAreSameWithPolicies}
 use Rattle.relying_policies.specs.WithPolicies as with_policies
 use Rattle.relying_policies.specs.Joining.{outcome_in}
-
--- what statements say is never that the path is invalid
-said_of_good : (revoked : Option (ℕ × ℕ)) (uncovered : Option ℕ) → outcome_in (verdict_from revoked uncovered) ≡ path.Good
-said_of_good (Some it) uncovered = refl
-said_of_good None (Some j) = refl
-said_of_good None None = refl
-
--- the outcome that a verdict says is that of the path, and where it is good the verdict is what the statements say
-pub outcome_said : (accepts : Accepts) (query : Query) (held : Holdings) (verdict : Verdict) → IsVerdict accepts query held verdict
-    → IsOutcome accepts query (outcome_in verdict)
-outcome_said accepts query held verdict is = said is.outcome is.is_outcome is.verdict_is
-  where
-    said : (outcome : Outcome) → IsOutcome accepts query outcome → verdict ≡ verdict_of outcome query held → IsOutcome accepts query (outcome_in verdict)
-    said path.Good good e = subst (λ o. IsOutcome accepts query o) (sym (ap outcome_in e ∙ said_of_good _ _)) good
-    said (path.Bad j reason) bad e = subst (λ o. IsOutcome accepts query o) (sym (ap outcome_in e)) bad
-
-pub verdict_said : (accepts : Accepts) (query : Query) (held : Holdings) (verdict : Verdict) → IsVerdict accepts query held verdict
-    → outcome_in verdict ≡ path.Good → verdict ≡ verdict_by query.moment (evidence_on held query)
-verdict_said accepts query held verdict is good = said is.outcome is.verdict_is
-  where
-    said : (outcome : Outcome) → verdict ≡ verdict_of outcome query held → verdict ≡ verdict_by query.moment (evidence_on held query)
-    said path.Good e = e
-    said (path.Bad j reason) e = absurd (let bad : path.Bad j reason ≡ path.Good = sym (ap outcome_in e) ∙ good in cc)
+use Rattle.relying_policies.proofs.Laws.{outcome_said, verdict_said}
 
 module _ (accepts : Accepts) (q : QueryWithPolicies) (held : Holdings) (answer : VerdictWithPolicies) where
   -- the answer by an outcome of the path and its policies

@@ -4,6 +4,6 @@
 mod verdict;
 
 pub use verdict::{
-    VerdictWithPolicies, add_policies, join_verdict, verdict_with_policies,
+    VerdictWithPolicies, add_policies, join_verdict, outcome_of, verdict_with_policies,
     verdict_with_policies_laws,
 };

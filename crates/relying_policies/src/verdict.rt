@@ -24,8 +24,8 @@ pub struct VerdictWithPolicies<'c> {
     pub policies: Option<PolicySets<'c>>,
 }
 
-/// What a verdict says of the validation of the path.
-fn outcome_of(verdict: Verdict) -> Outcome
+/// What a verdict says of the validation of its path: Good, unless it is Invalid.
+pub fn outcome_of(verdict: Verdict) -> Outcome
     ensures { result ≡ outcome_in verdict }
 {
     match verdict {

@@ -5,6 +5,7 @@ use cert::{CertFault, CertRule};
 use der_tree::EncodeFault;
 use path::{Outcome, QueryFault};
 use path_hosts::{QueryWithHosts, validate_with_hosts};
+use statements_parts::ReadingFault;
 use std::alloc::{AllocError, AllocFailed, Global};
 use vectors::NotationFault;
 use vectors_toy::ToyVerifier;
@@ -48,6 +49,15 @@ impl From<EncodeFault> for RowFault {
         match fault {
             EncodeFault::Memory => RowFault::Memory,
             _ => RowFault::Word,
+        }
+    }
+}
+
+impl From<ReadingFault> for RowFault {
+    fn from(fault: ReadingFault) -> RowFault {
+        match fault {
+            ReadingFault::Memory => RowFault::Memory,
+            ReadingFault::Refused(_, _) => RowFault::Word,
         }
     }
 }

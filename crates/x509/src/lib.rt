@@ -123,8 +123,9 @@ pub mod search {
 /// Constraints on mail addresses and on the hosts of URIs (RFC 5280, 4.2.1.10), for who asks for them.
 ///
 /// `validate` refuses a path where such a constraint meets a name of its form. `validate_with_hosts` processes them: `QueryWithHosts` reads
-/// the certificates with what they say of mail addresses and URIs. `QueryWithHosts::path` is the path without these constraints: a verdict on
-/// it counts only if `hosts_outcome`, which looks at them alone, is Good.
+/// the certificates with what they say of mail addresses and URIs. A party is asked for its verdict on `QueryWithHosts::path`, the path
+/// without these constraints, and `add_hosts` adds them to its answer; `verdict_with_hosts` does both by statements at hand. `hosts_outcome`
+/// looks at these constraints alone.
 pub mod hosts {
     pub use cert_hosts::{CertificateHosts, certificate_hosts_laws};
     pub use names_hosts::{
@@ -134,6 +135,7 @@ pub mod hosts {
         HostCertificate, QueryWithHosts, host_certificates, hosts_apart, hosts_outcome, join_hosts,
         outcome_with_hosts_laws, validate_with_hosts,
     };
+    pub use relying_hosts::{add_hosts, join_verdict, verdict_with_hosts, verdict_with_hosts_laws};
 }
 
 /// Certificate policies (RFC 5280, 4.2.1.4, 4.2.1.5, 4.2.1.11, 4.2.1.14 and 6.1; RFC 9618), for who asks for them.
