@@ -1,8 +1,9 @@
-"""What the page on the bindings shows runs and prints what the page says."""
+"""What docs/GUIDE.md shows for Python runs and prints what the page says; its code for Rust is that of the tests there."""
 
 import contextlib
 import io
 import os
+import re
 import shlex
 import subprocess
 import sys
@@ -19,9 +20,16 @@ from .test_party import PROGRAM
 TOP = os.path.join(os.path.dirname(os.path.realpath(__file__)), "..", "..", "..")
 
 
+# The two blocks that begin alike.
+AS_SENT, PATH_IS_KNOWN = "import x509check\n    sent", "import x509check\n\n    folder"
+
+
 def part_of_guide(title):
+    """What stands under a heading, up to the next one of its level or of a higher one."""
     with open(os.path.join(TOP, "docs", "GUIDE.md"), encoding="utf-8") as file:
-        return file.read().split(f"\n# {title}\n")[1].split("\n# ")[0]
+        page = file.read()
+    heading = re.search(rf"^(#+) {re.escape(title)}$", page, re.M)
+    return re.split(rf"^#{{1,{len(heading[1])}}} ", page[heading.end():], maxsplit=1, flags=re.M)[0]
 
 
 def block_with(part, begin):
@@ -49,9 +57,9 @@ class Guide(unittest.TestCase):
         os.symlink(os.path.join(os.path.realpath(TOP), "examples"), "examples")
 
     def test_the_code_for_python(self):
-        for title in ("From what a server sends to a verdict", "From Python"):
-            part = part_of_guide(title)
-            line, = printed_by(block_with(part, "import x509check"))
+        part = part_of_guide("From Python")
+        for begin in (AS_SENT, PATH_IS_KNOWN):
+            line, = printed_by(block_with(part, begin))
             self.assertIn(f"`{line}`", part)
 
     def test_policies(self):
@@ -62,22 +70,22 @@ class Guide(unittest.TestCase):
     @unittest.skipUnless(PROGRAM, "the program is missing")
     def test_a_report(self):
         part = part_of_guide("From Python")
-        printed_by(block_with(part, "import x509check") + "\n" + block_with(part, "page = "))
+        printed_by(block_with(part, PATH_IS_KNOWN) + "\n" + block_with(part, "page = "))
         with open("report.html", encoding="utf-8") as file:
             self.assertIn("<strong>valid</strong>", file.read())
 
     @unittest.skipUnless(PROGRAM, "the program is missing")
     def test_a_party(self):
-        part = part_of_guide("A process beside a gateway")
+        part = part_of_guide("A party")
         for _ in ("the lists are stored", "they are kept"):
             line, = printed_by(block_with(part, "import x509check"))
             self.assertIn(f"`{line}`", part)
 
     @unittest.skipUnless(PROGRAM, "the program is missing")
     def test_a_party_that_is_shared(self):
-        command, connect = block_with(part_of_guide("A process beside a gateway"),
-                                      "python3 -m x509check.party"), 'x509check.Party.connect("party.socket")'
-        self.assertIn(connect, part_of_guide("A process beside a gateway"))
+        part = part_of_guide("A party")
+        command, connect = block_with(part, "python3 -m x509check.party"), 'x509check.Party.connect("party.socket")'
+        self.assertIn(connect, part)
         words = [sys.executable, "-B", *shlex.split(command)[1:]]
         with subprocess.Popen(words, stderr=subprocess.PIPE, text=True,
                               env={**os.environ, "PYTHONPATH": os.path.join(TOP, "bindings", "python")}) as served:
@@ -97,7 +105,7 @@ class Guide(unittest.TestCase):
         web.has("/root.crl", made.revocation_list("Root"))
         os.rename("Leaf.pem", "sent.pem")
         os.rename("Root.pem", "anchors.pem")
-        part = part_of_guide("Lists that come by themselves")
+        part = part_of_guide("Lists for a party")
         # The page's server is a public one.
         with mock.patch("x509check._http.is_public", return_value=True):
             first, second = printed_by(block_with(part, "import x509check"))

@@ -67,13 +67,13 @@ rank 8 ConstraintForm: An authority above constrains names of a form that is not
 rank 9 NotCa: A certificate that is used as an authority's is none: it is not of version 3, or has no cA. Put the path in order, or leave the certificate out. (RFC 5280, 6.1.4 (k))
 rank 10 PathLength: More authorities follow than the path length of one above allows. The authority may not have that many below it. (RFC 5280, 6.1.4 (l) and (m))
 rank 11 KeyCertSign: An authority's key may not sign certificates: its keyUsage lacks keyCertSign. Ask the authority for a new certificate. (RFC 5280, 6.1.4 (n))
-rank 12 Policy: The certificate wants policies to be processed, which is not served. Use another path; the library in Rattle processes policies for who asks. (RFC 5280, 6.1.3 (d) to (f))
+rank 12 Policy: The certificate has policyMappings, policyConstraints or inhibitAnyPolicy, and policies were not asked for. Ask for them by --policy, or use another path. (RFC 5280, 6.1.3 (d) to (f))
 rank 13 CriticalUnknown: The certificate has a critical extension that is not recognised. Such a certificate has to be refused. `show` lists the extension. (RFC 5280, 6.1.4 (o) and 6.1.5 (f))
-rank 14 Purpose: The key of the last certificate is not for the purpose that was asked for. Look at --purpose, and at the purposes that `show` lists. (RFC 5280, 4.2.1.12)
+rank 14 Purpose: The extKeyUsage of the last certificate lists neither the purpose that was asked for nor anyExtendedKeyUsage. Look at --purpose, and at the purposes that `show` lists. (RFC 5280, 4.2.1.12)
 rank 15 Empty: The path has no certificate. Name the files of the certificates below the anchor. (RFC 5280, 6.1)
 rank 16 TooLong: The path has more than 128 certificates. Leave out what is not needed. (a limit of this program)
-rank 17 NoValidPolicy: A policy is required, and the certificate has none that those above it allow. Only who asks for policies is told so. Use another path, or ask without requiring a policy. (RFC 5280, 6.1.3 (f))
-rank 18 AnyPolicyMapped: The certificate maps anyPolicy, or a policy to anyPolicy, which no authority may. Only who asks for policies is told so. Use another path. (RFC 5280, 6.1.4 (a))
+rank 17 NoValidPolicy: A policy is required, and the certificate has none that those above it allow. It is told only if policies are asked for. Use another path, or ask without requiring a policy. (RFC 5280, 6.1.3 (f))
+rank 18 AnyPolicyMapped: The certificate maps anyPolicy, or a policy to anyPolicy, which no authority may. It is told only if policies are asked for. Use another path. (RFC 5280, 6.1.4 (a))
 rank 19 NoUserPolicy: A policy is required, and none of those asked for is valid at the end of the path. Ask for another policy, or use another path. (RFC 5280, 6.1.5 (g))
 status 0 done: What was asked for was done: the path is valid, or both verdicts of a comparison are.
 status 1 invalid: The path does not meet the conditions of validity; the line names the certificate, the rank and the name of the reason. See `explain rank`.
