@@ -10,14 +10,21 @@ use Rattle.statements_facts.specs.Fact.{Fact}
 use Rattle.statements_facts.specs.declared.counts.Counts.{Counts}
 use Rattle.cli_failures.specs.declared.failure.Failure.{Failure}
 use Rattle.cli_failures.specs.declared.failure.Failure.TheVariants.{NoMemory}
+use Rattle.cli_words.specs.PolicyTexts.{PolicyTexts}
 use Rattle.cli_words.specs.QueryTexts.{QueryTexts}
 use Rattle.cli_words.specs.SearchTexts.{SearchTexts}
 use Rattle.cli_steps.specs.Commands.{AsksBelieving, DeliversBelieving}
 use Rattle.cli_steps.specs.Found.{FindingBy, FindsBelieving, usual_budget}
 use Rattle.cli_steps.specs.Passing.{AnsweringBy, TakingBy}
 use Rattle.cli_steps.specs.declared.found.FoundPath.{FoundPath}
+use Rattle.cli_steps.specs.declared.policy_verdict.PolicyVerdict.{PolicyVerdict}
+use Rattle.cli_steps.specs.WithPolicies.{ChecksBelieving}
+use Rattle.path_with_policies.specs.WithPolicies.{QueryWithPolicies}
+use Rattle.relying_policies.specs.WithPolicies.{AddsPolicies}
+use Rattle.relying_policies.specs.declared.verdict.VerdictWithPolicies.{VerdictWithPolicies}
 use Rattle.cli_store.specs.Standing.{Places}
-use Rattle.cli.specs.Checked.{ChecksAt, ComparesAt, IsChecked, IsCompared, IsFailureOfCheck, IsFailureOfComparison, IsNotChecked}
+use Rattle.cli.specs.Checked.{ChecksAt, ComparesAt, IsChecked, IsCheckedBy, IsCompared, IsFailureOfCheck, IsFailureOfComparison, IsNotChecked}
+use Rattle.cli.specs.CheckedPolicies.{IsCheckedWithPolicies, IsCheckedWithPoliciesBy, IsFailureOfPolicyCheck}
 use Rattle.cli.specs.Delivered.{IsDelivered, IsFailureOfDelivery, TakesAt}
 use Rattle.cli.specs.Host.{HostState}
 use Rattle.cli.specs.Searched.{FindsAt, IsFailureOfFinding, IsSearched}
@@ -64,6 +71,35 @@ module _ {D S : Type 0} (known : S → Places) (host : HostState) (store verdict
   not_checked (Ok verdict) did = tt
   not_checked (Err failure) (inl (refused, same)) = inl refused
   not_checked (Err failure) (inr ((accepts, query), asked, fails)) = inr ((accepts, query, asked), so accepts query (Err failure) fails)
+
+-- ---- verdicts with policies
+
+-- policies are added to the verdict by what the store held
+with_policies : (at : Places) (path : List ℕ) (accepts : Accepts) (q : QueryWithPolicies) (verdict : Verdict) (answer : VerdictWithPolicies) → IsCheckedBy at path accepts q.path verdict → AddsPolicies q verdict answer
+    → IsCheckedWithPoliciesBy at path accepts q answer
+with_policies at path accepts q verdict answer by adds = record {
+  old = by.old;
+  found = by.found;
+  new = by.new;
+  left = by.left;
+  is = λ intact held store. let it = by.is intact held store in (adds accepts held it.0, it.1, it.2);
+}
+
+module _ {D S : Type 0} (known : S → Places) (host : HostState) (store verdicts : List ℕ) (texts : QueryTexts) (policies : PolicyTexts) (old new : AtPath D S) (so : (accepts : Accepts) (query : Query) (result : Result Verdict Failure) → checking_at known old new accepts query result → ChecksAt host.at store accepts query result) where
+  abbrev AsksPolicies : Result PolicyVerdict Failure → Type 0
+  AsksPolicies = ChecksBelieving host.holds verdicts texts policies (checking_at known) old new
+
+  pub checked_policies : (result : Result PolicyVerdict Failure) → AsksPolicies result → IfOk result (IsCheckedWithPolicies host store verdicts texts policies)
+  checked_policies (Ok told) ((accepts, q), (believes, asks), (verdict, did, (answer, adds, says))) =
+      record { accepts = accepts; believes = believes; q = q; asks = asks; answer = answer; checked = with_policies host.at store accepts q verdict answer (so accepts q.path (Ok verdict) did) adds; says = says }
+  checked_policies (Err failure) did = tt
+
+  pub not_checked_policies : (result : Result PolicyVerdict Failure) → AsksPolicies result → IfErr result (IsFailureOfPolicyCheck host store verdicts texts policies)
+  not_checked_policies (Ok told) did = tt
+  not_checked_policies (Err failure) (inl (refused, same)) = inl refused
+  not_checked_policies (Err failure) (inr ((accepts, q), (believes, asks), inl fails)) = inr (((accepts, believes), (q, asks)), so accepts q.path (Err failure) fails)
+  not_checked_policies (Err failure) (inr ((accepts, q), (believes, asks), inr (verdict, did, memory))) =
+      inr (((accepts, believes), (q, asks)), subst (IsNotChecked host.at store) (sym memory) (inl tt))
 
 -- ---- comparisons
 

@@ -6,7 +6,7 @@ use Rattle.std.proofs.KnownBytes.{Appends-kept}
 use Rattle.clap.specs.Words.{Text}
 use Rattle.cli_words.specs.CommandLine.{ReadsLine}
 use Rattle.cli_words.specs.declared.line.Line.{Line}
-use Rattle.cli_words.specs.declared.line.Line.TheVariants.{Tree, Show, Prints, SearchPrints, Deliver, Check, Compare, Find, List as Listing, Explain, Session}
+use Rattle.cli_words.specs.declared.line.Line.TheVariants.{Tree, Show, Prints, SearchPrints, Deliver, Check, CheckWithPolicies, Compare, Find, List as Listing, Explain, Session}
 use Rattle.cli_lines.proofs.Laws.{whole}
 use Rattle.cli_failures.specs.Report.{UnlessLate, report_line, exit_status}
 use Rattle.cli_failures.specs.declared.failure.Failure.{Failure}
@@ -95,6 +95,8 @@ unflushed host (Deliver store verdicts issuer file) run after status keeps (text
     inr (refl, (text, (counts, is, line), whole run.output run.written after text written keeps))
 unflushed host (Check store verdicts query) run after status keeps (text, (verdict, is, ends, said), written) =
     inr (refl, (text, (verdict, is, said), whole run.output run.written after text written keeps))
+unflushed host (CheckWithPolicies store verdicts query policies) run after status keeps (text, (told, is, ends, said), written) =
+    inr (refl, (text, (told, is, said), whole run.output run.written after text written keeps))
 unflushed host (Compare store other verdicts query) run after status keeps (text, (comparison, is, ends, said), written) =
     inr (refl, (text, (comparison, is, said), whole run.output run.written after text written keeps))
 unflushed host (Find store verdicts search) run after status keeps (text, (answer, is, ends, said), written) =
@@ -113,6 +115,7 @@ flushed host (Prints issuer kind with_parts file) run after status keeps (text, 
 flushed host (SearchPrints issuers among with_parts file) run after status keeps (text, is, written) = (text, is, Appends-kept run.output run.written after text written keeps)
 flushed host (Deliver store verdicts issuer file) run after status keeps (text, is, written) = (text, is, Appends-kept run.output run.written after text written keeps)
 flushed host (Check store verdicts query) run after status keeps (text, is, written) = (text, is, Appends-kept run.output run.written after text written keeps)
+flushed host (CheckWithPolicies store verdicts query policies) run after status keeps (text, is, written) = (text, is, Appends-kept run.output run.written after text written keeps)
 flushed host (Compare store other verdicts query) run after status keeps (text, is, written) = (text, is, Appends-kept run.output run.written after text written keeps)
 flushed host (Find store verdicts search) run after status keeps (text, is, written) = (text, is, Appends-kept run.output run.written after text written keeps)
 flushed host (Listing store moment) run after status keeps (text, is, written) = (text, is, Appends-kept run.output run.written after text written keeps)

@@ -2,7 +2,7 @@
 use Rattle.std.proofs.Common.{◌≡◌, inl, inr, refl, ℕ, arith}
 use Rattle.cli_failures.specs.Report.{exit_status}
 use Rattle.cli_failures.specs.declared.failure.Failure.{Failure}
-use Rattle.cli_failures.specs.declared.failure.Failure.TheVariants.{Refused, NoCertificate, NoRevocationList, NoResponse, NotGenuine, BadLine, BadTime, BadPurpose, BadName, BadTopic, Unreadable, Unwritable, StoreFailed, NoMemory, Shut, NoInput}
+use Rattle.cli_failures.specs.declared.failure.Failure.TheVariants.{Refused, NoCertificate, NoRevocationList, NoResponse, NotGenuine, BadLine, BadTime, BadPurpose, BadPolicy, BadName, BadTopic, Unreadable, Unwritable, StoreFailed, NoMemory, Shut, NoInput}
 use Rattle.cli.specs.Ended.{IsAnswering, IsFailing}
 
 -- a failure has one of three
@@ -15,6 +15,7 @@ is_failing (NotGenuine file fault) = inl refl
 is_failing (BadLine file line) = inl refl
 is_failing BadTime = inr (inl refl)
 is_failing BadPurpose = inr (inl refl)
+is_failing (BadPolicy word) = inr (inl refl)
 is_failing (BadName stop) = inr (inl refl)
 is_failing BadTopic = inr (inl refl)
 is_failing Shut = inr (inr refl)

@@ -2,6 +2,7 @@ pub mod Host
 pub mod Streams
 pub mod Delivered
 pub mod Checked
+pub mod CheckedPolicies
 pub mod Listed
 pub mod Searched
 pub mod Session
@@ -13,6 +14,8 @@ pub use Rattle.cli_store.specs.OnFiles
 pub use Rattle.cli_steps.specs.Commands
 pub use Rattle.cli_steps.specs.Found
 pub use Rattle.cli_steps.specs.Passing
+pub use Rattle.cli_steps.specs.PolicyText
+pub use Rattle.cli_steps.specs.WithPolicies
 pub use Rattle.cli_answers.specs.Status
 pub use Rattle.cli_failures.specs.Report
 pub use Rattle.cli_failures.specs.Failures

@@ -11,13 +11,15 @@ use Rattle.statements_facts.specs.declared.counts.Counts.{Counts}
 use Rattle.cli_words.specs.CommandLine.{AreRefusedWith, ReadsLine}
 use Rattle.cli_words.specs.QueryTexts.{seen_words}
 use Rattle.cli_words.specs.SearchTexts.{seen_search_words}
+use Rattle.cli_words.specs.PolicyTexts.{seen_policy_words}
 use Rattle.cli_words.specs.declared.line.Line.{Line}
-use Rattle.cli_words.specs.declared.line.Line.TheVariants.{Tree, Show, Prints, SearchPrints, Deliver, Check, Compare, Find, List as Listing, Explain, Session}
+use Rattle.cli_words.specs.declared.line.Line.TheVariants.{Tree, Show, Prints, SearchPrints, Deliver, Check, CheckWithPolicies, Compare, Find, List as Listing, Explain, Session}
 use Rattle.cli_explaining.specs.Topics.{explanation, is_known}
 use Rattle.cli_failures.specs.Failures.{IsNoValue}
 use Rattle.cli_failures.specs.declared.failure.Failure.{Failure}
 use Rattle.cli_failures.specs.declared.failure.Failure.TheVariants.{BadTopic, NoMemory, Unwritable}
 use Rattle.cli.specs.Checked.{FailsToCheck, FailsToCompare, IsChecked, IsCompared}
+use Rattle.cli.specs.CheckedPolicies.{FailsToCheckPolicies, IsCheckedWithPolicies}
 use Rattle.cli.specs.Delivered.{FailsToDeliver, IsDelivered}
 use Rattle.cli.specs.Host.{HostState}
 use Rattle.cli.specs.Listed.{FailsToList, IsListed, given}
@@ -30,6 +32,7 @@ use Rattle.cli_showing.specs.Shown.{ArePrintsUnder, IsFailureOfPrints, IsNotShow
 use Rattle.cli_steps.specs.Found.{found_text}
 use Rattle.cli_steps.specs.SearchPrints.{AreSearchPrints, IsFailureOfSearchPrints}
 use Rattle.cli_steps.specs.declared.found.FoundPath.{FoundPath}
+use Rattle.cli_steps.specs.declared.policy_verdict.PolicyVerdict.{PolicyVerdict}
 
 -- ---- answers
 
@@ -37,6 +40,11 @@ use Rattle.cli_steps.specs.declared.found.FoundPath.{FoundPath}
 abbrev pub IsVerdictText : (Verdict → Type 0) → ℕ → List ℕ → Type 0
 IsVerdictText Is status text =
     (verdict : Verdict) × Is verdict × (status ≡ verdict_status verdict) × (text ≡ verdict_line verdict)
+
+-- the lines of a verdict with policies, and its status
+abbrev pub IsPolicyVerdictText : (PolicyVerdict → Type 0) → ℕ → List ℕ → Type 0
+IsPolicyVerdictText Is status text =
+    (told : PolicyVerdict) × Is told × (status ≡ verdict_status told.verdict) × (text ≡ told.lines.items)
 
 -- the line of a delivery that was made
 abbrev pub IsCountsText : (Counts → Type 0) → List ℕ → Type 0
@@ -84,6 +92,10 @@ IsAnswer host (Deliver store verdicts issuer file) status text =
     text
 IsAnswer host (Check store verdicts query) status text =
     IsVerdictText (IsChecked host store.now verdicts.now (seen_words query)) status text
+IsAnswer host (CheckWithPolicies store verdicts query policies) status text =
+    IsPolicyVerdictText
+    (IsCheckedWithPolicies host store.now verdicts.now (seen_words query) (seen_policy_words policies))
+    status text
 IsAnswer host (Compare store other verdicts query) status text =
     IsComparisonText
     (IsCompared host (record { store = store; other = other }) verdicts.now (seen_words query))
@@ -125,6 +137,9 @@ IsLineFailure host (Deliver store verdicts issuer file) run =
     run.output run.written
 IsLineFailure host (Check store verdicts query) run =
     FailsToCheck host store.now verdicts.now (seen_words query) run.output run.written
+IsLineFailure host (CheckWithPolicies store verdicts query policies) run =
+    FailsToCheckPolicies host store.now verdicts.now (seen_words query) (seen_policy_words policies)
+    run.output run.written
 IsLineFailure host (Compare store other verdicts query) run =
     FailsToCompare host (record { store = store; other = other }) verdicts.now (seen_words query)
     run.output run.written

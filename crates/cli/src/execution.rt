@@ -9,8 +9,8 @@ ghost use Rattle.cli.specs.Outcome.{IsDone, IsLineFailure, IsHelp};
 ghost use Rattle.cli.specs.Streams.{FailsToWrite, WritesAll, streams};
 
 use crate::{
-    Delivery, SessionWords, StorePair, Stores, check, compare, comparison_status, deliver, explain,
-    find, list, search_status, session, verdict_status,
+    Delivery, SessionWords, StorePair, Stores, check, check_with_policies, compare,
+    comparison_status, deliver, explain, find, list, search_status, session, verdict_status,
 };
 use clap::error::ErrorKind;
 use cli_answers::{DONE, MISTAKEN};
@@ -184,6 +184,15 @@ fn answer<'a, D: Disk + Drop, S: Source + Stores<Store<D>>, I: Read, O: Write>(
             query,
         } => {
             return Ok(verdict_status(check(source, alloc, store, verdicts, query, out)?));
+        }
+        Line::CheckWithPolicies {
+            store,
+            verdicts,
+            query,
+            policies,
+        } => {
+            let checked = check_with_policies(source, alloc, store, verdicts, query, policies, out);
+            return Ok(verdict_status(checked?));
         }
         Line::Compare {
             store,

@@ -14,7 +14,7 @@ use Rattle.statements_parts.specs.declared.fault.StatementFault.TheVariants.{Ref
 use Rattle.cli_failures.specs.declared.failure.StoreRefusal.{StoreRefusal}
 use Rattle.cli_failures.specs.declared.failure.StoreRefusal.TheVariants as OfStore
 use Rattle.cli_failures.specs.declared.failure.Failure.{Failure}
-use Rattle.cli_failures.specs.declared.failure.Failure.TheVariants.{Refused, NoCertificate, NoRevocationList, NoResponse, NotGenuine, BadLine, BadTime, BadPurpose, BadName, BadTopic, Unreadable, Unwritable, StoreFailed, NoMemory, Shut, NoInput}
+use Rattle.cli_failures.specs.declared.failure.Failure.TheVariants.{Refused, NoCertificate, NoRevocationList, NoResponse, NotGenuine, BadLine, BadTime, BadPurpose, BadPolicy, BadName, BadTopic, Unreadable, Unwritable, StoreFailed, NoMemory, Shut, NoInput}
 
 -- ` at PLACE`, where there is one
 abbrev pub place_text : Option ℕ → List ℕ
@@ -75,6 +75,10 @@ bad_line file line = file ++ line_words line
 abbrev pub bad_name_line : ℕ → List ℕ
 bad_name_line at = codes "bad name at " ++ decimal at ++ codes "\n"
 
+-- the word that is no policy
+abbrev pub bad_policy_line : List ℕ → List ℕ
+bad_policy_line word = codes "bad policy " ++ word ++ codes "\n"
+
 abbrev pub unreadable_line : List ℕ → List ℕ
 unreadable_line file = codes "cannot read " ++ file ++ codes "\n"
 
@@ -99,6 +103,7 @@ told_line (NotGenuine file fault) = statement_line file.now fault
 told_line (BadLine file line) = bad_line file.now line
 told_line BadTime = codes "bad time\n"
 told_line BadPurpose = codes "bad purpose\n"
+told_line (BadPolicy word) = bad_policy_line word.now
 told_line (BadName at) = bad_name_line at
 told_line BadTopic = codes "bad topic\n"
 told_line (Unreadable file) = unreadable_line file.now
@@ -137,6 +142,7 @@ exit_status (NotGenuine file fault) = 4
 exit_status (BadLine file line) = 4
 exit_status BadTime = 5
 exit_status BadPurpose = 5
+exit_status (BadPolicy word) = 5
 exit_status (BadName at) = 5
 exit_status BadTopic = 5
 exit_status (Unreadable file) = 6

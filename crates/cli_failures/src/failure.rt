@@ -1,7 +1,7 @@
 //! Why a run failed: the line on standard error and the exit status.
 ghost use Rattle.std.specs.Prelude.{◌≡◌, OnOk};
 ghost use Rattle.std.specs.Io.KnownBytes.{Appends};
-ghost use Rattle.cli_failures.specs.Report.{bad_line, bad_name_line, line_words, place_text, printed_fault_number, printed_name, printed_number, printed_statement_name, printed_statement_number, refusal_line, report_line, response_line, statement_line, exit_status, store_fault_line, store_refusal_number, told_line, topic_of, unreadable_line, unsuccessful_line, unsuccessful_words};
+ghost use Rattle.cli_failures.specs.Report.{bad_line, bad_name_line, bad_policy_line, line_words, place_text, printed_fault_number, printed_name, printed_number, printed_statement_name, printed_statement_number, refusal_line, report_line, response_line, statement_line, exit_status, store_fault_line, store_refusal_number, told_line, topic_of, unreadable_line, unsuccessful_line, unsuccessful_words};
 
 use asn::Fault;
 use cert::CertRule;
@@ -71,6 +71,10 @@ pub enum Failure<'a> {
     BadTime,
     /// The purpose is no OBJECT IDENTIFIER in dotted decimal.
     BadPurpose,
+    /// The word is no policy: no OBJECT IDENTIFIER in dotted decimal.
+    BadPolicy {
+        word: &'a str,
+    },
     /// The name is no host, no IP address and no mailbox; where it stops being one.
     BadName {
         at: usize,
@@ -242,6 +246,13 @@ fn write_bad_name<W: Write>(at: usize, writer: &mut W) -> io::Result<()>
     writeln!(writer, "bad name at {at}")
 }
 
+fn write_bad_policy<W: Write>(word: &str, writer: &mut W) -> io::Result<()>
+    ensures { OnOk result (Appends (W.contents writer.old) (W.contents writer.new)
+        (bad_policy_line word.now)) }
+{
+    writeln!(writer, "bad policy {word}")
+}
+
 fn write_unreadable<W: Write>(file: &str, writer: &mut W) -> io::Result<()>
     ensures { OnOk result (Appends (W.contents writer.old) (W.contents writer.new)
         (unreadable_line file.now)) }
@@ -274,8 +285,11 @@ impl<'a> Failure<'a> {
             | Failure::NoResponse { .. }
             | Failure::NotGenuine { .. }
             | Failure::BadLine { .. } => REFUSED,
-            Failure::BadTime | Failure::BadPurpose | Failure::BadName { .. } | Failure::BadTopic =>
-                MISTAKEN,
+            Failure::BadTime
+            | Failure::BadPurpose
+            | Failure::BadPolicy { .. }
+            | Failure::BadName { .. }
+            | Failure::BadTopic => MISTAKEN,
             Failure::Unreadable { .. }
             | Failure::Unwritable
             | Failure::StoreFailed { .. }
@@ -338,6 +352,7 @@ impl<'a> Failure<'a> {
             Failure::BadLine { file, line } => write_bad_line(file, *line, writer),
             Failure::BadTime => write_text("bad time\n", writer),
             Failure::BadPurpose => write_text("bad purpose\n", writer),
+            Failure::BadPolicy { word } => write_bad_policy(word, writer),
             Failure::BadName { at } => write_bad_name(*at, writer),
             Failure::BadTopic => write_text("bad topic\n", writer),
             Failure::Unreadable { file } => write_unreadable(file, writer),

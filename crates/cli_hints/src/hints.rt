@@ -95,6 +95,7 @@ fn hint_about_stores<W: Write>(
     match line {
         Line::Deliver { store, .. }
         | Line::Check { store, .. }
+        | Line::CheckWithPolicies { store, .. }
         | Line::List { store, .. }
         | Line::Session { store, .. } => hint_about_store(rt, store, writer),
         Line::Compare { store, other, .. } => {
@@ -117,7 +118,9 @@ fn hint_about_schema<W: Write>(writer: &mut W) -> io::Result<()> {
 
 fn hint_about_time<W: Write>(line: &Line<'_>, writer: &mut W) -> io::Result<()> {
     let moment = match line {
-        Line::Check { query, .. } | Line::Compare { query, .. } => query.moment,
+        Line::Check { query, .. }
+        | Line::CheckWithPolicies { query, .. }
+        | Line::Compare { query, .. } => query.moment,
         Line::List {
             moment: Some(moment),
             ..
@@ -171,6 +174,10 @@ pub fn hint_to<W: Write>(
         ),
         Failure::BadTime => hint_about_time(line, writer),
         Failure::BadPurpose => hint_about_purpose(writer),
+        Failure::BadPolicy { .. } => writeln!(
+            writer,
+            "--policy takes an object identifier in dotted form, as 2.23.140.1.2.1, or 2.5.29.32.0 for any policy"
+        ),
         Failure::BadName { .. } => writeln!(
             writer,
             "a name is a host, as mail.example.org, an IP address, or a mailbox, as ann@example.org"

@@ -14,7 +14,7 @@ use Rattle.der_stream.specs.declared.reading.ReadFault.TheVariants.{Fault as OfV
 use Rattle.der_stream.specs.Sequence.{IsValueWithin, joined}
 use Rattle.cli_failures.specs.Failures.{Holding}
 use Rattle.cli_failures.specs.declared.failure.Failure.{Failure}
-use Rattle.cli_failures.specs.declared.failure.Failure.TheVariants.{Refused, NoCertificate, NoRevocationList, NoResponse, NotGenuine, BadLine, BadTime, BadPurpose, BadName, BadTopic, Unreadable, Unwritable, StoreFailed, NoMemory, Shut, NoInput}
+use Rattle.cli_failures.specs.declared.failure.Failure.TheVariants.{Refused, NoCertificate, NoRevocationList, NoResponse, NotGenuine, BadLine, BadTime, BadPurpose, BadPolicy, BadName, BadTopic, Unreadable, Unwritable, StoreFailed, NoMemory, Shut, NoInput}
 use Rattle.cli_operands.specs.PathText.{AreTexts, BeginsWithValues, HoldsNoValue, HoldsOther, IsFailureOnPath, longest}
 use Rattle.cli_operands.specs.CertificateValues.{AreCertificateValues, IsFailureAmong, IsFailureAt, IsOtherAmong, IsToldOf, ReadUpTo}
 use Rattle.cli_operands.specs.PathFiles.{IsFailureBehind}
@@ -70,6 +70,7 @@ among before value behind file (NotGenuine named fault) read fails = fails
 among before value behind file (BadLine named line) read fails = fails
 among before value behind file BadTime read fails = fails
 among before value behind file BadPurpose read fails = fails
+among before value behind file (BadPolicy word) read fails = fails
 among before value behind file (BadName stop) read fails = fails
 among before value behind file BadTopic read fails = fails
 among before value behind file Shut read fails = fails
@@ -135,6 +136,7 @@ module _ (most : ℕ) (holds : Holding) (octets file : List ℕ) (held : holds f
   refused_among values stopped (BadLine named line) read fails = of_memory (BadLine named line) fails
   refused_among values stopped BadTime read fails = of_memory BadTime fails
   refused_among values stopped BadPurpose read fails = of_memory BadPurpose fails
+  refused_among values stopped (BadPolicy word) read fails = of_memory (BadPolicy word) fails
   refused_among values stopped (BadName stop) read fails = of_memory (BadName stop) fails
   refused_among values stopped BadTopic read fails = of_memory BadTopic fails
   refused_among values stopped Shut read fails = of_memory Shut fails
@@ -163,6 +165,7 @@ module _ (most : ℕ) (holds : Holding) (octets file : List ℕ) (held : holds f
   told_behind values place rule at (BadLine named line) read are fails = of_memory (BadLine named line) fails
   told_behind values place rule at BadTime read are fails = of_memory BadTime fails
   told_behind values place rule at BadPurpose read are fails = of_memory BadPurpose fails
+  told_behind values place rule at (BadPolicy word) read are fails = of_memory (BadPolicy word) fails
   told_behind values place rule at (BadName stop) read are fails = of_memory (BadName stop) fails
   told_behind values place rule at BadTopic read are fails = of_memory BadTopic fails
   told_behind values place rule at Shut read are fails = of_memory Shut fails
@@ -202,6 +205,7 @@ module _ (most : ℕ) (holds : Holding) (octets file : List ℕ) (held : holds f
   refused_behind some values None (BadLine named line) read are fails = absurd fails
   refused_behind some values None BadTime read are fails = absurd fails
   refused_behind some values None BadPurpose read are fails = absurd fails
+  refused_behind some values None (BadPolicy word) read are fails = absurd fails
   refused_behind some values None (BadName stop) read are fails = absurd fails
   refused_behind some values None BadTopic read are fails = absurd fails
   refused_behind some values None Shut read are fails = absurd fails

@@ -4,7 +4,7 @@ use Rattle.std.proofs.lemmas.List.{take-append-drop, take_more}
 use Rattle.cert.specs.Certificate.{Certificate, certificate}
 use Rattle.cli_failures.specs.Failures.{Holding, IsJust, IsNoCertificate, IsUnread}
 use Rattle.cli_failures.specs.declared.failure.Failure.{Failure}
-use Rattle.cli_failures.specs.declared.failure.Failure.TheVariants.{Refused, NoCertificate, NoRevocationList, NoResponse, NotGenuine, BadLine, BadTime, BadPurpose, BadName, BadTopic, Unreadable, Unwritable, StoreFailed, NoMemory, Shut, NoInput}
+use Rattle.cli_failures.specs.declared.failure.Failure.TheVariants.{Refused, NoCertificate, NoRevocationList, NoResponse, NotGenuine, BadLine, BadTime, BadPurpose, BadPolicy, BadName, BadTopic, Unreadable, Unwritable, StoreFailed, NoMemory, Shut, NoInput}
 use Rattle.cli_operands.specs.CertificateValues.{EndBehind, IsFailureAmong}
 use Rattle.cli_operands.specs.PathFiles.{AreCertificatesIn, AreCertificatesOf, AreFilesRead, IsFailureBehind, IsFailureIn, IsFailureOf, IsFileRead, values_read}
 use Rattle.cli_operands.specs.PathText.{HoldPath, HoldsCertificates, IsFailureOfPath, IsFailureOnPath}
@@ -84,6 +84,7 @@ unread_on most holds file (NotGenuine named fault) fails = absurd fails
 unread_on most holds file (BadLine named line) fails = absurd fails
 unread_on most holds file BadTime fails = absurd fails
 unread_on most holds file BadPurpose fails = absurd fails
+unread_on most holds file (BadPolicy word) fails = absurd fails
 unread_on most holds file (BadName stop) fails = absurd fails
 unread_on most holds file BadTopic fails = absurd fails
 unread_on most holds file Shut fails = absurd fails
@@ -102,6 +103,7 @@ unread_certificate holds file (NotGenuine named fault) fails = absurd fails
 unread_certificate holds file (BadLine named line) fails = absurd fails
 unread_certificate holds file BadTime fails = absurd fails
 unread_certificate holds file BadPurpose fails = absurd fails
+unread_certificate holds file (BadPolicy word) fails = absurd fails
 unread_certificate holds file (BadName stop) fails = absurd fails
 unread_certificate holds file BadTopic fails = absurd fails
 unread_certificate holds file Shut fails = absurd fails
@@ -120,6 +122,7 @@ no_certificate holds octets file (NotGenuine named fault) held fails = absurd fa
 no_certificate holds octets file (BadLine named line) held fails = absurd fails
 no_certificate holds octets file BadTime held fails = absurd fails
 no_certificate holds octets file BadPurpose held fails = absurd fails
+no_certificate holds octets file (BadPolicy word) held fails = absurd fails
 no_certificate holds octets file (BadName stop) held fails = absurd fails
 no_certificate holds octets file BadTopic held fails = absurd fails
 no_certificate holds octets file Shut held fails = absurd fails

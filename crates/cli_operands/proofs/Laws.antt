@@ -18,7 +18,13 @@ use Rattle.cli_operands.specs.declared.operand_files.Operands.{Operands}
 use Rattle.cli_operands.specs.declared.search_files.SearchCertificates.{SearchCertificates}
 use Rattle.cli_operands.specs.declared.search_files.SearchOperands.{SearchOperands}
 use Rattle.cli_operands.specs.declared.terms.Terms.{Terms}
+use Rattle.path_with_policies.specs.WithPolicies.{QueryWithPolicies}
+use Rattle.path_with_policies.specs.declared.query.PolicyInputs.{PolicyInputs}
+use Rattle.cli_words.specs.PolicyTexts.{PolicyTexts}
+use Rattle.cli_operands.specs.Policies.{ArePolicyTerms, AsksWithPolicies, HasTermsOf, IsFailureOfPolicyPath, IsPolicyQueryOf, IsRefusalWithPolicies}
+use Rattle.cli_operands.specs.declared.policies.PolicyTerms.{PolicyTerms}
 use Rattle.cli_operands.proofs.Files.{fails_of, hold_path, no_certificate}
+use Rattle.cli_operands.proofs.NamedPolicies.{ask_of_policies, malformed_in}
 use Rattle.cli_operands.proofs.Places.{count_of, each_as, reversed, stands_in}
 -- files that hold no certificate
 pub use Rattle.cli_operands.proofs.Files.{no_certificate, unread_certificate}
@@ -46,6 +52,25 @@ refuse holds texts it failure are (inl fails) =
     inl (no_certificate holds it.anchor.items texts.anchor failure are.anchor (subst (λ (file : List ℕ). IsNoCertificate (IsJust it.anchor.items) file failure) are.anchor_file fails))
 refuse holds texts it failure are (inr ((anchor, is), fails)) =
     inr ((anchor, (it.anchor.items, are.anchor, is)), fails_of most_of_path (omega arith) holds texts.files it.path.files.items it.path.unread failure are.path fails)
+
+-- ---- policies
+
+-- the query with policies
+pub ask_with_policies : (holds : Holding) (texts : QueryTexts) (asked : PolicyTexts) (terms : Terms) (policies : PolicyTerms) (inputs : PolicyInputs) (it : Operands) (q : QueryWithPolicies)
+    → NameTerms texts terms → ArePolicyTerms asked policies → HasTermsOf policies inputs → AreOperands holds texts it → IsPolicyQueryOf it terms inputs q → AsksWithPolicies holds texts asked q
+ask_with_policies holds texts asked terms policies inputs it q named say of are is = record {
+  query = is.0.query;
+  asks = ask holds texts terms it is.0.query named are is.0.is;
+  of = is.0.of;
+  of_policies = ask_of_policies asked policies inputs q say of is.1;
+}
+
+-- a refusal of one of their certificates, or of what it says of policies
+pub refuse_with_policies : (holds : Holding) (texts : QueryTexts) (terms : Terms) (it : Operands) (failure : Failure) → NameTerms texts terms → AreOperands holds texts it → IsRefusalWithPolicies it terms failure
+    → IsFailureOfPolicyPath holds texts failure
+refuse_with_policies holds texts terms it failure named are (inl refused) = inl (refuse holds texts it failure are refused)
+refuse_with_policies holds texts terms it failure named are (inr ((query, is), malformed)) =
+    inr ((query, ask holds texts terms it query named are is), malformed_in holds texts it failure are malformed)
 
 -- ---- searches
 

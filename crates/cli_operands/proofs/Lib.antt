@@ -6,4 +6,5 @@ mod Values
 mod Certificates
 mod Files
 mod Places
+mod NamedPolicies
 pub mod Laws

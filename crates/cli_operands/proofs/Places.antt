@@ -54,14 +54,14 @@ count_of (it ∷ files) certificates (first, more, are_first, are_more, is) =
 
 -- ---- a file among others
 
-record FilesParted (most : ℕ) (holds : Holding) (names : List (List ℕ)) (before : List PathFile) (it : PathFile) : Type 0 where
+pub record FilesParted (most : ℕ) (holds : Holding) (names : List (List ℕ)) (before : List PathFile) (it : PathFile) : Type 0 where
   pub front : List (List ℕ)
   pub back : List (List ℕ)
   pub names_are : names ≡ front ++ it.file.now ∷ back
   pub front_read : AreFilesRead most holds front before None
   pub it_read : IsFileRead most holds it.file.now it
 
-files_parted : (most : ℕ) (holds : Holding) (names : List (List ℕ)) (before : List PathFile) (it : PathFile) (behind : List PathFile) (unread : Option Failure)
+pub files_parted : (most : ℕ) (holds : Holding) (names : List (List ℕ)) (before : List PathFile) (it : PathFile) (behind : List PathFile) (unread : Option Failure)
     → AreFilesRead most holds names (before ++ it ∷ behind) unread → FilesParted most holds names before it
 files_parted most holds [] [] it behind unread read = absurd read
 files_parted most holds [] (other ∷ before) it behind unread read = absurd read
@@ -77,13 +77,13 @@ files_parted most holds (name ∷ names) (other ∷ before) it behind unread (on
       it_read = more.it_read;
     }
 
-record CertificatesParted (before : List PathFile) (it : PathFile) : Type 0 where
+pub record CertificatesParted (before : List PathFile) (it : PathFile) : Type 0 where
   pub front : List Certificate
   pub own : List Certificate
   pub front_are : AreCertificatesOf before front
   pub own_are : AreCertificatesIn it own
 
-certificates_parted : (before : List PathFile) (it : PathFile) (behind : List PathFile) (certificates : List Certificate) → AreCertificatesOf (before ++ it ∷ behind) certificates → CertificatesParted before it
+pub certificates_parted : (before : List PathFile) (it : PathFile) (behind : List PathFile) (certificates : List Certificate) → AreCertificatesOf (before ++ it ∷ behind) certificates → CertificatesParted before it
 certificates_parted [] it behind certificates (first, more, are_first, are_more, is) = record { front = []; own = first; front_are = refl; own_are = are_first }
 certificates_parted (other ∷ before) it behind certificates (first, more, are_first, are_more, is) =
     let rest = certificates_parted before it behind more are_more in

@@ -10,4 +10,5 @@ pub mod FilePlaces
 pub mod Asked
 pub mod Operands
 pub mod Searching
+pub mod Policies
 pub use Rattle.asn.specs.Time

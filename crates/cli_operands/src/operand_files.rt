@@ -21,7 +21,7 @@ const MOST_OF_PATH: u32 = 129;
 pub struct Operands<'a> {
     anchor_file: &'a str,
     anchor: Vec<u8>,
-    path: PathFiles<'a>,
+    pub(crate) path: PathFiles<'a>,
 }
 
 /// Reads the anchor's file and then the files of the path, in order. Only an anchor that cannot be read is reported here:

@@ -1,3 +1,4 @@
 mod Digits
+mod FirstPolicies
 pub mod Names
 pub mod Words

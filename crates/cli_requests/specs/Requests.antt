@@ -7,11 +7,12 @@ use Rattle.std.specs.Result.{result_ok}
 use Rattle.hex.specs.Hex.{decode_sized}
 use Rattle.cli_words.specs.QueryTexts.{QueryTexts, seen_words}
 use Rattle.cli_words.specs.SearchTexts.{SearchTexts, seen_search_words}
+use Rattle.cli_words.specs.PolicyTexts.{PolicyTexts, seen_policy_words}
 use Rattle.cli_words.specs.declared.line.Kind.{Kind}
 pub use Rattle.cli_words.specs.CommandLine.{kind_named}
 use Rattle.cli_requests.specs.Operands.{operand_in}
 use Rattle.cli_requests.specs.declared.request.Request.{Request as Owned}
-use Rattle.cli_requests.specs.declared.request.Request.TheVariants.{Nothing, Believe, Deliver, Check, Find, Prints, SearchPrints, Forget, Quit}
+use Rattle.cli_requests.specs.declared.request.Request.TheVariants.{Nothing, Believe, Deliver, Check, CheckWithPolicies, Find, Prints, SearchPrints, Forget, Quit}
 use Rattle.cli_requests.specs.declared.request.RequestFault.{RequestFault}
 use Rattle.cli_requests.specs.declared.request.RequestFault.TheVariants.{Malformed, Memory}
 use Rattle.cli_requests.specs.declared.searching.SearchFiles as code
@@ -28,6 +29,7 @@ pub data Request : Type 0 where
   believe : List ℕ → Request
   deliver : List ℕ → List ℕ → Request
   check : QueryTexts → Request
+  check_with_policies : QueryTexts → PolicyTexts → Request
   find : SearchTexts → Request
   prints : Kind → Bool → List ℕ → List ℕ → Request
   search_prints : Bool → SearchFiles → Request
@@ -63,12 +65,15 @@ deliver_in (issuer ∷ file ∷ []) =
 deliver_in _ = None
 
 -- `ANCHOR FILE ..`, with at least one file
-abbrev pub path_in : List ℕ → Option (List ℕ) → List (List ℕ) → Option Request
-path_in moment purpose (anchor ∷ file ∷ files) =
+abbrev pub path_texts : List ℕ → Option (List ℕ) → List (List ℕ) → Option QueryTexts
+path_texts moment purpose (anchor ∷ file ∷ files) =
     if are_operands (anchor ∷ file ∷ files)
-    then Some (check (record { moment = moment; purpose = purpose; anchor = anchor; files = file ∷ files }))
+    then Some (record { moment = moment; purpose = purpose; anchor = anchor; files = file ∷ files })
     else None
-path_in moment purpose _ = None
+path_texts moment purpose _ = None
+
+unfoldable pub path_in : List ℕ → Option (List ℕ) → List (List ℕ) → Option Request
+path_in moment purpose words = option_map check (path_texts moment purpose words)
 
 -- what stands behind this front of a word
 abbrev pub behind : List ℕ → List ℕ → Option (List ℕ)
@@ -79,14 +84,69 @@ behind front word =
 abbrev pub purpose_in : List ℕ → Option (List ℕ)
 purpose_in word = behind (codes "purpose=") word
 
--- the path that stands behind a purpose, or begins with the word that names none
-abbrev pub path_behind : List ℕ → Option (List ℕ) → List ℕ → List (List ℕ) → Option Request
-path_behind moment (Some purpose) first words = path_in moment (Some purpose) words
-path_behind moment None first words = path_in moment None (first ∷ words)
+-- `policy=OID`
+abbrev pub policy_in : List ℕ → Option (List ℕ)
+policy_in word = behind (codes "policy=") word
 
--- `check TIME ANCHOR FILE ..`, or `check TIME purpose=OID ANCHOR FILE ..`
+-- a policy, where there is one, and then others
+abbrev pub policy_then : Option (List ℕ) → List (List ℕ) → List (List ℕ)
+policy_then None others = []
+policy_then (Some policy) others = policy ∷ others
+
+-- the policies that the words name, up to the first that names none
+abbrev pub first_policies : List (List ℕ) → List (List ℕ)
+first_policies [] = []
+first_policies (word ∷ words) = policy_then (policy_in word) (first_policies words)
+
+-- whether the words begin with this one, and those behind it
+abbrev pub begin_with : List ℕ → List (List ℕ) → Bool
+begin_with flag [] = false
+begin_with flag (word ∷ words) = bytes_eq word flag
+
+abbrev pub behind_flag : List ℕ → List (List ℕ) → List (List ℕ)
+behind_flag flag [] = []
+behind_flag flag (word ∷ words) = if bytes_eq word flag then words else word ∷ words
+
+-- `[require-policy] [inhibit-mapping] [inhibit-any-policy]`, and what stands behind each
+abbrev pub behind_require : List (List ℕ) → List (List ℕ)
+behind_require words = behind_flag (codes "require-policy") words
+
+abbrev pub behind_mapping : List (List ℕ) → List (List ℕ)
+behind_mapping words = behind_flag (codes "inhibit-mapping") (behind_require words)
+
+abbrev pub behind_flags : List (List ℕ) → List (List ℕ)
+behind_flags words = behind_flag (codes "inhibit-any-policy") (behind_mapping words)
+
+abbrev pub policy_texts : List (List ℕ) → List (List ℕ) → PolicyTexts
+policy_texts policies words = record {
+  policies = policies;
+  require_policy = begin_with (codes "require-policy") words;
+  inhibit_mapping = begin_with (codes "inhibit-mapping") (behind_require words);
+  inhibit_any_policy = begin_with (codes "inhibit-any-policy") (behind_mapping words);
+}
+
+-- the path that stands behind these policies and what else is asked of policies
+unfoldable pub path_with_policies_in : List ℕ → Option (List ℕ) → List (List ℕ) → List (List ℕ) → Option Request
+path_with_policies_in moment purpose policies words =
+    option_map (λ query. check_with_policies query (policy_texts policies words)) (path_texts moment purpose (behind_flags words))
+
+-- if the words begin with policies, that; if not, a path
+abbrev pub path_under : List ℕ → Option (List ℕ) → List (List ℕ) → List (List ℕ) → Option Request
+path_under moment purpose [] words = path_in moment purpose words
+path_under moment purpose (policy ∷ policies) words =
+    path_with_policies_in moment purpose (policy ∷ policies) (drop (length (policy ∷ policies)) words)
+
+abbrev pub asked_in : List ℕ → Option (List ℕ) → List (List ℕ) → Option Request
+asked_in moment purpose words = path_under moment purpose (first_policies words) words
+
+-- the same behind a purpose, or beginning with the word that names none
+abbrev pub asked_behind : List ℕ → Option (List ℕ) → List ℕ → List (List ℕ) → Option Request
+asked_behind moment (Some purpose) first words = asked_in moment (Some purpose) words
+asked_behind moment None first words = asked_in moment None (first ∷ words)
+
+-- `check TIME [purpose=OID] [policy=OID .. [require-policy] [inhibit-mapping] [inhibit-any-policy]] ANCHOR FILE ..`
 abbrev pub check_in : List (List ℕ) → Option Request
-check_in (moment ∷ first ∷ words) = path_behind moment (purpose_in first) first words
+check_in (moment ∷ first ∷ words) = asked_behind moment (purpose_in first) first words
 check_in _ = None
 
 -- `ANCHORS FILE`, or `ANCHORS AMONG FILE`
@@ -215,6 +275,8 @@ seen_request Nothing = nothing
 seen_request (Believe print) = believe print
 seen_request (Deliver issuer file) = deliver issuer.now file.now
 seen_request (Check words) = check (seen_words words)
+seen_request (CheckWithPolicies query policies) =
+    check_with_policies (seen_words query) (seen_policy_words policies)
 seen_request (Find words) = find (seen_search_words words)
 seen_request (Prints kind with_parts issuer file) = prints kind with_parts issuer.now file.now
 seen_request (SearchPrints with_parts files) = search_prints with_parts (seen_files files)

@@ -2,6 +2,7 @@
 #![tactic(auto)]
 
 mod operand;
+mod policies;
 mod request;
 mod searching;
 

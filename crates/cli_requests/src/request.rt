@@ -1,10 +1,11 @@
 //! What a line of a session asks for.
 ghost use Rattle.std.specs.Prelude.{◌≡◌, IfErr, IfOk, OnOk, Some, map, option_map, true};
-ghost use Rattle.cli_requests.specs.Requests.{IsFalse, IsNone, alone, are_operands, believe_in, check_in, deliver_in, is_passed_over, kind_named, path_in, print_in, prints_behind, prints_in, prints_of, purpose_in, request_in, request_named, request_on, search_prints_in, seen_request, octets_of_words, words_of};
+ghost use Rattle.cli_requests.specs.Requests.{IsFalse, IsNone, alone, are_operands, believe_in, check_in, deliver_in, is_passed_over, kind_named, print_in, prints_behind, prints_in, prints_of, purpose_in, request_in, request_named, request_on, search_prints_in, seen_request, octets_of_words, words_of};
 
 use crate::operand::is_operand;
+use crate::policies::asked_in;
 use crate::searching::{SearchFiles, find_in, search_operands};
-use cli_words::{Kind, QueryWords, SearchWords};
+use cli_words::{Kind, PolicyWords, QueryWords, SearchWords};
 use std::alloc::{AllocError, Global};
 use std::str;
 use thiserror::Error;
@@ -23,6 +24,11 @@ pub enum Request<'a> {
     },
     /// Tell the verdict on a path. The anchor and the certificates are operands.
     Check(QueryWords<'a>),
+    /// The same, where certificate policies are processed, and tell the policies at the end of the path too.
+    CheckWithPolicies {
+        query: QueryWords<'a>,
+        policies: PolicyWords<'a>,
+    },
     /// Tell the path that is found to a certificate, and its verdict. The files are operands.
     Find(SearchWords<'a>),
     /// Tell the fingerprints of what a verifier is asked about a value of that kind, under the issuer's key, and with parts what is
@@ -143,35 +149,6 @@ fn deliver_in<'a>(alloc: Global, words: &[&'a str]) -> Result<Request<'a>, Reque
     Ok(Request::Deliver { issuer, file })
 }
 
-fn path_in<'a>(
-    alloc: Global,
-    moment: &'a str,
-    purpose: Option<&'a str>,
-    words: &[&'a str],
-) -> Result<Request<'a>, RequestFault>
-    ensures reads { IfOk result (λ request.
-        path_in moment.entry.now (option_map (λ text. text.now) purpose.entry)
-        (octets_of_words words.now)
-        ≡ Some (seen_request request)) }
-    ensures refuses { IfErr result (IsNone
-        (path_in moment.entry.now (option_map (λ text. text.now) purpose.entry)
-        (octets_of_words words.now))) }
-{
-    let [anchor, files @ ..] = words else {
-        return Err(RequestFault::Malformed);
-    };
-    if files.is_empty() {
-        return Err(RequestFault::Malformed);
-    }
-    check_operands(alloc, words)?;
-    Ok(Request::Check(QueryWords {
-        moment,
-        purpose,
-        anchor,
-        files: Vec::from_slice(alloc, files)?,
-    }))
-}
-
 // The purpose that the word names.
 pub(crate) fn purpose_in(word: &str) -> Option<&str>
     ensures { option_map (λ text. text.now) result ≡ purpose_in word.now }
@@ -191,8 +168,8 @@ fn check_in<'a>(alloc: Global, words: &[&'a str]) -> Result<Request<'a>, Request
         return Err(RequestFault::Malformed);
     };
     match purpose_in(first) {
-        Some(purpose) => path_in(alloc, moment, Some(purpose), others),
-        None => path_in(alloc, moment, None, behind),
+        Some(purpose) => asked_in(alloc, moment, Some(purpose), others),
+        None => asked_in(alloc, moment, None, behind),
     }
 }
 

@@ -11,16 +11,19 @@ use Rattle.cli_failures.specs.declared.failure.Failure.TheVariants.{NoMemory}
 use Rattle.cli_operands.specs.Asked.{AcceptsJust}
 use Rattle.cli_session.specs.Believed.{BelievesJust, accepted_by}
 use Rattle.cli_session.specs.declared.believed.Believed.{Believed}
+use Rattle.cli_words.specs.PolicyTexts.{PolicyTexts}
 use Rattle.cli_words.specs.QueryTexts.{QueryTexts}
 use Rattle.cli_words.specs.SearchTexts.{SearchTexts}
 use Rattle.cli_steps.specs.Found.{FindsByTexts}
 use Rattle.cli_steps.specs.Keeping.{AnswersCleanly, AnswersWithVerdict, FindsCleanly, Keeping, Cleanly, Takes, TakesCleanly, taking, trying}
 use Rattle.cli_steps.specs.Passing.{AsksByWords, DeliversTo, PassesOn}
 use Rattle.cli_steps.specs.State.{believing, forgetting, keeping}
-use Rattle.cli_steps.specs.Steps.{BelievesMore, ChecksPath, DeliversFile, FindsPath}
+use Rattle.cli_steps.specs.Steps.{BelievesMore, ChecksPath, ChecksPolicies, DeliversFile, FindsPath}
 use Rattle.cli_steps.specs.Ways.{Steps}
-use Rattle.cli_steps.specs.declared.answer.SessionAnswer.TheVariants.{Believes as Told_more, Delivered, Told, Found, Failed}
+use Rattle.cli_steps.specs.declared.answer.SessionAnswer.TheVariants.{Believes as Told_more, Delivered, Told, ToldWithPolicies, Found, Failed}
 use Rattle.cli_steps.specs.declared.found.FoundPath.{FoundPath}
+use Rattle.cli_steps.specs.declared.policy_verdict.PolicyVerdict.{PolicyVerdict}
+use Rattle.cli_steps.specs.WithPolicies.{ChecksByTexts}
 
 -- a verifier that believes these fingerprints accepts just them
 accepts_just : (believed : Believed) (prints : List (List ℕ)) → BelievesJust believed prints → AcceptsJust prints (accepted_by believed)
@@ -88,6 +91,44 @@ module _ {K : Type 0} (is_clean : K → Type 0) (keeps : K → Keeping) (old new
         before,
         record { listed = is.listed; believes = is.believes; keeps = done.0 },
         (inr ((query, asks), done.1), refl),
+      )
+
+  -- ---- verdicts with policies
+
+  pub checks_cleanly : (texts : QueryTexts) (policies : PolicyTexts) (result : Result PolicyVerdict Failure) → ChecksByTexts holds (accepted_by believed) texts policies (AnswersCleanly is_clean keeps) old new result
+      → is_clean new → is_clean old
+  checks_cleanly texts policies (Ok told) (q, asks, (verdict, did, tells)) clean = did.0 clean
+  checks_cleanly texts policies (Err failure) (inl (refused, same)) clean = subst is_clean same clean
+  checks_cleanly texts policies (Err failure) (inr (q, asks, inl did)) clean = did.0 clean
+  checks_cleanly texts policies (Err failure) (inr (q, asks, inr (verdict, did, memory))) clean = did.0 clean
+
+  pub checked_policies : (texts : QueryTexts) (policies : PolicyTexts) (told : PolicyVerdict) → ChecksByTexts holds (accepted_by believed) texts policies (AnswersCleanly is_clean keeps) old new (Ok told) → is_clean new
+      → Steps believed (keeps old) believed (keeps new) (λ before after. ChecksPolicies holds texts policies before (ToldWithPolicies told) × (after ≡ before))
+  checked_policies texts policies told (q, asks, (verdict, did, (answer, adds, says))) clean before state =
+      let done = did.1 clean before.kept state.keeps in (
+        before,
+        record { listed = state.listed; believes = state.believes; keeps = done.0 },
+        ((accepted_by believed, accepts_just believed before.prints state.believes, (q, asks, (answer, adds (accepted_by believed) before.kept.held done.1, says))), refl),
+      )
+
+  pub not_checked_policies : (texts : QueryTexts) (policies : PolicyTexts) (failure : Failure) → ChecksByTexts holds (accepted_by believed) texts policies (AnswersCleanly is_clean keeps) old new (Err failure) → is_clean new
+      → Steps believed (keeps old) believed (keeps new) (λ before after. ChecksPolicies holds texts policies before (Failed failure) × (after ≡ before))
+  not_checked_policies texts policies failure (inl (refused, same)) clean before state = (
+    before,
+    record { listed = state.listed; believes = state.believes; keeps = subst (λ (keeper : K). keeps keeper before.kept) (sym same) state.keeps },
+    (inl refused, refl),
+  )
+  not_checked_policies texts policies failure (inr (q, asks, inl did)) clean before state =
+      let done = did.1 clean before.kept state.keeps in (
+        before,
+        record { listed = state.listed; believes = state.believes; keeps = done.0 },
+        (inr ((q, asks), done.1), refl),
+      )
+  not_checked_policies texts policies failure (inr (q, asks, inr (verdict, did, memory))) clean before state =
+      let done = did.1 clean before.kept state.keeps in (
+        before,
+        record { listed = state.listed; believes = state.believes; keeps = done.0 },
+        (inr ((q, asks), inl memory), refl),
       )
 
   -- ---- searches

@@ -1,3 +1,4 @@
 mod Answered
 mod Passed
 mod Searched
+mod ToldPolicies

@@ -9,10 +9,11 @@ use Rattle.cli_answers.specs.SearchText.{search_status}
 use Rattle.cli_answers.specs.Status.{verdict_status}
 use Rattle.cli_steps.specs.Found.{found_text}
 use Rattle.cli_steps.specs.declared.found.FoundPath.{FoundPath}
+use Rattle.cli_steps.specs.declared.policy_verdict.PolicyVerdict.{PolicyVerdict}
 use Rattle.cli_failures.specs.Report.{exit_status, told_line}
 use Rattle.cli_failures.specs.declared.failure.Failure.{Failure}
 use Rattle.cli_steps.specs.declared.answer.SessionAnswer.{SessionAnswer}
-use Rattle.cli_steps.specs.declared.answer.SessionAnswer.TheVariants.{Nothing, Believes, Forgets, Ends, Delivered, Told, Found, Prints, Failed, BadLine, LongLine}
+use Rattle.cli_steps.specs.declared.answer.SessionAnswer.TheVariants.{Nothing, Believes, Forgets, Ends, Delivered, Told, ToldWithPolicies, Found, Prints, Failed, BadLine, LongLine}
 
 -- how many lines a text has
 abbrev pub feeds_in : List ℕ → ℕ
@@ -29,6 +30,12 @@ delivered_text counts = codes "0 " ++ counts_line counts
 -- the status of the verdict, and its line
 abbrev pub verdict_answer : Verdict → List ℕ
 verdict_answer verdict = decimal (verdict_status verdict) ++ codes " " ++ verdict_line verdict
+
+-- the status of the verdict, the number of lines, and the lines
+abbrev pub policy_answer : PolicyVerdict → List ℕ
+policy_answer told =
+    decimal (verdict_status told.verdict) ++ codes " " ++ decimal (feeds_in told.lines.items) ++ codes "\n"
+    ++ told.lines.items
 
 -- the status of the verdict, the number of lines, and the lines: one for each certificate of the path, and that of the verdict
 abbrev pub found_answer : FoundPath → List ℕ
@@ -47,6 +54,7 @@ answer_text Forgets = codes "0 forgotten\n"
 answer_text Ends = codes "0 ended\n"
 answer_text (Delivered counts) = delivered_text counts
 answer_text (Told verdict) = verdict_answer verdict
+answer_text (ToldWithPolicies told) = policy_answer told
 answer_text (Found found) = found_answer found
 answer_text (Prints text) = prints_text text.items
 answer_text (Failed failure) = failed_text failure

@@ -4,7 +4,9 @@ pub mod Finding
 pub mod Found
 pub mod Keeping
 pub mod Passing
+pub mod PolicyText
 pub mod SearchPrints
 pub mod State
 pub mod Steps
 pub mod Ways
+pub mod WithPolicies

@@ -3,7 +3,13 @@ use Rattle.std.specs.Prelude.{◌≡◌, ◌⊎◌, ℕ, Bool, List, [], ◌∷�
 use Rattle.path.specs.Query.{Accepts, Query}
 use Rattle.relying_search.specs.Finding.{FindsHolding}
 use Rattle.relying_search.specs.declared.finding.Finding.{Finding}
+use Rattle.path_with_policies.specs.WithPolicies.{QueryWithPolicies}
 use Rattle.relying_agreement.specs.Verdict.{IsVerdict}
+use Rattle.relying_policies.specs.WithPolicies.{IsVerdictWithPolicies}
+use Rattle.relying_policies.specs.declared.verdict.VerdictWithPolicies.{VerdictWithPolicies}
+use Rattle.cli_operands.specs.Policies.{AsksWithPolicies}
+use Rattle.cli_steps.specs.PolicyText.{SaysVerdict}
+use Rattle.cli_steps.specs.WithPolicies.{IsFailureOfPolicyQuery}
 use Rattle.statements_facts.specs.Coming.{AreCounts}
 use Rattle.statements_facts.specs.Fact.{Fact}
 use Rattle.cli_failures.specs.Failures.{Holding}
@@ -11,8 +17,9 @@ use Rattle.cli_failures.specs.declared.failure.Failure.{Failure}
 use Rattle.cli_failures.specs.declared.failure.Failure.TheVariants.{NoMemory}
 use Rattle.cli_operands.specs.Asked.{AcceptsJust, Asks, IsFailureOfQuery}
 use Rattle.cli_operands.specs.InOrder.{FailsFirst}
-use Rattle.cli_requests.specs.Requests.{Request, SearchFiles, if_given, nothing, believe, deliver, check, find, prints, search_prints, forget, quit}
+use Rattle.cli_requests.specs.Requests.{Request, SearchFiles, if_given, nothing, believe, deliver, check, check_with_policies, find, prints, search_prints, forget, quit}
 use Rattle.cli_showing.specs.Shown.{ArePrintsUnder, IsFailureOfPrints}
+use Rattle.cli_words.specs.PolicyTexts.{PolicyTexts}
 use Rattle.cli_words.specs.QueryTexts.{QueryTexts}
 use Rattle.cli_words.specs.SearchTexts.{SearchTexts}
 use Rattle.cli_words.specs.declared.line.Kind.{Kind}
@@ -22,7 +29,7 @@ use Rattle.cli_steps.specs.Passing.{HoldsStatement, IsRefusedFrom}
 use Rattle.cli_steps.specs.SearchPrints.{AreSearchPrints, IsFailureOfSearchPrints}
 use Rattle.cli_steps.specs.State.{SessionState, believing, forgetting, keeping}
 use Rattle.cli_steps.specs.declared.answer.SessionAnswer.{SessionAnswer}
-use Rattle.cli_steps.specs.declared.answer.SessionAnswer.TheVariants.{Nothing, Believes, Forgets, Ends, Delivered, Told, Found, Prints, Failed}
+use Rattle.cli_steps.specs.declared.answer.SessionAnswer.TheVariants.{Nothing, Believes, Forgets, Ends, Delivered, Told, ToldWithPolicies, Found, Prints, Failed}
 
 -- ---- deliveries
 
@@ -59,6 +66,23 @@ ChecksPath holds texts state (Told verdict) =
     × ((query : Query) × Asks holds texts query × IsVerdict accepts query state.kept.held verdict)
 ChecksPath holds texts state (Failed failure) = IsFailureOfVerdict holds texts failure
 ChecksPath holds texts state answer = ⊥
+
+-- ---- verdicts with policies
+
+-- What is wrong with a request for one, the first of it: its operands, and then the keeper.
+abbrev pub IsFailureOfPolicyVerdict : Holding → QueryTexts → PolicyTexts → Failure → Type 0
+IsFailureOfPolicyVerdict holds texts policies =
+    FailsFirst (IsFailureOfPolicyQuery holds texts policies)
+    ((q : QueryWithPolicies) × AsksWithPolicies holds texts policies q) IsNotKept
+
+-- the verdict with policies by what is held, with a verifier that believes these fingerprints, and this is told of it; or a failure
+abbrev pub ChecksPolicies : Holding → QueryTexts → PolicyTexts → SessionState → SessionAnswer → Type 0
+ChecksPolicies holds texts policies state (ToldWithPolicies told) =
+    (accepts : Accepts) × AcceptsJust state.prints accepts
+    × ((q : QueryWithPolicies) × AsksWithPolicies holds texts policies q
+    × ((answer : VerdictWithPolicies) × IsVerdictWithPolicies accepts q state.kept.held answer × SaysVerdict answer told))
+ChecksPolicies holds texts policies state (Failed failure) = IsFailureOfPolicyVerdict holds texts policies failure
+ChecksPolicies holds texts policies state answer = ⊥
 
 -- ---- searches
 
@@ -109,6 +133,7 @@ IsStep holds nothing old new answer = (answer ≡ Nothing) × (new ≡ old)
 IsStep holds (believe print) old new answer = BelievesMore print old new answer
 IsStep holds (deliver issuer file) old new answer = DeliversFile holds issuer file old new answer
 IsStep holds (check texts) old new answer = ChecksPath holds texts old answer × (new ≡ old)
+IsStep holds (check_with_policies texts policies) old new answer = ChecksPolicies holds texts policies old answer × (new ≡ old)
 IsStep holds (find texts) old new answer = FindsPath holds texts old answer × (new ≡ old)
 IsStep holds (prints kind with_parts issuer file) old new answer =
     ShowsPrints holds kind with_parts issuer file answer × (new ≡ old)

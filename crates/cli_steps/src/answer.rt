@@ -1,9 +1,10 @@
 //! Answers, and the lines that say them.
 ghost use Rattle.std.specs.Prelude.{◌≡◌, OnOk};
 ghost use Rattle.std.specs.Io.KnownBytes.{Appends};
-ghost use Rattle.cli_steps.specs.AnswerText.{answer_text, delivered_text, failed_text, feeds_in, found_answer, prints_text, verdict_answer};
+ghost use Rattle.cli_steps.specs.AnswerText.{answer_text, delivered_text, failed_text, feeds_in, found_answer, policy_answer, prints_text, verdict_answer};
 
 use crate::found::FoundPath;
+use crate::policy_verdict::PolicyVerdict;
 use cli_answers::{counts_to, search_status, verdict_status, verdict_to};
 use cli_failures::Failure;
 use relying_agreement::Verdict;
@@ -26,6 +27,8 @@ pub enum SessionAnswer<'a> {
     Delivered(Counts),
     /// The verdict on a path.
     Told(Verdict),
+    /// The verdict on a path whose certificate policies were processed.
+    ToldWithPolicies(PolicyVerdict),
     /// The path that is found to a certificate, with its verdict, or that there is none.
     Found(FoundPath<'a>),
     /// The lines of what a verifier is asked.
@@ -78,6 +81,15 @@ fn write_found<W: Write>(found: &FoundPath<'_>, out: &mut W) -> io::Result<()>
     found.tell(out)
 }
 
+fn write_policy_verdict<W: Write>(told: &PolicyVerdict, out: &mut W) -> io::Result<()>
+    ensures { OnOk result (Appends (W.contents out.old) (W.contents out.new)
+        (policy_answer told.now)) }
+{
+    let status = verdict_status(told.verdict);
+    writeln!(out, "{status} {}", feeds_in(told.lines.as_slice()))?;
+    out.write_all(told.lines.as_slice())
+}
+
 fn write_failure<W: Write>(failure: &Failure<'_>, out: &mut W) -> io::Result<()>
     ensures { OnOk result (Appends (W.contents out.old) (W.contents out.new)
         (failed_text failure.now)) }
@@ -101,6 +113,7 @@ impl SessionAnswer<'_> {
             SessionAnswer::Ends => out.write_all(b"0 ended\n"),
             SessionAnswer::Delivered(counts) => write_counts(counts, out),
             SessionAnswer::Told(verdict) => write_verdict(*verdict, out),
+            SessionAnswer::ToldWithPolicies(told) => write_policy_verdict(told, out),
             SessionAnswer::Found(found) => write_found(found, out),
             SessionAnswer::Prints(text) => write_prints(text.as_slice(), out),
             SessionAnswer::Failed(failure) => write_failure(failure, out),

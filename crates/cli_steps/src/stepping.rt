@@ -12,6 +12,7 @@ use crate::delivering::deliver;
 use crate::finding::find;
 use crate::keeper::Keeper;
 use crate::party::Party;
+use crate::policy_checking::check_with_policies;
 use crate::printing::{show_prints, show_search_prints};
 use cli_failures::Source;
 use cli_requests::Request;
@@ -36,6 +37,9 @@ pub fn step<'a, K: Keeper, S: Source>(
         Request::Believe(print) => believe(party, print),
         Request::Deliver { issuer, file } => deliver(party, &operands, alloc, issuer, file),
         Request::Check(words) => check(party, &operands, alloc, &words),
+        Request::CheckWithPolicies { query, policies } => {
+            check_with_policies(party, &operands, alloc, &query, &policies)
+        }
         Request::Find(words) => find(party, &operands, alloc, &words),
         Request::Prints {
             kind,

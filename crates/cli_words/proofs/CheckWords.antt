@@ -1,5 +1,5 @@
 -- What clap's definition makes of the words of `check --store STORE --verdicts VERDICTS --at TIME --anchor ANCHOR FILE...`.
-use Rattle.std.proofs.Common.{◌≡◌, ◌==◌, ◌<◌, ◌++◌, ◌∙◌, ℕ, suc, List, [], ◌∷◌, Some, None, false, refl, ap, subst, codes, length, append_assoc, arith, nat_lt}
+use Rattle.std.proofs.Common.{◌≡◌, ◌==◌, ◌<◌, ◌++◌, ◌∙◌, ℕ, suc, List, [], ◌∷◌, Option, Some, None, false, refl, ap, subst, codes, length, append_assoc, arith, nat_lt}
 use Rattle.std.specs.List.{All}
 use Rattle.std.proofs.lemmas.List.{append-nil}
 use Rattle.std.proofs.lemmas.Bool.Decides.{nat_tests}
@@ -13,7 +13,7 @@ use Rattle.clap.specs.declared.builder.value_parser.ValueParser.TheVariants as v
 use Rattle.clap.proofs.OnLiterals.{clap_on_literals}
 use Rattle.cli_words.specs.App.{program}
 use Rattle.cli_words.specs.PlainLine.{IsPlainWord}
-use Rattle.cli_words.proofs.Turns.{EntersFiles, WalksTo, all_accepted, at, goes_more, goes_none, goes_option, halted, halted_on, halted_well, is_other, later_fault, level_well, rest_fault, rows_are, shape_of, top_fault}
+use Rattle.cli_words.proofs.Turns.{EntersFiles, Finds, WalksTo, all_accepted, at, goes_more, goes_none, goes_option, halted, halted_on, halted_well, is_other, later_fault, level_well, rest_fault, rows_are, shape_of, top_fault}
 
 -- the words behind the subcommand
 abbrev pub check_words : Text → Text → Text → Text → List Text → List Text
@@ -152,20 +152,30 @@ no_fault name store verdicts moment anchor file more store_plain verdicts_plain 
     fault_from name (check_words store verdicts moment anchor (file ∷ more))
     (level_well shape (check_words store verdicts moment anchor (file ∷ more)) _ (goes store verdicts moment anchor file more store_plain verdicts_plain moment_plain anchor_plain plain) (rest_well store verdicts moment anchor file more (settles (behind_anchor store verdicts moment anchor) file more few)))
 
+-- the words ask nothing of policies
+pub record EntersCheck (entered : Option (Text × List Row)) (values : List (Text × Option Text)) (given : List Text) : Type 0 where
+  pub of : EntersFiles entered (codes "check") values given
+  pub policies : all_of (codes "policy") of.rows ≡ None
+  pub flags : Finds ((codes "require-policy", Some (codes "false")) ∷ (codes "inhibit-mapping", Some (codes "false")) ∷ (codes "inhibit-any-policy", Some (codes "false")) ∷ []) of.rows
+
 files_found : (store verdicts moment anchor file : Text) (more : List Text) → all_of (codes "file") (finished shape.rules (filing (behind_anchor store verdicts moment anchor) (file ∷ more)).held) ≡ Some (file ∷ more)
 unfolding clap_on_literals
 files_found store verdicts moment anchor file more = refl
 
 -- they enter the subcommand, and its options and its files are theirs
 pub entered : (name store verdicts moment anchor file : Text) (more : List Text) → IsPlainWord store → IsPlainWord verdicts → IsPlainWord moment → IsPlainWord anchor → All IsPlainWord (file ∷ more)
-    → EntersFiles (subcommand_of program (name ∷ codes "check" ∷ check_words store verdicts moment anchor (file ∷ more))) (codes "check")
+    → EntersCheck (subcommand_of program (name ∷ codes "check" ∷ check_words store verdicts moment anchor (file ∷ more)))
     ((codes "purpose", None) ∷ (codes "store", Some store) ∷ (codes "verdicts", Some verdicts) ∷ (codes "at", Some moment) ∷ (codes "anchor", Some anchor) ∷ (codes "file", Some file) ∷ []) (file ∷ more)
 unfolding clap_on_literals
 entered name store verdicts moment anchor file more store_plain verdicts_plain moment_plain anchor_plain plain =
     let are = rows_are shape (check_words store verdicts moment anchor (file ∷ more)) _ (goes store verdicts moment anchor file more store_plain verdicts_plain moment_plain anchor_plain plain) in
     record {
-      rows = rows_after shape.rules [] (check_words store verdicts moment anchor (file ∷ more));
-      is = enters_from name (check_words store verdicts moment anchor (file ∷ more));
-      finds = (ap (first_of (codes "purpose")) are, (ap (first_of (codes "store")) are, (ap (first_of (codes "verdicts")) are, (ap (first_of (codes "at")) are, (ap (first_of (codes "anchor")) are, (ap (first_of (codes "file")) are, tt))))));
-      files = ap (all_of (codes "file")) are;
+      of = record {
+        rows = rows_after shape.rules [] (check_words store verdicts moment anchor (file ∷ more));
+        is = enters_from name (check_words store verdicts moment anchor (file ∷ more));
+        finds = (ap (first_of (codes "purpose")) are, (ap (first_of (codes "store")) are, (ap (first_of (codes "verdicts")) are, (ap (first_of (codes "at")) are, (ap (first_of (codes "anchor")) are, (ap (first_of (codes "file")) are, tt))))));
+        files = ap (all_of (codes "file")) are;
+      };
+      policies = ap (all_of (codes "policy")) are;
+      flags = (ap (first_of (codes "require-policy")) are, (ap (first_of (codes "inhibit-mapping")) are, (ap (first_of (codes "inhibit-any-policy")) are, tt)));
     }

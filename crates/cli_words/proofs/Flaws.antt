@@ -2,10 +2,10 @@
 use Rattle.std.proofs.Common.{◌≡◌, ◌∙◌, List, [], Option, Some, Result, Ok, Err, IfErr, inl, sym, subst, codes, refl, if◌then◌else◌}
 use Rattle.std.specs.Str.{bytes_eq}
 use Rattle.clap.specs.Words.{Row, Text}
-use Rattle.cli_words.specs.CommandLine.{EnteredWithout, HasFlaw, HasNoLine, IsFlawOfQuestion, IsFlawOfShow, IsLack, LacksOneOf, of_check, of_compare, of_deliver, of_file, of_find, of_prints, of_store}
+use Rattle.cli_words.specs.CommandLine.{EnteredWithout, HasFlaw, HasNoLine, IsFlawOfCheck, IsFlawOfQuestion, IsFlawOfShow, IsLack, LacksOneOf, of_check, of_compare, of_deliver, of_file, of_find, of_prints, of_store}
 use Rattle.cli_words.specs.declared.line.Line.{Line}
 use Rattle.cli_words.specs.declared.line.Flaw.{Flaw}
-use Rattle.cli_words.specs.declared.line.Flaw.TheVariants.{ArgumentMissing, OtherKind, NoMemory}
+use Rattle.cli_words.specs.declared.line.Flaw.TheVariants.{ArgumentMissing, OtherKind, PolicyMissing, NoMemory}
 
 -- what the subcommand with this name has to have
 abbrev pub needs : Text → List Text
@@ -50,6 +50,7 @@ pub lack_flaw : (r : Result Line Flaw) (entered : Option (Text × List Row)) (na
 lack_flaw (Ok line) entered name rows is flaw = tt
 lack_flaw (Err ArgumentMissing) entered name rows is flaw = no_line entered name rows is flaw
 lack_flaw (Err OtherKind) entered name rows is flaw = absurd flaw
+lack_flaw (Err PolicyMissing) entered name rows is flaw = absurd flaw
 lack_flaw (Err NoMemory) entered name rows is flaw = tt
 
 pub show_flaw : (r : Result Line Flaw) (entered : Option (Text × List Row)) (rows : List Row)
@@ -57,6 +58,7 @@ pub show_flaw : (r : Result Line Flaw) (entered : Option (Text × List Row)) (ro
 show_flaw (Ok line) entered rows is flaw = tt
 show_flaw (Err ArgumentMissing) entered rows is flaw = no_line entered (codes "show") rows is flaw
 show_flaw (Err OtherKind) entered rows is flaw = ((codes "show", rows), is, inl (refl, flaw))
+show_flaw (Err PolicyMissing) entered rows is flaw = absurd flaw
 show_flaw (Err NoMemory) entered rows is flaw = tt
 
 pub question_flaw : (r : Result Line Flaw) (entered : Option (Text × List Row)) (name : Text) (rows : List Row)
@@ -64,4 +66,13 @@ pub question_flaw : (r : Result Line Flaw) (entered : Option (Text × List Row))
 question_flaw (Ok line) entered name rows is flaw = tt
 question_flaw (Err ArgumentMissing) entered name rows is flaw = no_line entered name rows is flaw
 question_flaw (Err OtherKind) entered name rows is flaw = absurd flaw
+question_flaw (Err PolicyMissing) entered name rows is flaw = absurd flaw
 question_flaw (Err NoMemory) entered name rows is flaw = tt
+
+pub check_flaw : (r : Result Line Flaw) (entered : Option (Text × List Row)) (rows : List Row)
+    → entered ≡ Some (codes "check", rows) → IfErr r (IsFlawOfCheck rows) → IfErr r (HasFlaw entered)
+check_flaw (Ok line) entered rows is flaw = tt
+check_flaw (Err ArgumentMissing) entered rows is flaw = no_line entered (codes "check") rows is flaw
+check_flaw (Err OtherKind) entered rows is flaw = absurd flaw
+check_flaw (Err PolicyMissing) entered rows is flaw = (rows, is, flaw)
+check_flaw (Err NoMemory) entered rows is flaw = tt

@@ -7,11 +7,11 @@ use Rattle.cli_words.specs.App.{program}
 use Rattle.clap.specs.Kinds.{Kinds, HasKind, IsAmong}
 use Rattle.clap.specs.declared.error.Error.{Error}
 use Rattle.clap.specs.declared.error.kind.ErrorKind.TheVariants.{OutOfMemory}
-use Rattle.cli_words.specs.CommandLine.{Ask, AskToFind, AreRefusedWith, HasFlaw, HasNoLine, HasOtherKind, IsErrorOf, IsLine, IsLineOf, IsRefusedWith, LacksOneOf, ReadsLine, TakesOtherKind, is_set, kind_in_rows, kind_or_certificate, of_check, of_compare, of_deliver, of_file, of_find, of_prints, of_store, words_in}
+use Rattle.cli_words.specs.CommandLine.{Ask, AskToFind, AreRefusedWith, HasFlaw, HasNoLine, HasNoPolicy, HasOtherKind, IsErrorOf, IsLine, IsLineOf, IsRefusedWith, LacksOneOf, ReadsLine, TakesOtherKind, has_policy_flag, is_set, kind_in_rows, kind_or_certificate, of_check, of_compare, of_deliver, of_file, of_find, of_prints, of_store, words_in}
 use Rattle.cli_words.specs.PlainLine.{IsCheck, IsCompare, IsDeliver, IsExplain, IsFind, IsList, IsListAt, IsPlainWord, IsPrints, IsSession, IsShow, IsTree, search_texts}
 use Rattle.cli_words.specs.declared.line.Kind.TheVariants.{Certificate}
 use Rattle.cli_words.specs.declared.line.Line.{Line}
-use Rattle.cli_words.specs.declared.line.Line.TheVariants.{Tree, Show, Prints, SearchPrints, Deliver, Check, Compare, Find, Explain, Session, List as Lists}
+use Rattle.cli_words.specs.declared.line.Line.TheVariants.{Tree, Show, Prints, SearchPrints, Deliver, Check, CheckWithPolicies, Compare, Find, Explain, Session, List as Lists}
 use Rattle.cli_words.proofs.Turns.{Finds}
 use Rattle.cli_words.proofs.TreeWords.{entered as entered_tree, no_fault as no_fault_of_tree}
 use Rattle.cli_words.proofs.ShowWords.{entered as entered_show, no_fault as no_fault_of_show}
@@ -24,7 +24,7 @@ use Rattle.cli_words.proofs.ExplainWords.{entered as entered_explain, no_fault a
 use Rattle.cli_words.proofs.SessionWords.{entered as entered_session, no_fault as no_fault_of_session, session_words}
 use Rattle.cli_words.proofs.ListWords.{entered as entered_list, entered_at as entered_list_at, list_at_words, list_words, no_fault as no_fault_of_list, no_fault_at as no_fault_of_list_at}
 use Rattle.cli_words.specs.declared.line.Flaw.{Flaw}
-use Rattle.cli_words.specs.declared.line.Flaw.TheVariants.{ArgumentMissing, OtherKind, NoMemory}
+use Rattle.cli_words.specs.declared.line.Flaw.TheVariants.{ArgumentMissing, OtherKind, PolicyMissing, NoMemory}
 use Rattle.cli_words.specs.QueryTexts.{QueryTexts}
 use Rattle.cli_words.specs.SearchTexts.{SearchTexts}
 use Rattle.clap.specs.declared.error.kind.ErrorKind.{ErrorKind}
@@ -43,7 +43,8 @@ refused_with words e h = elim h [ inl memory ↦ inl memory | inr among ↦ inr 
 -- and so is a flaw of the subcommand
 pub refused : (entered : Option (Text × List Row)) (flaw : Flaw) (kind : ErrorKind) → HasFlaw entered flaw → IsErrorOf flaw kind → IsRefusedWith entered kind
 refused entered ArgumentMissing kind has is = inl (is, has)
-refused entered OtherKind kind has is = inr (is, has)
+refused entered OtherKind kind has is = inr (inl (is, has))
+refused entered PolicyMissing kind has is = inr (inr (is, has))
 refused entered NoMemory kind has is = absurd is
 
 pub or_refused : (words : List Text) (r : Result Line Error)
@@ -54,17 +55,18 @@ or_refused words (Err e) h = elim h [ inl memory ↦ inl memory | inr is ↦ inr
 
 -- words that break no rule and enter a subcommand with all that it has to have are a line, memory aside
 pub known : (P : Line → Type 0) (words : List Text) (r : Result Line Error) → fault_of program words ≡ []
-    → (HasNoLine (subcommand_of program words) → ⊥) → (HasOtherKind (subcommand_of program words) → ⊥)
+    → (HasNoLine (subcommand_of program words) → ⊥) → (HasOtherKind (subcommand_of program words) → ⊥) → (HasNoPolicy (subcommand_of program words) → ⊥)
     → ((line : Line) → IsLineOf (subcommand_of program words) line → P line)
     → IfOk r (ReadsLine words) → IfErr r (λ e. (kind_of e ≡ OutOfMemory) ⊎ AreRefusedWith words (kind_of e))
     → MatchResult r P (λ e. kind_of e ≡ OutOfMemory)
-known P words (Ok line) well there kind means reads refuses = means line reads.1
-known P words (Err e) well there kind means reads refuses =
+known P words (Ok line) well there kind policy means reads refuses = means line reads.1
+known P words (Err e) well there kind policy means reads refuses =
     elim refuses [
       | inl memory ↦ memory
       | inr (inl among) ↦ absurd (subst (λ (kinds : Kinds). IsAmong (kind_of e) kinds) well among)
       | inr (inr (inl missing)) ↦ absurd (there missing.1)
-      | inr (inr (inr other)) ↦ absurd (kind other.1)
+      | inr (inr (inr (inl other))) ↦ absurd (kind other.1)
+      | inr (inr (inr (inr flag))) ↦ absurd (policy flag.1)
     ]
 
 -- what is said of the line that the words are, or of the error
@@ -88,6 +90,7 @@ name_of (Prints issuer kind with_parts file) = codes "prints"
 name_of (SearchPrints issuers among with_parts file) = codes "prints"
 name_of (Deliver store verdicts issuer file) = codes "deliver"
 name_of (Check store verdicts query) = codes "check"
+name_of (CheckWithPolicies store verdicts query policies) = codes "check"
 name_of (Compare store other verdicts query) = codes "compare"
 name_of (Find store verdicts search) = codes "find"
 name_of (Explain words) = codes "explain"
@@ -149,6 +152,21 @@ no_other_kind entered name rows is none other =
       | inr (p, inr searches) ↦ searches.1 certificate
     ]
 
+-- only `check` asks of policies
+no_policy : (entered : Option (Text × List Row)) (name : Text) (rows : List Row) → entered ≡ Some (name, rows) → bytes_eq name (codes "check") ≡ false → HasNoPolicy entered → ⊥
+no_policy entered name rows is unlike (others, here, lacks) = differ name (codes "check") unlike (ap (λ (p : Text × List Row). p.0) (same_rows (name, rows) (codes "check") others (sym is ∙ here)))
+
+-- and it does not where no option of policies was given
+no_flag : (rows : List Row) → Finds ((codes "require-policy", Some (codes "false")) ∷ (codes "inhibit-mapping", Some (codes "false")) ∷ (codes "inhibit-any-policy", Some (codes "false")) ∷ []) rows
+    → has_policy_flag rows ≡ false
+no_flag rows finds = rw (finds.0, finds.1.0, finds.1.1.0) refl
+
+flagged : (entered : Option (Text × List Row)) (rows : List Row) → entered ≡ Some (codes "check", rows) → has_policy_flag rows ≡ false → HasNoPolicy entered → ⊥
+flagged entered rows is none (others, here, lacks) =
+    let same : others ≡ rows = ap (λ (p : Text × List Row). p.1) (same_rows (codes "check", others) (codes "check") rows (sym here ∙ is)) in
+    let both = sym lacks.flags ∙ ap has_policy_flag same ∙ none in
+    let wrong : ⊥ = cc in wrong
+
 -- `tree`
 tree_means : (entered : Option (Text × List Row)) (rows : List Row) (file : Text) → first_of (codes "file") rows ≡ Some file
     → (line : Line) → entered ≡ Some (codes "tree", rows) → IsLineOf entered line → IsTree file line
@@ -162,6 +180,7 @@ tree_known name file r plain is =
     known (IsTree file) (name ∷ codes "tree" ∷ file ∷ []) r (no_fault_of_tree name file plain)
     (λ none. not_lacking of_file enters.rows ((file, enters.finds.0), tt) (none.tree enters.rows enters.is))
     (no_kind _ (codes "tree") enters.rows enters.is refl refl)
+    (no_policy _ (codes "tree") enters.rows enters.is refl)
     (λ line. tree_means _ enters.rows file enters.finds.0 line enters.is) is.reads is.refuses
 
 -- `show`
@@ -180,6 +199,7 @@ show_known name file r plain is =
     known (IsShow file) (name ∷ codes "show" ∷ file ∷ []) r (no_fault_of_show name file plain)
     (λ none. not_lacking of_file enters.rows ((file, enters.finds.1.0), tt) (none.show enters.rows enters.is))
     (no_other_kind _ (codes "show") enters.rows enters.is enters.finds.0)
+    (no_policy _ (codes "show") enters.rows enters.is refl)
     (λ line. show_means _ enters.rows file enters.finds line enters.is) is.reads is.refuses
 
 -- `prints`
@@ -202,6 +222,7 @@ prints_known name issuer file r plain plain' is =
     known (IsPrints issuer file) (name ∷ codes "prints" ∷ prints_words issuer file) r (no_fault_of_prints name issuer file plain plain')
     (λ none. not_lacking of_prints enters.rows ((issuer, enters.finds.1.0), ((file, enters.finds.1.1.0), tt)) (none.prints enters.rows enters.is))
     (no_other_kind _ (codes "prints") enters.rows enters.is enters.finds.0)
+    (no_policy _ (codes "prints") enters.rows enters.is refl)
     (λ line. prints_means _ enters.rows issuer file enters.finds enters.among line enters.is) is.reads is.refuses
 
 -- `deliver`
@@ -225,6 +246,7 @@ deliver_known name store verdicts issuer file r plain plain' plain'' plain''' is
     (no_fault_of_deliver name store verdicts issuer file plain plain' plain'' plain''')
     (λ none. not_lacking of_deliver enters.rows ((store, enters.finds.0), ((verdicts, enters.finds.1.0), ((issuer, enters.finds.1.1.0), ((file, enters.finds.1.1.1.0), tt)))) (none.deliver enters.rows enters.is))
     (no_kind _ (codes "deliver") enters.rows enters.is refl refl)
+    (no_policy _ (codes "deliver") enters.rows enters.is refl)
     (λ line. deliver_means _ enters.rows store verdicts issuer file enters.finds line enters.is) is.reads is.refuses
 
 no_purpose : (given : Option (Bor Text)) → option_map (λ s. s.now) given ≡ None → given ≡ None
@@ -255,21 +277,25 @@ record IsFound (rows : List Row) (store verdicts : Text) (texts : QueryTexts) : 
 
 -- `check`
 check_means : (entered : Option (Text × List Row)) (rows : List Row) (store verdicts : Text) (texts : QueryTexts) → IsFound rows store verdicts texts
+    → all_of (codes "policy") rows ≡ None
     → (line : Line) → entered ≡ Some (codes "check", rows) → IsLineOf entered line → IsCheck store verdicts texts line
-check_means entered rows store verdicts texts found (Check path prints asked) is line =
+check_means entered rows store verdicts texts found alone (Check path prints asked) is line =
     let says = line_in entered (codes "check") rows (Check path prints asked) is line in (
       same_value (first_of (codes "store") rows) store path.now found.store_is says.1,
       same_value (first_of (codes "verdicts") rows) verdicts prints.now found.verdicts_is says.2,
       asks rows _ texts found.asks says.3,
     )
-check_means entered rows store verdicts texts found other is line = absurd (other_line entered (codes "check") rows other refl is line)
+check_means entered rows store verdicts texts found alone (CheckWithPolicies path prints asked policies) is line =
+    absurd (not_missing (all_of (codes "policy") rows) _ (line_in entered (codes "check") rows (CheckWithPolicies path prints asked policies) is line).4.policies alone)
+check_means entered rows store verdicts texts found alone other is line = absurd (other_line entered (codes "check") rows other refl is line)
 
 pub check_known : (name store verdicts moment anchor file : Text) (more : List Text) (r : Result Line Error)
     → IsPlainWord store → IsPlainWord verdicts → IsPlainWord moment → IsPlainWord anchor → All IsPlainWord (file ∷ more) → length more < usize_max
     → IsReadAs (name ∷ codes "check" ∷ check_words store verdicts moment anchor (file ∷ more)) r
     → MatchResult r (IsCheck store verdicts (record { moment = moment; purpose = None; anchor = anchor; files = file ∷ more })) (λ e. kind_of e ≡ OutOfMemory)
 check_known name store verdicts moment anchor file more r s v t a f few is =
-    let enters = entered_check name store verdicts moment anchor file more s v t a f in
+    let enters_check = entered_check name store verdicts moment anchor file more s v t a f in
+    let enters = enters_check.of in
     let finds = enters.finds in
     known (IsCheck store verdicts (record { moment = moment; purpose = None; anchor = anchor; files = file ∷ more })) (name ∷ codes "check" ∷ check_words store verdicts moment anchor (file ∷ more)) r
     (no_fault_of_check name store verdicts moment anchor file more s v t a f few)
@@ -277,9 +303,10 @@ check_known name store verdicts moment anchor file more r s v t a f few is =
     ((store, finds.1.0), ((verdicts, finds.1.1.0), ((moment, finds.1.1.1.0), ((anchor, finds.1.1.1.1.0), ((file, finds.1.1.1.1.1.0), tt)))))
     (none.check enters.rows enters.is))
     (no_kind _ (codes "check") enters.rows enters.is refl refl)
+    (flagged _ enters.rows enters.is (no_flag enters.rows enters_check.flags))
     (λ line. check_means _ enters.rows store verdicts _
     (record { store_is = finds.1.0; verdicts_is = finds.1.1.0; asks = record { moment = finds.1.1.1.0; purpose = finds.0; anchor = finds.1.1.1.1.0; files = enters.files } })
-    line enters.is)
+    enters_check.policies line enters.is)
     is.reads is.refuses
 
 -- `compare`
@@ -308,6 +335,7 @@ compare_known name store verdicts moment anchor other file more r s v t a o f fe
     ((store, finds.1.0), ((other, finds.1.1.1.1.1.0), ((verdicts, finds.1.1.0), ((moment, finds.1.1.1.0), ((anchor, finds.1.1.1.1.0), ((file, finds.1.1.1.1.1.1.0), tt))))))
     (none.compare enters.rows enters.is))
     (no_kind _ (codes "compare") enters.rows enters.is refl refl)
+    (no_policy _ (codes "compare") enters.rows enters.is refl)
     (λ line. compare_means _ enters.rows store verdicts _ other
     (record { store_is = finds.1.0; verdicts_is = finds.1.1.0; asks = record { moment = finds.1.1.1.0; purpose = finds.0; anchor = finds.1.1.1.1.0; files = enters.files } }, finds.1.1.1.1.1.0)
     line enters.is)
@@ -357,6 +385,7 @@ find_known name store verdicts moment anchor file r s v t a f is =
     ((store, enters.store_is), ((verdicts, enters.verdicts_is), ((moment, enters.asks.moment), ((anchor, enters.anchor_is), ((file, enters.asks.target), tt)))))
     (none.find enters.rows enters.is))
     (no_kind _ (codes "find") enters.rows enters.is refl refl)
+    (no_policy _ (codes "find") enters.rows enters.is refl)
     (λ line. find_means _ enters.rows store verdicts _ enters.store_is enters.verdicts_is enters.asks line enters.is) is.reads is.refuses
 
 -- `explain`
@@ -372,6 +401,7 @@ explain_known name word r plain is =
     known (IsExplain word) (name ∷ codes "explain" ∷ word ∷ []) r (no_fault_of_explain name word plain)
     (λ none. none.explain (rows_of_explain word) enters)
     (no_kind _ (codes "explain") (rows_of_explain word) enters refl refl)
+    (no_policy _ (codes "explain") (rows_of_explain word) enters refl)
     (λ line. explain_means _ (rows_of_explain word) word (topic_found word plain) line enters) is.reads is.refuses
 
 -- `session`
@@ -390,6 +420,7 @@ session_known name store r plain is =
     known (IsSession store) (name ∷ codes "session" ∷ session_words store) r (no_fault_of_session name store plain)
     (λ none. not_lacking of_store enters.rows ((store, enters.finds.0), tt) (none.session enters.rows enters.is))
     (no_kind _ (codes "session") enters.rows enters.is refl refl)
+    (no_policy _ (codes "session") enters.rows enters.is refl)
     (λ line. session_means _ enters.rows store enters.finds line enters.is) is.reads is.refuses
 
 -- `list`
@@ -409,6 +440,7 @@ list_known name store r plain is =
     known (IsList store) (name ∷ codes "list" ∷ list_words store) r (no_fault_of_list name store plain)
     (λ none. not_lacking of_store enters.rows ((store, enters.finds.0), tt) (none.list enters.rows enters.is))
     (no_kind _ (codes "list") enters.rows enters.is refl refl)
+    (no_policy _ (codes "list") enters.rows enters.is refl)
     (λ line. list_line _ enters.rows (IsList store)
     (λ path time says tells. (same_value (first_of (codes "store") enters.rows) store path.now enters.finds.0 says, no_purpose time (sym tells ∙ enters.finds.1.0)))
     line enters.is)
@@ -421,6 +453,7 @@ list_at_known name store moment r plain plain' is =
     known (IsListAt store moment) (name ∷ codes "list" ∷ list_at_words store moment) r (no_fault_of_list_at name store moment plain plain')
     (λ none. not_lacking of_store enters.rows ((store, enters.finds.0), tt) (none.list enters.rows enters.is))
     (no_kind _ (codes "list") enters.rows enters.is refl refl)
+    (no_policy _ (codes "list") enters.rows enters.is refl)
     (λ line. list_line _ enters.rows (IsListAt store moment)
     (λ path time says tells. (same_value (first_of (codes "store") enters.rows) store path.now enters.finds.0 says, sym tells ∙ enters.finds.1.0))
     line enters.is)

@@ -118,9 +118,29 @@ anchored a = with_rule (with_rule (storing a) moment_rule) anchor_rule
 abbrev pub asking : App → App
 asking a = with_rule (with_rule (anchored a) purpose_rule) certificates_rule
 
--- `check`, with no more than that
+-- `--policy OID`, as often as there are policies
+abbrev pub policy_rule : Rule
+policy_rule = repeated (codes "policy")
+
+-- `--require-policy`, `--inhibit-mapping` and `--inhibit-any-policy`, each of which may be left out
+abbrev pub require_policy_rule : Rule
+require_policy_rule = flag (codes "require-policy")
+
+abbrev pub inhibit_mapping_rule : Rule
+inhibit_mapping_rule = flag (codes "inhibit-mapping")
+
+abbrev pub inhibit_any_policy_rule : Rule
+inhibit_any_policy_rule = flag (codes "inhibit-any-policy")
+
+-- what may be asked of policies: `[--policy OID].. [--require-policy] [--inhibit-mapping] [--inhibit-any-policy]`
+abbrev pub asking_policies : App → App
+asking_policies a =
+    with_rule (with_rule (with_rule (with_rule a policy_rule) require_policy_rule) inhibit_mapping_rule)
+    inhibit_any_policy_rule
+
+-- `check`, with that
 abbrev pub check_app : App
-check_app = asking (new_app (codes "check"))
+check_app = asking_policies (asking (new_app (codes "check")))
 
 -- `--other STORE`, which has to be there
 abbrev pub other_rule : Rule

@@ -1,5 +1,5 @@
 -- What a line is, by the matches that clap's definition of a simple command gives for the words.
-use Rattle.std.specs.Prelude.{◌≡◌, ◌≢◌, ◌⊎◌, [], ◌∷◌, Bool, false, List, Option, Some, None, codes, map, option_map, if◌then◌else◌}
+use Rattle.std.specs.Prelude.{◌≡◌, ◌≢◌, ◌⊎◌, ◌||◌, [], ◌∷◌, Bool, true, false, List, Option, Some, None, codes, map, option_map, if◌then◌else◌}
 use Rattle.std.specs.Str.{bytes_eq}
 use Rattle.std.specs.Borrow.{Bor}
 use Rattle.clap.specs.Words.{IsAmong, Row, Text, all_of, fault_of, first_of, subcommand_of}
@@ -7,13 +7,14 @@ use Rattle.clap.specs.declared.error.kind.ErrorKind.{ErrorKind}
 use Rattle.clap.specs.declared.error.kind.ErrorKind.TheVariants.{InvalidValue, MissingRequiredArgument}
 use Rattle.cli_words.specs.App.{program}
 use Rattle.cli_words.specs.declared.line.Line.{Line}
-use Rattle.cli_words.specs.declared.line.Line.TheVariants.{Tree, Show, Prints, SearchPrints, Deliver, Check, Compare, Find, Explain, Session, List as Lists}
+use Rattle.cli_words.specs.declared.line.Line.TheVariants.{Tree, Show, Prints, SearchPrints, Deliver, Check, CheckWithPolicies, Compare, Find, Explain, Session, List as Lists}
 use Rattle.cli_words.specs.QueryTexts.{QueryTexts, seen_words}
 use Rattle.cli_words.specs.SearchTexts.{SearchTexts, seen_search_words}
+use Rattle.cli_words.specs.PolicyTexts.{PolicyTexts, seen_policy_words}
 use Rattle.cli_words.specs.declared.line.Kind.{Kind}
 use Rattle.cli_words.specs.declared.line.Kind.TheVariants.{Certificate, RevocationList, Response}
 use Rattle.cli_words.specs.declared.line.Flaw.{Flaw}
-use Rattle.cli_words.specs.declared.line.Flaw.TheVariants.{ArgumentMissing, OtherKind, NoMemory}
+use Rattle.cli_words.specs.declared.line.Flaw.TheVariants.{ArgumentMissing, OtherKind, PolicyMissing, NoMemory}
 
 -- the rows give the argument with this id the text
 abbrev pub GivesText : List Row → Text → Bor Text → Type 0
@@ -59,6 +60,29 @@ words_in None = []
 abbrev pub GivesTexts : List Row → Text → List (Bor Text) → Type 0
 GivesTexts rows id words = all_of id rows ≡ Some (map (λ s. s.now) words)
 
+-- the rows have what is asked of policies
+pub record AskPolicies (rows : List Row) (texts : PolicyTexts) : Type 0 where
+  pub policies : all_of (codes "policy") rows ≡ Some texts.policies
+  pub require_policy : flag_in rows (codes "require-policy") ≡ texts.require_policy
+  pub inhibit_mapping : flag_in rows (codes "inhibit-mapping") ≡ texts.inhibit_mapping
+  pub inhibit_any_policy : flag_in rows (codes "inhibit-any-policy") ≡ texts.inhibit_any_policy
+
+-- an option was given that says how policies are processed
+abbrev pub has_policy_flag : List Row → Bool
+has_policy_flag rows =
+    flag_in rows (codes "require-policy") || flag_in rows (codes "inhibit-mapping")
+    || flag_in rows (codes "inhibit-any-policy")
+
+-- nothing is asked of policies
+pub record AskNoPolicies (rows : List Row) : Type 0 where
+  pub policies : all_of (codes "policy") rows ≡ None
+  pub flags : has_policy_flag rows ≡ false
+
+-- such an option was given, and no policy
+pub record LackPolicy (rows : List Row) : Type 0 where
+  pub policies : all_of (codes "policy") rows ≡ None
+  pub flags : has_policy_flag rows ≡ true
+
 -- the rows have what is asked about a certificate that others lead to
 pub record AskToFind (rows : List Row) (texts : SearchTexts) : Type 0 where
   pub moment : first_of (codes "at") rows ≡ Some texts.moment
@@ -88,7 +112,11 @@ IsLine (name, rows) (Deliver store verdicts issuer file) =
     × GivesText rows (codes "file") file
 IsLine (name, rows) (Check store verdicts query) =
     (name ≡ codes "check") × GivesText rows (codes "store") store
+    × GivesText rows (codes "verdicts") verdicts × Ask rows (seen_words query) × AskNoPolicies rows
+IsLine (name, rows) (CheckWithPolicies store verdicts query policies) =
+    (name ≡ codes "check") × GivesText rows (codes "store") store
     × GivesText rows (codes "verdicts") verdicts × Ask rows (seen_words query)
+    × AskPolicies rows (seen_policy_words policies)
 IsLine (name, rows) (Compare store other verdicts query) =
     (name ≡ codes "compare") × GivesText rows (codes "store") store
     × GivesText rows (codes "other") other × GivesText rows (codes "verdicts") verdicts
@@ -173,45 +201,61 @@ abbrev pub HasOtherKind : Option (Text × List Row) → Type 0
 HasOtherKind entered =
     (p : Text × List Row) × (entered ≡ Some p) × TakesOtherKind p.0 p.1
 
+-- `check` was entered, with an option that says how policies are processed, and no policy
+abbrev pub HasNoPolicy : Option (Text × List Row) → Type 0
+HasNoPolicy entered = (rows : List Row) × (entered ≡ Some (codes "check", rows)) × LackPolicy rows
+
 -- what is wrong with the subcommand that was entered; nothing is where memory ran out
 abbrev pub HasFlaw : Option (Text × List Row) → Flaw → Type 0
 HasFlaw entered ArgumentMissing = HasNoLine entered
 HasFlaw entered OtherKind = HasOtherKind entered
+HasFlaw entered PolicyMissing = HasNoPolicy entered
 HasFlaw entered NoMemory = Unit {0}
 
 -- the same of the rows of `show`
 abbrev pub IsFlawOfShow : List Row → Flaw → Type 0
 IsFlawOfShow rows ArgumentMissing = LacksOneOf of_file rows
 IsFlawOfShow rows OtherKind = kind_in_rows rows ≡ None
+IsFlawOfShow rows PolicyMissing = ⊥
 IsFlawOfShow rows NoMemory = ⊥
 
 -- of those of `prints`
 abbrev pub IsFlawOfPrints : List Row → Flaw → Type 0
 IsFlawOfPrints rows ArgumentMissing = LacksOneOf of_prints rows
 IsFlawOfPrints rows OtherKind = (kind_in_rows rows ≡ None) ⊎ SearchesForOther rows
+IsFlawOfPrints rows PolicyMissing = ⊥
 IsFlawOfPrints rows NoMemory = Unit {0}
 
 -- of a subcommand that takes no kind, and no memory
 abbrev pub IsLack : List Text → List Row → Flaw → Type 0
 IsLack ids rows ArgumentMissing = LacksOneOf ids rows
 IsLack ids rows OtherKind = ⊥
+IsLack ids rows PolicyMissing = ⊥
 IsLack ids rows NoMemory = ⊥
 
 -- and of one that asks
 abbrev pub IsFlawOfQuestion : List Text → List Row → Flaw → Type 0
 IsFlawOfQuestion ids rows ArgumentMissing = LacksOneOf ids rows
 IsFlawOfQuestion ids rows OtherKind = ⊥
+IsFlawOfQuestion ids rows PolicyMissing = ⊥
 IsFlawOfQuestion ids rows NoMemory = Unit {0}
+
+-- and of `check`, which may ask of policies
+abbrev pub IsFlawOfCheck : List Row → Flaw → Type 0
+IsFlawOfCheck rows PolicyMissing = LackPolicy rows
+IsFlawOfCheck rows flaw = IsFlawOfQuestion of_check rows flaw
 
 -- the words break no rule of the command, and are this line
 abbrev pub ReadsLine : List Text → Line → Type 0
 ReadsLine words line = (fault_of program words ≡ []) × IsLineOf (subcommand_of program words) line
 
--- the subcommand that was entered is refused with this kind of error: one of its files is missing, or no kind that it takes has the name
+-- the subcommand that was entered is refused with this kind of error: one of its files is missing, or no kind that it takes has the name, or
+-- an option of policies is given without a policy
 abbrev pub IsRefusedWith : Option (Text × List Row) → ErrorKind → Type 0
 IsRefusedWith entered kind =
     ((kind ≡ MissingRequiredArgument) × HasNoLine entered)
     ⊎ ((kind ≡ InvalidValue) × HasOtherKind entered)
+    ⊎ ((kind ≡ MissingRequiredArgument) × HasNoPolicy entered)
 
 -- the words are: clap's definition gives the error, or their subcommand is
 abbrev pub AreRefusedWith : List Text → ErrorKind → Type 0
@@ -222,4 +266,5 @@ AreRefusedWith words kind =
 abbrev pub IsErrorOf : Flaw → ErrorKind → Type 0
 IsErrorOf ArgumentMissing kind = kind ≡ MissingRequiredArgument
 IsErrorOf OtherKind kind = kind ≡ InvalidValue
+IsErrorOf PolicyMissing kind = kind ≡ MissingRequiredArgument
 IsErrorOf NoMemory kind = ⊥

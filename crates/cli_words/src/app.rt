@@ -1,7 +1,7 @@
 //! The program and its subcommands, as clap sees them. Each subcommand is built in a function of its own.
 ghost use Rattle.std.specs.Prelude.{◌≡◌, IfOk};
 ghost use Rattle.clap.specs.Words.{App, app_of};
-ghost use Rattle.cli_words.specs.App.{IsApp, HasRule, among_rule, anchors_rule, asking as asking_app, certificates_rule, check_app, compare_app, deliver_app, explain_app, file_rule, find_app, issuer_rule, kind_rule, list_app, moment_rule, program as program_app, prints_app, purpose_rule, session_app, show_app, store_rule, topic_rule, tree_app, verdicts_rule};
+ghost use Rattle.cli_words.specs.App.{IsApp, HasRule, among_rule, anchors_rule, asking as asking_app, asking_policies as asking_policies_app, certificates_rule, check_app, compare_app, deliver_app, explain_app, file_rule, find_app, issuer_rule, kind_rule, list_app, moment_rule, program as program_app, prints_app, purpose_rule, session_app, show_app, store_rule, topic_rule, tree_app, verdicts_rule};
 
 use crate::building::{Building, flag, needed, option, repeated};
 use clap::{Arg, Command};
@@ -23,13 +23,15 @@ const SESSION_HELP: &str = "Requests, a line each:
   believe HEX                              A signature with this fingerprint is good from now on
   forget                                   Forget what came by 'believe'
   deliver ISSUER FILE                      Put a list or a response into the store
-  check TIME [purpose=OID] ANCHOR FILE..   The verdict on a path
+  check TIME [purpose=OID] [POLICIES] ANCHOR FILE..
+                                           The verdict on a path
   find TIME [purpose=OID] [name=NAME] ANCHORS [AMONG] FILE
                                            A path to the certificate, and its verdict
   prints [parts] KIND ISSUER FILE          What a verifier is asked; with parts, the texts too
   prints [parts] search ANCHORS [AMONG] FILE
                                            What it may be asked in a search
   quit                                     End the session
+POLICIES are policy=OID, once or more often, and behind them [require-policy] [inhibit-mapping] [inhibit-any-policy].
 ISSUER, ANCHOR and FILE are files, or 'hex:' and the octets; ANCHORS and AMONG have several certificates in a row.
 
 Example: echo quit | x509check session --store store";
@@ -209,6 +211,34 @@ fn asking<'a>(alloc: Global, command: Building<'a>) -> Building<'a>
         .arg(certificates(alloc))
 }
 
+// What `check` may ask of policies.
+fn asking_policies<'a>(alloc: Global, command: Building<'a>) -> Building<'a>
+    ensures { (a : App) → IsApp a command.entry → IsApp (asking_policies_app a) result }
+{
+    command
+        .arg(repeated(
+            alloc,
+            "policy",
+            "OID",
+            "A certificate policy that is taken, as an OBJECT IDENTIFIER in dotted decimal; may be given several times. Policies are processed then, and those at the end of the path are printed",
+        ))
+        .arg(flag(
+            alloc,
+            "require-policy",
+            "With --policy: the path is invalid unless one of these policies is valid at its end",
+        ))
+        .arg(flag(
+            alloc,
+            "inhibit-mapping",
+            "With --policy: no policy stands for another one",
+        ))
+        .arg(flag(
+            alloc,
+            "inhibit-any-policy",
+            "With --policy: anyPolicy in a certificate stands for no other policy",
+        ))
+}
+
 fn check<'a>(alloc: Global) -> Building<'a>
     ensures { IsApp check_app result }
 {
@@ -218,7 +248,7 @@ fn check<'a>(alloc: Global) -> Building<'a>
         "Validates a path of certificates at a moment, with what a store holds of their revocation",
         "Example: x509check check --store store --verdicts good --at 20261201000000Z --anchor root.der middle.der leaf.der",
     );
-    asking(alloc, command)
+    asking_policies(alloc, asking(alloc, command))
 }
 
 fn compare<'a>(alloc: Global) -> Building<'a>

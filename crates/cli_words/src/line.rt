@@ -4,11 +4,12 @@ ghost use Rattle.clap.specs.Words.{Text, all_of, app_of, found_of, kind_of, rows
 ghost use Rattle.clap.specs.declared.error.kind.ErrorKind.TheVariants.{OutOfMemory};
 ghost use Rattle.cli_words.specs.declared.line.Flaw.TheVariants.{NoMemory, OtherKind};
 ghost use Rattle.cli_words.specs.App.{program as program_app};
-ghost use Rattle.cli_words.specs.CommandLine.{AreRefusedWith, HasFlaw, IsErrorOf, GivesTexts, IsFlawOfPrints, IsFlawOfQuestion, IsFlawOfShow, IsLack, IsLine, IsLineOf, IsRefusedWith, ReadsLine, kind_in_rows, kind_or_certificate, of_check, of_compare, of_deliver, of_file, of_find, of_store};
+ghost use Rattle.cli_words.specs.CommandLine.{AreRefusedWith, AskNoPolicies, HasFlaw, IsErrorOf, GivesTexts, IsFlawOfCheck, IsFlawOfPrints, IsFlawOfQuestion, IsFlawOfShow, IsLack, IsLine, IsLineOf, IsRefusedWith, ReadsLine, kind_in_rows, kind_or_certificate, of_compare, of_deliver, of_file, of_find, of_store};
 ghost use Rattle.cli_words.specs.PlainLine.{IsOutOfMemory, PlainLine, SpellsLine, plain_words};
 
 use crate::app::program;
 use crate::arguments::{any_words, is_set, text, words};
+use crate::policies::{PolicyWords, has_policy_flag, policies_asked};
 use crate::query::{QueryWords, asked};
 use crate::search::{SearchWords, asked_to_find};
 use clap::error::ErrorKind;
@@ -72,6 +73,13 @@ pub enum Line<'a> {
         verdicts: &'a str,
         query: QueryWords<'a>,
     },
+    /// The same, where certificate policies are processed, and print the policies at the end of the path too.
+    CheckWithPolicies {
+        store: &'a str,
+        verdicts: &'a str,
+        query: QueryWords<'a>,
+        policies: PolicyWords<'a>,
+    },
     /// Print whether the other store gives the same verdict.
     Compare {
         store: &'a str,
@@ -108,6 +116,7 @@ pub enum Line<'a> {
 pub(crate) enum Flaw {
     ArgumentMissing,
     OtherKind,
+    PolicyMissing,
     NoMemory,
 }
 
@@ -226,9 +235,11 @@ fn deliver_line<'a>(matches: &ArgMatches<'a>) -> Result<Line<'a>, Flaw>
     })
 }
 
-fn check_line<'a>(alloc: Global, matches: &ArgMatches<'a>) -> Result<Line<'a>, Flaw>
+// The line of `check`, where nothing is asked of policies.
+fn check_path_line<'a>(alloc: Global, matches: &ArgMatches<'a>) -> Result<Line<'a>, Flaw>
+    requires { AskNoPolicies (rows_of (found_of matches.now)) }
     ensures line { IfOk result (IsLine (codes "check", rows_of (found_of matches.now))) }
-    ensures flaw { IfErr result (IsFlawOfQuestion of_check (rows_of (found_of matches.now))) }
+    ensures flaw { IfErr result (IsFlawOfCheck (rows_of (found_of matches.now))) }
 {
     let (Some(store), Some(verdicts)) = (text(matches, "store"), text(matches, "verdicts")) else {
         return Err(Flaw::ArgumentMissing);
@@ -238,6 +249,44 @@ fn check_line<'a>(alloc: Global, matches: &ArgMatches<'a>) -> Result<Line<'a>, F
         verdicts,
         query: asked(alloc, matches)?,
     })
+}
+
+// The line of `check`, where these policies are asked for.
+fn check_policies_line<'a>(
+    alloc: Global,
+    matches: &ArgMatches<'a>,
+    policies: Vec<&'a str>,
+) -> Result<Line<'a>, Flaw>
+    requires { GivesTexts (rows_of (found_of matches.now)) (codes "policy") policies.items }
+    ensures line { IfOk result (IsLine (codes "check", rows_of (found_of matches.now))) }
+    ensures flaw { IfErr result (IsFlawOfCheck (rows_of (found_of matches.now))) }
+{
+    let (Some(store), Some(verdicts)) = (text(matches, "store"), text(matches, "verdicts")) else {
+        return Err(Flaw::ArgumentMissing);
+    };
+    let query = asked(alloc, matches)?;
+    Ok(Line::CheckWithPolicies {
+        store,
+        verdicts,
+        query,
+        policies: policies_asked(matches, policies),
+    })
+}
+
+fn check_line<'a>(alloc: Global, matches: &ArgMatches<'a>) -> Result<Line<'a>, Flaw>
+    ensures line { IfOk result (IsLine (codes "check", rows_of (found_of matches.now))) }
+    ensures flaw { IfErr result (IsFlawOfCheck (rows_of (found_of matches.now))) }
+{
+    match words(alloc, matches, "policy") {
+        Ok(Some(policies)) => check_policies_line(alloc, matches, policies),
+        Ok(None) => {
+            if has_policy_flag(matches) {
+                return Err(Flaw::PolicyMissing);
+            }
+            check_path_line(alloc, matches)
+        }
+        Err(_) => Err(Flaw::NoMemory),
+    }
 }
 
 fn compare_line<'a>(alloc: Global, matches: &ArgMatches<'a>) -> Result<Line<'a>, Flaw>
@@ -352,6 +401,12 @@ fn error_of(command: &mut Command<'_>, flaw: Flaw) -> Result<Error, AllocError>
             command.error(
                 ErrorKind::InvalidValue,
                 "KIND has to be 'cert', 'crl' or 'ocsp', and with --among 'cert'",
+            )
+        }
+        Flaw::PolicyMissing => {
+            command.error(
+                ErrorKind::MissingRequiredArgument,
+                "--require-policy, --inhibit-mapping and --inhibit-any-policy need --policy",
             )
         }
         Flaw::NoMemory => Err(AllocError),

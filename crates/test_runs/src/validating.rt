@@ -5,6 +5,7 @@ mod files;
 mod finding;
 mod in_session;
 mod listed;
+mod policies;
 mod quick_start;
 mod refused;
 mod script;

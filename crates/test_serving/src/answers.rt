@@ -37,6 +37,26 @@ const ROWS: &[(&str, &str)] = &[
         "6 cannot read a\n",
     ),
     (
+        "check 20250615000000Z purpose=1.2 policy=1.2 policy=1 a b\n",
+        "5 bad policy 1\n",
+    ),
+    (
+        "check 20250615000000Z purpose=1 policy=1 a b\n",
+        "5 bad purpose\n",
+    ),
+    (
+        "check 20250615000000Z policy=1.2 require-policy a b\n",
+        "6 cannot read a\n",
+    ),
+    (
+        "check 20250615000000Z policy=1.2 inhibit-mapping require-policy b\n",
+        "6 cannot read require-policy\n",
+    ),
+    (
+        "check 20250615000000Z require-policy policy=1.2\n",
+        "6 cannot read require-policy\n",
+    ),
+    (
         "check 20250615000000Z hex:0500 b\n",
         "4 hex:0500: refused 22 Layout at 0\n",
     ),

@@ -6,4 +6,6 @@ mod answers;
 #[cfg(test)]
 mod keeping;
 #[cfg(test)]
+mod policies;
+#[cfg(test)]
 mod stopping;

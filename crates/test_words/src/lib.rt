@@ -17,6 +17,8 @@ mod moments;
 #[cfg(test)]
 mod options;
 #[cfg(test)]
+mod policies;
+#[cfg(test)]
 mod purposes;
 #[cfg(test)]
 mod requests;

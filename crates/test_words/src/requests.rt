@@ -1,7 +1,7 @@
 //! What lines ask for.
 
 use cli_requests::{Operand, Request, RequestFault, SearchFiles, operand_of, request_of};
-use cli_words::{Kind, QueryWords, SearchWords};
+use cli_words::{Kind, PolicyWords, QueryWords, SearchWords};
 use std::alloc::Global;
 use std::process::Abort;
 use std::test::Fail;
@@ -31,6 +31,9 @@ const BAD: &[&str] = &[
     "check 20250615000000Z",
     "check 20250615000000Z a",
     "check 20250615000000Z purpose=1.2 a",
+    "check 20250615000000Z policy=1.2 a",
+    "check 20250615000000Z purpose=1.2 policy=1.2 policy=1.3 require-policy a",
+    "check 20250615000000Z policy=1.2 inhibit-any-policy",
     "find 20250615000000Z",
     "find 20250615000000Z a",
     "find 20250615000000Z name=x a",
@@ -127,6 +130,66 @@ fn reads_questions(rt: HostRuntime) -> Result<(), Fail> {
     });
     let request = request_of(alloc, b"check 20250615000000Z purpose=1.2.3 a b c")?;
     assert!(rt; request == expected);
+    Ok(())
+}
+
+/// The question about a path from `a` on.
+fn question<'a>(
+    alloc: Global,
+    purpose: Option<&'a str>,
+    anchor: &'a str,
+    file: &'a str,
+) -> Result<QueryWords<'a>, Fail> {
+    let mut files = Vec::new(alloc);
+    files.push(file)?;
+    Ok(QueryWords {
+        moment: "20250615000000Z",
+        purpose,
+        anchor,
+        files,
+    })
+}
+
+#[test]
+fn reads_questions_with_policies(rt: HostRuntime) -> Result<(), Fail> {
+    let alloc = rt.alloc();
+    let mut policies = Vec::new(alloc);
+    policies.push("1.2")?;
+    policies.push("")?;
+    let expected = Request::CheckWithPolicies {
+        query: question(alloc, Some("1.3"), "a", "b")?,
+        policies: PolicyWords {
+            policies,
+            require_policy: true,
+            inhibit_mapping: false,
+            inhibit_any_policy: true,
+        },
+    };
+    let line =
+        b"check 20250615000000Z purpose=1.3 policy=1.2 policy= require-policy inhibit-any-policy a b";
+    assert!(rt; request_of(alloc, line)? == expected);
+    Ok(())
+}
+
+/// The words behind the policies stand in their order, and are operands elsewhere.
+#[test]
+fn words_of_policies_are_operands_elsewhere(rt: HostRuntime) -> Result<(), Fail> {
+    let alloc = rt.alloc();
+    let alone = request_of(alloc, b"check 20250615000000Z require-policy policy=1.2")?;
+    assert!(rt; alone == Request::Check(question(alloc, None, "require-policy", "policy=1.2")?));
+    let mut policies = Vec::new(alloc);
+    policies.push("1.2")?;
+    let expected = Request::CheckWithPolicies {
+        query: question(alloc, None, "inhibit-mapping", "b")?,
+        policies: PolicyWords {
+            policies,
+            require_policy: false,
+            inhibit_mapping: true,
+            inhibit_any_policy: false,
+        },
+    };
+    let line = b"check 20250615000000Z policy=1.2 inhibit-mapping inhibit-mapping b";
+    assert!(rt; request_of(alloc, line)? == expected);
     Ok(())
 }
 

@@ -1,6 +1,7 @@
 use Rattle.std.proofs.Common.{◌∙◌, ◌∷◌, [], ap, inl, map, refl, sym}
 use Rattle.std.proofs.lemmas.Result.{err_from_is_err_and}
 use Rattle.cli_answers.specs.SearchText.{search_status}
+use Rattle.cli_answers.specs.Status.{verdict_status}
 use Rattle.cli_showing.specs.Shown.{ArePrintsUnder, IsShownText, IsTreeText}
 use Rattle.cli_steps.specs.Found.{found_text}
 use Rattle.cli_steps.specs.SearchPrints.{AreSearchPrints, IsFailureOfSearchPrints}
@@ -55,6 +56,16 @@ pub returns-in-Find-clause-done : goal.returns-in-Find-clause-done
 returns-in-Find-clause-done g c =
     let (answer, same, is, written) = c.in_ok-find-in-Find.ensures.found in
     rw c.in-Find.is (found_text answer, (answer, is, c.search_status.ensures ∙ ap search_status (sym same), refl), written)
+
+pub returns-in_err-checked-in-CheckWithPolicies-clause-fails : goal.returns-in_err-checked-in-CheckWithPolicies-clause-fails
+returns-in_err-checked-in-CheckWithPolicies-clause-fails g c =
+    let p = err_from_is_err_and c.from_residual-in_err-checked-in-CheckWithPolicies.result c.from_residual-in_err-checked-in-CheckWithPolicies.ensures.1 in
+    rw (p.1, p.2, c.in-CheckWithPolicies.is) c.in_err-checked-in-CheckWithPolicies.ensures.fails
+
+pub returns-in-CheckWithPolicies-clause-done : goal.returns-in-CheckWithPolicies-clause-done
+returns-in-CheckWithPolicies-clause-done g c =
+    let (told, same, is, written) = c.in_ok-checked-in-CheckWithPolicies.ensures.checked in
+    rw c.in-CheckWithPolicies.is (told.lines.items, (told, is, c.verdict_status.ensures ∙ ap verdict_status (sym same), refl), written)
 
 -- the text was made, and written
 pub returns-clause-done : goal.returns-clause-done

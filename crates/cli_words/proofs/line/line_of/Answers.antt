@@ -1,6 +1,6 @@
 use Rattle.std.proofs.Common.{◌≡◌, Some, codes, rules}
 use Rattle.clap.specs.Words.{found_of, rows_of, subcommand_rows_of}
-use Rattle.cli_words.proofs.Flaws.{lack_flaw, question_flaw, show_flaw}
+use Rattle.cli_words.proofs.Flaws.{check_flaw, lack_flaw, question_flaw, show_flaw}
 use Rattle.cli_words.proofs.line.line_of.Goals as goal
 
 -- (The goals of `prints` are left to the search, since an edit of mistakes/ puts another call there.)
@@ -22,7 +22,7 @@ returns-in-deliver-clause-flaw c =
 pub returns-in-check-clause-flaw : goal.returns-in-check-clause-flaw
 returns-in-check-clause-flaw c =
     let is : subcommand_rows_of c.args.matches.now ≡ Some (codes "check", rows_of (found_of c.in-Some.inner.now)) = search rules in
-    question_flaw c.check_line.result _ (codes "check") (rows_of (found_of c.in-Some.inner.now)) is c.check_line.ensures.flaw
+    check_flaw c.check_line.result _ (rows_of (found_of c.in-Some.inner.now)) is c.check_line.ensures.flaw
 
 pub returns-in-compare-clause-flaw : goal.returns-in-compare-clause-flaw
 returns-in-compare-clause-flaw c =
