@@ -7,12 +7,12 @@ use Rattle.statements_facts.specs.Statement.{Holdings}
 use Rattle.cli_failures.specs.Failures.{Holding}
 use Rattle.cli_failures.specs.declared.failure.Failure.{Failure}
 use Rattle.cli_operands.specs.Asked.{AcceptsJust}
-use Rattle.cli_requests.specs.Requests.{Request, nothing, believe, deliver, check, find, prints, search_prints, forget, quit, request_on}
+use Rattle.cli_requests.specs.Requests.{Request, nothing, believe, deliver, check, check_with_policies, find, prints, search_prints, forget, quit, request_on}
 use Rattle.cli_steps.specs.Keeping.{Kept, taking, trying}
 use Rattle.cli_steps.specs.State.{SessionState, believing, forgetting, keeping}
 use Rattle.cli_steps.specs.Steps.{BelievesMore, DeliversFile, IsUndelivered, IsStep}
 use Rattle.cli_steps.specs.declared.answer.SessionAnswer.{SessionAnswer}
-use Rattle.cli_steps.specs.declared.answer.SessionAnswer.TheVariants.{Nothing, Believes, Forgets, Ends, Delivered, Told, Found, Prints, Failed, BadLine, LongLine}
+use Rattle.cli_steps.specs.declared.answer.SessionAnswer.TheVariants.{Nothing, Believes, Forgets, Ends, Delivered, Told, ToldWithPolicies, Found, Prints, Failed, BadLine, LongLine}
 use Rattle.cli_serving.specs.Crash.{CrashLosesNothing, FailsToDeliverThem, IsHeldOrMore, LosesNothing, SomeFailsToDeliverThem}
 use Rattle.cli_serving.specs.Serving.{AreAnswersToLines, IsAnswerOf, IsAnswerToLine, IsAnswerWithin}
 
@@ -69,6 +69,7 @@ delivers holds Before line issuer file old new Believes asks none so = absurd no
 delivers holds Before line issuer file old new Forgets asks none so = absurd none
 delivers holds Before line issuer file old new Ends asks none so = absurd none
 delivers holds Before line issuer file old new (Told verdict) asks none so = absurd none
+delivers holds Before line issuer file old new (ToldWithPolicies verdict) asks none so = absurd none
 delivers holds Before line issuer file old new (Found path) asks none so = absurd none
 delivers holds Before line issuer file old new (Prints text) asks none so = absurd none
 delivers holds Before line issuer file old new BadLine asks none so = absurd none
@@ -83,6 +84,7 @@ keeps_it print old new Nothing none = absurd none
 keeps_it print old new Forgets none = absurd none
 keeps_it print old new Ends none = absurd none
 keeps_it print old new (Told verdict) none = absurd none
+keeps_it print old new (ToldWithPolicies verdict) none = absurd none
 keeps_it print old new (Found path) none = absurd none
 keeps_it print old new (Prints text) none = absurd none
 keeps_it print old new BadLine none = absurd none
@@ -94,6 +96,7 @@ step holds Before line nothing old new answer asks (answered, is) so = unchanged
 step holds Before line (believe print) old new answer asks is so = same holds Before line old answer new.kept (keeps_it print old new answer is) so
 step holds Before line (deliver issuer file) old new answer asks is so = delivers holds Before line issuer file old new answer asks is so
 step holds Before line (check path) old new answer asks (told, is) so = unchanged holds Before line old answer new is so
+step holds Before line (check_with_policies path policies) old new answer asks (told, is) so = unchanged holds Before line old answer new is so
 step holds Before line (find texts) old new answer asks (told, is) so = unchanged holds Before line old answer new is so
 step holds Before line (search_prints with_parts files) old new answer asks (told, is) so = unchanged holds Before line old answer new is so
 step holds Before line (prints kind with_parts issuer file) old new answer asks (told, is) so = unchanged holds Before line old answer new is so

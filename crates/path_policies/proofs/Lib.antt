@@ -14,3 +14,4 @@ mod Naming
 mod Ending
 mod Taking
 mod Deciding
+mod Stepping

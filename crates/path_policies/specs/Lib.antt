@@ -9,6 +9,8 @@ pub mod Seen
 pub mod Steps
 pub mod Walk
 pub mod Outcome
+pub mod Progress
+pub mod State
 pub use Rattle.cert_policies.specs.PolicyExtensions
 pub use Rattle.cert.specs.Certificate
 pub use Rattle.cert_policies.specs.PolicyReading

@@ -12,9 +12,11 @@ mod policy_set;
 mod processing;
 mod query;
 mod reason;
+mod state;
 mod walk;
 
 pub use policy::ANY_POLICY;
 pub use processing::{policy_outcome_laws, process_policies};
 pub use query::{PolicyCertificate, PolicyQuery, policy_certificates};
 pub use reason::{PolicyOutcome, PolicyReason, PolicySets};
+pub use state::{PolicyState, PolicyStep};

@@ -15,7 +15,7 @@ use crate::walk::{Walk, lacks_policy, walk_certificates};
 use std::alloc::{AllocError, Global};
 
 /// The outcome if all certificates have passed.
-fn end<'c>(
+pub(crate) fn end<'c>(
     alloc: Global,
     query: &PolicyQuery<'_, 'c>,
     each: &[Inhibitions],

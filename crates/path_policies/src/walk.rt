@@ -41,7 +41,7 @@ pub(crate) fn lacks_policy(required: bool, policies: &PolicySet<'_>) -> bool
 }
 
 /// Takes one certificate, and turns the policies expected above it into those expected below it.
-fn take_certificate<'c>(
+pub(crate) fn take_certificate<'c>(
     alloc: Global,
     certificate: &PolicyCertificate<'c>,
     inhibitions: Inhibitions,

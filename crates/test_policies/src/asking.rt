@@ -2,7 +2,10 @@
 
 use asn::Oid;
 use cert_policies::{PolicyExtensions, PolicyMapping};
-use path_policies::{ANY_POLICY, PolicyCertificate, PolicyOutcome, PolicyQuery, process_policies};
+use path_policies::{
+    ANY_POLICY, PolicyCertificate, PolicyOutcome, PolicyQuery, PolicyState, PolicyStep,
+    process_policies,
+};
 use std::alloc::{AllocError, AllocFailed, Global};
 use std::fmt::Write;
 
@@ -143,21 +146,81 @@ fn text_of(alloc: Global, outcome: &PolicyOutcome<'_>) -> Result<String, RowFaul
     }
 }
 
+/// What a row asks, with what its query borrows.
+#[derive(Drop)]
+struct Question {
+    certificates: Vec<PolicyCertificate<'static>>,
+    initial_policies: Vec<Oid<'static>>,
+    inhibit_policy_mapping: bool,
+    require_explicit_policy: bool,
+    inhibit_any_policy: bool,
+}
+
+impl Question {
+    fn read(alloc: Global, inputs: &str, certificates: &str) -> Result<Question, RowFault> {
+        let certificates = certificates_of(alloc, certificates)?;
+        let user = inputs
+            .split_whitespace()
+            .find_map(|word| word.strip_prefix("user="))
+            .ok_or(RowFault::Word)?;
+        Ok(Question {
+            certificates,
+            initial_policies: policies_of(alloc, user)?,
+            inhibit_policy_mapping: inputs.contains('M'),
+            require_explicit_policy: inputs.contains('E'),
+            inhibit_any_policy: inputs.contains('A'),
+        })
+    }
+
+    fn query(&self) -> PolicyQuery<'_, 'static> {
+        PolicyQuery {
+            certificates: &self.certificates,
+            initial_policies: &self.initial_policies,
+            inhibit_policy_mapping: self.inhibit_policy_mapping,
+            require_explicit_policy: self.require_explicit_policy,
+            inhibit_any_policy: self.inhibit_any_policy,
+        }
+    }
+}
+
 /// What is answered to the inputs and the certificates of a row.
 pub fn answer_to(alloc: Global, inputs: &str, certificates: &str) -> Result<String, RowFault> {
-    let certificates = certificates_of(alloc, certificates)?;
-    let user = inputs
-        .split_whitespace()
-        .find_map(|word| word.strip_prefix("user="))
-        .ok_or(RowFault::Word)?;
-    let initial_policies = policies_of(alloc, user)?;
-    let query = PolicyQuery {
-        certificates: &certificates,
-        initial_policies: &initial_policies,
-        inhibit_policy_mapping: inputs.contains('M'),
-        require_explicit_policy: inputs.contains('E'),
-        inhibit_any_policy: inputs.contains('A'),
-    };
-    let outcome = process_policies(alloc, &query)?;
+    let question = Question::read(alloc, inputs, certificates)?;
+    let outcome = process_policies(alloc, &question.query())?;
     text_of(alloc, &outcome)
+}
+
+/// How many certificates have passed when the steps come to an outcome, and the outcome; `None` if they come to none.
+fn steps_of<'c>(
+    alloc: Global,
+    query: PolicyQuery<'_, 'c>,
+) -> Result<Option<(usize, PolicyOutcome<'c>)>, AllocError> {
+    let most = query.certificates.len();
+    let mut state = PolicyState::start(alloc, query)?;
+    for passed in 0..=most {
+        if state.done() != passed {
+            return Ok(None);
+        }
+        match state.next(alloc)? {
+            PolicyStep::Passed(next) => state = next,
+            PolicyStep::Failed(number, reason) => {
+                return Ok(Some((passed, PolicyOutcome::Bad(number, reason))));
+            }
+            PolicyStep::Ended(sets) => return Ok(Some((passed, PolicyOutcome::Good(sets)))),
+        }
+    }
+    Ok(None)
+}
+
+/// How many certificates of a row pass one after the other, and what is answered then.
+pub fn steps_to(
+    alloc: Global,
+    inputs: &str,
+    certificates: &str,
+) -> Result<(usize, String), RowFault> {
+    let question = Question::read(alloc, inputs, certificates)?;
+    match steps_of(alloc, question.query())? {
+        None => Ok((0, format!(in alloc; "no outcome")?)),
+        Some((passed, outcome)) => Ok((passed, text_of(alloc, &outcome)?)),
+    }
 }

@@ -1,6 +1,6 @@
 //! The rows.
 
-use crate::asking::answer_to;
+use crate::asking::{answer_to, steps_to};
 use crate::by_hand::ROWS;
 use crate::random::{MORE_ROWS, RANDOM_ROWS};
 use std::test::Fail;
@@ -33,6 +33,35 @@ fn each_row_has_its_answer(rt: HostRuntime) -> Result<(), Fail> {
             let answer = answer_to(rt.alloc(), row.inputs, row.certificates);
             let answer = answer.map_err(|_| "an answer")?;
             assert_eq!(rt; answer.as_str(), row.wanted, "{}", row.name);
+        }
+    }
+    Ok(())
+}
+
+/// How many certificates pass before the answer that a row wants: each if it is good, those above the one that is refused if not; if that
+/// is refused only for the user's policies, it has passed too.
+fn passes_wanted(row: Row<'_>) -> usize {
+    let mut words = row.wanted.split(' ');
+    let (verdict, number, reason) = (words.next(), words.next(), words.next());
+    let number = number.and_then(|number| number.parse::<usize>().ok());
+    match (verdict, number, reason) {
+        (Some("bad"), Some(number), Some("NoUserPolicy")) => number,
+        (Some("bad"), Some(number), _) => number.saturating_sub(1),
+        _ => row.certificates.split('|').count(),
+    }
+}
+
+#[test]
+fn each_row_steps_to_its_outcome(rt: HostRuntime) -> Result<(), Fail> {
+    for rows in [ROWS, RANDOM_ROWS, MORE_ROWS] {
+        for line in rows.lines().filter(|line| line.contains(';')) {
+            let row = row_of(line);
+            let steps = steps_to(rt.alloc(), row.inputs, row.certificates);
+            let (passed, outcome) = steps.map_err(|_| "steps")?;
+            let answer = answer_to(rt.alloc(), row.inputs, row.certificates);
+            let answer = answer.map_err(|_| "an answer")?;
+            assert_eq!(rt; outcome, answer, "{}", row.name);
+            assert_eq!(rt; passed, passes_wanted(row), "{}", row.name);
         }
     }
     Ok(())

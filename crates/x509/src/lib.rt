@@ -144,12 +144,12 @@ pub mod hosts {
 /// `validate_with_policies` processes them: it answers the policies at the end of the path, or the first certificate that is refused, for a
 /// reason of the path or of its policies. A party is asked for its verdict on `QueryWithPolicies::path`, and `add_policies` adds the policies to
 /// its answer; `verdict_with_policies` does both by statements at hand. `find_with_policies` searches for a path, by statements at hand, whose
-/// policies are acceptable. `process_policies` looks at policies alone.
+/// policies are acceptable. `process_policies` looks at policies alone, and `PolicyState` does so certificate by certificate.
 pub mod policies {
     pub use cert_policies::{PolicyExtensions, PolicyMapping, policy_layout_laws};
     pub use path_policies::{
         ANY_POLICY, PolicyCertificate, PolicyOutcome, PolicyQuery, PolicyReason, PolicySets,
-        policy_certificates, policy_outcome_laws, process_policies,
+        PolicyState, PolicyStep, policy_certificates, policy_outcome_laws, process_policies,
     };
     pub use path_policy_tree::tree_laws;
     pub use path_with_policies::{
