@@ -168,7 +168,10 @@ fn without_hosts(alloc: Global, path: &str) -> Result<Outcome, RowFault> {
 fn hosts_alone(alloc: Global, path: &str) -> Result<Outcome, RowFault> {
     let octets = octets_of(alloc, path)?;
     let certificates = read(alloc, &octets)?;
-    let hosts = host_certificates(alloc, &certificates[1..]).map_err(|_| RowFault::Word)?;
+    let Some((_, path)) = certificates.split_first() else {
+        return Err(RowFault::Word);
+    };
+    let hosts = host_certificates(alloc, path).map_err(|_| RowFault::Word)?;
     Ok(hosts_outcome(alloc, &hosts)?)
 }
 
