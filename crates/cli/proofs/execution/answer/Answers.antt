@@ -65,7 +65,7 @@ returns-in_err-checked-in-CheckWithPolicies-clause-fails g c =
 pub returns-in-CheckWithPolicies-clause-done : goal.returns-in-CheckWithPolicies-clause-done
 returns-in-CheckWithPolicies-clause-done g c =
     let (told, same, is, written) = c.in_ok-checked-in-CheckWithPolicies.ensures.checked in
-    rw c.in-CheckWithPolicies.is (told.lines.items, (told, is, c.verdict_status.ensures ∙ ap verdict_status (sym same), refl), written)
+    rw c.in-CheckWithPolicies.is (told.lines.items, (told, is, c.verdict_status-in-CheckWithPolicies.ensures ∙ ap verdict_status (sym same), refl), written)
 
 -- the text was made, and written
 pub returns-clause-done : goal.returns-clause-done

@@ -11,5 +11,5 @@ returns-in_err-told-clause-fails g c =
 pub returns-in-Ok-clause-checked : goal.returns-in-Ok-clause-checked
 returns-in-Ok-clause-checked g c = (c.in_ok-told.told, refl, c.in_ok-told.ensures.checked, rw c.as_slice.ensures.value at c.in-Ok.ensures.written)
 
-pub returns-in-Err-clause-fails : goal.returns-in-Err-clause-fails
-returns-in-Err-clause-fails g c = inr (refl, (_, (c.in_ok-told.told, c.in_ok-told.ensures.checked, c.as_slice.ensures.value), c.in-Err.ensures.front))
+pub returns-clause-fails : goal.returns-clause-fails
+returns-clause-fails g c = inr (refl, (_, (c.in_ok-told.told, c.in_ok-told.ensures.checked, c.as_slice.ensures.value), c.in-Err.ensures.front))
