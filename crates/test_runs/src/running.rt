@@ -173,7 +173,7 @@ rank 4 Expired: The moment is after the certificate's notAfter. The certificate 
 status 0
 $ explain 17
 fault 17 MaskForm: A mask that is not ones and then zeros. Ask the issuer for a new certificate. (RFC 5280, 4.2.1.10)
-rank 17 NoValidPolicy: A policy is required, and the certificate has none that those above it allow. Only who asks for policies is told so. Use another path, or ask without requiring a policy. (RFC 5280, 6.1.3 (f))
+rank 17 NoValidPolicy: A policy is required, and the certificate has none that those above it allow. It is told only if policies are asked for. Use another path, or ask without requiring a policy. (RFC 5280, 6.1.3 (f))
 status 0
 $ explain reason 5
 reason 5 cessationOfOperation: The certificate is no longer needed; the key is not known to be in other hands. (RFC 5280, 5.3.1)
