@@ -6,6 +6,7 @@ use Rattle.sqlite.specs.Effect.{Database}
 use Rattle.sqlite.specs.Files.{AreFoundIn, file_state}
 use Rattle.sqlite.specs.State.{HasCleanDisk}
 use Rattle.sqlite_trees.specs.Tree.{Trees}
+use Rattle.statements_facts.specs.declared.profile.Profile.TheVariants.{Stated}
 use Rattle.store.specs.Adopts.{IsEmptyStoreOn}
 use Rattle.store.specs.Opens.{IsTakenFrom}
 use Rattle.store.specs.declared.handle.Store.{Store}
@@ -18,19 +19,19 @@ use Rattle.cli_store.specs.Standing.{IsFound, IsFoundOrMade, IsNotFound, IsOfSto
 -- ---- a store that was taken from files
 
 module _ {D : Type 0} {g : Ghosts D} (image : Image) (path : List ℕ) where
-  trees_found : (store : Store D g) (it : IsTakenFrom image store.conn) → (file_state it.conn).now.trees ≡ (file_state it.conn).committed.trees
+  trees_found : (store : Store D g) (it : IsTakenFrom Stated image store.conn) → (file_state it.conn).now.trees ≡ (file_state it.conn).committed.trees
   trees_found store it = ap (λ (d : Database). d.trees) it.opened.0.clean
 
-  held_by : (store : Store D g) (it : IsTakenFrom image store.conn) → IsHeldBy image (file_state it.conn).now
+  held_by : (store : Store D g) (it : IsTakenFrom Stated image store.conn) → IsHeldBy image (file_state it.conn).now
   held_by store it = record {
     holds = λ trees has. trees_found store it ∙ it.found.holds trees has;
     reads = subst (AreFoundIn image) (sym (trees_found store it)) it.found.reads;
     sound = (it.opened.1 it.opened.0.is_open).0;
   }
 
-  taken_as : (store : Store D g) (it : IsTakenFrom image store.conn) → HasCleanDisk (file_state store.conn) → IsTakenAs (file_state it.conn).now (file_state store.conn).now
+  taken_as : (store : Store D g) (it : IsTakenFrom Stated image store.conn) → HasCleanDisk (file_state store.conn) → IsTakenAs (file_state it.conn).now (file_state store.conn).now
   taken_as store it clean = elim (it.was clean) [
-    | inl is ↦ inl (it.unchanged clean is).0.now_is
+    | inl is ↦ inl (it.unchanged clean (is.0, is.1)).0.now_is
     | inr is ↦ inr (is, it.migrated clean)
   ]
 
@@ -45,22 +46,22 @@ module _ {D : Type 0} {g : Ghosts D} (image : Image) (path : List ℕ) where
 
   -- ---- or made
 
-  made_in : (store : Store D g) → IsEmptyStoreOn store.conn → IsFoundOrMade (stands_on image) path (seen_in store)
+  made_in : (store : Store D g) → IsEmptyStoreOn Stated store.conn → IsFoundOrMade (stands_on image) path (seen_in store)
   made_in store is = inr (inl tt, is)
 
-  pub made : (result : Result (Store D g) Failure) → IfOk result (λ store. IsEmptyStoreOn store.conn)
+  pub made : (result : Result (Store D g) Failure) → IfOk result (λ store. IsEmptyStoreOn Stated store.conn)
       → IfOk result (λ store. IsFoundOrMade (stands_on image) path (seen_in store))
   made (Ok store) is = made_in store is
   made (Err failure) is = tt
 
-  pub found_or_made : (result : Result (Store D g) Failure) → IfOk result (λ store. IsFoundOn image store.conn ⊎ IsEmptyStoreOn store.conn)
+  pub found_or_made : (result : Result (Store D g) Failure) → IfOk result (λ store. IsFoundOn image store.conn ⊎ IsEmptyStoreOn Stated store.conn)
       → IfOk result (λ store. IsFoundOrMade (stands_on image) path (seen_in store))
   found_or_made (Ok store) (inl is) = inl (found_in store is)
   found_or_made (Ok store) (inr is) = made_in store is
   found_or_made (Err failure) is = tt
 
-pub filled : {D : Type 0} {g : Ghosts D} (image : Image) (result : Result (Store D g) Failure) → IfOk result (λ store. IsEmptyStoreOn store.conn)
-    → IfOk result (λ store. IsFoundOn image store.conn ⊎ IsEmptyStoreOn store.conn)
+pub filled : {D : Type 0} {g : Ghosts D} (image : Image) (result : Result (Store D g) Failure) → IfOk result (λ store. IsEmptyStoreOn Stated store.conn)
+    → IfOk result (λ store. IsFoundOn image store.conn ⊎ IsEmptyStoreOn Stated store.conn)
 filled image (Ok store) is = inr is
 filled image (Err failure) is = tt
 

@@ -8,6 +8,7 @@ use Rattle.sqlite_trees.specs.Tree.{Trees}
 use Rattle.sqlite.specs.Effect.{Database, IsDatabase}
 use Rattle.sqlite.specs.Files.{AreFoundIn, HoldsDatabase, file_state}
 use Rattle.sqlite.specs.Held.{Held}
+use Rattle.statements_facts.specs.declared.profile.Profile.TheVariants.{Stated}
 use Rattle.statements_facts.specs.Statement.{Holdings}
 use Rattle.store_maps.specs.Held.{IsStoreOf}
 use Rattle.store_adoption.specs.Creates.{HasTables}
@@ -48,7 +49,7 @@ places_on image = record {
 
 -- a store that is taken from files that held this
 abbrev pub IsFoundOn : {D : Type 0} {g : Ghosts D} → Image → Held (FileStore D g) → Type 0
-IsFoundOn image conn = IsTakenFromOn image conn × IsStoreOn conn
+IsFoundOn image conn = IsTakenFromOn Stated image conn × IsStoreOn Stated conn
 
 -- no store can be made in place of one that was not opened: there is no connection, or it has tables
 abbrev pub HasNoRoom : {D : Type 0} {g : Ghosts D} → OpenFault D g → Type 0

@@ -5,10 +5,11 @@ use Rattle.sqlite.specs.Effect.{Database}
 use Rattle.sqlite.specs.Files.{file_state}
 use Rattle.sqlite.specs.State.{HasCleanDisk, State}
 use Rattle.sqlite_trees.specs.View.{doubt}
-use Rattle.store_adoption.specs.Inspects.{IsStore}
+use Rattle.store_adoption.specs.Inspects.{IsStoreUnder}
 use Rattle.statements_facts.specs.Coming.{after_all}
 use Rattle.statements_facts.specs.Fact.{Fact}
 use Rattle.statements_facts.specs.Statement.{Holdings, empty_holdings}
+use Rattle.statements_facts.specs.declared.profile.Profile.TheVariants.{Stated}
 use Rattle.store_maps.specs.Held.{AreTreesOf, IsStoreOf}
 use Rattle.sqlite_trees.specs.Tree.{Trees}
 use Rattle.store_sql.specs.Tables.{no_schema}
@@ -76,9 +77,9 @@ pub record Places : Type 1 where
   pub leaves : Leaving
   pub lasts : Lasting
 
--- This was seen when the database of the path was opened, and where the disk returned what was written it is a store.
+-- This was seen when the database of the path was opened, and where the disk returned what was written it is a store of the stated profile.
 abbrev pub IsFound : Standing → List ℕ → Seen → Type 0
-IsFound stands path old = stands path (database old) × (IsIntact old → IsStore old.now)
+IsFound stands path old = stands path (database old) × (IsIntact old → IsStoreUnder Stated old.now)
 
 -- no file was met at the path, or a database without tables
 abbrev pub MeetsNoTable : Standing → List ℕ → Type 0

@@ -1,6 +1,7 @@
 //! Stores at paths.
 ghost use Rattle.std.specs.Prelude.{◌≡◌, ◌≢◌, ◌⊎◌, false, IfErr, IfOk, List, OnOk};
 ghost use Rattle.statements_facts.specs.Statement.{Holdings};
+ghost use Rattle.statements_facts.specs.declared.profile.Profile.TheVariants.{Stated};
 ghost use Rattle.sqlite.specs.Files.{file_state};
 ghost use Rattle.sqlite_wal.specs.Files.{image_at};
 ghost use Rattle.store_adoption.specs.Creates.{HasTables, IsSettled};
@@ -17,6 +18,7 @@ use relying::Fault;
 use sqlite::{Connection, FileStore};
 use sqlite_disk::{Disk, Start};
 use sqlite_std_file::{File, FileFrom, Unknown};
+use statements_facts::Profile;
 use std::{fs, io};
 use store::{OpenFault, Refused, Store};
 use store_sql::{StoreFault, is_empty};
@@ -39,7 +41,7 @@ impl<D: Disk + Drop> Connected for Store<D> {
 ///
 /// What stands at a path of the system's files is the system's own matter: no contract can look at a disk. The contracts only know that what
 /// is opened is what stands there, that what is closed is left there and lasts, and that opening fails only because of what is found at the
-/// path.
+/// path. All stores are of the stated profile.
 pub trait Stores<T: Connected> {
     ghost use Rattle.std.specs.Prelude.{List};
     ghost use Rattle.statements_facts.specs.Statement.{Holdings};
@@ -125,7 +127,7 @@ fn open<'a, S: Start>(
     ensures durable { IfOk result (λ store. IsDurable (file_state store.conn)) }
     ensures fails { IfErr result IsOfStore }
 {
-    match Store::open_from(rt, path, start) {
+    match Store::open_from(rt, Profile::Stated, path, start) {
         Ok(store) => Ok(store),
         Err(unopened) => Err(not_opened(&unopened)),
     }
@@ -137,14 +139,14 @@ fn make<'a, S: Start>(
     path: &str,
     start: S,
 ) -> Result<Store<FileFrom<S>>, Failure<'a>>
-    ensures made { IfOk result (λ store. IsMadeFromOn (image_at S.Start) store.conn) }
-    ensures empty { IfOk result (λ store. IsEmptyStoreOn store.conn) }
+    ensures made { IfOk result (λ store. IsMadeFromOn Stated (image_at S.Start) store.conn) }
+    ensures empty { IfOk result (λ store. IsEmptyStoreOn Stated store.conn) }
     ensures is_open { IfOk result (λ store. IsOpenOn store.conn) }
     ensures settled { IfOk result (λ store. IsSettled (file_state store.conn)) }
     ensures durable { IfOk result (λ store. IsDurable (file_state store.conn)) }
     ensures fails { IfErr result IsNotKept }
 {
-    match Store::make_from(rt, path, start) {
+    match Store::make_from(rt, Profile::Stated, path, start) {
         Ok(store) => {
             let _settled = store.conn.is_autocommit();
             Ok(store)
@@ -156,7 +158,7 @@ fn make<'a, S: Start>(
 // A store that is made in an empty database. Over tables the refusal is that of the database.
 fn create<'a, D: Disk + Drop>(conn: Connection<FileStore<D>>) -> Result<Store<D>, Failure<'a>>
     requires idle { conn.in_transaction ≡ false }
-    ensures empty { IfOk result (λ store. IsEmptyStoreOn store.conn) }
+    ensures empty { IfOk result (λ store. IsEmptyStoreOn Stated store.conn) }
     ensures is_open { IfOk result (λ store. IsOpenOn store.conn) }
     ensures settled { IfOk result (λ store. IsSettled (file_state store.conn)) }
     ensures durable { IfOk result (λ store. IsDurable (file_state store.conn)) }
@@ -177,7 +179,7 @@ fn create<'a, D: Disk + Drop>(conn: Connection<FileStore<D>>) -> Result<Store<D>
 // Makes a store in a refused database if that has no table. A process that ends while it makes a store may leave such a database. If it has
 // tables, the fault for which it was refused is told.
 fn fill<'a, D: Disk + Drop>(refused: Refused<D>) -> Result<Store<D>, Failure<'a>>
-    ensures empty { IfOk result (λ store. IsEmptyStoreOn store.conn) }
+    ensures empty { IfOk result (λ store. IsEmptyStoreOn Stated store.conn) }
     ensures is_open { IfOk result (λ store. IsOpenOn store.conn) }
     ensures settled { IfOk result (λ store. IsSettled (file_state store.conn)) }
     ensures durable { IfOk result (λ store. IsDurable (file_state store.conn)) }
@@ -198,7 +200,7 @@ fn fill<'a, D: Disk + Drop>(refused: Refused<D>) -> Result<Store<D>, Failure<'a>
 
 // The same of a database that was not opened for a store, if there is one. If there is none, the fault is told.
 fn fill_or_tell<'a, D: Disk + Drop>(unopened: OpenFault<D>) -> Result<Store<D>, Failure<'a>>
-    ensures empty { IfOk result (λ store. IsEmptyStoreOn store.conn) }
+    ensures empty { IfOk result (λ store. IsEmptyStoreOn Stated store.conn) }
     ensures is_open { IfOk result (λ store. IsOpenOn store.conn) }
     ensures settled { IfOk result (λ store. IsSettled (file_state store.conn)) }
     ensures durable { IfOk result (λ store. IsDurable (file_state store.conn)) }
@@ -221,13 +223,13 @@ fn open_or_fill<'a, S: Start>(
     start: S,
 ) -> Result<Store<FileFrom<S>>, Failure<'a>>
     ensures store { IfOk result (λ store.
-        IsFoundOn (image_at S.Start) store.conn ⊎ IsEmptyStoreOn store.conn) }
+        IsFoundOn (image_at S.Start) store.conn ⊎ IsEmptyStoreOn Stated store.conn) }
     ensures is_open { IfOk result (λ store. IsOpenOn store.conn) }
     ensures settled { IfOk result (λ store. IsSettled (file_state store.conn)) }
     ensures durable { IfOk result (λ store. IsDurable (file_state store.conn)) }
     ensures fails { IfErr result IsOfStore }
 {
-    match Store::open_from(rt, path, start) {
+    match Store::open_from(rt, Profile::Stated, path, start) {
         Ok(store) => Ok(store),
         Err(unopened) => fill_or_tell(unopened),
     }

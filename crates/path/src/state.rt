@@ -335,9 +335,9 @@ impl<'p, 'c, V: Verifier> State<'p, 'c, V> {
     /// Looks at the next certificate, which passes if it meets all conditions. After `Failed` and `Ended` each further call answers the
     /// same; after lack of memory nothing has changed.
     ///
-    /// DNS names and addresses, and subtrees of these, are looked for by halving; directory names are compared with each subtree held or
-    /// excluded. A certificate that carries subtrees costs a walk over those held, too. To this comes the search for a repeated
-    /// certificate. Memory is taken only if the certificate passes and carries a subtree of a processed form.
+    /// Names, and subtrees, are looked for among the subtrees held or excluded by halving. A certificate that carries subtrees costs a walk
+    /// over those held, too. To this comes the search for a repeated certificate. Memory is taken only if the certificate passes and carries
+    /// a subtree of a processed form.
     pub fn next(&mut self) -> Result<Step, AllocError>
         ensures step { IfOk result (TakesStep V.accepts self.old self.new) }
         ensures err { OnErr result (self.new ≡ self.old) }

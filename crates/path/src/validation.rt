@@ -28,9 +28,9 @@ fn failed_at(count: usize, done: usize) -> usize
 /// IDENTIFIER), if one is asked for (RFC 5280, 6.1). If it is not valid, the first certificate that is refused is answered, with its
 /// reason of the least rank. Only the subject and the key of the anchor are used.
 ///
-/// Time is linear in the certificates, except that each subtree that one carries is compared with each one held, each name with each one
-/// held, and each certificate with those before it, as long as the octets are the same. Memory is taken only if a certificate that passes
-/// carries a subtree of a directory name, a DNS name or an IP address.
+/// Each certificate is looked at once. Names are looked for among the subtrees held by halving, subtrees too; a certificate that carries
+/// subtrees costs a walk over those held. A certificate is compared with those before it as long as the octets are the same. Memory is taken
+/// only if a certificate that passes carries a subtree of a directory name, a DNS name or an IP address.
 pub fn validate<V: Verifier>(
     alloc: Global,
     verifier: &V,

@@ -2,6 +2,7 @@
 use Rattle.std.specs.Prelude.{List, [], ◌∷◌, ◌++◌, ℕ, Result, Ok, Err}
 use Rattle.sqlite_disk.specs.declared.Disk.{Ghosts}
 use Rattle.sqlite.specs.State.{HasCleanDisk}
+use Rattle.statements_facts.specs.declared.profile.Profile.{Profile}
 use Rattle.statements_facts.specs.Fact.{facts_in}
 use Rattle.statements_facts.specs.declared.counts.Counts.{Counts}
 use Rattle.statements_facts.specs.declared.fact.Facts.{Facts}
@@ -33,55 +34,60 @@ module _ (V D : Type 0) (g : Ghosts D) where
   -- `deliver`: `answered`
   abbrev pub DeliveriesAreRuns : Type 0
   DeliveriesAreRuns =
-      (accepts : Accepts) (issuer statement : List ℕ) (old new : Node V D g) (answer : Result Counts DeliverFault) → HasCleanDisk (stored new) →
-      AnswersDelivery accepts issuer statement (stored old) (stored new) answer →
-      Ran accepts (Event.Deliver issuer statement ∷ []) (answer ∷ []) (stored old) (stored new)
+      (profile : Profile) (accepts : Accepts) (issuer statement : List ℕ) (old new : Node V D g) (answer : Result Counts DeliverFault) →
+      HasCleanDisk (stored new) →
+      AnswersDelivery profile accepts issuer statement (stored old) (stored new) answer →
+      Ran profile accepts (Event.Deliver issuer statement ∷ []) (answer ∷ []) (stored old) (stored new)
 
   -- `read_statement`: `says`, and then `take`: `takes`
   abbrev pub TakingsAreRuns : Type 0
   TakingsAreRuns =
-      (accepts : Accepts) (issuer statement : List ℕ) (facts : Facts) (old new : Node V D g) (result : Result Counts StoreFault) → HasCleanDisk (stored new) →
-      StatementSays accepts issuer statement (facts_in facts) →
+      (profile : Profile) (accepts : Accepts) (issuer statement : List ℕ) (facts : Facts) (old new : Node V D g) (result : Result Counts StoreFault) →
+      HasCleanDisk (stored new) →
+      StatementSays profile accepts issuer statement (facts_in facts) →
       PutsFacts (stored old) (stored new) facts result →
-      Ran accepts (Event.Deliver issuer statement ∷ []) (answer_of_taking result ∷ []) (stored old) (stored new)
+      Ran profile accepts (Event.Deliver issuer statement ∷ []) (answer_of_taking result ∷ []) (stored old) (stored new)
 
   -- `restart`: `restarts`
   abbrev pub RestartsAreRuns : Type 0
   RestartsAreRuns =
-      (accepts : Accepts) (old new : Node V D g) → HasCleanDisk (stored new) → HasRestarted old new → Ran accepts (Event.Restart ∷ []) [] (stored old) (stored new)
+      (profile : Profile) (accepts : Accepts) (old new : Node V D g) → HasCleanDisk (stored new) → HasRestarted old new →
+      Ran profile accepts (Event.Restart ∷ []) [] (stored old) (stored new)
 
   -- `run_into`, `run`, and the calls above
   abbrev pub RunsComeThrough : Type 0
   RunsComeThrough =
-      (accepts : Accepts) (events : List Event) (answers : List (Result Counts DeliverFault)) (old new : Node V D g) →
-      Ran accepts events answers (stored old) (stored new) → CameThrough accepts events answers (stored old) (stored new)
+      (profile : Profile) (accepts : Accepts) (events : List Event) (answers : List (Result Counts DeliverFault)) (old new : Node V D g) →
+      Ran profile accepts events answers (stored old) (stored new) → CameThrough profile accepts events answers (stored old) (stored new)
 
   -- `verdict`: `looks`
   abbrev pub VerdictsComeThrough : Type 0
   VerdictsComeThrough =
-      (accepts : Accepts) (query : Query) (old new : Node V D g) (result : Result Verdict Fault) → HasCleanDisk (stored new) →
-      Looks (stored old) (stored new) (IsVerdict accepts query) result → CameThrough accepts [] [] (stored old) (stored new)
+      (profile : Profile) (accepts : Accepts) (query : Query) (old new : Node V D g) (result : Result Verdict Fault) → HasCleanDisk (stored new) →
+      Looks (stored old) (stored new) (IsVerdict accepts query) result → CameThrough profile accepts [] [] (stored old) (stored new)
 
   -- `compare`: `looks`
   abbrev pub ComparisonsComeThrough : Type 0
   ComparisonsComeThrough =
-      (accepts : Accepts) (query : Query) (old new other_old other_new : Node V D g) (result : Result Comparison Fault) →
+      (profile : Profile) (accepts : Accepts) (query : Query) (old new other_old other_new : Node V D g) (result : Result Comparison Fault) →
       HasCleanDisk (stored new) → HasCleanDisk (stored other_new) →
       LooksAtBoth (stored old) (stored new) (stored other_old) (stored other_new) (IsComparison accepts query) result →
-      CameThrough accepts [] [] (stored old) (stored new) × CameThrough accepts [] [] (stored other_old) (stored other_new)
+      CameThrough profile accepts [] [] (stored old) (stored new) × CameThrough profile accepts [] [] (stored other_old) (stored other_new)
 
   -- one call after another
   abbrev pub CallsFollow : Type 0
   CallsFollow =
-      (accepts : Accepts) (events more : List Event) (answers more_answers : List (Result Counts DeliverFault)) (begun middle last : Node V D g) →
-      CameThrough accepts events answers (stored begun) (stored middle) →
-      CameThrough accepts more more_answers (stored middle) (stored last) →
-      CameThrough accepts (events ++ more) (answers ++ more_answers) (stored begun) (stored last)
+      (profile : Profile) (accepts : Accepts) (events more : List Event) (answers more_answers : List (Result Counts DeliverFault))
+      (begun middle last : Node V D g) →
+      CameThrough profile accepts events answers (stored begun) (stored middle) →
+      CameThrough profile accepts more more_answers (stored middle) (stored last) →
+      CameThrough profile accepts (events ++ more) (answers ++ more_answers) (stored begun) (stored last)
 
   -- and one run behind another, which is a run over all their events
   abbrev pub RunsFollow : Type 0
   RunsFollow =
-      (accepts : Accepts) (events more : List Event) (answers more_answers : List (Result Counts DeliverFault)) (begun middle last : Node V D g) →
-      Ran accepts events answers (stored begun) (stored middle) →
-      Ran accepts more more_answers (stored middle) (stored last) →
-      Ran accepts (events ++ more) (answers ++ more_answers) (stored begun) (stored last)
+      (profile : Profile) (accepts : Accepts) (events more : List Event) (answers more_answers : List (Result Counts DeliverFault))
+      (begun middle last : Node V D g) →
+      Ran profile accepts events answers (stored begun) (stored middle) →
+      Ran profile accepts more more_answers (stored middle) (stored last) →
+      Ran profile accepts (events ++ more) (answers ++ more_answers) (stored begun) (stored last)

@@ -13,6 +13,7 @@ use Rattle.sqlite.specs.State.{State, HasCleanDisk}
 use Rattle.sqlite.specs.WalFiles.{outcomes}
 use Rattle.sqlite.specs.WalReads.{AreClean}
 use Rattle.sqlite.specs.declared.file.Leftover.{Leftover}
+use Rattle.statements_facts.specs.declared.profile.Profile.{Profile}
 use Rattle.statements_facts.specs.Statement.{Holdings}
 use Rattle.statements_facts.specs.declared.counts.Counts.{Counts}
 use Rattle.store_sql.specs.declared.fault.StoreFault.TheVariants.{Schema as NotOurs}
@@ -31,9 +32,10 @@ use Rattle.relying.specs.Run.{AreAnswersTo, IsOpenAtRestarts, Runs}
 use Rattle.relying.specs.View.{stored}
 
 -- the events ran so, over an open connection and one that stayed open, and this is so of what is held then
-pub record RanTo (accepts : Accepts) (events : List Event) (answers : List (Result Counts DeliverFault)) (old : State) (Is : Holdings → Type 0) : Type 0 where
+pub record RanTo (profile : Profile) (accepts : Accepts) (events : List Event) (answers : List (Result Counts DeliverFault)) (old : State)
+    (Is : Holdings → Type 0) : Type 0 where
   pub opened : IsOpenAtRestarts events old.is_open true
-  pub ran : (start : Holdings) → IsStoreOf old.now start → (held : Holdings) × Runs accepts events answers start held × Is held
+  pub ran : (start : Holdings) → IsStoreOf old.now start → (held : Holdings) × Runs profile accepts events answers start held × Is held
 
 -- the files of a close hold this, as they read now and after a crash
 pub record HoldStore {D : Type 0} (g : Ghosts D) (files : Files D) (held : Holdings) : Type 0 where
@@ -42,23 +44,24 @@ pub record HoldStore {D : Type 0} (g : Ghosts D) (files : Files D) (held : Holdi
   pub seen : HoldsAlone (image_of g files) trees
   pub left : (image : Image) → outcomes g files.log files.db image → HoldsAlone image trees
 
-module _ {D : Type 0} {g : Ghosts D} (accepts : Accepts) (events : List Event) (answers : List (Result Counts DeliverFault)) (old : State) where
+module _ {D : Type 0} {g : Ghosts D} (profile : Profile) (accepts : Accepts) (events : List Event) (answers : List (Result Counts DeliverFault))
+    (old : State) where
   -- what was not closed leaves after a crash what the events may leave
   abbrev pub LeavesUnclosed : FileStore D g → Type 0
   LeavesUnclosed left =
       IsClean (view left) → (start : Holdings) → IsStoreOf old.now start →
-      (trees : Trees) → recovers left trees → RunMayLeave accepts events answers start old.may_leave trees
+      (trees : Trees) → recovers left trees → RunMayLeave profile accepts events answers start old.may_leave trees
 
   -- what was not opened are the files of a close, unharmed, which hold what is held after the events
   pub record LeavesUnopened (left : Leftover D g) : Type 0 where
     pub files : Files D
-    pub ran : AreClean g files.log files.db → RanTo accepts events answers old (HoldStore g files)
+    pub ran : AreClean g files.log files.db → RanTo profile accepts events answers old (HoldStore g files)
     pub unharmed : IsCleanLeft left → LeavesFiles files left
 
   -- a connection that was not taken for a store is one while it is open, and holds what is held after the events
   abbrev pub LeavesRefused : Refused D g → Type 0
   LeavesRefused refused =
-      HasCleanDisk (file_state refused.conn) → RanTo accepts events answers old (λ held.
+      HasCleanDisk (file_state refused.conn) → RanTo profile accepts events answers old (λ held.
       (refused.fault ≢ NotOurs) × (IsTrue (file_state refused.conn).is_open → IsStoreOf (file_state refused.conn).now held))
 
   -- what is left of the store if a restart fails after these events
@@ -68,16 +71,17 @@ module _ {D : Type 0} {g : Ghosts D} (accepts : Accepts) (events : List Event) (
   LeavesAtRestart (Adopt refused) = LeavesRefused refused
 
 -- A restart fails after so many events. The deliveries among these were answered so, and what they left is still there.
-pub record StopsAtRestart {D : Type 0} {g : Ghosts D} (accepts : Accepts) (events : List Event) (done : ℕ) (answers : List (Result Counts DeliverFault)) (old : State) (fault : ReopenFault D g) : Type 0 where
+pub record StopsAtRestart {D : Type 0} {g : Ghosts D} (profile : Profile) (accepts : Accepts) (events : List Event) (done : ℕ)
+    (answers : List (Result Counts DeliverFault)) (old : State) (fault : ReopenFault D g) : Type 0 where
   pub at : slice_get events done ≡ Some Event.Restart
-  pub answered : AreAnswersTo accepts (take done events) answers
-  pub leaves : LeavesAtRestart accepts (take done events) answers old fault
+  pub answered : AreAnswersTo profile accepts (take done events) answers
+  pub leaves : LeavesAtRestart profile accepts (take done events) answers old fault
 
 -- there was no room for the answers, and the party is as it was; or a restart fails
-abbrev pub RunStops : {V D : Type 0} {g : Ghosts D} → Accepts → Node V D g → List Event → List (Result Counts DeliverFault) → RunFault V D g → Type 0
-RunStops accepts node events answers (NoRoom left) = (left ≡ node) × (answers ≡ [])
-RunStops accepts node events answers (Restart done fault) = StopsAtRestart accepts events done answers (stored node) fault
+abbrev pub RunStops : {V D : Type 0} {g : Ghosts D} → Profile → Accepts → Node V D g → List Event → List (Result Counts DeliverFault) → RunFault V D g → Type 0
+RunStops profile accepts node events answers (NoRoom left) = (left ≡ node) × (answers ≡ [])
+RunStops profile accepts node events answers (Restart done fault) = StopsAtRestart profile accepts events done answers (stored node) fault
 
 -- the same with the answers, which are not handed out
-abbrev pub RunFails : {V D : Type 0} {g : Ghosts D} → Accepts → Node V D g → List Event → RunFault V D g → Type 0
-RunFails accepts node events fault = (answers : List (Result Counts DeliverFault)) × RunStops accepts node events answers fault
+abbrev pub RunFails : {V D : Type 0} {g : Ghosts D} → Profile → Accepts → Node V D g → List Event → RunFault V D g → Type 0
+RunFails profile accepts node events fault = (answers : List (Result Counts DeliverFault)) × RunStops profile accepts node events answers fault

@@ -129,7 +129,9 @@ pub fn compare<V: Verifier + Drop, D: Disk + Drop>(
 ) -> Result<Comparison, Fault>
     requires one_relation { V.accepts one.old.verifier ≡ V.accepts other.old.verifier }
     ensures verifier { one.new.verifier ≡ one.old.verifier }
+    ensures profile { one.new.store.profile ≡ one.old.store.profile }
     ensures other_verifier { other.new.verifier ≡ other.old.verifier }
+    ensures other_profile { other.new.store.profile ≡ other.old.store.profile }
     ensures looks { LooksAtBoth (stored one.old) (stored one.new)
         (stored other.old) (stored other.new)
         (IsComparison (V.accepts one.old.verifier) (seen_query query.now)) result }

@@ -39,10 +39,12 @@ fn take_delivery<V: Verifier + Drop, D: Disk + Drop>(
 )
     requires room { vec_len answers.old < vec_capacity answers.old }
     ensures verifier { node.new.verifier ≡ node.old.verifier }
+    ensures profile { node.new.store.profile ≡ node.old.store.profile }
     ensures clean { HasCleanDisk (stored node.new) → HasCleanDisk (stored node.old) }
-    ensures added { AddsAnswer (V.accepts node.old.verifier)
+    ensures added { AddsAnswer node.old.store.profile (V.accepts node.old.verifier)
         (Happened.Deliver issuer.now statement.now) answers.old.items answers.new.items }
-    ensures happens { HasCleanDisk (stored node.new) → HasHappened (V.accepts node.old.verifier)
+    ensures happens { HasCleanDisk (stored node.new)
+        → HasHappened node.old.store.profile (V.accepts node.old.verifier)
         (Happened.Deliver issuer.now statement.now) answers.old.items answers.new.items
         (stored node.old) (stored node.new) }
     ensures capacity { vec_capacity answers.old ≤ vec_capacity answers.new }
@@ -63,11 +65,12 @@ pub(crate) fn take_event<V: Verifier + Drop, D: Disk + Drop>(
 ) -> Result<Node<V, D>, ReopenFault<D>>
     requires room { vec_len answers.old < vec_capacity answers.old }
     ensures verifier { IfOk result (λ next. next.verifier ≡ node.verifier) }
+    ensures profile { IfOk result (λ next. next.store.profile ≡ node.store.profile) }
     ensures clean { IfOk result (λ next. HasCleanDisk (stored next) → HasCleanDisk (stored node)) }
-    ensures added { IfOk result (λ next. AddsAnswer (V.accepts node.verifier)
+    ensures added { IfOk result (λ next. AddsAnswer node.store.profile (V.accepts node.verifier)
         (seen_event event.now) answers.old.items answers.new.items) }
     ensures happens { IfOk result (λ next. HasCleanDisk (stored next)
-        → HasHappened (V.accepts node.verifier) (seen_event event.now)
+        → HasHappened node.store.profile (V.accepts node.verifier) (seen_event event.now)
         answers.old.items answers.new.items (stored node) (stored next)) }
     ensures settled { IsSettled (stored node) }
     ensures restarts { IfErr result (λ fault. seen_event event.now ≡ Happened.Restart) }

@@ -15,7 +15,7 @@ mod verdicts;
 
 pub use agreement::{call_laws, node_laws};
 pub use comparing::compare;
-pub use delivering::read_statement;
+pub use delivering::{read_statement, read_statement_under};
 pub use events::{DeliverAnswer, Event};
 pub use fault::{DeliverFault, RunFault};
 pub use finding::find_over;

@@ -13,12 +13,12 @@ ghost use Rattle.relying.specs.View.{stored};
 ghost use Rattle.path.specs.Reading.{seen_query};
 ghost use Rattle.relying_verdicts.specs.Asking.{IsFaultOfValidPath};
 ghost use Rattle.relying_verdicts.specs.Looking.{IsFaultOfValidCandidate};
-ghost use Rattle.store.specs.Adopts.{IsStoreOn};
+ghost use Rattle.store.specs.Adopts.{HasStoreOn};
 ghost use Rattle.store.specs.Opens.{FailsToReopen, ReopensForCause};
 ghost use Rattle.store_taking.specs.Delivery.{AllOrNothing, PutsFacts};
 ghost use Rattle.store_taking.specs.Room.{PutsForCause};
 
-use crate::delivering::read_statement;
+use crate::delivering::read_statement_under;
 use crate::fault::DeliverFault;
 use crate::finding::find_over;
 use crate::resting::at_rest;
@@ -68,8 +68,9 @@ impl<V: Verifier + Drop, D: Disk + Drop> Node<V, D> {
     }
 
     /// Takes a statement, a list or a response, under the issuer whose certificate is `issuer`, both in DER, and counts its facts; then
-    /// each slot holds the newest. It is `read_statement` and then `take`. The first fault is answered: that of the issuer's certificate,
-    /// else of the statement, else of the store; then what is held is as it was. Time is n log n in the octets, plus that of the store.
+    /// each slot holds the newest. It is `read_statement_under`, in the profile of the store, and then `take`. The first fault is answered:
+    /// that of the issuer's certificate, else of the statement, else of the store; then what is held is as it was. Time is n log n in the
+    /// octets, plus that of the store.
     pub fn deliver(
         &mut self,
         alloc: Global,
@@ -77,26 +78,30 @@ impl<V: Verifier + Drop, D: Disk + Drop> Node<V, D> {
         statement: &[u8],
     ) -> Result<Counts, DeliverFault>
         ensures verifier { self.new.verifier ≡ self.old.verifier }
-        ensures reason { IsAnswerTo (V.accepts self.old.verifier) issuer.now statement.now result }
-        ensures answered { AnswersDelivery (V.accepts self.old.verifier) issuer.now statement.now
-            (stored self.old) (stored self.new) result }
-        ensures caused { DeliversForCause (V.accepts self.old.verifier) issuer.now statement.now
-            (stored self.old) (stored self.new) result }
-        ensures survives { MayCommitDelivery (V.accepts self.old.verifier) issuer.now statement.now
-            (stored self.old) (stored self.new) result }
+        ensures profile { self.new.store.profile ≡ self.old.store.profile }
+        ensures reason { IsAnswerTo self.old.store.profile (V.accepts self.old.verifier)
+            issuer.now statement.now result }
+        ensures answered { AnswersDelivery self.old.store.profile (V.accepts self.old.verifier)
+            issuer.now statement.now (stored self.old) (stored self.new) result }
+        ensures caused { DeliversForCause self.old.store.profile (V.accepts self.old.verifier)
+            issuer.now statement.now (stored self.old) (stored self.new) result }
+        ensures survives { MayCommitDelivery self.old.store.profile (V.accepts self.old.verifier)
+            issuer.now statement.now (stored self.old) (stored self.new) result }
         ensures settled { IsSettled (stored self.new) }
         ensures durable { IsDurable (stored self.new) }
     {
         at_rest(&self.store.conn);
-        let facts = read_statement(alloc, &self.verifier, issuer, statement)?;
+        let profile = self.store.profile;
+        let facts = read_statement_under(alloc, profile, &self.verifier, issuer, statement)?;
         self.take(&facts).map_err(DeliverFault::Store)
     }
 
-    /// Takes facts in one transaction: the second step of a delivery. They should be those of a statement that `read_statement` or
-    /// `statements::genuine` found genuine for the verifier of this party, since `take` does not check them. After a fault what is held is
-    /// as it was.
+    /// Takes facts in one transaction: the second step of a delivery. They should be those of a statement that `read_statement_under` or
+    /// `statements::genuine_under` found genuine for the verifier of this party and in the profile of its store, since `take` does not
+    /// check them. After a fault what is held is as it was.
     pub fn take(&mut self, facts: &Facts<'_>) -> Result<Counts, StoreFault>
         ensures verifier { self.new.verifier ≡ self.old.verifier }
+        ensures profile { self.new.store.profile ≡ self.old.store.profile }
         ensures takes { PutsFacts (stored self.old) (stored self.new) facts.now result }
         ensures caused { PutsForCause (stored self.old) (stored self.new) facts.now result }
         ensures survives { AllOrNothing (stored self.old) (stored self.new) facts.now }
@@ -113,6 +118,7 @@ impl<V: Verifier + Drop, D: Disk + Drop> Node<V, D> {
     /// does not answer, `Fault::Memory` that there is no memory.
     pub fn verdict(&mut self, alloc: Global, query: &Query<'_>) -> Result<Verdict, Fault>
         ensures verifier { self.new.verifier ≡ self.old.verifier }
+        ensures profile { self.new.store.profile ≡ self.old.store.profile }
         ensures looks { Looks (stored self.old) (stored self.new)
             (IsVerdict (V.accepts self.old.verifier) (seen_query query.now)) result }
         ensures caused { LooksForCause (stored self.old) (stored self.new) result }
@@ -137,6 +143,7 @@ impl<V: Verifier + Drop, D: Disk + Drop> Node<V, D> {
         budget: FindingBudget,
     ) -> Result<Finding, Fault>
         ensures verifier { self.new.verifier ≡ self.old.verifier }
+        ensures profile { self.new.store.profile ≡ self.old.store.profile }
         ensures looks { Looks (stored self.old) (stored self.new)
             (FindsHolding (V.accepts self.old.verifier) (seen_search search.now) budget) result }
         ensures caused { LooksForCause (stored self.old) (stored self.new) result }
@@ -155,8 +162,9 @@ impl<V: Verifier + Drop, D: Disk + Drop> Node<V, D> {
     /// comes back.
     pub fn restart(self, alloc: Global) -> Result<Node<V, D>, ReopenFault<D>>
         ensures verifier { IfOk result (λ node. node.verifier ≡ self.verifier) }
+        ensures profile { IfOk result (λ node. node.store.profile ≡ self.store.profile) }
         ensures restarts { IfOk result (HasRestarted self) }
-        ensures store { IfOk result (λ node. IsStoreOn node.store.conn) }
+        ensures store { IfOk result (λ node. HasStoreOn node.store.conn) }
         ensures settled { IfOk result (λ node. IsSettled (stored node)) }
         ensures durable { IfOk result (λ node. IsDurable (stored node)) }
         ensures cause { IfErr result (ReopensForCause self.store.conn) }

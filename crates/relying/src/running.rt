@@ -28,18 +28,21 @@ fn run_all<V: Verifier + Drop, D: Disk + Drop>(
     requires none { answers.old.items ≡ [] }
     requires room { length events.now ≤ vec_capacity answers.old }
     ensures verifier { IfOk result (λ last. last.verifier ≡ node.verifier) }
+    ensures profile { IfOk result (λ last. last.store.profile ≡ node.store.profile) }
     ensures clean { IfOk result (λ last. HasCleanDisk (stored last) → HasCleanDisk (stored node)) }
     ensures answers { IfOk result (λ last.
-        AreAnswersTo (V.accepts node.verifier) (map seen_event events.now) answers.new.items) }
+        AreAnswersTo node.store.profile (V.accepts node.verifier)
+        (map seen_event events.now) answers.new.items) }
     ensures ran { IfOk result (λ last. HasCleanDisk (stored last)
-        → Ran (V.accepts node.verifier) (map seen_event events.now) answers.new.items
-        (stored node) (stored last)) }
-    ensures survives { IfOk result (λ last. RunSurvives (V.accepts node.verifier)
+        → Ran node.store.profile (V.accepts node.verifier)
+        (map seen_event events.now) answers.new.items (stored node) (stored last)) }
+    ensures survives { IfOk result (λ last. RunSurvives node.store.profile (V.accepts node.verifier)
         (map seen_event events.now) answers.new.items (stored node) (stored last)) }
     ensures settled { IfOk result (λ last. IsSettled (stored last)) }
     ensures durable { IfOk result (λ last. IsDurable (stored last)) }
-    ensures stops { IfErr result (λ stop. StopsAtRestart (V.accepts node.verifier)
-        (map seen_event events.now) stop.0 answers.new.items (stored node) stop.1) }
+    ensures stops { IfErr result (λ stop. StopsAtRestart node.store.profile
+        (V.accepts node.verifier) (map seen_event events.now) stop.0 answers.new.items
+        (stored node) stop.1) }
 {
     let mut node = node;
     for (index, event) in events.iter().enumerate() {
@@ -64,18 +67,21 @@ impl<V: Verifier + Drop, D: Disk + Drop> Node<V, D> {
         answers: &mut Vec<DeliverAnswer>,
     ) -> Result<Node<V, D>, RunFault<V, D>>
         ensures verifier { IfOk result (λ last. last.verifier ≡ self.verifier) }
+        ensures profile { IfOk result (λ last. last.store.profile ≡ self.store.profile) }
         ensures clean { IfOk result (λ last.
             HasCleanDisk (stored last) → HasCleanDisk (stored self)) }
         ensures answers { IfOk result (λ last.
-            AreAnswersTo (V.accepts self.verifier) (map seen_event events.now) answers.new.items) }
+            AreAnswersTo self.store.profile (V.accepts self.verifier)
+            (map seen_event events.now) answers.new.items) }
         ensures ran { IfOk result (λ last. HasCleanDisk (stored last)
-            → Ran (V.accepts self.verifier) (map seen_event events.now) answers.new.items
-            (stored self) (stored last)) }
-        ensures survives { IfOk result (λ last. RunSurvives (V.accepts self.verifier)
+            → Ran self.store.profile (V.accepts self.verifier)
+            (map seen_event events.now) answers.new.items (stored self) (stored last)) }
+        ensures survives { IfOk result (λ last.
+            RunSurvives self.store.profile (V.accepts self.verifier)
             (map seen_event events.now) answers.new.items (stored self) (stored last)) }
         ensures settled { IfOk result (λ last. IsSettled (stored last)) }
         ensures durable { IfOk result (λ last. IsDurable (stored last)) }
-        ensures stops { IfErr result (RunStops (V.accepts self.verifier) self
+        ensures stops { IfErr result (RunStops self.store.profile (V.accepts self.verifier) self
             (map seen_event events.now) answers.new.items) }
     {
         answers.clear();
@@ -96,19 +102,23 @@ impl<V: Verifier + Drop, D: Disk + Drop> Node<V, D> {
         events: &[Event<'_>],
     ) -> Result<(Node<V, D>, Vec<DeliverAnswer>), RunFault<V, D>>
         ensures verifier { IfOk result (λ run. run.0.verifier ≡ self.verifier) }
+        ensures profile { IfOk result (λ run. run.0.store.profile ≡ self.store.profile) }
         ensures clean { IfOk result (λ run.
             HasCleanDisk (stored run.0) → HasCleanDisk (stored self)) }
         ensures answers { IfOk result (λ run.
-            AreAnswersTo (V.accepts self.verifier) (map seen_event events.now) run.1.items) }
+            AreAnswersTo self.store.profile (V.accepts self.verifier)
+            (map seen_event events.now) run.1.items) }
         ensures ran { IfOk result (λ run. HasCleanDisk (stored run.0)
-            → Ran (V.accepts self.verifier) (map seen_event events.now) run.1.items
-            (stored self) (stored run.0)) }
-        ensures survives { IfOk result (λ run. RunSurvives (V.accepts self.verifier)
+            → Ran self.store.profile (V.accepts self.verifier)
+            (map seen_event events.now) run.1.items (stored self) (stored run.0)) }
+        ensures survives { IfOk result (λ run.
+            RunSurvives self.store.profile (V.accepts self.verifier)
             (map seen_event events.now) run.1.items (stored self) (stored run.0)) }
         ensures settled { IfOk result (λ run. IsSettled (stored run.0)) }
         ensures durable { IfOk result (λ run. IsDurable (stored run.0)) }
         ensures stops { IfErr result
-            (RunFails (V.accepts self.verifier) self (map seen_event events.now)) }
+            (RunFails self.store.profile (V.accepts self.verifier) self
+            (map seen_event events.now)) }
     {
         let mut answers = Vec::new(alloc);
         match self.run_into(alloc, events, &mut answers) {

@@ -57,7 +57,7 @@ ours accepts taken all = record {
 }
 
 newest : (accepts : Accepts) (taken : List Fact) → PartyHoldsNewest (starting accepts taken)
-newest accepts taken = record { crl = λ slot. refl; ocsp = λ slot. refl }
+newest accepts taken = record { profile = refl; crl = λ slot. refl; ocsp = λ slot. refl }
 
 consistent : (accepts accepts' : Accepts) (taken taken' : List Fact) → AllByRecursion IsOurs taken → AllByRecursion IsOurs taken'
     → IssuersAreConsistent query (starting accepts taken) (starting accepts' taken')
@@ -96,7 +96,7 @@ planted = record {
   accepts = accepts_all;
   start = empty_holdings;
   taken = [];
-  held = record { crl = λ slot. if same_crl_slot list_slot slot then Some (crl_with_entry 5) else None; ocsp = λ slot. None };
+  held = record empty_holdings { crl = λ slot. if same_crl_slot list_slot slot then Some (crl_with_entry 5) else None };
 }
 
 abbrev holds_5 : Party

@@ -30,6 +30,7 @@ composed newer keeps f start middle held xs ys first second =
 
 pub runs_compose : RunsCompose
 runs_compose first second one two same = record {
+  profile = two.profile ∙ ap (λ (h : Holdings). h.profile) same ∙ one.profile;
   crl = λ slot. composed newer_crl crls_keep_newest (crl_for slot) (first.start.crl slot) (second.start.crl slot) (second.held.crl slot) first.taken second.taken
       (ap (λ (h : Holdings). h.crl slot) same ∙ one.crl slot) (two.crl slot);
   ocsp = λ slot. composed newer_ocsp responses_keep_newest (ocsp_for slot) (first.start.ocsp slot) (second.start.ocsp slot) (second.held.ocsp slot) first.taken second.taken
@@ -37,7 +38,7 @@ runs_compose first second one two same = record {
 }
 
 pub each_holds_newest : EachHoldsNewest
-each_holds_newest accepts start taken = record { crl = λ slot. refl; ocsp = λ slot. refl }
+each_holds_newest accepts start taken = record { profile = refl; crl = λ slot. refl; ocsp = λ slot. refl }
 
 nothing_taken : {F : Type 0} (newer : F → F → Bool) → KeepsNewest newer → (start : Option F) → start ≡ newest_in newer (option_to_list start ++ [])
 nothing_taken newer keeps start = keeps.held start []
@@ -46,6 +47,7 @@ proceeds : (facts_of : FactsOf) (accepts : Accepts) (events : List Event) (answe
     → Proceeds facts_of accepts start events answers held
     → PartyHoldsNewest (record { accepts = accepts; start = start; taken = facts_taken facts_of accepts events answers; held = held })
 proceeds facts_of accepts [] [] start held same = record {
+  profile = ap (λ (h : Holdings). h.profile) same;
   crl = λ slot. ap (λ (h : Holdings). h.crl slot) same ∙ nothing_taken newer_crl crls_keep_newest (start.crl slot);
   ocsp = λ slot. ap (λ (h : Holdings). h.ocsp slot) same ∙ nothing_taken newer_ocsp responses_keep_newest (start.ocsp slot);
 }

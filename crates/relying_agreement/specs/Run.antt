@@ -4,11 +4,12 @@ use Rattle.std.specs.Option.{option_to_list}
 use Rattle.std.specs.List.{filter_map}
 use Rattle.cert.specs.declared.fault.CertRule.{CertRule}
 use Rattle.cert.specs.Certificate.{Certificate, certificate}
+use Rattle.statements_facts.specs.declared.profile.Profile.{Profile}
 use Rattle.statements_facts.specs.Fact.{Fact}
 use Rattle.statements_facts.specs.Statement.{Holdings, CrlSlot, CrlFact, OcspSlot, OcspFact}
 use Rattle.path.specs.Query.{Accepts}
 use Rattle.statements_parts.specs.declared.fault.StatementFault.{StatementFault}
-use Rattle.statements.specs.Statement.{genuine_statement}
+use Rattle.statements.specs.Statement.{genuine_statement_under}
 use Rattle.statements_facts.specs.Coming.{crl_for, ocsp_for, HoldsNewest}
 use Rattle.statements_facts.specs.Newest.{newest_in, newer_crl, newer_ocsp}
 
@@ -32,13 +33,13 @@ abbrev pub facts_or_none : Result (List Fact) StatementFault → List Fact
 facts_or_none (Ok facts) = facts
 facts_or_none (Err fault) = []
 
-abbrev pub facts_under : Accepts → List ℕ → Result Certificate (CertRule × ℕ) → List Fact
-facts_under accepts statement (Ok issuer) = facts_or_none (genuine_statement accepts issuer statement)
-facts_under accepts statement (Err fault) = []
+abbrev pub facts_under : Profile → Accepts → List ℕ → Result Certificate (CertRule × ℕ) → List Fact
+facts_under profile accepts statement (Ok issuer) = facts_or_none (genuine_statement_under profile accepts issuer statement)
+facts_under profile accepts statement (Err fault) = []
 
--- what a genuine statement says; another says nothing
-abbrev pub genuine_facts : FactsOf
-genuine_facts accepts issuer statement = facts_under accepts statement (certificate issuer)
+-- what a statement says that is genuine in the profile; another says nothing
+abbrev pub genuine_facts : Profile → FactsOf
+genuine_facts profile accepts issuer statement = facts_under profile accepts statement (certificate issuer)
 
 -- the facts of the deliveries that were taken, in order
 abbrev pub facts_taken : FactsOf → Accepts → List Event → List DeliveryAnswer → List Fact
@@ -72,6 +73,7 @@ after_taking accepts start taken = record {
   start = start;
   taken = taken;
   held = record {
+    profile = start.profile;
     crl = λ slot. newest_in newer_crl (option_to_list (start.crl slot) ++ filter_map (crl_for slot) taken);
     ocsp = λ slot. newest_in newer_ocsp (option_to_list (start.ocsp slot) ++ filter_map (ocsp_for slot) taken);
   };

@@ -2,7 +2,7 @@
 use Rattle.std.proofs.Common.{Bool, true, if◌then◌else◌, ◌≡◌, ℕ, zero, suc, ◌+◌, ◌<◌, List, [], ◌∷◌, ◌++◌, map, length, take, get_or, arith, refl, sym, ap, subst, ◌∙◌, Result, Ok, is_ok, IsOk, length-take, take_all, ◌≤◌}
 use denote.Ref.{Bor}
 use Rattle.std.proofs.lemmas.List.{get_or-take, get_or-map, length-map, map_more, map-append}
-use Rattle.cert.specs.declared.profile.Profile.{Profile}
+use Rattle.statements_facts.specs.declared.profile.Profile.{Profile}
 use Rattle.path.specs.Reading.{texts_of}
 use Rattle.statements.specs.Statement.{Statement, seen_statement, statement_under}
 use Rattle.statements.specs.declared.statement.Statement as code

@@ -3,11 +3,12 @@ use Rattle.std.specs.Prelude.{◌≡◌, ℕ, List, Result, Ok, Err, map}
 use Rattle.std.specs.List.{flat_map}
 use Rattle.cert.specs.Certificate.{Certificate, certificate}
 use Rattle.path.specs.Query.{Query, Accepts}
+use Rattle.statements_facts.specs.declared.profile.Profile.{Profile}
 use Rattle.statements_facts.specs.Fact.{Fact}
 use Rattle.statements_parts.specs.declared.fault.StatementFault.{StatementFault}
 use Rattle.statements.specs.Statement.{Statement, statement_said}
 use Rattle.relying_agreement.specs.Run.{Event, DeliveryAnswer, HasRun, genuine_facts}
-use Rattle.relying_texts.specs.Reading.{AreStatementsRead}
+use Rattle.relying_texts.specs.Reading.{AreStatementsReadUnder}
 use Rattle.relying_texts.specs.Texts.{issuers_of, party_told}
 
 -- each statement, with the octets of each issuer's certificate
@@ -30,7 +31,7 @@ AreRead texts certificates = map certificate texts ≡ map (λ c. Ok c) certific
 -- So the party that a verdict by statements is of has run on these deliveries, and what is said of runs is said of it.
 abbrev pub StatementsMakeARun : Type 0
 StatementsMakeARun =
-    (accepts : Accepts) (query : Query) (issuers texts : List (List ℕ)) (statements : List Statement) →
-    AreRead issuers (issuers_of query) → AreStatementsRead texts statements →
-    HasRun genuine_facts (deliveries issuers texts) (delivery_answers accepts (issuers_of query) statements)
+    (profile : Profile) (accepts : Accepts) (query : Query) (issuers texts : List (List ℕ)) (statements : List Statement) →
+    AreRead issuers (issuers_of query) → AreStatementsReadUnder profile texts statements →
+    HasRun (genuine_facts profile) (deliveries issuers texts) (delivery_answers accepts (issuers_of query) statements)
     (party_told accepts query statements)

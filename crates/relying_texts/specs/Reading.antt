@@ -1,7 +1,7 @@
 -- Statements that are read from their octets, and which of several is refused.
 use Rattle.std.specs.Prelude.{◌≡◌, ◌<◌, ℕ, List, [], length, map, slice_index_or, Ok, IsOk}
-use Rattle.cert.specs.declared.profile.Profile.{Profile}
-use Rattle.cert.specs.declared.profile.Profile.TheVariants.{Stated}
+use Rattle.statements_facts.specs.declared.profile.Profile.{Profile}
+use Rattle.statements_facts.specs.declared.profile.Profile.TheVariants.{Stated}
 use Rattle.statements.specs.Statement.{Statement, statement_under}
 use Rattle.statements_parts.specs.Fault.{StatementFailsUnlessFull}
 use Rattle.statements_parts.specs.declared.fault.ReadingFault.{ReadingFault}

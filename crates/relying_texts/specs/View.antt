@@ -12,7 +12,7 @@ use Rattle.statements_crl.specs.declared.list.Crl as list
 use Rattle.statements_facts.specs.declared.scope.Scope.{Scope}
 use Rattle.statements_facts.specs.Fact.{Fact, list_facts, slot_for}
 use Rattle.statements_facts.specs.Single.{SingleFact}
-use Rattle.statements_facts.specs.Statement.{IssuerIdentity, CrlSlot, CrlFact, OcspSlot, OcspFact, Holdings, at_point, kept_for, same_crl_slot, same_issuer}
+use Rattle.statements_facts.specs.Statement.{IssuerIdentity, CrlSlot, CrlFact, OcspSlot, OcspFact, Holdings, empty_holdings, at_point, kept_for, same_crl_slot, same_issuer}
 use Rattle.statements_facts.specs.Coming.{crl_for, ocsp_for}
 use Rattle.statements_facts.specs.Newest.{newer_crl, newer_ocsp, newest_in}
 use Rattle.statements.specs.Issuer.{identity_of}
@@ -95,7 +95,7 @@ singles_for name_hash serial singles = filter_map (single_for name_hash serial) 
 
 -- what is held once these facts came to an empty store
 abbrev pub held_of : List Fact → Holdings
-held_of facts = record {
+held_of facts = record empty_holdings {
   crl = λ slot. newest_in newer_crl (filter_map (crl_for slot) facts);
   ocsp = λ slot. newest_in newer_ocsp (filter_map (ocsp_for slot) facts);
 }

@@ -5,8 +5,8 @@ ghost use Rattle.path.specs.Reading.{texts_of};
 ghost use Rattle.statements.specs.Statement.{seen_statement};
 ghost use Rattle.relying_texts.specs.Reading.{AreStatementsRead, AreStatementsReadUnder, IsFirstStatementRefused, IsFirstStatementRefusedUnder};
 
-use cert::Profile;
 use statements::Statement;
+use statements_facts::Profile;
 use statements_parts::ReadingFault;
 use std::alloc::Global;
 use thiserror::Error;

@@ -7,7 +7,7 @@ use Rattle.statements_parts.specs.declared.fault.StatementRule.{StatementRule}
 use Rattle.statements_parts.specs.declared.fault.StatementFault.{StatementFault}
 use Rattle.statements_parts.specs.declared.fault.StatementFault.TheVariants.{Refused, OtherIssuer, BadSignature, NoSigner, NothingForIssuer, Memory}
 use Rattle.cert.specs.Certificate.{Certificate}
-use Rattle.cert.specs.declared.profile.Profile.{Profile}
+use Rattle.statements_facts.specs.declared.profile.Profile.{Profile}
 use Rattle.statements_ocsp.specs.OcspResponse.{OcspResponse}
 use Rattle.statements_facts.specs.Statement.{IssuerIdentity}
 use Rattle.statements_facts.specs.Single.{SingleFact, some_singles}

@@ -7,8 +7,8 @@ use Rattle.asn.specs.Place.{Place}
 use Rattle.asn.specs.Walk.{◌>>=◌}
 use Rattle.asn.proofs.Laws.{bind_ok, outermost_again}
 use Rattle.cert.specs.Certificate.{Certificate}
-use Rattle.cert.specs.declared.profile.Profile.{Profile}
-use Rattle.cert.specs.declared.profile.Profile.TheVariants.{Stated, Wide}
+use Rattle.statements_facts.specs.declared.profile.Profile.{Profile}
+use Rattle.statements_facts.specs.declared.profile.Profile.TheVariants.{Stated, Wide}
 use Rattle.statements_crl.specs.CertificateList.{CertificateList, certificate_list_at_under, certificate_list_under}
 use Rattle.statements_crl.specs.ListForms.{IsCertificateList, IsCertificateListUnder, IsCertificateListAtUnder}
 use Rattle.statements_crl.proofs.Laws.{list_is_exact_under, stated_is_wide, stated_lists_are_whole}

@@ -5,7 +5,7 @@ use Rattle.names.specs.DistinguishedName.{NamesMatch, matching}
 use Rattle.cert.specs.Certificate.{Certificate}
 use Rattle.statements_crl.specs.CertificateList.{CertificateList}
 use Rattle.statements_crl.specs.Entry.{reason_listed}
-use Rattle.cert.specs.declared.profile.Profile.{Profile}
+use Rattle.statements_facts.specs.declared.profile.Profile.{Profile}
 use Rattle.statements_crl.specs.ListForms.{IsCertificateList, IsCertificateListUnder}
 use Rattle.statements_parts.specs.declared.fault.StatementFault.{StatementFault}
 use Rattle.statements_parts.specs.declared.fault.StatementFault.TheVariants.{OtherIssuer, BadSignature}

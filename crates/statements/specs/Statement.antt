@@ -5,8 +5,8 @@ use Rattle.asn.specs.Outermost.{outermost}
 use Rattle.asn.specs.Place.{Place}
 use Rattle.asn.specs.Walk.{◌>>=◌}
 use Rattle.cert.specs.Certificate.{Certificate}
-use Rattle.cert.specs.declared.profile.Profile.{Profile}
-use Rattle.cert.specs.declared.profile.Profile.TheVariants.{Stated, Wide}
+use Rattle.statements_facts.specs.declared.profile.Profile.{Profile}
+use Rattle.statements_facts.specs.declared.profile.Profile.TheVariants.{Stated, Wide}
 use Rattle.statements_crl.specs.CertificateList.{CertificateList, certificate_list_at_under, seen_list}
 use Rattle.statements_crl.specs.ListForms.{IsCertificateList, IsCertificateListUnder}
 use Rattle.statements_ocsp.specs.Kind.{is_response}

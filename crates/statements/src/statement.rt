@@ -11,10 +11,10 @@ ghost use Rattle.statements.specs.Statement.{genuine_statement, genuine_statemen
 use crate::genuine_list::list_facts;
 use crate::genuine_response::response_facts;
 use asn::Tlv;
-use cert::{Certificate, Profile};
+use cert::Certificate;
 use path_verifiers::Verifier;
 use statements_crl::Crl;
-use statements_facts::Facts;
+use statements_facts::{Facts, Profile};
 use statements_ocsp::{Response, is_response};
 use statements_parts::{ReadingFault, StatementFault, outermost};
 use std::alloc::Global;

@@ -17,8 +17,8 @@ use Rattle.asn.specs.Outermost.{nested}
 use Rattle.asn.proofs.Laws.{bind_ok, ok_is, is_a_ok, is_a_again, next_or_ok, next_or_again, nested_ok, nested_again}
 use Rattle.cert.specs.declared.fault.CertRule.{CertRule}
 use Rattle.cert.specs.declared.fault.CertRule.TheVariants.{ExtensionValue}
-use Rattle.cert.specs.declared.profile.Profile.{Profile}
-use Rattle.cert.specs.declared.profile.Profile.TheVariants.{Stated, Wide}
+use Rattle.statements_facts.specs.declared.profile.Profile.{Profile}
+use Rattle.statements_facts.specs.declared.profile.Profile.TheVariants.{Stated, Wide}
 use Rattle.cert.specs.Extension.{Extension}
 use Rattle.cert_points.specs.PointName.{PointName, full_name, relative, point_name, IsPointName}
 use Rattle.cert_points.proofs.Laws.{is_point_name, point_name_is}

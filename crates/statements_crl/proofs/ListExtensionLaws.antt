@@ -30,7 +30,7 @@ use Rattle.statements_parts.specs.declared.fault.StatementRule.TheVariants as R
 use Rattle.statements_crl.specs.declared.list_extension.ListExtensionKind.{ListExtensionKind}
 use Rattle.statements_crl.specs.declared.list_extension.ListExtensionKind.TheVariants as Kind
 use Rattle.statements_crl.specs.CrlNumber.{is_crl_number, number_in}
-use Rattle.cert.specs.declared.profile.Profile.{Profile}
+use Rattle.statements_facts.specs.declared.profile.Profile.{Profile}
 use Rattle.statements_crl.specs.IssuingPoint.{IssuingPoint, issuing_point}
 use Rattle.statements_crl.specs.ListExtension.{list_extension_kind, ListExtensions, no_list_extensions, numbered, issued_at, said_with, said_by, TakenOfList, nothing_taken_of_list, one_list_extension, NumberAndScope, number_and_scope}
 use Rattle.statements_crl.specs.EntryForms.{id_ce}

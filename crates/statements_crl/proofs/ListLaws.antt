@@ -26,8 +26,8 @@ use Rattle.statements_parts.specs.declared.fault.StatementRule.TheVariants.{Layo
 use Rattle.statements_crl.specs.Parts.{list_issuer, same_list_algorithm}
 use Rattle.statements_crl.specs.Entry.{Entry, entries}
 use Rattle.statements_crl.specs.ListExtension.{NumberAndScope, number_and_scope, list_extensions}
-use Rattle.cert.specs.declared.profile.Profile.{Profile}
-use Rattle.cert.specs.declared.profile.Profile.TheVariants.{Stated}
+use Rattle.statements_facts.specs.declared.profile.Profile.{Profile}
+use Rattle.statements_facts.specs.declared.profile.Profile.TheVariants.{Stated}
 use Rattle.statements_crl.specs.CertificateList.{version_2, ListHead, list_head, revoked_in, revoked, TbsCertList, tbs_cert_list, CertificateList, list_with, certificate_list_at_under, certificate_list_under}
 use Rattle.statements_crl.specs.ListForms.{AreRevoked, IsTbsCertList, IsCertificateListAtUnder, CertificateListIsExact, CertificateListIsExactUnder, CertificateListIsUnique, CertificateListIsUniqueUnder}
 use Rattle.statements_crl.proofs.EntryLaws.{in_order, then, are_entries, entries_are}

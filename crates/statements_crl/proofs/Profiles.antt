@@ -1,7 +1,7 @@
 -- A list of the stated profile has no points, and is one of the wide profile too.
 use Rattle.std.proofs.Common.{◌≡◌, ◌≢◌, ◌⊎◌, ◌∷◌, ℕ, List, [], All, Any, Ok, refl, sym, ap, ◌∙◌, inl, inr}
 use Rattle.asn.specs.Place.{Place}
-use Rattle.cert.specs.declared.profile.Profile.TheVariants.{Stated, Wide}
+use Rattle.statements_facts.specs.declared.profile.Profile.TheVariants.{Stated, Wide}
 use Rattle.cert.specs.Extension.{Extension}
 use Rattle.statements_crl.specs.CertificateList.{TbsCertList, CertificateList}
 use Rattle.statements_crl.specs.EntryForms.{id_ce}

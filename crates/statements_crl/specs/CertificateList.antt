@@ -9,8 +9,8 @@ use Rattle.names.specs.GeneralLayout.{NameContents}
 use Rattle.names.specs.GeneralView.{name_contents}
 use Rattle.cert.specs.AlgorithmIdentifier.{AlgorithmIdentifier, algorithm_identifier, seen_algorithm}
 use Rattle.cert.specs.BitString.{BitString, seen_bit_string}
-use Rattle.cert.specs.declared.profile.Profile.{Profile}
-use Rattle.cert.specs.declared.profile.Profile.TheVariants.{Stated}
+use Rattle.statements_facts.specs.declared.profile.Profile.{Profile}
+use Rattle.statements_facts.specs.declared.profile.Profile.TheVariants.{Stated}
 use Rattle.cert_points.specs.CompleteNames.{names_if_any}
 use Rattle.statements_facts.specs.declared.scope.Scope.{Scope}
 use Rattle.statements_crl.specs.declared.list.Crl as code

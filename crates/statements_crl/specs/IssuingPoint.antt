@@ -9,8 +9,8 @@ use Rattle.asn.specs.Walk.{◌>>=◌, is_a, next_or, or_fault}
 use Rattle.asn.specs.Outermost.{nested}
 use Rattle.cert.specs.declared.fault.CertRule.{CertRule}
 use Rattle.cert.specs.declared.fault.CertRule.TheVariants.{ExtensionValue}
-use Rattle.cert.specs.declared.profile.Profile.{Profile}
-use Rattle.cert.specs.declared.profile.Profile.TheVariants.{Stated, Wide}
+use Rattle.statements_facts.specs.declared.profile.Profile.{Profile}
+use Rattle.statements_facts.specs.declared.profile.Profile.TheVariants.{Stated, Wide}
 use Rattle.cert_points.specs.CompleteNames.{names_if_any}
 use Rattle.cert_points.specs.PointName.{PointName, full_name, relative, point_name}
 use Rattle.statements_facts.specs.declared.scope.Scope.{Scope}

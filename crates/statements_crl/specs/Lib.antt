@@ -12,6 +12,6 @@ pub mod ListForms
 pub use Rattle.statements_parts.specs.Fault
 pub use Rattle.statements_parts.specs.declared.fault.StatementRule
 pub use Rattle.statements_parts.specs.declared.fault.ReadingFault
-pub use Rattle.cert.specs.declared.profile.Profile
+pub use Rattle.statements_facts.specs.declared.profile.Profile
 pub use Rattle.cert_points.specs.GeneralNames
 pub use Rattle.cert_points.specs.PointName

@@ -18,7 +18,7 @@ use Rattle.statements_crl.specs.declared.list_extension.NumberAndScope as told
 use Rattle.statements_parts.specs.declared.fault.StatementRule.{StatementRule}
 use Rattle.statements_parts.specs.declared.fault.StatementRule.TheVariants as R
 use Rattle.statements_crl.specs.CrlNumber.{number_in}
-use Rattle.cert.specs.declared.profile.Profile.{Profile}
+use Rattle.statements_facts.specs.declared.profile.Profile.{Profile}
 use Rattle.cert_points.specs.CompleteNames.{names_if_any}
 use Rattle.statements_crl.specs.IssuingPoint.{IssuingPoint, issuing_point}
 

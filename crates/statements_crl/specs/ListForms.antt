@@ -13,8 +13,8 @@ use Rattle.cert.specs.AlgorithmIdentifier.{IsAlgorithmIdentifier}
 use Rattle.cert.specs.BitString.{BitString}
 use Rattle.cert.specs.CertificateForms.{IsNameOf, IsSignature}
 use Rattle.cert.specs.Extension.{Extension, IsExtension}
-use Rattle.cert.specs.declared.profile.Profile.{Profile}
-use Rattle.cert.specs.declared.profile.Profile.TheVariants.{Stated, Wide}
+use Rattle.statements_facts.specs.declared.profile.Profile.{Profile}
+use Rattle.statements_facts.specs.declared.profile.Profile.TheVariants.{Stated, Wide}
 use Rattle.cert_points.specs.PointName.{IsPointName}
 use Rattle.cert_points.specs.PointName as PointName
 use Rattle.statements_facts.specs.declared.scope.Scope.{Scope}

@@ -7,9 +7,9 @@ ghost use Rattle.statements_crl.specs.IssuingPoint.{full_names, issuing_point, p
 
 use crate::issuer_scope::scope_of;
 use asn::{Cursor, SEQUENCE, Tlv};
-use cert::{CertRefusal, CertRule, Profile};
+use cert::{CertRefusal, CertRule};
 use cert_points::{GeneralNames, PointName};
-use statements_facts::Scope;
+use statements_facts::{Profile, Scope};
 
 /// onlyContainsUserCerts [1] TRUE
 const ONLY_USERS: &[u8] = &[0x81, 0x01, 0xFF];

@@ -13,12 +13,11 @@ mod list_extension;
 mod number;
 mod parts;
 
-pub use cert::Profile;
 pub use cert_points::GeneralNames;
 pub use entry::Entry;
 pub use entry_walk::Entries;
 pub use layout::{list_laws, profile_laws};
 pub use list::Crl;
 pub use number::{CrlNumber, number_laws};
-pub use statements_facts::Scope;
+pub use statements_facts::{Profile, Scope};
 pub use statements_parts::{ReadingFault, StatementRefusal, StatementRule};

@@ -13,10 +13,10 @@ use crate::list_extension::NumberAndScope;
 use crate::number::CrlNumber;
 use crate::parts::{take_issuer, take_same_algorithm};
 use asn::{Cursor, INTEGER, SEQUENCE, Tlv};
-use cert::{AlgorithmIdentifier, BitString, Profile};
+use cert::{AlgorithmIdentifier, BitString};
 use cert_points::GeneralNames;
 use names::Name;
-use statements_facts::Scope;
+use statements_facts::{Profile, Scope};
 use statements_parts::{
     ReadingFault, StatementRefusal, StatementRule, outermost, take_algorithm, take_signature,
 };

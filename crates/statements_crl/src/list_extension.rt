@@ -11,9 +11,9 @@ ghost use Rattle.statements_parts.specs.Steps.{StepGivesUnlessFull, TakesUnlessF
 use crate::issuing_point::IssuingPoint;
 use crate::number::CrlNumber;
 use asn::{Cursor, SEQUENCE, Tlv};
-use cert::{Extension, OidSet, Profile, certificate_extension_number};
+use cert::{Extension, OidSet, certificate_extension_number};
 use cert_points::GeneralNames;
-use statements_facts::Scope;
+use statements_facts::{Profile, Scope};
 use statements_parts::{ReadingFault, StatementRefusal, StatementRule, new_extension};
 use std::alloc::Global;
 

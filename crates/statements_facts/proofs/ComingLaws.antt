@@ -10,7 +10,7 @@ use Rattle.statements_facts.specs.Fact.{Fact}
 use Rattle.statements_facts.specs.declared.counts.TakenAs.{TakenAs}
 use Rattle.statements_facts.specs.declared.counts.TakenAs.TheVariants.{Stored, Kept, Contradicted}
 use Rattle.statements_facts.specs.Newest.{newer_crl, newer_ocsp, newer_of, held_after}
-use Rattle.statements_facts.specs.Coming.{is_stored, ContradictsCrl, ContradictsOcsp, IsTakenBeside, after_one, after_all, crl_for, ocsp_for, ComesAsOne, TakingHoldsNewest, TakesBoth}
+use Rattle.statements_facts.specs.Coming.{is_stored, with_crl_fact, with_ocsp_fact, ContradictsCrl, ContradictsOcsp, IsTakenBeside, after_one, after_all, crl_for, ocsp_for, ComesAsOne, TakingHoldsNewest, TakesBoth}
 use Rattle.statements_facts.proofs.NewestLaws.{crls_keep_newest, responses_keep_newest, never_itself_crl, never_itself_ocsp}
 
 -- ---- slots that pass the test are one
@@ -110,8 +110,25 @@ ocsp_folds (Fact.OfCrl slot fact ∷ came) held s =
     ocsp_folds came (after_one held (Fact.OfCrl slot fact)) s
     ∙ ap (λ h. held_after newer_ocsp h (filter_map (ocsp_for s) came)) (ocsp_spared held slot fact s)
 
+profile_stays : (start : Holdings) (came : List Fact) → (after_all start came).profile ≡ start.profile
+profile_stays start [] = refl
+profile_stays start (fact ∷ came) = profile_stays (after_one start fact) came ∙ one_stays fact
+  where
+    one_stays : (fact : Fact) → (after_one start fact).profile ≡ start.profile
+    one_stays (Fact.OfCrl slot fact) = either (is_stored newer_crl (start.crl slot) fact)
+      where
+        either : (stored : Bool) → (if stored then with_crl_fact start slot fact else start).profile ≡ start.profile
+        either true = refl
+        either false = refl
+    one_stays (Fact.OfResponse slot fact) = either (is_stored newer_ocsp (start.ocsp slot) fact)
+      where
+        either : (stored : Bool) → (if stored then with_ocsp_fact start slot fact else start).profile ≡ start.profile
+        either true = refl
+        either false = refl
+
 pub holds_newest : TakingHoldsNewest
 holds_newest start came = record {
+  profile = profile_stays start came;
   crl = λ slot. crl_folds came start slot ∙ crls_keep_newest.held (start.crl slot) (filter_map (crl_for slot) came);
   ocsp = λ slot. ocsp_folds came start slot ∙ responses_keep_newest.held (start.ocsp slot) (filter_map (ocsp_for slot) came);
 }

@@ -107,8 +107,9 @@ ocsp_for slot (Fact.OfCrl for fact) = None
 ocsp_for slot (Fact.OfResponse for fact) = if same_ocsp_slot for slot then Some fact else None
 
 -- Each slot holds the newest of what it held at the start and of what came since, the first among equals; and nothing where
--- there is none.
+-- there is none. The profile stays.
 pub record HoldsNewest (start : Holdings) (came : List Fact) (held : Holdings) : Type 0 where
+  pub profile : held.profile ≡ start.profile
   pub crl : (slot : CrlSlot) → held.crl slot ≡ newest_in newer_crl (option_to_list (start.crl slot) ++ filter_map (crl_for slot) came)
   pub ocsp : (slot : OcspSlot) → held.ocsp slot ≡ newest_in newer_ocsp (option_to_list (start.ocsp slot) ++ filter_map (ocsp_for slot) came)
 

@@ -1,6 +1,8 @@
 -- What signed statements say of certificates, and what is held of them (RFC 5280, 5; RFC 6960, 4.2).
 use Rattle.std.specs.Prelude.{◌&&◌, ◌++◌, ℕ, ℤ, Bool, true, false, List, [], ◌∷◌, map, Option, None}
 use Rattle.std.specs.Str.{bytes_eq}
+use Rattle.statements_facts.specs.declared.profile.Profile.{Profile}
+use Rattle.statements_facts.specs.declared.profile.Profile.TheVariants.{Stated}
 use Rattle.statements_facts.specs.declared.scope.Scope.{Scope}
 use Rattle.statements_facts.specs.declared.scope.Scope.TheVariants.{All, User, Ca}
 use Rattle.statements_facts.specs.declared.single.Status.{Status}
@@ -64,13 +66,17 @@ pub record OcspSlot : Type 0 where
   pub name_hash : List ℕ
   pub serial : List ℕ
 
--- what a store holds: slot by slot the fact, where one is held
+-- what a store holds: its profile, and slot by slot the fact, where one is held
 pub record Holdings : Type 0 where
+  pub profile : Profile
   pub crl : CrlSlot → Option CrlFact
   pub ocsp : OcspSlot → Option OcspFact
 
+abbrev pub empty_under : Profile → Holdings
+empty_under profile = record { profile = profile; crl = λ slot. None; ocsp = λ slot. None }
+
 abbrev pub empty_holdings : Holdings
-empty_holdings = record { crl = λ slot. None; ocsp = λ slot. None }
+empty_holdings = empty_under Stated
 
 -- ---- tests
 

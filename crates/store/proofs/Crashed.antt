@@ -26,7 +26,7 @@ trees_are_adopted conn adopted held opened of keeps clean =
     subst (λ (d : Database). IsStoreOf d held) (sym (keeps clean (held, it)).0.now_is) it
 
 pub holds_what_files_held : {D : Type 0} {g : Ghosts D} → TakenStoreHoldsWhatFilesHeld D g
-holds_what_files_held image store trees held has of taken clean =
+holds_what_files_held profile image store trees held has of taken clean =
     let shown : (file_state taken.conn).now.trees ≡ trees = ap (λ (d : Database). d.trees) taken.opened.0.clean ∙ taken.found.holds trees has in
     trees_are_adopted taken.conn store held taken.opened (subst (AreTreesOf held) (sym shown) of) taken.unchanged clean
 
@@ -36,7 +36,7 @@ shows_what_crash_left old image conn after found opened =
     (λ may. subst (MayLeaveAfterCrash (file_state old)) (ap (λ (d : Database). d.trees) (sym opened.0.clean)) may)
 
 pub survives_crash : {D E : Type 0} {g : Ghosts D} {h : Ghosts E} → TakenStoreSurvivesCrash D E g h
-survives_crash old image store left after leaves taken clean =
+survives_crash old profile image store left after leaves taken clean =
     ∥∥₁_map (shows_what_crash_left old image taken.conn after taken.found taken.opened) (λ may. hold left (leaves (file_state taken.conn).now.trees may))
   where
     hold : (left : List Holdings) → IsOneOf (λ held. AreTreesOf held (file_state taken.conn).now.trees) left → IsOneOf (λ held. IsStoreOf (file_state store).now held) left

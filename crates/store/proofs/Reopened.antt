@@ -12,6 +12,7 @@ use Rattle.store_sql.specs.declared.fault.StoreFault.{StoreFault}
 use Rattle.store_sql.specs.declared.fault.StoreFault.TheVariants.{Schema}
 use Rattle.store_sql.specs.Statements.{CommitsNothing}
 use Rattle.store_maps.specs.Held.{IsStoreOf}
+use Rattle.statements_facts.specs.declared.profile.Profile.{Profile}
 use Rattle.statements_facts.specs.Statement.{Holdings}
 use Rattle.store_adoption.specs.Creates.{IsSettled}
 use Rattle.store.specs.Adopts.{Adopts, Reopens, Restarts}
@@ -23,8 +24,8 @@ module _ {D : Type 0} {g : Ghosts D} (old opened again : Held (FileStore D g)) (
   clean_before : HasCleanDisk (file_state again) → HasCleanDisk (file_state opened)
   clean_before clean = let step = read.clean in omega (arith, step, clean)
 
-  pub restarts : HasCleanDisk (file_state again) → Adopts {A = Unit {0}} (file_state opened) (file_state again) (Ok tt) → Restarts (file_state old) (file_state again)
-  restarts clean adopts =
+  pub restarts : (profile : Profile) → HasCleanDisk (file_state again) → Adopts (file_state opened) (file_state again) (Ok profile) → Restarts (file_state old) (file_state again)
+  restarts profile clean adopts =
       let finds = found (clean_before clean) in
       let closed = copied finds.honest in
       record {
@@ -36,7 +37,7 @@ module _ {D : Type 0} {g : Ghosts D} (old opened again : Held (FileStore D g)) (
 
   -- what is not taken for a store again still holds what was held
   pub still_holds : (fault : StoreFault) → IsSettled (file_state opened) → IsSettled (file_state again)
-      → (HasCleanDisk (file_state again) → Adopts {A = Unit {0}} (file_state opened) (file_state again) (Err fault))
+      → (HasCleanDisk (file_state again) → Adopts (file_state opened) (file_state again) (Err fault))
       → HasCleanDisk (file_state again) → (held : Holdings) → IsStoreOf (file_state old).now held
       → (fault ≢ Schema) × (IsTrue (file_state again).is_open → IsStoreOf (file_state again).now held)
   still_holds fault settled_opened settled_again adopts clean held it =

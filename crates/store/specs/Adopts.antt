@@ -11,7 +11,8 @@ use Rattle.sqlite.specs.Closing.{IsCopied}
 use Rattle.sqlite.specs.WalReads.{AreClean}
 use Rattle.statements_facts.specs.declared.counts.Counts.{Counts}
 use Rattle.statements_facts.specs.declared.fact.Facts.{Facts}
-use Rattle.statements_facts.specs.Statement.{Holdings, empty_holdings}
+use Rattle.statements_facts.specs.declared.profile.Profile.{Profile}
+use Rattle.statements_facts.specs.Statement.{Holdings, empty_under}
 use Rattle.store_sql.specs.declared.fault.StoreFault.{StoreFault}
 use Rattle.store_sql.specs.declared.fault.StoreFault.TheVariants.{Store, Schema}
 use Rattle.store_sql.specs.Cause.{MayRefuse}
@@ -21,48 +22,50 @@ use Rattle.sqlite_trees.specs.Tree.{Trees}
 use Rattle.store_taking.specs.Delivery.{PutsFacts, AllOrNothing}
 use Rattle.store_taking.specs.Room.{PutsForCause}
 use Rattle.store_adoption.specs.Creates.{CreateIsCaused, IsCreated, MayLeaveEmptyStore}
-use Rattle.store_adoption.specs.Inspects.{HasTooMany, IsStore, TablesAreInOrder, LacksVersion1, LacksVersion2}
+use Rattle.store_adoption.specs.Inspects.{HasTooMany, IsStore, IsStoreUnder, TablesAreInOrder, LacksVersion1, LacksVersion2}
 use Rattle.store_adoption.specs.Version1.{IsVersion1Of, IsVersion1}
 use Rattle.store_migration.specs.Migrates.{FitsVersion2}
 
--- nothing changes and the database is a store; or a fault, which is for the tables and rows only where it is none
-abbrev pub Adopts : {A : Type 0} → State → State → Result A StoreFault → Type 0
-Adopts old new (Ok done) = IsUnchanged old new × IsStore new.now
+-- nothing changes and the database is a store of the profile that is answered; or a fault, which is for the tables and rows only where it
+-- is none
+abbrev pub Adopts : State → State → Result Profile StoreFault → Type 0
+Adopts old new (Ok profile) = IsUnchanged old new × IsStoreUnder profile new.now
 Adopts old new (Err fault) = KeepsCommit old new × (fault ≡ Schema → (held : Holdings) → IsStoreOf old.now held → ⊥)
 
 -- the fault `Store` has a cause: the database may refuse, or has more rows than are counted
 abbrev pub AdoptIsCaused : State → State → StoreFault → Type 0
 AdoptIsCaused old new fault = fault ≡ Store → MayRefuse old new ⊎ HasTooMany old.now
 
--- It was a store, and nothing changes; or it was of version 1, and what that held is held by version 2. It is a store then.
-pub record IsTakenOver (old new : State) : Type 0 where
+-- It was a store of this profile, and nothing changes; or it was of version 1, and what that held is held by version 2. It is a store of
+-- this profile then.
+pub record IsTakenOver (profile : Profile) (old new : State) : Type 0 where
   pub was_open : IsTrue old.is_open
-  pub was : IsStore old.now ⊎ IsVersion1 old.now
-  pub store : IsStore new.now
+  pub was : IsStoreUnder profile old.now ⊎ IsVersion1 old.now
+  pub store : IsStoreUnder profile new.now
   pub is_open : IsTrue new.is_open
   pub unchanged : IsStore old.now → IsUnchanged old new
   pub migrated : (held : Holdings) → IsVersion1Of old.now held → IsStoreOf new.now held
 
--- or the last commit stays, and the fault is for the tables and rows only where they are of neither version
-abbrev pub TakesOver : {A : Type 0} → State → State → Result A StoreFault → Type 0
-TakesOver old new (Ok done) = IsTakenOver old new
-TakesOver old new (Err fault) = KeepsCommit old new × (fault ≡ Schema → (held : Holdings) → IsStoreOf old.now held ⊎ IsVersion1Of old.now held → ⊥)
+-- the database is a store of this profile in neither version; version 1 is of the stated profile
+abbrev pub IsNoStore : Profile → Database → Type 0
+IsNoStore profile db = (held : Holdings) → held.profile ≡ profile → IsStoreOf db held ⊎ IsVersion1Of db held → ⊥
+
+-- or the last commit stays, and the fault is for the tables and rows only where they are those of no such store
+abbrev pub TakesOver : {A : Type 0} → Profile → State → State → Result A StoreFault → Type 0
+TakesOver profile old new (Ok done) = IsTakenOver profile old new
+TakesOver profile old new (Err fault) = KeepsCommit old new × (fault ≡ Schema → IsNoStore profile old.now)
 
 -- the same over a store of which nothing says that the rows of its tables stand in the order of their ids
-abbrev pub TakesOverOrdered : {A : Type 0} → State → State → Result A StoreFault → Type 0
-TakesOverOrdered old new (Ok done) = IsTrue old.is_open × (TablesAreInOrder old.now → IsTakenOver old new)
-TakesOverOrdered old new (Err fault) = KeepsCommit old new × (fault ≡ Schema → (held : Holdings) → IsStoreOf old.now held ⊎ IsVersion1Of old.now held → ⊥)
+abbrev pub TakesOverOrdered : {A : Type 0} → Profile → State → State → Result A StoreFault → Type 0
+TakesOverOrdered profile old new (Ok done) = IsTrue old.is_open × (TablesAreInOrder old.now → IsTakenOver profile old new)
+TakesOverOrdered profile old new (Err fault) = KeepsCommit old new × (fault ≡ Schema → IsNoStore profile old.now)
 
-abbrev pub TakesOverInOrder : {A : Type 0} → State → State → Result A StoreFault → Type 0
-TakesOverInOrder old new result = HasCleanDisk new → TakesOverOrdered old new result
+abbrev pub TakesOverInOrder : {A : Type 0} → Profile → State → State → Result A StoreFault → Type 0
+TakesOverInOrder profile old new result = HasCleanDisk new → TakesOverOrdered profile old new result
 
 -- the tables are those of neither version
 abbrev pub HasOtherTables : Database → Type 0
 HasOtherTables db = LacksVersion2 db × LacksVersion1 db
-
--- the database is a store of neither version
-abbrev pub IsNoStore : Database → Type 0
-IsNoStore db = (held : Holdings) → IsStoreOf db held ⊎ IsVersion1Of db held → ⊥
 
 -- the store of version 2 that one of version 1 becomes
 abbrev pub IsMigratedFrom : State → Trees → Type 0
@@ -119,7 +122,7 @@ pub record Restarts (old new : State) : Type 0 where
 -- ---- calls on a connection over files, if the disk has returned what was written
 
 module _ {D : Type 0} {g : Ghosts D} (old new : Held (FileStore D g)) where
-  abbrev pub AdoptsOn : {A : Type 0} → Result A StoreFault → Type 0
+  abbrev pub AdoptsOn : Result Profile StoreFault → Type 0
   AdoptsOn result = HasCleanDisk (file_state new) → Adopts (file_state old) (file_state new) result
 
   abbrev pub AdoptsForCause : {A : Type 0} → Result A StoreFault → Type 0
@@ -132,18 +135,18 @@ module _ {D : Type 0} {g : Ghosts D} (old new : Held (FileStore D g)) where
   abbrev pub IsRefusedForCause : StoreFault → Type 0
   IsRefusedForCause fault = HasCleanDisk (file_state new) → FitsVersion2 (file_state old).now → AdoptIsCaused (file_state old) (file_state new) fault
 
-  abbrev pub TakesOverOn : {A : Type 0} → Result A StoreFault → Type 0
-  TakesOverOn result = HasCleanDisk (file_state new) → TakesOver (file_state old) (file_state new) result
+  abbrev pub TakesOverOn : {A : Type 0} → Profile → Result A StoreFault → Type 0
+  TakesOverOn profile result = HasCleanDisk (file_state new) → TakesOver profile (file_state old) (file_state new) result
 
   -- a crash leaves what it could leave before, or the store of version 2 that one of version 1 becomes
   abbrev pub MayLeaveVersion2 : Type 0
   MayLeaveVersion2 = Survives (file_state old) (file_state new) (IsMigratedFrom (file_state old))
 
-  abbrev pub MayLeaveEmpty : Type 0
-  MayLeaveEmpty = MayLeaveEmptyStore (file_state old) (file_state new)
+  abbrev pub MayLeaveEmpty : Profile → Type 0
+  MayLeaveEmpty profile = MayLeaveEmptyStore profile (file_state old) (file_state new)
 
-  abbrev pub IsCreatedOn : Type 0
-  IsCreatedOn = HasCleanDisk (file_state new) → IsCreated (file_state old) (file_state new)
+  abbrev pub IsCreatedOn : Profile → Type 0
+  IsCreatedOn profile = HasCleanDisk (file_state new) → IsCreated profile (file_state old) (file_state new)
 
   -- The connection is as it was, if it is still open, and the fault is not for the tables.
   abbrev pub IsNotCreatedOn : StoreFault → Type 0
@@ -153,13 +156,14 @@ module _ {D : Type 0} {g : Ghosts D} (old new : Held (FileStore D g)) where
   abbrev pub IsNotCreatedForCause : StoreFault → Type 0
   IsNotCreatedForCause fault = HasCleanDisk (file_state new) → CreateIsCaused (file_state old) (file_state new) fault
 
-  -- The connection is as it was, if it is still open, and the fault is for the tables and rows only where they are those of no store.
-  abbrev pub IsNotAdoptedOn : StoreFault → Type 0
-  IsNotAdoptedOn fault = HasCleanDisk (file_state new) → StaysIfOpen (file_state old) (file_state new) × (fault ≡ Schema → IsNoStore (file_state old).now)
+  -- The connection is as it was, if it is still open, and the fault is for the tables and rows only where they are those of no store of this
+  -- profile.
+  abbrev pub IsNotAdoptedOn : Profile → StoreFault → Type 0
+  IsNotAdoptedOn profile fault = HasCleanDisk (file_state new) → StaysIfOpen (file_state old) (file_state new) × (fault ≡ Schema → IsNoStore profile (file_state old).now)
 
-  -- it was a store, or of version 1
-  abbrev pub WasStoreOn : Type 0
-  WasStoreOn = HasCleanDisk (file_state new) → IsStore (file_state old).now ⊎ IsVersion1 (file_state old).now
+  -- it was a store of this profile, or of version 1
+  abbrev pub WasStoreOn : Profile → Type 0
+  WasStoreOn profile = HasCleanDisk (file_state new) → IsStoreUnder profile (file_state old).now ⊎ IsVersion1 (file_state old).now
 
   -- a store does not change
   abbrev pub KeepsStoreOn : Type 0
@@ -185,11 +189,14 @@ module _ {D : Type 0} {g : Ghosts D} (old new : Held (FileStore D g)) where
   abbrev pub RestartsOn : Type 0
   RestartsOn = HasCleanDisk (file_state new) → Restarts (file_state old) (file_state new)
 
-abbrev pub IsStoreOn : {D : Type 0} {g : Ghosts D} → Held (FileStore D g) → Type 0
-IsStoreOn conn = HasCleanDisk (file_state conn) → IsStore (file_state conn).now
+abbrev pub HasStoreOn : {D : Type 0} {g : Ghosts D} → Held (FileStore D g) → Type 0
+HasStoreOn conn = HasCleanDisk (file_state conn) → IsStore (file_state conn).now
 
-abbrev pub IsEmptyStoreOn : {D : Type 0} {g : Ghosts D} → Held (FileStore D g) → Type 0
-IsEmptyStoreOn conn = HasCleanDisk (file_state conn) → IsStoreOf (file_state conn).now empty_holdings
+abbrev pub IsStoreOn : {D : Type 0} {g : Ghosts D} → Profile → Held (FileStore D g) → Type 0
+IsStoreOn profile conn = HasCleanDisk (file_state conn) → IsStoreUnder profile (file_state conn).now
+
+abbrev pub IsEmptyStoreOn : {D : Type 0} {g : Ghosts D} → Profile → Held (FileStore D g) → Type 0
+IsEmptyStoreOn profile conn = HasCleanDisk (file_state conn) → IsStoreOf (file_state conn).now (empty_under profile)
 
 abbrev pub IsOpenOn : {D : Type 0} {g : Ghosts D} → Held (FileStore D g) → Type 0
 IsOpenOn conn = HasCleanDisk (file_state conn) → IsTrue (file_state conn).is_open

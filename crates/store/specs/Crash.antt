@@ -9,6 +9,7 @@ use Rattle.sqlite.specs.Held.{Held, IsConnected}
 use Rattle.sqlite.specs.State.{HasCleanDisk}
 use Rattle.sqlite.specs.Files.{HoldsDatabase, IsOpened, file_state}
 use Rattle.sqlite.specs.Start.{FindsIn}
+use Rattle.statements_facts.specs.declared.profile.Profile.{Profile}
 use Rattle.statements_facts.specs.Statement.{Holdings}
 use Rattle.store_maps.specs.Held.{IsStoreOf, AreTreesOf}
 use Rattle.store_taking.specs.Delivery.{MayLeaveAfterCrash}
@@ -35,9 +36,9 @@ StoreTreesAreAdopted D g =
 -- a store that is taken from files holds what they held
 abbrev pub TakenStoreHoldsWhatFilesHeld : (D : Type 0) → Ghosts D → Type 0
 TakenStoreHoldsWhatFilesHeld D g =
-    (image : Image) (store : Held (FileStore D g)) (trees : Trees) (held : Holdings) →
+    (profile : Profile) (image : Image) (store : Held (FileStore D g)) (trees : Trees) (held : Holdings) →
     HoldsDatabase image trees → AreTreesOf held trees →
-    IsTakenFrom image store → HasCleanDisk (file_state store) →
+    IsTakenFrom profile image store → HasCleanDisk (file_state store) →
     IsStoreOf (file_state store).now held
 
 -- ---- from one run to the next
@@ -66,8 +67,8 @@ IsOneOf P (held ∷ others) = P held ⊎ IsOneOf P others
 -- them.
 abbrev pub TakenStoreSurvivesCrash : (D E : Type 0) → Ghosts D → Ghosts E → Type 0
 TakenStoreSurvivesCrash D E g h =
-    (old : Held (FileStore D g)) (image : Image) (store : Held (FileStore E h)) (left : List Holdings) →
+    (old : Held (FileStore D g)) (profile : Profile) (image : Image) (store : Held (FileStore E h)) (left : List Holdings) →
     IsLeftByCrash old image →
     ((trees : Trees) → MayLeaveAfterCrash (file_state old) trees → IsOneOf (λ held. AreTreesOf held trees) left) →
-    IsTakenFrom image store → HasCleanDisk (file_state store) →
+    IsTakenFrom profile image store → HasCleanDisk (file_state store) →
     ∥ IsOneOf (λ held. IsStoreOf (file_state store).now held) left ∥₁

@@ -1,3 +1,4 @@
 pub mod Adopts
 pub mod Opens
 pub mod Crash
+pub mod Widens

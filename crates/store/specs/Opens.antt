@@ -17,6 +17,7 @@ use Rattle.sqlite_store.specs.FileStore.{view}
 use Rattle.sqlite_trees.specs.View.{IsClean}
 use Rattle.store_sql.specs.Fault.{fault_from}
 use Rattle.sqlite.specs.declared.file.Leftover.{Leftover}
+use Rattle.statements_facts.specs.declared.profile.Profile.{Profile}
 use Rattle.statements_facts.specs.Statement.{Holdings}
 use Rattle.store_sql.specs.declared.fault.StoreFault.{StoreFault}
 use Rattle.store_sql.specs.declared.fault.StoreFault.TheVariants.{Schema}
@@ -43,40 +44,41 @@ WantsMemory HotJournal = ⊥
 abbrev pub nothing_held : Image
 nothing_held = record { log = []; db = [] }
 
--- The files held this as they were opened. A connection found a store there, which is taken as it was, or one of version 1, which is migrated.
-pub record IsTakenFrom {D : Type 0} {g : Ghosts D} (image : Image) (store : Held (FileStore D g)) : Type 0 where
+-- The files held this as they were opened. A connection found a store of this profile there, which is taken as it was, or one of version 1,
+-- which is migrated.
+pub record IsTakenFrom {D : Type 0} {g : Ghosts D} (profile : Profile) (image : Image) (store : Held (FileStore D g)) : Type 0 where
   pub conn : Held (FileStore D g)
   pub found : FindsIn image (file_state conn)
   pub opened : IsOpened conn
-  pub was : WasStoreOn conn store
+  pub was : WasStoreOn conn store profile
   pub unchanged : KeepsStoreOn conn store
   pub migrated : MigratesStoreOn conn store
 
--- or it found no table there, and a store is made
-pub record IsMadeFrom {D : Type 0} {g : Ghosts D} (image : Image) (store : Held (FileStore D g)) : Type 0 where
+-- or it found no table there, and a store of this profile is made
+pub record IsMadeFrom {D : Type 0} {g : Ghosts D} (profile : Profile) (image : Image) (store : Held (FileStore D g)) : Type 0 where
   pub conn : Held (FileStore D g)
   pub found : FindsIn image (file_state conn)
   pub opened : IsOpened conn
-  pub created : IsCreatedOn conn store
+  pub created : IsCreatedOn conn store profile
 
 -- the same if the disk returned what was written
-abbrev pub IsTakenFromOn : {D : Type 0} {g : Ghosts D} → Image → Held (FileStore D g) → Type 0
-IsTakenFromOn image store = HasCleanDisk (file_state store) → IsTakenFrom image store
+abbrev pub IsTakenFromOn : {D : Type 0} {g : Ghosts D} → Profile → Image → Held (FileStore D g) → Type 0
+IsTakenFromOn profile image store = HasCleanDisk (file_state store) → IsTakenFrom profile image store
 
-abbrev pub IsMadeFromOn : {D : Type 0} {g : Ghosts D} → Image → Held (FileStore D g) → Type 0
-IsMadeFromOn image store = HasCleanDisk (file_state store) → IsMadeFrom image store
+abbrev pub IsMadeFromOn : {D : Type 0} {g : Ghosts D} → Profile → Image → Held (FileStore D g) → Type 0
+IsMadeFromOn profile image store = HasCleanDisk (file_state store) → IsMadeFrom profile image store
 
 abbrev pub fault_of : {D : Type 0} {g : Ghosts D} → OpenFault D g → StoreFault
 fault_of (Unconnected fault) = fault
 fault_of (Refused refused) = refused.fault
 
--- The fault is for the tables and rows only of a connection that was opened, and where it is still open it shows no store, if the disk
--- returned what was written.
-abbrev pub IsNotOpened : {D : Type 0} {g : Ghosts D} → OpenFault D g → Type 0
-IsNotOpened (Unconnected fault) = fault ≢ Schema
-IsNotOpened (Refused refused) =
+-- The fault is for the tables and rows only of a connection that was opened, and where it is still open it shows no store of this profile,
+-- if the disk returned what was written.
+abbrev pub IsNotOpened : {D : Type 0} {g : Ghosts D} → Profile → OpenFault D g → Type 0
+IsNotOpened profile (Unconnected fault) = fault ≢ Schema
+IsNotOpened profile (Refused refused) =
     HasCleanDisk (file_state refused.conn) → IsTrue (file_state refused.conn).is_open → refused.fault ≡ Schema →
-    IsNoStore (file_state refused.conn).now
+    IsNoStore profile (file_state refused.conn).now
 
 -- the fault is never for the tables and rows
 abbrev pub IsNotMade : {D : Type 0} {g : Ghosts D} → OpenFault D g → Type 0
@@ -84,20 +86,20 @@ IsNotMade (Unconnected fault) = fault ≢ Schema
 IsNotMade (Refused refused) = HasCleanDisk (file_state refused.conn) → refused.fault ≢ Schema
 
 -- Why a connection that was opened on files that held this is not taken for a store, if what is migrated fits; no limit on steps is the
--- cause. If it is for the tables and rows, what the files held is a store of neither version. The connection comes back as it was, if it is
+-- cause. If it is for the tables and rows, what the files held is no store of this profile. The connection comes back as it was, if it is
 -- still open. Why none could be opened is not said.
-pub record RefusesToOpenForCause {D : Type 0} {g : Ghosts D} (image : Image) (refused : refusal.Refused D g) : Type 0 where
+pub record RefusesToOpenForCause {D : Type 0} {g : Ghosts D} (profile : Profile) (image : Image) (refused : refusal.Refused D g) : Type 0 where
   pub conn : Held (FileStore D g)
   pub found : FindsIn image (file_state conn)
   pub opened : IsOpened conn
   pub unlimited : IsUnlimited (file_state conn)
   pub stays : StaysIfOpen (file_state conn) (file_state refused.conn)
-  pub neither : refused.fault ≡ Schema → IsNoStore (file_state conn).now
+  pub neither : refused.fault ≡ Schema → IsNoStore profile (file_state conn).now
   pub caused : FitsVersion2 (file_state conn).now → AdoptIsCaused (file_state conn) (file_state refused.conn) refused.fault
 
-abbrev pub IsNotOpenedForCause : {D : Type 0} {g : Ghosts D} → Image → OpenFault D g → Type 0
-IsNotOpenedForCause image (Unconnected fault) = ⊤
-IsNotOpenedForCause image (Refused refused) = HasCleanDisk (file_state refused.conn) → RefusesToOpenForCause image refused
+abbrev pub IsNotOpenedForCause : {D : Type 0} {g : Ghosts D} → Profile → Image → OpenFault D g → Type 0
+IsNotOpenedForCause profile image (Unconnected fault) = ⊤
+IsNotOpenedForCause profile image (Refused refused) = HasCleanDisk (file_state refused.conn) → RefusesToOpenForCause profile image refused
 
 -- the same where a store is made in an empty database
 pub record RefusesToMakeForCause {D : Type 0} {g : Ghosts D} (image : Image) (refused : refusal.Refused D g) : Type 0 where

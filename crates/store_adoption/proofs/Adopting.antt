@@ -19,18 +19,21 @@ use Rattle.sqlite_schema.specs.Rules.{has_computed, passes}
 use Rattle.store_sql.specs.declared.origin.Origin.{Origin}
 use Rattle.store_sql.specs.declared.origin.Origin.TheVariants.{Made, Migrated}
 use Rattle.store_sql.specs.Tables.{version_1_schema, store_schema, crls_tree, entries_tree, meta_table, issuers_table, ocsp_table, scoped_crls_table, scoped_entries_table}
+use Rattle.statements_facts.specs.declared.profile.Profile.{Profile}
+use Rattle.statements_facts.specs.declared.profile.Profile.TheVariants.{Stated, Wide}
 use Rattle.statements_facts.specs.declared.scope.Scope.TheVariants.{All, User, Ca}
 use Rattle.statements_facts.specs.declared.single.Status.TheVariants.{Good, Revoked, Unknown}
 use Rattle.store_rows.specs.Places.{IsInside}
-use Rattle.store_rows.specs.Contents.{head_of, scope_number, status_number, reason_number, IssuerRow, CrlRow, EntryRow, SingleRow, Contents, issuer_row, crl_row, entry_row, single_row}
+use Rattle.store_rows.specs.Contents.{head_of, scope_number, status_number, reason_number, IssuerRow, CrlRow, EntryRow, SingleRow, Contents, issuer_row, crl_row, entry_row, single_row, version_number, version_row}
+use Rattle.statements_facts.specs.Statement.{Holdings}
 use Rattle.store_rows.specs.Holding.{HasReason, HasRoom, HasByte, IsSaid, IsNumbered, next_id}
 use Rattle.sqlite_trees.specs.declared.store.Shape.TheVariants.{Table}
 use Rattle.sqlite_trees.specs.View.{IsShaped, is_int}
 use Rattle.store_sql.proofs.Laws.{less_is}
 use Rattle.store_rows.proofs.Laws.{value_back}
-use Rattle.store_maps.specs.Held.{held_in}
+use Rattle.store_maps.specs.Held.{IsStoreOf, held_in}
 use Rattle.store_adoption.specs.Cells.{cell_natural, HasNumber, IsIssuerCells, IsCrlCells, IsSingleCells, IsEntryCells, IsVersionCells, AreChained, entry_of_row, next_after}
-use Rattle.store_adoption.specs.Inspects.{TablesAreInOrder, InOrder, IsStore, HasHeads, HasEntries, version_cells, issuer_cells, crl_columns, single_cells, entry_cells}
+use Rattle.store_adoption.specs.Inspects.{TablesAreInOrder, InOrder, IsStore, IsStoreUnder, HasHeads, HasEntries, HasRows, HasProfile, HasVersionOf, version_cells, issuer_cells, crl_columns, single_cells, entry_cells}
 use Rattle.store_adoption.proofs.Chained.{placed_of_chain, chain_of_placed}
 use Rattle.store_adoption.proofs.Typed.{IsKeyed, HasId, keyed_rows, rows_with_id}
 use Rattle.store_adoption.proofs.Decoded.{all_is, all_read, all_shown, issuer_in, issuer_is, crl_in, crl_is, single_in, single_is, entry_is, reason_fits}
@@ -159,8 +162,8 @@ next_same rows = go 1 rows
     go start [] = refl
     go start (r ∷ rs) = go (cell_natural (column r 0) + 1) rs
 
-pub store_of : (origin : Origin) (db : Database) → db.schema ≡ store_schema origin → IsDatabase db → TablesAreInOrder db → HasHeads origin db → HasEntries origin db → IsStore db
-store_of origin db has sound ordered heads entries =
+pub store_of : (profile : Profile) (origin : Origin) (db : Database) → db.schema ≡ store_schema origin → IsDatabase db → TablesAreInOrder db → HasVersionOf profile db → HasRows origin db → IsStoreUnder profile db
+store_of profile origin db has sound ordered version (heads, entries) =
     let o = in_order origin db has ordered in
     let t = typed origin db has sound o in
     let next = next_after (map issuer_cells (db.trees 1)) in
@@ -168,7 +171,7 @@ store_of origin db has sound ordered heads entries =
     let crls = map crl_in (db.trees (crls_tree origin)) in
     let singles = map single_in (db.trees 3) in
     let placed = map stored_entry (db.trees (entries_tree origin)) in
-    let it : Contents = record { issuers = issuers; crls = crls; entries = placed; singles = singles } in
+    let it : Contents = record { profile = profile; issuers = issuers; crls = crls; entries = placed; singles = singles } in
     let issuers_are = all_is (HasId issuer_spec) IsIssuerCells issuer_cells issuer_row issuer_in read_issuer (db.trees 1) t.issuers heads.issuers in
     let crls_are = all_is (IsKeyed crl_spec) (IsCrlCells next) crl_columns crl_row crl_in (read_crl next) (db.trees (crls_tree origin)) t.crls heads.crls in
     let singles_are = all_is (IsKeyed single_spec) (IsSingleCells next) single_cells single_row single_in (read_single next) (db.trees 3) t.singles heads.singles in
@@ -180,7 +183,7 @@ store_of origin db has sound ordered heads entries =
         rows = record {
           schema_is = has;
           sound = sound;
-          version = version_is 2 (db.trees 0) t.versions heads.version.0 heads.version.1;
+          version = version_is (version_number profile) (db.trees 0) t.versions version.0 version.1;
           issuers = issuers_are;
           singles = singles_are;
           crls = crls_are;
@@ -203,6 +206,7 @@ store_of origin db has sound ordered heads entries =
         };
         held_is = refl;
       },
+      refl,
     )
 
 -- ---- and back
@@ -256,7 +260,6 @@ heads_of origin db has it =
     let next_is : next_id s.contents.issuers ≡ next = next_back s.contents.issuers ∙ ap (λ rows. next_after (map issuer_cells rows)) (sym r.issuers) in
     let crls_are : db.trees (crls_tree origin) ≡ map crl_row s.contents.crls = ap (λ o. db.trees (crls_tree o)) (sym same) ∙ r.crls in
     record {
-      version = subst (λ rows. AllByRecursion (IsVersionCells 2) (map version_cells rows) × (length (map version_cells rows) ≡ 1)) (sym r.version) (((refl, refl), tt), refl);
       issuers = subst (λ rows. AllByRecursion IsIssuerCells (map issuer_cells rows)) (sym r.issuers) (all_shown (λ (x : IssuerRow). HasRoom x.id) IsIssuerCells issuer_row issuer_cells (λ x room. (refl, room)) s.contents.issuers s.form.ids);
       crls = subst (λ rows. AllByRecursion (IsCrlCells next) (map crl_columns rows)) (sym crls_are)
           (all_shown (λ (x : CrlRow). IsNumbered (head_of x) × (x.issuer < next_id s.contents.issuers)) (IsCrlCells next) crl_row crl_columns
@@ -265,6 +268,12 @@ heads_of origin db has it =
           (all_shown (λ (x : SingleRow). IsSaid x.fact × (x.issuer < next_id s.contents.issuers)) (IsSingleCells next) single_row single_cells
           (λ x h. ((refl, subst (λ n. x.issuer < n) next_is h.1), (refl, few_statuses x.fact.status), (refl, few_reasons x.fact.status h.0), told x.fact.status)) s.contents.singles (both_all _ _ s.contents.singles s.form.statuses s.owned.singles));
     }
+
+pub version_of_store : (db : Database) → IsStore db → HasProfile db
+version_of_store db it =
+    let r = it.1.rows in
+    let profile = it.1.contents.profile in
+    (profile, subst (λ rows. AllByRecursion (IsVersionCells (version_number profile)) (map version_cells rows) × (length (map version_cells rows) ≡ 1)) (sym r.version) (((refl, refl), tt), refl))
 
 pub entries_of : (origin : Origin) (db : Database) → db.schema ≡ store_schema origin → IsStore db → HasEntries origin db
 entries_of origin db has it =
@@ -281,6 +290,26 @@ entries_of origin db has it =
   where
     fits : (x : EntryRow) → IsInside x → x.place < 18446744073709551616
     fits x i = let a = i.issuer in let b = i.scope in let c = i.high in omega arith
+
+pub rows_of : (origin : Origin) (db : Database) → db.schema ≡ store_schema origin → IsStore db → HasRows origin db
+rows_of origin db has it = (heads_of origin db has it, entries_of origin db has it)
+
+-- a database is a store of one profile
+numbered_apart : (one other : Profile) → version_number one ≡ version_number other → one ≡ other
+numbered_apart Stated Stated same = refl
+numbered_apart Wide Wide same = refl
+numbered_apart Stated Wide same = absurd (omega (arith, same))
+numbered_apart Wide Stated same = absurd (omega (arith, same))
+
+same_number : (one other : ℕ) → (Int (pos 1) ∷ Null ∷ Int (pos one) ∷ []) ∷ [] ≡ (Int (pos 1) ∷ Null ∷ Int (pos other) ∷ []) ∷ [] → one ≡ other
+same_number one other rows = cc
+
+pub one_profile : (db : Database) (one other : Holdings) → IsStoreOf db one → IsStoreOf db other → one.profile ≡ other.profile
+one_profile db one other a b =
+    let rows : version_row a.contents.profile ∷ [] ≡ version_row b.contents.profile ∷ [] = sym a.rows.version ∙ b.rows.version in
+    ap (λ (h : Holdings). h.profile) (sym a.held_is)
+    ∙ numbered_apart a.contents.profile b.contents.profile (same_number _ _ rows)
+    ∙ ap (λ (h : Holdings). h.profile) b.held_is
 
 -- ---- the rows of a store stand in the order of their ids
 

@@ -1,5 +1,5 @@
 -- The laws that other crates may cite.
-pub use Rattle.store_adoption.proofs.Adopting.{order_of_store, not_version_1, one_origin, few_scopes, few_statuses, few_reasons, numbered, both_all}
+pub use Rattle.store_adoption.proofs.Adopting.{order_of_store, one_profile, not_version_1, one_origin, few_scopes, few_statuses, few_reasons, numbered, both_all}
 pub use Rattle.store_adoption.proofs.Answered.{answered}
 pub use Rattle.store_adoption.proofs.Decoded.{all_shown}
 pub use Rattle.store_adoption.proofs.Following.{all_here}

@@ -10,6 +10,7 @@ mod Typed
 mod Inspecting
 mod Placed
 mod Decoded
+mod Versions
 mod Adopting
 mod WithoutScopes
 pub mod Laws

@@ -1,6 +1,7 @@
 -- Values as the columns have them, and the rows that a store writes.
-use Rattle.std.specs.Prelude.{◌≡◌, ◌<◌, ◌+◌, ◌^◌, ◌⊎◌, ⊤, ℕ, ℤ, pos, List, [], ◌∷◌, fold, Option, Some, None, Result, Err}
+use Rattle.std.specs.Prelude.{◌≡◌, ◌<◌, ◌+◌, ◌^◌, ◌⊎◌, ⊤, ℕ, ℤ, pos, List, [], ◌∷◌, fold, length, Option, Some, None, Result, Err}
 use Rattle.std.specs.Global.{Vec}
+use Rattle.std.specs.List.{AllByRecursion}
 use Rattle.asn.specs.Integer.{binary_value}
 use Rattle.asn.specs.NumberLaws.{number_octets}
 use Rattle.sqlite.specs.declared.types.Value.{Value}
@@ -64,6 +65,15 @@ ReadsNumber row at number = HasNumber (column row at) × (cell_number (column ro
 
 abbrev pub IsVersionCells : ℕ → Row → Type 0
 IsVersionCells version row = (column row 0 ≡ Int (pos 1)) × (column row 1 ≡ Int (pos version))
+
+-- no row, or the one of this version
+abbrev pub AreRowsOfVersion : Option ℕ → List Row → Type 0
+AreRowsOfVersion None rows = rows ≡ []
+AreRowsOfVersion (Some version) rows = AllByRecursion (IsVersionCells version) rows × (length rows ≡ 1)
+
+-- the one row of a version that there is
+abbrev pub AreVersionRows : List Row → Type 0
+AreVersionRows rows = (version : ℕ) × (version < 4) × AreRowsOfVersion (Some version) rows
 
 abbrev pub IsIssuerCells : Row → Type 0
 IsIssuerCells row = HasNatural 536870911 (column row 0)

@@ -4,7 +4,8 @@ use Rattle.sqlite_trees.specs.declared.store.Store.{Ghosts}
 use Rattle.sqlite.specs.Effect.{Database}
 use Rattle.sqlite.specs.Held.{Held, state}
 use Rattle.sqlite.specs.State.{State, HasCleanDisk, KeepsCommit, Survives}
-use Rattle.statements_facts.specs.Statement.{empty_holdings}
+use Rattle.statements_facts.specs.declared.profile.Profile.{Profile}
+use Rattle.statements_facts.specs.Statement.{empty_under}
 use Rattle.store_sql.specs.declared.fault.StoreFault.{StoreFault}
 use Rattle.store_sql.specs.declared.fault.StoreFault.TheVariants.{Store, Schema}
 use Rattle.store_sql.specs.Cause.{MayRefuse}
@@ -19,29 +20,29 @@ HasTables db = db.schema ≢ no_schema
 abbrev pub IsSettled : State → Type 0
 IsSettled s = IsTrue s.is_open → s.now ≡ s.committed
 
--- the database was empty, and is a store that holds nothing; this is committed
-pub record IsCreated (old new : State) : Type 0 where
+-- the database was empty, and is a store of this profile that holds nothing; this is committed
+pub record IsCreated (profile : Profile) (old new : State) : Type 0 where
   pub was_open : IsTrue old.is_open
   pub was_empty : old.now.schema ≡ no_schema
   pub is_open : IsTrue new.is_open
-  pub store : IsStoreOf new.now empty_holdings
+  pub store : IsStoreOf new.now (empty_under profile)
   pub committed_is : new.committed ≡ new.now
 
-abbrev pub Creates : {A : Type 0} → State → State → Result A StoreFault → Type 0
-Creates old new (Ok done) = IsCreated old new
-Creates old new (Err fault) = KeepsCommit old new × (fault ≢ Schema)
+abbrev pub Creates : {A : Type 0} → Profile → State → State → Result A StoreFault → Type 0
+Creates profile old new (Ok done) = IsCreated profile old new
+Creates profile old new (Err fault) = KeepsCommit old new × (fault ≢ Schema)
 
 -- over an empty database the fault `Store` has a cause: the database may refuse
 abbrev pub CreateIsCaused : State → State → StoreFault → Type 0
 CreateIsCaused old new fault = fault ≡ Store → old.now.schema ≡ no_schema → MayRefuse old new
 
 -- the same of a call on a connection, if the disk has returned what was written
-abbrev pub CreatesOn : {S A : Type 0} → Ghosts S → Held S → Held S → Result A StoreFault → Type 0
-CreatesOn g old new result = HasCleanDisk (state g new) → Creates (state g old) (state g new) result
+abbrev pub CreatesOn : {S A : Type 0} → Ghosts S → Profile → Held S → Held S → Result A StoreFault → Type 0
+CreatesOn g profile old new result = HasCleanDisk (state g new) → Creates profile (state g old) (state g new) result
 
 abbrev pub CreatesForCause : {S A : Type 0} → Ghosts S → Held S → Held S → Result A StoreFault → Type 0
 CreatesForCause g old new result = HasCleanDisk (state g new) → IfErr result (CreateIsCaused (state g old) (state g new))
 
 -- a crash leaves what it could leave before, or a store that holds nothing
-abbrev pub MayLeaveEmptyStore : State → State → Type 0
-MayLeaveEmptyStore old new = Survives old new (AreTreesOf empty_holdings)
+abbrev pub MayLeaveEmptyStore : Profile → State → State → Type 0
+MayLeaveEmptyStore profile old new = Survives old new (AreTreesOf (empty_under profile))

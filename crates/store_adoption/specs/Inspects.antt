@@ -9,12 +9,14 @@ use Rattle.sqlite.specs.State.{State, HasCleanDisk, IsUnchanged, KeepsCommit}
 use Rattle.sqlite_trees.specs.declared.store.Shape.TheVariants.{Table}
 use Rattle.sqlite_trees.specs.declared.store.Store.{Ghosts}
 use Rattle.sqlite_trees.specs.View.{IsShaped}
+use Rattle.statements_facts.specs.declared.profile.Profile.{Profile}
 use Rattle.statements_facts.specs.Statement.{Holdings}
 use Rattle.store_sql.specs.Cause.{MayRefuse}
 use Rattle.store_sql.specs.declared.origin.Origin.{Origin}
 use Rattle.store_sql.specs.declared.fault.StoreFault.{StoreFault}
 use Rattle.store_sql.specs.declared.fault.StoreFault.TheVariants.{Store, Schema}
 use Rattle.store_sql.specs.Tables.{version_1_schema, store_schema, crls_tree, entries_tree}
+use Rattle.store_rows.specs.Contents.{version_number}
 use Rattle.store_maps.specs.Held.{IsStoreOf}
 use Rattle.store_adoption.specs.Version1.{UnscopedCrl, UnscopedEntry, IsVersion1, HasLists}
 use Rattle.store_adoption.specs.Cells.{IsVersionCells, IsIssuerCells, IsUnscopedCrlCells, IsUnscopedEntryCells, unscoped_crl_in, unscoped_entry_in, next_after, IsCrlCells, IsSingleCells, IsEntryCells, AreChained, entry_of_row}
@@ -50,6 +52,10 @@ LacksVersion1 db = db.schema ≢ version_1_schema
 abbrev pub IsStore : Database → Type 0
 IsStore db = (held : Holdings) × IsStoreOf db held
 
+-- of one of this profile
+abbrev pub IsStoreUnder : Profile → Database → Type 0
+IsStoreUnder profile db = (held : Holdings) × IsStoreOf db held × (held.profile ≡ profile)
+
 -- nothing changes, and this holds; or a fault, which is for the rows only where that does not hold
 abbrev pub Checks : {A : Type 0} → State → State → (A → Database → Type 0) → (Database → Type 0) → Result A StoreFault → Type 0
 Checks old new P Q (Ok answer) = IsUnchanged old new × (TablesAreInOrder old.now → P answer old.now)
@@ -59,8 +65,9 @@ Checks old new P Q (Err fault) = KeepsCommit old new × (fault ≡ Schema → Ta
 abbrev pub ReadsVersion1 : {A : Type 0} → State → State → (A → List UnscopedCrl) → (A → List UnscopedEntry) → Result A StoreFault → Type 0
 ReadsVersion1 old new crls entries result = Checks old new (λ lists. HasLists (crls lists) (entries lists)) IsVersion1 result
 
-abbrev pub Inspects : {A : Type 0} → State → State → Result A StoreFault → Type 0
-Inspects old new result = Checks old new (λ done. IsStore) IsStore result
+-- what is answered is the profile of a store
+abbrev pub Inspects : State → State → Result Profile StoreFault → Type 0
+Inspects old new result = Checks old new IsStoreUnder IsStore result
 
 -- a table has as many rows as a reading counts
 abbrev pub HasTooMany : Database → Type 0
@@ -89,7 +96,7 @@ ReadsOn g old new P IsShown result = ChecksOn g old new (λ answer db. P db × I
 abbrev pub ReadsVersion1On : {S A : Type 0} → Ghosts S → Held S → Held S → (A → List UnscopedCrl) → (A → List UnscopedEntry) → Result A StoreFault → Type 0
 ReadsVersion1On g old new crls entries result = HasCleanDisk (state g new) → ReadsVersion1 (state g old) (state g new) crls entries result
 
-abbrev pub InspectsOn : {S A : Type 0} → Ghosts S → Held S → Held S → Result A StoreFault → Type 0
+abbrev pub InspectsOn : {S : Type 0} → Ghosts S → Held S → Held S → Result Profile StoreFault → Type 0
 InspectsOn g old new result = HasCleanDisk (state g new) → Inspects (state g old) (state g new) result
 
 abbrev pub HasSchema : {S : Type 0} → Ghosts S → Held S → TheSchema → Type 0
@@ -102,6 +109,13 @@ version_cells row = column row 0 ∷ column row 2 ∷ []
 
 abbrev pub HasVersion : ℕ → Database → Type 0
 HasVersion version db = AllByRecursion (IsVersionCells version) (map version_cells (db.trees 0)) × (length (map version_cells (db.trees 0)) ≡ 1)
+
+-- the version of the tables of a profile
+abbrev pub HasVersionOf : Profile → Database → Type 0
+HasVersionOf profile = HasVersion (version_number profile)
+
+abbrev pub HasProfile : Database → Type 0
+HasProfile db = (profile : Profile) × HasVersionOf profile db
 
 abbrev pub issuer_cells : Row → Row
 issuer_cells row = column row 0 ∷ []
@@ -142,10 +156,13 @@ HasEntries origin db = AllByRecursion IsEntryCells (map entry_cells (db.trees (e
 
 -- issuers, and what stands under their ids
 pub record HasHeads (origin : Origin) (db : Database) : Type 0 where
-  pub version : HasVersion 2 db
   pub issuers : HasIssuers db
   pub crls : HasCrls origin (next_after (map issuer_cells (db.trees 1))) db
   pub singles : HasSingles (next_after (map issuer_cells (db.trees 1))) db
+
+-- all rows but that of the version
+abbrev pub HasRows : Origin → Database → Type 0
+HasRows origin db = HasHeads origin db × HasEntries origin db
 
 -- ---- the same of version 1
 

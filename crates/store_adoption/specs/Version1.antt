@@ -6,6 +6,7 @@ use Rattle.sqlite.specs.declared.types.Value.TheVariants.{Null, Int}
 use Rattle.sqlite.specs.Order.{Row}
 use Rattle.sqlite.specs.Effect.{Database, IsDatabase}
 use Rattle.sqlite_trees.specs.Tree.{IsAscending}
+use Rattle.statements_facts.specs.declared.profile.Profile.TheVariants.{Stated}
 use Rattle.statements_facts.specs.declared.scope.Scope.{Scope}
 use Rattle.statements_facts.specs.declared.scope.Scope.TheVariants.{All, User, Ca}
 use Rattle.statements_facts.specs.Listed.{ListedSerial, first_reason}
@@ -88,13 +89,14 @@ for_all_certificates Ca fact = None
 
 -- issuers and what responses say are as in version 2
 abbrev pub without_lists : UnscopedContents → Contents
-without_lists it = record { issuers = it.issuers; crls = []; entries = []; singles = it.singles }
+without_lists it = record { profile = Stated; issuers = it.issuers; crls = []; entries = []; singles = it.singles }
 
 abbrev pub unscoped_entries : UnscopedContents → List UnscopedEntry
 unscoped_entries it = map (λ row. row.entry) it.entries
 
 abbrev pub held_in_version_1 : UnscopedContents → Holdings
 held_in_version_1 it = record {
+  profile = Stated;
   crl = λ slot. for_all_certificates slot.scope (option_and_then (unscoped_crl_under it.crls (unscoped_entries it)) (id_of it.issuers slot.issuer));
   ocsp = (held_in (without_lists it)).ocsp;
 }

@@ -16,7 +16,7 @@ mod version_test;
 
 pub use cell::{below, blob, number, signed};
 pub use creation::create;
-pub use inspection::inspect;
+pub use inspection::{inspect, inspect_under};
 pub use row_test::{RowTest, test_rows};
 pub use unscoped::{OwnEntry, UnscopedList, UnscopedLists};
 pub use version_1::read_version_1;

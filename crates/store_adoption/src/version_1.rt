@@ -14,7 +14,7 @@ use crate::row_test::test_rows;
 use crate::single_test::SingleTest;
 use crate::unscoped::{OwnEntry, UnscopedList, UnscopedLists};
 use crate::unscoped_test::{ListTest, OwnTest};
-use crate::version_test::VersionTest;
+use crate::version_test::{VersionTest, is_version};
 use sqlite::{Alter, Connection};
 use std::alloc::Global;
 use store_sql::{StoreFault, is_version_1};
@@ -27,12 +27,9 @@ fn read_version<S: Alter>(conn: &mut Connection<S>) -> Result<(), StoreFault>
     ensures caused { ChecksForCause S.Store conn.old conn.new result }
     ensures survives { CommitsNothing (state S.Store conn.old) (state S.Store conn.new) }
 {
-    let mut test = VersionTest {
-        version: 1,
-        found: false,
-    };
+    let mut test = VersionTest { version: None };
     test_rows(conn, "SELECT id, version FROM meta ORDER BY id", &mut test)?;
-    if test.found {
+    if is_version(test.version, 1) {
         Ok(())
     } else {
         Err(StoreFault::Schema)

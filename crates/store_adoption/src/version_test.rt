@@ -1,6 +1,6 @@
 //! The version of the tables.
 
-ghost use Rattle.std.specs.Prelude.{◌≡◌, ◌<◌, OnOk, Err, ◌≢◌};
+ghost use Rattle.std.specs.Prelude.{◌≡◌, ◌<◌, ◌↔◌, ℕ, IfOk, IsTrue, Err, Some, ◌≢◌};
 ghost use Rattle.store_adoption.specs.Cells.{IsVersionCells};
 
 use crate::cell::below;
@@ -8,44 +8,47 @@ use crate::row_test::RowTest;
 use sqlite::Row;
 use store_sql::StoreFault;
 
-/// There is one row, which says this version.
+/// There is one row, which says a version below 4.
 #[derive(Drop)]
 pub(crate) struct VersionTest {
-    pub(crate) version: u32,
-    pub(crate) found: bool,
-    ghost known: { version < 3 },
+    /// The version, if the row was there.
+    pub(crate) version: Option<u32>,
 }
 
-fn is_version(row: &Row, wanted: u32) -> Result<(), StoreFault>
-    requires { wanted < 3 }
-    ensures ok { OnOk result (IsVersionCells wanted row.now) }
-    ensures schema { result ≡ Err StoreFault.Schema → IsVersionCells wanted row.now → ⊥ }
+/// Whether it is this version.
+pub(crate) fn is_version(version: Option<u32>, wanted: u32) -> bool
+    ensures { IsTrue result ↔ (version ≡ Some wanted) }
+{
+    version == Some(wanted)
+}
+
+fn version_in(row: &Row) -> Result<u32, StoreFault>
+    ensures ok { IfOk result (λ version. IsVersionCells version row.now) }
+    ensures schema { result ≡ Err StoreFault.Schema
+        → (version : ℕ) → version < 4 → IsVersionCells version row.now → ⊥ }
     ensures cell { result ≢ Err StoreFault.Store }
 {
     let id = below(row, 0, 2)?;
-    let version = below(row, 1, 3)?;
-    if id == 1 && version == wanted {
-        Ok(())
+    let version = below(row, 1, 4)?;
+    if id == 1 {
+        Ok(version)
     } else {
         Err(StoreFault::Schema)
     }
 }
 
 impl RowTest for VersionTest {
-    ghost use Rattle.std.specs.Prelude.{◌≡◌, length, if◌then◌else◌};
-    ghost use Rattle.std.specs.List.{AllByRecursion};
-    ghost use Rattle.store_adoption.specs.Cells.{IsVersionCells};
+    ghost use Rattle.store_adoption.specs.Cells.{AreVersionRows, AreRowsOfVersion};
 
-    ghost passed = { λ test rows. AllByRecursion (IsVersionCells test.version) rows × (length rows ≡ (if test.found then 1 else 0)) };
+    ghost passed = { λ test rows. AreRowsOfVersion test.version rows };
 
-    ghost are_formed = { λ test rows. AllByRecursion (IsVersionCells test.version) rows × (length rows ≡ 1) };
+    ghost are_formed = { λ test rows. AreVersionRows rows };
 
     fn take(&mut self, row: &Row) -> Result<(), StoreFault> {
-        if self.found {
+        if self.version.is_some() {
             return Err(StoreFault::Schema);
         }
-        is_version(row, self.version)?;
-        self.found = true;
+        self.version = Some(version_in(row)?);
         Ok(())
     }
 }

@@ -187,4 +187,4 @@ module _ (it : Contents) (slot : CrlSlot) (id : ℕ) (head : CrlHead) (listed : 
   ]
 
   pub list_held : held_in after ≡ with_crl_fact (held_in it) slot (fact_of_rows head listed)
-  list_held = let crls = fun_ext at_slot in λ i. record { crl = crls i; ocsp = (held_in it).ocsp }
+  list_held = let crls = fun_ext at_slot in λ i. record { profile = it.profile; crl = crls i; ocsp = (held_in it).ocsp }

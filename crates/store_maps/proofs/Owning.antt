@@ -64,4 +64,4 @@ module _ (it : Contents) (owned : IsOwned it) (identity : IssuerIdentity) where
   same_held =
       let crls = fun_ext (λ slot. same_look (crl_under it slot.scope) slot.issuer (ap (option_map _) (find_none (is_crl_of new slot.scope) it.crls (no_crls slot.scope it.crls owned.crls)))) in
       let singles = fun_ext (λ slot. same_look (ocsp_under it slot.name_hash slot.serial) slot.issuer (ap (option_map said_of) (find_none (is_single_of new slot.name_hash slot.serial) it.singles (no_singles slot.name_hash slot.serial it.singles owned.singles)))) in
-      λ i. record { crl = crls i; ocsp = singles i }
+      λ i. record { profile = it.profile; crl = crls i; ocsp = singles i }

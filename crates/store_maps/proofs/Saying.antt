@@ -74,4 +74,4 @@ module _ (it : Contents) (slot : OcspSlot) (id : ℕ) (fact : OcspFact) (rise : 
   ]
 
   pub single_held : held_in after ≡ with_ocsp_fact (held_in it) slot fact
-  single_held = let singles = fun_ext at_slot in λ i. record { crl = (held_in it).crl; ocsp = singles i }
+  single_held = let singles = fun_ext at_slot in λ i. record { profile = it.profile; crl = (held_in it).crl; ocsp = singles i }

@@ -28,6 +28,7 @@ ocsp_under it name_hash serial id = option_map said_of (find (is_single_of id na
 
 abbrev pub held_in : Contents → Holdings
 held_in it = record {
+  profile = it.profile;
   crl = λ slot. option_and_then (crl_under it slot.scope) (id_of it.issuers slot.issuer);
   ocsp = λ slot. option_and_then (ocsp_under it slot.name_hash slot.serial) (id_of it.issuers slot.issuer);
 }

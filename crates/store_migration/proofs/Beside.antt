@@ -1,26 +1,21 @@
 -- The tables of version 2 beside those of version 1, and the version.
-use Rattle.std.proofs.Common.{◌≡◌, ℕ, ℤ, pos, List, [], ◌∷◌, ◌<◌, Bool, true, false, cond, None, Ok, refl, ◌∙◌, arith}
+use Rattle.std.proofs.Common.{◌≡◌, ℕ, pos, List, [], ◌∷◌, ◌<◌, None, Ok, refl, ◌∙◌}
 use Rattle.std.specs.List.{AllByRecursion}
-use Rattle.sqlite.specs.declared.types.Value.TheVariants.{Null, Int}
-use Rattle.sqlite.specs.declared.types.Value.{Value}
-use Rattle.sqlite.specs.Kind.TheVariants.{Integer}
-use Rattle.sqlite.specs.Cast.{cast}
-use Rattle.sqlite.specs.Ops.{unary}
-use Rattle.sqlite_rules.specs.Cast.{as_integer}
+use Rattle.sqlite.specs.declared.types.Value.TheVariants.{Int}
 use Rattle.sqlite.specs.State.{State, ExecutesInside}
 use Rattle.statements_facts.specs.declared.scope.Scope.{Scope}
 use Rattle.statements_facts.specs.declared.scope.Scope.TheVariants.{All, User, Ca}
 use Rattle.statements_facts.specs.Statement.{Holdings}
 use Rattle.store_sql.specs.declared.origin.Origin.TheVariants.{Migrated}
 use Rattle.store_sql.specs.Texts.{create_scoped_crls, create_scoped_entries, delete_version, insert_version}
-use Rattle.store_sql.specs.Queries.{is_param}
 use Rattle.store_sql.specs.Tables.{version_1_schema, half_schema, store_schema, scoped_crls_table, scoped_entries_table}
-use Rattle.store_sql.proofs.Laws.{Leaves, makes, makes_crls, makes_entries, deletes_version, inserts_version, deletes_by, inserts_at, passing, equal_ints}
+use Rattle.store_sql.proofs.Laws.{Leaves, makes, makes_crls, makes_entries}
 use Rattle.store_rows.specs.Contents.{SingleRow}
 use Rattle.store_rows.specs.Holding.{IsSaid, next_id}
-use Rattle.store_adoption.specs.Version1.{UnscopedCrl, UnscopedEntry, without_lists, unscoped_crl_under, for_all_certificates, version_1_row}
+use Rattle.store_adoption.specs.Version1.{UnscopedCrl, UnscopedEntry, without_lists, unscoped_crl_under, for_all_certificates}
 use Rattle.store_taking.specs.Passing.{HasStepped}
 use Rattle.store_migration.specs.Moved.{IsOld, HasNewTables, HasMoved}
+use Rattle.store_migration.proofs.VersionRow.{row_goes, row_comes, others_kept}
 
 -- ---- the tables
 
@@ -52,25 +47,6 @@ tables_made old mid new one two crls entries a b = record {
 
 -- ---- the version
 
-same_branches : (b : Bool) (x : Value) → cond b x x ≡ x
-same_branches true x = refl
-same_branches false x = refl
-
-cast_null : cast Integer Null ≡ Null
-unfolding unary
-cast_null = same_branches _ Null
-
-cast_int : (n : ℤ) → cast Integer (Int n) ≡ Int n
-unfolding unary
-cast_int n = same_branches _ (Int n)
-
-as_int : (n : ℤ) → as_integer (Int n) ≡ Int n
-unfolding unary
-as_int n = same_branches _ (Int n)
-
-passes_1 : (x : Unit {0}) → passing (is_param 0 0 ∷ []) (Int (pos 1) ∷ []) version_1_row ≡ true
-passes_1 x = rw (equal_ints (pos 1) (pos 1)) refl
-
 all_without : {X : Type 0} (P Q : X → Type 0) (xs : List X) → ((x : X) → P x → Q x) → AllByRecursion P xs → AllByRecursion Q xs
 all_without P Q [] leads h = tt
 all_without P Q (x ∷ xs) leads h = (leads x h.0, all_without P Q xs leads h.1)
@@ -82,10 +58,7 @@ no_list entries id Ca = refl
 
 pub version_gone : (old new : State) (count : ℕ) (crls : List UnscopedCrl) (entries : List UnscopedEntry) (held : Holdings) → HasNewTables crls entries old.now held → ExecutesInside 0 delete_version (Int (pos 1) ∷ []) old new (Ok count)
     → Leaves (store_schema Migrated) 0 old new []
-version_gone old new count crls entries held t a =
-    let x = deletes_version Migrated in
-    deletes_by (store_schema Migrated) 0 _ 0 _ _ _ _ _ refl (λ keys lost news. refl) (λ (u : Unit {0}). version_1_row) (λ u. pos 1) (λ u. refl)
-    delete_version (Int (pos 1) ∷ []) (is_param 0 0 ∷ []) (λ u. true) x.0 x.1 passes_1 (λ u. refl) old new (tt ∷ []) count t.schema_is t.version (tt, tt) a.0
+version_gone old new count crls entries held t run = row_goes Migrated 1 old new count t.schema_is t.version run
 
 pub version_set : (old mid new : State) (one two : ℕ) (crls : List UnscopedCrl) (entries : List UnscopedEntry) → ExecutesInside 0 delete_version (Int (pos 1) ∷ []) old mid (Ok one) → ExecutesInside 0 insert_version (Int (pos 1) ∷ Int (pos 2) ∷ []) mid new (Ok two)
     → HasStepped old new (HasNewTables crls entries) (HasMoved crls entries [])
@@ -94,11 +67,8 @@ version_set old mid new one two crls entries a b = record {
   mode = rw b.1.mode refl;
   held = λ held t.
       let gone = version_gone old mid one crls entries held t a in
-      let y = inserts_version Migrated in
-      let left = inserts_at (store_schema Migrated) 0 _ 0 _ _ _ _ _ refl (λ keys lost news. refl) (λ (n : ℤ). Int n ∷ Null ∷ Int (pos 2) ∷ []) (λ n. n) (λ n. refl) insert_version (Int (pos 1) ∷ Int (pos 2) ∷ []) _ 3 (pos 1) (Null ∷ Int (pos 2) ∷ []) y.0 y.1
-      (rw (as_int (pos 1), cast_null, cast_int (pos 2)) refl) mid new [] two gone.schema_is gone.rows_are b.0 in
-      let g = gone.others in
-      let l = left.others in
+      let left = row_comes Migrated 2 mid new two gone.schema_is gone.rows_are b in
+      let kept = others_kept Migrated old mid new [] _ gone left in
       record {
         it = t.it;
         was = t.was;
@@ -107,10 +77,10 @@ version_set old mid new one two crls entries a b = record {
           schema_is = left.schema_is;
           sound = left.sound;
           version = left.rows_are;
-          issuers = l.1.0 (λ e. omega (arith, e)) ∙ g.1.0 (λ e. omega (arith, e)) ∙ t.issuers;
-          singles = l.1.1.0 (λ e. omega (arith, e)) ∙ g.1.1.0 (λ e. omega (arith, e)) ∙ t.singles;
-          crls = l.1.1.1.1.1.0 (λ e. omega (arith, e)) ∙ g.1.1.1.1.1.0 (λ e. omega (arith, e)) ∙ t.no_crls;
-          entries = l.1.1.1.1.1.1.0 (λ e. omega (arith, e)) ∙ g.1.1.1.1.1.1.0 (λ e. omega (arith, e)) ∙ t.no_entries;
+          issuers = kept.issuers ∙ t.issuers;
+          singles = kept.singles ∙ t.singles;
+          crls = kept.crls ∙ t.no_crls;
+          entries = kept.entries ∙ t.no_entries;
           issuers_rise = t.was.issuers_rise;
           singles_rise = t.was.singles_rise;
           crls_rise = tt;
@@ -127,6 +97,7 @@ version_set old mid new one two crls entries a b = record {
           crls = tt;
           singles = all_without (λ (row : SingleRow). (row.issuer < next_id t.it.issuers) × IsSaid row.fact) (λ row. row.issuer < next_id t.it.issuers) t.it.singles (λ row h. h.0) t.was.form.singles;
         };
+        profile_is = refl;
         issuers_are = refl;
         singles_are = refl;
         lists = no_list entries;

@@ -1,4 +1,5 @@
 mod Old
+mod VersionRow
 mod Beside
 mod ByIssuer
 mod Fitting
@@ -6,3 +7,4 @@ mod Counting
 mod Moving
 mod Stopping
 mod Ending
+mod AsWide

@@ -9,6 +9,7 @@ use Rattle.sqlite.specs.Effect.{Database}
 use Rattle.sqlite.specs.Edit.{next_rowid}
 use Rattle.sqlite.specs.State.{State}
 use Rattle.sqlite_trees.specs.Tree.{IsAscending}
+use Rattle.statements_facts.specs.declared.profile.Profile.TheVariants.{Stated}
 use Rattle.statements_facts.specs.declared.scope.Scope.{Scope}
 use Rattle.statements_facts.specs.declared.scope.Scope.TheVariants.{All, User, Ca}
 use Rattle.statements_facts.specs.Listed.{ListedSerial, first_reason}
@@ -171,6 +172,7 @@ list_moves old new crls entries moved crl listed moves formed room reasons next 
         rows = moves.rows Migrated it m.rows m.form;
         form = entries_in_form (with_crl crl.issuer All crl.head it) crl.issuer 0 listed (crl_in_form it crl.issuer All crl.head m.form fits.1) room (omega arith) formed.few formed.ascend formed.bytes;
         owned = list_owned it crl.issuer All crl.head listed m.owned (subst (λ rows. crl.issuer < next_id rows) (sym m.issuers_are) fits.0);
+        profile_is = m.profile_is;
         issuers_are = m.issuers_are;
         singles_are = m.singles_are;
         lists = stands entries moved crl listed formed room reasons low it m.form m.lists;
@@ -224,14 +226,14 @@ store_of_moved : (db : Database) (crls : List UnscopedCrl) (entries : List Unsco
 store_of_moved db crls entries held m =
     let lists = subst (λ all. (id : ℕ) (scope : Scope) → crl_under m.contents scope id ≡ for_all_certificates scope (unscoped_crl_under all entries id)) (sym m.was.lists.0) m.lists in
     let by_slot = fun_ext (slots m.it m.contents entries m.was.lists.1 m.issuers_are lists) in
-    let ocsp : (held_in m.contents).ocsp ≡ (held_in_version_1 m.it).ocsp = ap₂ (λ issuers singles. (held_in (record { issuers = issuers; crls = []; entries = []; singles = singles })).ocsp) m.issuers_are m.singles_are in
+    let ocsp : (held_in m.contents).ocsp ≡ (held_in_version_1 m.it).ocsp = ap₂ (λ issuers singles. (held_in (record { profile = Stated; issuers = issuers; crls = []; entries = []; singles = singles })).ocsp) m.issuers_are m.singles_are in
     record {
       origin = Migrated;
       contents = m.contents;
       rows = m.rows;
       form = m.form;
       owned = m.owned;
-      held_is = (λ i. record { crl = by_slot i; ocsp = ocsp i }) ∙ m.was.held_is;
+      held_is = (λ i. record { profile = m.profile_is i; crl = by_slot i; ocsp = ocsp i }) ∙ m.was.held_is;
     }
 
 pub stores_pass : (old new : State) (P : Database → Holdings → Type 0) (crls : List UnscopedCrl) (entries : List UnscopedEntry) → HasStepped old new P (HasMoved crls entries crls) → HasStepped old new P IsStoreOf

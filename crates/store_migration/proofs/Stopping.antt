@@ -51,7 +51,7 @@ module _ (old mid new : State) (P Q : Trees → Type 0) (first : Survives old mi
   version_not_set crls entries error count one two e held was =
       let gone = version_gone old mid count crls entries held was one in
       later_refuses old mid new P Q first second clean
-      (version_not_inserted Migrated mid new gone.schema_is gone.rows_are gone.sound error two e)
+      (version_not_inserted Migrated 2 mid new gone.schema_is gone.rows_are gone.sound error two e)
 
 pub crls_not_made : (old new : State) (crls : List UnscopedCrl) (entries : List UnscopedEntry) (error : Error) → ExecutesInside 0 create_scoped_crls [] old new (Err error) → StopIsCaused (IsOld crls entries) old new (fault_from error)
 crls_not_made old new crls entries error one e held was = crls_caused Migrated old new was.rows.schema_is error one e

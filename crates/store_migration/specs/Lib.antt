@@ -3,3 +3,4 @@ pub mod Grouped
 pub mod Moved
 pub mod Migrates
 pub mod Moves
+pub mod Widens

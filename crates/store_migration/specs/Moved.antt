@@ -3,6 +3,7 @@ use Rattle.std.specs.Prelude.{◌≡◌, ◌<◌, ◌<ℤ◌, ◌≤ℤ◌, ◌+
 use Rattle.std.specs.List.{AllByRecursion}
 use Rattle.sqlite.specs.Effect.{Database, IsDatabase}
 use Rattle.sqlite_trees.specs.Tree.{IsAscending}
+use Rattle.statements_facts.specs.declared.profile.Profile.TheVariants.{Stated}
 use Rattle.statements_facts.specs.declared.scope.Scope.{Scope}
 use Rattle.statements_facts.specs.Statement.{Holdings}
 use Rattle.store_sql.specs.declared.origin.Origin.TheVariants.{Migrated}
@@ -43,7 +44,7 @@ pub record HasNewTables (crls : List UnscopedCrl) (entries : List UnscopedEntry)
 abbrev pub IsAmongFirst : ℕ → ℤ → Type 0
 IsAmongFirst count id = (pos 1 ≤ℤ id) × (id ≤ℤ pos count)
 
--- the database is of version 2, and these lists are there, each for all certificates
+-- the database is of version 2, of the stated profile, and these lists are there, each for all certificates
 pub record HasMoved (crls : List UnscopedCrl) (entries : List UnscopedEntry) (moved : List UnscopedCrl) (db : Database) (held : Holdings) : Type 0 where
   pub it : UnscopedContents
   pub was : HeldBefore crls entries it held
@@ -51,6 +52,7 @@ pub record HasMoved (crls : List UnscopedCrl) (entries : List UnscopedEntry) (mo
   pub rows : HasContents db Migrated contents
   pub form : AreInForm contents
   pub owned : IsOwned contents
+  pub profile_is : contents.profile ≡ Stated
   pub issuers_are : contents.issuers ≡ it.issuers
   pub singles_are : contents.singles ≡ it.singles
   pub ids : AllByRecursion (λ row. IsAmongFirst (length moved) row.id) contents.crls

@@ -5,9 +5,9 @@ ghost use Rattle.store_sql.specs.Inside.{inside, IsInTransaction, KeepsReference
 ghost use Rattle.store_migration.specs.Moves.{AddsTables, Prepares, PreparesForCause, SetsVersion, SetsVersionForCause};
 
 use sqlite::{Alter, Transaction};
-use store_sql::{
-    StoreFault, create_scoped_crls, create_scoped_entries, delete_version, insert_version,
-};
+use statements_facts::Profile;
+use store_rows::insert_version_of;
+use store_sql::{StoreFault, create_scoped_crls, create_scoped_entries, delete_version};
 
 fn make_tables<S: Alter>(tx: &mut Transaction<'_, S>) -> Result<(), StoreFault>
     requires inside { IsInTransaction S.Store tx.old }
@@ -29,7 +29,7 @@ fn set_version<S: Alter>(tx: &mut Transaction<'_, S>) -> Result<(), StoreFault>
     ensures survives { CommitsNothing (inside S.Store tx.old) (inside S.Store tx.new) }
 {
     delete_version(tx)?;
-    insert_version(tx, 2)?;
+    insert_version_of(tx, Profile::Stated)?;
     Ok(())
 }
 

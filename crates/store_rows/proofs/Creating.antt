@@ -11,6 +11,8 @@ use Rattle.store_sql.specs.declared.origin.Origin.TheVariants.{Made}
 use Rattle.store_sql.specs.Texts.{create_meta, create_issuers, create_ocsp, create_scoped_crls, create_scoped_entries, insert_version}
 use Rattle.store_sql.specs.Tables.{no_schema, meta_alone, meta_and_issuers, start_schema, half_schema, store_schema, meta_table, issuers_table, ocsp_table, scoped_crls_table, scoped_entries_table}
 use Rattle.store_sql.proofs.Laws.{MakesTable, makes, makes_meta, makes_issuers, makes_ocsp, makes_crls, makes_entries, inserts_version, inserts_at}
+use Rattle.statements_facts.specs.declared.profile.Profile.{Profile}
+use Rattle.store_rows.specs.Contents.{version_number}
 use Rattle.store_rows.specs.Holding.{HasContents, no_contents}
 use Rattle.store_rows.specs.Making.{IsEmptyWith, Advances}
 use Rattle.store_rows.proofs.Terms.{cast_null, cast_int, as_int}
@@ -50,11 +52,13 @@ next_made old mid new one two a b = (
       one_more mid new (start_schema Made) (half_schema Made) (scoped_crls_table 0) (makes mid new create_scoped_crls (start_schema Made) (scoped_crls_table 0) two half.schema_is y.0 y.1 y.2 y.4 refl b.0) y.3 half,
 )
 
-version_added : (old new : State) (count : ℕ) → IsEmptyWith old.now (store_schema Made) → Executes insert_version (Int (pos 1) ∷ Int (pos 2) ∷ []) old new (Ok count) → HasContents new.now Made no_contents
-version_added old new count was h =
+version_added : (profile : Profile) (old new : State) (count : ℕ) → IsEmptyWith old.now (store_schema Made)
+    → Executes insert_version (Int (pos 1) ∷ Int (pos (version_number profile)) ∷ []) old new (Ok count) → HasContents new.now Made (no_contents profile)
+version_added profile old new count was h =
+    let version = pos (version_number profile) in
     let text = inserts_version Made in
-    let left = inserts_at (store_schema Made) 0 _ 0 _ _ _ _ _ refl (λ keys gone news. refl) (λ (n : ℤ). Int n ∷ Null ∷ Int (pos 2) ∷ []) (λ n. n) (λ n. refl) insert_version (Int (pos 1) ∷ Int (pos 2) ∷ []) _ 3 (pos 1) (Null ∷ Int (pos 2) ∷ []) text.0 text.1
-    (rw (as_int (pos 1), cast_null, cast_int (pos 2)) refl) old new [] count was.schema_is was.empty.0 h in
+    let left = inserts_at (store_schema Made) 0 _ 0 _ _ _ _ _ refl (λ keys gone news. refl) (λ (n : ℤ). Int n ∷ Null ∷ Int version ∷ []) (λ n. n) (λ n. refl) insert_version (Int (pos 1) ∷ Int version ∷ []) _ 3 (pos 1) (Null ∷ Int version ∷ []) text.0 text.1
+    (rw (as_int (pos 1), cast_null, cast_int version) refl) old new [] count was.schema_is was.empty.0 h in
     record {
       schema_is = left.schema_is;
       sound = left.sound;
@@ -69,10 +73,11 @@ version_added old new count was h =
       entries_rise = tt;
     }
 
-pub last_made : (old mid new : State) (one two : ℕ) → ExecutesInside 0 create_scoped_entries [] old mid (Ok one) → ExecutesInside 0 insert_version (Int (pos 1) ∷ Int (pos 2) ∷ []) mid new (Ok two)
-    → Advances old new × (IsEmptyWith old.now (half_schema Made) → HasContents new.now Made no_contents)
-last_made old mid new one two a b = (
+pub last_made : (profile : Profile) (old mid new : State) (one two : ℕ) → ExecutesInside 0 create_scoped_entries [] old mid (Ok one)
+    → ExecutesInside 0 insert_version (Int (pos 1) ∷ Int (pos (version_number profile)) ∷ []) mid new (Ok two)
+    → Advances old new × (IsEmptyWith old.now (half_schema Made) → HasContents new.now Made (no_contents profile))
+last_made profile old mid new one two a b = (
   record { was_open = a.1.was_open; is_open = b.1.is_open; committed_is = b.1.committed_is ∙ a.1.committed_is; mode = rw b.1.mode refl },
   λ was. let x = makes_entries Made in
-      version_added mid new two (one_more old mid (half_schema Made) (store_schema Made) (scoped_entries_table 0) (makes old mid create_scoped_entries (half_schema Made) (scoped_entries_table 0) one was.schema_is x.0 x.1 x.2 x.4 refl a.0) x.3 was) b.0,
+      version_added profile mid new two (one_more old mid (half_schema Made) (store_schema Made) (scoped_entries_table 0) (makes old mid create_scoped_entries (half_schema Made) (scoped_entries_table 0) one was.schema_is x.0 x.1 x.2 x.4 refl a.0) x.3 was) b.0,
 )

@@ -28,10 +28,11 @@ module _ (old mid new : State) (P Q : Trees → Type 0) (first : Survives old mi
       let made = makes old mid create_ocsp meta_and_issuers (ocsp_table 0) count was.schema_is x.0 x.1 x.2 x.4 refl one.0 in
       later_refuses old mid new P Q first second clean (crls_caused Made mid new (made.schema_is ∙ x.3) error two is)
 
-  pub version_not_set : ExecutesInside 0 create_scoped_entries [] old mid (Ok count) → ExecutesInside 0 insert_version (Int (pos 1) ∷ Int (pos 2) ∷ []) mid new (Err error) → IsEmptyWith old.now (half_schema Made) → MayRefuse old new
-  version_not_set one two was =
+  pub version_not_set : (version : ℕ) → ExecutesInside 0 create_scoped_entries [] old mid (Ok count)
+      → ExecutesInside 0 insert_version (Int (pos 1) ∷ Int (pos version) ∷ []) mid new (Err error) → IsEmptyWith old.now (half_schema Made) → MayRefuse old new
+  version_not_set version one two was =
       let x = makes_entries Made in
       let made = makes old mid create_scoped_entries (half_schema Made) (scoped_entries_table 0) count was.schema_is x.0 x.1 x.2 x.4 refl one.0 in
       let empty = one_more old mid (half_schema Made) (store_schema Made) (scoped_entries_table 0) made x.3 was in
       later_refuses old mid new P Q first second clean
-      (version_not_inserted Made mid new empty.schema_is empty.empty.0 made.sound error two is)
+      (version_not_inserted Made version mid new empty.schema_is empty.empty.0 made.sound error two is)

@@ -45,29 +45,29 @@ no_version_key Migrated i (inr (inr (inl is))) at = absurd (let t = ap (λ (k : 
 no_version_key Migrated i (inr (inr (inr (inl is)))) at = absurd (let t = ap (λ (k : Index). k.table) is in omega (arith, t, at))
 no_version_key Migrated i (inr (inr (inr (inr none)))) at = absurd none
 
-version_small : (origin : Origin) → ¬ IsOversized (store_schema origin) (meta_table 0) (Int (pos 1) ∷ Null ∷ Int (pos 2) ∷ [])
-version_small origin (inl big) =
-    big (storable (Int (pos 1) ∷ Null ∷ Int (pos 2) ∷ []) (int_is_number (pos 1), (zero_is_number, (int_is_number (pos 2), tt))) (omega arith) (omega arith) (omega arith), omega arith)
-version_small origin (inr keyed) = absurd (no_version_key origin keyed.0 keyed.1 keyed.2)
+version_small : (origin : Origin) (version : ℕ) → ¬ IsOversized (store_schema origin) (meta_table 0) (Int (pos 1) ∷ Null ∷ Int (pos version) ∷ [])
+version_small origin version (inl big) =
+    big (storable (Int (pos 1) ∷ Null ∷ Int (pos version) ∷ []) (int_is_number (pos 1), (zero_is_number, (int_is_number (pos version), tt))) (omega arith) (omega arith) (omega arith), omega arith)
+version_small origin version (inr keyed) = absurd (no_version_key origin keyed.0 keyed.1 keyed.2)
 
 keeps_unique : (origin : Origin) (db : Database) → db.schema ≡ store_schema origin → IsDatabase db → Keeps Unique (store_schema origin) db.trees
 keeps_unique origin db has sound = subst (λ s. Keeps Unique s db.trees) has (sound.obeys.rules Unique)
 
-pub version_not_inserted : (origin : Origin) (old new : State) → old.now.schema ≡ store_schema origin → old.now.trees 0 ≡ [] → IsDatabase old.now
-    → (error : Error) → ExecutesInside 0 insert_version (Int (pos 1) ∷ Int (pos 2) ∷ []) old new (Err error) → fault_from error ≡ Store → MayRefuse old new
-version_not_inserted origin old new has none sound =
+pub version_not_inserted : (origin : Origin) (version : ℕ) (old new : State) → old.now.schema ≡ store_schema origin → old.now.trees 0 ≡ [] → IsDatabase old.now
+    → (error : Error) → ExecutesInside 0 insert_version (Int (pos 1) ∷ Int (pos version) ∷ []) old new (Err error) → fault_from error ≡ Store → MayRefuse old new
+version_not_inserted origin version old new has none sound =
     let text = inserts_version origin in
-    given_caused (store_schema origin) 0 _ 0 _ _ _ _ _ (version_stands origin) (version_alone origin) (no_references origin) (λ (n : ℤ). Int n ∷ Null ∷ Int (pos 2) ∷ []) (λ n. n) (λ n. refl)
-    insert_version (Int (pos 1) ∷ Int (pos 2) ∷ []) _ 3 (Null ∷ Int (pos 2) ∷ []) text.0 text.1 (insert_version_whole origin) (version_insertion_typed (pos 1) (pos 2))
+    given_caused (store_schema origin) 0 _ 0 _ _ _ _ _ (version_stands origin) (version_alone origin) (no_references origin) (λ (n : ℤ). Int n ∷ Null ∷ Int (pos version) ∷ []) (λ n. n) (λ n. refl)
+    insert_version (Int (pos 1) ∷ Int (pos version) ∷ []) _ 3 (Null ∷ Int (pos version) ∷ []) text.0 text.1 (insert_version_whole origin) (version_insertion_typed (pos 1) (pos version))
     old new [] has none (keeps_unique origin old.now has sound) (pos 1)
-    (rw (as_int (pos 1), cast_null, cast_int (pos 2)) refl)
+    (rw (as_int (pos 1), cast_null, cast_int (pos version)) refl)
     (record {
       typed = refl;
       present = refl;
       fits = refl;
       apart = tt;
       new_key = λ i listed at. absurd (no_version_key origin i listed at);
-      small = version_small origin;
+      small = version_small origin version;
     })
 
 pub version_not_deleted : (origin : Origin) (old new : State) → old.now.schema ≡ store_schema origin → IsDatabase old.now

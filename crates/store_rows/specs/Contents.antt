@@ -4,6 +4,8 @@ use Rattle.sqlite.specs.declared.types.Value.TheVariants.{Null, Int, Blob}
 use Rattle.sqlite.specs.declared.types.Value.{Value}
 use Rattle.sqlite.specs.Order.{Row, column}
 use Rattle.asn.specs.NumberLaws.{number_octets}
+use Rattle.statements_facts.specs.declared.profile.Profile.{Profile}
+use Rattle.statements_facts.specs.declared.profile.Profile.TheVariants.{Stated, Wide}
 use Rattle.statements_facts.specs.declared.scope.Scope.{Scope}
 use Rattle.statements_facts.specs.declared.scope.Scope.TheVariants.{All, User, Ca}
 use Rattle.statements_facts.specs.declared.single.Status.{Status}
@@ -80,13 +82,19 @@ entry_row row = Int (pos row.place) ∷ Null ∷ Int (pos row.issuer) ∷ Int (p
 abbrev pub single_row : SingleRow → Row
 single_row row = Int row.id ∷ Int (pos row.issuer) ∷ Blob row.name_hash ∷ Blob row.serial ∷ said_cells row.fact
 
--- the row of the version, which is 2
-abbrev pub version_row : Row
-version_row = Int (pos 1) ∷ Null ∷ Int (pos 2) ∷ []
+-- the version of the tables of each profile
+abbrev pub version_number : Profile → ℕ
+version_number Stated = 2
+version_number Wide = 3
+
+-- its row
+abbrev pub version_row : Profile → Row
+version_row profile = Int (pos 1) ∷ Null ∷ Int (pos (version_number profile)) ∷ []
 
 -- ---- all rows
 
 pub record Contents : Type 0 where
+  pub profile : Profile
   pub issuers : List IssuerRow
   pub crls : List CrlRow
   pub entries : List EntryRow

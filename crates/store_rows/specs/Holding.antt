@@ -4,6 +4,7 @@ use Rattle.std.specs.List.{AllByRecursion}
 use Rattle.sqlite.specs.Effect.{Database, IsDatabase}
 use Rattle.sqlite.specs.Edit.{next_rowid}
 use Rattle.sqlite_trees.specs.Tree.{IsAscending}
+use Rattle.statements_facts.specs.declared.profile.Profile.{Profile}
 use Rattle.statements_facts.specs.declared.scope.Scope.{Scope}
 use Rattle.statements_facts.specs.declared.single.Status.{Status}
 use Rattle.statements_facts.specs.declared.single.Status.TheVariants.{Good, Revoked, Unknown}
@@ -19,11 +20,11 @@ use Rattle.store_rows.specs.declared.entry.ListKey.{ListKey}
 use Rattle.store_rows.specs.Places.{ArePlaced, replaced}
 use Rattle.store_rows.specs.Seen.{seen_head}
 
--- the tables are those of version 2, these are their rows, and ids rise
+-- the tables are those of a store, these are their rows, and ids rise
 pub record HasContents (db : Database) (origin : Origin) (it : Contents) : Type 0 where
   pub schema_is : db.schema ≡ store_schema origin
   pub sound : IsDatabase db
-  pub version : db.trees 0 ≡ version_row ∷ []
+  pub version : db.trees 0 ≡ version_row it.profile ∷ []
   pub issuers : db.trees 1 ≡ map issuer_row it.issuers
   pub singles : db.trees 3 ≡ map single_row it.singles
   pub crls : db.trees (crls_tree origin) ≡ map crl_row it.crls
@@ -98,8 +99,8 @@ with_single issuer single it = record it {
 abbrev pub with_entries : ℕ → ℕ → List ListedSerial → Contents → Contents
 with_entries issuer scope listed it = record it { entries = replaced it.entries issuer scope listed }
 
-abbrev pub no_contents : Contents
-no_contents = record { issuers = []; crls = []; entries = []; singles = [] }
+abbrev pub no_contents : Profile → Contents
+no_contents profile = record { profile = profile; issuers = []; crls = []; entries = []; singles = [] }
 
 -- ---- changes by what the code holds
 

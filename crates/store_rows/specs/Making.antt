@@ -6,6 +6,7 @@ use Rattle.sqlite.specs.Schema.{Schema}
 use Rattle.sqlite_trees.specs.declared.store.Store.{Ghosts}
 use Rattle.sqlite.specs.declared.transaction.Transaction.{Transaction}
 use Rattle.sqlite.specs.State.{State, HasCleanDisk, KeepsCommit}
+use Rattle.statements_facts.specs.declared.profile.Profile.{Profile}
 use Rattle.store_sql.specs.Inside.{inside}
 use Rattle.store_sql.specs.Cause.{MayRefuse}
 use Rattle.store_sql.specs.declared.origin.Origin.TheVariants.{Made}
@@ -33,10 +34,10 @@ abbrev pub Builds : {A : Type 0} → State → State → Schema → Schema → R
 Builds old new before after (Ok done) = Advances old new × (IsEmptyWith old.now before → IsEmptyWith new.now after)
 Builds old new before after (Err fault) = FailsOverStore old new fault
 
--- from a schema to the tables of a new store, which hold nothing
-abbrev pub Makes : {A : Type 0} → State → State → Schema → Result A StoreFault → Type 0
-Makes old new before (Ok done) = Advances old new × (IsEmptyWith old.now before → HasContents new.now Made no_contents)
-Makes old new before (Err fault) = FailsOverStore old new fault
+-- from a schema to the tables of a new store of this profile, which hold nothing
+abbrev pub Makes : {A : Type 0} → State → State → Schema → Profile → Result A StoreFault → Type 0
+Makes old new before profile (Ok done) = Advances old new × (IsEmptyWith old.now before → HasContents new.now Made (no_contents profile))
+Makes old new before profile (Err fault) = FailsOverStore old new fault
 
 -- over these tables, without a row, the fault `Store` has a cause
 abbrev pub IsCausedOverEmpty : Schema → State → State → StoreFault → Type 0
@@ -47,8 +48,8 @@ IsCausedOverEmpty before old new fault = fault ≡ StoreFault.Store → IsEmptyW
 abbrev pub BuildsIn : {S A : Type 0} → Ghosts S → Transaction S → Transaction S → Schema → Schema → Result A StoreFault → Type 0
 BuildsIn g old new before after result = HasCleanDisk (inside g new) → Builds (inside g old) (inside g new) before after result
 
-abbrev pub MakesIn : {S A : Type 0} → Ghosts S → Transaction S → Transaction S → Schema → Result A StoreFault → Type 0
-MakesIn g old new before result = HasCleanDisk (inside g new) → Makes (inside g old) (inside g new) before result
+abbrev pub MakesIn : {S A : Type 0} → Ghosts S → Transaction S → Transaction S → Schema → Profile → Result A StoreFault → Type 0
+MakesIn g old new before profile result = HasCleanDisk (inside g new) → Makes (inside g old) (inside g new) before profile result
 
 abbrev pub BuildsForCauseIn : {S A : Type 0} → Ghosts S → Transaction S → Transaction S → Schema → Result A StoreFault → Type 0
 BuildsForCauseIn g old new before result = HasCleanDisk (inside g new) → IfErr result (IsCausedOverEmpty before (inside g old) (inside g new))

@@ -13,7 +13,7 @@ mod single;
 
 pub use cell::{integer, natural, octets};
 pub use comparison::has_entries;
-pub use creation::make_tables;
+pub use creation::{insert_version_of, make_tables};
 pub use crl::{Head, find_crl, number_of, replace_crl, scope_number};
 pub use entry::{ListKey, find_entry};
 pub use issuer::{ID_LIMIT, add_issuer, find_issuer};

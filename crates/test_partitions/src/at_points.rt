@@ -1,13 +1,13 @@
 //! Which lists speak of a certificate, by its points and theirs, and the verdicts by them.
 
-use crate::published::{ListText, certificate_at, list_at};
-use cert::Profile;
 use cert_points::take_points;
 use path::Query;
 use relying_texts::Verdict::{Revoked, Unknown, Valid};
 use relying_texts::{Verdict, read_statements, read_statements_under, verdict};
+use statements_facts::Profile;
 use std::alloc::Global;
 use vectors::{ToyVerifier, certificate};
+use vectors_points::{ListText, certificate_at, list_at};
 
 /// 2025-06-15T00:00:00Z
 const MIDDLE: i64 = 1_749_945_600;
@@ -117,7 +117,7 @@ const ROWS: &[Row] = &[
 /// The verdict on the certificate below R, by these lists. `None` is answered if there is no memory, or something is refused.
 fn verdict_at(alloc: Global, points: &[&[&str]], lists: &[ListText]) -> Option<Verdict> {
     let anchor = certificate(alloc, "ca(R,R)").ok()?;
-    let leaf = certificate_at(alloc, "ee(T,R)", points)?;
+    let leaf = certificate_at(alloc, "ee(T,R)", points, "R")?;
     let mut query = Query::read(alloc, &anchor, &[leaf.as_slice()], MIDDLE, None).ok()?;
     take_points(alloc, &mut query.path[0]).ok()?;
     let mut octets = Vec::new(alloc);

@@ -3,5 +3,3 @@
 
 #[cfg(test)]
 mod at_points;
-#[cfg(test)]
-mod published;

@@ -31,7 +31,7 @@ pub other_takes : (facts_of : FactsOf) (issuer : IssuerIdentity) (hash : List �
 other_takes facts_of issuer hash first second third = rw (first, second, third) refl
 
 pub newest : (taken : List Fact) → PartyHoldsNewest (after_taking accepts_toys empty_holdings taken)
-newest taken = record { crl = λ slot. refl; ocsp = λ slot. refl }
+newest taken = record { profile = refl; crl = λ slot. refl; ocsp = λ slot. refl }
 
 -- lists of these numbers, whichever they are, are consistent
 lists_are : (xs : List CrlFact) → AllByRecursion (λ fact. fact ≡ crl fact.number) xs → CrlsAreConsistent xs

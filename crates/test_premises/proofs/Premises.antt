@@ -4,6 +4,7 @@ use Rattle.std.specs.Str.{bytes_eq}
 use Rattle.std.proofs.lemmas.Slice.Eq.{bytes_eq-Decides}
 use Rattle.sha1.specs.Sha1.{sha1}
 use Rattle.cert.specs.Part.{contents}
+use Rattle.statements_facts.specs.declared.profile.Profile.TheVariants.{Stated}
 use Rattle.statements_facts.specs.declared.scope.Scope.TheVariants.{All, User}
 use Rattle.statements_facts.specs.Statement.{IssuerIdentity, Holdings, CrlFact, OcspFact, same_issuer}
 use Rattle.statements.specs.Issuer.{identity_of}
@@ -92,8 +93,8 @@ all_premises_hold = record {
   other_starts = refl;
   one_accepts = refl;
   other_accepts = refl;
-  one_ran = record { taken = one_takes genuine_facts issuer hash list_1_gives list_2_gives response_gives; newest = newest a.taken };
-  other_ran = record { taken = other_takes genuine_facts issuer hash list_1_gives list_2_gives response_gives; newest = newest b.taken };
+  one_ran = record { taken = one_takes (genuine_facts Stated) issuer hash list_1_gives list_2_gives response_gives; newest = newest a.taken };
+  other_ran = record { taken = other_takes (genuine_facts Stated) issuer hash list_1_gives list_2_gives response_gives; newest = newest b.taken };
   consistent = consistent;
   same_newest = same_newest;
   one_is_valid = valid_of a.held a_holds;

@@ -9,6 +9,7 @@ use Rattle.asn.specs.Integer.{binary_value}
 use Rattle.asn.proofs.Laws.{outermost_again, nested_again}
 use Rattle.names.specs.DistinguishedName.{matching}
 use Rattle.names.proofs.Laws.{matching_is_exact}
+use Rattle.statements_facts.specs.declared.profile.Profile.TheVariants.{Stated}
 use Rattle.statements_facts.specs.declared.scope.Scope.TheVariants.{All}
 use Rattle.statements_facts.specs.declared.single.Status.TheVariants.{Good}
 use Rattle.statements_facts.specs.Fact.{Fact}
@@ -173,11 +174,11 @@ two_counts : binary_value (2 ∷ []) ≡ 2
 unfolding binary_value
 two_counts = refl
 
-pub list_1_gives : genuine_facts accepts_toys anchor_der list_1 ≡ list_of (identity_of root) 1 ∷ []
-list_1_gives = ap (facts_under accepts_toys list_1) root_is_read ∙ ap facts_or_none (list_says list_1 1 signature_1 list_1_is_read signed_1 one_counts)
+pub list_1_gives : genuine_facts Stated accepts_toys anchor_der list_1 ≡ list_of (identity_of root) 1 ∷ []
+list_1_gives = ap (facts_under Stated accepts_toys list_1) root_is_read ∙ ap facts_or_none (list_says list_1 1 signature_1 list_1_is_read signed_1 one_counts)
 
-pub list_2_gives : genuine_facts accepts_toys anchor_der list_2 ≡ list_of (identity_of root) 2 ∷ []
-list_2_gives = ap (facts_under accepts_toys list_2) root_is_read ∙ ap facts_or_none (list_says list_2 2 signature_2 list_2_is_read signed_2 two_counts)
+pub list_2_gives : genuine_facts Stated accepts_toys anchor_der list_2 ≡ list_of (identity_of root) 2 ∷ []
+list_2_gives = ap (facts_under Stated accepts_toys list_2) root_is_read ∙ ap facts_or_none (list_says list_2 2 signature_2 list_2_is_read signed_2 two_counts)
 
-pub response_gives : genuine_facts accepts_toys anchor_der response_der ≡ response_of (identity_of root) (sha1 name_r) ∷ []
-response_gives = ap (facts_under accepts_toys response_der) root_is_read ∙ ap facts_or_none response_says
+pub response_gives : genuine_facts Stated accepts_toys anchor_der response_der ≡ response_of (identity_of root) (sha1 name_r) ∷ []
+response_gives = ap (facts_under Stated accepts_toys response_der) root_is_read ∙ ap facts_or_none response_says

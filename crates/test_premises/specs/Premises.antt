@@ -2,6 +2,7 @@
 use Rattle.std.specs.Prelude.{◌≡◌, ℕ, pos, List, [], ◌∷◌, None, Ok}
 use Rattle.std.specs.Str.{bytes_eq}
 use Rattle.cert.specs.Certificate.{Certificate, certificate}
+use Rattle.statements_facts.specs.declared.profile.Profile.TheVariants.{Stated}
 use Rattle.statements_facts.specs.Statement.{empty_holdings}
 use Rattle.path.specs.Query.{Query, Accepts}
 use Rattle.vectors_toy.specs.ToySignature.{toy_signature_of}
@@ -34,7 +35,7 @@ abbrev pub answers_to_other : List DeliveryAnswer
 answers_to_other = DeliveryAnswer.Taken ∷ DeliveryAnswer.Taken ∷ DeliveryAnswer.Taken ∷ DeliveryAnswer.Refused ∷ []
 
 -- The question: whether T is valid under R on 2025-06-15. The certificates are read from the octets. The parties hold nothing at the
--- start, judge signatures by one relation, and take what genuine statements say.
+-- start, judge signatures by one relation, and take what statements say that are genuine in the stated profile.
 pub record AllPremisesHoldOfOctets : Type 0 where
   pub root : Certificate
   pub leaf : Certificate
@@ -48,8 +49,8 @@ pub record AllPremisesHoldOfOctets : Type 0 where
   pub other_starts : other.start ≡ empty_holdings
   pub one_accepts : one.accepts ≡ accepts_toys
   pub other_accepts : other.accepts ≡ accepts_toys
-  pub one_ran : HasRun genuine_facts deliveries_to_one answers_to_one one
-  pub other_ran : HasRun genuine_facts deliveries_to_other answers_to_other other
+  pub one_ran : HasRun (genuine_facts Stated) deliveries_to_one answers_to_one one
+  pub other_ran : HasRun (genuine_facts Stated) deliveries_to_other answers_to_other other
   pub consistent : IssuersAreConsistent query one other
   pub same_newest : HoldSameNewest query one.held other.held
   pub one_is_valid : IsVerdict one.accepts query one.held Valid

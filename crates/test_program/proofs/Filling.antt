@@ -1,5 +1,5 @@
 -- Statements that are put into a store, one after the other.
-use Rattle.std.proofs.Common.{◌≡◌, ◌≢◌, sym, subst, List, ◌∷◌, Result, Ok, Err, IfErr, IfOk, OnOk}
+use Rattle.std.proofs.Common.{◌≡◌, ◌≢◌, ◌∙◌, refl, sym, subst, List, [], ◌∷◌, Result, Ok, Err, IfErr, IfOk, OnOk}
 use Rattle.sqlite.specs.Effect.{Database}
 use Rattle.sqlite.specs.Files.{file_state}
 use Rattle.sqlite_disk.specs.declared.Disk.{Ghosts}
@@ -7,7 +7,10 @@ use Rattle.statements_facts.specs.Coming.{after_all}
 use Rattle.statements_facts.specs.Fact.{facts_in}
 use Rattle.statements_facts.specs.Statement.{Holdings}
 use Rattle.statements_facts.specs.declared.fact.Facts.{Facts}
+use Rattle.statements_facts.specs.declared.profile.Profile.{Profile}
+use Rattle.statements_facts.proofs.Laws.{holds_newest}
 use Rattle.store.specs.declared.handle.Store.{Store}
+use Rattle.store_adoption.specs.Inspects.{IsStoreUnder}
 use Rattle.store_maps.specs.Held.{IsStoreOf}
 use Rattle.store_sql.specs.declared.fault.StoreFault.{StoreFault}
 use Rattle.store_sql.specs.declared.fault.StoreFault.TheVariants.{Schema}
@@ -35,6 +38,17 @@ pub holds_still : {D E : Type 0} {g : Ghosts D} (result : Result (Store D g) E) 
     → IfOk result (λ store. IsStoreOf (file_state store.conn).now held)
 holds_still (Ok store) db held stands still = still held stands
 holds_still (Err e) db held stands still = tt
+
+-- statements leave the profile
+pub profile_stays : (held : Holdings) (rows : List Facts) → (after_these held rows).profile ≡ held.profile
+profile_stays held [] = refl
+profile_stays held (facts ∷ others) = profile_stays (after_all held (facts_in facts)) others ∙ (holds_newest held (facts_in facts)).profile
+
+pub is_of_profile : {D E : Type 0} {g : Ghosts D} (profile : Profile) (result : Result (Store D g) E) (db : Database) (held : Holdings) → held.profile ≡ profile → IsStoreOf db held
+    → IfOk result (λ store. (other : Holdings) → IsStoreOf db other → IsStoreOf (file_state store.conn).now other)
+    → IfOk result (λ store. IsStoreUnder profile (file_state store.conn).now)
+is_of_profile profile (Ok store) db held is stands still = (held, still held stands, is)
+is_of_profile profile (Err e) db held is stands still = tt
 
 pub fails_still : {T : Type 0} (result : Result T StoreFault) (db : Database) (held : Holdings) → IsStoreOf db held
     → IfErr result (λ fault. (other : Holdings) → IsStoreOf db other → fault ≢ Schema) → IfErr result (λ fault. fault ≢ Schema)

@@ -1,6 +1,7 @@
 //! A store whose files in memory last from run to run.
 ghost use Rattle.std.specs.Prelude.{◌≡◌, false, IfOk};
 ghost use Rattle.sqlite.specs.Files.{file_state};
+ghost use Rattle.statements_facts.specs.declared.profile.Profile.TheVariants.{Stated};
 ghost use Rattle.store.specs.Adopts.{IsOpenOn, IsStoreOn};
 ghost use Rattle.store_adoption.specs.Creates.{IsSettled};
 ghost use Rattle.store_sql.specs.Statements.{IsDurable};
@@ -79,7 +80,7 @@ impl LastingStore<'_> {
 
     // The store in the files.
     fn open(&self, files: Files<Disks>) -> Result<Store<Disks>, StoreFault>
-        ensures store { IfOk result (λ store. IsStoreOn store.conn) }
+        ensures store { IfOk result (λ store. IsStoreOn Stated store.conn) }
         ensures is_open { IfOk result (λ store. IsOpenOn store.conn) }
         ensures settled { IfOk result (λ store. IsSettled (file_state store.conn)) }
         ensures durable { IfOk result (λ store. IsDurable (file_state store.conn)) }

@@ -5,7 +5,9 @@ ghost use Rattle.sqlite.specs.State.{HasCleanDisk};
 ghost use Rattle.statements_facts.specs.Coming.{after_all};
 ghost use Rattle.statements_facts.specs.Fact.{facts_in};
 ghost use Rattle.statements_facts.specs.Statement.{Holdings, empty_holdings};
+ghost use Rattle.statements_facts.specs.declared.profile.Profile.TheVariants.{Stated};
 ghost use Rattle.store_adoption.specs.Creates.{IsSettled};
+ghost use Rattle.store_adoption.specs.Inspects.{IsStoreUnder};
 ghost use Rattle.store_maps.specs.Held.{IsStoreOf};
 ghost use Rattle.store_sql.specs.Statements.{IsDurable};
 ghost use Rattle.test_program.specs.Shelves.{after_these, octets_under, statements_at};
@@ -197,6 +199,7 @@ fn reopened(alloc: Global, store: Store<Disks>) -> Result<Store<Disks>, StoreFau
 fn standing(medium: Medium, rows: &[Facts<'_>]) -> Result<Store<Disks>, StoreFault>
     ensures holds { IfOk result (λ store.
         IsStoreOf (file_state store.conn).now (after_these empty_holdings rows.now)) }
+    ensures profile { IfOk result (λ store. IsStoreUnder Stated (file_state store.conn).now) }
     ensures clean { IfOk result (λ store. HasCleanDisk (file_state store.conn)) }
     ensures open { IfOk result (λ store. IsTrue (file_state store.conn).is_open) }
     ensures settled { IfOk result (λ store. IsSettled (file_state store.conn)) }

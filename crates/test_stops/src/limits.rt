@@ -3,7 +3,7 @@
 use crate::putting::{Row, Statement, puts, tells};
 use sqlite::Connection;
 use sqlite_trees::memory::MemStore;
-use statements_facts::Listed;
+use statements_facts::{Listed, Profile};
 use std::alloc::Global;
 use store_adoption::{create, inspect};
 use store_sql::StoreFault;
@@ -28,7 +28,10 @@ fn put_behind(
     issuer: &str,
     rows: &[Row],
 ) -> Option<(Result<(), StoreFault>, bool)> {
-    if !conn.is_autocommit() || create(conn).is_err() || conn.execute_batch(issuer).is_err() {
+    if !conn.is_autocommit()
+        || create(conn, Profile::Stated).is_err()
+        || conn.execute_batch(issuer).is_err()
+    {
         return None;
     }
     let put = puts(alloc, conn, LIST);

@@ -2,9 +2,10 @@
 
 use sqlite::Connection;
 use sqlite_trees::memory::MemStore;
+use statements_facts::Profile;
 use std::alloc::Global;
 use std::test::Fail;
-use store_adoption::{create, inspect, read_version_1};
+use store_adoption::{create, inspect_under, read_version_1};
 use store_migration::version_1_tables;
 use store_sql::StoreFault;
 
@@ -191,7 +192,7 @@ fn taken(alloc: Global, conn: &mut Memory, version: Version) -> Result<(), Store
         return Err(StoreFault::Store);
     }
     match version {
-        Version::New => inspect(conn),
+        Version::New => inspect_under(conn, Profile::Stated),
         Version::Old => match read_version_1(alloc, conn) {
             Ok(_lists) => Ok(()),
             Err(fault) => Err(fault),
@@ -202,7 +203,9 @@ fn taken(alloc: Global, conn: &mut Memory, version: Version) -> Result<(), Store
 fn makes(conn: &mut Memory, version: Version) -> bool {
     match version {
         Version::New => {
-            conn.is_autocommit() && create(conn).is_ok() && conn.execute_batch(ROWS).is_ok()
+            conn.is_autocommit()
+                && create(conn, Profile::Stated).is_ok()
+                && conn.execute_batch(ROWS).is_ok()
         }
         Version::Old => {
             conn.execute_batch(version_1_tables()).is_ok() && conn.execute_batch(OLD_ROWS).is_ok()

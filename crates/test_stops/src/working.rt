@@ -4,6 +4,7 @@ use crate::finding::{Found, is_one_of};
 use crate::putting::{Row, Statement, puts, tells};
 use sqlite::{Alter, Connection, FileStore, Files, Options};
 use sqlite_disk::Disk;
+use statements_facts::Profile;
 use std::alloc::Global;
 use store::{Refused, ReopenFault, Store, take_over};
 use store_adoption::create;
@@ -86,7 +87,7 @@ fn take<D: Disk + Drop>(
     if !conn.is_autocommit() {
         return Err(StoreFault::Store);
     }
-    take_over(alloc, conn)
+    take_over(alloc, Profile::Stated, conn)
 }
 
 /// A store is made.
@@ -98,7 +99,7 @@ fn makes<S: Alter>(conn: &mut Connection<S>, version: Version) -> Result<(), Sto
         Version::Old(rows) => done_if(
             conn.execute_batch(version_1_tables()).is_ok() && conn.execute_batch(rows).is_ok(),
         ),
-        Version::New => create(conn),
+        Version::New => create(conn, Profile::Stated),
     }
 }
 

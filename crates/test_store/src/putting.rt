@@ -3,7 +3,9 @@
 
 use asn::Number20;
 use sqlite::{Alter, Connection};
-use statements_facts::{Issuer, Listed, NameKey, OcspAnswer, RevokedSerials, Scope, Single};
+use statements_facts::{
+    Issuer, Listed, NameKey, OcspAnswer, Profile, RevokedSerials, Scope, Single,
+};
 use std::alloc::Global;
 use store_maps::{crl, ocsp};
 use store_rows::{
@@ -26,7 +28,7 @@ pub fn make<S: Alter>(conn: &mut Connection<S>) -> bool {
         return false;
     }
     let mut tx = conn.transaction();
-    match make_tables(&mut tx) {
+    match make_tables(&mut tx, Profile::Stated) {
         Ok(()) => tx.commit().is_ok(),
         Err(_) => false,
     }

@@ -209,18 +209,35 @@ pub mod at_hand {
 
 /// Lists that are published by distribution point (RFC 5280, 4.2.1.13, 5.2.5 and 6.3.3), for who asks for them.
 ///
-/// `take_points` gives a certificate that was read the names of its points. `read_statements_under` and `genuine_under` read lists with points
-/// in `Profile::Wide`; in `Profile::Stated`, that of all other calls, these are refused. A verdict then asks for the lists at the names of each
-/// certificate, beside those of all its issuer's certificates. What `genuine_under` answers is put into a store by `Store::put`.
+/// All other calls read in `Profile::Stated`: a list with a point is refused, and the points of certificates are not read. A caller that wants
+/// such lists asks for `Profile::Wide`, in three steps.
+///
+/// 1. Read the path by `read_query_under`: each of its certificates then has the names of its points. For a search, read each certificate
+///    of the bag, and the target, by `read_certificate_under`.
+/// 2. Read the statements by `read_statements_under`. A party that keeps a store makes it by `Store::make_under` or `Store::create_under`
+///    instead: then [`Node::deliver`](crate::Node::deliver) reads in the profile of the store.
+/// 3. Ask for the verdict as ever. It looks for the lists at the points of each certificate, beside those of all certificates of its issuer.
+///
+/// For example, by statements at hand:
+///
+///     let query = read_query_under(alloc, Profile::Wide, anchor_octets, &path_octets, moment, purpose)?;
+///     let statements = read_statements_under(alloc, Profile::Wide, &list_octets)?;
+///     let verdict = at_hand::verdict(alloc, &verifier, &query, &statements)?;
+///
+/// `take_points` gives a certificate that was read its points, and `genuine_under` answers the facts of one statement.
 pub mod points {
-    pub use cert::Profile;
     pub use cert_points::{
         DistributionPoint, DistributionPoints, GeneralNames, PointName, point_layout_laws,
         point_reading_laws, take_points,
     };
+    pub use path_points::{
+        certificate_profile_laws, query_profile_laws, read_certificate_under, read_query_under,
+    };
+    pub use relying::read_statement_under;
     pub use relying_texts::read_statements_under;
     pub use statements::{genuine_under, statement_profile_laws};
     pub use statements_crl::profile_laws;
+    pub use statements_facts::Profile;
 }
 
 /// What a store holds, and how a connection is taken for a store and looked up.

@@ -4,7 +4,7 @@ use Rattle.relying.proofs.Alike.{nodes_find_the_same}
 use Rattle.relying.proofs.agreement.node_laws.Goals as goal
 
 pub returns-clause-agree : goal.returns-clause-agree
-returns-clause-agree g c = nodes_agree c.verdict_laws.ensures.one c.agreement_laws.ensures.runs_agree
+returns-clause-agree g c = nodes_agree c.verdict_laws.ensures.one c.agreement_laws.ensures.agree
 
 pub returns-clause-party : goal.returns-clause-party
 returns-clause-party g c = node_agrees_with_party c.verdict_laws.ensures.one c.agreement_laws.ensures.agree c.composition_laws.ensures.each

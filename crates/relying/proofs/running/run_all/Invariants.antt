@@ -9,8 +9,8 @@ abbrev pub invariant-loop-index : goal.invariant-loop-index
 invariant-loop-index g l =
     let first = file_state l.fn.node.store.conn in
     let now = file_state l.node.store.conn in
-    (l.node.verifier ≡ l.fn.node.verifier) × (vec_len l.answers ≤ l.index) × (length l.events ≤ vec_capacity l.answers)
+    (l.node.verifier ≡ l.fn.node.verifier) × (l.node.store.profile ≡ l.fn.node.store.profile) × (vec_len l.answers ≤ l.index) × (length l.events ≤ vec_capacity l.answers)
     × (HasCleanDisk now → HasCleanDisk first)
-    × (HasCleanDisk now → RanSoFar (g.V.Verifier.accepts l.fn.node.verifier) (map seen_event (take l.index l.events)) l.answers.items first now)
-    × (HasCleanDisk now → LeavesSoFar (g.V.Verifier.accepts l.fn.node.verifier) (map seen_event (take l.index l.events)) l.answers.items first now)
-    × AreAnswersTo (g.V.Verifier.accepts l.fn.node.verifier) (map seen_event (take l.index l.events)) l.answers.items
+    × (HasCleanDisk now → RanSoFar l.fn.node.store.profile (g.V.Verifier.accepts l.fn.node.verifier) (map seen_event (take l.index l.events)) l.answers.items first now)
+    × (HasCleanDisk now → LeavesSoFar l.fn.node.store.profile (g.V.Verifier.accepts l.fn.node.verifier) (map seen_event (take l.index l.events)) l.answers.items first now)
+    × AreAnswersTo l.fn.node.store.profile (g.V.Verifier.accepts l.fn.node.verifier) (map seen_event (take l.index l.events)) l.answers.items

@@ -1,19 +1,19 @@
-use Rattle.std.proofs.Common.{◌≡◌, length, refl, sym, subst, arith, Ok, Err, inl}
+use Rattle.std.proofs.Common.{◌≡◌, length, refl, sym, subst, arith, Ok, Err, inl, true≢false, ◌∙◌}
 use Rattle.std.proofs.lemmas.Result.{err_from_is_err_and}
 use Rattle.sqlite.specs.Held.{state}
 use Rattle.sqlite.specs.Listing.{understood}
 use Rattle.sqlite.proofs.Callers.{IsPlain}
 use Rattle.sqlite.proofs.InsideLemmas.{unchanged_keeps}
-use Rattle.std.specs.List.{AllByRecursion}
 use Rattle.store_sql.specs.Tables.{version_1_schema}
 use Rattle.store_adoption.specs.Texts.{all_versions}
-use Rattle.store_adoption.specs.Cells.{IsVersionCells}
+use Rattle.store_adoption.specs.Cells.{AreVersionRows}
 use Rattle.store_adoption.specs.Inspects.{version_cells}
 use Rattle.store_adoption.specs.Tests.{IsTableQuery}
 use Rattle.store_adoption.proofs.Answered.{answers_old_versions}
 use Rattle.store_adoption.proofs.Meaning.{shows_old_versions}
 use Rattle.store_adoption.proofs.Inspecting.{checked, stopped}
 use Rattle.store_adoption.proofs.Placed.{in_order_before}
+use Rattle.store_adoption.proofs.Versions.{no_version}
 use Rattle.store_adoption.proofs.version_1.read_version.Goals as goal
 
 pub test_rows-requires-clause-plain : goal.test_rows-requires-clause-plain
@@ -26,25 +26,27 @@ returns-in_err-test_rows-clause-checks g c clean =
     let step = c.test_rows.ensures.survives.clean in
     let ours = c.requires.ours (omega (arith, step, clean)) in
     let it = shows_old_versions in
-    rw (p.1, p.2) (checked version_1_schema all_versions 0 _ _ version_cells it.0 it.1 it.2 (λ r. refl) {A = Unit {0}} old _ (λ _. Unit {0}) (λ rows. AllByRecursion (IsVersionCells 1) rows × (length rows ≡ 1)) (Err _) ours (λ ordered. (in_order_before old.now ours ordered).versions.0) (c.in_err-test_rows.ensures.tests clean))
+    let h = checked version_1_schema all_versions 0 _ _ version_cells it.0 it.1 it.2 (λ r. refl) {A = Unit {0}} old _ (λ _. Unit {0}) AreVersionRows (Err _) ours (λ ordered. (in_order_before old.now ours ordered).versions.0) (c.in_err-test_rows.ensures.tests clean) in
+    rw (p.1, p.2) (h.0, λ schema ordered has. h.1 schema ordered (1, omega arith, has))
 
-pub returns-then-test-clause-checks : goal.returns-then-test-clause-checks
-returns-then-test-clause-checks g c clean =
+pub returns-then-is_version-clause-checks : goal.returns-then-is_version-clause-checks
+returns-then-is_version-clause-checks g c clean =
     let old = state g.S.Store c.args.conn.now in
     let step = c.test_rows.ensures.survives.clean in
     let ours = c.requires.ours (omega (arith, step, clean)) in
     let it = shows_old_versions in
-    let h = checked version_1_schema all_versions 0 _ _ version_cells it.0 it.1 it.2 (λ r. refl) {A = Unit {0}} old _ _ (λ rows. AllByRecursion (IsVersionCells 1) rows × (length rows ≡ 1)) (Ok c.in_ok-test_rows.field-0) ours (λ ordered. (in_order_before old.now ours ordered).versions.0) (c.in_ok-test_rows.ensures.tests clean) in
-    (h.0, λ ordered. let all = h.1 ordered in (c.in_ok-test_rows.ensures.same _).1 (all.0, rw c.if-test.true at all.1))
+    let h = checked version_1_schema all_versions 0 _ _ version_cells it.0 it.1 it.2 (λ r. refl) {A = Unit {0}} old _ _ AreVersionRows (Ok c.in_ok-test_rows.field-0) ours (λ ordered. (in_order_before old.now ours ordered).versions.0) (c.in_ok-test_rows.ensures.tests clean) in
+    let is = c.is_version.ensures.0 c.if-is_version.true in
+    (h.0, λ ordered. rw is at (h.1 ordered))
 
-pub returns-else-test-clause-checks : goal.returns-else-test-clause-checks
-returns-else-test-clause-checks g c clean =
+pub returns-else-is_version-clause-checks : goal.returns-else-is_version-clause-checks
+returns-else-is_version-clause-checks g c clean =
     let old = state g.S.Store c.args.conn.now in
     let step = c.test_rows.ensures.survives.clean in
     let ours = c.requires.ours (omega (arith, step, clean)) in
     let it = shows_old_versions in
-    let h = checked version_1_schema all_versions 0 _ _ version_cells it.0 it.1 it.2 (λ r. refl) {A = Unit {0}} old _ _ (λ rows. AllByRecursion (IsVersionCells 1) rows × (length rows ≡ 1)) (Ok c.in_ok-test_rows.field-0) ours (λ ordered. (in_order_before old.now ours ordered).versions.0) (c.in_ok-test_rows.ensures.tests clean) in
-    (unchanged_keeps old (state g.S.Store c.test_rows.new.conn) (inl h.0), λ same ordered formed. let all = h.1 ordered in let none = rw c.if-test.false at all.1 in let one = formed.1 in absurd (omega (arith, none, one)))
+    let h = checked version_1_schema all_versions 0 _ _ version_cells it.0 it.1 it.2 (λ r. refl) {A = Unit {0}} old _ _ AreVersionRows (Ok c.in_ok-test_rows.field-0) ours (λ ordered. (in_order_before old.now ours ordered).versions.0) (c.in_ok-test_rows.ensures.tests clean) in
+    (unchanged_keeps old (state g.S.Store c.test_rows.new.conn) (inl h.0), λ same ordered has. no_version _ 1 _ (h.1 ordered) (λ is. true≢false (sym (c.is_version.ensures.1 is) ∙ c.if-is_version.false)) has)
 
 pub returns-in_err-test_rows-clause-caused : goal.returns-in_err-test_rows-clause-caused
 returns-in_err-test_rows-clause-caused g c clean =

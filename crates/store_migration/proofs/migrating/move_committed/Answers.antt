@@ -10,7 +10,7 @@ use Rattle.store_migration.specs.Moved.{IsOld}
 use Rattle.store_migration.specs.Migrates.{LeavesMoved}
 use Rattle.store_migration.specs.Moves.{ListsFit, StopIsCaused}
 use Rattle.store_sql.specs.declared.fault.StoreFault.{StoreFault}
-use Rattle.store_migration.proofs.Ending.{leaves_moved, stop_ends, stops_moved}
+use Rattle.store_migration.proofs.Ending.{leaves_store, stop_ends, stops_whole}
 use Rattle.store_migration.proofs.migrating.move_committed.Goals as goal
 
 pub returns-in_err-move_lists-clause-moves : goal.returns-in_err-move_lists-clause-moves
@@ -22,7 +22,7 @@ returns-in_err-move_lists-clause-moves g c =
     let entries = map seen_own c.args.all.now.entries.items in
     let same : c.drop-tx.new.self.0 ≡ c.conn-1.given.0 = search rules in
     rw (p.1, p.2) (subst (λ h. HasCleanDisk (state g.S.Store h) → KeepsCommit (state g.S.Store old) (state g.S.Store h) × (c.in_err-move_lists.field-0.0 ≡ StoreFault.Schema → (held : Holdings) → IsOld crls entries (state g.S.Store old).now held → ⊥)) same
-    (λ clean. stops_moved g.S.Store old c.transaction-tx.result.conn.now c.transaction-tx.ensures.begun crls entries (state g.S.Store last) (state g.S.Store c.drop-tx.new.self.0) _
+    (λ clean. stops_whole g.S.Store old c.transaction-tx.result.conn.now c.transaction-tx.ensures.begun (IsOld crls entries) (state g.S.Store last) (state g.S.Store c.drop-tx.new.self.0) _
     (c.in_err-move_lists.ensures.moves (omega (arith, clean, c.drop-tx.ensures.survives.clean))) (c.drop-tx.ensures.undone clean)))
 
 pub returns-clause-crash : goal.returns-clause-crash
@@ -34,7 +34,7 @@ returns-clause-crash g c =
     let entries = map seen_own c.args.all.now.entries.items in
     let P = LeavesMoved (state g.S.Store old) crls entries in
     let whole = survives_then (state g.S.Store old) (state g.S.Store last) (state g.S.Store c.commit.new.self.0) (λ _. ⊥) (λ db. db ≡ (state g.S.Store last).now.trees) P (λ _ db none. absurd none)
-    (λ clean db is. leaves_moved g.S.Store old c.transaction-tx.result.conn.now begun crls entries (state g.S.Store last) db (c.in_ok-move_lists.ensures.moves (omega (arith, clean, c.commit.ensures.survives.clean))) is)
+    (λ clean db is. leaves_store g.S.Store old c.transaction-tx.result.conn.now begun (IsOld crls entries) (λ held. held) (state g.S.Store last) db (c.in_ok-move_lists.ensures.moves (omega (arith, clean, c.commit.ensures.survives.clean))) is)
     (survives_begin g.S.Store old (state g.S.Store last) _ (rw begun at c.move_lists.ensures.survives)) c.commit.ensures.survives in
     let same : c.commit.new.self.0 ≡ c.conn-2-1.given.0 = search rules in
     subst (λ h. Survives (state g.S.Store old) (state g.S.Store h) P) same whole
@@ -48,7 +48,7 @@ returns-in_err-commit-clause-crash g c =
     let entries = map seen_own c.args.all.now.entries.items in
     let P = LeavesMoved (state g.S.Store old) crls entries in
     let whole = survives_then (state g.S.Store old) (state g.S.Store last) (state g.S.Store c.commit.new.self.0) (λ _. ⊥) (λ db. db ≡ (state g.S.Store last).now.trees) P (λ _ db none. absurd none)
-    (λ clean db is. leaves_moved g.S.Store old c.transaction-tx.result.conn.now begun crls entries (state g.S.Store last) db (c.in_ok-move_lists.ensures.moves (omega (arith, clean, c.commit.ensures.survives.clean))) is)
+    (λ clean db is. leaves_store g.S.Store old c.transaction-tx.result.conn.now begun (IsOld crls entries) (λ held. held) (state g.S.Store last) db (c.in_ok-move_lists.ensures.moves (omega (arith, clean, c.commit.ensures.survives.clean))) is)
     (survives_begin g.S.Store old (state g.S.Store last) _ (rw begun at c.move_lists.ensures.survives)) c.commit.ensures.survives in
     let same : c.commit.new.self.0 ≡ c.conn-2-1.given.0 = search rules in
     subst (λ h. Survives (state g.S.Store old) (state g.S.Store h) P) same whole
@@ -62,5 +62,5 @@ returns-in_err-move_lists-clause-caused g c =
     let entries = map seen_own c.args.all.now.entries.items in
     let same : c.drop-tx.new.self.0 ≡ c.conn-1.given.0 = search rules in
     rw (p.1, p.2) (subst (λ h. HasCleanDisk (state g.S.Store h) → ListsFit entries → StopIsCaused (IsOld crls entries) (state g.S.Store old) (state g.S.Store h) c.in_err-move_lists.field-0.0) same
-    (λ clean fit. stop_ends g.S.Store old c.transaction-tx.result.conn.now c.transaction-tx.ensures.begun crls entries (state g.S.Store last) (state g.S.Store c.drop-tx.new.self.0) _ _
+    (λ clean fit. stop_ends g.S.Store old c.transaction-tx.result.conn.now c.transaction-tx.ensures.begun (IsOld crls entries) (state g.S.Store last) (state g.S.Store c.drop-tx.new.self.0) _ _
     (c.in_err-move_lists.ensures.caused fit (omega (arith, clean, c.drop-tx.ensures.survives.clean))) c.drop-tx.ensures.survives))

@@ -45,6 +45,14 @@ each-preserved g c =
       λ left at clean before. c.in_ok-outcome-2.ensures.leaves left left clean (l.5 (suc left) (omega (arith, at)) (omega (arith, clean, c.take_list-in-each.ensures.survives.clean)) before),
     )
 
+pub returns-in_err-outcome-clause-caused : goal.returns-in_err-outcome-clause-caused
+returns-in_err-outcome-clause-caused g c clean =
+    let p = err_from_is_err_and c.from_residual.result c.from_residual.ensures.1 in
+    let list = c.args.list.now in
+    let left = length list.others.items in
+    rw (p.1, p.2) (λ e before fits. c.in_err-outcome.ensures.caused left left clean e
+    (subst (λ n. IsStoreWithRoom n n (state g.S.Store c.args.tx.now.conn.now).now) (one_each list) before) (fits.issuers.0, fits))
+
 pub returns-in_err-outcome-2-clause-takes : goal.returns-in_err-outcome-2-clause-takes
 returns-in_err-outcome-2-clause-takes g c clean =
     let p = err_from_is_err_and c.from_residual-in_err-outcome-2.result c.from_residual-in_err-outcome-2.ensures.1 in

@@ -4,10 +4,10 @@ use Rattle.sqlite.specs.State.{HasCleanDisk}
 use Rattle.store.proofs.Reopened.{restarts, still_holds}
 use Rattle.store.proofs.handle.Store.reopen.Goals as goal
 
-pub returns-clause-restarts : goal.returns-clause-restarts
-returns-clause-restarts g c clean =
+pub returns-in-Ok-adopt-clause-restarts : goal.returns-in-Ok-adopt-clause-restarts
+returns-in-Ok-adopt-clause-restarts g c clean =
     restarts c.args.self.conn c.in-Ok-open_again.conn c.adopt.new.conn c.in-Ok.files c.in-Ok.ensures.copied c.in-Ok.ensures.reopens c.in-Ok-open_again.ensures.found
-    c.in-Ok-open_again.ensures.opened c.adopt.ensures.survives clean (c.in_default.ensures.adopts clean)
+    c.in-Ok-open_again.ensures.opened c.adopt.ensures.survives _ clean (c.in-Ok-adopt.ensures.adopts clean)
 
 pub returns-in-Err-adopt-clause-fails : goal.returns-in-Err-adopt-clause-fails
 returns-in-Err-adopt-clause-fails g c =
@@ -27,11 +27,11 @@ returns-in-Err-adopt-clause-cause g c clean =
       caused = c.in-Err-adopt.ensures.caused clean;
     }
 
-pub returns-clause-store : goal.returns-clause-store
-returns-clause-store g c clean = (c.in_default.ensures.adopts clean).1
+pub returns-in-Ok-adopt-clause-store : goal.returns-in-Ok-adopt-clause-store
+returns-in-Ok-adopt-clause-store g c clean = let it = (c.in-Ok-adopt.ensures.adopts clean).1 in (it.0, it.1)
 
-pub returns-clause-unlimited : goal.returns-clause-unlimited
-returns-clause-unlimited g c = c.adopt.ensures.survives.limit ∙ c.in-Ok-open_again.ensures.fresh.unlimited
+pub returns-in-Ok-adopt-clause-unlimited : goal.returns-in-Ok-adopt-clause-unlimited
+returns-in-Ok-adopt-clause-unlimited g c = c.adopt.ensures.survives.limit ∙ c.in-Ok-open_again.ensures.fresh.unlimited
 
-pub returns-clause-settled : goal.returns-clause-settled
-returns-clause-settled g c = c.adopt.ensures.settled.1
+pub returns-in-Ok-adopt-clause-settled : goal.returns-in-Ok-adopt-clause-settled
+returns-in-Ok-adopt-clause-settled g c = c.adopt.ensures.settled.1

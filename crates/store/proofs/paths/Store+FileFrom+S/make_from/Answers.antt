@@ -9,21 +9,21 @@ returns-in_err-conn-clause-caused g c =
     let p = err_from_is_err_and c.from_residual.result c.from_residual.ensures.1 in
     rw (p.1, p.2) tt
 
-pub returns-in_err-create-clause-fails : goal.returns-in_err-create-clause-fails
-returns-in_err-create-clause-fails g c =
-    let p = err_from_is_err_and c.from_residual-in_err-create.result c.from_residual-in_err-create.ensures.1 in
-    rw (p.1, p.2) (λ clean. (c.in_err-create.ensures.refused clean).1)
+pub returns-in_err-create_under-clause-fails : goal.returns-in_err-create_under-clause-fails
+returns-in_err-create_under-clause-fails g c =
+    let p = err_from_is_err_and c.from_residual-in_err-create_under.result c.from_residual-in_err-create_under.ensures.1 in
+    rw (p.1, p.2) (λ clean. (c.in_err-create_under.ensures.refused clean).1)
 
-pub returns-in_err-create-clause-caused : goal.returns-in_err-create-clause-caused
-returns-in_err-create-clause-caused g c =
-    let p = err_from_is_err_and c.from_residual-in_err-create.result c.from_residual-in_err-create.ensures.1 in
+pub returns-in_err-create_under-clause-caused : goal.returns-in_err-create_under-clause-caused
+returns-in_err-create_under-clause-caused g c =
+    let p = err_from_is_err_and c.from_residual-in_err-create_under.result c.from_residual-in_err-create_under.ensures.1 in
     rw (p.1, p.2) (λ clean.
-    let before : HasCleanDisk (file_state c.in_ok-conn.conn) = let step = c.in_err-create.ensures.refused_crash.clean in omega (arith, step, clean) in
-    record { conn = c.in_ok-conn.conn; found = c.in_ok-conn.ensures.found before; opened = c.in_ok-conn.ensures.opened before; unlimited = c.in_ok-conn.ensures.fresh.unlimited; stays = (c.in_err-create.ensures.refused clean).0; caused = c.in_err-create.ensures.caused clean })
+    let before : HasCleanDisk (file_state c.in_ok-conn.conn) = let step = c.in_err-create_under.ensures.refused_crash.clean in omega (arith, step, clean) in
+    record { conn = c.in_ok-conn.conn; found = c.in_ok-conn.ensures.found before; opened = c.in_ok-conn.ensures.opened before; unlimited = c.in_ok-conn.ensures.fresh.unlimited; stays = (c.in_err-create_under.ensures.refused clean).0; caused = c.in_err-create_under.ensures.caused clean })
 
 pub returns-clause-found : goal.returns-clause-found
 returns-clause-found g c clean =
-    let done = c.in_ok-create.ensures in
+    let done = c.in_ok-create_under.ensures in
     let before : HasCleanDisk (file_state c.in_ok-conn.conn) = let step = done.crash.clean in omega (arith, step, clean) in
     record {
       conn = c.in_ok-conn.conn;

@@ -1,5 +1,5 @@
 use Rattle.std.proofs.Common.{sym, ◌∙◌}
-use Rattle.store.proofs.handle.Store.adopt.Goals as goal
+use Rattle.store.proofs.handle.Store.adopt_under.Goals as goal
 
 pub returns-in-Ok-clause-unchanged : goal.returns-in-Ok-clause-unchanged
 returns-in-Ok-clause-unchanged g c clean = (c.in-Ok.ensures.takes clean).unchanged

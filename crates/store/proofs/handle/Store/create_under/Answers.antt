@@ -1,8 +1,9 @@
-use Rattle.std.proofs.Common.{sym, ◌∙◌}
-use Rattle.store.proofs.handle.Store.create.Goals as goal
+use Rattle.std.proofs.Common.{refl, sym, ◌∙◌}
+use Rattle.store.proofs.handle.Store.create_under.Goals as goal
 
 pub returns-in-Ok : goal.returns-in-Ok
 returns-in-Ok g c = record {
+  profile = refl;
   created = λ clean. c.in-Ok.ensures.creates clean;
   nothing = λ clean. (c.in-Ok.ensures.creates clean).store;
   is_open = λ clean. (c.in-Ok.ensures.creates clean).is_open;
@@ -19,6 +20,7 @@ returns-in-Ok g c = record {
 
 pub returns-in-Err : goal.returns-in-Err
 returns-in-Err g c = record {
+  profile = tt;
   created = tt;
   nothing = tt;
   is_open = tt;

@@ -5,7 +5,7 @@ use Rattle.sqlite.proofs.StateLemmas.{survives_then}
 use Rattle.store_sql.proofs.Laws.{if_err_then}
 use Rattle.store_adoption.specs.Inspects.{HasCrls, HasSingles, HasCrlsAndSingles}
 use Rattle.store_adoption.proofs.Inspecting.{checks_then, later_caused}
-use Rattle.store_adoption.proofs.inspection.inspect_under.Goals as goal
+use Rattle.store_adoption.proofs.inspection.inspect_under_issuers.Goals as goal
 
 pub returns-clause-survives : goal.returns-clause-survives
 returns-clause-survives g c = survives_then (state g.S.Store c.args.conn.now) (state g.S.Store c.inspect_crls.new.conn) (state g.S.Store c.inspect_singles.new.conn) _ _ (λ trees. ⊥) (λ clean db none. none) (λ clean db none. none) c.inspect_crls.ensures.survives c.inspect_singles.ensures.survives

@@ -72,34 +72,53 @@ fn signed_part(tree: Tree) -> Option<Tree> {
     Some(members.remove(0))
 }
 
-/// The octets of the certificate, which has no other extensions, with these points, signed under the key R.
-pub fn certificate_at(alloc: Global, text: &str, points: &[&[&str]]) -> Option<Vec<u8>> {
-    let tree = tree_of(alloc, text).ok()?;
-    if points.is_empty() {
-        return encode(alloc, &tree).ok();
-    }
-    let Tree::Constructed(identifier, mut members) = signed_part(tree)? else {
-        return None;
-    };
-    let list = constructed(alloc, 0x30, points_extension(alloc, points)?)?;
-    members.push(constructed(alloc, 0xA3, list)?).ok()?;
-    let anew = sign(alloc, Tree::Constructed(identifier, members), "R").ok()?;
-    encode(alloc, &anew).ok()
-}
-
-/// crlExtensions [0], with the issuingDistributionPoint behind the others.
-fn with_issuing_point(alloc: Global, extensions: Tree, point: Tree) -> Option<Tree> {
-    let Tree::Constructed(_, mut inside) = extensions else {
+/// Extensions under their explicit tag, with one more behind them.
+fn with_extension(alloc: Global, extensions: Tree, one: Tree) -> Option<Tree> {
+    let Tree::Constructed(identifier, mut inside) = extensions else {
         return None;
     };
     let Tree::Constructed(_, mut all) = inside.pop()? else {
         return None;
     };
-    all.push(point).ok()?;
-    constructed(alloc, 0xA0, Tree::Constructed(0x30, all))
+    all.push(one).ok()?;
+    constructed(alloc, identifier, Tree::Constructed(0x30, all))
 }
 
-/// The octets of the list, signed under the key R.
+/// The same in the members of a signed part, of which the last are the extensions if there are any.
+fn with_points(alloc: Global, members: Vec<Tree>, one: Tree) -> Option<Vec<Tree>> {
+    let mut members = members;
+    let last = members.pop()?;
+    if matches!(&last, Tree::Constructed(0xA3, _)) {
+        members.push(with_extension(alloc, last, one)?).ok()?;
+        return Some(members);
+    }
+    members.push(last).ok()?;
+    let list = constructed(alloc, 0x30, one)?;
+    members.push(constructed(alloc, 0xA3, list)?).ok()?;
+    Some(members)
+}
+
+/// The octets of the certificate in the notation of `vectors`, with these points, each of which has a full name with these URIs, signed
+/// under the key. A point without names is malformed.
+pub fn certificate_at(
+    alloc: Global,
+    text: &str,
+    points: &[&[&str]],
+    signer: &str,
+) -> Option<Vec<u8>> {
+    let tree = tree_of(alloc, text).ok()?;
+    if points.is_empty() {
+        return encode(alloc, &tree).ok();
+    }
+    let Tree::Constructed(identifier, members) = signed_part(tree)? else {
+        return None;
+    };
+    let members = with_points(alloc, members, points_extension(alloc, points)?)?;
+    let anew = sign(alloc, Tree::Constructed(identifier, members), signer).ok()?;
+    encode(alloc, &anew).ok()
+}
+
+/// The octets of the list, with its names and flag in a critical issuingDistributionPoint, signed under the key R.
 pub fn list_at(alloc: Global, list: ListText) -> Option<Vec<u8>> {
     let (text, flag, names) = list;
     let tree = revocation_list_tree(alloc, text).ok()?;
@@ -110,7 +129,7 @@ pub fn list_at(alloc: Global, list: ListText) -> Option<Vec<u8>> {
         return None;
     };
     let point = issuing_point(alloc, flag, names)?;
-    let extensions = with_issuing_point(alloc, members.pop()?, point)?;
+    let extensions = with_extension(alloc, members.pop()?, point)?;
     members.push(extensions).ok()?;
     let anew = sign(alloc, Tree::Constructed(identifier, members), "R").ok()?;
     encode(alloc, &anew).ok()

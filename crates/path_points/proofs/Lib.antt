@@ -1,0 +1,3 @@
+mod PointedCertificates
+mod Readings
+mod Profiles

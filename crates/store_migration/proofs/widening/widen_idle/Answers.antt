@@ -1,0 +1,58 @@
+use Rattle.std.proofs.Common.{arith, rules, not, subst, ap, ◌∙◌, ◌≡◌}
+use Rattle.std.proofs.lemmas.Result.{err_from_is_err_and}
+use Rattle.sqlite.specs.Held.{state}
+use Rattle.sqlite.specs.State.{HasCleanDisk, Survives, KeepsCommit}
+use Rattle.sqlite.proofs.Callers.{survives_begin}
+use Rattle.sqlite.proofs.StateLemmas.{survives_then}
+use Rattle.statements_facts.specs.Statement.{Holdings}
+use Rattle.store_sql.specs.declared.fault.StoreFault.{StoreFault}
+use Rattle.store_maps.specs.Held.{IsStoreOf}
+use Rattle.store_migration.specs.Moves.{StopIsCaused}
+use Rattle.store_migration.specs.Widens.{LeavesWidened, widened}
+use Rattle.store_migration.proofs.AsWide.{tables_of}
+use Rattle.store_migration.proofs.Ending.{leaves_store, stop_ends, stops_whole}
+use Rattle.store_migration.proofs.widening.widen_idle.Goals as goal
+
+pub returns-in_err-set_wide-clause-widens : goal.returns-in_err-set_wide-clause-widens
+returns-in_err-set_wide-clause-widens g c =
+    let p = err_from_is_err_and c.from_residual.result c.from_residual.ensures.1 in
+    let old = c.args.conn.now in
+    let last = c.set_wide.new.tx.conn.now in
+    let same : c.drop-tx.new.self.0 ≡ c.conn-1.given.0 = search rules in
+    rw (p.1, p.2) (subst (λ h. HasCleanDisk (state g.S.Store h) → KeepsCommit (state g.S.Store old) (state g.S.Store h) × (c.in_err-set_wide.field-0.0 ≡ StoreFault.Schema → (held : Holdings) → IsStoreOf (state g.S.Store old).now held → ⊥)) same
+    (λ clean. stops_whole g.S.Store old c.transaction-tx.result.conn.now c.transaction-tx.ensures.begun IsStoreOf (state g.S.Store last) (state g.S.Store c.drop-tx.new.self.0) _
+    (c.in_err-set_wide.ensures.widens (omega (arith, clean, c.drop-tx.ensures.survives.clean))) (c.drop-tx.ensures.undone clean)))
+
+pub returns-clause-crash : goal.returns-clause-crash
+returns-clause-crash g c =
+    let old = c.args.conn.now in
+    let last = c.set_wide.new.tx.conn.now in
+    let begun = c.transaction-tx.ensures.begun in
+    let P = LeavesWidened (state g.S.Store old) in
+    let whole = survives_then (state g.S.Store old) (state g.S.Store last) (state g.S.Store c.commit.new.self.0) (λ _. ⊥) (λ db. db ≡ (state g.S.Store last).now.trees) P (λ _ db none. absurd none)
+    (λ clean db is. (tables_of (state g.S.Store old).now c.schema.result.now c.origin_of.result c.schema.ensures.value (c.is_none.ensures ∙ ap not c.if-is_none.false) c.origin_of.ensures.some, leaves_store g.S.Store old c.transaction-tx.result.conn.now begun IsStoreOf widened (state g.S.Store last) db (c.in_ok-set_wide.ensures.widens (omega (arith, clean, c.commit.ensures.survives.clean))) is))
+    (survives_begin g.S.Store old (state g.S.Store last) _ (rw begun at c.set_wide.ensures.survives)) c.commit.ensures.survives in
+    let same : c.commit.new.self.0 ≡ c.conn-2-1.given.0 = search rules in
+    subst (λ h. Survives (state g.S.Store old) (state g.S.Store h) P) same whole
+
+pub returns-in_err-commit-clause-crash : goal.returns-in_err-commit-clause-crash
+returns-in_err-commit-clause-crash g c =
+    let old = c.args.conn.now in
+    let last = c.set_wide.new.tx.conn.now in
+    let begun = c.transaction-tx.ensures.begun in
+    let P = LeavesWidened (state g.S.Store old) in
+    let whole = survives_then (state g.S.Store old) (state g.S.Store last) (state g.S.Store c.commit.new.self.0) (λ _. ⊥) (λ db. db ≡ (state g.S.Store last).now.trees) P (λ _ db none. absurd none)
+    (λ clean db is. (tables_of (state g.S.Store old).now c.schema.result.now c.origin_of.result c.schema.ensures.value (c.is_none.ensures ∙ ap not c.if-is_none.false) c.origin_of.ensures.some, leaves_store g.S.Store old c.transaction-tx.result.conn.now begun IsStoreOf widened (state g.S.Store last) db (c.in_ok-set_wide.ensures.widens (omega (arith, clean, c.commit.ensures.survives.clean))) is))
+    (survives_begin g.S.Store old (state g.S.Store last) _ (rw begun at c.set_wide.ensures.survives)) c.commit.ensures.survives in
+    let same : c.commit.new.self.0 ≡ c.conn-2-1.given.0 = search rules in
+    subst (λ h. Survives (state g.S.Store old) (state g.S.Store h) P) same whole
+
+pub returns-in_err-set_wide-clause-caused : goal.returns-in_err-set_wide-clause-caused
+returns-in_err-set_wide-clause-caused g c =
+    let p = err_from_is_err_and c.from_residual.result c.from_residual.ensures.1 in
+    let old = c.args.conn.now in
+    let last = c.set_wide.new.tx.conn.now in
+    let same : c.drop-tx.new.self.0 ≡ c.conn-1.given.0 = search rules in
+    rw (p.1, p.2) (subst (λ h. HasCleanDisk (state g.S.Store h) → StopIsCaused IsStoreOf (state g.S.Store old) (state g.S.Store h) c.in_err-set_wide.field-0.0) same
+    (λ clean. stop_ends g.S.Store old c.transaction-tx.result.conn.now c.transaction-tx.ensures.begun IsStoreOf (state g.S.Store last) (state g.S.Store c.drop-tx.new.self.0) _ _
+    (c.in_err-set_wide.ensures.caused (omega (arith, clean, c.drop-tx.ensures.survives.clean))) c.drop-tx.ensures.survives))
