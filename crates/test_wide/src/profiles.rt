@@ -81,10 +81,8 @@ fn stores_are_taken_for_their_own_profile(rt: HostRuntime) {
 
 /// The profile of a store that is closed and opened again.
 fn reopened(alloc: Global, profile: Profile) -> Option<Profile> {
-    match made(alloc, profile)?.reopen(alloc) {
-        Ok(store) => Some(store.profile),
-        Err(_) => None,
-    }
+    let store = made(alloc, profile)?.reopen(alloc).ok()?;
+    Some(store.profile)
 }
 
 #[test]

@@ -103,8 +103,6 @@ pub fn told_and_asked(
     let lists = lists_of(alloc, told)?;
     let events = events_of(alloc, &issuer, &lists)?;
     let party = Node::new(ToyVerifier, made(alloc, profile)?);
-    match party.run(alloc, &events) {
-        Ok((mut party, answers)) => Some((answers, says(alloc, profile, &mut party, judged))),
-        Err(_) => None,
-    }
+    let (mut party, answers) = party.run(alloc, &events).ok()?;
+    Some((answers, says(alloc, profile, &mut party, judged)))
 }
