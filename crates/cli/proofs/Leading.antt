@@ -16,11 +16,10 @@ other_words word words behind is = subst (λ (n : ℕ). behind ≡ drop n (word 
 
 pub command_is : {A : Type 0} (text_of : A → Text) (words name behind left command : List A) (options : RunOptions)
     → name ≡ take (min (length words) 1) words → behind ≡ drop (min (length words) 1) words
-    → TakesOptions (map text_of behind) options (map text_of left) → command ≡ name ++ left → IsCommandOf (map text_of words) (map text_of command)
+    → TakesOptions (map text_of behind) options (map text_of left) → command ≡ name ++ left → IsCommandOf (map text_of words) options (map text_of command)
 command_is text_of [] name behind left command options named rest taken is =
-    (options, map text_of left, subst (λ (l : List _). TakesOptions (map text_of l) options (map text_of left)) rest taken, ap (map text_of) (is ∙ ap (λ (l : List _). l ++ left) named))
+    (map text_of left, subst (λ (l : List _). TakesOptions (map text_of l) options (map text_of left)) rest taken, ap (map text_of) (is ∙ ap (λ (l : List _). l ++ left) named))
 command_is text_of (word ∷ words) name behind left command options named rest taken is = (
-  options,
   map text_of left,
   subst (λ (l : List _). TakesOptions (map text_of l) options (map text_of left)) (other_words word words behind rest) taken,
   ap (map text_of) (is ∙ ap (λ (l : List _). l ++ left) (first_word word words name named)),

@@ -32,7 +32,7 @@ module _ (at : Places) (path : List ℕ) (old new : State) (left : at.leaves pat
   )
   listed moment all (Err failure) survives reads shows lines = tt
 
-pub listed_at : (at : Places) (path : List ℕ) (moment : Option ℤ) (old : Seen) (result : Result (Vec ℕ) Failure) → IsFound at.stands path old
+pub listed_at : (at : Places) (path : List ℕ) (moment : Option ℤ) (old : Seen) (result : Result (Vec ℕ) Failure) → IsFound at path old
     → IfOk result (λ text. HasListed at path moment old text.items) → IfOk result (λ text. IsListedAt at path moment text.items)
 listed_at at path moment old (Ok text) found listed = (old, found, listed)
 listed_at at path moment old (Err failure) found listed = tt

@@ -40,7 +40,7 @@ left_as Left given kept same left = subst Left same left
 -- ---- the store at a path, found in its old state and left in the new one
 
 module _ (at : Places) (path : List ℕ) (old new : State) (left : at.leaves path (seen_of new)) (closes : (later : List Holdings) → LeavesIfClean new later → at.lasts path later) (ready : IsReady old) where
-  pub taken : (facts : Facts) (counts : Counts) → PutsFacts old new facts (Ok counts) → IsFoundOrMade at.stands path (seen_of old) → IsTakenAtPath at path (facts_in facts) counts
+  pub taken : (facts : Facts) (counts : Counts) → PutsFacts old new facts (Ok counts) → IsFoundOrMade at path (seen_of old) → IsTakenAtPath at path (facts_in facts) counts
   taken facts counts puts found = record {
     old = seen_of old;
     found = found;
@@ -50,10 +50,10 @@ module _ (at : Places) (path : List ℕ) (old new : State) (left : at.leaves pat
   }
 
   pub not_taken : (facts : Facts) (fault : StoreFault) (failure : Failure) → failure ≡ told_of (OfStore fault) → PutsFacts old new facts (Err fault) → AllOrNothing old new facts
-      → IsFoundOrMade at.stands path (seen_of old) → IsNotTaken at path (facts_in facts) failure
+      → IsFoundOrMade at path (seen_of old) → IsNotTaken at path (facts_in facts) failure
   not_taken facts fault failure told puts survives found = inr (seen_of old, found, no_answer_on_facts at path old new left closes ready facts fault failure told puts survives)
 
-  pub checked : (accepts : Accepts) (query : Query) (verdict : Verdict) → Looks {A = Verdict} old new (IsVerdict accepts query) (Ok verdict) → CommitsNothing old new → IsFound at.stands path (seen_of old)
+  pub checked : (accepts : Accepts) (query : Query) (verdict : Verdict) → Looks {A = Verdict} old new (IsVerdict accepts query) (Ok verdict) → CommitsNothing old new → IsFound at path (seen_of old)
       → IsCheckedBy at path accepts query verdict
   checked accepts query verdict looks survives found = record {
     old = seen_of old;
@@ -68,7 +68,7 @@ module _ (at : Places) (path : List ℕ) (old new : State) (left : at.leaves pat
   }
 
   pub searched : (accepts : Accepts) (s : Search) (budget : FindingBudget) (finding : Finding) → Looks {A = Finding} old new (FindsHolding accepts s budget) (Ok finding) → CommitsNothing old new
-      → IsFound at.stands path (seen_of old) → IsFoundBy at path accepts s budget finding
+      → IsFound at path (seen_of old) → IsFoundBy at path accepts s budget finding
   searched accepts s budget finding looks survives found = record {
     old = seen_of old;
     found = found;
@@ -81,7 +81,7 @@ module _ (at : Places) (path : List ℕ) (old new : State) (left : at.leaves pat
     );
   }
 
-  pub not_checked : (fault : Fault) (failure : Failure) → failure ≡ told_of fault → (HasCleanDisk new → StaysIfOpen old new × IsFormed old fault) → CommitsNothing old new → IsFound at.stands path (seen_of old)
+  pub not_checked : (fault : Fault) (failure : Failure) → failure ≡ told_of fault → (HasCleanDisk new → StaysIfOpen old new × IsFormed old fault) → CommitsNothing old new → IsFound at path (seen_of old)
       → IsNotChecked at path failure
   not_checked fault failure told looks survives found = inr (seen_of old, found, no_verdict at path old new left closes ready fault failure told looks survives)
 
@@ -91,7 +91,7 @@ module _ (at : Places) (stores : StorePair) (old new other_old other_new : State
     (closes : (later : List Holdings) → LeavesIfClean new later → at.lasts stores.store.now later) (other_closes : (later : List Holdings) → LeavesIfClean other_new later → at.lasts stores.other.now later)
     (ready : IsReady old) (other_ready : IsReady other_old) (survives : CommitsNothing old new) (other_survives : CommitsNothing other_old other_new) where
   pub compared : (accepts : Accepts) (query : Query) (comparison : Comparison) → LooksAtBoth {A = Comparison} old new other_old other_new (IsComparison accepts query) (Ok comparison)
-      → IsFound at.stands stores.store.now (seen_of old) → IsFound at.stands stores.other.now (seen_of other_old) → IsComparedBy at stores accepts query comparison
+      → IsFound at stores.store.now (seen_of old) → IsFound at stores.other.now (seen_of other_old) → IsComparedBy at stores accepts query comparison
   compared accepts query comparison looks found other_found = record {
     old = seen_of old;
     other_old = seen_of other_old;
@@ -112,6 +112,6 @@ module _ (at : Places) (stores : StorePair) (old new other_old other_new : State
 
   pub not_compared : (fault : Fault) (failure : Failure) → failure ≡ told_of fault
       → (HasCleanDisk new → HasCleanDisk other_new → StaysIfOpen old new × StaysIfOpen other_old other_new × IsFormedOfEither old other_old fault)
-      → IsFound at.stands stores.store.now (seen_of old) → IsFound at.stands stores.other.now (seen_of other_old) → IsNotCompared at stores failure
+      → IsFound at stores.store.now (seen_of old) → IsFound at stores.other.now (seen_of other_old) → IsNotCompared at stores failure
   not_compared fault failure told looks found other_found =
       inr (inr (seen_of old, seen_of other_old, found, other_found, no_comparison at stores old new other_old other_new left other_left closes other_closes ready other_ready survives other_survives fault failure told looks))

@@ -65,7 +65,7 @@ pub served : (host : HostState) (words : SessionWords) (prints : List (List ℕ)
     → Believes believed.listed prints → BelievesJust believed prints → IsReady old → (HasCleanDisk new → HasCleanDisk old)
     → SessionHasEnded (holding_of host.holds) run.input run.source run.output run.written (λ Are. HasCleanDisk new → Steps believed (keeping_in old) last (keeping_in new) Are) end
     → host.at.leaves words.store.now (seen_of new) → ((later : List Holdings) → LeavesIfClean new later → host.at.lasts words.store.now later)
-    → BelievesAtFirst host.holds (given words.verdicts) prints → IsFoundOrMade host.at.stands words.store.now (seen_of old) → IsSession host words run end
+    → BelievesAtFirst host.holds (given words.verdicts) prints → IsFoundOrMade host.at words.store.now (seen_of old) → IsSession host words run end
 served host words prints believed last old new run end listed believes ready was_clean ended left closes begins found = record {
   prints = prints;
   begins = begins;

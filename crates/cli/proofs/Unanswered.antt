@@ -141,7 +141,7 @@ module _ (at : Places) (stores : StorePair) (old new other_old other_new : State
 
 -- ---- the store at a path
 
-pub not_listed_at : {T : Type 0} (at : Places) (path : List ℕ) (old : Seen) (result : Result T Failure) → IsFound at.stands path old
+pub not_listed_at : {T : Type 0} (at : Places) (path : List ℕ) (old : Seen) (result : Result T Failure) → IsFound at path old
     → IfErr result (IsNoAnswer at path the_same old) → IfErr result (IsNotChecked at path)
 not_listed_at at path old (Ok x) found fails = tt
 not_listed_at at path old (Err failure) found fails = inr (old, found, fails)

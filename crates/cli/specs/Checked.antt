@@ -26,7 +26,7 @@ use Rattle.cli.specs.declared.at_path.StorePair.{StorePair}
 -- and what it held lasts.
 pub record IsCheckedBy (at : Places) (path : List ℕ) (accepts : Accepts) (query : Query) (verdict : Verdict) : Type 0 where
   pub old : Seen
-  pub found : IsFound at.stands path old
+  pub found : IsFound at path old
   pub new : Seen
   pub left : at.leaves path new
   pub is :
@@ -38,7 +38,7 @@ pub record IsCheckedBy (at : Places) (path : List ℕ) (accepts : Accepts) (quer
 -- the store is not found, or does not answer
 abbrev pub IsNotChecked : Places → List ℕ → Failure → Type 0
 IsNotChecked at path failure =
-    IsNotFound at.stands path failure ⊎ IsUnanswered (IsFound at.stands path) at path the_same failure
+    IsNotFound at.stands path failure ⊎ IsUnanswered (IsFound at path) at path the_same failure
 
 -- one or the other
 abbrev pub ChecksAt : Places → List ℕ → Accepts → Query → Result Verdict Failure → Type 0
@@ -73,8 +73,8 @@ FailsToCheck host store verdicts texts =
 pub record IsComparedBy (at : Places) (stores : StorePair) (accepts : Accepts) (query : Query) (comparison : Comparison) : Type 0 where
   pub old : Seen
   pub other_old : Seen
-  pub found : IsFound at.stands stores.store.now old
-  pub other_found : IsFound at.stands stores.other.now other_old
+  pub found : IsFound at stores.store.now old
+  pub other_found : IsFound at stores.other.now other_old
   pub new : Seen
   pub other_new : Seen
   pub left : at.leaves stores.store.now new
@@ -108,8 +108,8 @@ pub record IsNoComparison (at : Places) (stores : StorePair) (old other_old : Se
 -- the stores at two paths were found, and one did not answer
 abbrev pub AreUnanswered : Places → StorePair → Failure → Type 0
 AreUnanswered at stores failure =
-    (old other_old : Seen) × IsFound at.stands stores.store.now old
-    × IsFound at.stands stores.other.now other_old
+    (old other_old : Seen) × IsFound at stores.store.now old
+    × IsFound at stores.other.now other_old
     × IsNoComparison at stores old other_old failure
 
 -- a store that was found so is closed as it is, and what it held lasts
@@ -121,7 +121,7 @@ IsLeftAlone at path old =
 abbrev pub IsNotCompared : Places → StorePair → Failure → Type 0
 IsNotCompared at stores failure =
     IsNotFound at.stands stores.store.now failure
-    ⊎ (((old : Seen) × IsFound at.stands stores.store.now old
+    ⊎ (((old : Seen) × IsFound at stores.store.now old
     × IsLeftAlone at stores.store.now old × IsNotFound at.stands stores.other.now failure)
     ⊎ AreUnanswered at stores failure)
 

@@ -24,7 +24,7 @@ use Rattle.cli.specs.Streams.{FailsOrCuts}
 -- connection is open, and what it held lasts.
 pub record IsCheckedWithPoliciesBy (at : Places) (path : List ℕ) (accepts : Accepts) (q : QueryWithPolicies) (answer : VerdictWithPolicies) : Type 0 where
   pub old : Seen
-  pub found : IsFound at.stands path old
+  pub found : IsFound at path old
   pub new : Seen
   pub left : at.leaves path new
   pub is :

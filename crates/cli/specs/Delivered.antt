@@ -21,7 +21,7 @@ use Rattle.cli.specs.declared.delivering.Delivery.{Delivery}
 -- held: all are taken, and counted so, and that lasts.
 pub record IsTakenAtPath (at : Places) (path : List ℕ) (facts : List Fact) (counts : Counts) : Type 0 where
   pub old : Seen
-  pub found : IsFoundOrMade at.stands path old
+  pub found : IsFoundOrMade at path old
   pub new : Seen
   pub left : at.leaves path new
   pub taken :
@@ -33,7 +33,7 @@ pub record IsTakenAtPath (at : Places) (path : List ℕ) (facts : List Fact) (co
 abbrev pub IsNotTaken : Places → List ℕ → List Fact → Failure → Type 0
 IsNotTaken at path facts failure =
     MakesNoStore at.stands path failure
-    ⊎ IsUnanswered (IsFoundOrMade at.stands path) at path (with_or_without facts) failure
+    ⊎ IsUnanswered (IsFoundOrMade at path) at path (with_or_without facts) failure
 
 -- one or the other
 abbrev pub TakesAt : Places → List ℕ → List Fact → Result Counts Failure → Type 0

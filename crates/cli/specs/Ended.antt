@@ -5,6 +5,8 @@ use Rattle.std.specs.Io.KnownBytes.{Appends}
 use Rattle.clap.specs.Words.{Text}
 use Rattle.cli_failures.specs.Report.{UnlessLate, report_line, exit_status}
 use Rattle.cli_failures.specs.declared.failure.Failure.{Failure}
+use Rattle.statements_facts.specs.declared.profile.Profile.{Profile}
+use Rattle.cli_words.specs.declared.leading.RunOptions.{RunOptions}
 use Rattle.clap.specs.declared.error.kind.ErrorKind.{ErrorKind}
 use Rattle.cli_failures.specs.declared.failure.Failure.TheVariants.{NoMemory, Unwritable}
 use Rattle.cli.specs.Host.{HostState}
@@ -73,16 +75,16 @@ FailsTelling host words remaining input source contents old new told before afte
     RunHasEnded host (texts words) (streams remaining input source contents old new) (new ≡ old)
     (λ line. OnOk ended.told (Appends (told before) (told after) line)) ended.status
 
--- ---- over the system's files, with options for the run in front of the command
+-- ---- over the system's files, with options for the run in front of the command, which say the profile
 
-abbrev pub AnswersCommand : {I O : Type 0} → HostState → List (Bor (List ℕ)) → (I → Option (List ℕ)) → I → I → (O → Option (List ℕ)) → O → O → ℕ → Type 0
+abbrev pub AnswersCommand : {I O : Type 0} → (Profile → HostState) → List (Bor (List ℕ)) → (I → Option (List ℕ)) → I → I → (O → Option (List ℕ)) → O → O → ℕ → Type 0
 AnswersCommand host words remaining input source contents old new status =
     IsAnswering status →
-    (command : List Text) × IsCommandOf (texts words) command
-    × HasAnswered host command (streams remaining input source contents old new) status
+    (options : RunOptions) × (command : List Text) × IsCommandOf (texts words) options command
+    × HasAnswered (host options.profile) command (streams remaining input source contents old new) status
 
-abbrev pub FailsCommand : {I O : Type 0} → HostState → List (Bor (List ℕ)) → (I → Option (List ℕ)) → I → I → (O → Option (List ℕ)) → O → O → ℕ → Type 0
+abbrev pub FailsCommand : {I O : Type 0} → (Profile → HostState) → List (Bor (List ℕ)) → (I → Option (List ℕ)) → I → I → (O → Option (List ℕ)) → O → O → ℕ → Type 0
 FailsCommand host words remaining input source contents old new status =
     IsFailing status →
-    (command : List Text) × IsCommandOf (texts words) command
-    × HasEndedSo host command (streams remaining input source contents old new) (new ≡ old) status
+    (options : RunOptions) × (command : List Text) × IsCommandOf (texts words) options command
+    × HasEndedSo (host options.profile) command (streams remaining input source contents old new) (new ≡ old) status

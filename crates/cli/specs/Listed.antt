@@ -40,7 +40,7 @@ HasListed places path moment old text =
 -- the same of the store at a path
 abbrev pub IsListedAt : Places → List ℕ → Option ℤ → List ℕ → Type 0
 IsListedAt places path moment text =
-    (old : Seen) × IsFound places.stands path old × HasListed places path moment old text
+    (old : Seen) × IsFound places path old × HasListed places path moment old text
 
 -- the lines that are asked for
 abbrev pub IsListed : Places → List ℕ → Option (List ℕ) → List ℕ → Type 0

@@ -22,7 +22,7 @@ use Rattle.cli.specs.Streams.{FailsOrCuts}
 -- and what it held lasts.
 pub record IsFoundBy (at : Places) (path : List ℕ) (accepts : Accepts) (s : Search) (budget : FindingBudget) (finding : Finding) : Type 0 where
   pub old : Seen
-  pub found : IsFound at.stands path old
+  pub found : IsFound at path old
   pub new : Seen
   pub left : at.leaves path new
   pub is :

@@ -42,7 +42,7 @@ pub record IsSession (host : HostState) (words : SessionWords) (run : Streams) (
   pub prints : List (List ℕ)
   pub begins : BelievesAtFirst host.holds (given words.verdicts) prints
   pub old : Seen
-  pub found : IsFoundOrMade host.at.stands words.store.now old
+  pub found : IsFoundOrMade host.at words.store.now old
   pub new : Seen
   pub left : host.at.leaves words.store.now new
   pub ended : SessionHasEnded (holding_of host.holds) run.input run.source run.output run.written (HasComeTo (host.at.lasts words.store.now) old new prints) end

@@ -58,7 +58,7 @@ fn take_in<'a, D: Disk + Drop, S: Stores<Store<D>>>(
     requires open { IsOpenIfClean (file_state store.conn) }
     requires settled { IsSettled (file_state store.conn) }
     requires durable { IsDurable (file_state store.conn) }
-    ensures { IsFoundOrMade (S.places source.now).stands path.now (seen_in store)
+    ensures { IsFoundOrMade (S.places source.now) path.now (seen_in store)
         → TakesAt (S.places source.now) path.now (facts_in facts.now)
         result }
 {
@@ -107,7 +107,7 @@ fn check_in<'a, D: Disk + Drop, S: Stores<Store<D>>, V: Verifier>(
     requires open { IsOpenIfClean (file_state store.conn) }
     requires settled { IsSettled (file_state store.conn) }
     requires durable { IsDurable (file_state store.conn) }
-    ensures { IsFound (S.places source.now).stands path.now (seen_in store)
+    ensures { IsFound (S.places source.now) path.now (seen_in store)
         → ChecksAt (S.places source.now) path.now
         (V.accepts verifier.now) (seen_query query.now) result }
 {
@@ -164,7 +164,7 @@ fn find_in<'a, D: Disk + Drop, S: Stores<Store<D>>, V: Verifier>(
     requires open { IsOpenIfClean (file_state store.conn) }
     requires settled { IsSettled (file_state store.conn) }
     requires durable { IsDurable (file_state store.conn) }
-    ensures { IsFound (S.places source.now).stands path.now (seen_in store)
+    ensures { IsFound (S.places source.now) path.now (seen_in store)
         → FindsAt (S.places source.now) path.now
         (V.accepts verifier.now) (seen_search search.now) budget result }
 {
@@ -226,8 +226,8 @@ fn compare_in<'a, D: Disk + Drop, S: Stores<Store<D>>, V: Verifier>(
     requires other_open { IsOpenIfClean (file_state beside.conn) }
     requires other_settled { IsSettled (file_state beside.conn) }
     requires other_durable { IsDurable (file_state beside.conn) }
-    ensures { IsFound (S.places source.now).stands stores.now.store.now (seen_in store)
-        → IsFound (S.places source.now).stands stores.now.other.now (seen_in beside)
+    ensures { IsFound (S.places source.now) stores.now.store.now (seen_in store)
+        → IsFound (S.places source.now) stores.now.other.now (seen_in beside)
         → ComparesAt (S.places source.now) stores.now
         (V.accepts verifier.now) (seen_query query.now) result }
 {

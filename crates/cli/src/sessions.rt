@@ -76,7 +76,7 @@ fn serve_over<D: Disk + Drop, S: Source + Stores<Store<D>>, R: Read, O: Write>(
     requires settled { IsSettled (file_state store.conn) }
     requires durable { IsDurable (file_state store.conn) }
     ensures served { BelievesAtFirst (S.holds source.now) (given words.now.verdicts) prints.items
-        → IsFoundOrMade (S.places source.now).stands words.now.store.now (seen_in store)
+        → IsFoundOrMade (S.places source.now) words.now.store.now (seen_in store)
         → IsSession (host S.holds S.places source.now) words.now
         (streams R.remaining input.old input.new O.contents out.old out.new) result }
 {

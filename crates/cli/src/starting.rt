@@ -13,6 +13,7 @@ use cli_hints::{hint_after_delivery, hint_to};
 use cli_store::Machine;
 use cli_words::{Line, RunOptions, RunWords, command_of, run_options};
 use sqlite_disk::Start;
+use statements_facts::Profile;
 use std::alloc::{AllocError, Global};
 use std::io::{Read, Write};
 
@@ -33,13 +34,14 @@ fn words_of<'a>(
 // failed is told nowhere.
 fn give_hint<E: Write>(
     rt: &HostRuntime,
+    profile: Profile,
     line: &Line<'_>,
     outcome: Result<u8, Failure<'_>>,
     err: &mut E,
 ) {
     let _ = match (line, outcome) {
         (_, Err(failure)) => hint_to(rt, line, &failure, err),
-        (Line::Deliver { file, .. }, Ok(_)) => hint_after_delivery(rt, file, err),
+        (Line::Deliver { file, .. }, Ok(_)) => hint_after_delivery(rt, profile, file, err),
         (_, Ok(_)) => Ok(()),
     };
 }
@@ -55,17 +57,18 @@ fn run_line<S: Start + Copy, I: Read, O: Write, E: Write>(
     err: &mut E,
 ) -> u8
     ensures status { IsAnswering result ⊎ IsFailing result }
-    ensures answered { IsAnswering result → IsDone (host_on (image_at S.Start)) line.now
+    ensures answered { IsAnswering result
+        → IsDone (host_on (image_at S.Start) machine.now.profile) line.now
         (streams I.remaining input.old input.new O.contents out.old out.new) result }
     ensures failed { IsFailing result → EndedAs
-        (IsLineFailure (host_on (image_at S.Start)) line.now
+        (IsLineFailure (host_on (image_at S.Start) machine.now.profile) line.now
         (streams I.remaining input.old input.new O.contents out.old out.new))
         (out.new ≡ out.old) result }
 {
     let outcome = run(machine, alloc, line, input, out);
     let status = finish(outcome, err).status;
     if hints {
-        give_hint(machine.rt, line, outcome, err);
+        give_hint(machine.rt, machine.profile, line, outcome, err);
     }
     status
 }
@@ -82,14 +85,15 @@ fn run_words<S: Start + Copy, I: Read, O: Write, E: Write>(
     err: &mut E,
 ) -> u8
     ensures status { IsAnswering result ⊎ IsFailing result }
-    ensures answered { AnswersByStatus (host_on (image_at S.Start)) words.now
+    ensures answered { AnswersByStatus (host_on (image_at S.Start) options.profile) words.now
         I.remaining input.old input.new O.contents out.old out.new result }
-    ensures failed { FailsByStatus (host_on (image_at S.Start)) words.now
+    ensures failed { FailsByStatus (host_on (image_at S.Start) options.profile) words.now
         I.remaining input.old input.new O.contents out.old out.new result }
 {
     let machine = Machine {
         rt,
         wait: options.wait,
+        profile: options.profile,
         start,
     };
     match command_of(alloc, words) {
@@ -99,8 +103,8 @@ fn run_words<S: Start + Copy, I: Read, O: Write, E: Write>(
 }
 
 /// Does what the words ask for, of which the first is the program's name, as `execute` does, over the system's files. Behind the name may
-/// stand options for the whole run (`cli_words::run_options`): a store that another process has open is waited for, and with `--hints` a
-/// failure is followed by a line that says what to do. `S` stands for what the files of a store hold as they are opened; `main` names
+/// stand options for the whole run (`cli_words::run_options`): a store that another process has open is waited for, `--profile` says the
+/// profile of the run's stores, and with `--hints` a failure is followed by a line that says what to do. `S` stands for what the files of a store hold as they are opened; `main` names
 /// `AnyFiles`.
 pub fn start<S: Start + Copy, I: Read, O: Write, E: Write>(
     rt: &HostRuntime,

@@ -1,69 +1,85 @@
 -- What is found in files, and what a failure says of the file that it is about.
-use Rattle.std.specs.Prelude.{◌≡◌, ◌⊎◌, ℕ, List, Option, Some, None, Result, Ok, Err}
+use Rattle.std.specs.Prelude.{◌≡◌, ◌⊎◌, ⊤, ℕ, List, Option, Some, None, Result, Ok, Err}
 use Rattle.asn.specs.FirstFault.{IsFirstFault}
-use Rattle.cert.specs.Certificate.{Certificate, certificate}
+use Rattle.cert.specs.Certificate.{Certificate}
+use Rattle.path_points.specs.InProfile.{certificate_under}
 use Rattle.statements_facts.specs.Fact.{Fact}
+use Rattle.statements_facts.specs.declared.profile.Profile.{Profile}
+use Rattle.statements_facts.specs.declared.profile.Profile.TheVariants.{Stated}
 use Rattle.statements_parts.specs.declared.fault.StatementFault.{StatementFault}
-use Rattle.statements_crl.specs.CertificateList.{CertificateList, certificate_list}
+use Rattle.statements_crl.specs.CertificateList.{CertificateList, certificate_list_under}
 use Rattle.statements_ocsp.specs.OcspResponse.{OcspResponse, ocsp_response}
 use Rattle.cli_failures.specs.declared.failure.Failure.{Failure}
 use Rattle.cli_failures.specs.declared.failure.Failure.TheVariants.{Refused, NoCertificate, NoRevocationList, NoResponse, NotGenuine, Unreadable, Unwritable, NoMemory}
 
 -- What is found where files are read: a relation of their names and of what is there, the octets that the file holds, or none where it
--- cannot be read.
-abbrev pub Holding : Type 1
-Holding = List ℕ → Option (List ℕ) → Type 0
+-- cannot be read; and the profile in which statements, and the certificates of paths, are read there.
+pub record Holding : Type 1 where
+  pub has : List ℕ → Option (List ℕ) → Type 0
+  pub profile : Profile
+
+-- each file may hold anything
+abbrev pub any_file : Profile → Holding
+any_file profile = record { has = λ file found. ⊤; profile = profile }
 
 -- each file can be read, and holds just these octets
-abbrev pub IsJust : List ℕ → Holding
-IsJust octets file found = found ≡ Some octets
+abbrev pub IsJust : Profile → List ℕ → Holding
+IsJust profile octets = record { has = λ file found. found ≡ Some octets; profile = profile }
 
 -- The file was not read: it is named, and cannot be read; or memory ran out.
 abbrev pub IsUnread : Holding → List ℕ → Failure → Type 0
-IsUnread holds file (Unreadable named) = (named.now ≡ file) × holds file None
+IsUnread holds file (Unreadable named) = (named.now ≡ file) × holds.has file None
 IsUnread holds file NoMemory = Unit {0}
 IsUnread holds file _ = ⊥
 
--- the file holds the octets of this certificate
-abbrev pub HoldsCertificate : Holding → List ℕ → Certificate → Type 0
-HoldsCertificate holds file read =
-    (octets : List ℕ) × holds file (Some octets) × (certificate octets ≡ Ok read)
+-- the file holds the octets of this certificate, read in a profile
+abbrev pub HoldsCertificateUnder : Profile → Holding → List ℕ → Certificate → Type 0
+HoldsCertificateUnder profile holds file read =
+    (octets : List ℕ) × holds.has file (Some octets) × (certificate_under profile octets ≡ Ok read)
 
--- the file holds the octets of this revocation list
+-- of one whose points do not count
+abbrev pub HoldsCertificate : Holding → List ℕ → Certificate → Type 0
+HoldsCertificate = HoldsCertificateUnder Stated
+
+-- the file holds the octets of this revocation list, in the profile
 abbrev pub HoldsList : Holding → List ℕ → CertificateList → Type 0
 HoldsList holds file read =
-    (octets : List ℕ) × holds file (Some octets) × (certificate_list octets ≡ Ok read)
+    (octets : List ℕ) × holds.has file (Some octets) × (certificate_list_under holds.profile octets ≡ Ok read)
 
 -- the file holds the octets of this response
 abbrev pub HoldsResponse : Holding → List ℕ → OcspResponse → Type 0
 HoldsResponse holds file read =
-    (octets : List ℕ) × holds file (Some octets) × (ocsp_response octets ≡ Ok read)
+    (octets : List ℕ) × holds.has file (Some octets) × (ocsp_response octets ≡ Ok read)
 
 -- A failure on a file that is to hold a DER value: it names that file, and its fault is the first of octets that the file holds.
 abbrev pub IsNoValue : Holding → List ℕ → Failure → Type 0
 IsNoValue holds file (Refused named fault) =
-    (named.now ≡ file) × ((octets : List ℕ) × holds file (Some octets) × IsFirstFault octets fault)
+    (named.now ≡ file) × ((octets : List ℕ) × holds.has file (Some octets) × IsFirstFault octets fault)
 IsNoValue holds file failure = IsUnread holds file failure
 
--- the same of a certificate
-abbrev pub IsNoCertificate : Holding → List ℕ → Failure → Type 0
-IsNoCertificate holds file (NoCertificate named rule at) =
+-- the same of a certificate, read in a profile
+abbrev pub IsNoCertificateUnder : Profile → Holding → List ℕ → Failure → Type 0
+IsNoCertificateUnder profile holds file (NoCertificate named rule at) =
     (named.now ≡ file)
-    × ((octets : List ℕ) × holds file (Some octets) × (certificate octets ≡ Err (rule, at)))
-IsNoCertificate holds file failure = IsUnread holds file failure
+    × ((octets : List ℕ) × holds.has file (Some octets) × (certificate_under profile octets ≡ Err (rule, at)))
+IsNoCertificateUnder profile holds file failure = IsUnread holds file failure
+
+-- of one whose points do not count
+abbrev pub IsNoCertificate : Holding → List ℕ → Failure → Type 0
+IsNoCertificate = IsNoCertificateUnder Stated
 
 -- of a revocation list
 abbrev pub IsNoList : Holding → List ℕ → Failure → Type 0
 IsNoList holds file (NoRevocationList named rule at) =
     (named.now ≡ file)
-    × ((octets : List ℕ) × holds file (Some octets) × (certificate_list octets ≡ Err (rule, at)))
+    × ((octets : List ℕ) × holds.has file (Some octets) × (certificate_list_under holds.profile octets ≡ Err (rule, at)))
 IsNoList holds file failure = IsUnread holds file failure
 
 -- of a response
 abbrev pub IsNoResponse : Holding → List ℕ → Failure → Type 0
 IsNoResponse holds file (NoResponse named rule at) =
     (named.now ≡ file)
-    × ((octets : List ℕ) × holds file (Some octets) × (ocsp_response octets ≡ Err (rule, at)))
+    × ((octets : List ℕ) × holds.has file (Some octets) × (ocsp_response octets ≡ Err (rule, at)))
 IsNoResponse holds file failure = IsUnread holds file failure
 
 -- what is said is that the statement is refused for this fault

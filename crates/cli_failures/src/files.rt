@@ -1,47 +1,60 @@
 //! What the program reads.
 ghost use Rattle.std.specs.Prelude.{◌≡◌, Ok, IfErr, IfOk};
 ghost use Rattle.cert.specs.Certificate.{certificate, seen_certificate};
-ghost use Rattle.statements_crl.specs.CertificateList.{certificate_list, seen_list};
+ghost use Rattle.path_points.specs.InProfile.{certificate_under};
+ghost use Rattle.statements_crl.specs.CertificateList.{certificate_list_under, seen_list};
 ghost use Rattle.statements_ocsp.specs.OcspResponse.{ocsp_response, seen_response};
-ghost use Rattle.statements.specs.Statement.{genuine_statement};
+ghost use Rattle.statements.specs.Statement.{genuine_statement_under};
 ghost use Rattle.statements_facts.specs.Fact.{facts_in};
-ghost use Rattle.cli_failures.specs.Failures.{IsDenied, IsJust, IsNoCertificate, IsNoList, IsNoResponse, IsUnread};
+ghost use Rattle.statements_facts.specs.declared.profile.Profile.TheVariants.{Stated};
+ghost use Rattle.cli_failures.specs.Failures.{IsDenied, IsJust, IsNoCertificate, IsNoCertificateUnder, IsNoList, IsNoResponse, IsUnread};
 
 use crate::extent::{Extent, read_extent};
 use crate::failure::Failure;
 use cert::{CertFault, Certificate};
 use der_stream::ReadFault;
 use path_verifiers::Verifier;
-use statements::genuine;
+use statements::genuine_under;
 use statements_crl::Crl;
-use statements_facts::Facts;
+use statements_facts::{Facts, Profile};
 use statements_ocsp::Response;
 use statements_parts::{ReadingFault, StatementFault};
 use std::alloc::Global;
 use std::rt::Files;
 use std::{fs, io};
 
-/// Where files come from.
+/// Where files come from, and the profile in which statements, and the certificates of paths, are read of them.
 ///
 /// What a file holds, and whether it can be read, is the source's own matter: no contract can look at a disk. The contracts only know that
 /// a source answers what the file of that name holds, and says that a file cannot be read only if it cannot.
 pub trait Source {
-    ghost use Rattle.std.specs.Prelude.{ℕ, List, Option, Some};
+    ghost use Rattle.std.specs.Prelude.{Some};
+    ghost use Rattle.cli_failures.specs.Failures.{Holding};
 
-    /// Whether the file of this name holds these octets; of none, whether it cannot be read.
-    ghost holds: { Self → List ℕ → Option (List ℕ) → Type 0 };
+    /// Whether the file of a name holds octets, or cannot be read; and the profile.
+    ghost holds: { Self → Holding };
+
+    /// The profile.
+    fn profile(&self) -> Profile
+        ensures { result ≡ (holds self.now).profile };
 
     /// The octets of the file, as far as they matter.
     fn octets_of<'a>(&self, file: &'a str, extent: Extent) -> Result<Vec<u8>, Failure<'a>>
-        ensures reads { IfOk result (λ octets. holds self.now file.entry.now (Some octets.items)) }
+        ensures reads { IfOk result (λ octets.
+            (holds self.now).has file.entry.now (Some octets.items)) }
         ensures fails { IfErr result (IsUnread (holds self.now) file.entry.now) };
 }
 
-/// The files of the system, of which no contract says what they hold, and whether they can be read.
+/// The files of the system, of which no contract says what they hold, and whether they can be read. The profile is the stated one.
 impl<R: Files + AllocGlobal> Source for R {
-    ghost use Rattle.std.specs.Prelude.{⊤};
+    ghost use Rattle.cli_failures.specs.Failures.{any_file};
+    ghost use Rattle.statements_facts.specs.declared.profile.Profile.TheVariants.{Stated};
 
-    ghost holds = { λ _ _ _. ⊤ };
+    ghost holds = { λ _. any_file Stated };
+
+    fn profile(&self) -> Profile {
+        Profile::Stated
+    }
 
     fn octets_of<'a>(&self, file: &'a str, extent: Extent) -> Result<Vec<u8>, Failure<'a>> {
         let mut source = fs::open(self, file).map_err(|error| match error.kind() {
@@ -55,32 +68,49 @@ impl<R: Files + AllocGlobal> Source for R {
     }
 }
 
-/// The certificate that the octets of the file are.
-pub fn read_certificate<'a, 'o>(
+/// The certificate that the octets of the file are, in the profile: in the wide one with its points.
+pub fn read_certificate_under<'a, 'o>(
     alloc: Global,
+    profile: Profile,
     file: &'a str,
     octets: &'o [u8],
 ) -> Result<Certificate<'o>, Failure<'a>>
-    ensures reads { IfOk result (λ read. certificate octets.now ≡ Ok (seen_certificate read)) }
-    ensures fails { IfErr result (IsNoCertificate (IsJust octets.now) file.entry.now) }
+    ensures reads { IfOk result (λ read.
+        certificate_under profile octets.now ≡ Ok (seen_certificate read)) }
+    ensures fails { IfErr result
+        (IsNoCertificateUnder profile (IsJust profile octets.now) file.entry.now) }
 {
-    match Certificate::read(alloc, octets) {
+    match path_points::read_certificate_under(alloc, profile, octets) {
         Ok(read) => Ok(read),
         Err(CertFault::Refused(rule, at)) => Err(Failure::NoCertificate { file, rule, at }),
         Err(CertFault::Memory) => Err(Failure::NoMemory),
     }
 }
 
-/// The revocation list that the octets of the file are.
-pub fn read_list<'a, 'o>(
+/// The same of a certificate whose points do not count: an anchor, an issuer, or one that is shown.
+pub fn read_certificate<'a, 'o>(
     alloc: Global,
     file: &'a str,
     octets: &'o [u8],
-) -> Result<Crl<'o>, Failure<'a>>
-    ensures reads { IfOk result (λ read. certificate_list octets.now ≡ Ok (seen_list read)) }
-    ensures fails { IfErr result (IsNoList (IsJust octets.now) file.entry.now) }
+) -> Result<Certificate<'o>, Failure<'a>>
+    ensures reads { IfOk result (λ read. certificate octets.now ≡ Ok (seen_certificate read)) }
+    ensures fails { IfErr result (IsNoCertificate (IsJust Stated octets.now) file.entry.now) }
 {
-    match Crl::read(alloc, octets) {
+    read_certificate_under(alloc, Profile::Stated, file, octets)
+}
+
+/// The revocation list that the octets of the file are, in the profile.
+pub fn read_list<'a, 'o>(
+    alloc: Global,
+    profile: Profile,
+    file: &'a str,
+    octets: &'o [u8],
+) -> Result<Crl<'o>, Failure<'a>>
+    ensures reads { IfOk result (λ read.
+        certificate_list_under profile octets.now ≡ Ok (seen_list read)) }
+    ensures fails { IfErr result (IsNoList (IsJust profile octets.now) file.entry.now) }
+{
+    match Crl::read_under(alloc, profile, octets) {
         Ok(read) => Ok(read),
         Err(ReadingFault::Refused(rule, at)) => Err(Failure::NoRevocationList { file, rule, at }),
         Err(ReadingFault::Memory) => Err(Failure::NoMemory),
@@ -94,7 +124,7 @@ pub fn read_response<'a, 'o>(
     octets: &'o [u8],
 ) -> Result<Response<'o>, Failure<'a>>
     ensures reads { IfOk result (λ read. ocsp_response octets.now ≡ Ok (seen_response read)) }
-    ensures fails { IfErr result (IsNoResponse (IsJust octets.now) file.entry.now) }
+    ensures fails { IfErr result (IsNoResponse (IsJust Stated octets.now) file.entry.now) }
 {
     match Response::read(alloc, octets) {
         Ok(read) => Ok(read),
@@ -103,20 +133,22 @@ pub fn read_response<'a, 'o>(
     }
 }
 
-/// What the statement in the file says, if it is one of the issuer.
+/// What the statement in the file says, read in the profile, if it is one of the issuer.
 pub fn read_facts<'a, 'x, V: Verifier>(
     alloc: Global,
+    profile: Profile,
     verifier: &V,
     issuer: &Certificate<'x>,
     file: &'a str,
     statement: &'x [u8],
 ) -> Result<Facts<'x>, Failure<'a>>
-    ensures says { IfOk result (λ facts. genuine_statement (V.accepts verifier.now)
+    ensures says { IfOk result (λ facts. genuine_statement_under profile (V.accepts verifier.now)
         (seen_certificate issuer.now) statement.now ≡ Ok (facts_in facts)) }
-    ensures denied { IfErr result (IsDenied (genuine_statement (V.accepts verifier.now)
+    ensures denied { IfErr result (IsDenied
+        (genuine_statement_under profile (V.accepts verifier.now)
         (seen_certificate issuer.now) statement.now) file.entry.now) }
 {
-    match genuine(alloc, verifier, issuer, statement) {
+    match genuine_under(alloc, profile, verifier, issuer, statement) {
         Ok(facts) => Ok(facts),
         Err(StatementFault::Memory) => Err(Failure::NoMemory),
         Err(fault) => Err(Failure::NotGenuine { file, fault }),

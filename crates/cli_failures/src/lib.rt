@@ -7,4 +7,6 @@ mod files;
 
 pub use extent::Extent;
 pub use failure::{Failure, StoreRefusal};
-pub use files::{Source, read_certificate, read_facts, read_list, read_response};
+pub use files::{
+    Source, read_certificate, read_certificate_under, read_facts, read_list, read_response,
+};

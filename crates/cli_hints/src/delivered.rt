@@ -3,6 +3,7 @@
 use cli_failures::{Extent, Source};
 use jiff::Timestamp;
 use statements_crl::Crl;
+use statements_facts::Profile;
 use std::io;
 use std::io::Write;
 
@@ -44,6 +45,7 @@ fn hint_about_list<W: Write>(
 /// whenever that is in force.
 pub fn hint_after_delivery<W: Write>(
     rt: &HostRuntime,
+    profile: Profile,
     file: &str,
     writer: &mut W,
 ) -> io::Result<()> {
@@ -53,7 +55,7 @@ pub fn hint_after_delivery<W: Write>(
     let Ok(now) = Timestamp::now(rt) else {
         return Ok(());
     };
-    match Crl::read(rt.alloc(), octets.as_slice()) {
+    match Crl::read_under(rt.alloc(), profile, octets.as_slice()) {
         Ok(list) => hint_about_list(file, &list, now.as_second(), writer),
         Err(_) => Ok(()),
     }

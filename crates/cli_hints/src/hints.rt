@@ -96,6 +96,7 @@ fn hint_about_stores<W: Write>(
         Line::Deliver { store, .. }
         | Line::Check { store, .. }
         | Line::CheckWithPolicies { store, .. }
+        | Line::Find { store, .. }
         | Line::List { store, .. }
         | Line::Session { store, .. } => hint_about_store(rt, store, writer),
         Line::Compare { store, other, .. } => {
@@ -112,7 +113,7 @@ fn hint_about_stores<W: Write>(
 fn hint_about_schema<W: Write>(writer: &mut W) -> io::Result<()> {
     writeln!(
         writer,
-        "the file of the store is the database of another program, or was changed by one: 'x509check explain 72'"
+        "the file of the store is that of another profile or of another program, or was changed by one: 'x509check explain 72'"
     )
 }
 
@@ -121,6 +122,7 @@ fn hint_about_time<W: Write>(line: &Line<'_>, writer: &mut W) -> io::Result<()> 
         Line::Check { query, .. }
         | Line::CheckWithPolicies { query, .. }
         | Line::Compare { query, .. } => query.moment,
+        Line::Find { search, .. } => search.moment,
         Line::List {
             moment: Some(moment),
             ..

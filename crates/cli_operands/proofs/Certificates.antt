@@ -3,8 +3,10 @@ use Rattle.std.proofs.Common.{◌≡◌, ◌⊎◌, ◌<◌, ◌≤◌, ◌+◌,
 use Rattle.std.specs.List.{AllByRecursion}
 use Rattle.std.proofs.lemmas.List.{append-nil, get_or_default, length-append, map-append, take-append-drop, take_more}
 use Rattle.std.proofs.lemmas.Grind.{flat_map-append}
-use Rattle.cert.specs.Certificate.{Certificate, certificate}
+use Rattle.cert.specs.Certificate.{Certificate}
 use Rattle.cert.specs.declared.fault.CertRule.{CertRule}
+use Rattle.path_points.specs.InProfile.{certificate_under}
+use Rattle.statements_facts.specs.declared.profile.Profile.{Profile}
 use Rattle.der.specs.declared.fault.Fault.{Fault}
 use Rattle.der.specs.declared.fault.Fault.TheVariants.{Refused as Breaks, Memory}
 use Rattle.der.specs.declared.fault.Rule.{Rule}
@@ -51,34 +53,34 @@ part_of {V = V} text values i =
     let long = ap length (ap joined all ∙ joined-more (map text (take i values)) (map text (drop i values))) in
     omega (arith, long, length-append (joined (map text (take i values))) (joined (map text (drop i values))))
 
-pub texts_more : (values others : List (List ℕ)) (first second : List Certificate) → AreTexts values first → AreTexts others second → AreTexts (values ++ others) (first ++ second)
-texts_more values others first second are too =
-    map-append certificate values others ∙ ap (λ (xs : List (Result Certificate (CertRule × ℕ))). xs ++ map certificate others) are ∙ ap (λ (xs : List (Result Certificate (CertRule × ℕ))). map Ok first ++ xs) too ∙ sym (map-append Ok first second)
+pub texts_more : (profile : Profile) (values others : List (List ℕ)) (first second : List Certificate) → AreTexts profile values first → AreTexts profile others second → AreTexts profile (values ++ others) (first ++ second)
+texts_more profile values others first second are too =
+    map-append (certificate_under profile) values others ∙ ap (λ (xs : List (Result Certificate (CertRule × ℕ))). xs ++ map (certificate_under profile) others) are ∙ ap (λ (xs : List (Result Certificate (CertRule × ℕ))). map Ok first ++ xs) too ∙ sym (map-append Ok first second)
 
 pub place_more : (values : List (List ℕ)) (value : List ℕ) → length (joined (values ++ value ∷ [])) ≡ length (joined values) + length value
 place_more values value =
     ap length (joined-more values (value ∷ [])) ∙ length-append (joined values) (value ++ []) ∙ ap (λ (octets : List ℕ). length (joined values) + length octets) (append-nil value)
 
-pub among : (before : List (List ℕ)) (value : List ℕ) (behind : List (List ℕ)) (file : List ℕ) (failure : Failure) → AreCertificateValues before → IsFailureAt value (length (joined before)) file failure
-    → IsFailureAmong (before ++ value ∷ behind) file failure
-among before value behind file (NoCertificate named rule at) read (same, (offset, refused, at_is)) =
+pub among : (profile : Profile) (before : List (List ℕ)) (value : List ℕ) (behind : List (List ℕ)) (file : List ℕ) (failure : Failure) → AreCertificateValues profile before → IsFailureAt profile value (length (joined before)) file failure
+    → IsFailureAmong profile (before ++ value ∷ behind) file failure
+among profile before value behind file (NoCertificate named rule at) read (same, (offset, refused, at_is)) =
     (same, record { before = before; value = value; behind = behind; values_are = refl; read = read; offset = offset; refused = refused; at_is = at_is })
-among before value behind file (Refused named fault) read fails = fails
-among before value behind file (NoRevocationList named rule at) read fails = fails
-among before value behind file (NoResponse named rule at) read fails = fails
-among before value behind file (NotGenuine named fault) read fails = fails
-among before value behind file (BadLine named line) read fails = fails
-among before value behind file BadTime read fails = fails
-among before value behind file BadPurpose read fails = fails
-among before value behind file (BadPolicy word) read fails = fails
-among before value behind file (BadName stop) read fails = fails
-among before value behind file BadTopic read fails = fails
-among before value behind file Shut read fails = fails
-among before value behind file NoInput read fails = fails
-among before value behind file (Unreadable named) read fails = fails
-among before value behind file Unwritable read fails = fails
-among before value behind file (StoreFailed why) read fails = fails
-among before value behind file NoMemory read fails = fails
+among profile before value behind file (Refused named fault) read fails = fails
+among profile before value behind file (NoRevocationList named rule at) read fails = fails
+among profile before value behind file (NoResponse named rule at) read fails = fails
+among profile before value behind file (NotGenuine named fault) read fails = fails
+among profile before value behind file (BadLine named line) read fails = fails
+among profile before value behind file BadTime read fails = fails
+among profile before value behind file BadPurpose read fails = fails
+among profile before value behind file (BadPolicy word) read fails = fails
+among profile before value behind file (BadName stop) read fails = fails
+among profile before value behind file BadTopic read fails = fails
+among profile before value behind file Shut read fails = fails
+among profile before value behind file NoInput read fails = fails
+among profile before value behind file (Unreadable named) read fails = fails
+among profile before value behind file Unwritable read fails = fails
+among profile before value behind file (StoreFailed why) read fails = fails
+among profile before value behind file NoMemory read fails = fails
 
 -- ---- what a file is that begins with values
 
@@ -91,8 +93,8 @@ back_of P [] others all = all
 back_of P (value ∷ before) others all = back_of P before others all.1
 
 -- a value among those with which the octets begin, and what is left behind it
-other_in : (most : ℕ) (octets : List ℕ) (values : List (List ℕ)) (left : List ℕ) (rule : CertRule) (at : ℕ) → BeginsWithValues octets values left → length values ≤ most → IsOtherAmong values rule at → HoldsOther most octets rule at
-other_in most octets values left rule at begins few other =
+other_in : (profile : Profile) (most : ℕ) (octets : List ℕ) (values : List (List ℕ)) (left : List ℕ) (rule : CertRule) (at : ℕ) → BeginsWithValues octets values left → length values ≤ most → IsOtherAmong profile values rule at → HoldsOther profile most octets rule at
+other_in profile most octets values left rule at begins few other =
     let others = other.value ∷ other.behind in
     let all = subst (AllByRecursion (IsValueWithin longest)) other.values_are begins.each in
     let rest = joined other.behind ++ left in
@@ -122,13 +124,13 @@ other_in most octets values left rule at begins few other =
 
 -- ---- failures on a file that holds the octets
 
-module _ (most : ℕ) (holds : Holding) (octets file : List ℕ) (held : holds file (Some octets)) where
+module _ (profile : Profile) (most : ℕ) (holds : Holding) (octets file : List ℕ) (held : holds.has file (Some octets)) where
   -- whatever the file, memory may run out
-  pub of_memory : (failure : Failure) → failure ≡ NoMemory → IsFailureOnPath most holds file failure
-  of_memory failure is = subst (IsFailureOnPath most holds file) (sym is) tt
+  pub of_memory : (failure : Failure) → failure ≡ NoMemory → IsFailureOnPath profile most holds file failure
+  of_memory failure is = subst (IsFailureOnPath profile most holds file) (sym is) tt
 
-  pub refused_among : (values : List (List ℕ)) (stopped : Option (ℕ × ReadFault)) (failure : Failure) → ReadUpTo most octets values stopped → IsFailureAmong values file failure → IsFailureOnPath most holds file failure
-  refused_among values stopped (NoCertificate named rule at) read (same, other) = (same, (octets, held, other_in most octets values read.left rule at read.begins read.few other))
+  pub refused_among : (values : List (List ℕ)) (stopped : Option (ℕ × ReadFault)) (failure : Failure) → ReadUpTo most octets values stopped → IsFailureAmong profile values file failure → IsFailureOnPath profile most holds file failure
+  refused_among values stopped (NoCertificate named rule at) read (same, other) = (same, (octets, held, other_in profile most octets values read.left rule at read.begins read.few other))
   refused_among values stopped (Refused named fault) read fails = of_memory (Refused named fault) fails
   refused_among values stopped (NoRevocationList named rule at) read fails = of_memory (NoRevocationList named rule at) fails
   refused_among values stopped (NoResponse named rule at) read fails = of_memory (NoResponse named rule at) fails
@@ -147,7 +149,7 @@ module _ (most : ℕ) (holds : Holding) (octets file : List ℕ) (held : holds f
   refused_among values stopped NoMemory read fails = of_memory NoMemory fails
 
   -- what stands behind certificates is no value
-  no_value : (values : List (List ℕ)) (place : ℕ) (rule : Rule) (at : ℕ) (fault : Fault) → ReadUpTo most octets values (Some (place, OfValue (Breaks rule at))) → AreCertificateValues values → fault ≡ Breaks rule (place + at) → HoldsNoValue most octets fault
+  no_value : (values : List (List ℕ)) (place : ℕ) (rule : Rule) (at : ℕ) (fault : Fault) → ReadUpTo most octets values (Some (place, OfValue (Breaks rule at))) → AreCertificateValues profile values → fault ≡ Breaks rule (place + at) → HoldsNoValue profile most octets fault
   no_value values place rule at fault read (certificates, are) is = record {
     before = values;
     left = read.left;
@@ -155,8 +157,8 @@ module _ (most : ℕ) (holds : Holding) (octets file : List ℕ) (held : holds f
     broken = inl (rule, at, read.end.2, read.end.3, is ∙ ap (λ (start : ℕ). Breaks rule (start + at)) read.end.1);
   }
 
-  told_behind : (values : List (List ℕ)) (place : ℕ) (rule : Rule) (at : ℕ) (failure : Failure) → ReadUpTo most octets values (Some (place, OfValue (Breaks rule at))) → AreCertificateValues values
-      → IsToldOf file place (OfValue (Breaks rule at)) failure → IsFailureOnPath most holds file failure
+  told_behind : (values : List (List ℕ)) (place : ℕ) (rule : Rule) (at : ℕ) (failure : Failure) → ReadUpTo most octets values (Some (place, OfValue (Breaks rule at))) → AreCertificateValues profile values
+      → IsToldOf file place (OfValue (Breaks rule at)) failure → IsFailureOnPath profile most holds file failure
   told_behind values place rule at (Refused named fault) read are (same, is) = (same, (octets, held, no_value values place rule at fault read are is))
   told_behind values place rule at (NoCertificate named other place_of) read are fails = of_memory (NoCertificate named other place_of) fails
   told_behind values place rule at (NoRevocationList named other place_of) read are fails = of_memory (NoRevocationList named other place_of) fails
@@ -176,7 +178,7 @@ module _ (most : ℕ) (holds : Holding) (octets file : List ℕ) (held : holds f
   told_behind values place rule at NoMemory read are fails = of_memory NoMemory fails
 
   -- nothing is there at all
-  empty : 0 < most → (values : List (List ℕ)) (fault : Fault) → ReadUpTo most octets values None → AreCertificateValues values → values ≡ [] → fault ≡ Breaks Truncated 0 → HoldsNoValue most octets fault
+  empty : 0 < most → (values : List (List ℕ)) (fault : Fault) → ReadUpTo most octets values None → AreCertificateValues profile values → values ≡ [] → fault ≡ Breaks Truncated 0 → HoldsNoValue profile most octets fault
   empty some values fault read are none is = record {
     before = [];
     left = octets;
@@ -191,8 +193,8 @@ module _ (most : ℕ) (holds : Holding) (octets file : List ℕ) (held : holds f
       nothing : octets ≡ []
       nothing = read.begins.text_is ∙ ap (λ (values : List (List ℕ)). joined values ++ read.left) none ∙ left_is read.end
 
-  pub refused_behind : 0 < most → (values : List (List ℕ)) (stopped : Option (ℕ × ReadFault)) (failure : Failure) → ReadUpTo most octets values stopped → AreCertificateValues values → IsFailureBehind values file stopped failure
-      → IsFailureOnPath most holds file failure
+  pub refused_behind : 0 < most → (values : List (List ℕ)) (stopped : Option (ℕ × ReadFault)) (failure : Failure) → ReadUpTo most octets values stopped → AreCertificateValues profile values → IsFailureBehind values file stopped failure
+      → IsFailureOnPath profile most holds file failure
   refused_behind some values (Some (place, OfValue (Breaks rule at))) failure read are fails = told_behind values place rule at failure read are fails
   refused_behind some values (Some (place, OfValue Memory)) failure read are fails = of_memory failure fails
   refused_behind some values (Some (place, Limit)) failure read are fails = of_memory failure fails

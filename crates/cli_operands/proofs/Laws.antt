@@ -1,12 +1,15 @@
 -- The laws that other crates may cite: what operands ask, and what is wrong with them.
-use Rattle.std.proofs.Common.{◌<◌, ◌∙◌, ◌∷◌, ◌++◌, [], ℕ, List, Option, Ok, ap, arith, inl, inr, length, map, reverse, subst, sym}
+use Rattle.std.proofs.Common.{◌≡◌, ◌<◌, ◌∙◌, ◌∷◌, ◌++◌, [], ℕ, List, Option, Ok, ap, arith, inl, inr, length, map, reverse, subst, sym}
 use Rattle.cert.specs.Certificate.{Certificate, seen_certificate}
 use Rattle.path.specs.Query.{Query}
 use Rattle.path_issuers.specs.Search.{Candidate, IsCandidate, Search}
 use Rattle.cli_answers.specs.SearchText.{Place}
 use Rattle.cli_words.specs.QueryTexts.{QueryTexts}
 use Rattle.cli_words.specs.SearchTexts.{SearchTexts}
-use Rattle.cli_failures.specs.Failures.{Holding, IsJust, IsNoCertificate}
+use Rattle.path_points.specs.InProfile.{certificate_under}
+use Rattle.statements_facts.specs.declared.profile.Profile.{Profile}
+use Rattle.statements_facts.specs.declared.profile.Profile.TheVariants.{Stated}
+use Rattle.cli_failures.specs.Failures.{Holding, IsJust, IsNoCertificate, IsNoCertificateUnder}
 use Rattle.cli_failures.specs.declared.failure.Failure.{Failure}
 use Rattle.cli_operands.specs.Asked.{AreTerms, Asks, HaveTerms, IsFailureOfCertificates, IsPurposeOf, MakeTerms, NameTerms, purpose_contents}
 use Rattle.cli_operands.specs.FilePlaces.{StandsIfThere}
@@ -43,15 +46,15 @@ ask holds texts terms it query named are of = record {
   moment = subst (λ moment. IsMoment texts.moment moment) (sym of.moment) named.moment;
   purpose = subst (λ purpose. IsPurposeOf texts.purpose purpose) (sym of.purpose) named.purpose;
   anchor = (it.anchor.items, are.anchor, of.anchor_is);
-  path = hold_path most_of_path holds texts.files it.path.files.items it.path.unread query.certificates are.path of.all of.path_is;
+  path = hold_path holds.profile most_of_path holds texts.files it.path.files.items it.path.unread query.certificates are.path of.all of.path_is;
 }
 
 -- a refusal of one of their certificates
 pub refuse : (holds : Holding) (texts : QueryTexts) (it : Operands) (failure : Failure) → AreOperands holds texts it → IsRefusalIn it failure → IsFailureOfCertificates holds texts failure
 refuse holds texts it failure are (inl fails) =
-    inl (no_certificate holds it.anchor.items texts.anchor failure are.anchor (subst (λ (file : List ℕ). IsNoCertificate (IsJust it.anchor.items) file failure) are.anchor_file fails))
+    inl (no_certificate Stated Stated holds it.anchor.items texts.anchor failure are.anchor (subst (λ (file : List ℕ). IsNoCertificate (IsJust Stated it.anchor.items) file failure) are.anchor_file fails))
 refuse holds texts it failure are (inr ((anchor, is), fails)) =
-    inr ((anchor, (it.anchor.items, are.anchor, is)), fails_of most_of_path (omega arith) holds texts.files it.path.files.items it.path.unread failure are.path fails)
+    inr ((anchor, (it.anchor.items, are.anchor, is)), fails_of holds.profile most_of_path (omega arith) holds texts.files it.path.files.items it.path.unread failure are.path fails)
 
 -- ---- policies
 
@@ -74,15 +77,20 @@ refuse_with_policies holds texts terms it failure named are (inr ((query, is), m
 
 -- ---- searches
 
+-- the target is read in the same profile
+target_in : (holds : Holding) (texts : SearchTexts) (it : SearchOperands) (target : Certificate) → AreSearchOperands holds texts it → certificate_under it.profile it.target.items ≡ Ok target
+    → certificate_under holds.profile it.target.items ≡ Ok target
+target_in holds texts it target are is = subst (λ (in_profile : Profile). certificate_under in_profile it.target.items ≡ Ok target) are.profile is
+
 -- the certificates that they have are those that the files hold
 pub hold_searched : (holds : Holding) (texts : SearchTexts) (terms : Terms) (it : SearchOperands) (read : SearchCertificates) (search : Search)
     → AreSearchOperands holds texts it → AreCertificatesOfSearch it read → IsSearchFor read terms search → HoldSearched holds texts search
 hold_searched holds texts terms it read search are of is = record {
-  target = (it.target.items, are.target, of.target_is ∙ ap Ok (sym is.target));
-  anchors = subst (λ (them : List Certificate). HoldPath most_of_search holds texts.anchors them) (sym is.anchors)
-      (hold_path most_of_search holds texts.anchors it.anchors.files.items it.anchors.unread (map seen_certificate read.anchors.items) are.anchors of.all_anchors of.anchors_are);
-  bag = subst (λ (them : List Certificate). HoldPath most_of_search holds texts.among them) (sym is.bag)
-      (hold_path most_of_search holds texts.among it.among.files.items it.among.unread (map seen_certificate read.bag.items) are.among of.all_of_bag of.bag_is);
+  target = (it.target.items, are.target, target_in holds texts it search.target are (of.target_is ∙ ap Ok (sym is.target)));
+  anchors = subst (λ (them : List Certificate). HoldPath Stated most_of_search holds texts.anchors them) (sym is.anchors)
+      (hold_path Stated most_of_search holds texts.anchors it.anchors.files.items it.anchors.unread (map seen_certificate read.anchors.items) are.anchors of.all_anchors of.anchors_are);
+  bag = subst (λ (them : List Certificate). HoldPath holds.profile most_of_search holds texts.among them) (sym is.bag)
+      (hold_path holds.profile most_of_search holds texts.among it.among.files.items it.among.unread (map seen_certificate read.bag.items) are.among of.all_of_bag of.bag_is);
 }
 
 -- the search on these terms among them
@@ -97,15 +105,17 @@ ask_to_find holds texts terms it read search named are of is = record {
 -- a refusal of one of them
 pub refuse_search : (holds : Holding) (texts : SearchTexts) (it : SearchOperands) (failure : Failure) → AreSearchOperands holds texts it → IsRefusalInSearch it failure → IsFailureOfSearched holds texts failure
 refuse_search holds texts it failure are (inl fails) =
-    inl (no_certificate holds it.target.items texts.target failure are.target (subst (λ (file : List ℕ). IsNoCertificate (IsJust it.target.items) file failure) are.target_file fails))
+    let told = subst (λ (in_profile : Profile). IsNoCertificateUnder in_profile (IsJust it.profile it.target.items) it.target_file.now failure) are.profile fails in
+    inl (no_certificate holds.profile it.profile holds it.target.items texts.target failure are.target
+    (subst (λ (file : List ℕ). IsNoCertificateUnder holds.profile (IsJust it.profile it.target.items) file failure) are.target_file told))
 refuse_search holds texts it failure are (inr ((target, is), inl fails)) =
-    inr ((target, (it.target.items, are.target, is)), inl (fails_of most_of_search (omega arith) holds texts.anchors it.anchors.files.items it.anchors.unread failure are.anchors fails))
+    inr ((target, (it.target.items, are.target, target_in holds texts it target are is)), inl (fails_of Stated most_of_search (omega arith) holds texts.anchors it.anchors.files.items it.anchors.unread failure are.anchors fails))
 refuse_search holds texts it failure are (inr ((target, is), inr ((anchors, of, all), fails))) =
     inr (
-      (target, (it.target.items, are.target, is)),
+      (target, (it.target.items, are.target, target_in holds texts it target are is)),
       inr (
-        (anchors, hold_path most_of_search holds texts.anchors it.anchors.files.items it.anchors.unread anchors are.anchors all of),
-        fails_of most_of_search (omega arith) holds texts.among it.among.files.items it.among.unread failure are.among fails,
+        (anchors, hold_path Stated most_of_search holds texts.anchors it.anchors.files.items it.anchors.unread anchors are.anchors all of),
+        fails_of holds.profile most_of_search (omega arith) holds texts.among it.among.files.items it.among.unread failure are.among fails,
       ),
     )
 
@@ -117,10 +127,10 @@ places_stand holds texts terms it read search candidate places are of is within 
   anchor = stand.anchor;
   between = stand.between;
   places_are = stand.places_are ∙ ap (λ (file : List ℕ). stand.anchor ∷ (stand.between ++ record { file = file; number = 1 } ∷ [])) are.target_file;
-  anchor_stands = stands_in holds texts.anchors it.anchors.files.items it.anchors.unread anchors candidate.anchor stand.anchor are.anchors of.anchors_are
+  anchor_stands = stands_in Stated holds texts.anchors it.anchors.files.items it.anchors.unread anchors candidate.anchor stand.anchor are.anchors of.anchors_are
       (stand.anchor_stands (omega (arith, within.anchor, ap length is.anchors, count_of it.anchors.files.items anchors of.anchors_are)));
-  between_stand = each_as (λ index. index < length search.bag) (StandsIfThere it.among.files.items) (λ index place. StandsIn holds texts.among index place.file place.number)
-      (λ index place small stands. stands_in holds texts.among it.among.files.items it.among.unread bag index place are.among of.bag_is (stands (omega (arith, small, ap length is.bag, count_of it.among.files.items bag of.bag_is))))
+  between_stand = each_as (λ index. index < length search.bag) (StandsIfThere it.among.files.items) (λ index place. StandsIn holds.profile holds texts.among index place.file place.number)
+      (λ index place small stands. stands_in holds.profile holds texts.among it.among.files.items it.among.unread bag index place are.among of.bag_is (stands (omega (arith, small, ap length is.bag, count_of it.among.files.items bag of.bag_is))))
       (reverse candidate.above) stand.between (reversed (λ index. index < length search.bag) candidate.above within.above) stand.between_stand;
 }
   where

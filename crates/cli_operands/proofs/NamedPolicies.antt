@@ -87,20 +87,20 @@ split_values (value ∷ values) i within =
     ((get_or (value ∷ values) i value).items, parted_at (λ (it : Vec ℕ Global). it.items) (value ∷ values) i value within)
 
 pub starts_in : (holds : Holding) (names : List (List ℕ)) (files : List PathFile) (unread : Option Failure) (certificates : List Certificate) (index : ℕ) (file : List ℕ) (start : ℕ)
-    → AreFilesRead most_of_path holds names files unread → AreCertificatesOf files certificates → StartsAmong files index file start → StartsIn holds names (index + 1) file start
+    → AreFilesRead holds.profile most_of_path holds names files unread → AreCertificatesOf files certificates → StartsAmong files index file start → StartsIn holds names (index + 1) file start
 starts_in holds names files unread certificates index file start read are starts =
-    let parted = files_parted most_of_path holds names starts.before starts.it starts.behind unread (subst (λ (them : List PathFile). AreFilesRead most_of_path holds names them unread) starts.files_are read) in
+    let parted = files_parted holds.profile most_of_path holds names starts.before starts.it starts.behind unread (subst (λ (them : List PathFile). AreFilesRead holds.profile most_of_path holds names them unread) starts.files_are read) in
     let own = certificates_parted starts.before starts.it starts.behind certificates (subst (λ (them : List PathFile). AreCertificatesOf them certificates) starts.files_are are) in
-    let found = subst (λ (name : List ℕ). IsFileRead most_of_path holds name starts.it) starts.file_is parted.it_read in
-    let values = found.1.2 in
+    let found = subst (λ (name : List ℕ). IsFileRead holds.profile most_of_path holds name starts.it) starts.file_is parted.it_read in
+    let values = found.2.2 in
     record {
       before = parted.front;
       behind = parted.back;
       files_are = parted.names_are ∙ ap (λ (name : List ℕ). parted.front ++ name ∷ parted.back) starts.file_is;
       certificates_before = own.front;
-      hold_before = hold_path most_of_path holds parted.front starts.before None own.front parted.front_read refl own.front_are;
-      octets = found.1.0;
-      held = found.1.1;
+      hold_before = hold_path holds.profile most_of_path holds parted.front starts.before None own.front parted.front_read refl own.front_are;
+      octets = found.2.0;
+      held = found.2.1;
       values = _;
       left = values.left;
       begins = values.begins;
@@ -114,11 +114,11 @@ starts_in holds names files unread certificates index file start read are starts
 
 -- a failure on the first certificate whose extensions about policies are malformed
 told_in : (holds : Holding) (names : List (List ℕ)) (files : List PathFile) (unread : Option Failure) (certificates : List Certificate) (index : ℕ) (fault : CertFault) (failure : Failure)
-    → AreFilesRead most_of_path holds names files unread → unread ≡ None → AreCertificatesOf files certificates → IsFirstMalformed certificates (index + 1) fault → IsToldAmong files index fault failure
+    → AreFilesRead holds.profile most_of_path holds names files unread → unread ≡ None → AreCertificatesOf files certificates → IsFirstMalformed certificates (index + 1) fault → IsToldAmong files index fault failure
     → IsFailureOfPolicies holds names failure
 told_in holds names files unread certificates index (OfCertificate.Refused rule offset) (NoCertificate named broken at) read all are first (same, (start, starts, at_is)) = record {
   certificates = certificates;
-  hold = hold_path most_of_path holds names files unread certificates read all are;
+  hold = hold_path holds.profile most_of_path holds names files unread certificates read all are;
   j = index + 1;
   offset = offset;
   first = subst (λ (one : CertRule). IsFirstMalformed certificates (index + 1) (OfCertificate.Refused one offset)) (sym same) first;

@@ -4,8 +4,10 @@ use mathlib.Core.List.{reverse_aux}
 use Rattle.std.specs.List.{AllByRecursion}
 use Rattle.std.proofs.lemmas.List.{length-append, length-map}
 use Rattle.std.proofs.lemmas.List.Sums.{sum_by-cons}
-use Rattle.cert.specs.Certificate.{Certificate, certificate}
+use Rattle.cert.specs.Certificate.{Certificate}
 use Rattle.cert.specs.declared.fault.CertRule.{CertRule}
+use Rattle.path_points.specs.InProfile.{certificate_under}
+use Rattle.statements_facts.specs.declared.profile.Profile.{Profile}
 use Rattle.cli_answers.specs.SearchText.{Place}
 use Rattle.cli_failures.specs.Failures.{Holding}
 use Rattle.cli_failures.specs.declared.failure.Failure.{Failure}
@@ -45,7 +47,7 @@ reversed Small numbers small = reversed_onto Small numbers [] small tt
 -- ---- as many certificates as values
 
 count_in : (it : PathFile) (certificates : List Certificate) → AreCertificatesIn it certificates → length certificates ≡ value_count it
-count_in it certificates are = omega (arith, it.values.ok, length-map it.values.items (λ (value : Vec ℕ Global). value.items), length-map (values_read it) certificate, length-map {B = Result Certificate (CertRule × ℕ)} certificates Ok, ap length are.each)
+count_in it certificates are = omega (arith, it.values.ok, length-map it.values.items (λ (value : Vec ℕ Global). value.items), length-map (values_read it) (certificate_under it.profile), length-map {B = Result Certificate (CertRule × ℕ)} certificates Ok, ap length are.each)
 
 pub count_of : (files : List PathFile) (certificates : List Certificate) → AreCertificatesOf files certificates → length certificates ≡ values_in files
 count_of [] certificates none = ap length none
@@ -54,21 +56,21 @@ count_of (it ∷ files) certificates (first, more, are_first, are_more, is) =
 
 -- ---- a file among others
 
-pub record FilesParted (most : ℕ) (holds : Holding) (names : List (List ℕ)) (before : List PathFile) (it : PathFile) : Type 0 where
+pub record FilesParted (profile : Profile) (most : ℕ) (holds : Holding) (names : List (List ℕ)) (before : List PathFile) (it : PathFile) : Type 0 where
   pub front : List (List ℕ)
   pub back : List (List ℕ)
   pub names_are : names ≡ front ++ it.file.now ∷ back
-  pub front_read : AreFilesRead most holds front before None
-  pub it_read : IsFileRead most holds it.file.now it
+  pub front_read : AreFilesRead profile most holds front before None
+  pub it_read : IsFileRead profile most holds it.file.now it
 
-pub files_parted : (most : ℕ) (holds : Holding) (names : List (List ℕ)) (before : List PathFile) (it : PathFile) (behind : List PathFile) (unread : Option Failure)
-    → AreFilesRead most holds names (before ++ it ∷ behind) unread → FilesParted most holds names before it
-files_parted most holds [] [] it behind unread read = absurd read
-files_parted most holds [] (other ∷ before) it behind unread read = absurd read
-files_parted most holds (name ∷ names) [] it behind unread (one, rest) =
-    record { front = []; back = names; names_are = ap (λ (file : List ℕ). file ∷ names) (sym one.0); front_read = tt; it_read = subst (λ (file : List ℕ). IsFileRead most holds file it) (sym one.0) one }
-files_parted most holds (name ∷ names) (other ∷ before) it behind unread (one, rest) =
-    let more = files_parted most holds names before it behind unread rest in
+pub files_parted : (profile : Profile) (most : ℕ) (holds : Holding) (names : List (List ℕ)) (before : List PathFile) (it : PathFile) (behind : List PathFile) (unread : Option Failure)
+    → AreFilesRead profile most holds names (before ++ it ∷ behind) unread → FilesParted profile most holds names before it
+files_parted profile most holds [] [] it behind unread read = absurd read
+files_parted profile most holds [] (other ∷ before) it behind unread read = absurd read
+files_parted profile most holds (name ∷ names) [] it behind unread (one, rest) =
+    record { front = []; back = names; names_are = ap (λ (file : List ℕ). file ∷ names) (sym one.0); front_read = tt; it_read = subst (λ (file : List ℕ). IsFileRead profile most holds file it) (sym one.0) one }
+files_parted profile most holds (name ∷ names) (other ∷ before) it behind unread (one, rest) =
+    let more = files_parted profile most holds names before it behind unread rest in
     record {
       front = name ∷ more.front;
       back = more.back;
@@ -90,19 +92,19 @@ certificates_parted (other ∷ before) it behind certificates (first, more, are_
     record { front = first ++ rest.front; own = rest.own; front_are = (first, rest.front, are_first, rest.front_are, refl); own_are = rest.own_are }
 
 -- where a value stands among those that were read, a certificate stands in what the files hold
-pub stands_in : (holds : Holding) (names : List (List ℕ)) (files : List PathFile) (unread : Option Failure) (certificates : List Certificate) (index : ℕ) (place : Place)
-    → AreFilesRead most_of_search holds names files unread → AreCertificatesOf files certificates → StandsAmong files index place → StandsIn holds names index place.file place.number
-stands_in holds names files unread certificates index place read are stands =
-    let parted = files_parted most_of_search holds names stands.before stands.it stands.behind unread (subst (λ (them : List PathFile). AreFilesRead most_of_search holds names them unread) stands.files_are read) in
+pub stands_in : (profile : Profile) (holds : Holding) (names : List (List ℕ)) (files : List PathFile) (unread : Option Failure) (certificates : List Certificate) (index : ℕ) (place : Place)
+    → AreFilesRead profile most_of_search holds names files unread → AreCertificatesOf files certificates → StandsAmong files index place → StandsIn profile holds names index place.file place.number
+stands_in profile holds names files unread certificates index place read are stands =
+    let parted = files_parted profile most_of_search holds names stands.before stands.it stands.behind unread (subst (λ (them : List PathFile). AreFilesRead profile most_of_search holds names them unread) stands.files_are read) in
     let own = certificates_parted stands.before stands.it stands.behind certificates (subst (λ (them : List PathFile). AreCertificatesOf them certificates) stands.files_are are) in
     record {
       before = parted.front;
       behind = parted.back;
       files_are = parted.names_are ∙ ap (λ (file : List ℕ). parted.front ++ file ∷ parted.back) (sym stands.file_is);
       certificates_before = own.front;
-      hold_before = hold_path most_of_search holds parted.front stands.before None own.front parted.front_read refl own.front_are;
+      hold_before = hold_path profile most_of_search holds parted.front stands.before None own.front parted.front_read refl own.front_are;
       certificates = own.own;
-      holds_them = holds_certificates most_of_search holds place.file stands.it own.own (subst (λ (file : List ℕ). IsFileRead most_of_search holds file stands.it) (sym stands.file_is) parted.it_read) own.own_are;
+      holds_them = holds_certificates profile most_of_search holds place.file stands.it own.own (subst (λ (file : List ℕ). IsFileRead profile most_of_search holds file stands.it) (sym stands.file_is) parted.it_read) own.own_are;
       counted = omega (arith, stands.counted, count_of stands.before own.front own.front_are);
       some = stands.some;
       within = omega (arith, stands.within, count_in stands.it own.own own.own_are);

@@ -19,7 +19,7 @@ use Rattle.cli_operands.specs.declared.terms.Terms.{Terms}
 -- the file names these fingerprints
 abbrev pub HoldsFingerprints : Holding → List ℕ → List (List ℕ) → Type 0
 HoldsFingerprints holds file prints =
-    (octets : List ℕ) × holds file (Some octets) × NamePrints (text_lines octets) prints
+    (octets : List ℕ) × holds.has file (Some octets) × NamePrints (text_lines octets) prints
 
 -- a signature is accepted exactly where its fingerprint is one of these
 abbrev pub AcceptsJust : List (List ℕ) → Accepts → Type 0
@@ -31,7 +31,7 @@ AcceptsJust prints accepts =
 -- a failure on a file of verdicts
 abbrev pub IsFailureOnFingerprints : Holding → List ℕ → Failure → Type 0
 IsFailureOnFingerprints holds file (BadLine named line) =
-    (named.now ≡ file) × ((octets : List ℕ) × holds file (Some octets) × IsFirstBadLine octets line)
+    (named.now ≡ file) × ((octets : List ℕ) × holds.has file (Some octets) × IsFirstBadLine octets line)
 IsFailureOnFingerprints holds file failure = IsUnread holds file failure
 
 -- ---- moments and purposes
@@ -90,7 +90,7 @@ abbrev pub IsFailureOfCertificates : Holding → QueryTexts → Failure → Type
 IsFailureOfCertificates holds texts =
     FailsFirst (IsNoCertificate holds texts.anchor)
     ((anchor : Certificate) × HoldsCertificate holds texts.anchor anchor)
-    (IsFailureOfPath most_of_path holds texts.files)
+    (IsFailureOfPath holds.profile most_of_path holds texts.files)
 
 -- ---- the query
 
@@ -99,7 +99,7 @@ pub record Asks (holds : Holding) (texts : QueryTexts) (query : Query) : Type 0 
   pub moment : IsMoment texts.moment query.moment
   pub purpose : IsPurposeOf texts.purpose query.purpose
   pub anchor : HoldsCertificate holds texts.anchor query.anchor
-  pub path : HoldPath most_of_path holds texts.files query.certificates
+  pub path : HoldPath holds.profile most_of_path holds texts.files query.certificates
 
 -- What is wrong with the texts in a line of a session, the first of it: the moment, the purpose, the anchor, the files in order.
 abbrev pub IsFailureOfQuery : Holding → QueryTexts → Failure → Type 0

@@ -1,7 +1,9 @@
 -- Values with which a file begins, one after the other, as certificates.
 use Rattle.std.specs.Prelude.{◌≡◌, ◌+◌, ◌<◌, ◌≤◌, ◌⊎◌, ℕ, List, [], ◌∷◌, ◌++◌, length, Option, Some, None, Err}
-use Rattle.cert.specs.Certificate.{Certificate, certificate}
+use Rattle.cert.specs.Certificate.{Certificate}
 use Rattle.cert.specs.declared.fault.CertRule.{CertRule}
+use Rattle.path_points.specs.InProfile.{certificate_under}
+use Rattle.statements_facts.specs.declared.profile.Profile.{Profile}
 use Rattle.der.specs.FirstFault.{FirstFaultIn}
 use Rattle.der.specs.declared.fault.Fault.TheVariants.{Refused as Breaks, Memory}
 use Rattle.der_stream.specs.declared.reading.ReadFault.{ReadFault}
@@ -12,29 +14,29 @@ use Rattle.cli_failures.specs.declared.failure.Failure.TheVariants.{NoCertificat
 use Rattle.cli_operands.specs.PathText.{AreTexts, BeginsWithValues}
 
 -- each is the value of a certificate
-abbrev pub AreCertificateValues : List (List ℕ) → Type 0
-AreCertificateValues values = (certificates : List Certificate) × AreTexts values certificates
+abbrev pub AreCertificateValues : Profile → List (List ℕ) → Type 0
+AreCertificateValues profile values = (certificates : List Certificate) × AreTexts profile values certificates
 
 -- a failure on the value that starts at that place of the file
-abbrev pub IsFailureAt : List ℕ → ℕ → List ℕ → Failure → Type 0
-IsFailureAt value start file (NoCertificate named rule at) =
-    (named.now ≡ file) × ((offset : ℕ) × (certificate value ≡ Err (rule, offset)) × (at ≡ start + offset))
-IsFailureAt value start file failure = failure ≡ NoMemory
+abbrev pub IsFailureAt : Profile → List ℕ → ℕ → List ℕ → Failure → Type 0
+IsFailureAt profile value start file (NoCertificate named rule at) =
+    (named.now ≡ file) × ((offset : ℕ) × (certificate_under profile value ≡ Err (rule, offset)) × (at ≡ start + offset))
+IsFailureAt profile value start file failure = failure ≡ NoMemory
 
 -- The first of the values that is no certificate, and its first fault. The place counts from the first of them.
-pub record IsOtherAmong (values : List (List ℕ)) (rule : CertRule) (at : ℕ) : Type 0 where
+pub record IsOtherAmong (profile : Profile) (values : List (List ℕ)) (rule : CertRule) (at : ℕ) : Type 0 where
   pub before : List (List ℕ)
   pub value : List ℕ
   pub behind : List (List ℕ)
   pub values_are : values ≡ before ++ value ∷ behind
-  pub read : AreCertificateValues before
+  pub read : AreCertificateValues profile before
   pub offset : ℕ
-  pub refused : certificate value ≡ Err (rule, offset)
+  pub refused : certificate_under profile value ≡ Err (rule, offset)
   pub at_is : at ≡ length (joined before) + offset
 
-abbrev pub IsFailureAmong : List (List ℕ) → List ℕ → Failure → Type 0
-IsFailureAmong values file (NoCertificate named rule at) = (named.now ≡ file) × IsOtherAmong values rule at
-IsFailureAmong values file failure = failure ≡ NoMemory
+abbrev pub IsFailureAmong : Profile → List (List ℕ) → List ℕ → Failure → Type 0
+IsFailureAmong profile values file (NoCertificate named rule at) = (named.now ≡ file) × IsOtherAmong profile values rule at
+IsFailureAmong profile values file failure = failure ≡ NoMemory
 
 -- Why no value was read behind those that were: as many were as are looked at, or nothing is left, or what is left begins with none.
 abbrev pub EndBehind : ℕ → List (List ℕ) → List ℕ → Option (ℕ × ReadFault) → Type 0

@@ -4,6 +4,7 @@ use Rattle.cert.specs.Certificate.{Certificate}
 use Rattle.der.specs.declared.fault.Fault.TheVariants.{Refused as Breaks}
 use Rattle.der.specs.declared.fault.Rule.TheVariants.{Truncated}
 use Rattle.der_stream.specs.declared.reading.ReadFault.{ReadFault}
+use Rattle.statements_facts.specs.declared.profile.Profile.{Profile}
 use Rattle.cli_failures.specs.Failures.{Holding, IsUnread}
 use Rattle.cli_failures.specs.declared.failure.Failure.{Failure}
 use Rattle.cli_failures.specs.declared.failure.Failure.TheVariants.{NoMemory, Refused}
@@ -18,21 +19,22 @@ use Rattle.cli_operands.specs.declared.path_file.PathFile.{PathFile}
 abbrev pub values_read : PathFile → List (List ℕ)
 values_read it = map (λ value. value.items) it.values.items
 
--- the file holds octets, and these are the values with which they begin
-abbrev pub IsFileRead : ℕ → Holding → List ℕ → PathFile → Type 0
-IsFileRead most holds file it =
+-- the file holds octets, and these are the values with which they begin; their certificates are read in the profile
+abbrev pub IsFileRead : Profile → ℕ → Holding → List ℕ → PathFile → Type 0
+IsFileRead profile most holds file it =
     (it.file.now ≡ file)
-    × ((octets : List ℕ) × holds file (Some octets) × ReadUpTo most octets (values_read it) it.stopped)
+    × (it.profile ≡ profile)
+    × ((octets : List ℕ) × holds.has file (Some octets) × ReadUpTo most octets (values_read it) it.stopped)
 
 -- the files were read, or those before the first that was not, for this failure
-abbrev pub AreFilesRead : ℕ → Holding → List (List ℕ) → List PathFile → Option Failure → Type 0
-AreFilesRead most holds [] [] None = Unit {0}
-AreFilesRead most holds [] [] (Some failure) = ⊥
-AreFilesRead most holds [] (it ∷ more) unread = ⊥
-AreFilesRead most holds (file ∷ files) [] None = ⊥
-AreFilesRead most holds (file ∷ files) [] (Some failure) = IsUnread holds file failure
-AreFilesRead most holds (file ∷ files) (it ∷ more) unread =
-    IsFileRead most holds file it × AreFilesRead most holds files more unread
+abbrev pub AreFilesRead : Profile → ℕ → Holding → List (List ℕ) → List PathFile → Option Failure → Type 0
+AreFilesRead profile most holds [] [] None = Unit {0}
+AreFilesRead profile most holds [] [] (Some failure) = ⊥
+AreFilesRead profile most holds [] (it ∷ more) unread = ⊥
+AreFilesRead profile most holds (file ∷ files) [] None = ⊥
+AreFilesRead profile most holds (file ∷ files) [] (Some failure) = IsUnread holds file failure
+AreFilesRead profile most holds (file ∷ files) (it ∷ more) unread =
+    IsFileRead profile most holds file it × AreFilesRead profile most holds files more unread
 
 -- ---- their certificates
 
@@ -40,7 +42,7 @@ AreFilesRead most holds (file ∷ files) (it ∷ more) unread =
 pub record AreCertificatesIn (it : PathFile) (certificates : List Certificate) : Type 0 where
   pub some : values_read it ≢ []
   pub whole : it.stopped ≡ None
-  pub each : AreTexts (values_read it) certificates
+  pub each : AreTexts it.profile (values_read it) certificates
 
 -- the same of files, one after the other
 abbrev pub AreCertificatesOf : List PathFile → List Certificate → Type 0
@@ -58,7 +60,7 @@ IsFailureBehind values file None failure = ⊥
 -- the first failure on a file, value by value
 abbrev pub IsFailureIn : PathFile → Failure → Type 0
 IsFailureIn it =
-    FailsFirst (IsFailureAmong (values_read it) it.file.now) (AreCertificateValues (values_read it))
+    FailsFirst (IsFailureAmong it.profile (values_read it) it.file.now) (AreCertificateValues it.profile (values_read it))
     (IsFailureBehind (values_read it) it.file.now it.stopped)
 
 -- the first failure on files, behind which one may not have been read

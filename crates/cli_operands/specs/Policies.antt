@@ -97,9 +97,9 @@ pub record StartsIn (holds : Holding) (files : List (List ℕ)) (j : ℕ) (file 
   pub behind : List (List ℕ)
   pub files_are : files ≡ before ++ file ∷ behind
   pub certificates_before : List Certificate
-  pub hold_before : HoldPath most_of_path holds before certificates_before
+  pub hold_before : HoldPath holds.profile most_of_path holds before certificates_before
   pub octets : List ℕ
-  pub held : holds file (Some octets)
+  pub held : holds.has file (Some octets)
   pub values : List (List ℕ)
   pub left : List ℕ
   pub begins : BeginsWithValues octets values left
@@ -114,7 +114,7 @@ pub record StartsIn (holds : Holding) (files : List (List ℕ)) (j : ℕ) (file 
 -- octet of its file.
 pub record IsMalformed (holds : Holding) (files : List (List ℕ)) (file : List ℕ) (rule : CertRule) (at : ℕ) : Type 0 where
   pub certificates : List Certificate
-  pub hold : HoldPath most_of_path holds files certificates
+  pub hold : HoldPath holds.profile most_of_path holds files certificates
   pub j : ℕ
   pub offset : ℕ
   pub first : IsFirstMalformed certificates j (OfCertificate.Refused rule offset)

@@ -37,7 +37,13 @@ pub fn read_operands<'a, S: Source>(
         (IsFailureOfCertificates (S.holds source.now) (seen_words words.now)) }
 {
     let anchor = source.octets_of(words.anchor, Extent::Value)?;
-    let path = read_files(source, alloc, words.files.as_slice(), MOST_OF_PATH);
+    let path = read_files(
+        source,
+        alloc,
+        source.profile(),
+        words.files.as_slice(),
+        MOST_OF_PATH,
+    );
     Ok(Operands {
         anchor_file: words.anchor,
         anchor,

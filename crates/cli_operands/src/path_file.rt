@@ -4,11 +4,14 @@ ghost use Rattle.der_stream.specs.Sequence.{joined};
 
 use cli_failures::Failure;
 use der_stream::ReadFault;
+use statements_facts::Profile;
 
 /// A file of certificates.
 #[derive(Drop)]
 pub(crate) struct PathFile<'a> {
     pub file: &'a str,
+    /// In which certificates are read of it.
+    pub profile: Profile,
     /// The values that stand in it, in order.
     pub values: Vec<Vec<u8>>,
     /// Why no more were read behind them, if that is not for their number or the end of the file.

@@ -11,6 +11,7 @@ use cert::Certificate;
 use cli_failures::{Extent, Failure, Source};
 use der::{Fault, Rule};
 use der_stream::{PathOctets, ReadFault, path_octets};
+use statements_facts::Profile;
 use std::alloc::Global;
 
 /// The values with which the octets begin, at most so many, and why no more were read.
@@ -23,14 +24,22 @@ fn values_of(alloc: Global, octets: &[u8], most: u32) -> PathOctets
 }
 
 /// The file whose octets these are.
-fn file_of<'a>(alloc: Global, file: &'a str, octets: &[u8], most: u32) -> PathFile<'a>
+fn file_of<'a>(
+    alloc: Global,
+    profile: Profile,
+    file: &'a str,
+    octets: &[u8],
+    most: u32,
+) -> PathFile<'a>
     ensures name { result.file.now ≡ file.entry.now }
+    ensures profile { result.profile ≡ profile }
     ensures values { ReadUpTo most octets.now (map (λ value. value.items) result.values.items)
         result.stopped }
 {
     let PathOctets { values, stopped } = values_of(alloc, octets, most);
     PathFile {
         file,
+        profile,
         values,
         stopped,
     }
@@ -39,29 +48,32 @@ fn file_of<'a>(alloc: Global, file: &'a str, octets: &[u8], most: u32) -> PathFi
 fn read_file<'a, S: Source>(
     source: &S,
     alloc: Global,
+    profile: Profile,
     file: &'a str,
     most: u32,
 ) -> Result<PathFile<'a>, Failure<'a>>
-    ensures reads { IfOk result (IsFileRead most (S.holds source.now) file.entry.now) }
+    ensures reads { IfOk result (IsFileRead profile most (S.holds source.now) file.entry.now) }
     ensures fails { IfErr result (IsUnread (S.holds source.now) file.entry.now) }
 {
     let octets = source.octets_of(file, Extent::Values(most))?;
-    Ok(file_of(alloc, file, octets.as_slice(), most))
+    Ok(file_of(alloc, profile, file, octets.as_slice(), most))
 }
 
-/// The files in order, up to the first that cannot be read, and of each at most so many values. No certificate is read of them yet.
+/// The files in order, up to the first that cannot be read, and of each at most so many values. No certificate is read of them yet; it will
+/// be in the profile.
 pub(crate) fn read_files<'a, S: Source>(
     source: &S,
     alloc: Global,
+    profile: Profile,
     files: &[&'a str],
     most: u32,
 ) -> PathFiles<'a>
-    ensures { AreFilesRead most (S.holds source.now) (map (λ file. file.now) files.now)
+    ensures { AreFilesRead profile most (S.holds source.now) (map (λ file. file.now) files.now)
         result.files.items result.unread }
 {
     let mut read = Vec::new(alloc);
     for file in files {
-        let next = match read_file(source, alloc, file, most) {
+        let next = match read_file(source, alloc, profile, file, most) {
             Ok(next) => next,
             Err(failure) => {
                 return PathFiles {
@@ -111,7 +123,7 @@ fn certificates_in<'q, 'a>(
         AreCertificatesIn it.now (map seen_certificate certificates.items)) }
     ensures fails { IfErr result (IsFailureIn it.now) }
 {
-    let certificates = read_certificates(alloc, it.file, it.values.as_slice())?;
+    let certificates = read_certificates(alloc, it.profile, it.file, it.values.as_slice())?;
     if let Some((place, fault)) = it.stopped {
         return Err(failure_of(it.file, place, fault));
     }

@@ -1,6 +1,7 @@
 //! The fingerprints of good signatures.
 ghost use Rattle.std.specs.Prelude.{IfErr, IfOk};
 ghost use Rattle.cli_operands.specs.VerdictLines.{NamePrints, text_lines};
+ghost use Rattle.statements_facts.specs.declared.profile.Profile.TheVariants.{Stated};
 ghost use Rattle.cli_failures.specs.Failures.{IsJust};
 ghost use Rattle.cli_operands.specs.Asked.{HoldsFingerprints, IsFailureOnFingerprints};
 
@@ -11,7 +12,8 @@ use std::alloc::Global;
 /// The fingerprints that the octets of the file name.
 fn prints_in<'a>(alloc: Global, file: &'a str, octets: &[u8]) -> Result<Vec<[u8; 32]>, Failure<'a>>
     ensures reads { IfOk result (λ prints. NamePrints (text_lines octets.now) prints.items) }
-    ensures fails { IfErr result (IsFailureOnFingerprints (IsJust octets.now) file.entry.now) }
+    ensures fails { IfErr result
+        (IsFailureOnFingerprints (IsJust Stated octets.now) file.entry.now) }
 {
     match fingerprints_of(alloc, octets) {
         Ok(prints) => Ok(prints),

@@ -13,15 +13,18 @@ use crate::path_files::{certificates_of, read_files};
 use crate::terms::Terms;
 use cert::Certificate;
 use cli_answers::FilePlace;
-use cli_failures::{Extent, Failure, Source, read_certificate};
+use cli_failures::{Extent, Failure, Source, read_certificate_under};
 use cli_words::SearchWords;
 use path_issuers::Search;
 use path_search::Candidate;
+use statements_facts::Profile;
 use std::alloc::Global;
 
 /// The octets of the files that the words of a search name.
 #[derive(Drop)]
 pub struct SearchOperands<'a> {
+    /// In which the target is read, and those that may stand between. Of anchors points do not count.
+    profile: Profile,
     target_file: &'a str,
     target: Vec<u8>,
     anchors: PathFiles<'a>,
@@ -52,10 +55,18 @@ pub fn read_search_operands<'a, S: Source>(
     ensures fails { IfErr result
         (IsFailureOfSearched (S.holds source.now) (seen_search_words words.now)) }
 {
+    let profile = source.profile();
     let target = source.octets_of(words.target, Extent::Value)?;
-    let anchors = read_files(source, alloc, words.anchors.as_slice(), u32::MAX);
-    let among = read_files(source, alloc, words.among.as_slice(), u32::MAX);
+    let anchors = read_files(
+        source,
+        alloc,
+        Profile::Stated,
+        words.anchors.as_slice(),
+        u32::MAX,
+    );
+    let among = read_files(source, alloc, profile, words.among.as_slice(), u32::MAX);
     Ok(SearchOperands {
+        profile,
         target_file: words.target,
         target,
         anchors,
@@ -70,7 +81,8 @@ impl<'a> SearchOperands<'a> {
         ensures reads { IfOk result (AreCertificatesOfSearch self.now) }
         ensures fails { IfErr result (IsRefusalInSearch self.now) }
     {
-        let target = read_certificate(alloc, self.target_file, self.target.as_slice())?;
+        let octets = self.target.as_slice();
+        let target = read_certificate_under(alloc, self.profile, self.target_file, octets)?;
         let anchors = certificates_of(alloc, &self.anchors)?;
         let bag = certificates_of(alloc, &self.among)?;
         Ok(SearchCertificates {

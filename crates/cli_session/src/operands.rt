@@ -1,9 +1,11 @@
 //! Operands of lines, as files.
 ghost use Rattle.std.specs.Prelude.{IfErr, IfOk, Some};
 ghost use Rattle.cli_failures.specs.Failures.{IsUnread};
+ghost use Rattle.cli_session.specs.Held.{naming};
 
 use cli_failures::{Extent, Failure, Source};
 use cli_requests::{Operand, operand_of};
+use statements_facts::Profile;
 use std::alloc::Global;
 
 /// The operands of a session's lines. One that names a file holds what that file holds, and octets hold themselves. A failure names the
@@ -23,9 +25,9 @@ fn read_named<'a, S: Source>(
     name: &str,
     extent: Extent,
 ) -> Result<Vec<u8>, Failure<'a>>
-    ensures reads { IfOk result (λ octets. S.holds source.now name.now (Some octets.items)) }
-    ensures fails { IfErr result
-        (IsUnread (λ file found. S.holds source.now name.now found) word.entry.now) }
+    ensures reads { IfOk result (λ octets.
+        (S.holds source.now).has name.now (Some octets.items)) }
+    ensures fails { IfErr result (IsUnread (naming (S.holds source.now) name.now) word.entry.now) }
 {
     match source.octets_of(name, extent) {
         Ok(octets) => Ok(octets),
@@ -39,6 +41,10 @@ impl<S: Source> Source for OperandSource<'_, S> {
     ghost use Rattle.cli_session.specs.Held.{holding_of};
 
     ghost holds = { λ operands. holding_of (S.holds operands.source.now) };
+
+    fn profile(&self) -> Profile {
+        self.source.profile()
+    }
 
     fn octets_of<'a>(&self, file: &'a str, extent: Extent) -> Result<Vec<u8>, Failure<'a>> {
         match operand_of(self.alloc, file.as_bytes()) {

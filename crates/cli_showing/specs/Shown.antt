@@ -19,7 +19,7 @@ use Rattle.cli_failures.specs.Failures.{Holding, HoldsCertificate, HoldsList, Ho
 -- the lines of the value whose encoding the file holds
 abbrev pub IsTreeText : Holding → List ℕ → List ℕ → Type 0
 IsTreeText holds file text =
-    (octets : List ℕ) × (value : Value) × holds file (Some octets) × Encodes octets value
+    (octets : List ℕ) × (value : Value) × holds.has file (Some octets) × Encodes octets value
     × (text ≡ lines_of 0 value)
 
 -- these lines; where details are asked for, some text behind them

@@ -3,9 +3,10 @@ ghost use Rattle.std.specs.Prelude.{◌≡◌, ◌++◌, [], false, IfErr, IfOk,
 ghost use Rattle.cert.specs.Certificate.{Certificate as CertificateFields, certificate};
 ghost use Rattle.cert.specs.SubjectPublicKeyInfo.{seen_key_info};
 ghost use Rattle.cli_printing.specs.CertificateText.{certificate_text};
-ghost use Rattle.statements_crl.specs.CertificateList.{CertificateList, certificate_list};
+ghost use Rattle.statements_crl.specs.CertificateList.{CertificateList, certificate_list_under};
 ghost use Rattle.cli_printing.specs.CrlText.{crl_text};
 ghost use Rattle.cli_printing.specs.FingerprintText.{certificate_print_line, crl_print_line, response_print_lines};
+ghost use Rattle.statements_facts.specs.declared.profile.Profile.TheVariants.{Stated};
 ghost use Rattle.statements_ocsp.specs.OcspResponse.{OcspResponse, ocsp_response};
 ghost use Rattle.cli_printing.specs.ResponseText.{response_text};
 ghost use Rattle.cli_failures.specs.declared.failure.Failure.TheVariants.{NoMemory};
@@ -21,6 +22,7 @@ use cli_printing::{
 };
 use cli_words::Kind;
 use statements_crl::Crl;
+use statements_facts::Profile;
 use statements_ocsp::Response;
 use std::alloc::Global;
 
@@ -55,7 +57,13 @@ pub fn show<'a, S: Source>(
     let octets = source.octets_of(file, Extent::Value)?;
     match kind {
         Kind::Certificate => show_certificate(alloc, with_details, file, octets.as_slice()),
-        Kind::RevocationList => show_list(alloc, with_details, file, octets.as_slice()),
+        Kind::RevocationList => show_list(
+            alloc,
+            source.profile(),
+            with_details,
+            file,
+            octets.as_slice(),
+        ),
         Kind::Response => show_response(alloc, with_details, file, octets.as_slice()),
     }
 }
@@ -96,7 +104,7 @@ fn show_certificate<'a>(
     ensures shows { IfOk result (λ text.
         (read : CertificateFields) × (certificate octets.now ≡ Ok read)
         × IsWithDetails with_details (certificate_text read) text.items) }
-    ensures fails { IfErr result (IsNoCertificate (IsJust octets.now) file.entry.now) }
+    ensures fails { IfErr result (IsNoCertificate (IsJust Stated octets.now) file.entry.now) }
 {
     let certificate = read_certificate(alloc, file, octets)?;
     let details = end_of_certificate(alloc, with_details, &certificate)?;
@@ -124,16 +132,17 @@ fn end_of_list<'a>(
 
 fn show_list<'a>(
     alloc: Global,
+    profile: Profile,
     with_details: bool,
     file: &'a str,
     octets: &[u8],
 ) -> Result<Vec<u8>, Failure<'a>>
     ensures shows { IfOk result (λ text.
-        (read : CertificateList) × (certificate_list octets.now ≡ Ok read)
+        (read : CertificateList) × (certificate_list_under profile octets.now ≡ Ok read)
         × IsWithDetails with_details (crl_text read) text.items) }
-    ensures fails { IfErr result (IsNoList (IsJust octets.now) file.entry.now) }
+    ensures fails { IfErr result (IsNoList (IsJust profile octets.now) file.entry.now) }
 {
-    let list = read_list(alloc, file, octets)?;
+    let list = read_list(alloc, profile, file, octets)?;
     let details = end_of_list(alloc, with_details, &list)?;
     let mut text = Vec::new(alloc);
     match crl_to(&list, &mut text) {
@@ -166,7 +175,7 @@ fn show_response<'a>(
     ensures shows { IfOk result (λ text.
         (read : OcspResponse) × (ocsp_response octets.now ≡ Ok read)
         × IsWithDetails with_details (response_text read) text.items) }
-    ensures fails { IfErr result (IsNoResponse (IsJust octets.now) file.entry.now) }
+    ensures fails { IfErr result (IsNoResponse (IsJust Stated octets.now) file.entry.now) }
 {
     let response = read_response(alloc, file, octets)?;
     let details = end_of_response(alloc, with_details, &response)?;
@@ -224,6 +233,7 @@ fn prints_under<'a, S: Source>(
         }
         Kind::RevocationList => prints_of_list(
             alloc,
+            source.profile(),
             key_info,
             with_parts,
             file,
@@ -243,7 +253,7 @@ fn prints_of_certificate<'a>(
     ensures prints { IfOk result (λ text.
         (read : CertificateFields) × (certificate octets.now ≡ Ok read)
         × (text.items ≡ certificate_print_line with_parts (seen_key_info key_info.now) read)) }
-    ensures fails { IfErr result (IsNoCertificate (IsJust octets.now) file.entry.now) }
+    ensures fails { IfErr result (IsNoCertificate (IsJust Stated octets.now) file.entry.now) }
 {
     let certificate = read_certificate(alloc, file, octets)?;
     let mut text = Vec::new(alloc);
@@ -255,17 +265,18 @@ fn prints_of_certificate<'a>(
 
 fn prints_of_list<'a>(
     alloc: Global,
+    profile: Profile,
     key_info: &SubjectPublicKeyInfo<'_>,
     with_parts: bool,
     file: &'a str,
     octets: &[u8],
 ) -> Result<Vec<u8>, Failure<'a>>
     ensures prints { IfOk result (λ text.
-        (read : CertificateList) × (certificate_list octets.now ≡ Ok read)
+        (read : CertificateList) × (certificate_list_under profile octets.now ≡ Ok read)
         × (text.items ≡ crl_print_line with_parts (seen_key_info key_info.now) read)) }
-    ensures fails { IfErr result (IsNoList (IsJust octets.now) file.entry.now) }
+    ensures fails { IfErr result (IsNoList (IsJust profile octets.now) file.entry.now) }
 {
-    let list = read_list(alloc, file, octets)?;
+    let list = read_list(alloc, profile, file, octets)?;
     let mut text = Vec::new(alloc);
     match crl_print_to(&list, key_info, with_parts, &mut text) {
         Ok(()) => Ok(text),
@@ -283,7 +294,7 @@ fn prints_of_response<'a>(
     ensures prints { IfOk result (λ text.
         (read : OcspResponse) × (ocsp_response octets.now ≡ Ok read)
         × (text.items ≡ response_print_lines with_parts (seen_key_info key_info.now) read)) }
-    ensures fails { IfErr result (IsNoResponse (IsJust octets.now) file.entry.now) }
+    ensures fails { IfErr result (IsNoResponse (IsJust Stated octets.now) file.entry.now) }
 {
     let response = read_response(alloc, file, octets)?;
     let mut text = Vec::new(alloc);

@@ -5,7 +5,7 @@ use Rattle.path.specs.Query.{Accepts}
 use Rattle.path_verifiers.specs.Fingerprint.{fingerprint_of}
 use Rattle.path_verifiers.specs.ListVerifier.{Believes, is_listed}
 use Rattle.path_verifiers.specs.declared.list_verifier.ListVerifier.{ListVerifier}
-use Rattle.statements.specs.Statement.{genuine_statement}
+use Rattle.statements.specs.Statement.{genuine_statement_under}
 use Rattle.statements_facts.specs.declared.counts.Counts.{Counts}
 use Rattle.cli_failures.specs.Failures.{Holding}
 use Rattle.cli_failures.specs.declared.failure.Failure.{Failure}
@@ -30,12 +30,12 @@ further more Reads Are Refuses Others Answers old new (Err failure) so others (i
 -- ---- deliveries
 
 module _ {R : Type 0} (Takes : TakingBy R) (old new : R) (holds : Holding) (accepts : Accepts) where
-  pub deliver_under : (by : Certificate) (statement file : List ℕ) (result : Result Counts Failure) → holds file (Some statement)
-      → TakesSaid (genuine_statement accepts by statement) file Takes old new result → DeliversUnder holds accepts by file Takes old new result
+  pub deliver_under : (by : Certificate) (statement file : List ℕ) (result : Result Counts Failure) → holds.has file (Some statement)
+      → TakesSaid (genuine_statement_under holds.profile accepts by statement) file Takes old new result → DeliversUnder holds accepts by file Takes old new result
   deliver_under by statement file result found =
       further (λ facts. facts) _ _ _ _ Takes old new result (λ facts says. (statement, found, says)) (λ failure denied. inr (statement, found, denied))
 
-  pub deliver_to : (octets : List ℕ) (by : Certificate) (issuer file : List ℕ) (result : Result Counts Failure) → holds issuer (Some octets) → certificate octets ≡ Ok by
+  pub deliver_to : (octets : List ℕ) (by : Certificate) (issuer file : List ℕ) (result : Result Counts Failure) → holds.has issuer (Some octets) → certificate octets ≡ Ok by
       → DeliversUnder holds accepts by file Takes old new result → DeliversTo holds accepts issuer file Takes old new result
   deliver_to octets by issuer file result found reads =
       further (λ facts. facts) _ _ _ _ Takes old new result

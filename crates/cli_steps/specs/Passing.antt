@@ -2,7 +2,7 @@
 use Rattle.std.specs.Prelude.{◌≡◌, ◌⊎◌, ℕ, List, Some, Result, Ok, Err}
 use Rattle.cert.specs.Certificate.{Certificate}
 use Rattle.path.specs.Query.{Accepts, Query}
-use Rattle.statements.specs.Statement.{genuine_statement}
+use Rattle.statements.specs.Statement.{genuine_statement_under}
 use Rattle.statements_facts.specs.Fact.{Fact}
 use Rattle.statements_facts.specs.declared.counts.Counts.{Counts}
 use Rattle.statements_parts.specs.declared.fault.StatementFault.{StatementFault}
@@ -29,15 +29,15 @@ pub record HoldsStatement (holds : Holding) (accepts : Accepts) (issuer file : L
   pub by : Certificate
   pub issuer_is : HoldsCertificate holds issuer by
   pub statement : List ℕ
-  pub file_is : holds file (Some statement)
-  pub genuine : genuine_statement accepts by statement ≡ Ok facts
+  pub file_is : holds.has file (Some statement)
+  pub genuine : genuine_statement_under holds.profile accepts by statement ≡ Ok facts
 
 -- What is wrong with a delivery before its facts are taken, the first of it: the operand, the statement in it.
 abbrev pub IsRefusedUnder : Holding → Accepts → Certificate → List ℕ → Failure → Type 0
 IsRefusedUnder holds accepts by file failure =
     IsUnread holds file failure
-    ⊎ ((statement : List ℕ) × holds file (Some statement)
-    × IsDenied (genuine_statement accepts by statement) file failure)
+    ⊎ ((statement : List ℕ) × holds.has file (Some statement)
+    × IsDenied (genuine_statement_under holds.profile accepts by statement) file failure)
 
 -- The issuer's certificate, and then that.
 abbrev pub IsRefusedFrom : Holding → Accepts → List ℕ → List ℕ → Failure → Type 0
@@ -72,8 +72,8 @@ TakesSaid said file = PassesOn (λ facts. said ≡ Ok facts) (IsDenied said file
 -- the statement that the operand holds, under the issuer of a certificate
 abbrev pub HoldsUnder : Holding → Accepts → Certificate → List ℕ → List Fact → Type 0
 HoldsUnder holds accepts by file facts =
-    (statement : List ℕ) × holds file (Some statement)
-    × (genuine_statement accepts by statement ≡ Ok facts)
+    (statement : List ℕ) × holds.has file (Some statement)
+    × (genuine_statement_under holds.profile accepts by statement ≡ Ok facts)
 
 abbrev pub DeliversUnder : {R : Type 0} → Holding → Accepts → Certificate → List ℕ → TakingBy R → R → R → Result Counts Failure → Type 0
 DeliversUnder holds accepts by file =

@@ -1,7 +1,7 @@
 //! Deliveries: the facts of the statement in a file or an operand are passed to a receiver.
 ghost use Rattle.std.specs.Prelude.{◌≡◌};
 ghost use Rattle.cert.specs.Certificate.{seen_certificate};
-ghost use Rattle.statements.specs.Statement.{genuine_statement};
+ghost use Rattle.statements.specs.Statement.{genuine_statement_under};
 ghost use Rattle.cli_steps.specs.Passing.{DeliversTo, DeliversUnder, TakesSaid};
 ghost use Rattle.cli_steps.specs.Steps.{DeliversFile};
 ghost use Rattle.cli_steps.specs.Ways.{MovesParty};
@@ -13,22 +13,24 @@ use crate::receiver::TakeFacts;
 use cert::Certificate;
 use cli_failures::{Extent, Failure, Source, read_certificate, read_facts};
 use path_verifiers::Verifier;
-use statements_facts::Counts;
+use statements_facts::{Counts, Profile};
 use std::alloc::Global;
 
 // What these octets of the file say is taken, under the issuer of the certificate.
 fn deliver_statement<'a, R: TakeFacts<'a>, V: Verifier>(
     receiver: &mut R,
     alloc: Global,
+    profile: Profile,
     verifier: &V,
     issuer: &Certificate<'_>,
     statement: &[u8],
     file: &'a str,
 ) -> Result<Counts, Failure<'a>>
-    ensures { TakesSaid (genuine_statement (V.accepts verifier.now) (seen_certificate issuer.now)
-        statement.now) file.entry.now R.takes receiver.old receiver.new result }
+    ensures { TakesSaid (genuine_statement_under profile (V.accepts verifier.now)
+        (seen_certificate issuer.now) statement.now) file.entry.now R.takes receiver.old
+        receiver.new result }
 {
-    let facts = read_facts(alloc, verifier, issuer, file, statement)?;
+    let facts = read_facts(alloc, profile, verifier, issuer, file, statement)?;
     receiver.take_facts(&facts)
 }
 
@@ -48,6 +50,7 @@ fn deliver_under<'a, R: TakeFacts<'a>, V: Verifier, S: Source>(
     deliver_statement(
         receiver,
         alloc,
+        source.profile(),
         verifier,
         issuer,
         statement.as_slice(),

@@ -6,66 +6,75 @@ use Rattle.sqlite.specs.Effect.{Database}
 use Rattle.sqlite.specs.Files.{AreFoundIn, file_state}
 use Rattle.sqlite.specs.State.{HasCleanDisk}
 use Rattle.sqlite_trees.specs.Tree.{Trees}
-use Rattle.statements_facts.specs.declared.profile.Profile.TheVariants.{Stated}
+use Rattle.statements_facts.specs.declared.profile.Profile.{Profile}
 use Rattle.store.specs.Adopts.{IsEmptyStoreOn}
 use Rattle.store.specs.Opens.{IsTakenFrom}
-use Rattle.store.specs.declared.handle.Store.{Store}
+use Rattle.store.specs.declared.handle.Store as handle
+use Rattle.relying_verdicts.specs.declared.fault.Fault.TheVariants.{Store as OfStore}
+use Rattle.store_sql.specs.declared.fault.StoreFault.{StoreFault}
+use Rattle.store_sql.specs.declared.fault.StoreFault.TheVariants.{Store, Schema, Memory}
 use Rattle.cli_failures.specs.declared.failure.Failure.{Failure}
 use Rattle.cli_failures.specs.declared.failure.StoreRefusal.TheVariants as refused
 use Rattle.cli_steps.specs.Keeping.{IsNotKept}
-use Rattle.cli_store.specs.OnFiles.{IsFoundOn, IsHeldBy, IsTakenAs, stands_on}
-use Rattle.cli_store.specs.Standing.{IsFound, IsFoundOrMade, IsNotFound, IsOfStore, MakesNoStore, seen_in}
+use Rattle.cli_store.specs.OnFiles.{IsFoundOn, IsHeldBy, IsTakenAs, places_on, stands_on}
+use Rattle.cli_store.specs.Standing.{IsFound, IsFoundOrMade, IsNotFound, IsOfStore, MakesNoStore, seen_in, told_of}
 
 -- ---- a store that was taken from files
 
-module _ {D : Type 0} {g : Ghosts D} (image : Image) (path : List ℕ) where
-  trees_found : (store : Store D g) (it : IsTakenFrom Stated image store.conn) → (file_state it.conn).now.trees ≡ (file_state it.conn).committed.trees
+module _ {D : Type 0} {g : Ghosts D} (profile : Profile) (image : Image) (path : List ℕ) where
+  trees_found : (store : handle.Store D g) (it : IsTakenFrom profile image store.conn) → (file_state it.conn).now.trees ≡ (file_state it.conn).committed.trees
   trees_found store it = ap (λ (d : Database). d.trees) it.opened.0.clean
 
-  held_by : (store : Store D g) (it : IsTakenFrom Stated image store.conn) → IsHeldBy image (file_state it.conn).now
+  held_by : (store : handle.Store D g) (it : IsTakenFrom profile image store.conn) → IsHeldBy image (file_state it.conn).now
   held_by store it = record {
     holds = λ trees has. trees_found store it ∙ it.found.holds trees has;
     reads = subst (AreFoundIn image) (sym (trees_found store it)) it.found.reads;
     sound = (it.opened.1 it.opened.0.is_open).0;
   }
 
-  taken_as : (store : Store D g) (it : IsTakenFrom Stated image store.conn) → HasCleanDisk (file_state store.conn) → IsTakenAs (file_state it.conn).now (file_state store.conn).now
+  taken_as : (store : handle.Store D g) (it : IsTakenFrom profile image store.conn) → HasCleanDisk (file_state store.conn) → IsTakenAs (file_state it.conn).now (file_state store.conn).now
   taken_as store it clean = elim (it.was clean) [
     | inl is ↦ inl (it.unchanged clean (is.0, is.1)).0.now_is
     | inr is ↦ inr (is, it.migrated clean)
   ]
 
-  found_in : (store : Store D g) → IsFoundOn image store.conn → IsFound (stands_on image) path (seen_in store)
+  found_in : (store : handle.Store D g) → IsFoundOn profile image store.conn → IsFound (places_on profile image) path (seen_in store)
   found_in store (from, is) =
       (λ intact. let it = from intact in ((file_state it.conn).now, held_by store it, taken_as store it intact), is)
 
-  pub found : (result : Result (Store D g) Failure) → IfOk result (λ store. IsFoundOn image store.conn)
-      → IfOk result (λ store. IsFound (stands_on image) path (seen_in store))
+  pub found : (result : Result (handle.Store D g) Failure) → IfOk result (λ store. IsFoundOn profile image store.conn)
+      → IfOk result (λ store. IsFound (places_on profile image) path (seen_in store))
   found (Ok store) is = found_in store is
   found (Err failure) is = tt
 
   -- ---- or made
 
-  made_in : (store : Store D g) → IsEmptyStoreOn Stated store.conn → IsFoundOrMade (stands_on image) path (seen_in store)
+  made_in : (store : handle.Store D g) → IsEmptyStoreOn profile store.conn → IsFoundOrMade (places_on profile image) path (seen_in store)
   made_in store is = inr (inl tt, is)
 
-  pub made : (result : Result (Store D g) Failure) → IfOk result (λ store. IsEmptyStoreOn Stated store.conn)
-      → IfOk result (λ store. IsFoundOrMade (stands_on image) path (seen_in store))
+  pub made : (result : Result (handle.Store D g) Failure) → IfOk result (λ store. IsEmptyStoreOn profile store.conn)
+      → IfOk result (λ store. IsFoundOrMade (places_on profile image) path (seen_in store))
   made (Ok store) is = made_in store is
   made (Err failure) is = tt
 
-  pub found_or_made : (result : Result (Store D g) Failure) → IfOk result (λ store. IsFoundOn image store.conn ⊎ IsEmptyStoreOn Stated store.conn)
-      → IfOk result (λ store. IsFoundOrMade (stands_on image) path (seen_in store))
+  pub found_or_made : (result : Result (handle.Store D g) Failure) → IfOk result (λ store. IsFoundOn profile image store.conn ⊎ IsEmptyStoreOn profile store.conn)
+      → IfOk result (λ store. IsFoundOrMade (places_on profile image) path (seen_in store))
   found_or_made (Ok store) (inl is) = inl (found_in store is)
   found_or_made (Ok store) (inr is) = made_in store is
   found_or_made (Err failure) is = tt
 
-pub filled : {D : Type 0} {g : Ghosts D} (image : Image) (result : Result (Store D g) Failure) → IfOk result (λ store. IsEmptyStoreOn Stated store.conn)
-    → IfOk result (λ store. IsFoundOn image store.conn ⊎ IsEmptyStoreOn Stated store.conn)
-filled image (Ok store) is = inr is
-filled image (Err failure) is = tt
+pub filled : {D : Type 0} {g : Ghosts D} (profile : Profile) (image : Image) (result : Result (handle.Store D g) Failure) → IfOk result (λ store. IsEmptyStoreOn profile store.conn)
+    → IfOk result (λ store. IsFoundOn profile image store.conn ⊎ IsEmptyStoreOn profile store.conn)
+filled profile image (Ok store) is = inr is
+filled profile image (Err failure) is = tt
 
 -- ---- no store
+
+-- a fault of a store is told as one
+pub told_of_store : (fault : StoreFault) (failure : Failure) → failure ≡ told_of (OfStore fault) → IsOfStore failure
+told_of_store Store failure is = inr (refused.Store, is)
+told_of_store Schema failure is = inr (refused.Schema, is)
+told_of_store Memory failure is = inl is
 
 pub of_store : {A : Type 0} (result : Result A Failure) → IfErr result IsNotKept → IfErr result IsOfStore
 of_store (Ok store) fails = tt

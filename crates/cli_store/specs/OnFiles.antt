@@ -8,7 +8,7 @@ use Rattle.sqlite_trees.specs.Tree.{Trees}
 use Rattle.sqlite.specs.Effect.{Database, IsDatabase}
 use Rattle.sqlite.specs.Files.{AreFoundIn, HoldsDatabase, file_state}
 use Rattle.sqlite.specs.Held.{Held}
-use Rattle.statements_facts.specs.declared.profile.Profile.TheVariants.{Stated}
+use Rattle.statements_facts.specs.declared.profile.Profile.{Profile}
 use Rattle.statements_facts.specs.Statement.{Holdings}
 use Rattle.store_maps.specs.Held.{IsStoreOf}
 use Rattle.store_adoption.specs.Creates.{HasTables}
@@ -38,8 +38,9 @@ stands_on image path nothing = ⊤
 stands_on image path (refusal why) = ⊤
 
 -- Once files are closed no clause says anything of them: any may be left, and last.
-abbrev pub places_on : Image → Places
-places_on image = record {
+abbrev pub places_on : Profile → Image → Places
+places_on profile image = record {
+  profile = profile;
   stands = stands_on image;
   leaves = λ path seen. ⊤;
   lasts = λ path left. ⊤;
@@ -47,9 +48,9 @@ places_on image = record {
 
 -- ---- connections
 
--- a store that is taken from files that held this
-abbrev pub IsFoundOn : {D : Type 0} {g : Ghosts D} → Image → Held (FileStore D g) → Type 0
-IsFoundOn image conn = IsTakenFromOn Stated image conn × IsStoreOn Stated conn
+-- a store of the profile that is taken from files that held this
+abbrev pub IsFoundOn : {D : Type 0} {g : Ghosts D} → Profile → Image → Held (FileStore D g) → Type 0
+IsFoundOn profile image conn = IsTakenFromOn profile image conn × IsStoreOn profile conn
 
 -- no store can be made in place of one that was not opened: there is no connection, or it has tables
 abbrev pub HasNoRoom : {D : Type 0} {g : Ghosts D} → OpenFault D g → Type 0

@@ -8,8 +8,8 @@ use Rattle.sqlite_trees.specs.View.{doubt}
 use Rattle.store_adoption.specs.Inspects.{IsStoreUnder}
 use Rattle.statements_facts.specs.Coming.{after_all}
 use Rattle.statements_facts.specs.Fact.{Fact}
-use Rattle.statements_facts.specs.Statement.{Holdings, empty_holdings}
-use Rattle.statements_facts.specs.declared.profile.Profile.TheVariants.{Stated}
+use Rattle.statements_facts.specs.Statement.{Holdings, empty_under}
+use Rattle.statements_facts.specs.declared.profile.Profile.{Profile}
 use Rattle.store_maps.specs.Held.{AreTreesOf, IsStoreOf}
 use Rattle.sqlite_trees.specs.Tree.{Trees}
 use Rattle.store_sql.specs.Tables.{no_schema}
@@ -71,15 +71,16 @@ Leaving = List ℕ → Seen → Type 0
 abbrev pub Lasting : Type 1
 Lasting = List ℕ → List Holdings → Type 0
 
--- what is known of the places of stores
+-- what is known of the places of stores, which are all of one profile
 pub record Places : Type 1 where
+  pub profile : Profile
   pub stands : Standing
   pub leaves : Leaving
   pub lasts : Lasting
 
--- This was seen when the database of the path was opened, and where the disk returned what was written it is a store of the stated profile.
-abbrev pub IsFound : Standing → List ℕ → Seen → Type 0
-IsFound stands path old = stands path (database old) × (IsIntact old → IsStoreUnder Stated old.now)
+-- This was seen when the database of the path was opened, and where the disk returned what was written it is a store of the profile.
+abbrev pub IsFound : Places → List ℕ → Seen → Type 0
+IsFound at path old = at.stands path (database old) × (IsIntact old → IsStoreUnder at.profile old.now)
 
 -- no file was met at the path, or a database without tables
 abbrev pub MeetsNoTable : Standing → List ℕ → Type 0
@@ -87,14 +88,14 @@ MeetsNoTable stands path =
     stands path nothing
     ⊎ ((empty : Seen) × stands path (database empty) × (IsIntact empty → empty.now.schema ≡ no_schema))
 
--- So it was, and this was seen of the database where a store was made: where the disk returned what was written it is a store that holds
--- nothing.
-abbrev pub IsMade : Standing → List ℕ → Seen → Type 0
-IsMade stands path old = MeetsNoTable stands path × (IsIntact old → IsStoreOf old.now empty_holdings)
+-- So it was, and this was seen of the database where a store was made: where the disk returned what was written it is a store of the profile
+-- that holds nothing.
+abbrev pub IsMade : Places → List ℕ → Seen → Type 0
+IsMade at path old = MeetsNoTable at.stands path × (IsIntact old → IsStoreOf old.now (empty_under at.profile))
 
 -- one or the other
-abbrev pub IsFoundOrMade : Standing → List ℕ → Seen → Type 0
-IsFoundOrMade stands path old = IsFound stands path old ⊎ IsMade stands path old
+abbrev pub IsFoundOrMade : Places → List ℕ → Seen → Type 0
+IsFoundOrMade at path old = IsFound at path old ⊎ IsMade at path old
 
 -- ---- no store
 

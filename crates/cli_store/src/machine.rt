@@ -7,6 +7,7 @@ use cli_failures::{Extent, Failure, Source, StoreRefusal};
 use cli_hints::is_in_use;
 use sqlite_disk::{Disk, Start};
 use sqlite_std_file::FileFrom;
+use statements_facts::Profile;
 use std::thread;
 use std::time::Duration;
 use store::Store;
@@ -20,6 +21,8 @@ pub struct Machine<'r, S: Start> {
     pub rt: &'r HostRuntime,
     /// For how many seconds.
     pub wait: u16,
+    /// That of its stores, in which statements, and the certificates of paths, are read.
+    pub profile: Profile,
     pub start: S,
 }
 
@@ -90,9 +93,13 @@ impl<S: Start> Machine<'_, S> {
 }
 
 impl<S: Start> Source for Machine<'_, S> {
-    ghost use Rattle.std.specs.Prelude.{⊤};
+    ghost use Rattle.cli_failures.specs.Failures.{any_file};
 
-    ghost holds = { λ _ _ _. ⊤ };
+    ghost holds = { λ machine. any_file machine.profile };
+
+    fn profile(&self) -> Profile {
+        self.profile
+    }
 
     fn octets_of<'a>(&self, file: &'a str, extent: Extent) -> Result<Vec<u8>, Failure<'a>> {
         self.rt.octets_of(file, extent)
@@ -103,13 +110,13 @@ impl<S: Start + Copy> Stores<Store<FileFrom<S>>> for Machine<'_, S> {
     ghost use Rattle.sqlite_wal.specs.Files.{image_at};
     ghost use Rattle.cli_store.specs.OnFiles.{places_on};
 
-    ghost places = { λ _. places_on (image_at S.Start) };
+    ghost places = { λ machine. places_on machine.profile (image_at S.Start) };
 
     fn open_store<'a>(&self, path: &'a str) -> Result<Store<FileFrom<S>>, Failure<'a>> {
         let mut left = self.tries();
         let mut once_closed = TRIES_ONCE_CLOSED;
         'tries: loop {
-            let opened = open_at(self.rt, path, self.start);
+            let opened = open_at(self.rt, self.profile, path, self.start);
             if left == 0 || !self.asks_again(path, &opened, &mut once_closed) {
                 return opened;
             }
@@ -122,7 +129,7 @@ impl<S: Start + Copy> Stores<Store<FileFrom<S>>> for Machine<'_, S> {
         let mut left = self.tries();
         let mut once_closed = TRIES_ONCE_CLOSED;
         'tries: loop {
-            let opened = open_or_make_at(self.rt, path, self.start);
+            let opened = open_or_make_at(self.rt, self.profile, path, self.start);
             if left == 0 || !self.asks_again(path, &opened, &mut once_closed) {
                 return opened;
             }

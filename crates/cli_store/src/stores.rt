@@ -1,7 +1,6 @@
 //! Stores at paths.
 ghost use Rattle.std.specs.Prelude.{◌≡◌, ◌≢◌, ◌⊎◌, false, IfErr, IfOk, List, OnOk};
 ghost use Rattle.statements_facts.specs.Statement.{Holdings};
-ghost use Rattle.statements_facts.specs.declared.profile.Profile.TheVariants.{Stated};
 ghost use Rattle.sqlite.specs.Files.{file_state};
 ghost use Rattle.sqlite_wal.specs.Files.{image_at};
 ghost use Rattle.store_adoption.specs.Creates.{HasTables, IsSettled};
@@ -10,7 +9,7 @@ ghost use Rattle.store.specs.Opens.{IsMadeFromOn, fault_of};
 ghost use Rattle.store_sql.specs.Statements.{IsDurable};
 ghost use Rattle.store_sql.specs.Tables.{no_schema};
 ghost use Rattle.cli_steps.specs.Keeping.{IsNotKept};
-ghost use Rattle.cli_store.specs.OnFiles.{HasNoRoom, HasRoom, IsFoundOn, stands_on};
+ghost use Rattle.cli_store.specs.OnFiles.{HasNoRoom, HasRoom, IsFoundOn, places_on, stands_on};
 ghost use Rattle.cli_store.specs.Standing.{IsFound, IsFoundOrMade, IsNotFound, IsOfStore, IsOpenIfClean, LeavesIfClean, MakesNoStore, seen_in, seen_of, told_of};
 
 use cli_failures::{Failure, StoreRefusal};
@@ -41,13 +40,13 @@ impl<D: Disk + Drop> Connected for Store<D> {
 ///
 /// What stands at a path of the system's files is the system's own matter: no contract can look at a disk. The contracts only know that what
 /// is opened is what stands there, that what is closed is left there and lasts, and that opening fails only because of what is found at the
-/// path. All stores are of the stated profile.
+/// path. All stores are of one profile: a database that is a store of the other is refused.
 pub trait Stores<T: Connected> {
     ghost use Rattle.std.specs.Prelude.{List};
     ghost use Rattle.statements_facts.specs.Statement.{Holdings};
     ghost use Rattle.cli_store.specs.Standing.{Places};
 
-    /// What is known of the places of stores: what was found at a path (`stands`), how a store of a path was seen when it was closed
+    /// What is known of the places of stores: their profile (`profile`), what was found at a path (`stands`), how a store of a path was seen when it was closed
     /// (`leaves`), and what is found there next (`lasts`).
     ghost places: { Self → Places };
 
@@ -55,7 +54,7 @@ pub trait Stores<T: Connected> {
     /// behind a crash.
     fn open_store<'a>(&self, path: &'a str) -> Result<T, Failure<'a>>
         ensures found { IfOk result (λ store.
-            IsFound (places self.now).stands path.entry.now (seen_of (T.state store))) }
+            IsFound (places self.now) path.entry.now (seen_of (T.state store))) }
         ensures open { IfOk result (λ store. IsOpenIfClean (T.state store)) }
         ensures settled { IfOk result (λ store. IsSettled (T.state store)) }
         ensures durable { IfOk result (λ store. IsDurable (T.state store)) }
@@ -64,7 +63,7 @@ pub trait Stores<T: Connected> {
     /// The same; if no file is there, or a database without tables, a store is made that holds nothing.
     fn open_or_make_store<'a>(&self, path: &'a str) -> Result<T, Failure<'a>>
         ensures found { IfOk result (λ store.
-            IsFoundOrMade (places self.now).stands path.entry.now (seen_of (T.state store))) }
+            IsFoundOrMade (places self.now) path.entry.now (seen_of (T.state store))) }
         ensures open { IfOk result (λ store. IsOpenIfClean (T.state store)) }
         ensures settled { IfOk result (λ store. IsSettled (T.state store)) }
         ensures durable { IfOk result (λ store. IsDurable (T.state store)) }
@@ -118,16 +117,17 @@ fn not_made<'a>(fault: StoreFault) -> Failure<'a>
 // The store at the path.
 fn open<'a, S: Start>(
     rt: &HostRuntime,
+    profile: Profile,
     path: &str,
     start: S,
 ) -> Result<Store<FileFrom<S>>, Failure<'a>>
-    ensures found { IfOk result (λ store. IsFoundOn (image_at S.Start) store.conn) }
+    ensures found { IfOk result (λ store. IsFoundOn profile (image_at S.Start) store.conn) }
     ensures is_open { IfOk result (λ store. IsOpenOn store.conn) }
     ensures settled { IfOk result (λ store. IsSettled (file_state store.conn)) }
     ensures durable { IfOk result (λ store. IsDurable (file_state store.conn)) }
     ensures fails { IfErr result IsOfStore }
 {
-    match Store::open_from(rt, Profile::Stated, path, start) {
+    match Store::open_from(rt, profile, path, start) {
         Ok(store) => Ok(store),
         Err(unopened) => Err(not_opened(&unopened)),
     }
@@ -136,17 +136,18 @@ fn open<'a, S: Start>(
 // A store that is made at the path.
 fn make<'a, S: Start>(
     rt: &HostRuntime,
+    profile: Profile,
     path: &str,
     start: S,
 ) -> Result<Store<FileFrom<S>>, Failure<'a>>
-    ensures made { IfOk result (λ store. IsMadeFromOn Stated (image_at S.Start) store.conn) }
-    ensures empty { IfOk result (λ store. IsEmptyStoreOn Stated store.conn) }
+    ensures made { IfOk result (λ store. IsMadeFromOn profile (image_at S.Start) store.conn) }
+    ensures empty { IfOk result (λ store. IsEmptyStoreOn profile store.conn) }
     ensures is_open { IfOk result (λ store. IsOpenOn store.conn) }
     ensures settled { IfOk result (λ store. IsSettled (file_state store.conn)) }
     ensures durable { IfOk result (λ store. IsDurable (file_state store.conn)) }
     ensures fails { IfErr result IsNotKept }
 {
-    match Store::make_from(rt, Profile::Stated, path, start) {
+    match Store::make_from(rt, profile, path, start) {
         Ok(store) => {
             let _settled = store.conn.is_autocommit();
             Ok(store)
@@ -156,9 +157,12 @@ fn make<'a, S: Start>(
 }
 
 // A store that is made in an empty database. Over tables the refusal is that of the database.
-fn create<'a, D: Disk + Drop>(conn: Connection<FileStore<D>>) -> Result<Store<D>, Failure<'a>>
+fn create<'a, D: Disk + Drop>(
+    profile: Profile,
+    conn: Connection<FileStore<D>>,
+) -> Result<Store<D>, Failure<'a>>
     requires idle { conn.in_transaction ≡ false }
-    ensures empty { IfOk result (λ store. IsEmptyStoreOn Stated store.conn) }
+    ensures empty { IfOk result (λ store. IsEmptyStoreOn profile store.conn) }
     ensures is_open { IfOk result (λ store. IsOpenOn store.conn) }
     ensures settled { IfOk result (λ store. IsSettled (file_state store.conn)) }
     ensures durable { IfOk result (λ store. IsDurable (file_state store.conn)) }
@@ -167,7 +171,7 @@ fn create<'a, D: Disk + Drop>(conn: Connection<FileStore<D>>) -> Result<Store<D>
         → failure ≡ told_of (Fault.Store StoreFault.Store)) }
     ensures fails { IfErr result IsNotKept }
 {
-    match Store::create(conn) {
+    match Store::create_under(profile, conn) {
         Ok(store) => {
             let _settled = store.conn.is_autocommit();
             Ok(store)
@@ -178,8 +182,8 @@ fn create<'a, D: Disk + Drop>(conn: Connection<FileStore<D>>) -> Result<Store<D>
 
 // Makes a store in a refused database if that has no table. A process that ends while it makes a store may leave such a database. If it has
 // tables, the fault for which it was refused is told.
-fn fill<'a, D: Disk + Drop>(refused: Refused<D>) -> Result<Store<D>, Failure<'a>>
-    ensures empty { IfOk result (λ store. IsEmptyStoreOn Stated store.conn) }
+fn fill<'a, D: Disk + Drop>(profile: Profile, refused: Refused<D>) -> Result<Store<D>, Failure<'a>>
+    ensures empty { IfOk result (λ store. IsEmptyStoreOn profile store.conn) }
     ensures is_open { IfOk result (λ store. IsOpenOn store.conn) }
     ensures settled { IfOk result (λ store. IsSettled (file_state store.conn)) }
     ensures durable { IfOk result (λ store. IsDurable (file_state store.conn)) }
@@ -192,15 +196,18 @@ fn fill<'a, D: Disk + Drop>(refused: Refused<D>) -> Result<Store<D>, Failure<'a>
 {
     let Refused { fault, conn } = refused;
     if is_empty(conn.schema()) {
-        create(conn)
+        create(profile, conn)
     } else {
         Err(failed(Fault::Store(fault)))
     }
 }
 
 // The same of a database that was not opened for a store, if there is one. If there is none, the fault is told.
-fn fill_or_tell<'a, D: Disk + Drop>(unopened: OpenFault<D>) -> Result<Store<D>, Failure<'a>>
-    ensures empty { IfOk result (λ store. IsEmptyStoreOn Stated store.conn) }
+fn fill_or_tell<'a, D: Disk + Drop>(
+    profile: Profile,
+    unopened: OpenFault<D>,
+) -> Result<Store<D>, Failure<'a>>
+    ensures empty { IfOk result (λ store. IsEmptyStoreOn profile store.conn) }
     ensures is_open { IfOk result (λ store. IsOpenOn store.conn) }
     ensures settled { IfOk result (λ store. IsSettled (file_state store.conn)) }
     ensures durable { IfOk result (λ store. IsDurable (file_state store.conn)) }
@@ -211,7 +218,7 @@ fn fill_or_tell<'a, D: Disk + Drop>(unopened: OpenFault<D>) -> Result<Store<D>, 
     ensures fails { IfErr result IsOfStore }
 {
     match unopened {
-        OpenFault::Refused(refused) => fill(refused),
+        OpenFault::Refused(refused) => fill(profile, refused),
         OpenFault::Unconnected(fault) => Err(failed(Fault::Store(fault))),
     }
 }
@@ -219,19 +226,20 @@ fn fill_or_tell<'a, D: Disk + Drop>(unopened: OpenFault<D>) -> Result<Store<D>, 
 // The store in the file at the path. If its database has no table, a store is made in it.
 fn open_or_fill<'a, S: Start>(
     rt: &HostRuntime,
+    profile: Profile,
     path: &str,
     start: S,
 ) -> Result<Store<FileFrom<S>>, Failure<'a>>
     ensures store { IfOk result (λ store.
-        IsFoundOn (image_at S.Start) store.conn ⊎ IsEmptyStoreOn Stated store.conn) }
+        IsFoundOn profile (image_at S.Start) store.conn ⊎ IsEmptyStoreOn profile store.conn) }
     ensures is_open { IfOk result (λ store. IsOpenOn store.conn) }
     ensures settled { IfOk result (λ store. IsSettled (file_state store.conn)) }
     ensures durable { IfOk result (λ store. IsDurable (file_state store.conn)) }
     ensures fails { IfErr result IsOfStore }
 {
-    match Store::open_from(rt, Profile::Stated, path, start) {
+    match Store::open_from(rt, profile, path, start) {
         Ok(store) => Ok(store),
-        Err(unopened) => fill_or_tell(unopened),
+        Err(unopened) => fill_or_tell(profile, unopened),
     }
 }
 
@@ -243,14 +251,15 @@ fn is_missing(rt: &HostRuntime, path: &str) -> bool {
     }
 }
 
-// The store that stands at the path of the system's files, which hold what `S` says.
+// The store of the profile that stands at the path of the system's files, which hold what `S` says.
 pub(crate) fn open_at<'a, S: Start>(
     rt: &HostRuntime,
+    profile: Profile,
     path: &'a str,
     start: S,
 ) -> Result<Store<FileFrom<S>>, Failure<'a>>
     ensures found { IfOk result (λ store.
-        IsFound (stands_on (image_at S.Start)) path.entry.now (seen_in store)) }
+        IsFound (places_on profile (image_at S.Start)) path.entry.now (seen_in store)) }
     ensures open { IfOk result (λ store. IsOpenIfClean (file_state store.conn)) }
     ensures settled { IfOk result (λ store. IsSettled (file_state store.conn)) }
     ensures durable { IfOk result (λ store. IsDurable (file_state store.conn)) }
@@ -259,42 +268,45 @@ pub(crate) fn open_at<'a, S: Start>(
     if fs::open(rt, path).is_err() {
         return Err(Failure::Unreadable { file: path });
     }
-    open(rt, path, start)
+    open(rt, profile, path, start)
 }
 
 // The same; if no file is there, or a database without tables, a store is made that holds nothing.
 pub(crate) fn open_or_make_at<'a, S: Start>(
     rt: &HostRuntime,
+    profile: Profile,
     path: &'a str,
     start: S,
 ) -> Result<Store<FileFrom<S>>, Failure<'a>>
     ensures found { IfOk result (λ store.
-        IsFoundOrMade (stands_on (image_at S.Start)) path.entry.now (seen_in store)) }
+        IsFoundOrMade (places_on profile (image_at S.Start)) path.entry.now
+        (seen_in store)) }
     ensures open { IfOk result (λ store. IsOpenIfClean (file_state store.conn)) }
     ensures settled { IfOk result (λ store. IsSettled (file_state store.conn)) }
     ensures durable { IfOk result (λ store. IsDurable (file_state store.conn)) }
     ensures fails { IfErr result (MakesNoStore (stands_on (image_at S.Start)) path.entry.now) }
 {
     if is_missing(rt, path) {
-        make(rt, path, start)
+        make(rt, profile, path, start)
     } else {
-        open_or_fill(rt, path, start)
+        open_or_fill(rt, profile, path, start)
     }
 }
 
-/// The system's files, at `Unknown`.
+/// The system's files, at `Unknown`. The profile is the stated one.
 impl Stores<Store<File>> for HostRuntime {
+    ghost use Rattle.statements_facts.specs.declared.profile.Profile.TheVariants.{Stated};
     ghost use Rattle.store.specs.Opens.{nothing_held};
     ghost use Rattle.cli_store.specs.OnFiles.{places_on};
 
-    ghost places = { λ _. places_on nothing_held };
+    ghost places = { λ _. places_on Stated nothing_held };
 
     fn open_store<'a>(&self, path: &'a str) -> Result<Store<File>, Failure<'a>> {
-        open_at(self, path, Unknown)
+        open_at(self, Profile::Stated, path, Unknown)
     }
 
     fn open_or_make_store<'a>(&self, path: &'a str) -> Result<Store<File>, Failure<'a>> {
-        open_or_make_at(self, path, Unknown)
+        open_or_make_at(self, Profile::Stated, path, Unknown)
     }
 
     fn close_store(&self, _path: &str, store: Store<File>) {

@@ -1,5 +1,5 @@
 -- Words behind others.
-use Rattle.std.proofs.Common.{◌∙◌, ◌+◌, ◌-◌, List, length, take, drop, ap, refl}
+use Rattle.std.proofs.Common.{◌≡◌, ◌≤◌, ◌∙◌, ◌+◌, ◌-◌, ◌∷◌, Bor, ℕ, List, [], length, map, take, take_all, drop, get_or, ap, arith, refl, sym}
 use Rattle.std.proofs.lemmas.List.{take_rest}
 use lib.Seq.{drop-drop}
 use Rattle.cli_words.specs.RunOptions.{EndsWith}
@@ -12,3 +12,11 @@ behind_both words middle left (n, is) (m, also) = (n + m, also ∙ ap (drop m) i
 
 pub behind_nothing : {A : Type 0} (words : List A) → EndsWith words words
 behind_nothing words = (0, refl)
+
+-- words of which there is one are the first and those behind it
+pub first_of : (words : List (Bor (List ℕ))) (d : Bor (List ℕ)) → 1 ≤ length words
+    → map (λ w. w.now) words ≡ (get_or words 0 d).now ∷ map (λ w. w.now) (take (length words - 1) (drop 1 words))
+first_of [] d some = absurd (omega (arith, some))
+first_of (word ∷ words) d some =
+    let all : take (length (word ∷ words) - 1) words ≡ words = take_all (length (word ∷ words) - 1) words (omega arith) in
+    ap (λ (rest : List (Bor (List ℕ))). word.now ∷ map (λ w. w.now) rest) (sym all)

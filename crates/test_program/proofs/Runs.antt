@@ -11,7 +11,7 @@ use Rattle.sqlite.specs.Schema.{Schema}
 use Rattle.store_sql.specs.Tables.{crls_tree, entries_tree, no_schema, scoped_crls_table, scoped_entries_table, start_schema, store_schema}
 use Rattle.store_sql.specs.declared.origin.Origin.{Origin}
 use Rattle.cli_store.specs.Standing.{IsFound, IsFoundOrMade, Seen}
-use Rattle.test_program.specs.Shelves.{HasTaken, after_these, standing_on, statements_at}
+use Rattle.test_program.specs.Shelves.{HasTaken, after_these, places_on, statements_at}
 use Rattle.test_program.specs.Runs.{ChecksByTexts, ComparesByTexts, DeliversByTexts, DeliversThenChecks, HasStore, held_at}
 use Rattle.test_program.specs.declared.shelf.Kept.{Kept}
 
@@ -32,14 +32,14 @@ module _ (stores : List Kept) (path : List ℕ) where
   some found rows is = subst (λ (rows : Option (List Facts)). IsSome rows) (sym is) refl
 
   -- a store that was found there holds what the statements say
-  pub stands : (old : Seen) → IsFound (standing_on stores) path old → HasStore stores path
+  pub stands : (old : Seen) → IsFound (places_on stores) path old → HasStore stores path
   stands old found = some (statements_at stores path) found.0.0 found.0.1
 
-  pub holds : (old : Seen) → IsFound (standing_on stores) path old → IsStoreOf old.now (held_at stores path)
+  pub holds : (old : Seen) → IsFound (places_on stores) path old → IsStoreOf old.now (held_at stores path)
   holds old found = subst (λ (rows : Option (List Facts)). IsStoreOf old.now (after_these empty_holdings (unwrap_or rows []))) (sym found.0.1) found.0.2
 
   -- and no other was made there
-  pub holds_if : HasStore stores path → (old : Seen) → IsFoundOrMade (standing_on stores) path old → IsStoreOf old.now (held_at stores path)
+  pub holds_if : HasStore stores path → (old : Seen) → IsFoundOrMade (places_on stores) path old → IsStoreOf old.now (held_at stores path)
   holds_if has old (inl found) = holds old found
   holds_if has old (inr (inl none, is)) = absurd (true≢false (sym (subst (λ (rows : Option (List Facts)). IsSome rows) none has)))
   holds_if has old (inr (inr (empty, (rows, at, held, intact), lacks), is)) = absurd (no_store empty.now (after_these empty_holdings rows) held (lacks intact))

@@ -4,6 +4,7 @@ use Rattle.statements_facts.specs.Coming.{after_all}
 use Rattle.statements_facts.specs.Fact.{Fact, facts_in}
 use Rattle.statements_facts.specs.Statement.{Holdings, empty_holdings}
 use Rattle.statements_facts.specs.declared.fact.Facts.{Facts}
+use Rattle.statements_facts.specs.declared.profile.Profile.TheVariants.{Stated}
 use Rattle.store_maps.specs.Held.{IsStoreOf}
 use Rattle.cli.specs.Failures.{Holding}
 use Rattle.cli_failures.specs.declared.failure.StoreRefusal.TheVariants as refused
@@ -19,7 +20,7 @@ octets_under (text ∷ others) name =
 
 -- a file holds what the text of its name has
 abbrev pub holding_in : List Text → Holding
-holding_in texts name found = octets_under texts name ≡ found
+holding_in texts = record { has = λ name found. octets_under texts name ≡ found; profile = Stated }
 
 -- the statements that were put into the first store of this path
 abbrev pub statements_at : List Kept → List ℕ → Option (List Facts)
@@ -51,7 +52,7 @@ lasting path left = ⊤
 
 -- what is known of the places on a shelf
 abbrev pub places_on : List Kept → Places
-places_on stores = record { stands = standing_on stores; leaves = leaving; lasts = lasting }
+places_on stores = record { profile = Stated; stands = standing_on stores; leaves = leaving; lasts = lasting }
 
 -- A shelf has one statement more at the path than another, and it says these facts.
 pub record HasTaken (stores next : List Kept) (path : List ℕ) (facts : List Fact) : Type 0 where

@@ -11,6 +11,7 @@ use cli::{Extent, Failure, Source, Stores};
 use cli_store::failed;
 use relying::Fault;
 use sqlite::{Connection, FileStore, Files, Options};
+use statements_facts::Profile;
 use std::alloc::Global;
 use std::cell::RefCell;
 use store::{Refused, Store};
@@ -104,6 +105,10 @@ impl Source for LastingStore<'_> {
     ghost use Rattle.test_program.specs.Shelves.{holding_in};
 
     ghost holds = { λ lasting. holding_in lasting.texts.items };
+
+    fn profile(&self) -> Profile {
+        Profile::Stated
+    }
 
     fn octets_of<'a>(&self, file: &'a str, _extent: Extent) -> Result<Vec<u8>, Failure<'a>> {
         match text_of(self.texts.as_slice(), file) {

@@ -17,7 +17,7 @@ use cli_store::failed;
 use relying::Fault;
 use sqlite::{Connection, FileStore, Files, Options};
 use sqlite_disk::{Fuse, Memory};
-use statements_facts::Facts;
+use statements_facts::{Facts, Profile};
 use std::alloc::Global;
 use store::{ReopenFault, Store};
 use store_sql::StoreFault;
@@ -214,6 +214,10 @@ impl Source for Shelf<'_> {
     ghost use Rattle.test_program.specs.Shelves.{holding_in};
 
     ghost holds = { λ shelf. holding_in shelf.texts.items };
+
+    fn profile(&self) -> Profile {
+        Profile::Stated
+    }
 
     fn octets_of<'a>(&self, file: &'a str, _extent: Extent) -> Result<Vec<u8>, Failure<'a>> {
         match text_of(self.texts.as_slice(), file) {

@@ -9,7 +9,7 @@ use path_search::{Candidate, Search};
 use path_verifiers::{ListVerifier, Verifier};
 use relying_agreement::Verdict;
 use relying_search::{Finding, FindingBudget};
-use statements_facts::{Counts, Facts};
+use statements_facts::{Counts, Facts, Profile};
 use std::alloc::Global;
 use std::io::{Read, Write};
 
@@ -75,9 +75,14 @@ impl Keeper for Told {
 struct Nowhere;
 
 impl Source for Nowhere {
-    ghost use Rattle.std.specs.Prelude.{⊤};
+    ghost use Rattle.cli_failures.specs.Failures.{any_file};
+    ghost use Rattle.statements_facts.specs.declared.profile.Profile.TheVariants.{Stated};
 
-    ghost holds = { λ _ _ _. ⊤ };
+    ghost holds = { λ _. any_file Stated };
+
+    fn profile(&self) -> Profile {
+        Profile::Stated
+    }
 
     fn octets_of<'a>(&self, file: &'a str, _extent: Extent) -> Result<Vec<u8>, Failure<'a>> {
         Err(Failure::Unreadable { file })

@@ -1,32 +1,88 @@
 //! Options in front of the command.
 
-use cli_words::run_options;
+use cli_words::{RunOptions, run_options};
+use statements_facts::Profile;
+use statements_facts::Profile::{Stated, Wide};
 
-// Words behind the program's name; whether there are hints, for how many seconds a store is waited for, and how many words are left.
-const ROWS: &[(&[&str], bool, u16, usize)] = &[
-    (&[], false, 10, 0),
-    (&["check"], false, 10, 1),
-    (&["--hints"], true, 10, 0),
-    (&["--hints", "check", "--wait", "5"], true, 10, 3),
-    (&["--wait", "0", "check"], false, 0, 1),
-    (&["--wait", "65535", "--hints", "check"], true, 65535, 1),
-    (&["--hints", "--wait", "5", "check", "--hints"], true, 5, 2),
-    (&["--wait", "65536", "check"], false, 10, 3),
-    (&["--wait", "-1", "check"], false, 10, 3),
-    (&["--wait", "ten", "check"], false, 10, 3),
-    (&["--wait", "", "check"], false, 10, 3),
-    (&["--wait"], false, 10, 1),
-    (&["check", "--hints"], false, 10, 2),
-    (&["--Hints", "check"], false, 10, 2),
-    (&["--hints=1", "check"], false, 10, 2),
+// Words behind the program's name; whether there are hints, for how many seconds a store is waited for, the profile, and how many words are
+// left.
+const ROWS: &[(&[&str], bool, u16, Profile, usize)] = &[
+    (&[], false, 10, Stated, 0),
+    (&["check"], false, 10, Stated, 1),
+    (&["--hints"], true, 10, Stated, 0),
+    (&["--hints", "check", "--wait", "5"], true, 10, Stated, 3),
+    (&["--wait", "0", "check"], false, 0, Stated, 1),
+    (
+        &["--wait", "65535", "--hints", "check"],
+        true,
+        65535,
+        Stated,
+        1,
+    ),
+    (
+        &["--hints", "--wait", "5", "check", "--hints"],
+        true,
+        5,
+        Stated,
+        2,
+    ),
+    (&["--wait", "65536", "check"], false, 10, Stated, 3),
+    (&["--wait", "-1", "check"], false, 10, Stated, 3),
+    (&["--wait", "ten", "check"], false, 10, Stated, 3),
+    (&["--wait", "", "check"], false, 10, Stated, 3),
+    (&["--wait"], false, 10, Stated, 1),
+    (&["check", "--hints"], false, 10, Stated, 2),
+    (&["--Hints", "check"], false, 10, Stated, 2),
+    (&["--hints=1", "check"], false, 10, Stated, 2),
+    (&["--profile", "wide"], false, 10, Wide, 0),
+    (&["--profile", "wide", "check"], false, 10, Wide, 1),
+    (&["--profile", "stated", "check"], false, 10, Stated, 1),
+    (
+        &["--profile", "wide", "--profile", "stated", "check"],
+        false,
+        10,
+        Stated,
+        1,
+    ),
+    (
+        &["--hints", "--profile", "wide", "--wait", "5", "check"],
+        true,
+        5,
+        Wide,
+        1,
+    ),
+    (
+        &["--wait", "5", "--hints", "--profile", "wide"],
+        true,
+        5,
+        Wide,
+        0,
+    ),
+    (
+        &["--hints", "--wait", "5", "--wait", "6", "--profile", "wide"],
+        true,
+        6,
+        Stated,
+        2,
+    ),
+    (&["--profile", "Wide", "check"], false, 10, Stated, 3),
+    (&["--profile", "", "check"], false, 10, Stated, 3),
+    (&["--profile", "--hints", "check"], false, 10, Stated, 3),
+    (&["--profile"], false, 10, Stated, 1),
+    (&["--profile=wide", "check"], false, 10, Stated, 2),
+    (&["check", "--profile", "wide"], false, 10, Stated, 3),
 ];
 
 #[test]
 fn options_stand_in_front(rt: HostRuntime) {
-    for (words, hints, wait, left) in ROWS.iter() {
+    for (words, hints, wait, profile, left) in ROWS.iter() {
         let read = run_options(words);
-        assert_eq!(rt; read.options.hints, *hints, "{words:?}");
-        assert_eq!(rt; read.options.wait, *wait, "{words:?}");
+        let options = RunOptions {
+            hints: *hints,
+            wait: *wait,
+            profile: *profile,
+        };
+        assert_eq!(rt; read.options, options, "{words:?}");
         assert!(rt; words.ends_with(read.words), "{words:?}");
         assert_eq!(rt; read.words.len(), *left, "{words:?}");
     }

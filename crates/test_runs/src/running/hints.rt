@@ -55,6 +55,17 @@ const ROWS: &[(&str, &str, u8)] = &[
         6,
     ),
     (
+        "--hints find --store none --verdicts /dev/null --at now --anchor a b",
+        "x509check: bad time\n\
+         hint: --at 'now' is no moment: write YYYYMMDDHHMMSSZ, as 20261201000000Z for the begin of December 2026 in UTC\n",
+        5,
+    ),
+    (
+        "--hints --profile wide find --store . --verdicts /dev/null --at 20250601000000Z --anchor hints_root.der hints_leaf.der",
+        "x509check: store fault 71\nhint: . is a folder, and the file of a store is wanted\n",
+        6,
+    ),
+    (
         "--hints explain nothing",
         "x509check: bad topic\n\
          hint: explain takes a number or a name, as 'x509check explain 4' or 'x509check explain Truncated'; without a word it explains all\n",

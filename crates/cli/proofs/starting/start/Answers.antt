@@ -7,6 +7,7 @@ pub returns-in-Ok-clause-answered : goal.returns-in-Ok-clause-answered
 returns-in-Ok-clause-answered g c = λ answers.
     let named : c.split_at.result.0.now ≡ take (min (length c.args.words.now) 1) c.args.words.now = search rules in
     let rest : c.split_at.result.1.now ≡ drop (min (length c.args.words.now) 1) c.args.words.now = search rules in (
+      c.run_options.result.options,
       map (λ w. w.now) c.in-Ok.command.items,
       command_is (λ w. w.now) c.args.words.now c.split_at.result.0.now c.split_at.result.1.now c.run_options.result.words.now c.in-Ok.command.items c.run_options.result.options
           named rest c.run_options.ensures.takes c.in-Ok.ensures,
@@ -17,6 +18,7 @@ pub returns-in-Ok-clause-failed : goal.returns-in-Ok-clause-failed
 returns-in-Ok-clause-failed g c = λ failing.
     let named : c.split_at.result.0.now ≡ take (min (length c.args.words.now) 1) c.args.words.now = search rules in
     let rest : c.split_at.result.1.now ≡ drop (min (length c.args.words.now) 1) c.args.words.now = search rules in (
+      c.run_options.result.options,
       map (λ w. w.now) c.in-Ok.command.items,
       command_is (λ w. w.now) c.args.words.now c.split_at.result.0.now c.split_at.result.1.now c.run_options.result.words.now c.in-Ok.command.items c.run_options.result.options
           named rest c.run_options.ensures.takes c.in-Ok.ensures,
@@ -27,6 +29,7 @@ pub returns-in-Err-clause-failed : goal.returns-in-Err-clause-failed
 returns-in-Err-clause-failed g c = λ failing.
     let named : c.split_at.result.0.now ≡ take (min (length c.args.words.now) 1) c.args.words.now = search rules in
     let rest : c.split_at.result.1.now ≡ drop (min (length c.args.words.now) 1) c.args.words.now = search rules in (
+      c.run_options.result.options,
       _,
       command_is (λ w. w.now) c.args.words.now c.split_at.result.0.now c.split_at.result.1.now c.run_options.result.words.now _ c.run_options.result.options
           named rest c.run_options.ensures.takes refl,

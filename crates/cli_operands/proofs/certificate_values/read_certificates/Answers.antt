@@ -16,7 +16,7 @@ returns-in_err-certificate-clause-fails c =
     let text = λ (value : Vec ℕ Global). value.items in
     let told = rw (c.deref.ensures.value, c.loop-value.invariant.place) at c.in_err-certificate.ensures.fails in
     rw (p.1, p.2, parted text values i c.value-item.result c.loop-value-test.true c.value-item.is)
-    (among (map text (take i values)) c.value-item.result.items (map text (drop (suc i) values)) c.args.file.now _ (map seen_certificate c.loop-value.certificates.items, c.loop-value.invariant.read) told)
+    (among c.args.profile (map text (take i values)) c.value-item.result.items (map text (drop (suc i) values)) c.args.file.now _ (map seen_certificate c.loop-value.certificates.items, c.loop-value.invariant.read) told)
 
 pub overflow_add-start : goal.overflow_add-start
 overflow_add-start c =
@@ -38,10 +38,10 @@ loop-value-preserved c =
     let more = one_more text values i c.value-item.result c.loop-value-test.true c.value-item.is in
     let grown : c.push.new.self.items ≡ read ++ one ∷ [] = rw c.if-is_err.ensures.negation at c.push.ensures.items in
     let seen : map seen_certificate c.push.new.self.items ≡ map seen_certificate read ++ seen_certificate one ∷ [] = ap (map seen_certificate) grown ∙ map-append seen_certificate read (one ∷ []) in
-    let last : AreTexts (c.value-item.result.items ∷ []) (seen_certificate one ∷ []) = ap (λ (it : Result Certificate (CertRule × ℕ)). it ∷ []) (rw (← c.deref.ensures.value) c.in_ok-certificate.ensures.reads) in
+    let last : AreTexts c.args.profile (c.value-item.result.items ∷ []) (seen_certificate one ∷ []) = ap (λ (it : Result Certificate (CertRule × ℕ)). it ∷ []) (rw (← c.deref.ensures.value) c.in_ok-certificate.ensures.reads) in
     record {
       place = omega (arith, ap length (ap joined more), place_more before c.value-item.result.items, c.loop-value.invariant.place, c.len-start.ensures, c.value-item.result.ok);
-      read = subst (λ (texts : List (List ℕ)). AreTexts texts (map seen_certificate c.push.new.self.items)) (sym more)
-          (subst (λ (certificates : List Certificate). AreTexts (before ++ c.value-item.result.items ∷ []) certificates) (sym seen)
-          (texts_more before (c.value-item.result.items ∷ []) (map seen_certificate read) (seen_certificate one ∷ []) c.loop-value.invariant.read last));
+      read = subst (λ (texts : List (List ℕ)). AreTexts c.args.profile texts (map seen_certificate c.push.new.self.items)) (sym more)
+          (subst (λ (certificates : List Certificate). AreTexts c.args.profile (before ++ c.value-item.result.items ∷ []) certificates) (sym seen)
+          (texts_more c.args.profile before (c.value-item.result.items ∷ []) (map seen_certificate read) (seen_certificate one ∷ []) c.loop-value.invariant.read last));
     }

@@ -7,5 +7,5 @@ use Rattle.cli_operands.proofs.certificate_values.read_certificates.Given as goa
 abbrev pub invariant-loop-value : goal.invariant-loop-value
 invariant-loop-value l = record {
   place : l.start ≡ length (joined (map (λ value. value.items) (take l.value-index l.values)));
-  read : AreTexts (map (λ value. value.items) (take l.value-index l.values)) (map seen_certificate l.certificates.items);
+  read : AreTexts l.profile (map (λ value. value.items) (take l.value-index l.values)) (map seen_certificate l.certificates.items);
 }

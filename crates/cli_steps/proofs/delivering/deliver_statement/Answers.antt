@@ -1,7 +1,7 @@
 use Rattle.std.proofs.Common.{◌≡◌, Ok, inl, refl}
 use Rattle.std.proofs.lemmas.Result.{err_from_is_err_and}
 use Rattle.cert.specs.Certificate.{seen_certificate}
-use Rattle.statements.specs.Statement.{genuine_statement}
+use Rattle.statements.specs.Statement.{genuine_statement_under}
 use Rattle.statements_facts.specs.Fact.{facts_in}
 use Rattle.cli_failures.specs.Failures.{IsDenied}
 use Rattle.cli_steps.proofs.Passed.{passed}
@@ -14,6 +14,6 @@ returns-in_err-facts g c =
 
 pub returns : goal.returns
 returns g c =
-    let said = genuine_statement (g.V.Verifier.accepts c.args.verifier.now) (seen_certificate c.args.issuer.now) c.args.statement.now in
+    let said = genuine_statement_under c.args.profile (g.V.Verifier.accepts c.args.verifier.now) (seen_certificate c.args.issuer.now) c.args.statement.now in
     passed (λ facts. said ≡ Ok facts) (IsDenied said c.args.file.now) g.R.TakeFacts.takes c.args.receiver.now c.take_facts.new.self
     (facts_in c.in_ok-facts.facts) c.take_facts.result c.in_ok-facts.ensures.says c.take_facts.ensures

@@ -12,4 +12,4 @@ returns-in_err-statement g c =
 pub returns : goal.returns
 returns g c =
     deliver_under g.R.TakeFacts.takes c.args.receiver.now c.deliver_statement.new.receiver (g.S.Source.holds c.args.source.now) (g.V.Verifier.accepts c.args.verifier.now)
-    (seen_certificate c.args.issuer.now) c.in_ok-statement.statement.items c.args.file.now c.deliver_statement.result c.in_ok-statement.ensures.reads (rw c.as_slice.ensures.value at c.deliver_statement.ensures)
+    (seen_certificate c.args.issuer.now) c.in_ok-statement.statement.items c.args.file.now c.deliver_statement.result c.in_ok-statement.ensures.reads (rw (c.profile.ensures, c.as_slice.ensures.value) at c.deliver_statement.ensures)

@@ -7,4 +7,4 @@ pub returns-in-Ok-clause-store : goal.returns-in-Ok-clause-store
 returns-in-Ok-clause-store g c = inl (c.in-Ok.ensures.found, c.in-Ok.ensures.store)
 
 pub returns-in-Err-clause-store : goal.returns-in-Err-clause-store
-returns-in-Err-clause-store g c = filled (image_at g.S.Start) c.fill_or_tell.result c.fill_or_tell.ensures.empty
+returns-in-Err-clause-store g c = filled c.args.profile (image_at g.S.Start) c.fill_or_tell.result c.fill_or_tell.ensures.empty
