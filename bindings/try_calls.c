@@ -9,6 +9,7 @@
 
 #define LENGTH(array) (sizeof(array) / sizeof *(array))
 #define MOMENT 1796083200 /* 2026-12-01T00:00:00Z */
+#define MIDDLE_OF_2025 1749945600 /* 2025-06-15T00:00:00Z */
 #define EXPECT(holds) expect(holds, #holds, __LINE__)
 
 static const struct x509check_text nothing = {NULL, 0}, empty = {(const uint8_t *)"", 0};
@@ -45,7 +46,7 @@ static struct x509check_text text_of(const char *path)
 
 static struct x509check_query query_of(struct x509check_text anchor, const struct x509check_text *path, size_t count)
 {
-    struct x509check_query query = {anchor, path, count, MOMENT, {NULL, 0}};
+    struct x509check_query query = {.anchor = anchor, .path = path, .path_count = count, .moment = MOMENT};
 
     return query;
 }
@@ -328,6 +329,34 @@ static void try_policies(void)
     EXPECT(answer.verdict.verdict == X509CHECK_REFUSED && is_refusal(answer.verdict.refusal, X509CHECK_CERTIFICATES, 0, X509CHECK_FAULT_DER, 4, 0));
 }
 
+/* The verdict in a profile on a leaf below the root of points by a list, of who believes each signature. */
+static struct x509check_verdict verdict_in(uint32_t wide, struct x509check_text anchor, struct x509check_text certificate,
+                                           struct x509check_text list)
+{
+    struct x509check_query query = {.anchor = anchor, .path = &certificate, .path_count = 1, .moment = MIDDLE_OF_2025, .wide = wide};
+    struct x509check_signature_question questions[2];
+    struct x509check_asked asked = x509check_questions(&query, &list, 1, questions, 2);
+    uint8_t prints[2][X509CHECK_FINGERPRINT_LENGTH];
+
+    for (size_t i = 0; i < asked.count && i < 2; i++)
+        memcpy(prints[i], questions[i].fingerprint, sizeof prints[i]);
+    return x509check_validate(&query, &list, 1, prints[0], asked.count);
+}
+
+/* The list is published at the point of the leaf (RFC 5280, 5.2.5); the malformed leaf has no point in its cRLDistributionPoints. */
+static void try_profiles(void)
+{
+    struct x509check_text anchor = text_of("points/root.der"), certificate = text_of("points/leaf.der");
+    struct x509check_text malformed = text_of("points/malformed.der"), list = text_of("points/list.crl");
+    struct x509check_verdict answer = verdict_in(0, anchor, certificate, list);
+
+    EXPECT(answer.verdict == X509CHECK_REFUSED && is_refusal(answer.refusal, X509CHECK_STATEMENTS, 0, 48, 0, 74));
+    EXPECT(is_verdict(verdict_in(1, anchor, certificate, list), X509CHECK_VALID, 0, 0));
+    EXPECT(is_verdict(verdict_in(UINT32_MAX, anchor, certificate, text_of("points/revoking.crl")), X509CHECK_REVOKED, 1, 1));
+    answer = verdict_in(1, anchor, malformed, list);
+    EXPECT(answer.verdict == X509CHECK_REFUSED && is_refusal(answer.refusal, X509CHECK_CERTIFICATES, 1, 29, 0, 106));
+}
+
 static void try_200_certificates(void)
 {
     struct x509check_text path[200];
@@ -389,6 +418,7 @@ int main(void)
     try_searches();
     try_diagnoses();
     try_policies();
+    try_profiles();
     try_200_certificates();
     try_names();
     return failed;

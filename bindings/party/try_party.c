@@ -143,7 +143,7 @@ static void check(struct x509check_party *party, char **words)
 {
     struct texts anchor = texts_of(words[4]), path = texts_of(words[5]);
     struct x509check_text purpose = octets_of(words[3]);
-    struct x509check_query query = {anchor.texts[0], path.texts, path.count, strtoll(words[2], NULL, 10), purpose};
+    struct x509check_query query = {anchor.texts[0], path.texts, path.count, strtoll(words[2], NULL, 10), purpose, 0};
     struct x509check_party_verdict said = x509check_party_check(party, &query, judge_of(words[1]), words[1]);
     char answer[96];
 
@@ -220,7 +220,7 @@ static void check_by_threads(struct x509check_party *party, char **words)
     struct work *works = must(calloc((size_t)count, sizeof *works), "threads");
     pthread_t *threads = must(calloc((size_t)count, sizeof *threads), "threads");
 
-    sum.query = (struct x509check_query){anchor.texts[0], path.texts, path.count, strtoll(words[5], NULL, 10), {NULL, 0}};
+    sum.query = (struct x509check_query){anchor.texts[0], path.texts, path.count, strtoll(words[5], NULL, 10), {NULL, 0}, 0};
     for (int i = 0; i < count; i++)
         works[i] = sum;
     for (int i = 0; i < count; i++) {

@@ -583,7 +583,8 @@ struct x509check_party_delivery x509check_party_deliver(struct x509check_party *
     struct x509check_party_delivery delivery = {0};
     struct call call = {.party = party, .outcome = &delivery.outcome};
     /* (the issuer stands for the certificate below it too, about which nothing is asked) */
-    const struct x509check_query query = {.anchor = issuer, .path = &issuer, .path_count = 1};
+    /* (and the wide profile reads what the stated one does alike: whether the store serves a list at a point is the program's to say) */
+    const struct x509check_query query = {.anchor = issuer, .path = &issuer, .path_count = 1, .wide = 1};
     struct inquiry inquiry = {.query = &query, .statement = &statement, .judge = judge, .context = context};
     struct operand operands[] = {
         {.title = "issuer", .texts = &issuer, .count = 1},

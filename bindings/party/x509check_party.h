@@ -126,9 +126,10 @@ typedef int x509check_party_judge(const struct x509check_party_question *questio
 struct x509check_party;
 
 /* Starts the program over the store, which it makes if there is no such file. `words` are the program, which is looked for on the path,
- * and the words in front of `session`, with a null behind them; `--wait SECONDS` among them says for how long a store is waited for that
- * another process has open. A store has one process. The program has to become the process that answers: of a script, that it runs it by
- * `exec`. The process keeps the caller's environment, folder and standard error, and no signals are blocked in it.
+ * and the words in front of `session`, with a null behind them: `--profile wide` for a store of the wide profile, `--wait SECONDS` for how
+ * long a store is waited for that another process has open. A store has one process. The program has to become the process that answers:
+ * of a script, that it runs it by `exec`. The process keeps the caller's environment, folder and standard error, and no signals are
+ * blocked in it.
  *
  * A call waits for each answer for so many milliseconds (1 to 2^31 - 1; 0 stands for 30,000), the requests of other threads and a new
  * start with it. What a judge takes is its own. `*party` is null unless the status is X509CHECK_PARTY_DONE. */

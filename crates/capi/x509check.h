@@ -97,13 +97,18 @@ struct x509check_text {
     size_t length;
 };
 
-/* The question about a path (RFC 5280, 6.1.1). */
+/* The question about a path (RFC 5280, 6.1.1).
+ *
+ * In the stated profile a list whose issuingDistributionPoint names a point is refused, with the fault 48. In the wide one it is taken, and
+ * speaks of certificates whose cRLDistributionPoints name that point (RFC 5280, 6.3.3); a certificate in which these are malformed is
+ * refused, with the fault 29. Questions are to be asked in the profile of the verdict. */
 struct x509check_query {
     struct x509check_text anchor;      /* the DER of a certificate, of which only the name and the key are used */
     const struct x509check_text *path; /* the certificates below it, each in DER, to the one in question */
     size_t path_count;
     int64_t moment;                /* in seconds from 1970-01-01T00:00:00Z */
     struct x509check_text purpose; /* the contents of an OBJECT IDENTIFIER; no purpose is asked for if its length is 0 */
+    uint32_t wide;                 /* the profile in which path and statements are read: any number but 0 asks for the wide one */
 };
 
 /* What a search may spend. If one is 0, nothing is found. */
@@ -123,6 +128,7 @@ struct x509check_search {
     int64_t moment;                /* in seconds from 1970-01-01T00:00:00Z */
     struct x509check_text purpose; /* the contents of an OBJECT IDENTIFIER; no purpose is asked for if its length is 0 */
     struct x509check_limits limits;
+    uint32_t wide; /* the profile in which target, bag and statements are read: any number but 0 asks for the wide one */
 };
 
 /* Octets of the text that was handed in. */
@@ -280,7 +286,8 @@ X509CHECK_STANDS_AT(x509check_query, path, 16);
 X509CHECK_STANDS_AT(x509check_query, path_count, 24);
 X509CHECK_STANDS_AT(x509check_query, moment, 32);
 X509CHECK_STANDS_AT(x509check_query, purpose, 40);
-X509CHECK_HAS_SIZE(x509check_query, 56);
+X509CHECK_STANDS_AT(x509check_query, wide, 56);
+X509CHECK_HAS_SIZE(x509check_query, 64);
 X509CHECK_STANDS_AT(x509check_limits, steps, 8);
 X509CHECK_STANDS_AT(x509check_limits, verdicts, 16);
 X509CHECK_HAS_SIZE(x509check_limits, 24);
@@ -291,7 +298,8 @@ X509CHECK_STANDS_AT(x509check_search, bag_count, 40);
 X509CHECK_STANDS_AT(x509check_search, moment, 48);
 X509CHECK_STANDS_AT(x509check_search, purpose, 56);
 X509CHECK_STANDS_AT(x509check_search, limits, 72);
-X509CHECK_HAS_SIZE(x509check_search, 96);
+X509CHECK_STANDS_AT(x509check_search, wide, 96);
+X509CHECK_HAS_SIZE(x509check_search, 104);
 X509CHECK_STANDS_AT(x509check_part, length, 8);
 X509CHECK_HAS_SIZE(x509check_part, 16);
 X509CHECK_STANDS_AT(x509check_answer, offset, 8);

@@ -15,6 +15,11 @@ crlnumber = {name}.number
 default_md = sha256
 default_crl_days = 7
 """
+# The list of a point (RFC 5280, 5.2.5).
+AT_POINT = """crl_extensions = of_list
+[of_list]
+issuingDistributionPoint = critical, fullname:URI:{point}
+"""
 FOR_AUTHORITY = "basicConstraints=critical,CA:TRUE\nkeyUsage=critical,keyCertSign,cRLSign\n"
 FOR_SERVER = "subjectAltName=DNS:www.example.org\nextendedKeyUsage=serverAuth\n"
 
@@ -60,9 +65,9 @@ class Authority:
                      "-days", "20", "-extfile", self.write("extensions", extensions), "-out", f"{name}.pem")
         return self.der(name)
 
-    def revocation_list(self, name, number=1, revoked=()):
-        """The DER of a list of the authority, with the serial numbers of certificates in it."""
-        self.write(f"{name}.conf", CONFIG.format(name=name))
+    def revocation_list(self, name, number=1, revoked=(), point=None):
+        """The DER of a list of the authority, with the serial numbers of certificates in it; of its whole list, or of that of a point."""
+        self.write(f"{name}.conf", CONFIG.format(name=name) + ("" if point is None else AT_POINT.format(point=point)))
         self.write(f"{name}.number", f"{number:04X}\n")
         self.write(f"{name}.index",
                    "".join(f"R\t301231000000Z\t261101000000Z,keyCompromise\t{serial:04X}\tunknown\t/CN=x\n" for serial in revoked))

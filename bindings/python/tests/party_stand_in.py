@@ -1,11 +1,11 @@
 """A program in the place of `x509check session`, which answers as a plan says: for tests of what a party makes of bad answers.
 
-    party_stand_in.py FOLDER session ..
+    party_stand_in.py FOLDER [--profile wide] session ..
 
 FOLDER/plan is a list in JSON of pairs: the beginning of a line, and what to do with the first line that begins so, once or, if `again` is
 true, each time. `write` is octets, as text in latin-1; `sleep` are seconds before it; `exit` is a status to end with behind it; `deaf` is
 true for no more reading. Other lines are answered as a session would answer if all is good. FOLDER/log has each line that was read, and
-`started` for each start.
+`started` for each start; FOLDER/words has the words behind FOLDER, a line for each start.
 """
 
 import json
@@ -41,6 +41,8 @@ def planned(line):
 
 
 def main():
+    with open(os.path.join(FOLDER, "words"), "a", encoding="latin-1") as file:
+        file.write(" ".join(sys.argv[2:]) + "\n")
     log("started")
     while True:
         line = sys.stdin.buffer.readline().decode("latin-1")

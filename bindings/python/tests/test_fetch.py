@@ -14,7 +14,7 @@ import urllib.parse
 from unittest import mock
 
 import fuzz_locations
-from x509check import Certificate, Kind, Party, RevocationReason, Result, Verdict
+from x509check import Certificate, Kind, Party, Profile, RevocationReason, Result, Verdict
 from x509check import _der, _http, _ocsp, _statement_times, fetch
 from x509check.fetch import (
     BadLocations, BadMemory, Client, Fetched, Fetcher, HttpLimits, Memory, NotFetched, NotServed, Outcome, Schedule, Validators, is_public,
@@ -207,8 +207,6 @@ class OfCertificates(InFolder):
 
     def setUp(self):
         super().setUp()
-        # (its responses are made by a process each)
-        self.client = Client(HttpLimits(seconds=30, octets=100_000), allow_private=True)
         self.made = Authority(self.folder)
         self.made.root()
 
@@ -353,6 +351,8 @@ class ForAParty(WithWeb):
 
     def setUp(self):
         super().setUp()
+        # (a response is made by a process while it is asked for)
+        self.client = Client(HttpLimits(seconds=30, octets=100_000), allow_private=True)
         self.made = Authority(self.folder)
         self.root = self.made.root()
         web = self.web.url
@@ -369,6 +369,7 @@ class ForAParty(WithWeb):
         self.web.deeds["/ocsp/*"] = self.answer_ocsp
         self.web.deeds["/ocsp"] = self.answer_ocsp
         self.index = f"V\t301231000000Z\t\t{self.leaf_serial:04X}\tunknown\t/CN=Leaf\n"
+        self.signing_takes = 0.0
         self.party = Party(self.file("store"), program=PROGRAM)
         self.addCleanup(self.party.close)
         self.fetcher = Fetcher(self.party, self.client)
@@ -376,6 +377,7 @@ class ForAParty(WithWeb):
     def answer_ocsp(self, handler):
         command, path, _, body = self.web.asked[-1]
         request = body if command == "POST" else base64.b64decode(urllib.parse.unquote(path[len("/ocsp/"):]))
+        time.sleep(self.signing_takes)
         handler.answer(200, self.made.response(request, "Issuer", self.index))
 
     def about_another(self):
@@ -468,6 +470,43 @@ class ForAParty(WithWeb):
         self.web.deeds["/ocsp"] = lambda it: it.answer(200, bytes.fromhex("30030a0103"))
         report = self.fetcher.fetch([self.leaf, self.issuer], [self.root], lists=False)
         self.assertEqual((report.fetched[0].outcome, report.fetched[0].why), (Outcome.REFUSED, "statement: 55 NotSuccessful 3"))
+
+    def test_lists_at_points(self):
+        def at_point(number, name, revoked=()):
+            self.web.has(f"/{name}.crl", self.made.revocation_list(name.capitalize(), number, revoked, f"{self.web.url}/{name}.crl"))
+        wide = Party(self.file("wide"), program=PROGRAM, profile=Profile.WIDE)
+        self.addCleanup(wide.close)
+        at_point(3, "root")
+        for number, revoked, wanted in ((3, [], Result(Verdict.VALID)),
+                                        (4, [self.leaf_serial], Result(Verdict.REVOKED, 2, RevocationReason.KEY_COMPROMISE))):
+            at_point(number, "issuer", revoked)
+            report = Fetcher(wide, self.client).fetch([self.leaf, self.issuer], [self.root], responses=False)
+            self.assertEqual(([one.url.rpartition("/")[2] for one in report.fetched if one.outcome is Outcome.TAKEN], report.result),
+                             (["root.crl", "issuer.crl"], wanted))
+        wide.close()
+        words = ["--store", "wide", "--profile", "wide", "--verdicts", "good", "--anchor", "Root.pem", "--allow-private", "--no-ocsp"]
+        status, lines, _ = self.run_script(*words, "Leaf.pem")
+        self.assertEqual((status, lines[-2][:10]), (1, "revoked (k"), "one address is gone")
+        # Points that cannot be read: of an issuer that is fetched, and of the certificate in question.
+        bad = FOR_AUTHORITY + "crlDistributionPoints=DER:3000\n"
+        self.web.has("/issuer.der", self.made.certificate("Issuer", "Root", bad))
+        status, lines, _ = self.run_script(*words, "Leaf.pem")
+        self.assertEqual((status, lines[0].split(": ")[0], lines[1][:9]),
+                         (3, f"refused certificate {self.web.url}/issuer.der", "not found"))
+        self.assertIn("29 ExtensionValue", lines[0])
+        self.made.certificate("Bad", "Root", bad)
+        status, lines, err = self.run_script(*words, "Bad.pem")
+        self.assertEqual((status, lines, err[:33]), (4, [], "fetch: target: 29 ExtensionValue "))
+        report = self.fetcher.fetch([self.leaf, self.issuer], [self.root], responses=False)
+        self.assertEqual([one.refused.name for one in report.fetched if one.outcome is Outcome.REFUSED], ["Scope", "Scope"])
+
+    def test_a_response_that_is_signed_after_the_fetch_has_begun(self):
+        self.signing_takes = 1.2
+        self.index = self.index.replace("V\t301231000000Z\t", "R\t301231000000Z\t261101000000Z,keyCompromise")
+        report = self.fetcher.fetch([self.leaf, self.issuer], [self.root])
+        self.assertEqual(report.result, Result(Verdict.REVOKED, 2, RevocationReason.KEY_COMPROMISE))
+        report = self.fetcher.fetch([self.leaf, self.issuer], [self.root], int(time.time()))
+        self.assertEqual(report.result, Result(Verdict.VALID), "at a moment that was given it does not count yet")
 
     def test_a_second_path_is_asked_about_if_the_first_is_revoked(self):
         """The issuer's key has a second certificate, by an authority that was renewed; the first one is revoked."""
@@ -575,6 +614,7 @@ class ForAParty(WithWeb):
             file.write("[")
         for status, more in (
             (5, []), (5, ["--at", "soon", "Leaf.pem"]), (5, ["--octets", "0", "Leaf.pem"]), (5, ["--connect", "y", "Leaf.pem"]),
+            (5, ["--profile", "narrow", "Leaf.pem"]),
             (6, ["nothing.pem"]), (4, ["bad.pem"]), (4, ["Root.key"]), (3, ["Leaf.pem"]), (6, ["--store", "/nowhere/x", "Leaf.pem"]),
             (6, ["--add-issuers", "/nowhere/x", "--allow-private", "Leaf.pem"]), (4, ["--memory", "bad.fetch", "Leaf.pem"]),
             (6, ["--memory", "/nowhere/x", "Leaf.pem"]),
@@ -583,6 +623,8 @@ class ForAParty(WithWeb):
             self.assertEqual(found, status, (more, out, err))
             self.assertNotIn("Traceback", err)
         self.assertEqual(self.run_script("--store", "x", "--anchor", "Root.pem", "Leaf.pem")[0], 5)
+        status, _, err = self.run_script("--connect", "y", "--profile", "wide", "--anchor", "Root.pem", "Leaf.pem")
+        self.assertEqual((status, "--profile belongs to --store" in err), (5, True))
         self.assertEqual(self.run_script("--help")[0], 0)
 
 

@@ -173,6 +173,7 @@ class WithoutAParty(Calls):
                     lines.readline()
                     connection.sendall(text)
                 lines.read()
+            connection.close()
         threading.Thread(target=answer, daemon=True).start()
         self.addCleanup(lambda: [one.close() for one in held])
 
@@ -227,6 +228,22 @@ class WithoutAParty(Calls):
                 self.assertEqual(done.returncode, Ends.USAGE, done.stderr)
         for name in ("", "a b", "@", "a@", "1.2.3"):
             self.ends(Ends.USAGE, "bad name: ", SENT, "--name", name)
+
+    def test_what_a_party_refuses(self):
+        """As one of the wide profile does of a certificate whose distribution points cannot be read."""
+        chain = ["--chain", os.path.join(authority.FOLDER, "middle.pem")]
+        for octets, sent, offset, begins in (
+            (LEAF, SENT, 8, "unreadable: "), (MIDDLE, SENT, 8, "unreadable: "), (MIDDLE + MIDDLE, SENT, len(MIDDLE) - 1, "unreadable: "),
+            (MIDDLE + MIDDLE, SENT, len(MIDDLE), "no answer on "), (ROOT, SENT, 8, "no answer on "),
+            (MIDDLE, pem(LEAF), 8, "no answer on "),
+        ):
+            with self.subTest(begins=begins, offset=offset):
+                self.listening(b"0 believed\n", b"0 believed\n", f"4 hex:{octets.hex()}: refused 29 ExtensionValue at {offset}\n".encode(),
+                               b"0 forgotten\n")
+                words = [] if octets in (LEAF, ROOT) or octets == MIDDLE and sent == SENT else chain
+                status = Ends.REJECTED if begins == "unreadable: " else Ends.TEMPFAIL
+                self.ends(status, begins + str(Certificate.from_der(LEAF).identity), sent, *words, holds="29 ExtensionValue")
+                os.unlink(self.socket)
 
     def test_what_is_not_installed(self):
         broken = self.file("broken.pem")

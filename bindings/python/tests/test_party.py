@@ -18,13 +18,14 @@ from unittest import mock
 
 import x509check
 from x509check import (
-    Answer, BadReference, Certificate, Fault, Garbled, Judgement, Party, PartyEnded, PartyLimits, Reason, Refused, Result, RevocationReason,
-    TimeIsUp, Verdict, WhyNot,
+    Answer, BadReference, Certificate, Fault, Garbled, Judgement, Party, PartyEnded, PartyLimits, Profile, Reason, Refused, Result,
+    RevocationReason, TimeIsUp, Verdict, WhyNot,
 )
 from x509check import _der, _lines
 from x509check._program import PLACES
 
 from . import authority
+from .fetch_authority import FOR_SERVER, Authority
 from .authority import DECEMBER, GOOD_PRINTS, LEAF, MIDDLE, MIDDLE_LIST, RESPONSE, REVOKING_LIST, ROOT, ROOT_LIST
 
 PROGRAM = next(filter(os.path.exists, PLACES), None)
@@ -310,6 +311,7 @@ class OverTheProgram(InFolder):
             (lambda: party.judge("key", ROOT, ROOT), Refused), (lambda: party.judge("cert x", ROOT, ROOT), ValueError),
             (lambda: party.deliver("root.der", ROOT_LIST), TypeError),
             (lambda: Party(self.file("x"), program=PROGRAM, limits=5), TypeError),
+            (lambda: Party(self.file("x"), program=PROGRAM, profile="wide"), TypeError),
             (lambda: PartyLimits(seconds=0), ValueError), (lambda: PartyLimits(seconds="1"), TypeError),
         ):
             with self.assertRaises(kind):
@@ -340,6 +342,57 @@ class OverTheProgram(InFolder):
         self.assertEqual((descriptors(), children()), (before, []))
 
 
+@unittest.skipUnless(PROGRAM, "the program is missing")
+class ListsAtPoints(InFolder):
+    """An authority that publishes its list in parts, by OpenSSL."""
+
+    def setUp(self):
+        super().setUp()
+        self.made = Authority(self.folder)
+        self.root = self.made.root()
+        self.leaves, self.lists = [], []
+        for name in ("first", "second"):
+            point = f"http://crl.example/{name}"
+            self.leaves.append(self.made.certificate(name, "Root", f"{FOR_SERVER}crlDistributionPoints=URI:{point}\n"))
+            self.lists.append(self.made.revocation_list("Root", revoked=[self.made.serial] if name == "second" else [], point=point))
+
+    def party(self, **words):
+        party = Party(self.file("store"), program=PROGRAM, **words)
+        self.addCleanup(party.close)
+        return party
+
+    def test_each_speaks_of_the_certificates_that_name_it(self):
+        party = self.party(profile=Profile.WIDE)
+        revoked = Result(Verdict.REVOKED, 1, RevocationReason.KEY_COMPROMISE)
+        for statement, wanted in zip(self.lists, ((Result(Verdict.VALID), Result(Verdict.UNKNOWN, 1)), (Result(Verdict.VALID), revoked))):
+            self.assertEqual(str(party.deliver(self.root, statement)), "stored 1 kept 0 contradicted 0")
+            for leaf, said in zip(self.leaves, wanted):
+                self.assertEqual(party.validate_peer([leaf], [self.root], "now", "serverAuth", name="www.example.org"), said)
+                self.assertEqual(party.check(self.root, [leaf], "now"), said)
+
+    def test_points_that_cannot_be_read(self):
+        party, bad = self.party(profile=Profile.WIDE), self.made.certificate("bad", "Root", "crlDistributionPoints=DER:3000\n")
+        for call, what in ((lambda: party.check(self.root, [bad], "now"), "chain"),
+                           (lambda: party.validate_peer([bad], [self.root], "now"), "target"),
+                           (lambda: party.find(self.leaves[0], [self.root], [bad], "now"), "others")):
+            with self.assertRaises(Refused) as caught:
+                call()
+            self.assertEqual((caught.exception.what, caught.exception.number, caught.exception.name), (what, 29, "ExtensionValue"))
+        found = party.find(self.leaves[0], [bad, self.root], [], "now")
+        self.assertEqual(found, Result(Verdict.NOT_FOUND), "those of anchors do not count")
+
+    def test_a_store_is_of_one_profile(self):
+        party = self.party()
+        with self.assertRaises(Refused) as caught:
+            party.deliver(self.root, self.lists[0])
+        self.assertEqual((caught.exception.what, caught.exception.number, caught.exception.name), ("statement", 48, "Scope"))
+        self.assertEqual(party.validate_peer(self.leaves[:1], [self.root], "now"), Result(Verdict.UNKNOWN, 1))
+        party.close()
+        with self.assertRaises(PartyEnded) as caught:
+            self.party(profile=Profile.WIDE)
+        self.assertIn("store fault 72", str(caught.exception))
+
+
 class OverAStandIn(InFolder):
     """Over a program that answers badly, slowly or not at all."""
 
@@ -364,6 +417,17 @@ class OverAStandIn(InFolder):
     def check(self, party=None):
         return (party or self.party).check(ROOT, [MIDDLE, LEAF], AT)
 
+    def test_words_of_the_profile_stand_in_front_of_the_command(self):
+        session = f"session --store {self.file('store')}"
+        for words, wanted in (({}, session), ({"profile": Profile.STATED}, session),
+                              ({"profile": Profile.WIDE}, f"--profile wide {session}"),
+                              ({"profile": Profile.WIDE, "verdicts": "good"}, f"--profile wide {session} --verdicts good")):
+            party = self.made(**words)
+            self.plan(["check", {"exit": 0}])
+            self.assertTrue(self.check(party), "a process that is started again has them too")
+            with open(self.file("words"), encoding="latin-1") as file:
+                self.assertEqual(file.read().splitlines()[-2:], [wanted, wanted])
+
     def test_answers_to_other_requests(self):
         for text in ("0 believed", "0 ended", "3", "7 valid", "0 valid ", " 0 valid", "valid", "", "0", "4", "1 valid", "0 invalid 1 2",
                      "00 valid",
@@ -386,6 +450,16 @@ class OverAStandIn(InFolder):
             with self.assertRaises(Refused) as caught:
                 self.check()
             self.assertEqual(str(caught.exception.answer), text)
+        for octets, what in ((ROOT, "anchor"), (MIDDLE, "chain"), (LEAF, "chain")):
+            self.plan(["check", {"write": f"4 hex:{octets.hex()}: refused 29 ExtensionValue at 8\n"}])
+            with self.assertRaises(Refused) as caught:
+                self.check()
+            self.assertEqual((caught.exception.what, caught.exception.offset), (what, 8))
+        for octets, what in ((ROOT, "anchors"), (MIDDLE, "others"), (LEAF, "target")):
+            self.plan(["find", {"write": f"4 hex:{octets.hex()}: refused 29 ExtensionValue at 8\n"}])
+            with self.assertRaises(Refused) as caught:
+                self.party.find(LEAF, [ROOT], [MIDDLE], AT)
+            self.assertEqual((caught.exception.what, caught.exception.offset), (what, 8))
 
     def test_answers_to_a_search(self):
         names = ["hex:" + one.hex() for one in (ROOT, MIDDLE, LEAF)]

@@ -197,6 +197,7 @@ class OverTheProgram(Served):
         for words, status, why in (
             (["--store", self.file("second")], 6, "in use"), (["--mode", "888"], 5, ""), (["--octets", "0"], 5, ""),
             (["--octets", "1048577"], 5, ""), (["--connections", "x"], 5, ""), (["--store", self.file("nowhere/x")], 6, "store fault 71"),
+            (["--profile", "narrow"], 5, ""),
         ):
             with self.subTest(words):
                 done = self.serve(*words)
@@ -231,6 +232,14 @@ class OverAStandIn(Served):
     def plan(self, text):
         with open(self.file("plan"), "w", encoding="ascii") as file:
             file.write(text)
+
+    def test_the_profile(self):
+        for words, front in (([], ""), (["--profile", "stated"], ""), (["--profile", "wide"], "--profile wide ")):
+            served = self.serve(*words, program=self.program)
+            with open(self.file("words"), encoding="latin-1") as file:
+                self.assertEqual(file.read().splitlines()[-1], f"{front}session --store {self.file('store')}")
+            served.kill()
+            served.wait()
 
     def test_lines_that_are_too_long_or_too_slow(self):
         self.serve("--octets", "100", "--seconds", "1", program=self.program)

@@ -25,6 +25,7 @@ from ._party import Delivery, Party, PartyLimits, Refused
 from ._peers import NoAnchors, peer_questions, system_anchors, validate_peer
 from ._pem import Kind, Loaded, NotLoaded
 from ._policies import ResultWithPolicies, validate_with_policies
+from ._profile import Profile
 from ._program import ProgramMissing, explain
 from ._query import Limits
 from ._questions import SignatureQuestion, questions
@@ -38,7 +39,7 @@ __version__ = "0.10.0"
 __all__ = [
     "Answer", "BadReference", "Certificate", "Delivery", "Extensions", "Fault", "Garbled", "Identity", "JudgeMissing", "Judgement", "Kind", "LibraryMissing", "Limits",
     "Loaded", "NoAnchors", "NoPath", "NotLoaded", "NotValid", "Opinion", "Party", "PartyEnded", "PartyError", "PartyLimits",
-    "Policy", "ProgramMissing", "PURPOSES", "SignatureQuestion", "Reason", "ReferenceRule", "Refused",
+    "Policy", "Profile", "ProgramMissing", "PURPOSES", "SignatureQuestion", "Reason", "ReferenceRule", "Refused",
     "Result", "ResultWithPolicies", "RevocationReason", "Text", "TimeIsUp", "Verdict", "WhyNot", "check", "explain", "fingerprint", "judge", "judge_all", "load", "opinions", "path_to",
     "peer_questions", "questions", "report", "report_on_two", "system_anchors", "validate", "validate_peer", "validate_with_policies",
 ]

@@ -10,6 +10,7 @@ from typing import Any, Iterable, List, Optional, Protocol, SupportsIndex, Union
 
 from ._der import arcs_of, contents_of
 from ._pem import Encoded, Octets, is_pem
+from ._profile import Profile
 
 _EPOCH = datetime.datetime(1970, 1, 1, tzinfo=datetime.timezone.utc)
 
@@ -146,6 +147,13 @@ def purpose_of(text: Optional[str]) -> bytes:
     if text is None:
         return b""
     return contents_of(dotted_purpose(text))
+
+
+def is_wide(profile: Profile) -> bool:
+    """Whether the profile is the wide one."""
+    if not isinstance(profile, Profile):
+        raise TypeError(f"profile: a Profile is wanted, not {type(profile).__name__}")
+    return profile is Profile.WIDE
 
 
 # anyPolicy (RFC 5280, 4.2.1.4).

@@ -40,6 +40,7 @@ class QueryFields(ctypes.Structure):
         ("path_count", ctypes.c_size_t),
         ("moment", ctypes.c_int64),
         ("purpose", TextFields),
+        ("wide", ctypes.c_uint32),
     ]
 
 
@@ -57,6 +58,7 @@ class SearchFields(ctypes.Structure):
         ("moment", ctypes.c_int64),
         ("purpose", TextFields),
         ("limits", LimitFields),
+        ("wide", ctypes.c_uint32),
     ]
 
 

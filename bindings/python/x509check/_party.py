@@ -19,6 +19,7 @@ from ._link import Ends, Garbled, Link, PartyEnded, PartyError, ProcessEnds, Soc
 from ._names import Identity
 from ._peers import sent_by
 from ._pem import Path
+from ._profile import Profile
 from ._program import program_path
 from ._query import Search
 from ._questions import SignatureQuestion, ask
@@ -123,18 +124,23 @@ class Party:
     def __init__(
         self, store: Path, verdicts: Optional[Path] = None, *, program: Union[None, str, Sequence[str]] = None,
         verify: Optional[Judge] = None, limits: PartyLimits = PartyLimits(), folder: Optional[str] = None,
+        profile: Profile = Profile.STATED,
     ) -> None:
         """Opens the store, or makes it if no file is there.
 
         `verdicts` names a file of fingerprints whose signatures are good. `program` is the program, or its name and words in front of the
         command; without it, it is looked for as by `explain`. `verify` judges signatures, as for `validate`. `folder` is where a value is
         kept, as long as it is asked about, that is too long for a line of 2^20 octets; without it, it is where the system keeps such files.
+        A store is made in `profile`, and opened only in the one that it was made in.
 
         Raises PartyEnded if the store cannot be opened, ProgramMissing, and TimeIsUp.
         """
+        if not isinstance(profile, Profile):
+            raise TypeError(f"profile: a Profile is wanted, not {type(profile).__name__}")
         front = [program] if isinstance(program, str) else list(program or [program_path()])
+        wide = ["--profile", profile.value] if profile is Profile.WIDE else []
         options = [] if verdicts is None else ["--verdicts", os.fsdecode(verdicts)]
-        words = [*front, "session", "--store", os.fsdecode(store), *options]
+        words = [*front, *wide, "session", "--store", os.fsdecode(store), *options]
         # The first request of a process is answered once the store is open, and changes nothing in it.
         self._begin(lambda: ProcessEnds(words), ["forget"], verify, limits, folder)
 
@@ -143,7 +149,8 @@ class Party:
         cls, path: Path, *, verify: Optional[Judge] = None, limits: PartyLimits = PartyLimits(), folder: Optional[str] = None,
     ) -> "Party":
         """The party that `python3 -m x509check.party` serves at a Unix socket. Several processes of a host share its store, and what it
-        believes: whoever may connect is trusted to judge signatures. `forget` is about what this party said.
+        believes: whoever may connect is trusted to judge signatures. `forget` is about what this party said. The profile is that of the
+        store.
 
         `folder` has to be one that the process behind the socket may read too. Raises PartyEnded if nobody is there.
         """
@@ -359,7 +366,7 @@ class Party:
         """The verdict on a path, by what is believed and what the store holds: no signature is judged. The chain goes from the anchor's
         side to the certificate in question, as for `validate`; moment and purpose are as there too.
 
-        Raises a Fault if a certificate cannot be read.
+        Raises a Fault if a certificate cannot be read, and Refused if in the wide profile its cRLDistributionPoints cannot.
         """
         certificates = [_named(one) for one in (anchor, *listed("chain", chain, _MOST))]
         if not 1 < len(certificates) <= _MOST:
@@ -367,7 +374,7 @@ class Party:
         with written(["check", *_asked(at, purpose), *(one.octets for one in certificates)], self._folder) as words:
             answer = self.ask(" ".join(words))
         if answer.status > _lines.UNKNOWN:
-            raise Refused(answer)
+            raise Refused(answer, {**dict.fromkeys(words, "chain"), words[-len(certificates)]: "anchor"})
         return _result(answer.text, [one.identity for one in certificates])
 
     def find(
@@ -378,7 +385,7 @@ class Party:
         and what the store holds: no signature is judged. Path, verdict and name are as for `x509check.validate_peer`; `Result.why_not` is
         None.
 
-        Raises a Fault if a certificate cannot be read.
+        Raises a Fault if a certificate cannot be read, and Refused if in the wide profile its cRLDistributionPoints cannot.
         """
         tops, read = ([_named(one) for one in listed(what, many)] for what, many in (("anchors", anchors), ("others", others)))
         last = _named(target)
@@ -394,9 +401,9 @@ class Party:
         """What is found in rows of certificates: the anchors first, and the target last."""
         with written(["find", *asked, *(b"".join(one.octets for one in row) for row in rows)], self._folder) as words:
             answer = self.ask(" ".join(words))
-        if answer.status > _lines.UNKNOWN:
-            raise Refused(answer)
         names = words[1 + len(asked):]
+        if answer.status > _lines.UNKNOWN:
+            raise Refused(answer, {**dict.fromkeys(names, "others"), names[-1]: "target", names[0]: "anchors"})
         places = [line.split(" ")[1:] for line in answer.lines[:-1]]
         if places and (places[0][0], places[-1]) != (names[0], [names[-1], "1"]):
             raise Garbled("a path that does not go from an anchor to the certificate in question")
@@ -410,7 +417,7 @@ class Party:
         then others in any order. Path, verdict, name and `Result.why_not` are as for `x509check.validate_peer`. The signatures of the
         certificates are judged first, each once as long as it is believed; those of statements were when they were delivered.
 
-        Raises a Fault if a certificate cannot be read, BadReference for a name that is none, and JudgeMissing.
+        Raises a Fault if a certificate cannot be read, Refused as `find`, BadReference for a name that is none, and JudgeMissing.
         """
         sent, tops, moment, asked_for = sent_by(certificates), listed("anchors", anchors), seconds_of(at), purpose_of(purpose)
 

@@ -11,7 +11,8 @@ from ._faults import Fault, Text
 from ._files import load
 from ._library import FINDING_WORDS
 from ._pem import Kind, Loaded
-from ._query import Ignored, Limits, Search
+from ._profile import Profile
+from ._query import Ignored, Limits, Query, Search
 from ._questions import SignatureQuestion, ask
 from ._reference import Reference, speaks_for
 from ._verdicts import (
@@ -54,12 +55,12 @@ def sent_by(certificates: Iterable[Value]) -> List[Value]:
     return sent
 
 
-def _readable(certificates: List[Value]) -> Tuple[List[Value], Tuple[Ignored, ...]]:
-    """The certificates that can be read, the first in any case; and which the others are, and why."""
+def _readable(certificates: List[Value], profile: Profile) -> Tuple[List[Value], Tuple[Ignored, ...]]:
+    """The certificates that can be read in the profile, the first in any case; and which the others are, and why."""
     kept, ignored = certificates[:1], []
     for at, one in enumerate(certificates[1:], 1):
         try:
-            Certificate.from_der(one)
+            Query(Certificate.from_der(one), [one], [], profile=profile).questions()
         except Fault as fault:
             origin = origin_of(one)
             told = Fault(fault.number, fault.offset, fault.der, Text.CERTIFICATES, at, origin)
@@ -69,15 +70,17 @@ def _readable(certificates: List[Value]) -> Tuple[List[Value], Tuple[Ignored, ..
     return kept, tuple(ignored)
 
 
-def peer_questions(certificates: Iterable[Value], anchors: Iterable[Value], statements: Iterable[Value]) -> List[SignatureQuestion]:
+def peer_questions(
+    certificates: Iterable[Value], anchors: Iterable[Value], statements: Iterable[Value], *, profile: Profile = Profile.STATED,
+) -> List[SignatureQuestion]:
     """What a judge of signatures may be asked by `validate_peer`, at whatever moment and for whatever purpose: about each certificate that
     leads to the first by names, under each that has the name of its issuer, and then about each statement under each of these. One question
-    may be there twice.
+    may be there twice. The profile is that of the verdict.
 
     Raises a Fault if a certificate or a statement cannot be read, and ValueError for no certificates.
     """
     sent = sent_by(certificates)
-    return ask(Search(anchors, sent[0], sent[1:], statements))
+    return ask(Search(anchors, sent[0], sent[1:], statements, profile=profile))
 
 
 def validate_peer(
@@ -93,6 +96,7 @@ def validate_peer(
     ignore_unreadable: bool = False,
     ignore_unreadable_certificates: bool = False,
     limits: Optional[Limits] = None,
+    profile: Profile = Profile.STATED,
 ) -> Result:
     """The verdict on what a peer sent: `certificates` has the one in question first, as TLS sends it, and then others in any order, which
     may stand between it and an anchor or may not. A path is found if there is one: the first whose verdict is VALID by the statements; if
@@ -103,7 +107,7 @@ def validate_peer(
     `Certificate.speaks_for` says. If it does not, a VALID verdict becomes OTHER_NAME; no other verdict changes. A server's name is
     mostly asked for with the purpose ``serverAuth``.
 
-    Statements, moment, purpose, `verify`, `fingerprints` and `ignore_unreadable` are as for `validate`. With `ignore_unreadable_certificates`
+    Statements, moment, purpose, `verify`, `fingerprints`, `ignore_unreadable` and `profile` are as for `validate`. With `ignore_unreadable_certificates`
     certificates behind the first that cannot be read are left out, and `Result.ignored` names them: a path may then not be found. GAVE_UP is
     the verdict if a limit is used up.
 
@@ -119,8 +123,8 @@ def validate_peer(
     sent = sent_by(certificates)
     ignored: Tuple[Ignored, ...] = ()
     if ignore_unreadable_certificates:
-        sent, ignored = _readable(sent)
-    search = Search(anchors, sent[0], sent[1:], statements, moment, asked_for, limits)
+        sent, ignored = _readable(sent, profile)
+    search = Search(anchors, sent[0], sent[1:], statements, moment, asked_for, limits, profile)
     speaks = None if name is None else speaks_for(der_of(sent[0], "certificates[0]"), name, origin_of(sent[0]))
     if ignore_unreadable:
         ignored += search.leave_out_unreadable()

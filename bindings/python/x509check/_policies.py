@@ -5,6 +5,7 @@ from typing import Iterable, List, Optional, Tuple
 
 from ._arguments import Moment, Value, policies_of
 from ._der import dotted
+from ._profile import Profile
 from ._query import PolicyInputs, PolicySets
 from ._verdicts import Judge, Result, Verdict, check_flag, judged_case
 
@@ -76,6 +77,7 @@ def validate_with_policies(
     fingerprints: Optional[Iterable[Value]] = None,
     target: Optional[Value] = None,
     ignore_unreadable: bool = False,
+    profile: Profile = Profile.STATED,
 ) -> ResultWithPolicies:
     """The verdict on a path whose certificate policies are processed, and the policies at its end.
 
@@ -95,6 +97,6 @@ def validate_with_policies(
                        ("inhibit_any_policy", inhibit_any_policy)):
         check_flag(name, flag)
     inputs = PolicyInputs(policies_of("initial_policies", initial_policies), inhibit_policy_mapping, require_explicit_policy, inhibit_any_policy)
-    case = judged_case(anchor, chain, statements, at, purpose, verify, fingerprints, target, ignore_unreadable)
+    case = judged_case(anchor, chain, statements, at, purpose, verify, fingerprints, target, ignore_unreadable, profile)
     found = case.query.verdict_with_policies(case.good, inputs)
     return _with_policies(case.result(found.verdict), found)

@@ -5,7 +5,7 @@ import dataclasses
 import itertools
 from typing import Any, Callable, Iterable, List, NamedTuple, Optional, Sequence, Tuple, Union
 
-from ._arguments import Value, der_of, listed
+from ._arguments import Value, der_of, is_wide, listed
 from ._certificates import origin_of
 from ._faults import MEMORY, Fault, Text, refusal
 from ._library import (
@@ -13,6 +13,7 @@ from ._library import (
     QuestionFields, Refusal, SearchFields, TextFields, VerdictAnswer, library, text_array, text_fields,
 )
 from ._pem import Loaded
+from ._profile import Profile
 
 # So many questions there is room for at most when they are asked for first.
 _MOST_ROOM = 4096
@@ -73,17 +74,18 @@ class Diagnosis(NamedTuple):
 
 
 class _HandedIn:
-    """Certificates and statements that were handed in, each by its title in the arguments."""
+    """Certificates and statements that were handed in, each by its title in the arguments, and the profile in which they are read."""
 
-    def __init__(self, certificates: Sequence[Value], titles: Sequence[str], statements: Iterable[Value]):
+    def __init__(self, certificates: Sequence[Value], titles: Sequence[str], statements: Iterable[Value], profile: Profile):
         handed_in = listed("statements", statements)
+        self._wide = is_wide(profile)
         self.certificates: List[bytes] = [der_of(one, title) for one, title in zip(certificates, titles)]
         self.statements: List[bytes] = [der_of(one, f"statements[{at}]") for at, one in enumerate(handed_in)]
         self._origins = {Text.CERTIFICATES: [*map(origin_of, certificates)], Text.STATEMENTS: [*map(origin_of, handed_in)]}
 
     def leave_out_unreadable(self) -> Tuple[Ignored, ...]:
         """Leaves out the statements that cannot be read, and says which these are, and why. Each is tried alone, beside a certificate."""
-        alone = QueryFields(text_fields(self.certificates[0]))
+        alone = QueryFields(text_fields(self.certificates[0]), wide=self._wide)
         ignored: List[Ignored] = []
         kept: List[bytes] = []
         for at, (statement, origin) in enumerate(zip(self.statements, self._origins[Text.STATEMENTS])):
@@ -128,13 +130,14 @@ class _HandedIn:
 
 
 class Query(_HandedIn):
-    """A path and statements, a moment and a purpose."""
+    """A path and statements, a moment, a purpose and a profile."""
 
-    def __init__(self, anchor: Value, chain: Iterable[Value], statements: Iterable[Value], moment: int = 0, purpose: bytes = b""):
+    def __init__(self, anchor: Value, chain: Iterable[Value], statements: Iterable[Value], moment: int = 0, purpose: bytes = b"",
+                 profile: Profile = Profile.STATED):
         certificates = [anchor, *listed("chain", chain)]
-        super().__init__(certificates, ["anchor", *(f"chain[{at}]" for at in range(len(certificates) - 1))], statements)
+        super().__init__(certificates, ["anchor", *(f"chain[{at}]" for at in range(len(certificates) - 1))], statements, profile)
         path = self.certificates[1:]
-        self._fields = QueryFields(text_fields(self.certificates[0]), text_array(path), len(path), moment, text_fields(purpose))
+        self._fields = QueryFields(text_fields(self.certificates[0]), text_array(path), len(path), moment, text_fields(purpose), self._wide)
 
     def questions(self) -> List[QuestionFields]:
         # Enough for lists, and for responses that come with one certificate.
@@ -176,18 +179,18 @@ def _cut(octets: bytes, lengths: Sequence[int]) -> List[bytes]:
 
 
 class Search(_HandedIn):
-    """Anchors, the target, and other certificates in any order; statements, a moment, a purpose and limits."""
+    """Anchors, the target, and other certificates in any order; statements, a moment, a purpose, limits and a profile."""
 
     def __init__(self, anchors: Iterable[Value], target: Value, bag: Iterable[Value], statements: Iterable[Value], moment: int = 0,
-                 purpose: bytes = b"", limits: Optional[Limits] = None):
+                 purpose: bytes = b"", limits: Optional[Limits] = None, profile: Profile = Profile.STATED):
         tops, others, most = listed("anchors", anchors), listed("certificates", bag), limits or Limits()
         titles = [*(f"anchors[{at}]" for at in range(len(tops))), *(f"certificates[{at}]" for at in range(1 + len(others)))]
-        super().__init__([*tops, target, *others], titles, statements)
+        super().__init__([*tops, target, *others], titles, statements, profile)
         self.target = self.certificates[len(tops)]
         top, bag_texts = self.certificates[:len(tops)], self.certificates[len(tops) + 1:]
         self._fields = SearchFields(
             text_array(top), len(top), text_fields(self.target), text_array(bag_texts), len(bag_texts), moment, text_fields(purpose),
-            LimitFields(most.signatures, most.steps, most.verdicts))
+            LimitFields(most.signatures, most.steps, most.verdicts), self._wide)
 
     def questions(self) -> List[QuestionFields]:
         # Enough for a few pairs of certificates, and lists of their issuers.

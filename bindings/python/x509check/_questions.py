@@ -4,6 +4,7 @@ import dataclasses
 from typing import Iterable, List, Union
 
 from ._arguments import Value
+from ._profile import Profile
 from ._query import Query, Search
 
 
@@ -29,10 +30,13 @@ def ask(query: Union[Query, Search]) -> List[SignatureQuestion]:
             for it in query.questions()]
 
 
-def questions(anchor: Value, chain: Iterable[Value], statements: Iterable[Value]) -> List[SignatureQuestion]:
+def questions(
+    anchor: Value, chain: Iterable[Value], statements: Iterable[Value], *, profile: Profile = Profile.STATED,
+) -> List[SignatureQuestion]:
     """What a judge of signatures may be asked for the verdict on a path by statements, at whatever moment and for whatever purpose: about
-    the certificates of the chain, in order, and then about each statement. One question may be there twice.
+    the certificates of the chain, in order, and then about each statement. One question may be there twice. The profile is that of the
+    verdict.
 
     Raises a Fault if a certificate or a statement cannot be read.
     """
-    return ask(Query(anchor, chain, statements))
+    return ask(Query(anchor, chain, statements, profile=profile))

@@ -12,7 +12,7 @@ from ._der import SEQUENCE, Value, value
 
 _INTEGER, _UTC_TIME, _GENERALIZED_TIME, _OCTET_STRING = 0x02, 0x17, 0x18, 0x04
 _EXPLICIT_0 = 0xA0
-# Without nextUpdate a response counts so long (docs/REFERENCE.md, "Statements that are believed").
+# Without nextUpdate a response counts so long (docs/REFERENCE.md, "Profile").
 _DAY = 86_400
 
 

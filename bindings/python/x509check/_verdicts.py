@@ -9,6 +9,7 @@ from ._arguments import Moment, Value, der_of, listed, octets_of, purpose_of, se
 from ._certificates import Certificate
 from ._library import GAVE_UP, PATHS_END, TARGET_AT_FAULT, VERDICT_WORDS, VerdictAnswer
 from ._names import Identity
+from ._profile import Profile
 from ._query import Diagnosis, Ignored, Query
 from ._questions import SignatureQuestion, ask
 from .signatures import Judgement, judge_all
@@ -293,13 +294,13 @@ class Case(NamedTuple):
 
 
 def judged_case(anchor: Value, chain: Iterable[Value], statements: Iterable[Value], at: Moment, purpose: Optional[str], verify: Optional[Judge],
-                fingerprints: Optional[Iterable[Value]], target: Optional[Value], ignore_unreadable: bool) -> Case:
+                fingerprints: Optional[Iterable[Value]], target: Optional[Value], ignore_unreadable: bool, profile: Profile) -> Case:
     """The query of `validate`, and what the judge says of its questions."""
     given = given_prints(verify, fingerprints)
     check_flag("ignore_unreadable", ignore_unreadable)
     moment, asked_for = seconds_of(at), purpose_of(purpose)
     # Of a longer path so many certificates are handed on that the library says that it is too long.
-    query = Query(anchor, listed("chain", chain, _MOST + 1), statements, moment, asked_for)
+    query = Query(anchor, listed("chain", chain, _MOST + 1), statements, moment, asked_for, profile)
     ignored = query.leave_out_unreadable() if ignore_unreadable else ()
     _check_target(query, target)
     judged = judged_by(different(ask(query)), verify) if given is None else ()
@@ -317,6 +318,7 @@ def validate(
     fingerprints: Optional[Iterable[Value]] = None,
     target: Optional[Value] = None,
     ignore_unreadable: bool = False,
+    profile: Profile = Profile.STATED,
 ) -> Result:
     """The verdict on a path by statements at hand, without a store.
 
@@ -336,8 +338,11 @@ def validate(
     A statement that cannot be read refuses the question. With `ignore_unreadable` it is left out, as if it had not been handed in, and
     `Result.ignored` names it: the verdict may then rest on an older statement.
 
+    In the profile WIDE a list that is published at a point speaks of the certificates whose cRLDistributionPoints name that point; in STATED
+    it cannot be read. WIDE refuses certificates of the chain in which these are malformed.
+
     Raises a Fault if a certificate or a statement cannot be read, ValueError for a moment, a purpose, a target or a fingerprint that is
     none, and TypeError for arguments and answers of a judge that are of another kind.
     """
-    case = judged_case(anchor, chain, statements, at, purpose, verify, fingerprints, target, ignore_unreadable)
+    case = judged_case(anchor, chain, statements, at, purpose, verify, fingerprints, target, ignore_unreadable, profile)
     return case.result(case.query.verdict(case.good))

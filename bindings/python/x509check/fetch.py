@@ -74,7 +74,7 @@ class Fetched:
     why: str = ""
     delivery: Optional[Delivery] = None
     refused: Optional[Refused] = None
-    """Of a statement that the party refused, with its fault and offset."""
+    """Of what the party refused, with its fault and offset."""
     until: Optional[int] = None
     """nextUpdate of what was taken or is unchanged, in seconds from 1970-01-01T00:00:00Z."""
 
@@ -93,7 +93,8 @@ class Report:
 
     fetched: Tuple[Fetched, ...]
     result: Result
-    """The verdict on the path to the certificate in question: UNKNOWN says that of some certificate no current statement is held."""
+    """The verdict on the path to the certificate in question, behind all that was fetched: UNKNOWN says that of some certificate no current
+    statement is held."""
     issuers: Tuple[bytes, ...]
     """Certificates that were fetched (caIssuers) and belong to the chain, as DER."""
     again: int
@@ -222,21 +223,24 @@ class Fetcher:
         If no path is found that meets the conditions (RFC 5280, 6.1), nothing is asked, but issuers that are missing where paths end.
 
         Each distribution point is asked; of the names of one point, and of the responders of a certificate, one after the other until what
-        one has is taken. `lists`, `responses` and `issuers` say what is asked for.
+        one has is taken. `lists`, `responses` and `issuers` say what is asked for. `now` is the moment at which the party is asked, so that
+        a response counts that was signed meanwhile.
 
-        Raises a Fault if a certificate cannot be read, JudgeMissing, and PartyErrors but Refused.
+        Raises a Fault if a certificate cannot be read, Refused if in the wide profile its cRLDistributionPoints cannot, JudgeMissing, and
+        other PartyErrors.
         """
+        seconds_of(at)  # whether it is a moment
         return _Run(self, [Certificate.from_der(one) for one in sent_by(certificates)],
-                    [Certificate.from_der(one) for one in listed("anchors", anchors)], seconds_of(at)).report(lists, responses, issuers)
+                    [Certificate.from_der(one) for one in listed("anchors", anchors)], at).report(lists, responses, issuers)
 
 
 class _Run:
     """One fetch: what was asked so far, and when it has to end."""
 
-    def __init__(self, fetcher: Fetcher, sent: List[Certificate], anchors: List[Certificate], now: int) -> None:
+    def __init__(self, fetcher: Fetcher, sent: List[Certificate], anchors: List[Certificate], at: Moment) -> None:
         self._party, self._client, self._memory = fetcher._party, fetcher._client, fetcher.memory
         self._schedule, self._left, self._until = fetcher._schedule, fetcher._addresses, time.monotonic() + fetcher._seconds
-        self._sent, self._anchors, self._now = sent, anchors, now
+        self._sent, self._anchors, self._at = sent, anchors, at
         self._issuers: List[Certificate] = []
         self._fetched: List[Fetched] = []
         self._asked: Set[Tuple[Kind, str, bytes]] = set()
@@ -254,7 +258,7 @@ class _Run:
                 break
             # Of an issuer that is revoked, or of which nothing is known, another certificate may be at hand.
             left_out.append(decides)
-        again = self._schedule.again(self._now, self._fetched)
+        again = self._schedule.again(seconds_of(self._at), self._fetched)
         return Report(tuple(self._fetched), self._verdict(), tuple(one.octets for one in self._issuers), again)
 
     # ---- the path
@@ -262,7 +266,7 @@ class _Run:
     def _verdict(self, left_out: Sequence[Identity] = ()) -> Result:
         """The party's verdict, without these certificates."""
         sent, anchors = ([one for one in them if one.identity not in left_out] for them in ([*self._sent, *self._issuers], self._anchors))
-        return self._party.validate_peer(sent, anchors, self._now)
+        return self._party.validate_peer(sent, anchors, self._at)
 
     def _named(self, identity: Identity) -> Certificate:
         """The certificate at hand that an answer names."""
@@ -301,6 +305,12 @@ class _Run:
             self._tell(Outcome.REFUSED, Kind.CERTIFICATE, url, certificate, f"{issuer.identity} did not sign it: {judgement.value}")
             return False
         self._issuers.append(issuer)
+        try:
+            self._verdict()
+        except Refused as refusal:  # in the wide profile, for its cRLDistributionPoints
+            self._issuers.pop()
+            self._tell(Outcome.REFUSED, Kind.CERTIFICATE, url, certificate, str(refusal), refused=refusal)
+            return False
         self._tell(Outcome.TAKEN, Kind.CERTIFICATE, url, certificate, str(issuer.identity))
         return True
 

@@ -1,7 +1,7 @@
 """Serves one party to several processes of a host, over a Unix socket.
 
-    python3 -m x509check.party --store STORE [--verdicts VERDICTS] [--listen SOCKET] [--mode MODE] [--connections N] [--octets N]
-                               [--seconds SECONDS]
+    python3 -m x509check.party --store STORE [--profile PROFILE] [--verdicts VERDICTS] [--listen SOCKET] [--mode MODE]
+                               [--connections N] [--octets N] [--seconds SECONDS]
 
 `x509check.Party.connect(SOCKET)` is a party there. Each line that comes is a request of `x509check session` (docs/REFERENCE.md,
 "session"), and is answered as a session answers it; but `quit` ends the connection, and not the session, and `forget` is about what came
@@ -11,6 +11,8 @@ cannot answer, also after it was started again, the connection is shut without a
 Without --listen the socket is the one that systemd hands over (a socket unit with `Accept=no`). The file SOCKET is made with the
 permissions MODE, in octal (600): its owner alone may connect. Whoever may connect may say which signatures are good, for all, deliver
 statements, and have the session read files of DER that it may read. N connections (64) are served at once; others wait.
+
+PROFILE is that of the store, `stated` (the default) or `wide`.
 
 A request is answered within SECONDS (30), in which also a line that was begun has to end, and an answer has to be taken. The status is 0
 after SIGTERM or SIGINT, 5 for words that are none, and 6 if the store cannot be opened or SOCKET cannot be listened at.
@@ -29,6 +31,7 @@ from typing import Dict, List, Optional, Sequence, Set
 from . import _lines
 from ._link import PartyError
 from ._party import Party, PartyLimits, is_fingerprint
+from ._profile import Profile
 from ._program import ProgramMissing
 
 # The first descriptor that systemd hands over (sd_listen_fds(3)).
@@ -245,6 +248,7 @@ def words_of(arguments: Sequence[str]) -> argparse.Namespace:
     parser = argparse.ArgumentParser(prog="python3 -m x509check.party", description=__doc__,
                                      formatter_class=argparse.RawDescriptionHelpFormatter, allow_abbrev=False)
     parser.add_argument("--store", required=True, metavar="STORE")
+    parser.add_argument("--profile", type=Profile, default=Profile.STATED, metavar="PROFILE")
     parser.add_argument("--verdicts", metavar="VERDICTS")
     parser.add_argument("--listen", metavar="SOCKET")
     parser.add_argument("--mode", type=_mode, default=0o600, metavar="MODE")
@@ -258,7 +262,7 @@ def words_of(arguments: Sequence[str]) -> argparse.Namespace:
 
 
 def _serve(words: argparse.Namespace) -> None:
-    with Party(words.store, words.verdicts, limits=PartyLimits(seconds=words.seconds)) as party:
+    with Party(words.store, words.verdicts, limits=PartyLimits(seconds=words.seconds), profile=words.profile) as party:
         with handed_over() if words.listen is None else listen(words.listen, words.mode) as listening:
             server = Server(party, listening, words.connections, words.octets, words.seconds)
             for number in (signal.SIGTERM, signal.SIGINT):

@@ -6,7 +6,7 @@
 //! # let read = |name: &str| std::fs::read(format!("{authority}/{name}"));
 //! # let (anchor, middle, leaf) = (read("root.der")?, read("middle.der")?, read("leaf.der")?);
 //! # let lists = [read("root.crl")?, read("middle.crl")?];
-//! use x509check::{Limits, Reference, Search};
+//! use x509check::{Limits, Profile, Reference, Search};
 //! use x509check_openssl::OpenSslJudge;
 //!
 //! let search = Search {
@@ -17,6 +17,7 @@
 //!     purpose: None,
 //!     name: Some(Reference::Host("www.example")),
 //!     limits: Limits::default(),
+//!     profile: Profile::Stated,
 //! };
 //! let peer = search.require_valid(&OpenSslJudge::default())?; // an error unless a valid path is found
 //! assert_eq!(peer.target.name, "CN=leaf,O=Example");

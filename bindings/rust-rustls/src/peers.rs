@@ -5,7 +5,7 @@ use std::time::{SystemTime, UNIX_EPOCH};
 use rustls::client::{ServerCertVerified, ServerName};
 use rustls::server::ClientCertVerified;
 use rustls::{DistinguishedNames, Error, OwnedTrustAnchor, RootCertStore};
-use x509check::{Certificate, Peer, Query, Reference};
+use x509check::{Certificate, Peer, Profile, Query, Reference};
 
 use crate::errors::of_not_believed;
 
@@ -113,6 +113,7 @@ pub(crate) fn read_statements(
         statements,
         moment: 0,
         purpose: None,
+        profile: Profile::Stated,
     };
     query.signature_questions().map(drop)
 }

@@ -7,7 +7,7 @@ use std::time::SystemTime;
 use rustls::client::{ServerCertVerified, ServerCertVerifier, ServerName};
 use rustls::server::{ClientCertVerified, ClientCertVerifier};
 use rustls::{DistinguishedNames, Error};
-use x509check::{Judge, Limits, Peer, Search};
+use x509check::{Judge, Limits, Peer, Profile, Search};
 
 use crate::errors::of_search;
 use crate::peers::{
@@ -91,6 +91,7 @@ impl<J: Judge> Finds for PeerVerifier<J> {
             purpose: Some(asked.purpose),
             name: asked.name,
             limits: self.limits,
+            profile: Profile::Stated,
         };
         search.find(&self.judge).map_err(|error| of_search(&error))
     }

@@ -4,7 +4,7 @@
 //! of each question: the fingerprint and the four lengths.
 
 use std::{env, fs, process};
-use x509check::{Fingerprints, Query};
+use x509check::{Fingerprints, Profile, Query};
 
 /// What is left of a file.
 struct Left<'a>(&'a [u8]);
@@ -51,6 +51,7 @@ fn main() {
             statements: &statements,
             moment,
             purpose: (!purpose.is_empty()).then_some(purpose),
+            profile: Profile::Stated,
         };
         match query.answer(&Fingerprints(&prints)) {
             Ok(answer) => println!("{}", answer.verdict),

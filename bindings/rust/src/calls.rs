@@ -8,7 +8,7 @@ use crate::library::{
     Refusal, SearchFields, TextFields, VerdictAnswer, CERTIFICATES, PATH_ROOM, REFUSED, STATEMENTS,
 };
 use crate::policies::{PolicyInputs, Written};
-use crate::query::Query;
+use crate::query::{Profile, Query};
 use crate::search::Limits;
 
 /// So many questions there is room for at most when they are asked for first.
@@ -26,6 +26,7 @@ pub(crate) struct SearchCall<'a> {
     pub moment: i64,
     pub purpose: &'a [u8],
     pub limits: Limits,
+    pub profile: Profile,
 }
 
 /// The query as the library takes it. What it points to may be read while the query and the array of its path live.
@@ -36,6 +37,7 @@ fn fields_of(query: &Query<'_>, path: &[TextFields]) -> QueryFields {
         path_count: path.len(),
         moment: query.moment,
         purpose: TextFields::of(query.purpose.unwrap_or(&[])),
+        wide: query.profile.wide(),
     }
 }
 
@@ -58,6 +60,7 @@ fn search_fields_of(
             steps: search.limits.steps,
             verdicts: search.limits.verdicts,
         },
+        wide: search.profile.wide(),
     }
 }
 

@@ -10,7 +10,7 @@
 //! # let (anchor, middle, leaf) = (read("root.der")?, read("middle.der")?, read("leaf.der")?);
 //! # let (lists, good) = ([read("root.crl")?, read("middle.crl")?], read("good")?);
 //! # let fingerprints: Vec<[u8; 32]> = good.chunks_exact(32).map(|print| print.try_into().unwrap()).collect();
-//! use x509check::{judge_by, Fingerprints, Judgement, Query, Verdict};
+//! use x509check::{judge_by, Fingerprints, Judgement, Profile, Query, Verdict};
 //!
 //! let query = Query {
 //!     anchor: &anchor,
@@ -18,6 +18,7 @@
 //!     statements: &[&lists[0], &lists[1]],
 //!     moment: 1_796_083_200, // 2026-12-01T00:00:00Z
 //!     purpose: None,
+//!     profile: Profile::Stated,
 //! };
 //! let good = Fingerprints(&fingerprints); // of signatures that were found good elsewhere
 //! let answer = query.require_valid(&good)?; // an error unless the verdict is valid
@@ -62,7 +63,7 @@ pub use judge::{
 };
 pub use party::{Delivery, Party, PartyError, PartyQuery, PartySearch};
 pub use policies::{Policies, PolicyInputs, QueryWithPolicies};
-pub use query::Query;
+pub use query::{Profile, Query};
 pub use reference::{Reference, ReferenceRule, SpeakingError};
 pub use search::{Finding, Limits, NotBelieved, Peer, Search, SearchError};
 pub use verdict::{Reason, Verdict};

@@ -16,6 +16,7 @@ pub(crate) struct QueryFields {
     pub path_count: usize,
     pub moment: i64,
     pub purpose: TextFields,
+    pub wide: u32,
 }
 
 /// What a search may spend.
@@ -36,6 +37,7 @@ pub(crate) struct SearchFields {
     pub moment: i64,
     pub purpose: TextFields,
     pub limits: LimitFields,
+    pub wide: u32,
 }
 
 impl TextFields {
@@ -343,8 +345,8 @@ mod tests {
     #[test]
     fn structs_have_the_sizes_of_the_header() {
         assert_eq!(size_of::<TextFields>(), 16);
-        assert_eq!(size_of::<QueryFields>(), 56);
-        assert_eq!(size_of::<SearchFields>(), 96);
+        assert_eq!(size_of::<QueryFields>(), 64);
+        assert_eq!(size_of::<SearchFields>(), 104);
         assert_eq!(size_of::<PolicyInputFields>(), 32);
         assert_eq!(size_of::<PoliciesAnswer>(), 72);
         assert_eq!(size_of::<FindingAnswer>(), 56);

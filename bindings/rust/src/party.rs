@@ -20,7 +20,7 @@ use crate::fault::Error;
 use crate::identity::Identity;
 use crate::judge::{Heard, Judge, Judgement, SignatureQuestion};
 use crate::library::CERTIFICATES;
-use crate::query::{check_purpose, Asking, Query, MOST_CERTIFICATES, MOST_HANDED};
+use crate::query::{check_purpose, Asking, Profile, Query, MOST_CERTIFICATES, MOST_HANDED};
 use crate::reference::{Reference, SpeakingError};
 use crate::search::{Finding, Limits, Peer, Search, SearchError};
 use crate::verdict::Verdict;
@@ -131,6 +131,9 @@ impl fmt::Debug for Party {
 impl Party {
     /// Starts the program over the store, which it makes if there is no such file. The words `session --store STORE` are added to the
     /// command; its input and output are taken, and it keeps its standard error. A store has one process.
+    ///
+    /// The command may have words in front of `session` before: `--profile wide` for a store of the wide profile, `--wait SECONDS` for how
+    /// long a store is waited for that another process has open.
     ///
     /// The command has to become the process that answers: of a script, that it runs the program by `exec`.
     pub fn start(program: Command, store: impl AsRef<Path>) -> Result<Party, PartyError> {
@@ -303,7 +306,7 @@ impl Party {
 }
 
 impl<'a> PartyQuery<'a> {
-    /// The same question by no statements, which has the same certificates and signatures.
+    /// The same question by no statements, which has the same certificates and signatures. Points are the program's matter.
     fn at_hand(&self) -> Query<'a> {
         Query {
             anchor: self.anchor,
@@ -311,6 +314,7 @@ impl<'a> PartyQuery<'a> {
             statements: &[],
             moment: self.moment,
             purpose: self.purpose,
+            profile: Profile::Stated,
         }
     }
 
@@ -344,6 +348,7 @@ impl<'a> PartySearch<'a> {
             purpose: self.purpose,
             name: self.name,
             limits: Limits::default(),
+            profile: Profile::Stated,
         }
     }
 

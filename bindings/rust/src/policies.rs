@@ -58,7 +58,7 @@ pub struct Policies {
 /// # let (lists, good) = ([read("root.crl")?, read("partner.crl")?], read("good")?);
 /// # let fingerprints: Vec<[u8; 32]> = good.chunks_exact(32).map(|print| print.try_into().unwrap()).collect();
 /// # let judge = x509check::Fingerprints(&fingerprints);
-/// use x509check::{PolicyInputs, Query, QueryWithPolicies};
+/// use x509check::{PolicyInputs, Profile, Query, QueryWithPolicies};
 ///
 /// let query = QueryWithPolicies {
 ///     query: Query {
@@ -67,6 +67,7 @@ pub struct Policies {
 ///         statements: &[&lists[0], &lists[1]],
 ///         moment: 1_796_083_200, // 2026-12-01T00:00:00Z
 ///         purpose: None,
+///         profile: Profile::Stated,
 ///     },
 ///     inputs: PolicyInputs {
 ///         initial_policies: Some(&["2.999.1.1".parse()?]),
@@ -97,7 +98,8 @@ impl QueryWithPolicies<'_> {
 
     /// As [`Query::answer_by_readable`].
     pub fn answer_by_readable(&self, judge: &dyn Judge) -> Result<Answer, Error> {
-        let (statements, ignored) = readable(self.query.anchor, self.query.statements)?;
+        let (statements, ignored) =
+            readable(self.query.anchor, self.query.statements, self.query.profile)?;
         let query = Query {
             statements: &statements,
             ..self.query

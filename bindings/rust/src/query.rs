@@ -19,6 +19,24 @@ pub(crate) const MOST_CERTIFICATES: usize = 128;
 /// Of a longer path the library gets one more, which it answers by [`Reason::TooLong`], and reads none of the others.
 pub(crate) const MOST_HANDED: usize = MOST_CERTIFICATES + 1;
 
+/// How much of the standard is served (`docs/REFERENCE.md`, "The profile").
+#[derive(Clone, Copy, Debug, Default, PartialEq, Eq)]
+pub enum Profile {
+    /// A list that is published at a point cannot be read.
+    #[default]
+    Stated,
+    /// Such a list is taken too, and speaks of the certificates whose cRLDistributionPoints name its point. A certificate in which these are
+    /// malformed cannot be read, unless it is an anchor.
+    Wide,
+}
+
+impl Profile {
+    /// As the library takes it.
+    pub(crate) fn wide(self) -> u32 {
+        (self == Profile::Wide).into()
+    }
+}
+
 /// The question about a path.
 ///
 /// There is no call that answers a bare [`Verdict`]: each answer says whom it is about, and a verdict that is left aside is a warning.
@@ -43,6 +61,8 @@ pub struct Query<'a> {
     /// The contents of an OBJECT IDENTIFIER, if a purpose is asked for. Octets that are no such contents are [`Error::Purpose`]; so is an
     /// empty slice.
     pub purpose: Option<&'a [u8]>,
+    /// In which path and statements are read.
+    pub profile: Profile,
 }
 
 impl<'a> Query<'a> {
@@ -76,7 +96,7 @@ impl<'a> Query<'a> {
     ///
     /// What such a statement would have said is lost: an older one may speak in its place.
     pub fn answer_by_readable(&self, judge: &dyn Judge) -> Result<Answer, Error> {
-        let (statements, ignored) = readable(self.anchor, self.statements)?;
+        let (statements, ignored) = readable(self.anchor, self.statements, self.profile)?;
         let query = Query {
             statements: &statements,
             ..*self
@@ -113,10 +133,11 @@ impl<'a> Query<'a> {
     }
 }
 
-/// The statements that can be read, and the faults of the others. Each is read alone, behind a certificate.
+/// The statements that can be read in the profile, and the faults of the others. Each is read alone, behind a certificate.
 pub(crate) fn readable<'a>(
     anchor: &[u8],
     statements: &[&'a [u8]],
+    profile: Profile,
 ) -> Result<(Vec<&'a [u8]>, Vec<Fault>), Error> {
     let (mut readable, mut ignored) = (Vec::new(), Vec::new());
     for (index, statement) in statements.iter().enumerate() {
@@ -126,6 +147,7 @@ pub(crate) fn readable<'a>(
             statements: slice::from_ref(statement),
             moment: 0,
             purpose: None,
+            profile,
         };
         match ask(&alone) {
             Ok(_) => readable.push(*statement),
@@ -139,6 +161,19 @@ pub(crate) fn readable<'a>(
         }
     }
     Ok((readable, ignored))
+}
+
+/// Reads a certificate in the profile, as one of a path. It stands below itself, and the library reads it twice.
+pub(crate) fn read_in(profile: Profile, octets: &[u8]) -> Result<(), Error> {
+    let alone = Query {
+        anchor: octets,
+        path: &[octets],
+        statements: &[],
+        moment: 0,
+        purpose: None,
+        profile,
+    };
+    ask(&alone).map(|_| ())
 }
 
 /// Refuses a purpose that is no contents of an OBJECT IDENTIFIER.

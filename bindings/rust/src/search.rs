@@ -9,7 +9,7 @@ use crate::fault::{Error, Fault, Text};
 use crate::identity::Identity;
 use crate::judge::{Heard, Judge, SignatureQuestions};
 use crate::library::{FindingAnswer, GAVE_UP, NOT_FOUND};
-use crate::query::{check_purpose, readable};
+use crate::query::{check_purpose, read_in, readable, Profile};
 use crate::reference::{Reference, SpeakingError};
 use crate::values::Values;
 use crate::verdict::Verdict;
@@ -55,6 +55,8 @@ pub struct Search<'a> {
     pub name: Option<Reference<'a>>,
     /// What the search may spend.
     pub limits: Limits,
+    /// In which certificates and statements are read. Anchors are read alike in both.
+    pub profile: Profile,
 }
 
 /// What a search finds.
@@ -241,11 +243,11 @@ impl<'a> Search<'a> {
     /// What such a statement would have said is lost: an older one may speak in its place; and a path may not be found.
     pub fn find_by_readable(&self, judge: &dyn Judge) -> Result<Peer, SearchError> {
         let target = self.target()?;
-        let (statements, mut ignored) = readable(target, self.statements)?;
+        let (statements, mut ignored) = readable(target, self.statements, self.profile)?;
         let mut certificates = vec![target];
         for (index, octets) in self.certificates.iter().enumerate().skip(1) {
-            match Certificate::read(octets) {
-                Ok(_) => certificates.push(octets),
+            match read_in(self.profile, octets) {
+                Ok(()) => certificates.push(octets),
                 Err(Error::Refused(fault)) => ignored.push(Fault {
                     value: Some((Text::Certificates, index)),
                     ..fault
@@ -310,6 +312,7 @@ impl<'a> Search<'a> {
             moment: self.moment,
             purpose: self.purpose.unwrap_or(&[]),
             limits: self.limits,
+            profile: self.profile,
         }
     }
 }

@@ -4,8 +4,8 @@ use std::cell::RefCell;
 use std::fs;
 use x509check::{
     fingerprint, judge_by, sha256, Answer, Certificate, Error, Extensions, Fault, Fingerprints,
-    Judge, Judgement, NotValid, Query, Reason, Reference, ReferenceRule, SignatureQuestion,
-    SpeakingError, Text, Verdict,
+    Judge, Judgement, NotValid, Profile, Query, Reason, Reference, ReferenceRule,
+    SignatureQuestion, SpeakingError, Text, Verdict,
 };
 
 /// 2026-12-01T00:00:00Z
@@ -62,6 +62,7 @@ impl Authority {
             statements,
             moment: DECEMBER,
             purpose: None,
+            profile: Profile::Stated,
         }
     }
 

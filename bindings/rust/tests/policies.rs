@@ -5,7 +5,7 @@ use std::fs;
 
 use x509check::{
     Answer, Certificate, Error, Fingerprints, Judgement, NotValid, ObjectIdentifier, Policies,
-    PolicyInputs, Query, QueryWithPolicies, Reason, SignatureQuestion, Text, Verdict,
+    PolicyInputs, Profile, Query, QueryWithPolicies, Reason, SignatureQuestion, Text, Verdict,
 };
 
 /// 2026-12-01T00:00:00Z
@@ -110,6 +110,7 @@ impl Case {
                 statements: &statements,
                 moment: DECEMBER,
                 purpose: None,
+                profile: Profile::Stated,
             },
             inputs,
         })

@@ -4,8 +4,9 @@ use std::cell::Cell;
 use std::fs;
 
 use x509check::{
-    Certificate, Error, Finding, Fingerprints, Judge, Limits, NotBelieved, Peer, Reason, Reference,
-    ReferenceRule, Search, SearchError, SignatureQuestion, SpeakingError, Text, Verdict, WhyNot,
+    Certificate, Error, Finding, Fingerprints, Judge, Limits, NotBelieved, Peer, Profile, Reason,
+    Reference, ReferenceRule, Search, SearchError, SignatureQuestion, SpeakingError, Text, Verdict,
+    WhyNot,
 };
 
 /// 2026-12-01T00:00:00Z
@@ -42,6 +43,7 @@ fn found_by(
         purpose: None,
         name: None,
         limits: Limits::default(),
+        profile: Profile::Stated,
     };
     change(&mut search);
     search.find(judge)
@@ -219,6 +221,7 @@ fn what_cannot_be_read_is_refused_or_told() {
         purpose: None,
         name: None,
         limits: Limits::default(),
+        profile: Profile::Stated,
     };
     let refused = |search: Search<'_>| match search.find(&Fingerprints(&good)) {
         Err(SearchError::Speaking(SpeakingError::Library(Error::Refused(fault)))) => fault.value,

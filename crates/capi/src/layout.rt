@@ -36,7 +36,7 @@ fn structs_have_their_sizes(rt: HostRuntime) {
     assert!(rt;
         SIZES
             == [
-                16, 56, 24, 96, 16, 16, 56, 208, 224, 32, 48, 56, 32, 160, 40, 24, 16, 64, 32, 72
+                16, 64, 24, 104, 16, 16, 56, 208, 224, 32, 48, 56, 32, 160, 40, 24, 16, 64, 32, 72
             ]
     );
 }
@@ -48,11 +48,11 @@ fn prints<T: Debug>(rt: &HostRuntime, value: &T, text: &str) -> Result<bool, All
 }
 
 const QUERY: &str = "QueryOfTexts { anchor: Text { octets: [] }, path: [], moment: 0, \
-    purpose: Text { octets: [] } }";
+    purpose: Text { octets: [] }, wide: 0 }";
 
 const SEARCH: &str =
     "SearchOfTexts { anchors: [], target: Text { octets: [] }, bag: [], moment: 0, \
-    purpose: Text { octets: [] }, limits: Limits { signatures: 0, steps: 0, verdicts: 0 } }";
+    purpose: Text { octets: [] }, limits: Limits { signatures: 0, steps: 0, verdicts: 0 }, wide: 0 }";
 
 const CERTIFICATE: &str = "CertificateAnswer { fault: 0, der_fault: 0, offset: 0, \
     fields: Fields { version: 0, not_before: 0, not_after: 0, \
@@ -109,6 +109,7 @@ fn structs_have_their_fields_in_order(rt: HostRuntime) -> Result<(), Fail> {
         path: &[],
         moment: 0,
         purpose: none,
+        wide: 0,
     };
     assert!(rt; prints(&rt, &query, QUERY)?);
     assert!(rt; prints(&rt, &FindingAnswer::default(), FINDING)?);
@@ -132,6 +133,7 @@ fn search_of<'a>(texts: &'a [Text<'a>], target: Text<'a>) -> SearchOfTexts<'a> {
         moment: 0,
         purpose: target,
         limits: Limits::default(),
+        wide: 0,
     }
 }
 

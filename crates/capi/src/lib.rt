@@ -43,6 +43,8 @@ mod layout;
 #[cfg(test)]
 mod policies;
 #[cfg(test)]
+mod profiles;
+#[cfg(test)]
 mod searches;
 #[cfg(test)]
 mod tests;

@@ -30,6 +30,7 @@ pub(crate) fn search<'a>(
         moment: DECEMBER,
         purpose: text(b""),
         limits,
+        wide: 0,
     }
 }
 

@@ -206,6 +206,7 @@ pub(crate) fn query<'a>(
         path,
         moment,
         purpose: text(purpose),
+        wide: 0,
     }
 }
 
@@ -255,7 +256,7 @@ pub(crate) fn refusal(
     }
 }
 
-fn refused(refusal: Refusal) -> VerdictAnswer {
+pub(crate) fn refused(refusal: Refusal) -> VerdictAnswer {
     VerdictAnswer {
         verdict: 5,
         refusal,

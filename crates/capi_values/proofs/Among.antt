@@ -1,7 +1,8 @@
 -- Questions about a search, as places of texts; and a judge's answers to them give what the judge finds, and why it finds no path.
 use Rattle.std.proofs.Common.{◌≡◌, ℕ, ℤ, List, [], ◌∷◌, ◌++◌, Option, Ok, Err, Result, length, map, take, drop, inl, inr, refl, sym, ap, ◌∙◌, subst, arith}
 use Rattle.std.specs.Prelude.{Contains}
-use Rattle.cert.specs.Certificate.{Certificate, certificate}
+use Rattle.std.proofs.lemmas.List.{length-map}
+use Rattle.cert.specs.Certificate.{Certificate}
 use Rattle.path.specs.Query.{Accepts}
 use Rattle.path_issuers.specs.Links.{certificate_at}
 use Rattle.path_issuers.specs.Questions.{IsChainToTarget, IsNamedBy, IsSearchQuestion, IsThere, issuer_at}
@@ -9,7 +10,7 @@ use Rattle.path_issuers.specs.Search.{Search}
 use Rattle.path_issuers.specs.declared.question.Issuer.{Issuer}
 use Rattle.path_issuers.specs.declared.question.Issuer.TheVariants.{Anchor, Bag}
 use Rattle.path_issuers.specs.declared.question.SearchQuestion.{SearchQuestion}
-use Rattle.statements.specs.Statement.{Statement, statement}
+use Rattle.statements.specs.Statement.{Statement, statement_under}
 use Rattle.path_search.specs.declared.diagnosis.WhyNot.{WhyNot}
 use Rattle.relying_questions.specs.Agreement.{FindingPrintsDecide, WhyNotPrintsDecide}
 use Rattle.relying_questions.specs.FindingQuestions.{AreFindingQuestions}
@@ -18,11 +19,12 @@ use Rattle.relying_questions.specs.Questions.{Judgement, answer, asked_of_statem
 use Rattle.relying_questions.specs.Seen.{judgement_print, seen_all}
 use Rattle.relying_questions.specs.declared.question.SignatureQuestion as asked
 use Rattle.relying_search.specs.Finding.{Finding}
+use Rattle.relying_texts.specs.Reading.{AreStatementsReadUnder}
 use Rattle.capi_values.specs.Among.{AreSearchJudged, AreWrittenAmong, TellsFindingOf, WritesSearchQuestions, search_at}
 use Rattle.capi_values.specs.Finding.{IsFindingFor, IsFindingOn, TellsSearchAnswer, without_path}
 use Rattle.capi_values.specs.Questions.{AreTold, asked_answer, question_of}
-use Rattle.capi_values.specs.Searching.{IsSearchRead, IsSearchReadWith, search_texts}
-use Rattle.capi_values.specs.Texts.{AreAllOctets, AreCertificates, octets_of_texts}
+use Rattle.capi_values.specs.Searching.{IsSearchRead, IsSearchReadWith, search_certificates, search_texts}
+use Rattle.capi_values.specs.Texts.{AreAllOctets, AreCertificates, CertificateTexts, numbered, octets_of_texts, profile_of}
 use Rattle.capi_values.specs.Verdict.{refusal_answer}
 use Rattle.capi_values.specs.WhyNot.{IsWhyNotFor, IsWhyNotOn, Rooms, TellsWhyNotAnswer, TellsWhyNotOf, without_end}
 use Rattle.capi_values.specs.declared.diagnosis.WhyNotAnswer.{WhyNotAnswer}
@@ -34,7 +36,7 @@ use Rattle.capi_values.specs.declared.searching.SearchOfTexts.{SearchOfTexts}
 use Rattle.capi_values.specs.declared.texts.Text.{Text}
 use Rattle.capi_values.proofs.Asking.{are_told, were_read, were_statements_read}
 use Rattle.capi_values.proofs.Judging.{Answers, all_answered, only_memory, refusal_has_fault}
-use Rattle.capi_values.proofs.Readings.{one_reading}
+use Rattle.capi_values.proofs.Readings.{one_reading, read_once}
 
 -- ---- the same certificates, at another moment and for another purpose
 
@@ -98,9 +100,12 @@ are_written_among search statements read these asked old new count fit is are pl
   where
     stand : AllInTexts (texts_at (search_texts search) (octets_of_texts statements)) asked
     stand =
-        let certificates = were_read (search_texts search) (certificates_of read) fit.0 is.search_is.certificates_are.certificates in
+        let profile = profile_of search.wide in
+        let others = search.target.octets.now ∷ octets_of_texts search.bag.now in
+        let certificates = were_read profile (octets_of_texts search.anchors.now) others (certificates_of read) fit.0
+        is.search_is.certificates_are.certificates in
         subst (λ (them : List (List ℕ)). AllInTexts (texts_at them (octets_of_texts statements)) asked) certificates.1
-        (places (octets_of_texts statements) certificates.0 (were_statements_read (octets_of_texts statements) these fit.1 is.statements_are))
+        (places (octets_of_texts statements) certificates.0 (were_statements_read profile (octets_of_texts statements) these fit.1 is.statements_are))
 
 -- ---- one search and its statements
 
@@ -123,7 +128,7 @@ was_written : (search : SearchOfTexts) (statements : List Text) (old new : List 
 was_written search statements old new asked (Ok count) writes is none =
     subst (AreWrittenAmong search statements old new) (sym (ap (λ (it : Asked). it.count) is)) writes
 was_written search statements old new asked (Err told) writes is none =
-    absurd (omega (arith, refusal_has_fault (search_texts search) statements told writes.0, ap (λ (it : Asked). it.refusal.fault) is, none))
+    absurd (omega (arith, refusal_has_fault (search_certificates search) statements told writes.0, ap (λ (it : Asked). it.refusal.fault) is, none))
 
 -- ---- the judge's answers
 
@@ -131,18 +136,30 @@ module _ (accepts : Accepts) (search : SearchOfTexts) (statements : List Text) (
   written : AreWrittenAmong are.about statements are.room are.questions are.asked.count
   written = was_written are.about statements are.room are.questions are.asked are.tells.0 are.tells.1 are.tells.2 are.no_fault
 
-  certificates_are : AreCertificates (search_texts search) (certificates_of written.read)
+  certificates_are : AreCertificates (search_certificates search) (certificates_of written.read)
   certificates_are = subst (λ texts. AreCertificates texts (certificates_of written.read)) are.same_certificates written.is_read.search_is.certificates_are.certificates
+
+  statements_are : AreStatementsReadUnder (profile_of search.wide) (octets_of_texts statements) written.these
+  statements_are =
+      subst (λ (texts : CertificateTexts). AreStatementsReadUnder texts.profile (octets_of_texts statements) written.these) are.same_certificates
+      written.is_read.statements_are
+
+  same_anchors : length are.about.anchors.now ≡ length search.anchors.now
+  same_anchors =
+      sym (length-map are.about.anchors.now (λ (text : Text). text.octets.now)) ∙ ap (λ (texts : CertificateTexts). length texts.anchors) are.same_certificates
+      ∙ length-map search.anchors.now (λ (text : Text). text.octets.now)
 
   good : (one : Judgement) → Contains written.asked one → Answers (answer accepts one) (judgement_print one) prints
   good =
       all_answered accepts (search_texts search) (octets_of_texts statements) prints written.asked are.room are.questions are.asked.count
-      (subst (λ texts. AreTold texts (octets_of_texts statements) written.asked are.room are.questions are.asked.count) are.same_certificates written.told) are.answered
+      (subst (λ texts. AreTold (numbered texts) (octets_of_texts statements) written.asked are.room are.questions are.asked.count) are.same_certificates
+      written.told) are.answered
 
   asked_of : (read : Search) → IsSearchRead search read → AreFindingQuestions read written.these written.asked
   asked_of read is =
-      let certificates = one_reading certificate (search_texts search) (certificates_of written.read) (certificates_of read) certificates_are is.certificates_are.certificates in
-      let count : length written.read.anchors ≡ length read.anchors = written.is_read.search_is.certificates_are.anchors ∙ are.same_anchors ∙ sym is.certificates_are.anchors in
+      let certificates = read_once (certificates_of written.read) (certificates_of read) (sym certificates_are ∙ is.certificates_are.certificates) in
+      let count : length written.read.anchors ≡ length read.anchors =
+      written.is_read.search_is.certificates_are.anchors ∙ same_anchors ∙ sym is.certificates_are.anchors in
       let parts = parted written.read.anchors read.anchors written.read.target read.target written.read.bag read.bag certificates count in
       let same : search_at read.moment read.purpose written.read ≡ read = λ k. record {
         anchors = parts.0 k;
@@ -156,7 +173,8 @@ module _ (accepts : Accepts) (search : SearchOfTexts) (statements : List Text) (
   asked_again : (read : Search) (these : List Statement) → IsSearchReadWith search statements read these → AreFindingQuestions read these written.asked
   asked_again read these is =
       subst (λ those. AreFindingQuestions read those written.asked)
-      (one_reading statement (octets_of_texts statements) written.these these written.is_read.statements_are is.statements_are) (asked_of read is.search_is)
+      (one_reading (statement_under (profile_of search.wide)) (octets_of_texts statements) written.these these statements_are is.statements_are)
+      (asked_of read is.search_is)
 
   by_judge : FindingPrintsDecide → (finding : Finding) → IsFindingOn search statements prints finding → IsFindingFor accepts search statements finding
   by_judge law finding on =
@@ -173,7 +191,7 @@ module _ (accepts : Accepts) (search : SearchOfTexts) (statements : List Text) (
   finding_of_judge law result old new (inr (told, behind)) =
       inr (
         behind.1 ∙ ap (λ (it : Refusal). without_path (refusal_answer it))
-            (only_memory (search_texts search) statements (certificates_of written.read) written.these certificates_are written.is_read.statements_are told behind.0),
+            (only_memory (search_certificates search) statements (certificates_of written.read) written.these certificates_are statements_are told behind.0),
         behind.2,
       )
 
@@ -191,6 +209,7 @@ module _ (accepts : Accepts) (search : SearchOfTexts) (statements : List Text) (
   why_not_of_judge law result old new (inr (told, behind)) =
       inr (
         behind.1 ∙ ap (λ (it : Refusal). without_end 5 0 it)
-            (only_memory (search_texts search) statements (certificates_of written.read) written.these certificates_are written.is_read.statements_are told (inl behind.0)),
+            (only_memory (search_certificates search) statements (certificates_of written.read) written.these certificates_are statements_are told
+            (inl behind.0)),
         behind.2,
       )

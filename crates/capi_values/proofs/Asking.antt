@@ -4,25 +4,31 @@ use Rattle.std.specs.List.{AllByRecursion}
 use Rattle.std.proofs.lemmas.List.{length-append, length-map, take-append-le, take_more, take_more_set, drop-set, take_min, drop_min, length-set, take-append-drop}
 use Rattle.asn.specs.DerLaws.{AreOctets}
 use Rattle.asn.specs.Part.{IsPartOf}
+use Rattle.asn.proofs.Laws.{bind_ok, ok_is}
 use Rattle.cert.specs.Certificate.{Certificate, certificate}
+use Rattle.cert.specs.declared.fault.CertRule.{CertRule}
 use Rattle.cert.proofs.Laws.{certificate_is_exact}
-use Rattle.statements.specs.OneIssuer.{WasRead}
-use Rattle.statements.specs.Statement.{Statement, statement}
+use Rattle.statements.specs.Statement.{Statement, statement_under}
+use Rattle.statements_facts.specs.declared.profile.Profile.{Profile}
+use Rattle.statements_facts.specs.declared.profile.Profile.TheVariants.{Stated, Wide}
 use Rattle.path.specs.Query.{Query}
-use Rattle.relying_questions.specs.Places.{AllInTexts, AreInTexts, Stands, WereRead, WereStatementsRead, certificate_octets, texts_at, texts_in}
+use Rattle.path_points.specs.InProfile.{certificate_under, certificate_with_points, pointed, with_points}
+use Rattle.relying_questions.specs.Places.{AllInTexts, AreInTexts, Stands, WasReadButForPoints}
+use Rattle.relying_questions.specs.Places.{WereRead, WereStatementsRead, certificate_octets, texts_at, texts_in}
 use Rattle.relying_questions.specs.Questions.{questions_of}
 use Rattle.relying_questions.specs.Seen.{seen_all, seen_question}
 use Rattle.relying_questions.specs.declared.part.TextPart as of_text
 use Rattle.relying_questions.specs.declared.part.WhichText.{WhichText}
 use Rattle.relying_questions.specs.declared.part.WhichText.TheVariants as source
 use Rattle.relying_questions.specs.declared.question.SignatureQuestion as asked
-use Rattle.relying_texts.specs.Reading.{AreStatementsRead}
+use Rattle.relying_texts.specs.Reading.{AreStatementsReadUnder}
 use Rattle.capi_values.specs.Parts.{IsPart}
 use Rattle.capi_values.specs.Questions.{AreTold, AreWritten, IsPlace, TellEach, TellsQuestion, place_of, question_of, text_index, text_number}
-use Rattle.capi_values.specs.Texts.{AreAllOctets, AreCertificates, IsRead, certificate_texts, octets_of_texts}
+use Rattle.capi_values.specs.Texts.{AreAllOctets, IsRead, all_read, certificate_texts, octets_of_texts, profile_of, readings_under}
 use Rattle.capi_values.specs.declared.questions.SignatureQuestion.{SignatureQuestion}
 use Rattle.capi_values.specs.declared.texts.QueryOfTexts as code
 use Rattle.capi_values.specs.declared.texts.Text.{Text}
+use Rattle.capi_values.proofs.Readings.{query_read}
 
 -- ---- parts of a text
 
@@ -90,28 +96,77 @@ tell_each certificates statements (one ∷ asked) all = (tells certificates stat
 
 -- ---- what was read from texts
 
--- certificates that were read from octets have these octets
-pub were_read : (texts : List (List ℕ)) (these : List Certificate) → AllByRecursion AreOctets texts → AreCertificates texts these → AllByRecursion WasRead these × (certificate_octets these ≡ texts)
-were_read [] [] octets each = (tt, refl)
-were_read [] (it ∷ these) octets each = absurd (omega (arith, ap length each))
-were_read (text ∷ texts) [] octets each = absurd (omega (arith, ap length each))
-were_read (text ∷ texts) (it ∷ these) octets each =
-    let read : certificate text ≡ Ok it = cc in
-    let others : AreCertificates texts these = cc in
-    let rest = were_read texts these octets.1 others in
-    let same : it.octets ≡ text = ap (λ (c : Certificate). c.octets) ((certificate_is_exact text it octets.0).0 read).layout.fields_are in (
-      (record { octets = text; are_octets = octets.0; reads = read }, rest.0),
-      ap (λ (octets : List ℕ). octets ∷ certificate_octets these) same ∙ ap (λ (others : List (List ℕ)). text ∷ others) rest.1,
+-- the certificate without its points
+abbrev bare : Certificate → Certificate
+bare c = record c { points = [] }
+
+abbrev IsOfText : List ℕ → Certificate → Type 0
+IsOfText text it = WasReadButForPoints it × (it.octets ≡ text)
+
+-- in the stated profile there are none
+is_of_text : (text : List ℕ) (read it : Certificate) → AreOctets text → certificate text ≡ Ok read → bare it ≡ bare read → IsOfText text it
+is_of_text text read it fits reads same =
+    let is = ((certificate_is_exact text read fits).0 reads).layout.fields_are in
+    let none : read.points ≡ [] = ap (λ (c : Certificate). c.points) is in
+    let whole : bare read ≡ read = ap (λ (points : List (List ℕ)). record read { points = points }) (sym none) in (
+      record { octets = text; are_octets = fits; reads = reads ∙ ap (λ (c : Certificate). Ok c) (sym (same ∙ whole)) },
+      ap (λ (c : Certificate). c.octets) same ∙ ap (λ (c : Certificate). c.octets) is,
     )
 
-pub were_statements_read : (texts : List (List ℕ)) (these : List Statement) → AllByRecursion AreOctets texts → AreStatementsRead texts these → WereStatementsRead texts these
-were_statements_read [] [] octets each = tt
-were_statements_read [] (it ∷ these) octets each = absurd (omega (arith, ap length each))
-were_statements_read (text ∷ texts) [] octets each = absurd (omega (arith, ap length each))
-were_statements_read (text ∷ texts) (it ∷ these) octets each =
-    let read : statement text ≡ Ok it = cc in
-    let others : AreStatementsRead texts these = cc in
-    (record { are_octets = octets.0; reads = read }, were_statements_read texts these octets.1 others)
+-- and in the wide one they alone are added
+wide_read : (text : List ℕ) (it : Certificate) → certificate_with_points text ≡ Ok it
+    → (read : Certificate) × (certificate text ≡ Ok read) × (bare it ≡ bare read)
+unfolding certificate_with_points with_points
+wide_read text it reads =
+    let first = bind_ok (certificate text) (λ read. with_points read) it reads in
+    let second = bind_ok _ (λ points. Ok (pointed first.0 points)) it first.2 in
+    (first.0, first.1, ap bare (sym (ok_is {E = CertRule × ℕ} (pointed first.0 second.0) it second.2)))
+
+read_from : (profile : Profile) (text : List ℕ) (it : Certificate) → AreOctets text → certificate_under profile text ≡ Ok it → IsOfText text it
+read_from Stated text it fits reads = is_of_text text it it fits reads refl
+read_from Wide text it fits reads =
+    let stated = wide_read text it reads in
+    is_of_text text stated.0 it fits stated.1 stated.2
+
+abbrev AreOfTexts : List (List ℕ) → List Certificate → Type 0
+AreOfTexts texts these = AllByRecursion WasReadButForPoints these × (certificate_octets these ≡ texts)
+
+one_more : (text : List ℕ) (it : Certificate) (texts : List (List ℕ)) (these : List Certificate) → IsOfText text it → AreOfTexts texts these
+    → AreOfTexts (text ∷ texts) (it ∷ these)
+one_more text it texts these first rest = (
+  (first.0, rest.0),
+  ap (λ (octets : List ℕ). octets ∷ certificate_octets these) first.1 ∙ ap (λ (others : List (List ℕ)). text ∷ others) rest.1,
+)
+
+read_in_order : (profile : Profile) (texts : List (List ℕ)) (these : List Certificate) → AllByRecursion AreOctets texts
+    → readings_under profile texts ≡ all_read these → AreOfTexts texts these
+read_in_order profile [] [] fits each = (tt, refl)
+read_in_order profile [] (it ∷ these) fits each = absurd (omega (arith, ap length each))
+read_in_order profile (text ∷ texts) [] fits each = absurd (omega (arith, ap length each))
+read_in_order profile (text ∷ texts) (it ∷ these) fits each =
+    let read : certificate_under profile text ≡ Ok it = cc in
+    let others : readings_under profile texts ≡ all_read these = cc in
+    one_more text it texts these (read_from profile text it fits.0 read) (read_in_order profile texts these fits.1 others)
+
+-- certificates that were read from octets have these octets
+pub were_read : (profile : Profile) (anchors others : List (List ℕ)) (these : List Certificate) → AllByRecursion AreOctets (anchors ++ others)
+    → readings_under Stated anchors ++ readings_under profile others ≡ all_read these → AreOfTexts (anchors ++ others) these
+were_read profile [] others these fits each = read_in_order profile others these fits each
+were_read profile (text ∷ anchors) others [] fits each = absurd (omega (arith, ap length each))
+were_read profile (text ∷ anchors) others (it ∷ these) fits each =
+    let read : certificate_under Stated text ≡ Ok it = cc in
+    let rest : readings_under Stated anchors ++ readings_under profile others ≡ all_read these = cc in
+    one_more text it (anchors ++ others) these (read_from Stated text it fits.0 read) (were_read profile anchors others these fits.1 rest)
+
+pub were_statements_read : (profile : Profile) (texts : List (List ℕ)) (these : List Statement) → AllByRecursion AreOctets texts
+    → AreStatementsReadUnder profile texts these → WereStatementsRead texts these
+were_statements_read profile [] [] octets each = tt
+were_statements_read profile [] (it ∷ these) octets each = absurd (omega (arith, ap length each))
+were_statements_read profile (text ∷ texts) [] octets each = absurd (omega (arith, ap length each))
+were_statements_read profile (text ∷ texts) (it ∷ these) octets each =
+    let read : statement_under profile text ≡ Ok it = cc in
+    let others : AreStatementsReadUnder profile texts these = cc in
+    (record { profile = profile; are_octets = octets.0; reads = read }, were_statements_read profile texts these octets.1 others)
 
 -- ---- an array that is written from the first on
 
@@ -183,10 +238,14 @@ are_written query statements read these asked old new count fit is are places wr
   told = are_told (certificate_texts query) (octets_of_texts statements) asked old new count stand written count_is;
 }
   where
-    certificates : AllByRecursion WasRead (read.anchor ∷ read.certificates) × (certificate_octets (read.anchor ∷ read.certificates) ≡ certificate_texts query)
-    certificates = were_read (certificate_texts query) (read.anchor ∷ read.certificates) fit.0 is.query_is.certificates
+    profile : Profile
+    profile = profile_of query.wide
+
+    certificates : AreOfTexts (certificate_texts query) (read.anchor ∷ read.certificates)
+    certificates = were_read profile (query.anchor.octets.now ∷ []) (octets_of_texts query.path.now) (read.anchor ∷ read.certificates) fit.0
+        (query_read query read is.query_is)
 
     stand : AllInTexts (texts_at (certificate_texts query) (octets_of_texts statements)) asked
     stand =
         subst (λ (them : List (List ℕ)). AllInTexts (texts_at them (octets_of_texts statements)) asked) certificates.1
-        (places (octets_of_texts statements) certificates.0 (were_statements_read (octets_of_texts statements) these fit.1 is.statements_are))
+        (places (octets_of_texts statements) certificates.0 (were_statements_read profile (octets_of_texts statements) these fit.1 is.statements_are))

@@ -9,7 +9,7 @@ use Rattle.capi_values.specs.Texts.{AreAllOctets, octets_of_texts}
 use Rattle.capi_values.specs.declared.texts.Text.{Text}
 
 -- the next of those that are left
-next_left : {A : Type 0} (xs : List A) (i : ℕ) (d : A) → i < length xs → drop i xs ≡ get_or xs i d ∷ drop (i + 1) xs
+pub next_left : {A : Type 0} (xs : List A) (i : ℕ) (d : A) → i < length xs → drop i xs ≡ get_or xs i d ∷ drop (i + 1) xs
 next_left xs i d below =
     let later : suc i ≡ i + 1 = omega arith in
     drop-cons xs i d below ∙ ap (λ n. get_or xs i d ∷ drop n xs) later

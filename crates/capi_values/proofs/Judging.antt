@@ -3,7 +3,7 @@ use Rattle.std.proofs.Common.{◌≡◌, ◌<◌, ◌↔◌, ◌+◌, ℕ, List,
 use Rattle.std.specs.Prelude.{Bool, Contains, IsTrue, slice_index_or, slice_range}
 use Rattle.std.specs.List.{All, AllByRecursion}
 use Rattle.std.proofs.lemmas.List.Elements.{All-contains, All-from_recursion, recursion_from_All}
-use Rattle.cert.specs.Certificate.{Certificate, certificate}
+use Rattle.cert.specs.Certificate.{Certificate}
 use Rattle.cert.specs.Fault.{cert_rule_number}
 use Rattle.cert.specs.declared.fault.CertRule.{CertRule}
 use Rattle.cert.specs.declared.fault.CertRule.TheVariants as cert_rule
@@ -15,8 +15,8 @@ use Rattle.relying_agreement.specs.declared.verdict.Verdict.{Verdict}
 use Rattle.relying_questions.specs.Agreement.{PrintsDecide}
 use Rattle.relying_questions.specs.Questions.{Judgement, answer, questions_of}
 use Rattle.relying_questions.specs.Seen.{judgement_print}
-use Rattle.relying_texts.specs.Reading.{AreStatementsRead}
-use Rattle.statements.specs.Statement.{Statement, statement}
+use Rattle.relying_texts.specs.Reading.{AreStatementsReadUnder}
+use Rattle.statements.specs.Statement.{Statement, statement_under}
 use Rattle.statements_parts.specs.Fault.{statement_rule_number}
 use Rattle.statements_parts.specs.declared.fault.StatementRule.{StatementRule}
 use Rattle.statements_parts.specs.declared.fault.StatementRule.TheVariants as rule
@@ -24,7 +24,8 @@ use Rattle.capi_values.specs.Judging.{AreAnswered, AreJudged, TellsVerdictFor, j
 use Rattle.capi_values.specs.Parts.{IsPart}
 use Rattle.capi_values.specs.Questions.{AreTold, AreWritten, IsPlace, IsText, TellEach, TellsQuestion, WritesQuestions, asked_answer}
 use Rattle.capi_values.specs.Refusal.{TellsRefusal, no_memory}
-use Rattle.capi_values.specs.Texts.{AreCertificates, IsAt, IsRead, certificate_texts, octets_of_texts}
+use Rattle.capi_values.specs.Texts.{AreCertificates, CertificateTexts, IsAt, IsRead}
+use Rattle.capi_values.specs.Texts.{certificate_texts, numbered, octets_of_texts, profile_of, query_certificates}
 use Rattle.capi_values.specs.Verdict.{IsVerdictFor, IsVerdictOn, TellsAnswer, refusal_answer}
 use Rattle.capi_values.specs.declared.answer.VerdictAnswer.{VerdictAnswer}
 use Rattle.capi_values.specs.declared.questions.Asked.{Asked}
@@ -33,7 +34,7 @@ use Rattle.capi_values.specs.declared.questions.SignatureQuestion.{SignatureQues
 use Rattle.capi_values.specs.declared.refusal.Refusal.{Refusal}
 use Rattle.capi_values.specs.declared.texts.QueryOfTexts.{QueryOfTexts}
 use Rattle.capi_values.specs.declared.texts.Text.{Text}
-use Rattle.capi_values.proofs.Readings.{all_written, none_refused, one_reading}
+use Rattle.capi_values.proofs.Readings.{all_written, none_is_refused, none_refused, one_reading, query_read, read_once}
 
 -- ---- no fault has the number 0
 
@@ -52,20 +53,23 @@ some_statement one = omega arith
 number_of : {told other : Refusal} → told ≡ other → told.fault ≡ other.fault
 number_of same = ap (λ (it : Refusal). it.fault) same
 
-pub refusal_has_fault : (certificates : List (List ℕ)) (statements : List Text) (told : Refusal) → TellsRefusal certificates statements told → 0 < told.fault
+pub refusal_has_fault : (certificates : CertificateTexts) (statements : List Text) (told : Refusal) → TellsRefusal certificates statements told → 0 < told.fault
 refusal_has_fault certificates statements told (inl (inl (one, first, is))) = omega (arith, number_of is, some_cert one)
 refusal_has_fault certificates statements told (inl (inr is)) = omega (arith, number_of is)
 refusal_has_fault certificates statements told (inr (these, are, inl (one, first, is))) = omega (arith, number_of is, some_statement one)
 refusal_has_fault certificates statements told (inr (these, are, inr is)) = omega (arith, number_of is)
 
 -- what was read once is not refused
-pub only_memory : (certificates : List (List ℕ)) (statements : List Text) (read : List Certificate) (these : List Statement) → AreCertificates certificates read → AreStatementsRead (octets_of_texts statements) these
+pub only_memory : (certificates : CertificateTexts) (statements : List Text) (read : List Certificate) (these : List Statement)
+    → AreCertificates certificates read
+    → AreStatementsReadUnder certificates.profile (octets_of_texts statements) these
     → (told : Refusal) → TellsRefusal certificates statements told → told ≡ no_memory
 only_memory certificates statements read these are said told (inl (inl (one, first, is))) =
-    absurd (none_refused certificate certificates read [] told.index (one, told.offset) are first.within first.refused)
+    absurd (none_is_refused read first.before first.refused first.behind (one, told.offset) (sym are ∙ first.all_are) first.fault_is)
 only_memory certificates statements read these are said told (inl (inr is)) = is
 only_memory certificates statements read these are said told (inr (others, were, inl (one, first, is))) =
-    absurd (none_refused statement (octets_of_texts statements) these [] told.index (one, told.offset) said first.within first.refused)
+    absurd (none_refused (statement_under certificates.profile) (octets_of_texts statements) these [] told.index (one, told.offset) said first.within
+    first.refused)
 only_memory certificates statements read these are said told (inr (others, were, inr is)) = is
 
 -- ---- what was asked
@@ -76,7 +80,7 @@ was_written : (query : QueryOfTexts) (statements : List Text) (old new : List Si
 was_written query statements old new asked (Ok count) writes is none =
     subst (AreWritten query statements old new) (sym (ap (λ (it : Asked). it.count) is)) writes
 was_written query statements old new asked (Err told) writes is none =
-    absurd (omega (arith, refusal_has_fault (certificate_texts query) statements told writes.0, ap (λ (it : Asked). it.refusal.fault) is, none))
+    absurd (omega (arith, refusal_has_fault (query_certificates query) statements told writes.0, ap (λ (it : Asked). it.refusal.fault) is, none))
 
 -- ---- the octets at a place
 
@@ -154,25 +158,34 @@ module _ (accepts : Accepts) (query : QueryOfTexts) (statements : List Text) (pr
   pub written : AreWritten are.about statements are.room are.questions are.asked.count
   written = was_written are.about statements are.room are.questions are.asked are.tells.0 are.tells.1 are.tells.2 are.no_fault
 
-  certificates_are : AreCertificates (certificate_texts query) (written.read.anchor ∷ written.read.certificates)
-  certificates_are = subst (λ texts. AreCertificates texts (written.read.anchor ∷ written.read.certificates)) are.same_certificates written.is_read.query_is.certificates
+  certificates_are : AreCertificates (query_certificates query) (written.read.anchor ∷ written.read.certificates)
+  certificates_are =
+      subst (λ texts. AreCertificates texts (written.read.anchor ∷ written.read.certificates)) are.same_certificates
+      (query_read are.about written.read written.is_read.query_is)
+
+  statements_are : AreStatementsReadUnder (profile_of query.wide) (octets_of_texts statements) written.these
+  statements_are =
+      subst (λ (texts : CertificateTexts). AreStatementsReadUnder texts.profile (octets_of_texts statements) written.these) are.same_certificates
+      written.is_read.statements_are
 
   pub good : (one : Judgement) → Contains written.asked one → Answers (answer accepts one) (judgement_print one) prints
   good =
       all_answered accepts (certificate_texts query) (octets_of_texts statements) prints written.asked are.room are.questions are.asked.count
-      (subst (λ texts. AreTold texts (octets_of_texts statements) written.asked are.room are.questions are.asked.count) are.same_certificates written.told) are.answered
+      (subst (λ texts. AreTold (numbered texts) (octets_of_texts statements) written.asked are.room are.questions are.asked.count) are.same_certificates
+      written.told) are.answered
 
   pub read_again : (read : Query) (these : List Statement) → IsRead query statements read these → written.asked ≡ questions_of read these
   read_again read these is =
       written.may_be_asked read.moment read.purpose
       ∙ same_questions written.read read written.these these
-      (one_reading certificate (certificate_texts query) (written.read.anchor ∷ written.read.certificates) (read.anchor ∷ read.certificates) certificates_are is.query_is.certificates)
-      (one_reading statement (octets_of_texts statements) written.these these written.is_read.statements_are is.statements_are)
+      (read_once (written.read.anchor ∷ written.read.certificates) (read.anchor ∷ read.certificates) (sym certificates_are ∙ query_read query read is.query_is))
+      (one_reading (statement_under (profile_of query.wide)) (octets_of_texts statements) written.these these statements_are is.statements_are)
 
   -- what was asked about was read, so only memory can be refused
-  pub only_refused : (told : Refusal) → TellsRefusal (certificate_texts query) statements told → told ≡ no_memory
+  pub only_refused : (told : Refusal) → TellsRefusal (query_certificates query) statements told → told ≡ no_memory
   only_refused told refused =
-      only_memory (certificate_texts query) statements (written.read.anchor ∷ written.read.certificates) written.these certificates_are written.is_read.statements_are told refused
+      only_memory (query_certificates query) statements (written.read.anchor ∷ written.read.certificates) written.these certificates_are statements_are told
+      refused
 
   by_judge : PrintsDecide → (verdict : Verdict) → IsVerdictOn query statements prints verdict → IsVerdictFor accepts query statements verdict
   by_judge law verdict on =

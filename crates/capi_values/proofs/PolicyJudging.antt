@@ -1,5 +1,5 @@
 -- A judge's answers to the questions about a path give his verdict on the path and its policies.
-use Rattle.std.proofs.Common.{◌≡◌, ◌⊎◌, ◌++◌, ℕ, suc, List, [], ◌∷◌, map, refl, sym, ap, ◌∙◌, subst, inl, inr}
+use Rattle.std.proofs.Common.{◌≡◌, ◌++◌, ℕ, suc, List, [], ◌∷◌, map, refl, sym, ap, ◌∙◌, subst, inl, inr}
 use Rattle.std.specs.Prelude.{Contains}
 use Rattle.std.specs.List.{flat_map}
 use Rattle.cert.specs.Certificate.{Certificate}
@@ -17,10 +17,9 @@ use Rattle.statements_ocsp.specs.Certificates.{certificates_in}
 use Rattle.statements_ocsp.specs.OcspResponse.{OcspResponse}
 use Rattle.statements_ocsp.specs.Responder.{Responder, by_name, by_key}
 use Rattle.capi_values.specs.Judging.{AreJudged}
-use Rattle.capi_values.specs.Policies.{IsPolicyVerdictFor, IsRefusedAnswer, TellsBadPolicies, TellsPoliciesFor, TellsPolicyRefusal, TellsWithPolicies}
+use Rattle.capi_values.specs.Policies.{IsPolicyVerdictFor, IsRefusedAnswer, TellsPoliciesFor, TellsPolicyRefusal, TellsWithPolicies}
 use Rattle.capi_values.specs.PolicyCase.{IsSaidOn}
-use Rattle.capi_values.specs.Refusal.{TellsRefusal, no_memory}
-use Rattle.capi_values.specs.Texts.{IsRead, certificate_texts}
+use Rattle.capi_values.specs.Texts.{IsRead}
 use Rattle.capi_values.specs.declared.policies.PolicyAnswer.{PolicyAnswer}
 use Rattle.capi_values.specs.declared.policies.PolicyInputsOfTexts.{PolicyInputsOfTexts}
 use Rattle.capi_values.specs.declared.refusal.Refusal.{Refusal}

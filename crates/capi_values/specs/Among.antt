@@ -10,7 +10,7 @@ use Rattle.capi_values.specs.Finding.{IsFindingFor, TellsFinding, without_path}
 use Rattle.capi_values.specs.Judging.{AreAnswered}
 use Rattle.capi_values.specs.Questions.{AreTold, asked_answer}
 use Rattle.capi_values.specs.Refusal.{TellsRefusal, no_memory}
-use Rattle.capi_values.specs.Searching.{IsSearchReadWith, search_texts}
+use Rattle.capi_values.specs.Searching.{IsSearchReadWith, search_certificates, search_texts}
 use Rattle.capi_values.specs.Texts.{octets_of_texts}
 use Rattle.capi_values.specs.Verdict.{refusal_answer}
 use Rattle.capi_values.specs.declared.finding.FindingAnswer.{FindingAnswer}
@@ -47,7 +47,7 @@ pub record AreWrittenAmong (search : SearchOfTexts) (statements : List Text) (ol
 -- these, or what is refused; nothing is written then
 abbrev pub WritesSearchQuestions : SearchOfTexts → List Text → List SignatureQuestion → List SignatureQuestion → Result ℕ Refusal → Type 0
 WritesSearchQuestions search statements old new (Ok count) = AreWrittenAmong search statements old new count
-WritesSearchQuestions search statements old new (Err told) = TellsRefusal (search_texts search) statements told × (new ≡ old)
+WritesSearchQuestions search statements old new (Err told) = TellsRefusal (search_certificates search) statements told × (new ≡ old)
 
 abbrev pub TellsSearchQuestions : SearchOfTexts → List Text → List SignatureQuestion → List SignatureQuestion → Asked → Type 0
 TellsSearchQuestions search statements old new answer =
@@ -55,12 +55,11 @@ TellsSearchQuestions search statements old new answer =
 
 -- ---- ask, judge, find
 
--- The questions about these certificates, of which as many are anchors, and about these statements were asked, at whatever moment and for
--- whatever purpose, with room for all of them; and the judge answers by yes just those whose fingerprints are among these.
+-- The questions about these certificates, with the same anchors, and about these statements were asked in this profile, at whatever moment
+-- and for whatever purpose, with room for all of them; and the judge answers by yes just those whose fingerprints are among these.
 pub record AreSearchJudged (accepts : Accepts) (search : SearchOfTexts) (statements : List Text) (prints : List (List ℕ)) : Type 0 where
   pub about : SearchOfTexts
-  pub same_certificates : search_texts about ≡ search_texts search
-  pub same_anchors : length about.anchors.now ≡ length search.anchors.now
+  pub same_certificates : search_certificates about ≡ search_certificates search
   pub room : List SignatureQuestion
   pub questions : List SignatureQuestion
   pub asked : Asked

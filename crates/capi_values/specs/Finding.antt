@@ -9,7 +9,7 @@ use Rattle.relying_questions.specs.Agreement.{AcceptsPrints}
 use Rattle.relying_texts.specs.Texts.{held_for}
 use Rattle.capi_values.specs.Arrays.{AreWrittenTo}
 use Rattle.capi_values.specs.Refusal.{TellsRefusal}
-use Rattle.capi_values.specs.Searching.{IsSearchReadWith, budget_of, search_texts}
+use Rattle.capi_values.specs.Searching.{IsSearchReadWith, budget_of, search_certificates}
 use Rattle.capi_values.specs.Verdict.{TellsVerdict, refusal_answer, verdict_numbers}
 use Rattle.capi_values.specs.declared.answer.VerdictAnswer.{VerdictAnswer}
 use Rattle.capi_values.specs.declared.finding.FindingAnswer.{FindingAnswer}
@@ -57,7 +57,7 @@ pub record IsFindingOn (search : SearchOfTexts) (statements : List Text) (prints
 -- a text is refused; then there is no path
 abbrev pub TellsSearchRefusal : SearchOfTexts → List Text → FindingAnswer → List ℕ → List ℕ → Refusal → Type 0
 TellsSearchRefusal search statements answer old new told =
-    TellsRefusal (search_texts search) statements told × (answer ≡ without_path (refusal_answer told)) × (new ≡ old)
+    TellsRefusal (search_certificates search) statements told × (answer ≡ without_path (refusal_answer told)) × (new ≡ old)
 
 -- the answer tells what is found
 abbrev pub TellsFound : SearchOfTexts → List Text → List (List ℕ) → List ℕ → List ℕ → FindingAnswer → Type 0

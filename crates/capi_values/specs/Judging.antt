@@ -6,7 +6,7 @@ use Rattle.path.specs.Query.{Accepts}
 use Rattle.relying_agreement.specs.declared.verdict.Verdict.{Verdict}
 use Rattle.capi_values.specs.Questions.{TellsQuestions}
 use Rattle.capi_values.specs.Refusal.{no_memory}
-use Rattle.capi_values.specs.Texts.{certificate_texts, octets_of_texts}
+use Rattle.capi_values.specs.Texts.{certificate_texts, octets_of_texts, query_certificates}
 use Rattle.capi_values.specs.Verdict.{IsVerdictFor, TellsVerdict, refusal_answer}
 use Rattle.capi_values.specs.declared.answer.VerdictAnswer.{VerdictAnswer}
 use Rattle.capi_values.specs.declared.questions.Asked.{Asked}
@@ -35,11 +35,11 @@ pub record AreAnswered (accepts : Accepts) (certificates statements : List (List
   pub have_room : count ≤ length room
   pub answers : All (λ question. IsTrue (judged accepts certificates statements question) ↔ Contains prints question.fingerprint) (take count questions)
 
--- The questions about these certificates and statements were asked, at whatever moment and for whatever purpose, with room for all of them;
--- and the judge answers by yes just those whose fingerprints are among these.
+-- The questions about these certificates and statements were asked in this profile, at whatever moment and for whatever purpose, with room
+-- for all of them; and the judge answers by yes just those whose fingerprints are among these.
 pub record AreJudged (accepts : Accepts) (query : QueryOfTexts) (statements : List Text) (prints : List (List ℕ)) : Type 0 where
   pub about : QueryOfTexts
-  pub same_certificates : certificate_texts about ≡ certificate_texts query
+  pub same_certificates : query_certificates about ≡ query_certificates query
   pub room : List SignatureQuestion
   pub questions : List SignatureQuestion
   pub asked : Asked

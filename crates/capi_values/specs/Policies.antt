@@ -8,13 +8,13 @@ use Rattle.path_with_policies.specs.WithPolicies.{QueryWithPolicies}
 use Rattle.path_with_policies.specs.Asking.{IsFirstMalformed, IsOf}
 use Rattle.statements.specs.Statement.{Statement}
 use Rattle.cert.specs.Certificate.{Certificate}
-use Rattle.relying_texts.specs.Reading.{AreStatementsRead}
+use Rattle.relying_texts.specs.Reading.{AreStatementsReadUnder}
 use Rattle.relying_questions.specs.Agreement.{AcceptsPrints}
 use Rattle.relying_policies.specs.WithPolicies.{IsVerdictWithPoliciesByStatements}
 use Rattle.relying_policies.specs.declared.verdict.VerdictWithPolicies.{VerdictWithPolicies}
 use Rattle.capi_values.specs.Arrays.{AreWrittenTo}
 use Rattle.capi_values.specs.Refusal.{TellsCertFault, TellsRefusal, no_memory}
-use Rattle.capi_values.specs.Texts.{AreCertificates, IsQueryRead, certificate_texts, octets_of_texts}
+use Rattle.capi_values.specs.Texts.{AreCertificates, CertificateTexts, IsQueryRead, octets_of_texts, profile_of, query_certificates}
 use Rattle.capi_values.specs.Verdict.{TellsVerdict, refusal_answer}
 use Rattle.capi_values.specs.declared.answer.VerdictAnswer.{VerdictAnswer}
 use Rattle.capi_values.specs.declared.policies.PolicyAnswer.{PolicyAnswer}
@@ -43,7 +43,7 @@ pub record IsPolicyQueryRead (query : QueryOfTexts) (inputs : PolicyInputsOfText
 -- and these are the statements
 pub record IsPolicyCaseRead (query : QueryOfTexts) (inputs : PolicyInputsOfTexts) (statements : List Text) (read : QueryWithPolicies) (these : List Statement) : Type 0 where
   pub query_is : IsPolicyQueryRead query inputs read
-  pub statements_are : AreStatementsRead (octets_of_texts statements) these
+  pub statements_are : AreStatementsReadUnder (profile_of query.wide) (octets_of_texts statements) these
 
 -- ---- what is answered
 
@@ -91,7 +91,7 @@ pub record IsPolicyVerdictOn (query : QueryOfTexts) (inputs : PolicyInputsOfText
   pub is_verdict : IsPolicyVerdictFor accepts query inputs statements said
 
 -- the certificates are such, and the extensions about policies of one below the anchor are malformed, the first one; or memory ran out
-pub record TellsBadPolicies (certificates : List (List ℕ)) (told : Refusal) : Type 0 where
+pub record TellsBadPolicies (certificates : CertificateTexts) (told : Refusal) : Type 0 where
   pub anchor : Certificate
   pub path : List Certificate
   pub are_read : AreCertificates certificates (anchor ∷ path)
@@ -102,8 +102,8 @@ pub record TellsBadPolicies (certificates : List (List ℕ)) (told : Refusal) : 
 -- a text is refused: a certificate, else a statement, else what a certificate says of policies; or memory ran out
 abbrev pub TellsPolicyRefusal : QueryOfTexts → List Text → Refusal → Type 0
 TellsPolicyRefusal query statements told =
-    TellsRefusal (certificate_texts query) statements told
-    ⊎ (TellsBadPolicies (certificate_texts query) told ⊎ (told ≡ no_memory))
+    TellsRefusal (query_certificates query) statements told
+    ⊎ (TellsBadPolicies (query_certificates query) told ⊎ (told ≡ no_memory))
 
 -- the answer tells what is refused, and nothing is written
 pub record IsRefusedAnswer (told : Refusal) (answer : PolicyAnswer) (old_lengths new_lengths old_octets new_octets : List ℕ) : Type 0 where
@@ -124,5 +124,5 @@ abbrev pub TellsPoliciesFor : PolicyAnswer → Accepts → QueryOfTexts → Poli
 TellsPoliciesFor answer accepts query inputs statements old_lengths new_lengths old_octets new_octets =
     ((said : VerdictWithPolicies) × IsPolicyVerdictFor accepts query inputs statements said
     × TellsWithPolicies said old_lengths new_lengths old_octets new_octets answer)
-    ⊎ ((told : Refusal) × (TellsBadPolicies (certificate_texts query) told ⊎ (told ≡ no_memory))
+    ⊎ ((told : Refusal) × (TellsBadPolicies (query_certificates query) told ⊎ (told ≡ no_memory))
     × IsRefusedAnswer told answer old_lengths new_lengths old_octets new_octets)

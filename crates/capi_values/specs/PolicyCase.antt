@@ -2,7 +2,6 @@
 use Rattle.std.specs.Prelude.{◌≡◌, List, ℕ}
 use Rattle.asn.specs.declared.oid.Oid.{Oid}
 use Rattle.path.specs.Query.{Query, Accepts}
-use Rattle.path_policies.specs.Seen.{contents_of}
 use Rattle.path_with_policies.specs.Asking.{HasInputs, IsOf}
 use Rattle.path_with_policies.specs.WithPolicies.{QueryWithPolicies}
 use Rattle.path_with_policies.specs.declared.query.PolicyInputs.{PolicyInputs}
@@ -11,10 +10,10 @@ use Rattle.relying_agreement.specs.declared.verdict.Verdict.{Verdict}
 use Rattle.relying_policies.specs.WithPolicies.{AddsPolicies}
 use Rattle.relying_policies.specs.declared.verdict.VerdictWithPolicies.{VerdictWithPolicies}
 use Rattle.relying_questions.specs.Agreement.{AcceptsPrints}
-use Rattle.relying_texts.specs.Reading.{AreStatementsRead}
+use Rattle.relying_texts.specs.Reading.{AreStatementsReadUnder}
 use Rattle.relying_texts.specs.Texts.{IsVerdictByStatements}
 use Rattle.capi_values.specs.Policies.{IsPolicyCaseRead, is_asked}
-use Rattle.capi_values.specs.Texts.{IsQueryRead, octets_of_texts}
+use Rattle.capi_values.specs.Texts.{IsQueryRead, octets_of_texts, profile_of}
 use Rattle.capi_values.specs.declared.policies.PolicyInputsOfTexts.{PolicyInputsOfTexts}
 use Rattle.capi_values.specs.declared.texts.QueryOfTexts.{QueryOfTexts}
 use Rattle.capi_values.specs.declared.texts.Text.{Text}
@@ -32,7 +31,7 @@ pub record IsCaseOf (query : QueryOfTexts) (statements : List Text) (inputs : Po
   pub path_is : IsQueryRead query path
   pub is_of : IsOf path read
   pub inputs_are : HasInputs inputs read.policies
-  pub statements_are : AreStatementsRead (octets_of_texts statements) these
+  pub statements_are : AreStatementsReadUnder (profile_of query.wide) (octets_of_texts statements) these
 
 -- the verdict on the path of who accepts exactly the signatures that have these fingerprints, and its policies
 pub record IsSaidBy (prints : List (List ℕ)) (read : QueryWithPolicies) (these : List Statement) (said : VerdictWithPolicies) : Type 0 where

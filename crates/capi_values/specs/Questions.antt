@@ -11,7 +11,7 @@ use Rattle.relying_questions.specs.declared.question.SignatureQuestion as asked
 use Rattle.capi_values.specs.Arrays.{AreWrittenTo}
 use Rattle.capi_values.specs.Parts.{IsPart}
 use Rattle.capi_values.specs.Refusal.{TellsRefusal, no_refusal}
-use Rattle.capi_values.specs.Texts.{IsAt, IsRead, certificate_texts, octets_of_texts}
+use Rattle.capi_values.specs.Texts.{IsAt, IsRead, certificate_texts, octets_of_texts, query_certificates}
 use Rattle.capi_values.specs.declared.refusal.Refusal.{Refusal}
 use Rattle.capi_values.specs.declared.texts.QueryOfTexts.{QueryOfTexts}
 use Rattle.capi_values.specs.declared.texts.Text.{Text}
@@ -72,7 +72,7 @@ pub record AreWritten (query : QueryOfTexts) (statements : List Text) (old new :
 -- The questions about what the texts hold, or what is refused; nothing is written then.
 abbrev pub WritesQuestions : QueryOfTexts → List Text → List SignatureQuestion → List SignatureQuestion → Result ℕ Refusal → Type 0
 WritesQuestions query statements old new (Ok count) = AreWritten query statements old new count
-WritesQuestions query statements old new (Err told) = TellsRefusal (certificate_texts query) statements told × (new ≡ old)
+WritesQuestions query statements old new (Err told) = TellsRefusal (query_certificates query) statements told × (new ≡ old)
 
 abbrev pub asked_answer : Result ℕ Refusal → Asked
 asked_answer (Ok count) = record { refusal = no_refusal; count = count }

@@ -1,22 +1,22 @@
 -- Which certificate or statement is refused, and why, as numbers.
-use Rattle.std.specs.Prelude.{◌≡◌, ◌⊎◌, ℕ, List}
+use Rattle.std.specs.Prelude.{◌≡◌, ◌⊎◌, ◌++◌, ◌∷◌, ℕ, List, length}
 use Rattle.der.specs.Fault.{rule_number as der_rule_number}
 use Rattle.cert.specs.Certificate.{Certificate}
-use Rattle.cert.specs.Fault.{cert_rule_number}
+use Rattle.cert.specs.Fault.{FailsUnlessFull, cert_rule_number}
 use Rattle.cert.specs.declared.fault.CertFault.{CertFault}
 use Rattle.cert.specs.declared.fault.CertFault.TheVariants as cert
 use Rattle.cert.specs.declared.fault.CertRule.{CertRule}
 use Rattle.cert.specs.declared.fault.CertRule.TheVariants as cert_rule
-use Rattle.path.specs.Reading.{IsFirstRefused}
 use Rattle.path.specs.declared.query.QueryFault.{QueryFault}
+use Rattle.statements_facts.specs.declared.profile.Profile.{Profile}
 use Rattle.statements_parts.specs.Fault.{statement_rule_number}
 use Rattle.statements_parts.specs.declared.fault.ReadingFault.{ReadingFault}
 use Rattle.statements_parts.specs.declared.fault.ReadingFault.TheVariants as reading
 use Rattle.statements_parts.specs.declared.fault.StatementRule.{StatementRule}
 use Rattle.statements_parts.specs.declared.fault.StatementRule.TheVariants.{Der}
-use Rattle.relying_texts.specs.Reading.{IsFirstStatementRefused}
+use Rattle.relying_texts.specs.Reading.{IsFirstStatementRefusedUnder}
 use Rattle.relying_texts.specs.declared.reading.StatementsFault.{StatementsFault}
-use Rattle.capi_values.specs.Texts.{AreCertificates, octets_of_texts}
+use Rattle.capi_values.specs.Texts.{AreCertificates, CertificateTexts, Reading, all_read, octets_of_texts, readings}
 use Rattle.capi_values.specs.declared.refusal.Refusal.{Refusal}
 use Rattle.capi_values.specs.declared.texts.Text.{Text}
 
@@ -54,25 +54,38 @@ statement_refused rule index offset = refused 2 (statement_rule_number rule) (de
 
 -- ---- of what was handed in
 
+-- The reading with the number is the first that is refused, and this is its fault; or memory ran out there. Those before it are certificates.
+pub record IsFirstRefused (all : List Reading) (j : ℕ) (fault : CertFault) : Type 0 where
+  pub before : List Certificate
+  pub refused : Reading
+  pub behind : List Reading
+  pub all_are : all ≡ all_read before ++ refused ∷ behind
+  pub number_is : j ≡ length before
+  pub fault_is : FailsUnlessFull fault refused
+
 -- a certificate is none, and those before it are; or memory ran out
-abbrev pub TellsBadCertificate : List (List ℕ) → Refusal → Type 0
-TellsBadCertificate certificates told =
-    ((rule : CertRule) × IsFirstRefused certificates told.index (cert.Refused rule told.offset)
+abbrev pub TellsRefusedOf : List Reading → Refusal → Type 0
+TellsRefusedOf all told =
+    ((rule : CertRule) × IsFirstRefused all told.index (cert.Refused rule told.offset)
     × (told ≡ certificate_refused rule told.index told.offset))
     ⊎ (told ≡ no_memory)
 
--- the same of a statement
-abbrev pub TellsStatement : List Text → Refusal → Type 0
-TellsStatement statements told =
-    ((rule : StatementRule) × IsFirstStatementRefused (octets_of_texts statements) told.index (reading.Refused rule told.offset)
+abbrev pub TellsBadCertificate : CertificateTexts → Refusal → Type 0
+TellsBadCertificate certificates told = TellsRefusedOf (readings certificates) told
+
+-- the same of a statement, in a profile
+abbrev pub TellsStatement : Profile → List Text → Refusal → Type 0
+TellsStatement profile statements told =
+    ((rule : StatementRule)
+    × IsFirstStatementRefusedUnder profile (octets_of_texts statements) told.index (reading.Refused rule told.offset)
     × (told ≡ statement_refused rule told.index told.offset))
     ⊎ (told ≡ no_memory)
 
--- the certificates are looked at first, and then the statements
-abbrev pub TellsRefusal : List (List ℕ) → List Text → Refusal → Type 0
+-- The certificates are looked at first, and then the statements, in the same profile.
+abbrev pub TellsRefusal : CertificateTexts → List Text → Refusal → Type 0
 TellsRefusal certificates statements told =
     TellsBadCertificate certificates told
-    ⊎ ((these : List Certificate) × AreCertificates certificates these × TellsStatement statements told)
+    ⊎ ((these : List Certificate) × AreCertificates certificates these × TellsStatement certificates.profile statements told)
 
 -- ---- of what a reader answers
 

@@ -8,7 +8,7 @@ use Rattle.relying_agreement.specs.declared.verdict.Verdict.TheVariants.{Invalid
 use Rattle.relying_questions.specs.Agreement.{AcceptsPrints}
 use Rattle.relying_texts.specs.Texts.{IsVerdictByStatements}
 use Rattle.capi_values.specs.Refusal.{TellsRefusal, no_refusal}
-use Rattle.capi_values.specs.Texts.{IsRead, certificate_texts}
+use Rattle.capi_values.specs.Texts.{IsRead, query_certificates}
 use Rattle.capi_values.specs.declared.answer.VerdictAnswer.{VerdictAnswer}
 use Rattle.capi_values.specs.declared.refusal.Refusal.{Refusal}
 use Rattle.capi_values.specs.declared.texts.QueryOfTexts.{QueryOfTexts}
@@ -49,4 +49,4 @@ pub record IsVerdictOn (query : QueryOfTexts) (statements : List Text) (prints :
 abbrev pub TellsAnswer : VerdictAnswer → QueryOfTexts → List Text → List (List ℕ) → Type 0
 TellsAnswer answer query statements prints =
     ((verdict : Verdict) × IsVerdictOn query statements prints verdict × TellsVerdict answer verdict)
-    ⊎ ((told : Refusal) × TellsRefusal (certificate_texts query) statements told × (answer ≡ refusal_answer told))
+    ⊎ ((told : Refusal) × TellsRefusal (query_certificates query) statements told × (answer ≡ refusal_answer told))

@@ -12,7 +12,7 @@ use Rattle.relying_questions.specs.Agreement.{AcceptsPrints}
 use Rattle.capi_values.specs.Arrays.{AreWrittenTo}
 use Rattle.capi_values.specs.Finding.{HavePlaces}
 use Rattle.capi_values.specs.Refusal.{TellsBadCertificate, no_memory, no_refusal}
-use Rattle.capi_values.specs.Searching.{IsSearchRead, budget_of, search_texts}
+use Rattle.capi_values.specs.Searching.{IsSearchRead, budget_of, search_certificates}
 use Rattle.capi_values.specs.declared.diagnosis.NumberedObstacle.{NumberedObstacle}
 use Rattle.capi_values.specs.declared.diagnosis.WhyNotAnswer.{WhyNotAnswer}
 use Rattle.capi_values.specs.declared.refusal.Refusal.{Refusal}
@@ -87,7 +87,7 @@ pub record IsWhyNotOn (search : SearchOfTexts) (prints : List (List ℕ)) (found
 -- a certificate is refused; then nothing is written
 abbrev pub TellsNoSearch : SearchOfTexts → WhyNotAnswer → Rooms → Rooms → Refusal → Type 0
 TellsNoSearch search answer old new told =
-    TellsBadCertificate (search_texts search) told × (answer ≡ without_end 5 0 told) × (new ≡ old)
+    TellsBadCertificate (search_certificates search) told × (answer ≡ without_end 5 0 told) × (new ≡ old)
 
 -- the answer tells why no path is found, or which certificate is refused
 abbrev pub TellsWhyNotAnswer : WhyNotAnswer → SearchOfTexts → List (List ℕ) → Rooms → Rooms → Type 0

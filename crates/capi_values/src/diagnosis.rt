@@ -7,7 +7,7 @@ ghost use Rattle.capi_values.specs.Among.{AreCertificatesJudged};
 ghost use Rattle.capi_values.specs.Arrays.{AreWrittenTo};
 ghost use Rattle.capi_values.specs.Finding.{HavePlaces};
 ghost use Rattle.capi_values.specs.Refusal.{TellsBadCertificate, no_refusal};
-ghost use Rattle.capi_values.specs.Searching.{search_texts};
+ghost use Rattle.capi_values.specs.Searching.{search_certificates};
 ghost use Rattle.capi_values.specs.WhyNot.{HasEndNumbers, IsWhyNotOn, TellsWhyNot, TellsWhyNotAnswer, TellsWhyNotOf, bag_numbers, obstacle_numbers, rooms, without_end};
 
 use crate::finding::{GAVE_UP, write};
@@ -136,7 +136,7 @@ fn why_not_by(
 ) -> Result<Option<WhyNot>, Refusal>
     ensures finds { IfOk result (IsWhyNotOn search.now fingerprints.now) }
     ensures fits { IfOk result (HasEndNumbers (length search.now.anchors.now)) }
-    ensures refuses { IfErr result (TellsBadCertificate (search_texts search.now)) }
+    ensures refuses { IfErr result (TellsBadCertificate (search_certificates search.now)) }
 {
     let certificates = search.read(alloc)?;
     let verifier = believing(alloc, fingerprints)?;

@@ -8,7 +8,7 @@ ghost use Rattle.capi_values.specs.Among.{AreSearchJudged, TellsFindingOf};
 ghost use Rattle.capi_values.specs.Arrays.{AreWrittenTo};
 ghost use Rattle.capi_values.specs.Finding.{HasNumbers, HavePlaces, IsFindingOn, TellsFinding, TellsFound, TellsSearchAnswer, path_numbers, without_path};
 ghost use Rattle.capi_values.specs.Refusal.{TellsRefusal};
-ghost use Rattle.capi_values.specs.Searching.{search_texts};
+ghost use Rattle.capi_values.specs.Searching.{search_certificates};
 ghost use Rattle.capi_values.specs.Verdict.{verdict_numbers};
 
 use crate::answer::VerdictAnswer;
@@ -94,7 +94,7 @@ fn finding_by(
         IsFindingOn search.now statements.now fingerprints.now (seen_finding finding)) }
     ensures fits { IfOk result (λ finding.
         HasNumbers (length search.now.anchors.now) (seen_finding finding)) }
-    ensures refuses { IfErr result (TellsRefusal (search_texts search.now) statements.now) }
+    ensures refuses { IfErr result (TellsRefusal (search_certificates search.now) statements.now) }
 {
     let case = SearchCase::read(alloc, search, statements)?;
     let verifier = believing(alloc, fingerprints)?;
@@ -140,7 +140,7 @@ fn find_path(
     ensures finds { IfOk result (TellsFound search.now statements.now fingerprints.now
         path.old path.new) }
     ensures filled { IfOk result (λ answer. 0 < answer.verdict.verdict) }
-    ensures refuses { IfErr result (TellsRefusal (search_texts search.now) statements.now) }
+    ensures refuses { IfErr result (TellsRefusal (search_certificates search.now) statements.now) }
     ensures unwritten { OnErr result (path.new ≡ path.old) }
 {
     let finding = finding_by(alloc, search, statements, fingerprints)?;

@@ -1,24 +1,26 @@
 //! What is searched, in texts; and a search and statements that are read from texts.
 
-ghost use Rattle.std.specs.Prelude.{◌≡◌, IfErr, IfOk, length, map};
+ghost use Rattle.std.specs.Prelude.{◌≡◌, ◌++◌, IfErr, IfOk, OnOk, length, map};
 ghost use Rattle.cert.specs.Certificate.{seen_certificate};
-ghost use Rattle.path.specs.Reading.{texts_of};
 ghost use Rattle.path_issuers.specs.View.{seen_search};
 ghost use Rattle.statements.specs.Statement.{seen_statement};
 ghost use Rattle.relying_questions.specs.Places.{certificates_of};
-ghost use Rattle.relying_texts.specs.Reading.{AreStatementsRead};
-ghost use Rattle.capi_values.specs.Refusal.{TellsBadCertificate, TellsRefusal};
-ghost use Rattle.capi_values.specs.Searching.{budget_of, search_texts};
-ghost use Rattle.capi_values.specs.Texts.{AreAllOctets, AreCertificates, octets_of_texts, purpose_if_any};
+ghost use Rattle.relying_texts.specs.Reading.{AreStatementsReadUnder};
+ghost use Rattle.capi_values.specs.Refusal.{TellsBadCertificate, TellsRefusal, TellsRefusedOf};
+ghost use Rattle.capi_values.specs.Searching.{budget_of, search_certificates, search_texts};
+ghost use Rattle.capi_values.specs.Texts.{AddReadings, AreAllOctets, AreCertificates, all_seen, octets_of_texts, profile_of, purpose_if_any, readings, readings_under};
 
 use crate::case::read_each;
 use crate::refusal::Refusal;
-use crate::texts::{Text, add_octets, purpose_of};
+use crate::texts::{Text, profile_of, purpose_of};
 use cert::Certificate;
+use path::QueryFault;
+use path_points::read_certificate_under;
 use path_search::{Budget, Search};
 use relying_search::FindingBudget;
 use statements::Statement;
-use std::alloc::{AllocError, Global};
+use statements_facts::Profile;
+use std::alloc::Global;
 
 /// What a search may spend, as `relying_search::FindingBudget`.
 #[derive(Clone, Copy, Debug, PartialEq, Eq, Default)]
@@ -33,7 +35,8 @@ pub struct Limits {
 }
 
 /// Certificates that come in any order, and what is asked about one of them, as `path_search::Search`, in texts. If the purpose has no
-/// octets, no purpose is asked for. The certificates are numbered: the anchors from 0 on, then the target, then the bag.
+/// octets, no purpose is asked for. The certificates are numbered: the anchors from 0 on, then the target, then the bag. They are read in the
+/// stated profile, and so are the statements that come with them; any number but 0 in `wide` asks for the wide one.
 #[derive(Clone, Copy, Debug)]
 #[repr(C)]
 pub struct SearchOfTexts<'a> {
@@ -43,6 +46,7 @@ pub struct SearchOfTexts<'a> {
     pub moment: i64,
     pub purpose: Text<'a>,
     pub limits: Limits,
+    pub wide: u32,
 }
 
 /// The certificates and statements of a search that were read.
@@ -67,36 +71,63 @@ impl Limits {
     }
 }
 
+/// Adds the certificates that the texts are in a profile. The first that is refused is told by how many stand before it.
+fn add_certificates<'a>(
+    alloc: Global,
+    profile: Profile,
+    certificates: &mut Vec<Certificate<'a>>,
+    texts: &[Text<'a>],
+) -> Result<(), Refusal>
+    ensures reads { OnOk result (AddReadings certificates.old.items certificates.new.items
+        (readings_under profile (octets_of_texts texts.now))) }
+    ensures fit { OnOk result (AreAllOctets (octets_of_texts texts.now)) }
+    ensures refuses { IfErr result (TellsRefusedOf (all_seen certificates.old.items
+        ++ readings_under profile (octets_of_texts texts.now))) }
+{
+    for text in texts {
+        let certificate = match read_certificate_under(alloc, profile, text.octets()) {
+            Ok(certificate) => certificate,
+            Err(fault) => {
+                return Err(Refusal::of_certificate(QueryFault {
+                    certificate: certificates.len(),
+                    fault,
+                }));
+            }
+        };
+        match certificates.push(certificate) {
+            Ok(()) => {}
+            Err(_) => return Err(Refusal::no_memory()),
+        }
+    }
+    Ok(())
+}
+
 impl<'a> SearchOfTexts<'a> {
-    /// The octets of the certificates, by their numbers.
-    fn octets(&self, alloc: Global) -> Result<Vec<&'a [u8]>, AllocError>
-        ensures texts { IfOk result (λ octets. texts_of octets.items ≡ search_texts self.now) }
-        ensures fit { IfOk result (λ octets. AreAllOctets (texts_of octets.items)) }
+    /// Adds its certificates, by their numbers.
+    fn add_to(&self, alloc: Global, certificates: &mut Vec<Certificate<'a>>) -> Result<(), Refusal>
+        ensures reads { OnOk result (AddReadings certificates.old.items certificates.new.items
+            (readings (search_certificates self.now))) }
+        ensures fit { OnOk result (AreAllOctets (search_texts self.now)) }
+        ensures refuses { IfErr result (TellsRefusedOf (all_seen certificates.old.items
+            ++ readings (search_certificates self.now))) }
     {
-        let mut octets = Vec::new(alloc);
-        add_octets(&mut octets, self.anchors)?;
-        add_octets(&mut octets, &[self.target])?;
-        add_octets(&mut octets, self.bag)?;
-        Ok(octets)
+        let profile = profile_of(self.wide);
+        add_certificates(alloc, Profile::Stated, certificates, self.anchors)?;
+        add_certificates(alloc, profile, certificates, &[self.target])?;
+        add_certificates(alloc, profile, certificates, self.bag)
     }
 
-    /// Reads the certificates, by their numbers. A query reads certificates in order, of which it takes the first for its anchor.
+    /// Reads the certificates, by their numbers: the anchors in the stated profile, and the others in the one that is asked for.
     pub(crate) fn read(&self, alloc: Global) -> Result<Vec<Certificate<'a>>, Refusal>
         ensures reads { IfOk result (λ read.
-            AreCertificates (search_texts self.now) (map seen_certificate read.items)) }
+            AreCertificates (search_certificates self.now) (map seen_certificate read.items)) }
         ensures fit { IfOk result (λ _. AreAllOctets (search_texts self.now)) }
-        ensures refuses { IfErr result (TellsBadCertificate (search_texts self.now)) }
+        ensures refuses { IfErr result (TellsBadCertificate (search_certificates self.now)) }
     {
-        let octets = self.octets(alloc)?;
-        match path::Query::read(alloc, octets[0], &octets[1..], self.moment, None) {
-            Ok(query) => {
-                let mut certificates = query.path;
-                match certificates.insert(0, query.anchor) {
-                    Ok(()) => Ok(certificates),
-                    Err(_) => Err(Refusal::no_memory()),
-                }
-            }
-            Err(refusal) => Err(Refusal::of_certificate(refusal)),
+        let mut certificates = Vec::new(alloc);
+        match self.add_to(alloc, &mut certificates) {
+            Ok(()) => Ok(certificates),
+            Err(refusal) => Err(refusal),
         }
     }
 
@@ -122,23 +153,25 @@ impl<'a> SearchOfTexts<'a> {
 }
 
 impl<'a> SearchCase<'a> {
-    /// Reads the certificates, and then the statements, each once.
+    /// Reads the certificates, and then the statements, each once, in the profile that the search asks for.
     pub(crate) fn read(
         alloc: Global,
         search: &SearchOfTexts<'a>,
         statements: &[Text<'a>],
     ) -> Result<SearchCase<'a>, Refusal>
-        ensures certificates { IfOk result (λ case. AreCertificates (search_texts search.now)
-            (map seen_certificate case.certificates.items)) }
-        ensures statements { IfOk result (λ case. AreStatementsRead
-            (octets_of_texts statements.now) (map seen_statement case.statements.items)) }
+        ensures certificates { IfOk result (λ case. AreCertificates
+            (search_certificates search.now) (map seen_certificate case.certificates.items)) }
+        ensures statements { IfOk result (λ case. AreStatementsReadUnder
+            (profile_of search.now.wide) (octets_of_texts statements.now)
+            (map seen_statement case.statements.items)) }
         ensures fit { IfOk result (λ _.
             AreAllOctets (search_texts search.now)
             × AreAllOctets (octets_of_texts statements.now)) }
-        ensures refuses { IfErr result (TellsRefusal (search_texts search.now) statements.now) }
+        ensures refuses { IfErr result
+            (TellsRefusal (search_certificates search.now) statements.now) }
     {
         let certificates = search.read(alloc)?;
-        match read_each(alloc, statements) {
+        match read_each(alloc, profile_of(search.wide), statements) {
             Ok(statements) => Ok(SearchCase {
                 certificates,
                 statements,

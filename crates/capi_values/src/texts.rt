@@ -5,9 +5,11 @@ ghost use Rattle.std.specs.Option.{option_copied};
 ghost use Rattle.path.specs.Reading.{seen_query, texts_of};
 ghost use Rattle.capi_values.specs.Refusal.{TellsBadCertificate};
 ghost use Rattle.asn.specs.DerLaws.{AreOctets};
-ghost use Rattle.capi_values.specs.Texts.{AreAllOctets, IsQueryRead, certificate_texts, octets_of_texts, purpose_if_any};
+ghost use Rattle.capi_values.specs.Texts.{AreAllOctets, IsQueryRead, certificate_texts, octets_of_texts, profile_of, purpose_if_any, query_certificates};
 
 use crate::refusal::Refusal;
+use path_points::read_query_under;
+use statements_facts::Profile;
 use std::alloc::{AllocError, Global};
 
 /// Octets of the caller.
@@ -17,7 +19,8 @@ pub struct Text<'a> {
     pub octets: &'a [u8],
 }
 
-/// A query about a path, as `path::Query`, in texts. If the purpose has no octets, no purpose is asked for.
+/// A query about a path, as `path::Query`, in texts. If the purpose has no octets, no purpose is asked for. It is read in the stated profile,
+/// and so are the statements that come with it; any number but 0 in `wide` asks for the wide one.
 #[derive(Clone, Copy, Debug)]
 #[repr(C)]
 pub struct QueryOfTexts<'a> {
@@ -25,6 +28,7 @@ pub struct QueryOfTexts<'a> {
     pub path: &'a [Text<'a>],
     pub moment: i64,
     pub purpose: Text<'a>,
+    pub wide: u32,
 }
 
 /// No octet is greater than 255. The prover knows this of octets that are handed in alone.
@@ -33,7 +37,7 @@ fn have_octets(octets: &[u8])
 {}
 
 impl<'a> Text<'a> {
-    fn octets(&self) -> &'a [u8]
+    pub(crate) fn octets(&self) -> &'a [u8]
         ensures same { result ≡ self.now.octets }
         ensures fit { AreOctets result.now }
     {
@@ -43,10 +47,7 @@ impl<'a> Text<'a> {
 }
 
 /// Adds the octets of each text.
-pub(crate) fn add_octets<'a>(
-    octets: &mut Vec<&'a [u8]>,
-    texts: &[Text<'a>],
-) -> Result<(), AllocError>
+fn add_octets<'a>(octets: &mut Vec<&'a [u8]>, texts: &[Text<'a>]) -> Result<(), AllocError>
     ensures texts { OnOk result (texts_of octets.new.items
         ≡ texts_of octets.old.items ++ octets_of_texts texts.now) }
     ensures fit { OnOk result (AreAllOctets (texts_of octets.old.items)
@@ -79,17 +80,36 @@ pub(crate) fn purpose_of(octets: &[u8]) -> Option<&[u8]>
     }
 }
 
+/// The profile that the number asks for.
+pub(crate) fn profile_of(wide: u32) -> Profile
+    ensures { result ≡ profile_of wide }
+{
+    if wide == 0 {
+        Profile::Stated
+    } else {
+        Profile::Wide
+    }
+}
+
 impl<'a> QueryOfTexts<'a> {
-    /// Reads the certificates, the anchor first.
+    /// Reads the certificates, the anchor first, in the profile that is asked for.
     pub(crate) fn read(&self, alloc: Global) -> Result<path::Query<'a>, Refusal>
         ensures reads { IfOk result (λ query. IsQueryRead self.now (seen_query query)) }
         ensures fit { IfOk result (λ _. AreAllOctets (certificate_texts self.now)) }
-        ensures refuses { IfErr result (TellsBadCertificate (certificate_texts self.now)) }
+        ensures refuses { IfErr result (TellsBadCertificate (query_certificates self.now)) }
     {
         let path = octets_of(alloc, self.path)?;
+        let profile = profile_of(self.wide);
         let purpose = purpose_of(self.purpose.octets);
         let anchor = self.anchor.octets();
-        match path::Query::read(alloc, anchor, path.as_slice(), self.moment, purpose) {
+        match read_query_under(
+            alloc,
+            profile,
+            anchor,
+            path.as_slice(),
+            self.moment,
+            purpose,
+        ) {
             Ok(query) => Ok(query),
             Err(refusal) => Err(Refusal::of_certificate(refusal)),
         }

@@ -5,7 +5,7 @@ ghost use Rattle.path.specs.Query.{Accepts};
 ghost use Rattle.path_verifiers.specs.ListVerifier.{Believes};
 ghost use Rattle.capi_values.specs.Judging.{AreJudged, TellsVerdictFor};
 ghost use Rattle.capi_values.specs.Refusal.{TellsRefusal};
-ghost use Rattle.capi_values.specs.Texts.{certificate_texts};
+ghost use Rattle.capi_values.specs.Texts.{query_certificates};
 ghost use Rattle.capi_values.specs.Verdict.{IsVerdictOn, TellsAnswer, TellsVerdict, refusal_answer};
 
 use crate::answer::VerdictAnswer;
@@ -88,7 +88,7 @@ fn verdict_on(
     fingerprints: &[[u8; 32]],
 ) -> Result<Verdict, Refusal>
     ensures verdict { IfOk result (IsVerdictOn query.now statements.now fingerprints.now) }
-    ensures refuses { IfErr result (TellsRefusal (certificate_texts query.now) statements.now) }
+    ensures refuses { IfErr result (TellsRefusal (query_certificates query.now) statements.now) }
 {
     let case = Case::read(alloc, query, statements)?;
     let verifier = believing(alloc, fingerprints)?;

@@ -6,12 +6,13 @@ use Rattle.std.proofs.lemmas.List.Elements.{All-from_recursion}
 use Rattle.asn.specs.DerLaws.{AreOctets}
 use Rattle.cert.specs.Certificate.{Certificate}
 use Rattle.path.specs.Query.{Query}
-use Rattle.statements.specs.OneIssuer.{WasRead}
-use Rattle.statements.specs.Statement.{Statement, StatementIsExact, statement}
+use Rattle.statements.specs.Statement.{Statement, StatementIsExactUnder, statement_under}
+use Rattle.statements_facts.specs.declared.profile.Profile.{Profile}
 use Rattle.relying_agreement.specs.Link.{links_from, links_of}
 use Rattle.relying_questions.specs.declared.question.SignatureQuestion.{SignatureQuestion}
 use Rattle.relying_questions.specs.declared.part.WhichText.TheVariants as source
-use Rattle.relying_questions.specs.Places.{Texts, AllInTexts, AreInTexts, HasParts, KeepsInTexts, LinkStands, StatementStands, StatementsStand, WereRead, WereStatementsRead, statement_text, texts_at, texts_in}
+use Rattle.relying_questions.specs.Places.{Texts, AllInTexts, AreInTexts, HasParts, KeepsInTexts, LinkStands, StatementStands}
+use Rattle.relying_questions.specs.Places.{StatementsStand, WasReadButForPoints, WereRead, WereStatementsRead, statement_text, texts_at, texts_in}
 use Rattle.relying_questions.proofs.Standing.{has_parts, list_stands, response_stands}
 
 -- one more
@@ -45,11 +46,12 @@ abbrev TextsFrom : Texts → ℕ → List Certificate → Type 0
 TextsFrom texts n [] = Unit {0}
 TextsFrom texts n (c ∷ path) = (texts (source.Certificate n) ≡ c.octets) × TextsFrom texts (suc n) path
 
-pub placed : (text : List ℕ) (c : Certificate) → text ≡ c.octets → WasRead c → HasParts text c
+pub placed : (text : List ℕ) (c : Certificate) → text ≡ c.octets → WasReadButForPoints c → HasParts text c
 placed text c is read = subst (λ t. HasParts t c) (sym is) (has_parts c read)
 
-links_stand : (texts : Texts) (n : ℕ) (issuer : Certificate) (path : List Certificate) → texts (source.Certificate n) ≡ issuer.octets → WasRead issuer
-    → TextsFrom texts (suc n) path → AllByRecursion WasRead path → AllByRecursion (LinkStands texts) (links_from (suc n) issuer path)
+links_stand : (texts : Texts) (n : ℕ) (issuer : Certificate) (path : List Certificate) → texts (source.Certificate n) ≡ issuer.octets
+    → WasReadButForPoints issuer
+    → TextsFrom texts (suc n) path → AllByRecursion WasReadButForPoints path → AllByRecursion (LinkStands texts) (links_from (suc n) issuer path)
 links_stand texts n issuer [] text read all were = tt
 links_stand texts n issuer (c ∷ path) text read all were =
     let earlier : suc n - 1 ≡ n = omega arith in (
@@ -90,11 +92,18 @@ kept_by (Err e) Premise Weaker old new keeps weaker = tt
 
 -- ---- statements
 
-statement_stands : StatementIsExact → (text : List ℕ) (read : Statement) → AreOctets text → statement text ≡ Ok read → StatementStands text read
-statement_stands exact text (Statement.OfList list) fits reads = list_stands text list ((exact text (Statement.OfList list) fits).0 reads)
-statement_stands exact text (Statement.OfResponse response) fits reads = response_stands text response fits ((exact text (Statement.OfResponse response) fits).0 reads)
+abbrev AreExact : Type 0
+AreExact = (profile : Profile) → StatementIsExactUnder profile
 
-statements_stand : StatementIsExact → (texts : Texts) (n : ℕ) (octets : List (List ℕ)) (statements : List Statement) → ((j : ℕ) → j < length octets → texts (source.Statement (n + j)) ≡ slice_index_or octets j [])
+statement_stands : AreExact → (profile : Profile) (text : List ℕ) (read : Statement) → AreOctets text → statement_under profile text ≡ Ok read
+    → StatementStands text read
+statement_stands exact profile text (Statement.OfList list) fits reads = list_stands profile text list
+    ((exact profile text (Statement.OfList list) fits).0 reads)
+statement_stands exact profile text (Statement.OfResponse response) fits reads =
+    response_stands text response fits ((exact profile text (Statement.OfResponse response) fits).0 reads)
+
+statements_stand : AreExact → (texts : Texts) (n : ℕ) (octets : List (List ℕ)) (statements : List Statement)
+    → ((j : ℕ) → j < length octets → texts (source.Statement (n + j)) ≡ slice_index_or octets j [])
     → WereStatementsRead octets statements → StatementsStand texts n statements
 statements_stand exact texts n [] [] are were = tt
 statements_stand exact texts n [] (read ∷ statements) are were = absurd were
@@ -102,7 +111,7 @@ statements_stand exact texts n (text ∷ octets) [] are were = absurd were
 statements_stand exact texts n (text ∷ octets) (read ∷ statements) are were =
     let here : n + 0 ≡ n = omega arith in
     let is : texts (source.Statement n) ≡ text = ap (λ k. texts (source.Statement k)) (sym here) ∙ are 0 (omega arith) in (
-      subst (λ t. StatementStands t read) (sym is) (statement_stands exact text read were.0.are_octets were.0.reads),
+      subst (λ t. StatementStands t read) (sym is) (statement_stands exact were.0.profile text read were.0.are_octets were.0.reads),
       statements_stand exact texts (suc n) octets statements
           (λ j below. ap (λ k. texts (source.Statement k)) (next n j) ∙ are (suc j) (omega (arith, below))) were.1,
     )
@@ -113,7 +122,7 @@ statements_stand exact texts n (text ∷ octets) (read ∷ statements) are were 
 zero_before : (j : ℕ) → 0 + j ≡ j
 zero_before j = omega arith
 
-pub all_statements_stand : StatementIsExact → (certificates octets : List (List ℕ)) (statements : List Statement) → WereStatementsRead octets statements
+pub all_statements_stand : AreExact → (certificates octets : List (List ℕ)) (statements : List Statement) → WereStatementsRead octets statements
     → StatementsStand (texts_at certificates octets) 0 statements
 all_statements_stand exact certificates octets statements were =
     statements_stand exact (texts_at certificates octets) 0 octets statements (λ j below. ap (λ k. texts_at certificates octets (source.Statement k)) (zero_before j)) were

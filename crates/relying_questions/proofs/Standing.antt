@@ -13,12 +13,12 @@ use Rattle.cert.specs.Certificate.{Certificate, certificate_at}
 use Rattle.cert.specs.CertificateForms.{IsCertificateAt, IsSignature}
 use Rattle.cert.specs.Offsets.{StandsIn}
 use Rattle.cert.proofs.Laws.{certificate_is_exact, is_certificate_at}
-use Rattle.statements.specs.OneIssuer.{WasRead}
+use Rattle.statements_facts.specs.declared.profile.Profile.{Profile}
 use Rattle.statements_crl.specs.CertificateList.{CertificateList}
-use Rattle.statements_crl.specs.ListForms.{IsCertificateList}
+use Rattle.statements_crl.specs.ListForms.{IsCertificateListUnder}
 use Rattle.statements_ocsp.specs.OcspResponse.{OcspResponse}
 use Rattle.statements_ocsp.specs.ResponseForms.{AreCerts, IsOcspResponse}
-use Rattle.relying_questions.specs.Places.{IsPlaceIn, ListStands, ResponseStands, bits_at, HasParts}
+use Rattle.relying_questions.specs.Places.{IsPlaceIn, ListStands, ResponseStands, WasReadButForPoints, bits_at, HasParts}
 
 none_behind : (xs : List ℕ) → xs ≡ xs ++ []
 none_behind [] = refl
@@ -80,12 +80,14 @@ in_text text value c is whole =
       key_info = subst (IsPlaceIn text) (sym tbs.key_info_is.whole) fields.1.1.1.1.1.0.stands;
     }
 
--- one that was read from its octets has its parts there
-pub has_parts : (c : Certificate) → WasRead c → HasParts c.octets c
+-- one that was read from its octets has its parts there, whatever its points are
+pub has_parts : (c : Certificate) → WasReadButForPoints c → HasParts c.octets c
 has_parts c read =
-    let is = (certificate_is_exact read.octets c read.are_octets).0 read.reads in
+    let bare : Certificate = record c { points = [] } in
+    let is = (certificate_is_exact read.octets bare read.are_octets).0 read.reads in
     let same : c.octets ≡ read.octets = ap (λ (d : Certificate). d.octets) is.layout.fields_are in
-    subst (λ text. HasParts text c) (sym same) (in_text read.octets (record { octets = read.octets; at = 0 }) c is.layout (is_in_itself read.octets is.value is.der))
+    let parts = in_text read.octets (record { octets = read.octets; at = 0 }) bare is.layout (is_in_itself read.octets is.value is.der) in
+    subst (λ text. HasParts text c) (sym same) (record { signed = parts.signed; key_info = parts.key_info })
 
 -- octets of a part are octets
 front_octets : (part behind : List ℕ) → AreOctets (part ++ behind) → AreOctets part
@@ -111,8 +113,8 @@ delegate_stands text value c is reads =
 abbrev root_of : List ℕ → Place
 root_of text = record { octets = text; at = 0 }
 
-pub list_stands : (text : List ℕ) (list : CertificateList) → IsCertificateList text list → ListStands text list
-list_stands text list is =
+pub list_stands : (profile : Profile) (text : List ℕ) (list : CertificateList) → IsCertificateListUnder profile text list → ListStands text list
+list_stands profile text list is =
     let layout = is.layout in
     let parts = inside text (root_of text) (layout.signed ∷ layout.algorithm ∷ layout.signature.value ∷ []) layout.sequence layout.members_are (is_in_itself text is.value is.der) in
     let fields = inside text layout.signed _ layout.signed_is.sequence layout.signed_is.members_are parts.0 in

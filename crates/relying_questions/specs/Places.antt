@@ -10,8 +10,9 @@ use Rattle.cert.specs.Offsets.{StandsIn}
 use Rattle.path.specs.Query.{Query}
 use Rattle.path_issuers.specs.Links.{anchor_at, certificate_at}
 use Rattle.path_issuers.specs.Search.{Search}
+use Rattle.statements_facts.specs.declared.profile.Profile.{Profile}
 use Rattle.statements.specs.OneIssuer.{WasRead}
-use Rattle.statements.specs.Statement.{Statement, statement}
+use Rattle.statements.specs.Statement.{Statement, statement_under}
 use Rattle.statements_crl.specs.CertificateList.{CertificateList}
 use Rattle.statements_ocsp.specs.OcspResponse.{OcspResponse}
 use Rattle.relying_agreement.specs.Link.{Link}
@@ -75,14 +76,19 @@ AllInTexts texts asked = AllByRecursion (AreInTexts texts) asked
 abbrev pub KeepsInTexts : (Texts → Type 0) → List asked.SignatureQuestion → List asked.SignatureQuestion → Type 0
 KeepsInTexts Premise old new = (texts : Texts) → Premise texts → AllInTexts texts old → AllInTexts texts new
 
+-- The certificate was read from its octets, in whichever profile: they differ in the names of points, and no question is about these.
+abbrev pub WasReadButForPoints : Certificate → Type 0
+WasReadButForPoints c = WasRead (record c { points = [] })
+
 -- the certificates of the query were read from their octets
 abbrev pub WereRead : Query → Type 0
-WereRead query = AllByRecursion WasRead (query.anchor ∷ query.certificates)
+WereRead query = AllByRecursion WasReadButForPoints (query.anchor ∷ query.certificates)
 
--- the statements were read from these octets, one by one
+-- the statements were read from these octets, one by one, in whichever profile
 pub record WasStatementRead (octets : List ℕ) (read : Statement) : Type 0 where
+  pub profile : Profile
   pub are_octets : AreOctets octets
-  pub reads : statement octets ≡ Ok read
+  pub reads : statement_under profile octets ≡ Ok read
 
 abbrev pub WereStatementsRead : List (List ℕ) → List Statement → Type 0
 WereStatementsRead octets statements = AllZip WasStatementRead octets statements
@@ -95,7 +101,7 @@ StandWhereRead query statements asked =
 
 -- the certificates of the search were read from their octets
 abbrev pub WereReadForSearch : Search → Type 0
-WereReadForSearch s = AllByRecursion WasRead (certificates_of s)
+WereReadForSearch s = AllByRecursion WasReadButForPoints (certificates_of s)
 
 -- the same of the certificates of a search
 abbrev pub StandWhereSearched : Search → List Statement → List asked.SignatureQuestion → Type 0

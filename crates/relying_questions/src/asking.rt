@@ -16,7 +16,7 @@ use crate::signatures::of_certificate;
 use crate::under_issuers::ask_statements;
 use path::Query;
 use relying_evidence::{Link, links_of};
-use statements::{Statement, statement_laws};
+use statements::{Statement, statement_profile_laws};
 use std::alloc::{AllocError, Global};
 
 /// The issuer of a link, as a certificate of the path or its anchor.
@@ -100,7 +100,7 @@ pub fn questions<'a>(
     ensures places { IfOk result (λ asked.
         StandWhereRead (seen_query query.now) (map seen_statement statements.now) asked.items) }
 {
-    statement_laws();
+    statement_profile_laws();
     let links = links_of(alloc, &query.anchor, query.path.as_slice())?;
     let mut asked = Vec::new(alloc);
     ask_path(&mut asked, links.as_slice())?;

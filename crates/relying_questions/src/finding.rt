@@ -15,7 +15,7 @@ use crate::searched::{certificate_at, issuer_at};
 use crate::signatures::of_certificate;
 use crate::under_issuers::ask_statements;
 use path_issuers::{Search, SearchQuestion};
-use statements::{Statement, statement_laws};
+use statements::{Statement, statement_profile_laws};
 use std::alloc::{AllocError, Global};
 
 /// Adds the question about each of the pairs.
@@ -63,7 +63,7 @@ pub fn finding_questions<'c>(
     ensures places { IfOk result (λ asked. StandWhereSearched (seen_search search.now)
         (map seen_statement statements.now) asked.items) }
 {
-    statement_laws();
+    statement_profile_laws();
     let pairs = path_issuers::questions(alloc, search)?;
     let issuers = issuers_of(alloc, search, pairs.as_slice())?;
     let mut asked = Vec::new(alloc);

@@ -12,7 +12,7 @@ use crate::party::channel::Request;
 use crate::party::spool::Spooled;
 use crate::party::words::{file_word, hex, octets_word, MOST_LINE};
 use crate::party::{identity_of, Party, PartyError};
-use crate::query::Query;
+use crate::query::{Profile, Query};
 
 /// ENUMERATED, with which an OCSP response begins (RFC 6960, 4.2.1).
 const ENUMERATED: u8 = 0x0A;
@@ -161,7 +161,8 @@ impl Operand {
     }
 }
 
-/// What may be asked about statements of an issuer.
+/// What may be asked about statements of an issuer: in the wide profile, which reads what the stated one does alike. Whether the store serves
+/// a list at a point is the program's to say.
 fn statement_questions<'a>(
     issuer: &'a [u8],
     path: &'a [&'a [u8]],
@@ -173,6 +174,7 @@ fn statement_questions<'a>(
         statements,
         moment: 0,
         purpose: None,
+        profile: Profile::Wide,
     };
     query.signature_questions()
 }

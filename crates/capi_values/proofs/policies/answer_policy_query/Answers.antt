@@ -11,6 +11,18 @@ returns-in-Ok-tell-clause-judged c = λ accepts are.
     c.args.lengths.now c.tell.new.lengths c.args.octets.now c.tell.new.octets c.question_laws.ensures.prints c.in-Ok.said c.in-Ok.ensures.says
     c.in-Ok-tell.ensures.tells
 
+pub returns-in-Ok-clause-tells : goal.returns-in-Ok-clause-tells
+returns-in-Ok-clause-tells c =
+    inr (
+      no_memory,
+      inr (inr refl),
+      record {
+        answer_is = c.without_policies.ensures ∙ ap without_policies (c.refused.ensures.tells ∙ ap refusal_answer c.no_memory.ensures);
+        lengths = c.in-Err-tell.ensures.lengths_stay;
+        octets = c.in-Err-tell.ensures.octets_stay;
+      },
+    )
+
 pub returns-in-Ok-clause-judged : goal.returns-in-Ok-clause-judged
 returns-in-Ok-clause-judged c = λ accepts are.
     refused_of_judge accepts c.args.query.now c.args.inputs.now c.args.statements.now c.args.fingerprints.now are c.without_policies.result

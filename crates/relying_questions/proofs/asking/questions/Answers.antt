@@ -40,5 +40,6 @@ returns-clause-places c = λ octets were read.
     let issuers = c.in_ok-issuers.ensures.places texts (subst (LinksStand texts) (sym c.as_slice-3.ensures.value) links) in
     c.in_ok-ask_statements.ensures.places texts (
       subst (ArePlaced texts) (sym c.as_slice-4.ensures.value) issuers,
-      all_statements_stand c.statement_laws.ensures.exact (certificate_octets (query.anchor ∷ query.certificates)) octets (map seen_statement c.args.statements.now) read,
+      all_statements_stand c.statement_profile_laws.ensures.exact (certificate_octets (query.anchor ∷ query.certificates)) octets
+          (map seen_statement c.args.statements.now) read,
     ) path

@@ -35,5 +35,6 @@ returns-clause-places c = λ octets were read.
     let pairs = c.in_ok-ask_pairs.ensures.places texts (stands, there) (subst (AllInTexts texts) (sym c.new-asked.ensures.items) tt) in
     c.in_ok-ask_statements.ensures.places texts (
       subst (ArePlaced texts) (sym c.as_slice-3.ensures.value) (c.in_ok-issuers.ensures.places texts stands),
-      all_statements_stand c.statement_laws.ensures.exact (certificate_octets (certificates_of s)) octets (map seen_statement c.args.statements.now) read,
+      all_statements_stand c.statement_profile_laws.ensures.exact (certificate_octets (certificates_of s)) octets (map seen_statement c.args.statements.now)
+          read,
     ) pairs

@@ -1,0 +1,88 @@
+"""Both profiles, over lists that are published at the point of a certificate (RFC 5280, 5.2.5), whose signatures all count as good."""
+
+import os
+import unittest
+
+import x509check
+from x509check import (
+    Fault, Profile, Result, RevocationReason, Text, Verdict, peer_questions, questions, validate, validate_peer, validate_with_policies,
+)
+
+from .authority import tried
+
+# 2025-06-15T00:00:00Z
+MIDDLE = 1749945600
+ROOT, LEAF, MALFORMED, LIST, REVOKING = (
+    tried(os.path.join("points", name)) for name in ("root.der", "leaf.der", "malformed.der", "list.crl", "revoking.crl"))
+REVOKED = Result(Verdict.REVOKED, 1, RevocationReason.KEY_COMPROMISE)
+
+
+def good(_question):
+    return True
+
+
+def answer(leaf=LEAF, statement=LIST, **words):
+    return validate(ROOT, [leaf], [statement], MIDDLE, verify=good, **words)
+
+
+def found(certificates=(LEAF,), statement=REVOKING, **words):
+    """Of the anchors the malformed one is the first: no list speaks of anchors."""
+    return validate_peer(certificates, [MALFORMED, ROOT], [statement], MIDDLE, verify=good, **words)
+
+
+class Profiles(unittest.TestCase):
+    def refused(self, text, index, number, call, *args, **words):
+        with self.assertRaises(Fault) as raised:
+            call(*args, **words)
+        fault = raised.exception
+        self.assertEqual((fault.text, fault.index, fault.number), (text, index, number))
+
+    def test_a_list_at_a_point_counts_in_the_wide_profile(self):
+        self.assertEqual(answer(profile=Profile.WIDE), Result(Verdict.VALID))
+        self.assertEqual(answer(statement=REVOKING, profile=Profile.WIDE), REVOKED)
+        for words in {}, {"profile": Profile.STATED}:
+            self.refused(Text.STATEMENTS, 0, 48, answer, **words)
+
+    def test_points_are_read_in_the_wide_profile(self):
+        self.refused(Text.CERTIFICATES, 1, 29, answer, MALFORMED, profile=Profile.WIDE)
+        self.refused(Text.STATEMENTS, 0, 48, answer, MALFORMED)
+
+    def test_questions_are_asked_in_a_profile(self):
+        for asked in questions(ROOT, [LEAF], [LIST], profile=Profile.WIDE), peer_questions([LEAF], [ROOT], [LIST], profile=Profile.WIDE):
+            prints = [one.fingerprint for one in asked]
+            self.assertEqual(len(prints), 2)
+            result = validate(ROOT, [LEAF], [LIST], MIDDLE, fingerprints=prints, profile=Profile.WIDE)
+            self.assertEqual(result, Result(Verdict.VALID))
+        self.refused(Text.STATEMENTS, 0, 48, questions, ROOT, [LEAF], [LIST])
+        self.refused(Text.STATEMENTS, 0, 48, peer_questions, [LEAF], [ROOT], [LIST])
+
+    def test_what_can_be_read_depends_on_the_profile(self):
+        stated = answer(ignore_unreadable=True)
+        self.assertEqual((stated.verdict, len(stated.ignored)), (Verdict.UNKNOWN, 1))
+        wide = answer(ignore_unreadable=True, profile=Profile.WIDE)
+        self.assertEqual((wide.verdict, wide.ignored), (Verdict.VALID, ()))
+
+    def test_policies_are_processed_in_the_profile(self):
+        words = {"initial_policies": None, "require_explicit_policy": False, "verify": good}
+        result = validate_with_policies(ROOT, [LEAF], [REVOKING], MIDDLE, profile=Profile.WIDE, **words)
+        self.assertEqual((result.verdict, result.certificate), (Verdict.REVOKED, 1))
+        self.refused(Text.STATEMENTS, 0, 48, validate_with_policies, ROOT, [LEAF], [REVOKING], MIDDLE, **words)
+
+    def test_a_search_is_in_a_profile(self):
+        self.assertEqual(found(profile=Profile.WIDE), REVOKED)
+        self.refused(Text.STATEMENTS, 0, 48, found)
+        self.refused(Text.CERTIFICATES, 1, 29, found, (LEAF, MALFORMED), profile=Profile.WIDE)
+        result = found((LEAF, MALFORMED), ignore_unreadable_certificates=True, profile=Profile.WIDE)
+        self.assertEqual(result, REVOKED)
+        (number, fault), = result.ignored
+        self.assertEqual((number, fault.text, fault.index, fault.number), (1, Text.CERTIFICATES, 1, 29))
+
+    def test_another_profile_is_a_mistake(self):
+        for profile in "wide", True, 1, None:
+            with self.subTest(profile), self.assertRaisesRegex(TypeError, "a Profile is wanted"):
+                answer(profile=profile)
+        self.assertIs(x509check.Profile, Profile)
+
+
+if __name__ == "__main__":
+    unittest.main()
