@@ -37,7 +37,7 @@ const CONTRADICTED: DeliverAnswer = Ok(Counts {
     contradicted: 1,
 });
 
-/// What is told to a party, its answers, and its verdicts then.
+/// The lists that a party is given, its answers to them, and its verdicts afterwards.
 type Row = (&'static [Told], &'static [DeliverAnswer], &'static [Judged]);
 
 const FIRST: &[&str] = &["http://a/1"];
@@ -49,7 +49,7 @@ const BOTH: &[&str] = &["http://a/1", "http://a/2"];
 const ROWS: &[Row] = &[
     // nothing is known before a list comes
     (&[], &[], &[(&[FIRST], Unknown(1)), (&[], Unknown(1))]),
-    // the list of one part speaks of the certificates of its point
+    // a list with a point covers the certificates that name this point
     (
         &[Some(("crl(R,5)", 0, FIRST))],
         &[STORED],

@@ -8,9 +8,9 @@ use std::alloc::{AllocError, AllocFailed, Global};
 use std::test::Fail;
 use vectors_points::certificate_at;
 
-/// Certificates from the anchor down, and what is read of them. A certificate is in the notation of `vectors`, or `x`, which is none; behind
-/// it stand its points, each with its names. A point without names is malformed. What is read is the names that each certificate has then; or
-/// the number of the first certificate that is refused, with the number of its fault.
+/// Certificates from the anchor down, and the answer. A certificate is written in the notation of `vectors`, or as `x`, which stands for
+/// octets that are not one; its points follow, each with its names. A point without names is malformed. The answer lists the names that each
+/// certificate has, or gives the number of the first certificate that is refused, with the number of its fault.
 const WIDE: &[&str] = &[
     "ca(R,R) | ee(T,R) => [][]",
     "ca(R,R) | ee(T,R) @a => [][ a]",
@@ -21,7 +21,7 @@ const WIDE: &[&str] = &[
     "ca(R,R) @a | ca(A,R) @a | ee(T,A) => [][ a][]",
     "ca(R,R) @ | ee(T,R) @a => [][ a]",
     "ca(R,R) @ => []",
-    // a text that is no certificate
+    // octets that are not a certificate
     "ca(R,R) | x => 1 refused 21",
     "x | ee(T,R) @a => 0 refused 21",
     "x | ca(A,R) @ | x => 0 refused 21",

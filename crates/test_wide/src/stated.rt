@@ -9,7 +9,7 @@ use std::alloc::Global;
 
 const POINT: &[&str] = &["http://a/1"];
 
-/// What is told, the number of each answer's fault, 0 standing for a list that is taken, and the verdicts.
+/// The lists that a party is given, the fault number of each answer (0 if the list is taken), and the verdicts.
 type Row = (&'static [Told], &'static [u8], &'static [Judged]);
 
 const ROWS: &[Row] = &[
